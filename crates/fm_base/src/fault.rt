@@ -1,0 +1,39 @@
+//! What can be wrong with a netCDF classic file.
+
+/// The first fault of a header, with the place of the first byte of the field at fault, counted from 0.
+#[derive(Clone, Copy, Debug, PartialEq, Eq)]
+pub enum HeaderFault {
+    /// The file doesn't begin with `CDF` and a fourth byte.
+    BadMagic,
+    /// The version byte is neither 1 nor 2.
+    BadVersion(u8),
+    /// The field doesn't lie whole in the file.
+    Truncated(u64),
+    /// The tag is neither that of the list nor 0.
+    BadTag(u64),
+    /// The count is over its limit, or not 0 in an absent list.
+    BadCount(u64),
+    /// The name is empty, isn't UTF-8, or has a zero byte or a slash.
+    BadName(u64),
+    /// The type isn't one of the six.
+    BadType(u64),
+    /// The number names no dimension.
+    BadDimId(u64),
+    /// A second dimension has the length 0.
+    TwoRecordDims(u64),
+    /// The record dimension stands elsewhere than first.
+    RecordNotFirst(u64),
+    /// The name stands already in the same list.
+    RepeatedName(u64),
+    /// The number of records isn't known yet, as while a file is being written.
+    Streaming,
+}
+
+/// What is wrong with where the data of a sound header lies. A variable is named by its number from 0.
+#[derive(Clone, Copy, Debug, PartialEq, Eq)]
+pub enum LayoutFault {
+    /// One record of the variable, or all of it where it has no records, takes more than 2^40 bytes.
+    TooLarge(u64),
+    /// The last element of the variable ends at `end`, past the file's length.
+    DataOutside { var: u64, end: u128, len: u64 },
+}

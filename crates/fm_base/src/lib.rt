@@ -1,0 +1,21 @@
+//! Plain values that every other crate speaks of: lists that contracts see as lists, want of memory, the parts of a
+//! netCDF classic header, and the fields that files and texts are made of.
+#![tactic(auto)]
+
+mod decimal;
+mod fail;
+mod fault;
+mod field;
+mod header;
+mod kind;
+mod list;
+mod shared;
+
+pub use decimal::put_decimal;
+pub use fail::{Fail, NoMemory};
+pub use fault::{HeaderFault, LayoutFault};
+pub use field::{be16, be32, be64};
+pub use header::{Attr, Dim, Header, NcVar};
+pub use kind::Kind;
+pub use list::{Bytes, List};
+pub use shared::Arc;
