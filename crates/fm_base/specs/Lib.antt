@@ -1,2 +1,7 @@
 pub mod Field
+pub mod Format
+pub mod Input
 pub mod Kind
+pub mod Layout
+pub mod Reading
+pub mod Spelling

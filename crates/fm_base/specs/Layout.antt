@@ -1,0 +1,107 @@
+-- Where the elements of a file's variables lie, and what is wrong with where they lie (NetCDF Classic Format
+-- Specification, "Computing File Offsets").
+use Rattle.std.specs.Prelude.{ℕ, zero, suc, ◌+◌, ◌-◌, ◌*◌, ◌^◌, List, [], ◌∷◌, length, take, drop, map, filter, sum_by, Option, Some, None, slice_get, slice_index, unwrap_or, option_map, Bool, true, false, nat_lt, nat_le, not, ◌==◌, ◌||◌, if◌then◌else◌}
+use Rattle.std.specs.Option.{option_map_or}
+use Rattle.fm_base.specs.declared.fault.LayoutFault.{LayoutFault}
+use Rattle.fm_base.specs.declared.fault.LayoutFault.TheVariants.{TooLarge, DataOutside}
+use Rattle.fm_base.specs.declared.header.Dim.{Dim}
+use Rattle.fm_base.specs.declared.header.Header.{Header}
+use Rattle.fm_base.specs.declared.header.NcVar.{NcVar}
+use Rattle.fm_base.specs.declared.kind.Kind.{Kind}
+use Rattle.fm_base.specs.Format.{padded_len, is_record}
+use Rattle.fm_base.specs.Kind.{size_of}
+use Rattle.fm_base.specs.Reading.{names_record}
+
+-- the length of a dimension, which is the number of records for the record dimension
+abbrev pub size_in : Header → Dim → ℕ
+size_in header dim = if is_record dim then header.numrecs else dim.size
+
+-- the length of the dimension of this number
+abbrev pub size_at : Header → ℕ → ℕ
+size_at header id = option_map_or (size_in header) (slice_get header.dims id) 0
+
+-- the lengths of a variable's dimensions
+abbrev pub shape_of : Header → NcVar → List ℕ
+shape_of header var = map (size_at header) var.dims
+
+-- whether the first dimension of a variable is the record dimension
+abbrev pub has_records : Header → NcVar → Bool
+has_records header var = option_map_or (names_record header.dims) (slice_get var.dims 0) false
+
+-- the lengths of a variable's dimensions but for the record dimension
+abbrev pub fixed_shape : Header → NcVar → List ℕ
+fixed_shape header var = if has_records header var then drop 1 (shape_of header var) else shape_of header var
+
+unfoldable pub product : List ℕ → ℕ
+product [] = 1
+product (n ∷ ns) = n * product ns
+
+-- how many bytes one record of a variable takes, or all of it where it has no records
+unfoldable pub slab_size : Header → NcVar → ℕ
+slab_size header var = size_of var.kind * product (fixed_shape header var)
+
+-- the variables with records
+abbrev pub record_vars : Header → List NcVar
+record_vars header = filter (has_records header) header.vars
+
+-- how many bytes one record of these variables takes: each is padded to a multiple of four, but for a lone variable
+-- of a kind smaller than four bytes
+abbrev pub record_size_of : Header → List NcVar → ℕ
+record_size_of header [] = 0
+record_size_of header (var ∷ []) = if nat_lt (size_of var.kind) 4 then slab_size header var else padded_len (slab_size header var)
+record_size_of header (var ∷ other ∷ more) = sum_by (λ v. padded_len (slab_size header v)) (var ∷ other ∷ more)
+
+unfoldable pub record_size : Header → ℕ
+record_size header = record_size_of header (record_vars header)
+
+-- the number of an index list in row-major order, the last index varying fastest
+unfoldable pub rank_in : List ℕ → List ℕ → ℕ
+rank_in [] index = 0
+rank_in (n ∷ shape) [] = 0
+rank_in (n ∷ shape) (i ∷ index) = i * product shape + rank_in shape index
+
+-- the place in the file of the first byte of an element
+unfoldable pub place_of : Header → NcVar → List ℕ → ℕ
+place_of header var index = if has_records header var then var.begin + slice_index index 0 * record_size header + size_of var.kind * rank_in (fixed_shape header var) (drop 1 index) else var.begin + size_of var.kind * rank_in (fixed_shape header var) index
+
+-- the bytes of an element
+unfoldable pub element : List ℕ → Header → NcVar → List ℕ → List ℕ
+element bytes header var index = take (size_of var.kind) (drop (place_of header var index) bytes)
+
+-- the index list of the last element
+abbrev pub last_index : Header → NcVar → List ℕ
+last_index header var = map (λ n. n - 1) (shape_of header var)
+
+-- where the last element ends, of a variable that has one
+abbrev pub end_of : Header → NcVar → ℕ
+end_of header var = place_of header var (last_index header var) + size_of var.kind
+
+-- whether a variable has an element
+abbrev pub has_elements : Header → NcVar → Bool
+has_elements header var = not (product (shape_of header var) == 0)
+
+-- whether one record of a variable takes more than 2^40 bytes
+abbrev pub is_too_large : Header → NcVar → Bool
+is_too_large header var = nat_lt (2 ^ 40) (slab_size header var)
+
+-- whether a variable has an element that ends past this length
+abbrev pub is_outside : Header → ℕ → NcVar → Bool
+is_outside header len var = if has_elements header var then nat_lt len (end_of header var) else false
+
+-- the first of the variables from this number on that is too large
+unfoldable pub first_too_large : Header → ℕ → List NcVar → Option LayoutFault
+first_too_large header n [] = None
+first_too_large header n (var ∷ vars) = if is_too_large header var then Some (TooLarge n) else first_too_large header (n + 1) vars
+
+-- the first of the variables from this number on that lies outside
+unfoldable pub first_outside : Header → ℕ → ℕ → List NcVar → Option LayoutFault
+first_outside header len n [] = None
+first_outside header len n (var ∷ vars) = if is_outside header len var then Some (DataOutside n (end_of header var) len) else first_outside header len (n + 1) vars
+
+-- the first fault of the layout of a file of this length: a variable that is too large comes before one outside
+abbrev pub or_else : {A : Type 0} → Option A → Option A → Option A
+or_else None second = second
+or_else (Some a) second = Some a
+
+unfoldable pub layout_fault : Header → ℕ → Option LayoutFault
+layout_fault header len = or_else (first_too_large header 0 header.vars) (first_outside header len 0 header.vars)
