@@ -1,0 +1,5 @@
+pub mod InstantLemmas
+pub mod SmallShape
+pub mod SoundThin
+pub mod SpellingOfThin
+pub mod ThinLemmas
