@@ -1,0 +1,13 @@
+use Rattle.std.proofs.Common.{◌≡◌, ◌≤◌, ◌-◌, length, take}
+use Rattle.fm_world.specs.Link.{after_put}
+use Rattle.fm_world.proofs.whole.put_all.Given as goal
+
+abbrev pub invariant-loop-sent : goal.invariant-loop-sent
+invariant-loop-sent g l = record {
+  within : l.sent ≤ length l.bytes;
+  sent : g.L.Link.told l.link ≡ after_put (take l.sent l.bytes) (g.L.Link.told l.fn.link);
+  faults : g.L.Link.fault_count l.fn.link ≤ g.L.Link.fault_count l.link;
+}
+
+abbrev pub decreases-loop-sent : goal.decreases-loop-sent
+decreases-loop-sent g l = length l.bytes - l.sent

@@ -1,0 +1,22 @@
+-- What files hold, and what a read finds.
+use Rattle.std.specs.Prelude.{⊤, ℕ, ◌≤◌, ◌<◌, List, [], ◌∷◌, length, nat_eq, nat_lt, if◌then◌else◌, Option, Some, None}
+use Rattle.std.specs.Cmp.Lexicographic.{pointwise}
+use Rattle.fm_world.specs.declared.files.Found.{Found}
+use Rattle.fm_world.specs.declared.files.Found.TheVariants.{Content, Absent, TooLong}
+use Rattle.fm_world.specs.declared.mem_files.Entry.{Entry}
+
+-- what a read with a limit finds where a path holds this
+abbrev pub found_of : ℕ → Option (List ℕ) → Found
+found_of limit None = Absent
+found_of limit (Some bytes) = if nat_lt limit (length bytes) then TooLong (length bytes) else Content bytes
+
+-- A content has at most so many bytes, and a length that was too long is greater.
+abbrev pub KeepsLimit : ℕ → Found → Type 0
+KeepsLimit limit (Content bytes) = length bytes ≤ limit
+KeepsLimit limit Absent = ⊤
+KeepsLimit limit (TooLong len) = limit < len
+
+-- what a path holds: the content of the first entry with that path
+abbrev pub held : List Entry → List ℕ → Option (List ℕ)
+held [] path = None
+held (entry ∷ more) path = if pointwise nat_eq entry.path path then Some entry.content else held more path

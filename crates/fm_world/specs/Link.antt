@@ -1,0 +1,31 @@
+-- What a link holds.
+use Rattle.std.specs.Prelude.{◌≡◌, ◌≤◌, ◌↔◌, ℕ, List, [], ◌++◌, length, take, drop, Option, Some, None}
+
+-- what a link that tells of itself holds
+pub record Wire : Type 0 where
+  -- the bytes that were taken
+  pub taken : List ℕ
+  -- the bytes that are left to come
+  pub left : List ℕ
+  -- all the bytes that were sent
+  pub put : List ℕ
+
+-- a link with this input, before its first call
+abbrev pub fresh_wire : List ℕ → Wire
+fresh_wire input = record { taken = []; left = input; put = [] }
+
+-- the link after so many of its bytes were taken
+abbrev pub after_take : ℕ → Option Wire → Option Wire
+after_take count None = None
+after_take count (Some wire) = Some (record { taken = wire.taken ++ take count wire.left; left = drop count wire.left; put = wire.put })
+
+-- the link after these bytes were sent
+abbrev pub after_put : List ℕ → Option Wire → Option Wire
+after_put bytes None = None
+after_put bytes (Some wire) = Some (record { taken = wire.taken; left = wire.left; put = wire.put ++ bytes })
+
+-- The front of the buffer, of this length, is the next bytes, and it is empty exactly where none are left.
+pub record GivesNext (wire : Wire) (buf : List ℕ) (count : ℕ) : Type 0 where
+  pub left : count ≤ length wire.left
+  pub bytes : take count buf ≡ take count wire.left
+  pub ended : (count ≡ 0) ↔ (wire.left ≡ [])

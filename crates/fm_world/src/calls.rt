@@ -1,0 +1,50 @@
+//! Calls that are to fail, for the forms in memory.
+ghost use Rattle.std.specs.Prelude.{◌≡◌, ◌+◌, ◌-◌, ◌≤◌, ◌^◌, min, nat_eq};
+ghost use Rattle.std.specs.List.{list_any};
+ghost use Rattle.fm_world.specs.Cause.{Rose};
+
+use crate::link::Failed;
+use fm_base::List;
+
+/// The calls made so far, the numbers from 1 of those that are to fail, and how many have failed.
+#[derive(Drop)]
+pub struct Calls {
+    pub made: u64,
+    pub failing: List<u64>,
+    pub faults: u64,
+}
+
+impl Calls {
+    /// No call was made yet.
+    pub fn new(failing: List<u64>) -> Calls
+        ensures { result ≡ record { made = 0; failing = failing; faults = 0 } }
+    {
+        Calls {
+            made: 0,
+            failing,
+            faults: 0,
+        }
+    }
+
+    /// Counts a call, and says whether it is to fail.
+    pub fn due(&mut self) -> bool
+        ensures due { result ≡ list_any (λ call. nat_eq call self.new.made) self.old.failing }
+        ensures made { self.new.made ≡ min (self.old.made + 1) (2 ^ 64 - 1) }
+        ensures failing { self.new.failing ≡ self.old.failing }
+        ensures faults { self.new.faults ≡ self.old.faults }
+    {
+        self.made = self.made.saturating_add(1);
+        self.failing.as_slice().contains(&self.made)
+    }
+
+    /// Counts a call that failed.
+    pub fn fail(&mut self) -> Failed
+        ensures made { self.new.made ≡ self.old.made }
+        ensures failing { self.new.failing ≡ self.old.failing }
+        ensures later { self.old.faults ≤ self.new.faults }
+        ensures rose { Rose self.old.faults self.new.faults }
+    {
+        self.faults = self.faults.saturating_add(1);
+        Failed
+    }
+}

@@ -1,0 +1,25 @@
+//! The outside as traits: files that are read, a link to a peer and a sink for reports, with the forms of them that
+//! lie in memory.
+#![tactic(auto)]
+
+mod calls;
+mod files;
+mod link;
+mod mem_files;
+mod mem_link;
+mod mem_sink;
+mod room;
+mod sink;
+#[cfg(test)]
+mod tests;
+mod whole;
+mod world;
+
+pub use files::{Files, Found};
+pub use link::{Failed, Link};
+pub use mem_files::{Entry, MemFiles};
+pub use mem_link::MemLink;
+pub use mem_sink::MemSink;
+pub use sink::Sink;
+pub use whole::put_all;
+pub use world::World;

@@ -1,0 +1,80 @@
+//! Files in memory.
+ghost use Rattle.std.specs.Prelude.{◌≡◌, Some, IfOk};
+ghost use Rattle.std.specs.Option.{option_copied};
+ghost use Rattle.fm_world.specs.Files.{found_of, held};
+
+use crate::calls::Calls;
+use crate::files::{Files, Found};
+use crate::link::Failed;
+use fm_base::{Bytes, Fail, List, NoMemory};
+use std::alloc::Global;
+
+/// A file in memory.
+#[derive(Debug, Drop)]
+pub struct Entry {
+    pub path: Bytes,
+    pub content: Bytes,
+}
+
+/// Files in memory. Where a path is repeated, its first entry counts.
+#[derive(Drop)]
+pub struct MemFiles {
+    entries: List<Entry>,
+    calls: Calls,
+}
+
+impl MemFiles {
+    /// These files. The calls with these numbers, counted from 1, fail.
+    pub fn new(entries: List<Entry>, failing: List<u64>) -> MemFiles
+        ensures told { ⟦<MemFiles as Files>⟧.told result ≡ Some (held entries) }
+        ensures faults { ⟦<MemFiles as Files>⟧.fault_count result ≡ 0 }
+    {
+        MemFiles {
+            entries,
+            calls: Calls::new(failing),
+        }
+    }
+}
+
+impl Files for MemFiles {
+    ghost told = { λ files. Some (held files.entries) };
+
+    ghost fault_count = { λ files. files.calls.faults };
+
+    fn faults(&self) -> u64 {
+        self.calls.faults
+    }
+
+    fn read(&mut self, alloc: Global, path: &[u8], limit: u64) -> Result<Found, Fail<Failed>> {
+        if self.calls.due() {
+            return Err(Fail::Fault(self.calls.fail()));
+        }
+        Ok(look(alloc, self.entries.as_slice(), path, limit)?)
+    }
+}
+
+/// What a read with a limit finds at the path.
+fn look(alloc: Global, entries: &[Entry], path: &[u8], limit: u64) -> Result<Found, NoMemory>
+    ensures { IfOk result (λ found. found ≡ found_of limit (held entries.now path.now)) }
+{
+    let Some(content) = content_at(entries, path) else {
+        return Ok(Found::Absent);
+    };
+    let len = content.len() as u64;
+    if len > limit {
+        return Ok(Found::TooLong(len));
+    }
+    Ok(Found::Content(List::copy_of(alloc, content)?))
+}
+
+/// The content of the first entry with the path.
+fn content_at<'a>(entries: &'a [Entry], path: &[u8]) -> Option<&'a [u8]>
+    ensures { option_copied result ≡ held entries.now path.now }
+{
+    for entry in entries {
+        if entry.path.as_slice() == path {
+            return Some(entry.content.as_slice());
+        }
+    }
+    None
+}

@@ -1,0 +1,158 @@
+//! A link in memory.
+ghost use Rattle.std.specs.Prelude.{◌≡◌, ◌+◌, ◌^◌, ◌<◌, ◌≤◌, min, length, take, drop, Some, IfSome, IfOk};
+ghost use Rattle.fm_world.specs.Link.{fresh_wire};
+
+use crate::calls::Calls;
+use crate::link::{Failed, Link};
+use crate::room::Room;
+use fm_base::{Bytes, List, NoMemory};
+use std::alloc::Global;
+
+/// A place in the input, and how many bytes must have been put before the bytes from there on are given.
+#[derive(Clone, Copy)]
+struct Hold {
+    place: usize,
+    put: usize,
+}
+
+/// A link in memory: input that is given, and output with room that was made beforehand. A put with no room left
+/// fails, and a put for which there is some room takes what fits.
+#[derive(Drop)]
+pub struct MemLink {
+    input: Bytes,
+    taken: usize,
+    output: Room,
+    most_taken: usize,
+    most_put: usize,
+    hold: Option<Hold>,
+    calls: Calls,
+    ghost within: { taken ≤ length input },
+}
+
+impl MemLink {
+    /// A link with this input and room for so many bytes of output. The calls with these numbers, takes and puts
+    /// counted together from 1, fail.
+    pub fn new(
+        alloc: Global,
+        input: Bytes,
+        room: usize,
+        failing: List<u64>,
+    ) -> Result<MemLink, NoMemory>
+        ensures told { IfOk result (λ link. ⟦<MemLink as Link>⟧.told link ≡ Some (fresh_wire input)) }
+        ensures faults { IfOk result (λ link. ⟦<MemLink as Link>⟧.fault_count link ≡ 0) }
+    {
+        let output = Room::new(alloc, room)?;
+        Ok(MemLink {
+            input,
+            taken: 0,
+            output,
+            most_taken: usize::MAX,
+            most_put: usize::MAX,
+            hold: None,
+            calls: Calls::new(failing),
+        })
+    }
+
+    /// The same link, of which one take gives at most `most_taken` bytes and one put takes at most `most_put`; 0
+    /// stands for 1.
+    pub fn in_pieces(self, most_taken: usize, most_put: usize) -> MemLink
+        ensures told { ⟦<MemLink as Link>⟧.told result ≡ ⟦<MemLink as Link>⟧.told self }
+        ensures faults { ⟦<MemLink as Link>⟧.fault_count result ≡ ⟦<MemLink as Link>⟧.fault_count self }
+    {
+        let mut link = self;
+        link.most_taken = most_taken;
+        link.most_put = most_put;
+        link
+    }
+
+    /// The same link, which gives the bytes of its input from `place` on only once `put` bytes were put. A take that
+    /// comes there too early fails.
+    pub fn held_back(self, place: usize, put: usize) -> MemLink
+        ensures told { ⟦<MemLink as Link>⟧.told result ≡ ⟦<MemLink as Link>⟧.told self }
+        ensures faults { ⟦<MemLink as Link>⟧.fault_count result ≡ ⟦<MemLink as Link>⟧.fault_count self }
+    {
+        let mut link = self;
+        link.hold = Some(Hold { place, put });
+        link
+    }
+
+    /// The bytes that were put.
+    pub fn output(&self) -> &[u8]
+        ensures { IfSome (⟦<MemLink as Link>⟧.told self.now) (λ wire. result.now ≡ wire.put) }
+    {
+        self.output.bytes.as_slice()
+    }
+
+    /// The bytes that are left to be taken.
+    pub fn left(&self) -> &[u8]
+        ensures { IfSome (⟦<MemLink as Link>⟧.told self.now) (λ wire. result.now ≡ wire.left) }
+    {
+        self.rest()
+    }
+
+    fn rest(&self) -> &[u8]
+        ensures bytes { result.now ≡ drop self.now.taken self.now.input }
+        ensures fits { self.now.taken + length result.now < 2 ^ 64 }
+    {
+        let (_, rest) = self.input.as_slice().split_at(self.taken);
+        rest
+    }
+
+    /// How many bytes one take may give now. 0 says that it comes too early.
+    fn allowed(&self) -> usize {
+        let most = self.most_taken.max(1);
+        match self.hold {
+            Some(hold) if self.output.bytes.len() < hold.put => {
+                most.min(hold.place.saturating_sub(self.taken))
+            }
+            _ => most,
+        }
+    }
+}
+
+impl Link for MemLink {
+    ghost told = { λ link. Some (record { taken = take link.taken link.input; left = drop link.taken link.input; put = link.output.bytes.items }) };
+
+    ghost fault_count = { λ link. link.calls.faults };
+
+    fn faults(&self) -> u64 {
+        self.calls.faults
+    }
+
+    fn take(&mut self, buf: &mut [u8]) -> Result<usize, Failed> {
+        if self.calls.due() {
+            return Err(self.calls.fail());
+        }
+        let most = self.allowed();
+        if most == 0 {
+            return Err(self.calls.fail());
+        }
+        let count = copy_front(self.rest(), most, buf);
+        self.taken += count;
+        Ok(count)
+    }
+
+    fn put(&mut self, bytes: &[u8]) -> Result<usize, Failed> {
+        if self.calls.due() {
+            return Err(self.calls.fail());
+        }
+        let (front, _) = bytes.split_at(self.most_put.max(1).min(bytes.len()));
+        let count = self.output.append(front);
+        if count == 0 {
+            return Err(self.calls.fail());
+        }
+        Ok(count)
+    }
+}
+
+/// Copies at most `most` bytes to the front of `into`, as many as there are and fit, and answers how many.
+fn copy_front(from: &[u8], most: usize, into: &mut [u8]) -> usize
+    ensures count { result ≡ min most (min (length from.now) (length into.old)) }
+    ensures bytes { take result into.new ≡ take result from.now }
+{
+    let count = most.min(from.len().min(into.len()));
+    let (source, _) = from.split_at(count);
+    let (target, _) = into.split_at_mut(count);
+    target.copy_from_slice(source);
+    count
+}

@@ -1,0 +1,59 @@
+//! A sink in memory.
+ghost use Rattle.std.specs.Prelude.{◌≡◌, [], Some, IfOk};
+
+use crate::calls::Calls;
+use crate::link::Failed;
+use crate::room::Room;
+use crate::sink::Sink;
+use fm_base::{List, NoMemory};
+use std::alloc::Global;
+
+/// A sink in memory, with room that was made beforehand. What doesn't fit whole fails, and its front that fits is
+/// appended.
+#[derive(Drop)]
+pub struct MemSink {
+    all: Room,
+    calls: Calls,
+}
+
+impl MemSink {
+    /// An empty sink with room for so many bytes. The calls with these numbers, counted from 1, fail and append
+    /// nothing.
+    pub fn new(alloc: Global, room: usize, failing: List<u64>) -> Result<MemSink, NoMemory>
+        ensures told { IfOk result (λ sink. ⟦<MemSink as Sink>⟧.told sink ≡ Some []) }
+        ensures faults { IfOk result (λ sink. ⟦<MemSink as Sink>⟧.fault_count sink ≡ 0) }
+    {
+        let all = Room::new(alloc, room)?;
+        Ok(MemSink {
+            all,
+            calls: Calls::new(failing),
+        })
+    }
+
+    /// All the bytes that were appended.
+    pub fn bytes(&self) -> &[u8]
+        ensures { Some result.now ≡ ⟦<MemSink as Sink>⟧.told self.now }
+    {
+        self.all.bytes.as_slice()
+    }
+}
+
+impl Sink for MemSink {
+    ghost told = { λ sink. Some sink.all.bytes.items };
+
+    ghost fault_count = { λ sink. sink.calls.faults };
+
+    fn faults(&self) -> u64 {
+        self.calls.faults
+    }
+
+    fn put(&mut self, bytes: &[u8]) -> Result<(), Failed> {
+        if self.calls.due() {
+            return Err(self.calls.fail());
+        }
+        if self.all.append(bytes) < bytes.len() {
+            return Err(self.calls.fail());
+        }
+        Ok(())
+    }
+}

@@ -1,0 +1,22 @@
+//! Whole pieces over a link.
+ghost use Rattle.std.specs.Prelude.{◌≡◌, ◌≤◌, ℕ, length, take, OnOk, OnErr};
+ghost use Rattle.fm_world.specs.Cause.{HasCause};
+ghost use Rattle.fm_world.specs.Link.{after_put};
+
+use crate::link::{Failed, Link};
+
+#[tactic(auto, using(crate::proofs::LinkLemmas::after_put_more))]
+/// Sends all the bytes, or a front of them where the link fails.
+pub fn put_all<L: Link>(link: &mut L, bytes: &[u8]) -> Result<(), Failed>
+    ensures ok { OnOk result (L.told link.new ≡ after_put bytes.now (L.told link.old)) }
+    ensures err { OnErr result ((count : ℕ) × (count ≤ length bytes.now)
+        × (L.told link.new ≡ after_put (take count bytes.now) (L.told link.old))) }
+    ensures cause { HasCause (L.fault_count link.old) (L.fault_count link.new) result }
+{
+    let mut sent = 0;
+    while sent < bytes.len() {
+        let (_, rest) = bytes.split_at(sent);
+        sent += link.put(rest)?;
+    }
+    Ok(())
+}
