@@ -1,0 +1,6 @@
+use Rattle.std.proofs.Common.{◌≡◌, ◌++◌, take}
+use Rattle.srv_run.specs.StructureText.{arrays_text}
+use Rattle.srv_run.proofs.structure.put_arrays.Given as goal
+
+abbrev pub invariant-loop-array : goal.invariant-loop-array
+invariant-loop-array l = l.out ≡ l.fn.out ++ arrays_text l.depth (take l.array-index l.arrays)

@@ -1,0 +1,6 @@
+use Rattle.std.proofs.Common.{◌≡◌, ◌++◌, take}
+use Rattle.srv_run.specs.StructureText.{decls_text}
+use Rattle.srv_run.proofs.structure.put_decls.Given as goal
+
+abbrev pub invariant-loop-decl : goal.invariant-loop-decl
+invariant-loop-decl l = l.out ≡ l.fn.out ++ decls_text l.depth (take l.decl-index l.decls)

@@ -1,0 +1,6 @@
+use Rattle.std.proofs.Common.{◌≡◌, ◌++◌, take}
+use Rattle.srv_run.specs.StructureText.{dims_text}
+use Rattle.srv_run.proofs.structure.put_dims.Given as goal
+
+abbrev pub invariant-loop-dim : goal.invariant-loop-dim
+invariant-loop-dim l = l.out ≡ l.fn.out ++ dims_text (take l.dim-index l.dims)

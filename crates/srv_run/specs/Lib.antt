@@ -1,0 +1,4 @@
+pub mod Reply
+pub mod Request
+pub mod StructureText
+pub mod Words
