@@ -15,7 +15,7 @@ use Rattle.nc_model.proofs.SoundThin.{IsSound-thin}
 use Rattle.nc_model.proofs.SpellingOfThin.{SpellsHeader-thin}
 use Rattle.std.proofs.Common.{length-append}
 use Rattle.std.proofs.lemmas.List.{take_at, drop_at}
-use Rattle.nc_model.specs.Thin.{header_of, number_at, shape_in, is_thin_shape, is_thin, header_text, header_words, thin_len, instants_of, is_instant, all_differ}
+use Rattle.nc_model.specs.Thin.{HoldsPlaces, header_of, number_at, shape_in, is_thin_shape, is_thin, header_text, header_words, thin_len, instants_of, is_instant, all_differ}
 
 -- both tests pass
 pub both : (p q : Bool) → (p && q) ≡ true → (p ≡ true) × (q ≡ true)
@@ -80,5 +80,14 @@ is_thin-none bytes e shape = elim_bool (is_thin bytes shape) refl
     elim_bool true is = absurd (false≢true (sym e ∙ ap (is_thin bytes) (shape_in-thin bytes shape is) ∙ is))
     elim_bool false is = is
 
+-- the latitudes and longitudes of a thin file lie in it
+pub HoldsPlaces-thin : (bytes : List ℕ) (shape : ThinShape) → is_thin bytes shape ≡ true → HoldsPlaces bytes shape
+unfolding is_thin
+HoldsPlaces-thin bytes shape e =
+    let small = IsSmall-from_test shape (is_thin-shape bytes shape e) in
+    let long : nat_le (thin_len shape) (length bytes) ≡ true = (both _ _ (both _ _ (both _ _ e).0).0).1 in
+    let fits : thin_len shape ≤ length bytes = grind (arith, nat_tests) in
+    record { lats = small.lats; lons = small.lons; fits = omega arith }
+
 -- what a caller of the test needs
-pub ruleset thin_facts = (is_thin-shape, HeaderOf-thin, is_thin-none)
+pub ruleset thin_facts = (is_thin-shape, HeaderOf-thin, HoldsPlaces-thin, is_thin-none)

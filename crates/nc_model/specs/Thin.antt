@@ -1,5 +1,5 @@
 -- Thin files: CDF-1 files of one form, with the times as records and one field over latitudes and longitudes.
-use Rattle.std.specs.Prelude.{ℕ, ◌+◌, ◌*◌, ◌^◌, List, [], ◌∷◌, ◌++◌, length, take, drop, map, codes, ℤ, pos, ◌-ℤ◌, nat_abs, Bool, true, false, ◌&&◌, ◌||◌, not, nat_lt, nat_le, nat_eq, Option, Some, None, unwrap_or, option_map, if◌then◌else◌}
+use Rattle.std.specs.Prelude.{ℕ, ◌≤◌, ◌+◌, ◌*◌, ◌^◌, List, [], ◌∷◌, ◌++◌, length, take, drop, map, codes, ℤ, pos, ◌-ℤ◌, nat_abs, Bool, true, false, ◌&&◌, ◌||◌, not, nat_lt, nat_le, nat_eq, Option, Some, None, unwrap_or, option_map, if◌then◌else◌}
 use Rattle.std.specs.Int.{w32, to_be_bytes, from_be_bytes, cast_signed}
 use Rattle.std.specs.Ordering.{int_eq}
 use Rattle.std.specs.List.{flat_map, list_all, list_any, starts_with, range_with_len}
@@ -34,6 +34,12 @@ record_len shape = 4 + 4 * shape.lats * shape.lons
 -- how many bytes a thin file has at least
 abbrev pub thin_len : ThinShape → ℕ
 thin_len shape = data_begin shape + shape.times * record_len shape
+
+-- the latitudes and longitudes lie in the file
+pub record HoldsPlaces (bytes : List ℕ) (shape : ThinShape) : Type 0 where
+  pub lats : shape.lats ≤ 1000
+  pub lons : shape.lons ≤ 1000
+  pub fits : data_begin shape ≤ length bytes
 
 -- the words of the header: `CDF` and the version 1, the times, the dimensions, no attributes, and the four variables
 unfoldable pub header_words : ThinShape → List ℕ

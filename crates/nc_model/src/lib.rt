@@ -9,7 +9,7 @@ mod thin;
 
 pub use fm_base::{Attr, Dim, Header, Kind, NcVar};
 pub use shape::ThinShape;
-pub use thin::thin_header;
+pub use thin::{thin_header, thin_shape};
 
 #[cfg(test)]
 mod tests;

@@ -1,4 +1,8 @@
+pub mod Collection
+pub mod Once
 pub mod Reply
+pub mod Report
 pub mod Request
+pub mod Steps
 pub mod StructureText
 pub mod Words

@@ -1,13 +1,16 @@
 //! The commands of the program over any files, link and sink.
 #![tactic(auto)]
 
+mod collection;
 mod declaration;
-mod request;
-
+mod end;
+mod file;
 mod reply;
-
+mod request;
 mod structure;
 mod words;
 
 pub use declaration::{Array, DapKind, Decl};
-
+pub use end::{End, Subject};
+pub use reply::Content;
+pub use request::Asked;

@@ -66,12 +66,7 @@ fn put_array(alloc: Global, array: &Array, depth: u32, out: &mut Bytes) -> Resul
 }
 
 #[tactic(auto, unfolding(crate::specs::StructureText::arrays_text))]
-fn put_arrays(
-    alloc: Global,
-    arrays: &[Array],
-    depth: u32,
-    out: &mut Bytes,
-) -> Result<(), NoMemory>
+fn put_arrays(alloc: Global, arrays: &[Array], depth: u32, out: &mut Bytes) -> Result<(), NoMemory>
     requires { depth < 8 }
     ensures { OnOk result (out.new ≡ out.old ++ text.arrays_text depth arrays.now) }
 {

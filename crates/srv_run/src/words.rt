@@ -60,8 +60,12 @@ pub(crate) fn command_of(words: &[Bytes]) -> Option<Command<'_>>
     let [first, second, name, fourth, proto, put, last] = words else {
         return None;
     };
-    if !are_fixed(first.as_slice(), second.as_slice(), fourth.as_slice(), last.as_slice())
-        || !is_collection_name(name.as_slice())
+    if !are_fixed(
+        first.as_slice(),
+        second.as_slice(),
+        fourth.as_slice(),
+        last.as_slice(),
+    ) || !is_collection_name(name.as_slice())
         || !is_put(put.as_slice())
     {
         return None;

@@ -1,0 +1,99 @@
+-- What the command does: it reads a prototype and a file, and answers one request over the collection of that file.
+use Rattle.std.specs.Prelude.{◌≡◌, ⊤, ℕ, ◌≤◌, List, length, take, Bool, Option, Some, None, Result, Ok, Err, IsOk, if◌then◌else◌}
+use Rattle.fm_world.specs.declared.files.Found.{Found}
+use Rattle.fm_world.specs.declared.files.Found.TheVariants.{Content, Absent, TooLong as TooLongFound}
+use Rattle.fm_world.specs.Cause.{Rose}
+use Rattle.fm_world.specs.Files.{found_of}
+use Rattle.fm_world.specs.Link.{Wire, after_take, after_put}
+use Rattle.nc_model.specs.declared.shape.ThinShape.{ThinShape}
+use Rattle.nc_model.specs.Thin.{thin_shape}
+use Rattle.srv_run.specs.declared.end.End.{End}
+use Rattle.srv_run.specs.declared.end.End.TheVariants.{Done, BadWords, Refused, NoMemory, FileFault, LinkFault, NoFile, TooLong, InputEnded}
+use Rattle.srv_run.specs.declared.end.Subject.{Subject as Matter}
+use Rattle.srv_run.specs.declared.end.Subject.TheVariants.{Prototype, File, Request}
+use Rattle.srv_run.specs.declared.file.ReadFile.{ReadFile}
+use Rattle.srv_run.specs.declared.reply.Content.TheVariants.{Structure}
+use Rattle.srv_run.specs.declared.request.Asked.{Asked}
+use Rattle.srv_run.specs.declared.request.Asked.TheVariants.{Whole, Ended, Differs}
+use Rattle.srv_run.specs.Collection.{is_same_grid, best_times, collection_of_one, decls_of}
+use Rattle.srv_run.specs.Reply.{reply_of}
+use Rattle.srv_run.specs.Request.{best_label, structure_head, asked_of, taken_of}
+use Rattle.srv_run.specs.StructureText.{dds_of}
+use Rattle.srv_run.specs.Words.{Command}
+
+-- the greatest length of a file
+abbrev pub FILE_BYTES : ℕ
+FILE_BYTES = 536870912
+
+-- the refusal of what isn't read yet
+abbrev pub not_yet_read : Matter → End
+not_yet_read subject = Refused subject 60
+
+infixl 10 ◌>>=◌
+abbrev pub ◌>>=◌ : {A B : Type 0} → Result A End → (A → Result B End) → Result B End
+(Ok value) >>= f = f value
+(Err end) >>= f = Err end
+
+-- the bytes that were found, or the end of the run
+abbrev pub content_or_end : Matter → Found → Result (List ℕ) End
+content_or_end subject (Content bytes) = Ok bytes
+content_or_end subject Absent = Err (NoFile subject)
+content_or_end subject (TooLongFound len) = Err (TooLong subject len)
+
+-- what a path holds is read whole, or ends the run
+unfoldable pub file_or_end : Matter → Option (List ℕ) → Result (List ℕ) End
+file_or_end subject held = content_or_end subject (found_of FILE_BYTES held)
+
+-- the numbers of a thin file, or the end of the run
+abbrev pub shape_or_refusal : Matter → Option ThinShape → Result ThinShape End
+shape_or_refusal subject None = Err (not_yet_read subject)
+shape_or_refusal subject (Some shape) = Ok shape
+
+unfoldable pub thin_or_end : Matter → List ℕ → Result ThinShape End
+thin_or_end subject bytes = shape_or_refusal subject (thin_shape bytes)
+
+-- a thin file is read, or the run ends
+unfoldable pub read_or_end : Matter → Option (List ℕ) → Result ReadFile End
+read_or_end subject held = file_or_end subject held >>= λ bytes. thin_or_end subject bytes >>= λ shape. Ok (record { bytes = bytes; shape = shape })
+
+-- a file is taken where it lies on the grid of the prototype
+unfoldable pub taken_or_end : ReadFile → ReadFile → Result ReadFile End
+taken_or_end proto file = if is_same_grid proto.bytes proto.shape file.bytes file.shape then Ok file else Err (not_yet_read File)
+
+-- both files, each read whole, and the second taken over the first
+unfoldable pub loaded_or_end : Command → (List ℕ → Option (List ℕ)) → Result ReadFile End
+loaded_or_end command held = read_or_end Prototype (held command.proto) >>= λ proto. read_or_end File (held command.path) >>= λ file. taken_or_end proto file
+
+-- the reply to the request over the collection of this one file, which is its revision 1
+unfoldable pub reply_over : List ℕ → ReadFile → List ℕ
+reply_over name file = reply_of Structure 1 (dds_of (best_label name) (decls_of file.shape (length (best_times (collection_of_one file.bytes file.shape)))))
+
+-- How a run ended accords with what the files hold: a run comes to its request exactly where the file is loaded, and
+-- ends before it for the defined reason. Want of memory may come at any time, a fault of a file only where it is read.
+abbrev pub AccordsFiles : End → Result ReadFile End → Result ReadFile End → Type 0
+AccordsFiles Done proto loaded = IsOk loaded
+AccordsFiles InputEnded proto loaded = IsOk loaded
+AccordsFiles LinkFault proto loaded = IsOk loaded
+AccordsFiles (Refused Request code) proto loaded = IsOk loaded × (code ≡ 60)
+AccordsFiles NoMemory proto loaded = ⊤
+AccordsFiles (FileFault Prototype) proto loaded = ⊤
+AccordsFiles (FileFault File) proto loaded = IsOk proto
+AccordsFiles (FileFault Request) proto loaded = ⊥
+AccordsFiles end proto loaded = loaded ≡ Err end
+
+-- How a run ended accords with how its input meets the head.
+abbrev pub AccordsInput : End → Asked → Type 0
+AccordsInput Done asked = asked ≡ Whole
+AccordsInput InputEnded asked = asked ≡ Ended
+AccordsInput (Refused Request code) asked = asked ≡ Differs
+AccordsInput end asked = ⊤
+
+-- What was taken from the link and sent on it: the head and the whole reply; or the input up to where it ended or
+-- differed, and nothing; or parts of both where the link failed; or nothing.
+abbrev pub Exchanged : End → List ℕ → List ℕ → Wire → Option Wire → Type 0
+Exchanged Done head reply wire after = after ≡ after_put reply (after_take (taken_of head wire.left) (Some wire))
+Exchanged InputEnded head reply wire after = after ≡ after_take (taken_of head wire.left) (Some wire)
+Exchanged (Refused Request code) head reply wire after = after ≡ after_take (taken_of head wire.left) (Some wire)
+Exchanged LinkFault head reply wire after = (m n : ℕ) × (m ≤ length head) × (n ≤ length reply) × (after ≡ after_put (take n reply) (after_take m (Some wire)))
+Exchanged NoMemory head reply wire after = (m : ℕ) × (m ≤ length head) × (after ≡ after_take m (Some wire))
+Exchanged end head reply wire after = after ≡ Some wire

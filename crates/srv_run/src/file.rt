@@ -1,0 +1,67 @@
+//! Reads the files of a run.
+ghost use Rattle.std.specs.Prelude.{◌≡◌, true, IfSome, IfOk};
+ghost use Rattle.nc_model.specs.Thin.{HoldsPlaces, is_thin};
+ghost use Rattle.srv_run.specs.Once as spec;
+ghost use Rattle.srv_run.specs.Steps.{Gives, BlamesFile};
+
+use crate::collection::is_same_grid;
+use crate::end::{End, NOT_YET_READ, Subject};
+use crate::words::Command;
+use fm_base::{Bytes, Fail, NoMemory};
+use fm_world::{Files, Found};
+use nc_model::{ThinShape, thin_shape};
+use std::alloc::Global;
+
+/// The greatest length of a file, in bytes.
+const FILE_BYTES: u64 = 536_870_912;
+
+/// A thin file as it was read.
+#[derive(Drop)]
+pub(crate) struct ReadFile {
+    pub(crate) bytes: Bytes,
+    pub(crate) shape: ThinShape,
+}
+
+#[tactic(auto, unfolding(crate::specs::Once::file_or_end))]
+fn content_of<F: Files>(
+    alloc: Global,
+    files: &mut F,
+    path: &[u8],
+    subject: Subject,
+) -> Result<Bytes, End>
+    ensures content { IfSome (F.told files.old) (λ held.
+        Gives (λ bytes. bytes) result (spec.file_or_end subject (held path.now))) }
+    ensures same { F.told files.new ≡ F.told files.old }
+    ensures cause { BlamesFile subject (F.fault_count files.old) (F.fault_count files.new) result }
+{
+    match files.read(alloc, path, FILE_BYTES) {
+        Ok(Found::Content(bytes)) => Ok(bytes),
+        Ok(Found::Absent) => Err(End::NoFile(subject)),
+        Ok(Found::TooLong(len)) => Err(End::TooLong(subject, len)),
+        Err(Fail::NoMemory) => Err(End::NoMemory),
+        Err(Fail::Fault(_failed)) => Err(End::FileFault(subject)),
+    }
+}
+
+// Reads a thin file.
+#[tactic(auto, unfolding(crate::specs::Once::read_or_end, crate::specs::Once::thin_or_end))]
+fn read_thin<F: Files>(
+    alloc: Global,
+    files: &mut F,
+    path: &[u8],
+    subject: Subject,
+) -> Result<ReadFile, End>
+    ensures file { IfSome (F.told files.old) (λ held.
+        Gives (λ file. file) result (spec.read_or_end subject (held path.now))) }
+    ensures same { F.told files.new ≡ F.told files.old }
+    ensures cause { BlamesFile subject (F.fault_count files.old) (F.fault_count files.new) result }
+    ensures thin { IfOk result (λ file. is_thin file.bytes file.shape ≡ true) }
+    ensures places { IfOk result (λ file. HoldsPlaces file.bytes file.shape) }
+{
+    let bytes = content_of(alloc, files, path, subject)?;
+    match thin_shape(alloc, bytes.as_slice()) {
+        Ok(Some(shape)) => Ok(ReadFile { bytes, shape }),
+        Ok(None) => Err(End::Refused(subject, NOT_YET_READ)),
+        Err(NoMemory) => Err(End::NoMemory),
+    }
+}
