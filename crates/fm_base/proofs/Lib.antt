@@ -1,1 +1,4 @@
 pub mod Exact
+pub mod Fields
+pub mod Lists
+pub mod Steps
