@@ -14,7 +14,7 @@ use Rattle.fm_base.specs.Kind.{code_of}
 use Rattle.fm_base.specs.Reading.{Parser, ◌>>=◌, pure, field, unless, located, word, long_word, count, padded, name_at, kind_of, known_kind, kind_at}
 use Rattle.fm_base.specs.Spelling.{SpellsWord, SpellsCount, SpellsPadded, SpellsKind, SpellsName}
 use Rattle.fm_base.proofs.Exact.{Exact, Then, Such, Exact-then, Exact-as, Exact-located}
-use Rattle.fm_base.proofs.Steps.{Tests, Through, Passes, PassesBoth, IsField, Exact-field, Exact-test, ok_pair, Tests-pure, Tests-unless, Tests-unless_both}
+use Rattle.fm_base.proofs.Steps.{Tests, Through, IsField, Exact-field, Exact-test, Exact-unless, Exact-unless_both, ok_pair, Tests-pure}
 
 -- a value that is read from a field of so many bytes
 abbrev Decoded : ℕ → (List ℕ → ℕ) → List ℕ → ℕ → Type 0
@@ -48,20 +48,21 @@ Exact-long_word = Exact-as (Decoded 8 (from_be_bytes w64)) SpellsLong (field 8 >
     (Exact-test (IsField 8) (λ bytes n. from_be_bytes w64 bytes ≡ n) (field 8) (λ bytes. pure (from_be_bytes w64 bytes)) (Exact-field 8) (Tests-pure (from_be_bytes w64)))
 
 -- a word that is tested, as a part that is told its place
-pub Exact-tested : (bad : ℕ → Bool) (fault : ℕ → HeaderFault) → Exact (Through SpellsWord (Passes bad)) (located (λ at. word >>= λ n. unless (bad n) (fault at) n))
-Exact-tested bad fault = Exact-located _ _ (λ at. Exact-test SpellsWord (Passes bad) word (λ n. unless (bad n) (fault at) n) Exact-word (Tests-unless bad (fault at)))
+pub Exact-tested : (bad : ℕ → Bool) (fault : ℕ → HeaderFault) → Exact (Such SpellsWord (λ n. bad n ≡ false)) (located (λ at. word >>= λ n. unless (bad n) (fault at) n))
+Exact-tested bad fault = Exact-located _ _ (λ at. Exact-unless SpellsWord bad (fault at) word Exact-word)
 
-abbrev pub is_no_count : ℕ → Bool
-is_no_count n = leb (2 ^ 31) n
+pub SpellsCount-from_word : (text : List ℕ) (n : ℕ) → SpellsWord text n → leb (2 ^ 31) n ≡ false → SpellsCount text n
+SpellsCount-from_word text n s below = record { small = leb-false (2 ^ 31) n below; text_is = s.text_is }
+
+pub SpellsWord-from_count : (text : List ℕ) (n : ℕ) → SpellsCount text n → SpellsWord text n
+SpellsWord-from_count text n s = record { small = let h = s.small in omega arith; text_is = s.text_is }
 
 pub Exact-count : Exact SpellsCount count
 unfolding count
-Exact-count = Exact-as (Through SpellsWord (Passes is_no_count)) SpellsCount (located (λ at. word >>= λ n. unless (is_no_count n) (BadCount at) n))
-    (λ text n fits s.
-    let below : s.x < 2 ^ 31 = leb-false (2 ^ 31) s.x s.related.good in
-    record { small = omega (arith, s.related.same); text_is = s.spelled.text_is ∙ ap (to_be_bytes w32) s.related.same })
-    (λ text n s. record { x = n; spelled = record { small = omega arith; text_is = s.text_is }; related = record { good = lt-leb (2 ^ 31) n s.small; same = refl } })
-    (Exact-tested is_no_count BadCount)
+Exact-count = Exact-as (Such SpellsWord (λ n. leb (2 ^ 31) n ≡ false)) SpellsCount (located (λ at. word >>= λ n. unless (leb (2 ^ 31) n) (BadCount at) n))
+    (λ text n fits s. SpellsCount-from_word text n s.spelled s.holds)
+    (λ text n s. record { spelled = SpellsWord-from_count text n s; holds = lt-leb (2 ^ 31) n s.small })
+    (Exact-tested (λ n. leb (2 ^ 31) n) BadCount)
 
 pub Exact-padded : (len : ℕ) → Exact (Such SpellsPadded (λ bytes. length bytes ≡ len)) (padded len)
 unfolding padded
@@ -86,23 +87,20 @@ is_no_name name = not (is_name_text name)
 
 -- a name as it is read: a length, and so many bytes that pass the tests
 abbrev NameAsRead : List (List ℕ) → List ℕ → List ℕ → Type 0
-NameAsRead found = Then SpellsCount (λ len. Through (Such SpellsPadded (λ name. length name ≡ len)) (PassesBoth is_no_name (has_name found)))
+NameAsRead found = Then SpellsCount (λ len. Such (Such SpellsPadded (λ name. length name ≡ len)) (λ name. (is_no_name name ≡ false) × (has_name found name ≡ false)))
 
 name_spelled : (found : List (List ℕ)) (text name : List ℕ) → NameAsRead found text name → Such SpellsName (λ name. has_name found name ≡ false) text name
-name_spelled found text name s =
-    let same = s.second.related.same in
-    let len : length name ≡ s.a = ap length (sym same) ∙ s.second.spelled.holds in
-    record {
-      spelled = record {
-        count_text = s.front;
-        name_text = s.back;
-        count = subst (SpellsCount s.front) (sym len) s.first;
-        named = ap is_name_text (sym same) ∙ not-false (is_name_text s.second.x) s.second.related.good;
-        bytes = subst (SpellsPadded s.back) same s.second.spelled.spelled;
-        text_is = s.text_is;
-      };
-      holds = ap (has_name found) (sym same) ∙ s.second.related.better;
-    }
+name_spelled found text name s = record {
+  spelled = record {
+    count_text = s.front;
+    name_text = s.back;
+    count = subst (SpellsCount s.front) (sym s.second.spelled.holds) s.first;
+    named = not-false (is_name_text name) s.second.holds.0;
+    bytes = s.second.spelled.spelled;
+    text_is = s.text_is;
+  };
+  holds = s.second.holds.1;
+}
 
 name_read : (found : List (List ℕ)) (text name : List ℕ) → Such SpellsName (λ name. has_name found name ≡ false) text name → NameAsRead found text name
 name_read found text name s = record {
@@ -110,11 +108,7 @@ name_read found text name s = record {
   front = s.spelled.count_text;
   back = s.spelled.name_text;
   first = s.spelled.count;
-  second = record {
-    x = name;
-    spelled = record { spelled = s.spelled.bytes; holds = refl };
-    related = record { good = not_from_true (is_name_text name) s.spelled.named; better = s.holds; same = refl };
-  };
+  second = record { spelled = record { spelled = s.spelled.bytes; holds = refl }; holds = (not_from_true (is_name_text name) s.spelled.named, s.holds) };
   text_is = s.spelled.text_is;
 }
 
@@ -123,7 +117,7 @@ unfolding name_at
 Exact-name_at found = Exact-as (NameAsRead found) (Such SpellsName (λ name. has_name found name ≡ false)) (name_at found) (λ text name fits s. name_spelled found text name s) (name_read found)
     (Exact-located (NameAsRead found) (λ at. count >>= λ len. padded len >>= λ name. unless (is_no_name name) (BadName at) name >>= λ name. unless (has_name found name) (RepeatedName at) name)
     (λ at. Exact-then SpellsCount _ count _ Exact-count
-    (λ len front first. Exact-test _ _ (padded len) _ (Exact-padded len) (Tests-unless_both is_no_name (has_name found) (BadName at) (RepeatedName at)))))
+    (λ len front first. Exact-unless_both _ is_no_name (has_name found) (BadName at) (RepeatedName at) (padded len) (Exact-padded len))))
 
 -- one of the tests by which a number is looked up among the kinds
 kind_turn : (code : ℕ) (this kind : Kind) (others : Option Kind) → cond (eqb code (code_of this)) (Some this) others ≡ Some kind → (others ≡ Some kind → code ≡ code_of kind) → code ≡ code_of kind

@@ -7,8 +7,8 @@ use Rattle.fm_base.specs.declared.fault.HeaderFault.TheVariants.{BadTag, BadCoun
 use Rattle.fm_base.specs.Reading.{Parser, ◌>>=◌, pure, unless, located, word, items_from, tag_at, list_count, list_at}
 use Rattle.fm_base.specs.Spelling.{SpellsWord, SpellsCount, SpellsTagged, SpellsAbsent, SpellsList, Spelled}
 use Rattle.fm_base.proofs.Exact.{Exact, Then, Such, Exact-then, Exact-as}
-use Rattle.fm_base.proofs.Fields.{Exact-tested}
-use Rattle.fm_base.proofs.Steps.{Through, Passes, Nothing, Exact-pure}
+use Rattle.fm_base.proofs.Fields.{Exact-tested, SpellsCount-from_word, SpellsWord-from_count}
+use Rattle.fm_base.proofs.Steps.{Nothing, Exact-pure}
 
 -- this holds of each item and those that stand before it
 abbrev pub EachFrom : {A : Type 0} → (List A → A → Type 0) → List A → List A → Type 0
@@ -75,9 +75,9 @@ false-no_tag tag found (inr none) = not_from_true _ (or_right _ _ (eq-eqb found 
 
 pub Exact-tag_at : (tag : ℕ) → Exact (SpellsTag tag) (tag_at tag)
 unfolding tag_at
-Exact-tag_at tag = Exact-as (Through SpellsWord (Passes (is_no_tag tag))) (SpellsTag tag) (located (λ at. word >>= λ found. unless (is_no_tag tag found) (BadTag at) found))
-    (λ text found fits s. subst (SpellsTag tag text) s.related.same (record { own = no_tag-false tag s.x s.related.good; spelled = s.spelled }))
-    (λ text found s. record { x = found; spelled = s.spelled; related = record { good = false-no_tag tag found s.own; same = refl } })
+Exact-tag_at tag = Exact-as (Such SpellsWord (λ found. is_no_tag tag found ≡ false)) (SpellsTag tag) (located (λ at. word >>= λ found. unless (is_no_tag tag found) (BadTag at) found))
+    (λ text found fits s. record { own = no_tag-false tag found s.holds; spelled = s.spelled })
+    (λ text found s. record { spelled = s.spelled; holds = false-no_tag tag found s.own })
     (Exact-tested (is_no_tag tag) BadTag)
 
 -- the number of items of a list with this tag
@@ -102,18 +102,11 @@ absent_none tag n none = elim (cases_eq tag 0) [
 
 pub Exact-list_count : (tag : ℕ) → Exact (SpellsListCount tag) (list_count tag)
 unfolding list_count
-Exact-list_count tag = Exact-as (Through SpellsWord (Passes (is_no_list_count tag))) (SpellsListCount tag) (located (λ at. word >>= λ n. unless (is_no_list_count tag n) (BadCount at) n))
+Exact-list_count tag = Exact-as (Such SpellsWord (λ n. is_no_list_count tag n ≡ false)) (SpellsListCount tag) (located (λ at. word >>= λ n. unless (is_no_list_count tag n) (BadCount at) n))
     (λ text n fits s.
-    let good = or_parts _ _ s.related.good in
-    subst (SpellsListCount tag text) s.related.same (record {
-      none = none_absent tag s.x good.1;
-      counted = record { small = leb-false (2 ^ 31) s.x good.0; text_is = s.spelled.text_is };
-    }))
-    (λ text n s. record {
-      x = n;
-      spelled = record { small = let h = s.counted.small in omega arith; text_is = s.counted.text_is };
-      related = record { good = or_from _ _ (lt-leb (2 ^ 31) n s.counted.small) (absent_none tag n s.none); same = refl };
-    })
+    let good = or_parts _ _ s.holds in
+    record { none = none_absent tag n good.1; counted = SpellsCount-from_word text n s.spelled good.0 })
+    (λ text n s. record { spelled = SpellsWord-from_count text n s.counted; holds = or_from _ _ (lt-leb (2 ^ 31) n s.counted.small) (absent_none tag n s.none) })
     (Exact-tested (is_no_list_count tag) BadCount)
 
 -- a list as it is read: the tag that was found, a count, and the items

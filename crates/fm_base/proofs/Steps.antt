@@ -7,7 +7,7 @@ use Rattle.fm_base.specs.declared.fault.HeaderFault.TheVariants.{Truncated}
 use Rattle.fm_base.specs.Format.{IsBytes}
 use Rattle.fm_base.specs.Input.{Input}
 use Rattle.fm_base.specs.Reading.{Outcome, Parser, and_then, ◌>>=◌, pure, unless, field}
-use Rattle.fm_base.proofs.Exact.{input, Exact, bind_ok}
+use Rattle.fm_base.proofs.Exact.{input, Exact, Such, Exact-as, bind_ok}
 
 -- so many bytes
 pub record IsField (n : ℕ) (text bytes : List ℕ) : Type 0 where
@@ -83,11 +83,6 @@ Tests-pure g = record {
   again = λ x i y s. ap (λ v. Ok (v, i)) s;
 }
 
--- the same value, where the test does not fail
-pub record Passes {A : Type 0} (bad : A → Bool) (x y : A) : Type 0 where
-  pub good : bad x ≡ false
-  pub same : x ≡ y
-
 unless_ok : {A : Type 0} (b : Bool) (fault : HeaderFault) (x y : A) (i j : Input) → unless b fault x i ≡ Ok (y, j) → (b ≡ false) × (x ≡ y) × (i ≡ j)
 unless_ok true fault x y i j e = absurd cc
 unless_ok false fault x y i j e = let p = ok_pair x y i j e in (refl, p.0, p.1)
@@ -95,27 +90,43 @@ unless_ok false fault x y i j e = let p = ok_pair x y i j e in (refl, p.0, p.1)
 ok_unless : {A : Type 0} (b : Bool) (fault : HeaderFault) (x y : A) (i : Input) → b ≡ false → x ≡ y → unless b fault x i ≡ Ok (y, i)
 ok_unless b fault x y i good same = rw (good, same) refl
 
-pub Tests-unless : {A : Type 0} (bad : A → Bool) (fault : HeaderFault) → Tests (Passes bad) (λ x. unless (bad x) fault x)
+-- the same value, where the test does not fail
+abbrev Passes : {A : Type 0} → (A → Bool) → A → A → Type 0
+Passes bad x y = (bad x ≡ false) × (x ≡ y)
+
+Tests-unless : {A : Type 0} (bad : A → Bool) (fault : HeaderFault) → Tests (Passes bad) (λ x. unless (bad x) fault x)
 Tests-unless bad fault = record {
-  passes = λ x i y j e. let h = unless_ok (bad x) fault x y i j e in (record { good = h.0; same = h.1 }, h.2);
-  again = λ x i y s. ok_unless (bad x) fault x y i s.good s.same;
+  passes = λ x i y j e. let h = unless_ok (bad x) fault x y i j e in ((h.0, h.1), h.2);
+  again = λ x i y s. ok_unless (bad x) fault x y i s.0 s.1;
 }
 
--- the same value, where neither test fails
-pub record PassesBoth {A : Type 0} (bad worse : A → Bool) (x y : A) : Type 0 where
-  pub good : bad x ≡ false
-  pub better : worse x ≡ false
-  pub same : x ≡ y
+-- a value that is tested
+pub Exact-unless : {A : Type 0} (S : List ℕ → A → Type 0) (bad : A → Bool) (fault : HeaderFault) (p : Parser A) → Exact S p → Exact (Such S (λ x. bad x ≡ false)) (p >>= λ x. unless (bad x) fault x)
+Exact-unless S bad fault p ep = Exact-as (Through S (Passes bad)) (Such S (λ x. bad x ≡ false)) (p >>= λ x. unless (bad x) fault x)
+    (λ text y fits s. record { spelled = subst (S text) s.related.1 s.spelled; holds = ap bad (sym s.related.1) ∙ s.related.0 })
+    (λ text y s. record { x = y; spelled = s.spelled; related = (s.holds, refl) })
+    (Exact-test S (Passes bad) p (λ x. unless (bad x) fault x) ep (Tests-unless bad fault))
 
-pub Tests-unless_both : {A : Type 0} (bad worse : A → Bool) (fault second : HeaderFault) → Tests (PassesBoth bad worse) (λ x. unless (bad x) fault x >>= λ y. unless (worse y) second y)
+-- the same value, where neither test fails
+abbrev PassesBoth : {A : Type 0} → (A → Bool) → (A → Bool) → A → A → Type 0
+PassesBoth bad worse x y = (bad x ≡ false) × (worse x ≡ false) × (x ≡ y)
+
+Tests-unless_both : {A : Type 0} (bad worse : A → Bool) (fault second : HeaderFault) → Tests (PassesBoth bad worse) (λ x. unless (bad x) fault x >>= λ y. unless (worse y) second y)
 Tests-unless_both {A} bad worse fault second = record {
   passes = λ x i y j e.
       let m = bind_ok (unless (bad x) fault x i) (λ n. unless (worse n) second n) (y, j) e in
       let first = unless_ok (bad x) fault x m.0.0 i m.0.1 m.1 in
       let then = unless_ok (worse m.0.0) second m.0.0 y m.0.1 j m.2 in
-      (record { good = first.0; better = ap worse first.1 ∙ then.0; same = first.1 ∙ then.1 }, first.2 ∙ then.2);
-  again = λ x i y s. ap (λ (r : Outcome A). and_then r (λ n. unless (worse n) second n)) (ok_unless (bad x) fault x x i s.good refl) ∙ ok_unless (worse x) second x y i s.better s.same;
+      ((first.0, ap worse first.1 ∙ then.0, first.1 ∙ then.1), first.2 ∙ then.2);
+  again = λ x i y s. ap (λ (r : Outcome A). and_then r (λ n. unless (worse n) second n)) (ok_unless (bad x) fault x x i s.0 refl) ∙ ok_unless (worse x) second x y i s.1 s.2;
 }
+
+-- a value that is tested twice
+pub Exact-unless_both : {A : Type 0} (S : List ℕ → A → Type 0) (bad worse : A → Bool) (fault second : HeaderFault) (p : Parser A) → Exact S p → Exact (Such S (λ x. (bad x ≡ false) × (worse x ≡ false))) (p >>= λ x. unless (bad x) fault x >>= λ y. unless (worse y) second y)
+Exact-unless_both {A} S bad worse fault second p ep = Exact-as (Through S (PassesBoth bad worse)) (Such S (λ x. (bad x ≡ false) × (worse x ≡ false))) (p >>= λ x. unless (bad x) fault x >>= λ y. unless (worse y) second y)
+    (λ text y fits s. let same = s.related.2 in record { spelled = subst (S text) same s.spelled; holds = (ap bad (sym same) ∙ s.related.0, ap worse (sym same) ∙ s.related.1) })
+    (λ text y s. record { x = y; spelled = s.spelled; related = (s.holds.0, s.holds.1, refl) })
+    (Exact-test S (PassesBoth bad worse) p (λ x. unless (bad x) fault x >>= λ y. unless (worse y) second y) ep (Tests-unless_both bad worse fault second))
 
 -- nothing is read
 pub record Nothing {A : Type 0} (x : A) (text : List ℕ) (a : A) : Type 0 where
