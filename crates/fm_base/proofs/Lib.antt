@@ -1,3 +1,4 @@
+pub mod Distinct
 pub mod Exact
 pub mod Fields
 pub mod Lists
