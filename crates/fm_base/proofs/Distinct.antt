@@ -3,7 +3,7 @@
 use Rattle.std.proofs.Common.{◌≡◌, ℕ, zero, suc, ◌+◌, ◌<◌, ◌≤◌, Bool, true, false, cond, not, ◌&&◌, ◌||◌, ◌==◌, eqb, Option, Some, None, IfSome, slice_get, List, [], ◌∷◌, ◌++◌, length, map, drop, bytes_eq, count_by, refl, sym, ap, ◌∙◌, arith}
 use Rattle.std.specs.List.{AllByRecursion, IsDistinct, list_any}
 use Rattle.std.specs.Option.{option_map_or}
-use Rattle.std.proofs.lemmas.Bool.{or_parts, or_from}
+use Rattle.std.proofs.lemmas.Bool.{or_parts, or_from, ne_eqb}
 use Rattle.std.proofs.lemmas.List.{map-append}
 use Rattle.std.proofs.lemmas.List.Folds.{list_any-append}
 use Rattle.std.proofs.lemmas.List.Sums.{sum_by-cons}
@@ -131,3 +131,39 @@ only-from_one_record dims h = only_records [] dims (omega arith)
 -- the number is not that of the record dimension, where others stand before it
 abbrev pub IsRecordFirst : List Dim → List ℕ → ℕ → Type 0
 IsRecordFirst dims found id = (not (length found == 0) && names_record dims id) ≡ false
+
+NamesNoRecord-from_test : (dims : List Dim) (id : ℕ) → names_record dims id ≡ false → NamesNoRecord dims id
+unfolding names_record
+NamesNoRecord-from_test dims id e = go (slice_get dims id) e
+  where
+    go : (o : Option Dim) → option_map_or is_record o false ≡ false → IfSome o (λ dim. is_record dim ≡ false)
+    go None e = tt
+    go (Some dim) e = e
+
+test-from_NamesNoRecord : (dims : List Dim) (id : ℕ) → NamesNoRecord dims id → names_record dims id ≡ false
+unfolding names_record
+test-from_NamesNoRecord dims id h = go (slice_get dims id) h
+  where
+    go : (o : Option Dim) → IfSome o (λ dim. is_record dim ≡ false) → option_map_or is_record o false ≡ false
+    go None h = refl
+    go (Some dim) h = h
+
+later_test : (b : Bool) (n : ℕ) → (not (suc n == 0) && b) ≡ b
+later_test b n = ap (λ t. not t && b) (ne_eqb (suc n) 0 (λ e. omega arith))
+
+no_record_after : (dims : List Dim) (first : ℕ) (found ids : List ℕ) → EachFrom (IsRecordFirst dims) (first ∷ found) ids → AllByRecursion (NamesNoRecord dims) ids
+no_record_after dims first found [] each = tt
+no_record_after dims first found (id ∷ ids) each = (NamesNoRecord-from_test dims id (sym (later_test (names_record dims id) (length found)) ∙ each.0), no_record_after dims first (found ++ id ∷ []) ids each.1)
+
+record_first_after : (dims : List Dim) (first : ℕ) (found ids : List ℕ) → AllByRecursion (NamesNoRecord dims) ids → EachFrom (IsRecordFirst dims) (first ∷ found) ids
+record_first_after dims first found [] all = tt
+record_first_after dims first found (id ∷ ids) all = (later_test (names_record dims id) (length found) ∙ test-from_NamesNoRecord dims id all.0, record_first_after dims first (found ++ id ∷ []) ids all.1)
+
+-- the record dimension stands first or not at all, and the converse
+pub no_record-from_first : (dims : List Dim) (ids : List ℕ) → EachFrom (IsRecordFirst dims) [] ids → AllByRecursion (NamesNoRecord dims) (drop 1 ids)
+no_record-from_first dims [] each = tt
+no_record-from_first dims (id ∷ ids) each = no_record_after dims id [] ids each.1
+
+pub first-from_no_record : (dims : List Dim) (ids : List ℕ) → AllByRecursion (NamesNoRecord dims) (drop 1 ids) → EachFrom (IsRecordFirst dims) [] ids
+first-from_no_record dims [] all = tt
+first-from_no_record dims (id ∷ ids) all = (refl, record_first_after dims id [] ids all)

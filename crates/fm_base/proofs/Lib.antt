@@ -2,4 +2,5 @@ pub mod Distinct
 pub mod Exact
 pub mod Fields
 pub mod Lists
+pub mod Parts
 pub mod Steps

@@ -1,0 +1,118 @@
+-- The dimensions, the attributes and the variables of a header are read exactly.
+use Rattle.std.proofs.Common.{◌≡◌, ℕ, ◌+◌, ◌*◌, ◌^◌, ◌<◌, ◌≤◌, ◌⊎◌, Bool, false, not, ◌&&◌, ◌==◌, leb, ltb, nat_le, nat_lt, List, [], ◌++◌, length, map, refl, sym, ap, subst, ◌∙◌, append_assoc, inl, inr, arith}
+use Rattle.std.specs.Int.{w32, to_be_bytes}
+use Rattle.std.proofs.lemmas.Bool.{ltb-false, le-ltb, leb-false, lt-leb}
+use Rattle.fm_base.specs.declared.fault.HeaderFault.TheVariants.{BadCount, BadDimId, TwoRecordDims, RecordNotFirst}
+use Rattle.fm_base.specs.declared.header.Attr.{Attr}
+use Rattle.fm_base.specs.declared.header.Dim.{Dim}
+use Rattle.fm_base.specs.declared.header.NcVar.{NcVar}
+use Rattle.fm_base.specs.declared.kind.Kind.{Kind}
+use Rattle.fm_base.specs.Format.{ATTRIBUTE_TAG, MAX_RANK, has_name, has_record}
+use Rattle.fm_base.specs.Kind.{size_of}
+use Rattle.fm_base.specs.Reading.{Parser, ◌>>=◌, pure, located, unless, field, word, long_word, count, padded, name_at, kind_at, items_from, list_at, dim_size, dim_at, attr_at, rank_at, names_record, dim_id_at, begin_at, var_at}
+use Rattle.fm_base.specs.Spelling.{SpellsWord, SpellsCount, SpellsPadded, SpellsName, SpellsKind, SpellsList, SpellsDim, SpellsAttr, SpellsBegin, SpellsVar, IsSoundVar}
+use Rattle.fm_base.proofs.Distinct.{IsFresh, IsOnlyRecord, IsRecordFirst, EachFrom-parts, EachFrom-both, AllByRecursion-from_each, EachFrom-from_all, AreDistinct-from_fresh, fresh-from_AreDistinct, no_record-from_first, first-from_no_record}
+use Rattle.fm_base.proofs.Exact.{Exact, Then, Such, Exact-then, Exact-as, Exact-located}
+use Rattle.fm_base.proofs.Fields.{SpellsLong, SpellsWord-from_count, Exact-word, Exact-long_word, Exact-tested, Exact-count, Exact-padded, Exact-name_at, Exact-kind_at}
+use Rattle.fm_base.proofs.Lists.{EachFrom, Adds, Exact-items_from, Exact-list_at}
+use Rattle.fm_base.proofs.Steps.{Through, IsField, Exact-field, Exact-test, Exact-unless, Exact-unless_both, Tests-pure}
+
+pub Exact-dim_size : (found : List Dim) → Exact (Such SpellsCount (λ size. (size == 0 && has_record found) ≡ false)) (dim_size found)
+unfolding dim_size
+Exact-dim_size found = Exact-located _ _ (λ at. Exact-unless SpellsCount (λ size. size == 0 && has_record found) (TwoRecordDims at) count Exact-count)
+
+abbrev pub name_of_dim : Dim → List ℕ
+name_of_dim dim = dim.name
+
+-- a dimension after these has another name, and is no second record dimension
+abbrev pub DimAfter : List Dim → Dim → Type 0
+DimAfter found dim = IsFresh name_of_dim found dim × IsOnlyRecord found dim
+
+abbrev dim_of : List ℕ → ℕ → Dim
+dim_of name size = record { name = name; size = size }
+
+abbrev DimAsRead : List Dim → List ℕ → Dim → Type 0
+DimAsRead found =
+    Then (Such SpellsName (λ name. has_name (map name_of_dim found) name ≡ false))
+    (λ name. Through (Such SpellsCount (λ size. (size == 0 && has_record found) ≡ false)) (λ size dim. dim_of name size ≡ dim))
+
+pub Exact-dim_at : (found : List Dim) → Exact (Such SpellsDim (DimAfter found)) (dim_at found)
+unfolding dim_at
+Exact-dim_at found = Exact-as (DimAsRead found) (Such SpellsDim (DimAfter found)) (dim_at found)
+    (λ text dim fits s. subst (Such SpellsDim (DimAfter found) text) s.second.related (record {
+      spelled = record { name_text = s.front; size_text = s.back; name = s.first.spelled; size = s.second.spelled.spelled; text_is = s.text_is };
+      holds = (s.first.holds, s.second.spelled.holds);
+    }))
+    (λ text dim s. record {
+      a = dim.name;
+      front = s.spelled.name_text;
+      back = s.spelled.size_text;
+      first = record { spelled = s.spelled.name; holds = s.holds.0 };
+      second = record { x = dim.size; spelled = record { spelled = s.spelled.size; holds = s.holds.1 }; related = refl };
+      text_is = s.spelled.text_is;
+    })
+    (Exact-then (Such SpellsName (λ name. has_name (map name_of_dim found) name ≡ false)) _ (name_at (map name_of_dim found)) _ (Exact-name_at (map name_of_dim found))
+    (λ name front first. Exact-test _ (λ size dim. dim_of name size ≡ dim) (dim_size found) _ (Exact-dim_size found) (Tests-pure (dim_of name))))
+
+abbrev pub name_of_attr : Attr → List ℕ
+name_of_attr attr = attr.name
+
+abbrev attr_of : List ℕ → Kind → List ℕ → Attr
+attr_of name kind values = record { name = name; kind = kind; values = values }
+
+abbrev AttrAsRead : List Attr → List ℕ → Attr → Type 0
+AttrAsRead found =
+    Then (Such SpellsName (λ name. has_name (map name_of_attr found) name ≡ false))
+    (λ name. Then SpellsKind
+    (λ kind. Then SpellsCount
+    (λ n. Through (Such SpellsPadded (λ values. length values ≡ n * size_of kind)) (λ values attr. attr_of name kind values ≡ attr))))
+
+pub Exact-attr_at : (found : List Attr) → Exact (Such SpellsAttr (IsFresh name_of_attr found)) (attr_at found)
+unfolding attr_at
+Exact-attr_at found = Exact-as (AttrAsRead found) (Such SpellsAttr (IsFresh name_of_attr found)) (attr_at found)
+    (λ text attr fits s. subst (Such SpellsAttr (IsFresh name_of_attr found) text) s.second.second.second.related (record {
+      spelled = record {
+        name_text = s.front;
+        kind_text = s.second.front;
+        count_text = s.second.second.front;
+        values_text = s.second.second.back;
+        count = s.second.second.a;
+        name = s.first.spelled;
+        kind = s.second.first;
+        counted = s.second.second.first;
+        length_is = s.second.second.second.spelled.holds;
+        values = s.second.second.second.spelled.spelled;
+        text_is = simp append_assoc (s.text_is ∙ ap (λ (l : List ℕ). s.front ++ l) (s.second.text_is ∙ ap (λ (l : List ℕ). s.second.front ++ l) s.second.second.text_is));
+      };
+      holds = s.first.holds;
+    }))
+    (λ text attr s. let t = s.spelled in record {
+      a = attr.name;
+      front = t.name_text;
+      back = t.kind_text ++ (t.count_text ++ t.values_text);
+      first = record { spelled = t.name; holds = s.holds };
+      second = record {
+        a = attr.kind;
+        front = t.kind_text;
+        back = t.count_text ++ t.values_text;
+        first = t.kind;
+        second = record {
+          a = t.count;
+          front = t.count_text;
+          back = t.values_text;
+          first = t.counted;
+          second = record { x = attr.values; spelled = record { spelled = t.values; holds = t.length_is }; related = refl };
+          text_is = refl;
+        };
+        text_is = refl;
+      };
+      text_is = simp append_assoc at t.text_is;
+    })
+    (Exact-then (Such SpellsName (λ name. has_name (map name_of_attr found) name ≡ false)) _ (name_at (map name_of_attr found)) _ (Exact-name_at (map name_of_attr found))
+    (λ name front first. Exact-then SpellsKind _ kind_at _ Exact-kind_at
+    (λ kind front first. Exact-then SpellsCount _ count _ Exact-count
+    (λ n front first. Exact-test _ (λ values attr. attr_of name kind values ≡ attr) (padded (n * size_of kind)) _ (Exact-padded (n * size_of kind)) (Tests-pure (attr_of name kind))))))
+
+-- the attributes of a header or of a variable
+pub Exact-attrs_at : Exact (Such (SpellsList ATTRIBUTE_TAG SpellsAttr) (EachFrom (IsFresh name_of_attr) [])) (list_at ATTRIBUTE_TAG attr_at)
+Exact-attrs_at = Exact-list_at ATTRIBUTE_TAG SpellsAttr (IsFresh name_of_attr) attr_at (omega arith) (omega arith) Exact-attr_at
