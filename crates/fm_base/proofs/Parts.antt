@@ -1,21 +1,20 @@
--- The dimensions, the attributes and the variables of a header are read exactly.
-use Rattle.std.proofs.Common.{◌≡◌, ℕ, ◌+◌, ◌*◌, ◌^◌, ◌<◌, ◌≤◌, ◌⊎◌, Bool, false, not, ◌&&◌, ◌==◌, leb, ltb, nat_le, nat_lt, List, [], ◌++◌, length, map, refl, sym, ap, subst, ◌∙◌, append_assoc, inl, inr, arith}
-use Rattle.std.specs.Int.{w32, to_be_bytes}
+-- The dimensions, the attributes and the smaller parts of a variable are read exactly.
+use Rattle.std.proofs.Common.{◌≡◌, ℕ, ◌+◌, ◌*◌, ◌^◌, ◌<◌, ◌≤◌, ◌⊎◌, false, not, ◌&&◌, ◌==◌, nat_le, nat_lt, List, [], ◌++◌, length, map, drop, refl, sym, ap, subst, ◌∙◌, append_assoc, inl, inr, arith}
+use Rattle.std.specs.List.{AllByRecursion}
 use Rattle.std.proofs.lemmas.Bool.{ltb-false, le-ltb, leb-false, lt-leb}
 use Rattle.fm_base.specs.declared.fault.HeaderFault.TheVariants.{BadCount, BadDimId, TwoRecordDims, RecordNotFirst}
 use Rattle.fm_base.specs.declared.header.Attr.{Attr}
 use Rattle.fm_base.specs.declared.header.Dim.{Dim}
-use Rattle.fm_base.specs.declared.header.NcVar.{NcVar}
 use Rattle.fm_base.specs.declared.kind.Kind.{Kind}
 use Rattle.fm_base.specs.Format.{ATTRIBUTE_TAG, MAX_RANK, has_name, has_record}
 use Rattle.fm_base.specs.Kind.{size_of}
-use Rattle.fm_base.specs.Reading.{Parser, ◌>>=◌, pure, located, unless, field, word, long_word, count, padded, name_at, kind_at, items_from, list_at, dim_size, dim_at, attr_at, rank_at, names_record, dim_id_at, begin_at, var_at}
-use Rattle.fm_base.specs.Spelling.{SpellsWord, SpellsCount, SpellsPadded, SpellsName, SpellsKind, SpellsList, SpellsDim, SpellsAttr, SpellsBegin, SpellsVar, IsSoundVar}
-use Rattle.fm_base.proofs.Distinct.{IsFresh, IsOnlyRecord, IsRecordFirst, EachFrom-parts, EachFrom-both, AllByRecursion-from_each, EachFrom-from_all, AreDistinct-from_fresh, fresh-from_AreDistinct, no_record-from_first, first-from_no_record}
+use Rattle.fm_base.specs.Reading.{◌>>=◌, located, unless, word, long_word, count, padded, name_at, kind_at, items_from, list_at, dim_size, dim_at, attr_at, rank_at, names_record, dim_id_at, begin_at}
+use Rattle.fm_base.specs.Spelling.{SpellsWord, SpellsCount, SpellsPadded, SpellsName, SpellsKind, SpellsList, SpellsDim, SpellsAttr, SpellsBegin, Spelled, NamesNoRecord}
+use Rattle.fm_base.proofs.Distinct.{IsFresh, IsOnlyRecord, IsRecordFirst, EachFrom-parts, EachFrom-both, AllByRecursion-from_each, EachFrom-from_all, no_record-from_first, first-from_no_record}
 use Rattle.fm_base.proofs.Exact.{Exact, Then, Such, Exact-then, Exact-as, Exact-located}
 use Rattle.fm_base.proofs.Fields.{SpellsLong, SpellsWord-from_count, Exact-word, Exact-long_word, Exact-tested, Exact-count, Exact-padded, Exact-name_at, Exact-kind_at}
 use Rattle.fm_base.proofs.Lists.{EachFrom, Adds, Exact-items_from, Exact-list_at}
-use Rattle.fm_base.proofs.Steps.{Through, IsField, Exact-field, Exact-test, Exact-unless, Exact-unless_both, Tests-pure}
+use Rattle.fm_base.proofs.Steps.{Through, Exact-test, Exact-unless, Exact-unless_both, Tests-pure}
 
 pub Exact-dim_size : (found : List Dim) → Exact (Such SpellsCount (λ size. (size == 0 && has_record found) ≡ false)) (dim_size found)
 unfolding dim_size
@@ -116,3 +115,68 @@ Exact-attr_at found = Exact-as (AttrAsRead found) (Such SpellsAttr (IsFresh name
 -- the attributes of a header or of a variable
 pub Exact-attrs_at : Exact (Such (SpellsList ATTRIBUTE_TAG SpellsAttr) (EachFrom (IsFresh name_of_attr) [])) (list_at ATTRIBUTE_TAG attr_at)
 Exact-attrs_at = Exact-list_at ATTRIBUTE_TAG SpellsAttr (IsFresh name_of_attr) attr_at (omega arith) (omega arith) Exact-attr_at
+
+pub Exact-rank_at : Exact (Such SpellsCount (λ rank. rank ≤ MAX_RANK)) rank_at
+unfolding rank_at
+Exact-rank_at = Exact-as (Such SpellsWord (λ n. nat_lt MAX_RANK n ≡ false)) (Such SpellsCount (λ rank. rank ≤ MAX_RANK)) (located (λ at. word >>= λ n. unless (nat_lt MAX_RANK n) (BadCount at) n))
+    (λ text n fits s.
+    let within : n ≤ MAX_RANK = ltb-false MAX_RANK n s.holds in
+    record { spelled = record { small = omega arith; text_is = s.spelled.text_is }; holds = within })
+    (λ text n s. record { spelled = SpellsWord-from_count text n s.spelled; holds = le-ltb MAX_RANK n s.holds })
+    (Exact-tested (λ n. nat_lt MAX_RANK n) BadCount)
+
+-- the number of a dimension that is there, and not that of the record dimension where others stand before it
+abbrev IdAfter : List Dim → List ℕ → ℕ → Type 0
+IdAfter dims found id = (id < length dims) × IsRecordFirst dims found id
+
+Exact-dim_id_at : (dims : List Dim) (found : List ℕ) → Exact (Such SpellsWord (IdAfter dims found)) (dim_id_at dims found)
+unfolding dim_id_at
+Exact-dim_id_at dims found = Exact-as (Such SpellsWord (λ id. (nat_le (length dims) id ≡ false) × IsRecordFirst dims found id)) (Such SpellsWord (IdAfter dims found)) (dim_id_at dims found)
+    (λ text id fits s. record { spelled = s.spelled; holds = (leb-false (length dims) id s.holds.0, s.holds.1) })
+    (λ text id s. record { spelled = s.spelled; holds = (lt-leb (length dims) id s.holds.0, s.holds.1) })
+    (Exact-located _ _ (λ at. Exact-unless_both SpellsWord (λ id. nat_le (length dims) id) (λ id. not (length found == 0) && names_record dims id) (BadDimId at) (RecordNotFirst at) word Exact-word))
+
+-- the numbers of so many dimensions that are there, with the record dimension first or not at all
+abbrev pub AreIds : List Dim → ℕ → List ℕ → Type 0
+AreIds dims rank ids = (length ids ≡ rank) × AllByRecursion (λ id. id < length dims) ids × AllByRecursion (NamesNoRecord dims) (drop 1 ids)
+
+pub Exact-dim_ids : (dims : List Dim) (rank : ℕ) → Exact (Such (Spelled SpellsWord) (AreIds dims rank)) (items_from (dim_id_at dims) rank [])
+Exact-dim_ids dims rank = Exact-as (Adds SpellsWord (IdAfter dims) [] rank) (Such (Spelled SpellsWord) (AreIds dims rank)) (items_from (dim_id_at dims) rank [])
+    (λ text ids fits s.
+    let parts = EachFrom-parts (λ found id. id < length dims) (IsRecordFirst dims) [] s.more s.each in
+    subst (Such (Spelled SpellsWord) (AreIds dims rank) text) (sym s.all_is) (record {
+      spelled = s.spelled;
+      holds = (s.count, AllByRecursion-from_each (λ id. id < length dims) [] s.more parts.0, no_record-from_first dims s.more parts.1);
+    }))
+    (λ text ids s. record {
+      more = ids;
+      all_is = refl;
+      count = s.holds.0;
+      spelled = s.spelled;
+      each = EachFrom-both (λ found id. id < length dims) (IsRecordFirst dims) [] ids (EachFrom-from_all (λ id. id < length dims) [] ids s.holds.1) (first-from_no_record dims ids s.holds.2);
+    })
+    (Exact-items_from SpellsWord (IdAfter dims) (dim_id_at dims) (Exact-dim_id_at dims) rank [])
+
+Exact-begin_1 : Exact (SpellsBegin 1) (begin_at 1)
+unfolding begin_at
+Exact-begin_1 = Exact-as SpellsWord (SpellsBegin 1) word
+    (λ text begin fits s. inl (refl, s.small, s.text_is))
+    (λ text begin s. elim s [
+      | inl four ↦ record { small = four.1; text_is = four.2 }
+      | inr eight ↦ let no = eight.0 in absurd (omega arith)
+    ])
+    Exact-word
+
+Exact-begin_2 : Exact (SpellsBegin 2) (begin_at 2)
+unfolding begin_at
+Exact-begin_2 = Exact-as SpellsLong (SpellsBegin 2) long_word
+    (λ text begin fits s. inr (refl, s.small, s.text_is))
+    (λ text begin s. elim s [
+      | inl four ↦ let no = four.0 in absurd (omega arith)
+      | inr eight ↦ record { small = eight.1; text_is = eight.2 }
+    ])
+    Exact-long_word
+
+pub Exact-begin_at : (version : ℕ) → (version ≡ 1) ⊎ (version ≡ 2) → Exact (SpellsBegin version) (begin_at version)
+Exact-begin_at version (inl one) = subst (λ v. Exact (SpellsBegin v) (begin_at v)) (sym one) Exact-begin_1
+Exact-begin_at version (inr two) = subst (λ v. Exact (SpellsBegin v) (begin_at v)) (sym two) Exact-begin_2

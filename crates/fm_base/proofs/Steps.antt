@@ -14,7 +14,7 @@ pub record IsField (n : ℕ) (text bytes : List ℕ) : Type 0 where
   pub size : length bytes ≡ n
   pub text_is : text ≡ bytes
 
-IsBytes-drop : (n : ℕ) (bytes : List ℕ) → IsBytes bytes → IsBytes (drop n bytes)
+pub IsBytes-drop : (n : ℕ) (bytes : List ℕ) → IsBytes bytes → IsBytes (drop n bytes)
 IsBytes-drop n bytes h i = rw get_or-drop (h (n + i))
 
 abbrev done : {A : Type 0} → A → Result A HeaderFault
