@@ -1,6 +1,6 @@
 -- What holds of each item and those before it, said of the whole list: names differ, the record dimension is the only
 -- one, and a variable's record dimension stands first.
-use Rattle.std.proofs.Common.{◌≡◌, ℕ, zero, suc, ◌+◌, ◌<◌, ◌≤◌, Bool, true, false, cond, not, ◌&&◌, ◌||◌, ◌==◌, eqb, Option, Some, None, IfSome, slice_get, List, [], ◌∷◌, ◌++◌, length, map, drop, bytes_eq, count_by, refl, sym, ap, ◌∙◌, arith}
+use Rattle.std.proofs.Common.{◌≡◌, ℕ, suc, ◌+◌, ◌≤◌, Bool, true, false, cond, not, ◌&&◌, ◌||◌, ◌==◌, Option, Some, None, IfSome, slice_get, List, [], ◌∷◌, ◌++◌, length, map, drop, bytes_eq, count_by, refl, sym, ap, ◌∙◌, arith}
 use Rattle.std.specs.List.{AllByRecursion, IsDistinct, list_any}
 use Rattle.std.specs.Option.{option_map_or}
 use Rattle.std.proofs.lemmas.Bool.{or_parts, or_from, ne_eqb}

@@ -1,17 +1,17 @@
 -- The numbers, the padding, the names and the kinds of a header are read exactly.
-use Rattle.std.proofs.Common.{◌≡◌, ℕ, ◌+◌, ◌*◌, ◌/◌, ◌^◌, ◌<◌, ◌≤◌, Bool, true, false, cond, not, eqb, leb, Option, Some, None, Ok, List, ◌++◌, length, take, drop, refl, sym, ap, subst, ◌∙◌, append_assoc, inl, inr, length-append, length-take-le, take-append-drop, arith}
+use Rattle.std.proofs.Common.{◌≡◌, ℕ, ◌^◌, ◌<◌, Bool, true, false, cond, not, eqb, leb, Option, Some, None, Ok, List, ◌++◌, length, take, drop, refl, sym, ap, subst, ◌∙◌, length-take-le, take-append-drop, arith}
 use Rattle.std.specs.Int.{w32, w64, from_be_bytes, to_be_bytes}
 use Rattle.std.proofs.lemmas.Bool.{eqb-true, lt-leb, leb-false, not-false, not_from_true}
 use Rattle.std.proofs.lemmas.List.{take_at}
 use Rattle.std.proofs.lemmas.Nat.{be_bytes_4, be_bytes_8, from_be_bytes-to_be_bytes_4, from_be_bytes-to_be_bytes_8}
 use Rattle.fm_base.specs.declared.fault.HeaderFault.{HeaderFault}
-use Rattle.fm_base.specs.declared.fault.HeaderFault.TheVariants.{BadCount, BadName, BadType, RepeatedName}
+use Rattle.fm_base.specs.declared.fault.HeaderFault.TheVariants.{BadCount, BadName, RepeatedName}
 use Rattle.fm_base.specs.declared.kind.Kind.{Kind}
 use Rattle.fm_base.specs.declared.kind.Kind.TheVariants.{Byte, Char, Short, Int, Float, Double}
 use Rattle.fm_base.specs.Format.{padded_len, is_name_text, has_name}
 use Rattle.fm_base.specs.Input.{Input}
 use Rattle.fm_base.specs.Kind.{code_of}
-use Rattle.fm_base.specs.Reading.{Parser, ◌>>=◌, pure, field, unless, located, word, long_word, count, padded, name_at, kind_of, known_kind, kind_at}
+use Rattle.fm_base.specs.Reading.{◌>>=◌, pure, field, unless, located, word, long_word, count, padded, name_at, kind_of, known_kind, kind_at}
 use Rattle.fm_base.specs.Spelling.{SpellsWord, SpellsCount, SpellsPadded, SpellsKind, SpellsName}
 use Rattle.fm_base.proofs.Exact.{Exact, Then, Such, Exact-then, Exact-as, Exact-located}
 use Rattle.fm_base.proofs.Steps.{Tests, Through, IsField, Exact-field, Exact-test, Exact-unless, Exact-unless_both, ok_pair, Tests-pure}

@@ -1,5 +1,5 @@
 -- What is read as a header is spelled so, what is spelled so is read as that header, and so bytes have one at most.
-use Rattle.std.proofs.Common.{◌≡◌, List, ℕ, Ok, Err, refl, sym, ap, ◌∙◌}
+use Rattle.std.proofs.Common.{◌≡◌, List, ℕ, Ok, Err, sym, ap, ◌∙◌}
 use Rattle.fm_base.specs.declared.header.Header.{Header}
 use Rattle.fm_base.specs.Format.{IsBytes}
 use Rattle.fm_base.specs.Input.{Input, whole}

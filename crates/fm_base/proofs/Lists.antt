@@ -1,11 +1,11 @@
 -- Items one after the other, and the three lists of a header, are read exactly.
-use Rattle.std.proofs.Common.{◌≡◌, ℕ, zero, suc, ◌+◌, ◌^◌, ◌<◌, ◌⊎◌, Bool, true, false, not, ◌&&◌, ◌||◌, eqb, leb, List, [], ◌∷◌, ◌++◌, length, replicate, refl, sym, ap, ap₂, subst, ◌∙◌, append_assoc, append-nil, inl, inr, arith}
+use Rattle.std.proofs.Common.{◌≡◌, ℕ, zero, suc, ◌^◌, ◌<◌, ◌⊎◌, Bool, false, not, ◌&&◌, ◌||◌, eqb, leb, List, [], ◌∷◌, ◌++◌, length, replicate, refl, sym, ap, ap₂, subst, ◌∙◌, append_assoc, append-nil, inl, inr, arith}
 use Rattle.std.specs.Int.{w32, to_be_bytes}
-use Rattle.std.proofs.lemmas.Bool.{eqb-true, eqb-false, eq-eqb, ne_eqb, cases_eq, lt-leb, leb-false, not-false, not_from_true, or_cases, or_parts, or_from, or_left, or_right, and_cases, and_left, and_right}
+use Rattle.std.proofs.lemmas.Bool.{eqb-true, eqb-false, eq-eqb, ne_eqb, cases_eq, lt-leb, not-false, not_from_true, or_cases, or_parts, or_from, or_left, or_right, and_cases, and_left, and_right}
 use Rattle.std.proofs.lemmas.List.{nil_from_length}
 use Rattle.fm_base.specs.declared.fault.HeaderFault.TheVariants.{BadTag, BadCount}
 use Rattle.fm_base.specs.Reading.{Parser, ◌>>=◌, pure, unless, located, word, items_from, tag_at, list_count, list_at}
-use Rattle.fm_base.specs.Spelling.{SpellsWord, SpellsCount, SpellsTagged, SpellsAbsent, SpellsList, Spelled}
+use Rattle.fm_base.specs.Spelling.{SpellsWord, SpellsCount, SpellsList, Spelled}
 use Rattle.fm_base.proofs.Exact.{Exact, Then, Such, Exact-then, Exact-as}
 use Rattle.fm_base.proofs.Fields.{Exact-tested, SpellsCount-from_word, SpellsWord-from_count}
 use Rattle.fm_base.proofs.Steps.{Nothing, Exact-pure}

@@ -1,5 +1,5 @@
 -- The dimensions, the attributes and the smaller parts of a variable are read exactly.
-use Rattle.std.proofs.Common.{◌≡◌, ℕ, ◌+◌, ◌*◌, ◌^◌, ◌<◌, ◌≤◌, ◌⊎◌, false, not, ◌&&◌, ◌==◌, nat_le, nat_lt, List, [], ◌++◌, length, map, drop, refl, sym, ap, subst, ◌∙◌, append_assoc, inl, inr, arith}
+use Rattle.std.proofs.Common.{◌≡◌, ℕ, ◌*◌, ◌<◌, ◌≤◌, ◌⊎◌, false, not, ◌&&◌, ◌==◌, nat_le, nat_lt, List, [], ◌++◌, length, map, drop, refl, sym, ap, subst, ◌∙◌, append_assoc, inl, inr, arith}
 use Rattle.std.specs.List.{AllByRecursion}
 use Rattle.std.proofs.lemmas.Bool.{ltb-false, le-ltb, leb-false, lt-leb}
 use Rattle.fm_base.specs.declared.fault.HeaderFault.TheVariants.{BadCount, BadDimId, TwoRecordDims, RecordNotFirst}
