@@ -22,14 +22,14 @@ Decoded len decode = Through (IsField len) (λ bytes n. decode bytes ≡ n)
 
 pub Exact-word : Exact SpellsWord word
 unfolding word
-Exact-word = Exact-as (Decoded 4 (from_be_bytes w32)) SpellsWord (field 4 >>= λ bytes. pure (from_be_bytes w32 bytes))
+Exact-word = Exact-as (Decoded 4 (from_be_bytes w32)) SpellsWord word
     (λ text n fits s.
     let four : length text ≡ 4 = ap length s.spelled.text_is ∙ s.spelled.size in
     let value : from_be_bytes w32 text ≡ n = ap (from_be_bytes w32) s.spelled.text_is ∙ s.related in
     let below : from_be_bytes w32 text < 2 ^ 32 = omega (arith, fits 0, fits 1, fits 2, fits 3) in
     record { small = subst (λ (k : ℕ). k < 2 ^ 32) value below; text_is = sym (be_bytes_4 text _ four fits refl) ∙ ap (to_be_bytes w32) value })
     (λ text n s. record { x = to_be_bytes w32 n; spelled = record { size = refl; text_is = s.text_is }; related = from_be_bytes-to_be_bytes_4 n s.small })
-    (Exact-test (IsField 4) (λ bytes n. from_be_bytes w32 bytes ≡ n) (field 4) (λ bytes. pure (from_be_bytes w32 bytes)) (Exact-field 4) (Tests-pure (from_be_bytes w32)))
+    (Exact-test _ (λ bytes n. from_be_bytes w32 bytes ≡ n) (field 4) _ (Exact-field 4) (Tests-pure (from_be_bytes w32)))
 
 -- a number of eight bytes
 pub record SpellsLong (text : List ℕ) (n : ℕ) : Type 0 where
@@ -38,14 +38,14 @@ pub record SpellsLong (text : List ℕ) (n : ℕ) : Type 0 where
 
 pub Exact-long_word : Exact SpellsLong long_word
 unfolding long_word
-Exact-long_word = Exact-as (Decoded 8 (from_be_bytes w64)) SpellsLong (field 8 >>= λ bytes. pure (from_be_bytes w64 bytes))
+Exact-long_word = Exact-as (Decoded 8 (from_be_bytes w64)) SpellsLong long_word
     (λ text n fits s.
     let eight : length text ≡ 8 = ap length s.spelled.text_is ∙ s.spelled.size in
     let value : from_be_bytes w64 text ≡ n = ap (from_be_bytes w64) s.spelled.text_is ∙ s.related in
     let below : from_be_bytes w64 text < 2 ^ 64 = omega (arith, fits 0, fits 1, fits 2, fits 3, fits 4, fits 5, fits 6, fits 7) in
     record { small = subst (λ (k : ℕ). k < 2 ^ 64) value below; text_is = sym (be_bytes_8 text _ eight fits refl) ∙ ap (to_be_bytes w64) value })
     (λ text n s. record { x = to_be_bytes w64 n; spelled = record { size = refl; text_is = s.text_is }; related = from_be_bytes-to_be_bytes_8 n s.small })
-    (Exact-test (IsField 8) (λ bytes n. from_be_bytes w64 bytes ≡ n) (field 8) (λ bytes. pure (from_be_bytes w64 bytes)) (Exact-field 8) (Tests-pure (from_be_bytes w64)))
+    (Exact-test _ (λ bytes n. from_be_bytes w64 bytes ≡ n) (field 8) _ (Exact-field 8) (Tests-pure (from_be_bytes w64)))
 
 -- a word that is tested, as a part that is told its place
 pub Exact-tested : (bad : ℕ → Bool) (fault : ℕ → HeaderFault) → Exact (Such SpellsWord (λ n. bad n ≡ false)) (located (λ at. word >>= λ n. unless (bad n) (fault at) n))
@@ -59,20 +59,24 @@ SpellsWord-from_count text n s = record { small = let h = s.small in omega arith
 
 pub Exact-count : Exact SpellsCount count
 unfolding count
-Exact-count = Exact-as (Such SpellsWord (λ n. leb (2 ^ 31) n ≡ false)) SpellsCount (located (λ at. word >>= λ n. unless (leb (2 ^ 31) n) (BadCount at) n))
+Exact-count = Exact-as (Such SpellsWord (λ n. leb (2 ^ 31) n ≡ false)) SpellsCount count
     (λ text n fits s. SpellsCount-from_word text n s.spelled s.holds)
     (λ text n s. record { spelled = SpellsWord-from_count text n s; holds = lt-leb (2 ^ 31) n s.small })
     (Exact-tested (λ n. leb (2 ^ 31) n) BadCount)
 
 pub Exact-padded : (len : ℕ) → Exact (Such SpellsPadded (λ bytes. length bytes ≡ len)) (padded len)
 unfolding padded
-Exact-padded len = Exact-as (Through (IsField (padded_len len)) (λ text bytes. take len text ≡ bytes)) (Such SpellsPadded (λ bytes. length bytes ≡ len)) (field (padded_len len) >>= λ bytes. pure (take len bytes))
+Exact-padded len = Exact-as (Through (IsField (padded_len len)) (λ text bytes. take len text ≡ bytes)) (Such SpellsPadded (λ bytes. length bytes ≡ len)) (padded len)
     (λ text bytes fits s.
     let whole : length text ≡ padded_len len = ap length s.spelled.text_is ∙ s.spelled.size in
     let front : take len text ≡ bytes = ap (take len) s.spelled.text_is ∙ s.related in
     let same : length bytes ≡ len = ap length (sym front) ∙ length-take-le len text (omega (arith, whole)) in
     record {
-      spelled = record { padding = drop len text; text_is = sym (take-append-drop len text) ∙ ap (λ (l : List ℕ). l ++ drop len text) front; length_is = whole ∙ ap padded_len (sym same) };
+      spelled = record {
+        padding = drop len text;
+        text_is = sym (take-append-drop len text) ∙ ap (λ (l : List ℕ). l ++ drop len text) front;
+        length_is = whole ∙ ap padded_len (sym same);
+      };
       holds = same;
     })
     (λ text bytes s. record {
@@ -80,7 +84,7 @@ Exact-padded len = Exact-as (Through (IsField (padded_len len)) (λ text bytes. 
       spelled = record { size = s.spelled.length_is ∙ ap padded_len s.holds; text_is = refl };
       related = ap (take len) s.spelled.text_is ∙ take_at bytes s.spelled.padding len s.holds;
     })
-    (Exact-test (IsField (padded_len len)) (λ text bytes. take len text ≡ bytes) (field (padded_len len)) (λ bytes. pure (take len bytes)) (Exact-field (padded_len len)) (Tests-pure (take len)))
+    (Exact-test _ (λ text bytes. take len text ≡ bytes) (field (padded_len len)) _ (Exact-field (padded_len len)) (Tests-pure (take len)))
 
 abbrev is_no_name : List ℕ → Bool
 is_no_name name = not (is_name_text name)
@@ -114,9 +118,10 @@ name_read found text name s = record {
 
 pub Exact-name_at : (found : List (List ℕ)) → Exact (Such SpellsName (λ name. has_name found name ≡ false)) (name_at found)
 unfolding name_at
-Exact-name_at found = Exact-as (NameAsRead found) (Such SpellsName (λ name. has_name found name ≡ false)) (name_at found) (λ text name fits s. name_spelled found text name s) (name_read found)
-    (Exact-located (NameAsRead found) (λ at. count >>= λ len. padded len >>= λ name. unless (is_no_name name) (BadName at) name >>= λ name. unless (has_name found name) (RepeatedName at) name)
-    (λ at. Exact-then SpellsCount _ count _ Exact-count
+Exact-name_at found = Exact-as (NameAsRead found) (Such SpellsName (λ name. has_name found name ≡ false)) (name_at found)
+    (λ text name fits s. name_spelled found text name s)
+    (name_read found)
+    (Exact-located _ _ (λ at. Exact-then SpellsCount _ count _ Exact-count
     (λ len front first. Exact-unless_both _ is_no_name (has_name found) (BadName at) (RepeatedName at) (padded len) (Exact-padded len))))
 
 -- one of the tests by which a number is looked up among the kinds
@@ -160,7 +165,7 @@ Tests-known_kind at = record {
 
 pub Exact-kind_at : Exact SpellsKind kind_at
 unfolding kind_at
-Exact-kind_at = Exact-as (Through SpellsWord (λ code kind. kind_of code ≡ Some kind)) SpellsKind (located (λ at. word >>= λ code. known_kind at (kind_of code)))
+Exact-kind_at = Exact-as (Through SpellsWord (λ code kind. kind_of code ≡ Some kind)) SpellsKind kind_at
     (λ text kind fits s. s.spelled.text_is ∙ ap (to_be_bytes w32) (kind_of-code s.x kind s.related))
     (λ text kind s. record { x = code_of kind; spelled = record { small = code_of-small kind; text_is = s }; related = kind_of-code_of kind })
     (Exact-located _ _ (λ at. Exact-test SpellsWord _ word (λ code. known_kind at (kind_of code)) Exact-word (Tests-known_kind at)))

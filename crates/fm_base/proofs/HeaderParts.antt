@@ -115,7 +115,8 @@ header_spelled text header s =
         dims = sized.first.spelled;
         attrs = noted.first.spelled;
         vars = listed.spelled.spelled;
-        text_is = simp append_assoc (s.text_is ∙ ap₂ (λ (a b : List ℕ). a ++ b) s.first.text_is (counted.text_is ∙ onto counted.front (sized.text_is ∙ onto sized.front noted.text_is)));
+        text_is = simp append_assoc (s.text_is ∙ ap₂ (λ (a b : List ℕ). a ++ b) s.first.text_is
+            (counted.text_is ∙ onto counted.front (sized.text_is ∙ onto sized.front noted.text_is)));
       };
       holds = record {
         dims = AreDistinct-from_fresh name_of_dim sized.a dims.0;
@@ -127,7 +128,12 @@ header_spelled text header s =
     })
 
 header_read : (text : List ℕ) (header : Header) → Such SpellsHeader IsSound text header → HeaderAsRead text header
-header_read text header s = let t = s.spelled in let sound = s.holds in record {
+header_read text header s =
+    let t = s.spelled in
+    let sound = s.holds in
+    let fresh_dims = fresh-from_AreDistinct name_of_dim header.dims sound.dims in
+    let fresh_vars = fresh-from_AreDistinct name_of_var header.vars sound.vars in
+    record {
   a = header.version;
   front = codes "CDF" ++ header.version ∷ [];
   back = t.numrecs_text ++ (t.dims_text ++ (t.attrs_text ++ t.vars_text));
@@ -141,7 +147,7 @@ header_read text header s = let t = s.spelled in let sound = s.holds in record {
       a = header.dims;
       front = t.dims_text;
       back = t.attrs_text ++ t.vars_text;
-      first = record { spelled = t.dims; holds = EachFrom-both (IsFresh name_of_dim) IsOnlyRecord [] header.dims (fresh-from_AreDistinct name_of_dim header.dims sound.dims) (only-from_one_record header.dims sound.one_record) };
+      first = record { spelled = t.dims; holds = EachFrom-both _ _ [] header.dims fresh_dims (only-from_one_record header.dims sound.one_record) };
       second = record {
         a = header.attrs;
         front = t.attrs_text;
@@ -149,7 +155,7 @@ header_read text header s = let t = s.spelled in let sound = s.holds in record {
         first = record { spelled = t.attrs; holds = fresh-from_AreDistinct name_of_attr header.attrs sound.attrs };
         second = record {
           x = header.vars;
-          spelled = record { spelled = t.vars; holds = EachFrom-both (IsFresh name_of_var) (λ found var. IsSoundVar header.dims var) [] header.vars (fresh-from_AreDistinct name_of_var header.vars sound.vars) (EachFrom-from_all (IsSoundVar header.dims) [] header.vars sound.each) };
+          spelled = record { spelled = t.vars; holds = EachFrom-both _ _ [] header.vars fresh_vars (EachFrom-from_all (IsSoundVar header.dims) [] header.vars sound.each) };
           related = refl;
         };
         text_is = refl;
@@ -161,11 +167,17 @@ header_read text header s = let t = s.spelled in let sound = s.holds in record {
   text_is = simp append_assoc at t.text_is;
 }
 
+Exact-dims_at : Exact (Such (SpellsList DIMENSION_TAG SpellsDim) (EachFrom DimAfter [])) (list_at DIMENSION_TAG dim_at)
+Exact-dims_at = Exact-list_at DIMENSION_TAG SpellsDim DimAfter dim_at (omega arith) (omega arith) Exact-dim_at
+
+Exact-vars_at : (version : ℕ) → (version ≡ 1) ⊎ (version ≡ 2) → (dims : List Dim) → Exact (Such (SpellsList VARIABLE_TAG (SpellsVar version)) (EachFrom (VarAfter dims) [])) (list_at VARIABLE_TAG (var_at version dims))
+Exact-vars_at version known dims = Exact-list_at VARIABLE_TAG _ (VarAfter dims) (var_at version dims) (omega arith) (omega arith) (Exact-var_at version known dims)
+
 pub Exact-header_at : Exact (Such SpellsHeader IsSound) header_at
 unfolding header_at
 Exact-header_at = Exact-as HeaderAsRead (Such SpellsHeader IsSound) header_at (λ text header fits s. header_spelled text header s) header_read
     (Exact-then SpellsVersion _ version_at _ Exact-version_at
     (λ version front first. Exact-then SpellsCount _ numrecs_at _ Exact-numrecs_at
-    (λ numrecs front second. Exact-then _ _ (list_at DIMENSION_TAG dim_at) _ (Exact-list_at DIMENSION_TAG SpellsDim DimAfter dim_at (omega arith) (omega arith) Exact-dim_at)
+    (λ numrecs front second. Exact-then _ _ (list_at DIMENSION_TAG dim_at) _ Exact-dims_at
     (λ dims front third. Exact-then _ _ (list_at ATTRIBUTE_TAG attr_at) _ Exact-attrs_at
-    (λ attrs front fourth. Exact-test _ (λ vars header. header_of version numrecs dims attrs vars ≡ header) (list_at VARIABLE_TAG (var_at version dims)) _ (Exact-list_at VARIABLE_TAG (SpellsVar version) (VarAfter dims) (var_at version dims) (omega arith) (omega arith) (Exact-var_at version first.known dims)) (Tests-pure (header_of version numrecs dims attrs)))))))
+    (λ attrs front fourth. Exact-test _ _ (list_at VARIABLE_TAG (var_at version dims)) _ (Exact-vars_at version first.known dims) (Tests-pure (header_of version numrecs dims attrs)))))))

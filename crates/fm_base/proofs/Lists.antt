@@ -38,13 +38,13 @@ adds_first S P found n text all (x ∷ more) is count s e = record {
 -- items, each of which may count on those before it
 pub Exact-items_from : {A : Type 0} (S : List ℕ → A → Type 0) (P : List A → A → Type 0) (item : List A → Parser A) → ((found : List A) → Exact (Such S (P found)) (item found)) → (n : ℕ) (found : List A) → Exact (Adds S P found n) (items_from item n found)
 unfolding items_from
-Exact-items_from {A} S P item ei zero found = Exact-as (Nothing found) (Adds S P found 0) (pure found)
+Exact-items_from {A} S P item ei zero found = Exact-as (Nothing found) (Adds S P found 0) (items_from item zero found)
     (λ text all fits s. record { more = []; all_is = sym s.value ∙ sym (append-nil found); count = refl; spelled = s.text_is; each = tt })
     (λ text all s.
     let none : s.more ≡ [] = nil_from_length s.more s.count in
     record { value = sym (s.all_is ∙ ap (λ (l : List A). found ++ l) none ∙ append-nil found); text_is = subst (λ (l : List A). Spelled S text l) none s.spelled })
     (Exact-pure found)
-Exact-items_from {A} S P item ei (suc n) found = Exact-as (Then (Such S (P found)) (λ x. Adds S P (found ++ x ∷ []) n)) (Adds S P found (suc n)) (item found >>= λ x. items_from item n (found ++ x ∷ []))
+Exact-items_from {A} S P item ei (suc n) found = Exact-as (Then (Such S (P found)) (λ x. Adds S P (found ++ x ∷ []) n)) (Adds S P found (suc n)) (items_from item (suc n) found)
     (λ text all fits s. record {
       more = s.a ∷ s.second.more;
       all_is = s.second.all_is ∙ append_assoc found (s.a ∷ []) s.second.more;
@@ -53,7 +53,7 @@ Exact-items_from {A} S P item ei (suc n) found = Exact-as (Then (Such S (P found
       each = (s.first.holds, s.second.each);
     })
     (λ text all s. adds_first S P found n text all s.more s.all_is s.count s.spelled s.each)
-    (Exact-then (Such S (P found)) (λ x. Adds S P (found ++ x ∷ []) n) (item found) (λ x. items_from item n (found ++ x ∷ [])) (ei found) (λ x front first. Exact-items_from S P item ei n (found ++ x ∷ [])))
+    (Exact-then _ _ (item found) _ (ei found) (λ x front first. Exact-items_from S P item ei n (found ++ x ∷ [])))
 
 -- the tag of a list, its own or 0
 pub record SpellsTag (tag : ℕ) (text : List ℕ) (found : ℕ) : Type 0 where
@@ -75,7 +75,7 @@ false-no_tag tag found (inr none) = not_from_true _ (or_right _ _ (eq-eqb found 
 
 pub Exact-tag_at : (tag : ℕ) → Exact (SpellsTag tag) (tag_at tag)
 unfolding tag_at
-Exact-tag_at tag = Exact-as (Such SpellsWord (λ found. is_no_tag tag found ≡ false)) (SpellsTag tag) (located (λ at. word >>= λ found. unless (is_no_tag tag found) (BadTag at) found))
+Exact-tag_at tag = Exact-as (Such SpellsWord (λ found. is_no_tag tag found ≡ false)) (SpellsTag tag) (tag_at tag)
     (λ text found fits s. record { own = no_tag-false tag found s.holds; spelled = s.spelled })
     (λ text found s. record { spelled = s.spelled; holds = false-no_tag tag found s.own })
     (Exact-tested (is_no_tag tag) BadTag)
@@ -102,7 +102,7 @@ absent_none tag n none = elim (cases_eq tag 0) [
 
 pub Exact-list_count : (tag : ℕ) → Exact (SpellsListCount tag) (list_count tag)
 unfolding list_count
-Exact-list_count tag = Exact-as (Such SpellsWord (λ n. is_no_list_count tag n ≡ false)) (SpellsListCount tag) (located (λ at. word >>= λ n. unless (is_no_list_count tag n) (BadCount at) n))
+Exact-list_count tag = Exact-as (Such SpellsWord (λ n. is_no_list_count tag n ≡ false)) (SpellsListCount tag) (list_count tag)
     (λ text n fits s.
     let good = or_parts _ _ s.holds in
     record { none = none_absent tag n good.1; counted = SpellsCount-from_word text n s.spelled good.0 })

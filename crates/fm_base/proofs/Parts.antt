@@ -118,7 +118,7 @@ Exact-attrs_at = Exact-list_at ATTRIBUTE_TAG SpellsAttr (IsFresh name_of_attr) a
 
 pub Exact-rank_at : Exact (Such SpellsCount (λ rank. rank ≤ MAX_RANK)) rank_at
 unfolding rank_at
-Exact-rank_at = Exact-as (Such SpellsWord (λ n. nat_lt MAX_RANK n ≡ false)) (Such SpellsCount (λ rank. rank ≤ MAX_RANK)) (located (λ at. word >>= λ n. unless (nat_lt MAX_RANK n) (BadCount at) n))
+Exact-rank_at = Exact-as (Such SpellsWord (λ n. nat_lt MAX_RANK n ≡ false)) (Such SpellsCount (λ rank. rank ≤ MAX_RANK)) rank_at
     (λ text n fits s.
     let within : n ≤ MAX_RANK = ltb-false MAX_RANK n s.holds in
     record { spelled = record { small = omega arith; text_is = s.spelled.text_is }; holds = within })
@@ -134,7 +134,7 @@ unfolding dim_id_at
 Exact-dim_id_at dims found = Exact-as (Such SpellsWord (λ id. (nat_le (length dims) id ≡ false) × IsRecordFirst dims found id)) (Such SpellsWord (IdAfter dims found)) (dim_id_at dims found)
     (λ text id fits s. record { spelled = s.spelled; holds = (leb-false (length dims) id s.holds.0, s.holds.1) })
     (λ text id s. record { spelled = s.spelled; holds = (lt-leb (length dims) id s.holds.0, s.holds.1) })
-    (Exact-located _ _ (λ at. Exact-unless_both SpellsWord (λ id. nat_le (length dims) id) (λ id. not (length found == 0) && names_record dims id) (BadDimId at) (RecordNotFirst at) word Exact-word))
+    (Exact-located _ _ (λ at. Exact-unless_both _ (λ id. nat_le (length dims) id) (λ id. not (length found == 0) && names_record dims id) (BadDimId at) (RecordNotFirst at) word Exact-word))
 
 -- the numbers of so many dimensions that are there, with the record dimension first or not at all
 abbrev pub AreIds : List Dim → ℕ → List ℕ → Type 0

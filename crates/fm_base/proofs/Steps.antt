@@ -102,10 +102,10 @@ Tests-unless bad fault = record {
 
 -- a value that is tested
 pub Exact-unless : {A : Type 0} (S : List ℕ → A → Type 0) (bad : A → Bool) (fault : HeaderFault) (p : Parser A) → Exact S p → Exact (Such S (λ x. bad x ≡ false)) (p >>= λ x. unless (bad x) fault x)
-Exact-unless S bad fault p ep = Exact-as (Through S (Passes bad)) (Such S (λ x. bad x ≡ false)) (p >>= λ x. unless (bad x) fault x)
+Exact-unless S bad fault p ep = Exact-as (Through S (Passes bad)) _ _
     (λ text y fits s. record { spelled = subst (S text) s.related.1 s.spelled; holds = ap bad (sym s.related.1) ∙ s.related.0 })
     (λ text y s. record { x = y; spelled = s.spelled; related = (s.holds, refl) })
-    (Exact-test S (Passes bad) p (λ x. unless (bad x) fault x) ep (Tests-unless bad fault))
+    (Exact-test S (Passes bad) p _ ep (Tests-unless bad fault))
 
 -- the same value, where neither test fails
 abbrev PassesBoth : {A : Type 0} → (A → Bool) → (A → Bool) → A → A → Type 0
@@ -123,10 +123,10 @@ Tests-unless_both {A} bad worse fault second = record {
 
 -- a value that is tested twice
 pub Exact-unless_both : {A : Type 0} (S : List ℕ → A → Type 0) (bad worse : A → Bool) (fault second : HeaderFault) (p : Parser A) → Exact S p → Exact (Such S (λ x. (bad x ≡ false) × (worse x ≡ false))) (p >>= λ x. unless (bad x) fault x >>= λ y. unless (worse y) second y)
-Exact-unless_both {A} S bad worse fault second p ep = Exact-as (Through S (PassesBoth bad worse)) (Such S (λ x. (bad x ≡ false) × (worse x ≡ false))) (p >>= λ x. unless (bad x) fault x >>= λ y. unless (worse y) second y)
+Exact-unless_both {A} S bad worse fault second p ep = Exact-as (Through S (PassesBoth bad worse)) _ _
     (λ text y fits s. let same = s.related.2 in record { spelled = subst (S text) same s.spelled; holds = (ap bad (sym same) ∙ s.related.0, ap worse (sym same) ∙ s.related.1) })
     (λ text y s. record { x = y; spelled = s.spelled; related = (s.holds.0, s.holds.1, refl) })
-    (Exact-test S (PassesBoth bad worse) p (λ x. unless (bad x) fault x >>= λ y. unless (worse y) second y) ep (Tests-unless_both bad worse fault second))
+    (Exact-test S (PassesBoth bad worse) p _ ep (Tests-unless_both bad worse fault second))
 
 -- nothing is read
 pub record Nothing {A : Type 0} (x : A) (text : List ℕ) (a : A) : Type 0 where
