@@ -15,11 +15,13 @@ use Rattle.fm_base.specs.Spelling.{AreDistinct, NamesNoRecord}
 use Rattle.fm_base.proofs.Lists.{EachFrom}
 
 -- two facts of each item
-pub EachFrom-parts : {A : Type 0} (P Q : List A → A → Type 0) (found items : List A) → EachFrom (λ f x. P f x × Q f x) found items → EachFrom P found items × EachFrom Q found items
+pub EachFrom-parts : {A : Type 0} (P Q : List A → A → Type 0) (found items : List A) → EachFrom (λ f x. P f x × Q f x) found items
+    → EachFrom P found items × EachFrom Q found items
 EachFrom-parts P Q found [] each = (tt, tt)
 EachFrom-parts P Q found (x ∷ items) each = let more = EachFrom-parts P Q (found ++ x ∷ []) items each.1 in ((each.0.0, more.0), (each.0.1, more.1))
 
-pub EachFrom-both : {A : Type 0} (P Q : List A → A → Type 0) (found items : List A) → EachFrom P found items → EachFrom Q found items → EachFrom (λ f x. P f x × Q f x) found items
+pub EachFrom-both : {A : Type 0} (P Q : List A → A → Type 0) (found items : List A) → EachFrom P found items → EachFrom Q found items
+    → EachFrom (λ f x. P f x × Q f x) found items
 EachFrom-both P Q found [] one other = tt
 EachFrom-both P Q found (x ∷ items) one other = ((one.0, other.0), EachFrom-both P Q (found ++ x ∷ []) items one.1 other.1)
 
@@ -40,25 +42,29 @@ IsFresh name found x = has_name (map name found) (name x) ≡ false
 abbrev AreOther : {A : Type 0} → (A → List ℕ) → List A → List (List ℕ) → Type 0
 AreOther name found names = AllByRecursion (λ other. has_name (map name found) other ≡ false) names
 
-has_name-last : {A : Type 0} (name : A → List ℕ) (found : List A) (x : A) (other : List ℕ) → has_name (map name (found ++ x ∷ [])) other ≡ (has_name (map name found) other || bytes_eq (name x) other)
+has_name-last : {A : Type 0} (name : A → List ℕ) (found : List A) (x : A) (other : List ℕ)
+    → has_name (map name (found ++ x ∷ [])) other ≡ (has_name (map name found) other || bytes_eq (name x) other)
 unfolding has_name
 has_name-last name found x other =
     ap (list_any (λ n. bytes_eq n other)) (map-append name found (x ∷ []))
     ∙ list_any-append (λ n. bytes_eq n other) (map name found) (name x ∷ [])
     ∙ ap (λ b. list_any (λ n. bytes_eq n other) (map name found) || b) (or-false (bytes_eq (name x) other))
 
-AreOther-parts : {A : Type 0} (name : A → List ℕ) (found : List A) (x : A) (names : List (List ℕ)) → AreOther name (found ++ x ∷ []) names → AreOther name found names × AllByRecursion (λ other. bytes_eq (name x) other ≡ false) names
+AreOther-parts : {A : Type 0} (name : A → List ℕ) (found : List A) (x : A) (names : List (List ℕ)) → AreOther name (found ++ x ∷ []) names
+    → AreOther name found names × AllByRecursion (λ other. bytes_eq (name x) other ≡ false) names
 AreOther-parts name found x [] all = (tt, tt)
 AreOther-parts name found x (other ∷ names) all =
     let here = or_parts _ _ (sym (has_name-last name found x other) ∙ all.0) in
     let more = AreOther-parts name found x names all.1 in
     ((here.0, more.0), (here.1, more.1))
 
-AreOther-both : {A : Type 0} (name : A → List ℕ) (found : List A) (x : A) (names : List (List ℕ)) → AreOther name found names → AllByRecursion (λ other. bytes_eq (name x) other ≡ false) names → AreOther name (found ++ x ∷ []) names
+AreOther-both : {A : Type 0} (name : A → List ℕ) (found : List A) (x : A) (names : List (List ℕ)) → AreOther name found names
+    → AllByRecursion (λ other. bytes_eq (name x) other ≡ false) names → AreOther name (found ++ x ∷ []) names
 AreOther-both name found x [] one other = tt
 AreOther-both name found x (n ∷ names) one other = (has_name-last name found x n ∙ or_from _ _ one.0 other.0, AreOther-both name found x names one.1 other.1)
 
-distinct_from_fresh : {A : Type 0} (name : A → List ℕ) (found items : List A) → EachFrom (IsFresh name) found items → AreOther name found (map name items) × AreDistinct (map name items)
+distinct_from_fresh : {A : Type 0} (name : A → List ℕ) (found items : List A) → EachFrom (IsFresh name) found items
+    → AreOther name found (map name items) × AreDistinct (map name items)
 unfolding IsDistinct
 distinct_from_fresh name found [] each = (tt, tt)
 distinct_from_fresh name found (x ∷ items) each =
@@ -66,7 +72,8 @@ distinct_from_fresh name found (x ∷ items) each =
     let parts = AreOther-parts name found x (map name items) more.0 in
     ((each.0, parts.0), (parts.1, more.1))
 
-fresh_from_distinct : {A : Type 0} (name : A → List ℕ) (found items : List A) → AreOther name found (map name items) → AreDistinct (map name items) → EachFrom (IsFresh name) found items
+fresh_from_distinct : {A : Type 0} (name : A → List ℕ) (found items : List A) → AreOther name found (map name items)
+    → AreDistinct (map name items) → EachFrom (IsFresh name) found items
 unfolding IsDistinct
 fresh_from_distinct name found [] others apart = tt
 fresh_from_distinct name found (x ∷ items) others apart = (others.0, fresh_from_distinct name (found ++ x ∷ []) items (AreOther-both name found x (map name items) others.1 apart.0) apart.1)
@@ -151,11 +158,13 @@ test-from_NamesNoRecord dims id h = go (slice_get dims id) h
 later_test : (b : Bool) (n : ℕ) → (not (suc n == 0) && b) ≡ b
 later_test b n = ap (λ t. not t && b) (ne_eqb (suc n) 0 (λ e. omega arith))
 
-no_record_after : (dims : List Dim) (first : ℕ) (found ids : List ℕ) → EachFrom (IsRecordFirst dims) (first ∷ found) ids → AllByRecursion (NamesNoRecord dims) ids
+no_record_after : (dims : List Dim) (first : ℕ) (found ids : List ℕ) → EachFrom (IsRecordFirst dims) (first ∷ found) ids
+    → AllByRecursion (NamesNoRecord dims) ids
 no_record_after dims first found [] each = tt
 no_record_after dims first found (id ∷ ids) each = (NamesNoRecord-from_test dims id (sym (later_test (names_record dims id) (length found)) ∙ each.0), no_record_after dims first (found ++ id ∷ []) ids each.1)
 
-record_first_after : (dims : List Dim) (first : ℕ) (found ids : List ℕ) → AllByRecursion (NamesNoRecord dims) ids → EachFrom (IsRecordFirst dims) (first ∷ found) ids
+record_first_after : (dims : List Dim) (first : ℕ) (found ids : List ℕ) → AllByRecursion (NamesNoRecord dims) ids
+    → EachFrom (IsRecordFirst dims) (first ∷ found) ids
 record_first_after dims first found [] all = tt
 record_first_after dims first found (id ∷ ids) all = (later_test (names_record dims id) (length found) ∙ test-from_NamesNoRecord dims id all.0, record_first_after dims first (found ++ id ∷ []) ids all.1)
 

@@ -38,12 +38,14 @@ pub record Such {A : Type 0} (S : List ℕ → A → Type 0) (P : A → Type 0) 
   pub holds : P a
 
 -- the value of a step that did not fail
-pub bind_ok : {A B : Type 0} (r : Outcome A) (f : A → Parser B) (y : B × Input) → and_then r f ≡ Ok y → (x : A × Input) × (r ≡ Ok x) × (f x.0 x.1 ≡ Ok y)
+pub bind_ok : {A B : Type 0} (r : Outcome A) (f : A → Parser B) (y : B × Input) → and_then r f ≡ Ok y
+    → (x : A × Input) × (r ≡ Ok x) × (f x.0 x.1 ≡ Ok y)
 bind_ok (Ok x) f y e = (x, refl, e)
 bind_ok (Err d) f y e = absurd cc
 
 -- one reader and then another, which may count on what the first has read
-pub Exact-then : {A B : Type 0} (S : List ℕ → A → Type 0) (T : A → List ℕ → B → Type 0) (p : Parser A) (q : A → Parser B) → Exact S p → ((a : A) (front : List ℕ) → S front a → Exact (T a) (q a)) → Exact (Then S T) (p >>= q)
+pub Exact-then : {A B : Type 0} (S : List ℕ → A → Type 0) (T : A → List ℕ → B → Type 0) (p : Parser A) (q : A → Parser B) → Exact S p
+    → ((a : A) (front : List ℕ) → S front a → Exact (T a) (q a)) → Exact (Then S T) (p >>= q)
 Exact-then {A} {B} S T p q ep eq = record {
   takes = λ i b k fits e.
       let x = bind_ok (p i) q (b, k) e in
@@ -75,7 +77,8 @@ IsBytes-front xs ys h i =
     ]
 
 -- the same in other words
-pub Exact-as : {A : Type 0} (S T : List ℕ → A → Type 0) (p : Parser A) → ((text : List ℕ) (a : A) → IsBytes text → S text a → T text a) → ((text : List ℕ) (a : A) → T text a → S text a) → Exact S p → Exact T p
+pub Exact-as : {A : Type 0} (S T : List ℕ → A → Type 0) (p : Parser A) → ((text : List ℕ) (a : A) → IsBytes text → S text a → T text a)
+    → ((text : List ℕ) (a : A) → T text a → S text a) → Exact S p → Exact T p
 Exact-as S T p to from ep = record {
   takes = λ i a j fits e.
       let t = ep.takes i a j fits e in

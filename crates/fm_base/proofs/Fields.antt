@@ -11,7 +11,7 @@ use Rattle.fm_base.specs.declared.kind.Kind.TheVariants.{Byte, Char, Short, Int,
 use Rattle.fm_base.specs.Format.{padded_len, is_name_text, has_name}
 use Rattle.fm_base.specs.Input.{Input}
 use Rattle.fm_base.specs.Kind.{code_of}
-use Rattle.fm_base.specs.Reading.{◌>>=◌, pure, field, unless, located, word, long_word, count, padded, name_at, kind_of, known_kind, kind_at}
+use Rattle.fm_base.specs.Reading.{◌>>=◌, field, unless, located, word, long_word, count, padded, name_at, kind_of, known_kind, kind_at}
 use Rattle.fm_base.specs.Spelling.{SpellsWord, SpellsCount, SpellsPadded, SpellsKind, SpellsName}
 use Rattle.fm_base.proofs.Exact.{Exact, Then, Such, Exact-then, Exact-as, Exact-located}
 use Rattle.fm_base.proofs.Steps.{Tests, Through, IsField, Exact-field, Exact-test, Exact-unless, Exact-unless_both, ok_pair, Tests-pure}
@@ -48,7 +48,8 @@ Exact-long_word = Exact-as (Decoded 8 (from_be_bytes w64)) SpellsLong long_word
     (Exact-test _ (λ bytes n. from_be_bytes w64 bytes ≡ n) (field 8) _ (Exact-field 8) (Tests-pure (from_be_bytes w64)))
 
 -- a word that is tested, as a part that is told its place
-pub Exact-tested : (bad : ℕ → Bool) (fault : ℕ → HeaderFault) → Exact (Such SpellsWord (λ n. bad n ≡ false)) (located (λ at. word >>= λ n. unless (bad n) (fault at) n))
+pub Exact-tested : (bad : ℕ → Bool) (fault : ℕ → HeaderFault)
+    → Exact (Such SpellsWord (λ n. bad n ≡ false)) (located (λ at. word >>= λ n. unless (bad n) (fault at) n))
 Exact-tested bad fault = Exact-located _ _ (λ at. Exact-unless SpellsWord bad (fault at) word Exact-word)
 
 pub SpellsCount-from_word : (text : List ℕ) (n : ℕ) → SpellsWord text n → leb (2 ^ 31) n ≡ false → SpellsCount text n
@@ -93,7 +94,8 @@ is_no_name name = not (is_name_text name)
 abbrev NameAsRead : List (List ℕ) → List ℕ → List ℕ → Type 0
 NameAsRead found = Then SpellsCount (λ len. Such (Such SpellsPadded (λ name. length name ≡ len)) (λ name. (is_no_name name ≡ false) × (has_name found name ≡ false)))
 
-name_spelled : (found : List (List ℕ)) (text name : List ℕ) → NameAsRead found text name → Such SpellsName (λ name. has_name found name ≡ false) text name
+name_spelled : (found : List (List ℕ)) (text name : List ℕ) → NameAsRead found text name
+    → Such SpellsName (λ name. has_name found name ≡ false) text name
 name_spelled found text name s = record {
   spelled = record {
     count_text = s.front;
@@ -106,7 +108,8 @@ name_spelled found text name s = record {
   holds = s.second.holds.1;
 }
 
-name_read : (found : List (List ℕ)) (text name : List ℕ) → Such SpellsName (λ name. has_name found name ≡ false) text name → NameAsRead found text name
+name_read : (found : List (List ℕ)) (text name : List ℕ) → Such SpellsName (λ name. has_name found name ≡ false) text name
+    → NameAsRead found text name
 name_read found text name s = record {
   a = length name;
   front = s.spelled.count_text;
@@ -125,7 +128,8 @@ Exact-name_at found = Exact-as (NameAsRead found) (Such SpellsName (λ name. has
     (λ len front first. Exact-unless_both _ is_no_name (has_name found) (BadName at) (RepeatedName at) (padded len) (Exact-padded len))))
 
 -- one of the tests by which a number is looked up among the kinds
-kind_turn : (code : ℕ) (this kind : Kind) (others : Option Kind) → cond (eqb code (code_of this)) (Some this) others ≡ Some kind → (others ≡ Some kind → code ≡ code_of kind) → code ≡ code_of kind
+kind_turn : (code : ℕ) (this kind : Kind) (others : Option Kind) → cond (eqb code (code_of this)) (Some this) others ≡ Some kind
+    → (others ≡ Some kind → code ≡ code_of kind) → code ≡ code_of kind
 kind_turn code this kind others e more = go (eqb code (code_of this)) refl e
   where
     go : (b : Bool) → eqb code (code_of this) ≡ b → cond b (Some this) others ≡ Some kind → code ≡ code_of kind

@@ -47,7 +47,8 @@ version_2 : (at : ℕ) (rest : List ℕ) → version_at (input at (codes "CDF" +
 unfolding version_at
 version_2 at rest = rw (le-ltb (length (codes "CDF" ++ 2 ∷ [] ++ rest)) 4 (omega arith))
 
-version_again : (at : ℕ) (rest : List ℕ) (n : ℕ) → (n ≡ 1) ⊎ (n ≡ 2) → version_at (input at (codes "CDF" ++ n ∷ [] ++ rest)) ≡ Ok (n, input (at + 4) rest)
+version_again : (at : ℕ) (rest : List ℕ) (n : ℕ) → (n ≡ 1) ⊎ (n ≡ 2)
+    → version_at (input at (codes "CDF" ++ n ∷ [] ++ rest)) ≡ Ok (n, input (at + 4) rest)
 version_again at rest n (inl one) = subst (λ v. version_at (input at (codes "CDF" ++ v ∷ [] ++ rest)) ≡ Ok (v, input (at + 4) rest)) (sym one) (version_1 at rest)
 version_again at rest n (inr two) = subst (λ v. version_at (input at (codes "CDF" ++ v ∷ [] ++ rest)) ≡ Ok (v, input (at + 4) rest)) (sym two) (version_2 at rest)
 
@@ -134,43 +135,44 @@ header_read text header s =
     let fresh_dims = fresh-from_AreDistinct name_of_dim header.dims sound.dims in
     let fresh_vars = fresh-from_AreDistinct name_of_var header.vars sound.vars in
     record {
-  a = header.version;
-  front = codes "CDF" ++ header.version ∷ [];
-  back = t.numrecs_text ++ (t.dims_text ++ (t.attrs_text ++ t.vars_text));
-  first = record { known = t.version; text_is = refl };
-  second = record {
-    a = header.numrecs;
-    front = t.numrecs_text;
-    back = t.dims_text ++ (t.attrs_text ++ t.vars_text);
-    first = t.numrecs;
-    second = record {
-      a = header.dims;
-      front = t.dims_text;
-      back = t.attrs_text ++ t.vars_text;
-      first = record { spelled = t.dims; holds = EachFrom-both _ _ [] header.dims fresh_dims (only-from_one_record header.dims sound.one_record) };
+      a = header.version;
+      front = codes "CDF" ++ header.version ∷ [];
+      back = t.numrecs_text ++ (t.dims_text ++ (t.attrs_text ++ t.vars_text));
+      first = record { known = t.version; text_is = refl };
       second = record {
-        a = header.attrs;
-        front = t.attrs_text;
-        back = t.vars_text;
-        first = record { spelled = t.attrs; holds = fresh-from_AreDistinct name_of_attr header.attrs sound.attrs };
+        a = header.numrecs;
+        front = t.numrecs_text;
+        back = t.dims_text ++ (t.attrs_text ++ t.vars_text);
+        first = t.numrecs;
         second = record {
-          x = header.vars;
-          spelled = record { spelled = t.vars; holds = EachFrom-both _ _ [] header.vars fresh_vars (EachFrom-from_all (IsSoundVar header.dims) [] header.vars sound.each) };
-          related = refl;
+          a = header.dims;
+          front = t.dims_text;
+          back = t.attrs_text ++ t.vars_text;
+          first = record { spelled = t.dims; holds = EachFrom-both _ _ [] header.dims fresh_dims (only-from_one_record header.dims sound.one_record) };
+          second = record {
+            a = header.attrs;
+            front = t.attrs_text;
+            back = t.vars_text;
+            first = record { spelled = t.attrs; holds = fresh-from_AreDistinct name_of_attr header.attrs sound.attrs };
+            second = record {
+              x = header.vars;
+              spelled = record { spelled = t.vars; holds = EachFrom-both _ _ [] header.vars fresh_vars (EachFrom-from_all (IsSoundVar header.dims) [] header.vars sound.each) };
+              related = refl;
+            };
+            text_is = refl;
+          };
+          text_is = refl;
         };
         text_is = refl;
       };
-      text_is = refl;
-    };
-    text_is = refl;
-  };
-  text_is = simp append_assoc at t.text_is;
-}
+      text_is = simp append_assoc at t.text_is;
+    }
 
 Exact-dims_at : Exact (Such (SpellsList DIMENSION_TAG SpellsDim) (EachFrom DimAfter [])) (list_at DIMENSION_TAG dim_at)
 Exact-dims_at = Exact-list_at DIMENSION_TAG SpellsDim DimAfter dim_at (omega arith) (omega arith) Exact-dim_at
 
-Exact-vars_at : (version : ℕ) → (version ≡ 1) ⊎ (version ≡ 2) → (dims : List Dim) → Exact (Such (SpellsList VARIABLE_TAG (SpellsVar version)) (EachFrom (VarAfter dims) [])) (list_at VARIABLE_TAG (var_at version dims))
+Exact-vars_at : (version : ℕ) → (version ≡ 1) ⊎ (version ≡ 2) → (dims : List Dim)
+    → Exact (Such (SpellsList VARIABLE_TAG (SpellsVar version)) (EachFrom (VarAfter dims) [])) (list_at VARIABLE_TAG (var_at version dims))
 Exact-vars_at version known dims = Exact-list_at VARIABLE_TAG _ (VarAfter dims) (var_at version dims) (omega arith) (omega arith) (Exact-var_at version known dims)
 
 pub Exact-header_at : Exact (Such SpellsHeader IsSound) header_at

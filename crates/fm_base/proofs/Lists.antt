@@ -4,7 +4,7 @@ use Rattle.std.specs.Int.{w32, to_be_bytes}
 use Rattle.std.proofs.lemmas.Bool.{eqb-true, eqb-false, eq-eqb, ne_eqb, cases_eq, lt-leb, not-false, not_from_true, or_cases, or_parts, or_from, or_left, or_right, and_cases, and_left, and_right}
 use Rattle.std.proofs.lemmas.List.{nil_from_length}
 use Rattle.fm_base.specs.declared.fault.HeaderFault.TheVariants.{BadTag, BadCount}
-use Rattle.fm_base.specs.Reading.{Parser, ◌>>=◌, pure, unless, located, word, items_from, tag_at, list_count, list_at}
+use Rattle.fm_base.specs.Reading.{Parser, items_from, tag_at, list_count, list_at}
 use Rattle.fm_base.specs.Spelling.{SpellsWord, SpellsCount, SpellsList, Spelled}
 use Rattle.fm_base.proofs.Exact.{Exact, Then, Such, Exact-then, Exact-as}
 use Rattle.fm_base.proofs.Fields.{Exact-tested, SpellsCount-from_word, SpellsWord-from_count}
@@ -24,7 +24,9 @@ pub record Adds {A : Type 0} (S : List ℕ → A → Type 0) (P : List A → A �
   pub each : EachFrom P found more
 
 -- the first of the items that follow, and the others
-adds_first : {A : Type 0} (S : List ℕ → A → Type 0) (P : List A → A → Type 0) (found : List A) (n : ℕ) (text : List ℕ) (all more : List A) → all ≡ found ++ more → length more ≡ suc n → Spelled S text more → EachFrom P found more → Then (Such S (P found)) (λ x. Adds S P (found ++ x ∷ []) n) text all
+adds_first : {A : Type 0} (S : List ℕ → A → Type 0) (P : List A → A → Type 0) (found : List A) (n : ℕ) (text : List ℕ) (all more : List A)
+    → all ≡ found ++ more → length more ≡ suc n → Spelled S text more → EachFrom P found more
+    → Then (Such S (P found)) (λ x. Adds S P (found ++ x ∷ []) n) text all
 adds_first S P found n text all [] is count s e = absurd (omega arith)
 adds_first S P found n text all (x ∷ more) is count s e = record {
   a = x;
@@ -36,7 +38,8 @@ adds_first S P found n text all (x ∷ more) is count s e = record {
 }
 
 -- items, each of which may count on those before it
-pub Exact-items_from : {A : Type 0} (S : List ℕ → A → Type 0) (P : List A → A → Type 0) (item : List A → Parser A) → ((found : List A) → Exact (Such S (P found)) (item found)) → (n : ℕ) (found : List A) → Exact (Adds S P found n) (items_from item n found)
+pub Exact-items_from : {A : Type 0} (S : List ℕ → A → Type 0) (P : List A → A → Type 0) (item : List A → Parser A)
+    → ((found : List A) → Exact (Such S (P found)) (item found)) → (n : ℕ) (found : List A) → Exact (Adds S P found n) (items_from item n found)
 unfolding items_from
 Exact-items_from {A} S P item ei zero found = Exact-as (Nothing found) (Adds S P found 0) (items_from item zero found)
     (λ text all fits s. record { more = []; all_is = sym s.value ∙ sym (append-nil found); count = refl; spelled = s.text_is; each = tt })
@@ -113,7 +116,8 @@ Exact-list_count tag = Exact-as (Such SpellsWord (λ n. is_no_list_count tag n �
 abbrev ListAsRead : {A : Type 0} → ℕ → (List ℕ → A → Type 0) → (List A → A → Type 0) → List ℕ → List A → Type 0
 ListAsRead tag S P = Then (SpellsTag tag) (λ found. Then (SpellsListCount found) (λ n. Adds S P [] n))
 
-list_spelled : {A : Type 0} (tag : ℕ) (S : List ℕ → A → Type 0) (P : List A → A → Type 0) (text : List ℕ) (items : List A) → ListAsRead tag S P text items → SpellsList tag S text items
+list_spelled : {A : Type 0} (tag : ℕ) (S : List ℕ → A → Type 0) (P : List A → A → Type 0) (text : List ℕ) (items : List A)
+    → ListAsRead tag S P text items → SpellsList tag S text items
 list_spelled {A} tag S P text items s =
     let adds = s.second.second in
     let all : adds.more ≡ items = sym adds.all_is in
@@ -126,18 +130,19 @@ list_spelled {A} tag S P text items s =
         text_is = s.text_is ∙ ap₂ (λ (a b : List ℕ). a ++ b) (s.first.spelled.text_is ∙ ap (to_be_bytes w32) own) s.second.text_is;
       })
       | inr absent ↦
-        let zero : s.second.a ≡ 0 = s.second.first.none absent in
-        let none : adds.more ≡ [] = nil_from_length adds.more (adds.count ∙ zero) in
-        let no_text : s.second.back ≡ [] = subst (Spelled S s.second.back) none adds.spelled in
-        let front : s.front ≡ replicate 4 0 = s.first.spelled.text_is ∙ ap (to_be_bytes w32) absent in
-        let counted : s.second.front ≡ replicate 4 0 = s.second.first.counted.text_is ∙ ap (to_be_bytes w32) zero in
-        inl (record {
-          none = sym all ∙ none;
-          text_is = s.text_is ∙ ap₂ (λ (a b : List ℕ). a ++ b) front (s.second.text_is ∙ ap₂ (λ (a b : List ℕ). a ++ b) counted no_text);
-        })
+          let zero : s.second.a ≡ 0 = s.second.first.none absent in
+          let none : adds.more ≡ [] = nil_from_length adds.more (adds.count ∙ zero) in
+          let no_text : s.second.back ≡ [] = subst (Spelled S s.second.back) none adds.spelled in
+          let front : s.front ≡ replicate 4 0 = s.first.spelled.text_is ∙ ap (to_be_bytes w32) absent in
+          let counted : s.second.front ≡ replicate 4 0 = s.second.first.counted.text_is ∙ ap (to_be_bytes w32) zero in
+          inl (record {
+            none = sym all ∙ none;
+            text_is = s.text_is ∙ ap₂ (λ (a b : List ℕ). a ++ b) front (s.second.text_is ∙ ap₂ (λ (a b : List ℕ). a ++ b) counted no_text);
+          })
     ]
 
-list_read : {A : Type 0} (tag : ℕ) (S : List ℕ → A → Type 0) (P : List A → A → Type 0) (text : List ℕ) (items : List A) → 0 < tag → tag < 2 ^ 32 → EachFrom P [] items → SpellsList tag S text items → ListAsRead tag S P text items
+list_read : {A : Type 0} (tag : ℕ) (S : List ℕ → A → Type 0) (P : List A → A → Type 0) (text : List ℕ) (items : List A) → 0 < tag → tag < 2 ^ 32
+    → EachFrom P [] items → SpellsList tag S text items → ListAsRead tag S P text items
 list_read tag S P text items some small each (inl absent) = record {
   a = 0;
   front = replicate 4 0;
@@ -169,7 +174,8 @@ list_read tag S P text items some small each (inr tagged) = record {
   text_is = tagged.text_is;
 }
 
-pub Exact-list_at : {A : Type 0} (tag : ℕ) (S : List ℕ → A → Type 0) (P : List A → A → Type 0) (item : List A → Parser A) → 0 < tag → tag < 2 ^ 32 → ((found : List A) → Exact (Such S (P found)) (item found)) → Exact (Such (SpellsList tag S) (EachFrom P [])) (list_at tag item)
+pub Exact-list_at : {A : Type 0} (tag : ℕ) (S : List ℕ → A → Type 0) (P : List A → A → Type 0) (item : List A → Parser A) → 0 < tag
+    → tag < 2 ^ 32 → ((found : List A) → Exact (Such S (P found)) (item found)) → Exact (Such (SpellsList tag S) (EachFrom P [])) (list_at tag item)
 unfolding list_at
 Exact-list_at tag S P item some small ei = Exact-as (ListAsRead tag S P) (Such (SpellsList tag S) (EachFrom P [])) (list_at tag item)
     (λ text items fits s. record { spelled = list_spelled tag S P text items s; holds = subst (EachFrom P []) (sym s.second.second.all_is) s.second.second.each })

@@ -8,7 +8,7 @@ use Rattle.fm_base.specs.declared.header.Dim.{Dim}
 use Rattle.fm_base.specs.declared.kind.Kind.{Kind}
 use Rattle.fm_base.specs.Format.{ATTRIBUTE_TAG, MAX_RANK, has_name, has_record}
 use Rattle.fm_base.specs.Kind.{size_of}
-use Rattle.fm_base.specs.Reading.{◌>>=◌, located, unless, word, long_word, count, padded, name_at, kind_at, items_from, list_at, dim_size, dim_at, attr_at, rank_at, names_record, dim_id_at, begin_at}
+use Rattle.fm_base.specs.Reading.{word, long_word, count, padded, name_at, kind_at, items_from, list_at, dim_size, dim_at, attr_at, rank_at, names_record, dim_id_at, begin_at}
 use Rattle.fm_base.specs.Spelling.{SpellsWord, SpellsCount, SpellsPadded, SpellsName, SpellsKind, SpellsList, SpellsDim, SpellsAttr, SpellsBegin, Spelled, NamesNoRecord}
 use Rattle.fm_base.proofs.Distinct.{IsFresh, IsOnlyRecord, IsRecordFirst, EachFrom-parts, EachFrom-both, AllByRecursion-from_each, EachFrom-from_all, no_record-from_first, first-from_no_record}
 use Rattle.fm_base.proofs.Exact.{Exact, Then, Such, Exact-then, Exact-as, Exact-located}

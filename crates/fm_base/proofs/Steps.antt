@@ -57,7 +57,8 @@ pub record Through {A B : Type 0} (S : List ℕ → A → Type 0) (R : A → B �
   pub related : R x y
 
 -- a reader and then a step that reads nothing
-pub Exact-test : {A B : Type 0} (S : List ℕ → A → Type 0) (R : A → B → Type 0) (p : Parser A) (f : A → Parser B) → Exact S p → Tests R f → Exact (Through S R) (p >>= f)
+pub Exact-test : {A B : Type 0} (S : List ℕ → A → Type 0) (R : A → B → Type 0) (p : Parser A) (f : A → Parser B) → Exact S p → Tests R f
+    → Exact (Through S R) (p >>= f)
 Exact-test {A} S R p f ep tf = record {
   takes = λ i y k fits e.
       let x = bind_ok (p i) f (y, k) e in
@@ -101,7 +102,8 @@ Tests-unless bad fault = record {
 }
 
 -- a value that is tested
-pub Exact-unless : {A : Type 0} (S : List ℕ → A → Type 0) (bad : A → Bool) (fault : HeaderFault) (p : Parser A) → Exact S p → Exact (Such S (λ x. bad x ≡ false)) (p >>= λ x. unless (bad x) fault x)
+pub Exact-unless : {A : Type 0} (S : List ℕ → A → Type 0) (bad : A → Bool) (fault : HeaderFault) (p : Parser A) → Exact S p
+    → Exact (Such S (λ x. bad x ≡ false)) (p >>= λ x. unless (bad x) fault x)
 Exact-unless S bad fault p ep = Exact-as (Through S (Passes bad)) _ _
     (λ text y fits s. record { spelled = subst (S text) s.related.1 s.spelled; holds = ap bad (sym s.related.1) ∙ s.related.0 })
     (λ text y s. record { x = y; spelled = s.spelled; related = (s.holds, refl) })
@@ -111,7 +113,8 @@ Exact-unless S bad fault p ep = Exact-as (Through S (Passes bad)) _ _
 abbrev PassesBoth : {A : Type 0} → (A → Bool) → (A → Bool) → A → A → Type 0
 PassesBoth bad worse x y = (bad x ≡ false) × (worse x ≡ false) × (x ≡ y)
 
-Tests-unless_both : {A : Type 0} (bad worse : A → Bool) (fault second : HeaderFault) → Tests (PassesBoth bad worse) (λ x. unless (bad x) fault x >>= λ y. unless (worse y) second y)
+Tests-unless_both : {A : Type 0} (bad worse : A → Bool) (fault second : HeaderFault)
+    → Tests (PassesBoth bad worse) (λ x. unless (bad x) fault x >>= λ y. unless (worse y) second y)
 Tests-unless_both {A} bad worse fault second = record {
   passes = λ x i y j e.
       let m = bind_ok (unless (bad x) fault x i) (λ n. unless (worse n) second n) (y, j) e in
@@ -122,7 +125,8 @@ Tests-unless_both {A} bad worse fault second = record {
 }
 
 -- a value that is tested twice
-pub Exact-unless_both : {A : Type 0} (S : List ℕ → A → Type 0) (bad worse : A → Bool) (fault second : HeaderFault) (p : Parser A) → Exact S p → Exact (Such S (λ x. (bad x ≡ false) × (worse x ≡ false))) (p >>= λ x. unless (bad x) fault x >>= λ y. unless (worse y) second y)
+pub Exact-unless_both : {A : Type 0} (S : List ℕ → A → Type 0) (bad worse : A → Bool) (fault second : HeaderFault) (p : Parser A) → Exact S p
+    → Exact (Such S (λ x. (bad x ≡ false) × (worse x ≡ false))) (p >>= λ x. unless (bad x) fault x >>= λ y. unless (worse y) second y)
 Exact-unless_both {A} S bad worse fault second p ep = Exact-as (Through S (PassesBoth bad worse)) _ _
     (λ text y fits s. let same = s.related.2 in record { spelled = subst (S text) same s.spelled; holds = (ap bad (sym same) ∙ s.related.0, ap worse (sym same) ∙ s.related.1) })
     (λ text y s. record { x = y; spelled = s.spelled; related = (s.holds.0, s.holds.1, refl) })

@@ -37,7 +37,8 @@ VarAsRead version dims found =
 onto : (a : List ℕ) {x y : List ℕ} → x ≡ y → a ++ x ≡ a ++ y
 onto a e = ap (λ (l : List ℕ). a ++ l) e
 
-var_spelled : (version : ℕ) (dims : List Dim) (found : List NcVar) (text : List ℕ) (var : NcVar) → VarAsRead version dims found text var → Such (SpellsVar version) (VarAfter dims found) text var
+var_spelled : (version : ℕ) (dims : List Dim) (found : List NcVar) (text : List ℕ) (var : NcVar) → VarAsRead version dims found text var
+    → Such (SpellsVar version) (VarAfter dims found) text var
 var_spelled version dims found text var s =
     let ranked = s.second in
     let listed = ranked.second in
@@ -64,15 +65,19 @@ var_spelled version dims found text var s =
         text_is = simp append_assoc (s.text_is ∙ onto s.front (ranked.text_is ∙ onto ranked.front (listed.text_is
             ∙ onto listed.front (noted.text_is ∙ onto noted.front (sorted.text_is ∙ onto sorted.front sized.text_is)))));
       };
-      holds = (s.first.holds, record {
-        rank = subst (λ n. n ≤ MAX_RANK) (sym listed.first.holds.0) ranked.first.holds;
-        named = listed.first.holds.1;
-        record_first = listed.first.holds.2;
-        attrs = AreDistinct-from_fresh name_of_attr noted.a noted.first.holds;
-      });
+      holds = (
+        s.first.holds,
+        record {
+          rank = subst (λ n. n ≤ MAX_RANK) (sym listed.first.holds.0) ranked.first.holds;
+          named = listed.first.holds.1;
+          record_first = listed.first.holds.2;
+          attrs = AreDistinct-from_fresh name_of_attr noted.a noted.first.holds;
+        },
+      );
     })
 
-var_read : (version : ℕ) (dims : List Dim) (found : List NcVar) (text : List ℕ) (var : NcVar) → Such (SpellsVar version) (VarAfter dims found) text var → VarAsRead version dims found text var
+var_read : (version : ℕ) (dims : List Dim) (found : List NcVar) (text : List ℕ) (var : NcVar)
+    → Such (SpellsVar version) (VarAfter dims found) text var → VarAsRead version dims found text var
 var_read version dims found text var s = let t = s.spelled in let sound = s.holds.1 in record {
   a = var.name;
   front = t.name_text;
@@ -117,7 +122,8 @@ var_read version dims found text var s = let t = s.spelled in let sound = s.hold
   text_is = simp append_assoc at t.text_is;
 }
 
-pub Exact-var_at : (version : ℕ) → (version ≡ 1) ⊎ (version ≡ 2) → (dims : List Dim) (found : List NcVar) → Exact (Such (SpellsVar version) (VarAfter dims found)) (var_at version dims found)
+pub Exact-var_at : (version : ℕ) → (version ≡ 1) ⊎ (version ≡ 2) → (dims : List Dim) (found : List NcVar)
+    → Exact (Such (SpellsVar version) (VarAfter dims found)) (var_at version dims found)
 unfolding var_at
 Exact-var_at version known dims found = Exact-as (VarAsRead version dims found) (Such (SpellsVar version) (VarAfter dims found)) (var_at version dims found)
     (λ text var fits s. var_spelled version dims found text var s)
