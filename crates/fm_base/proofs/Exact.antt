@@ -37,6 +37,10 @@ pub record Such {A : Type 0} (S : List ℕ → A → Type 0) (P : A → Type 0) 
   pub spelled : S text a
   pub holds : P a
 
+-- equal texts behind the same one
+pub onto : (a : List ℕ) {x y : List ℕ} → x ≡ y → a ++ x ≡ a ++ y
+onto a e = ap (λ (l : List ℕ). a ++ l) e
+
 -- the value of a step that did not fail
 pub bind_ok : {A B : Type 0} (r : Outcome A) (f : A → Parser B) (y : B × Input) → and_then r f ≡ Ok y
     → (x : A × Input) × (r ≡ Ok x) × (f x.0 x.1 ≡ Ok y)

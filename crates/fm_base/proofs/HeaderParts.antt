@@ -13,7 +13,7 @@ use Rattle.fm_base.specs.Input.{Input}
 use Rattle.fm_base.specs.Reading.{Outcome, word, list_at, dim_at, attr_at, var_at, version_at, numrecs_at, header_at}
 use Rattle.fm_base.specs.Spelling.{SpellsWord, SpellsCount, SpellsList, SpellsDim, SpellsAttr, SpellsVar, SpellsHeader, IsSoundVar, IsSound}
 use Rattle.fm_base.proofs.Distinct.{IsFresh, IsOnlyRecord, EachFrom-parts, EachFrom-both, AllByRecursion-from_each, EachFrom-from_all, AreDistinct-from_fresh, fresh-from_AreDistinct, one_record-from_only, only-from_one_record}
-use Rattle.fm_base.proofs.Exact.{Exact, Then, Such, Exact-then, Exact-as, Exact-located, input}
+use Rattle.fm_base.proofs.Exact.{onto, Exact, Then, Such, Exact-then, Exact-as, Exact-located, input}
 use Rattle.fm_base.proofs.Fields.{SpellsCount-from_word, SpellsWord-from_count, Exact-word}
 use Rattle.fm_base.proofs.Lists.{EachFrom, Exact-list_at}
 use Rattle.fm_base.proofs.Parts.{DimAfter, name_of_dim, name_of_attr, Exact-dim_at, Exact-attrs_at}
@@ -93,9 +93,6 @@ HeaderAsRead =
     (λ dims. Then (Such (SpellsList ATTRIBUTE_TAG SpellsAttr) (EachFrom (IsFresh name_of_attr) []))
     (λ attrs. Through (Such (SpellsList VARIABLE_TAG (SpellsVar version)) (EachFrom (VarAfter dims) []))
     (λ vars header. header_of version numrecs dims attrs vars ≡ header)))))
-
-onto : (a : List ℕ) {x y : List ℕ} → x ≡ y → a ++ x ≡ a ++ y
-onto a e = ap (λ (l : List ℕ). a ++ l) e
 
 header_spelled : (text : List ℕ) (header : Header) → HeaderAsRead text header → Such SpellsHeader IsSound text header
 header_spelled text header s =

@@ -1,5 +1,5 @@
 -- The dimensions, the attributes and the smaller parts of a variable are read exactly.
-use Rattle.std.proofs.Common.{◌≡◌, ℕ, ◌*◌, ◌<◌, ◌≤◌, ◌⊎◌, false, not, ◌&&◌, ◌==◌, nat_le, nat_lt, List, [], ◌++◌, length, map, drop, refl, sym, ap, subst, ◌∙◌, append_assoc, inl, inr, arith}
+use Rattle.std.proofs.Common.{◌≡◌, ℕ, ◌*◌, ◌<◌, ◌≤◌, ◌⊎◌, false, not, ◌&&◌, ◌==◌, nat_le, nat_lt, List, [], ◌++◌, length, map, drop, refl, sym, subst, ◌∙◌, append_assoc, inl, inr, arith}
 use Rattle.std.specs.List.{AllByRecursion}
 use Rattle.std.proofs.lemmas.Bool.{ltb-false, le-ltb, leb-false, lt-leb}
 use Rattle.fm_base.specs.declared.fault.HeaderFault.TheVariants.{BadCount, BadDimId, TwoRecordDims, RecordNotFirst}
@@ -11,7 +11,7 @@ use Rattle.fm_base.specs.Kind.{size_of}
 use Rattle.fm_base.specs.Reading.{word, long_word, count, padded, name_at, kind_at, items_from, list_at, dim_size, dim_at, attr_at, rank_at, names_record, dim_id_at, begin_at}
 use Rattle.fm_base.specs.Spelling.{SpellsWord, SpellsCount, SpellsPadded, SpellsName, SpellsKind, SpellsList, SpellsDim, SpellsAttr, SpellsBegin, Spelled, NamesNoRecord}
 use Rattle.fm_base.proofs.Distinct.{IsFresh, IsOnlyRecord, IsRecordFirst, EachFrom-parts, EachFrom-both, AllByRecursion-from_each, EachFrom-from_all, no_record-from_first, first-from_no_record}
-use Rattle.fm_base.proofs.Exact.{Exact, Then, Such, Exact-then, Exact-as, Exact-located}
+use Rattle.fm_base.proofs.Exact.{onto, Exact, Then, Such, Exact-then, Exact-as, Exact-located}
 use Rattle.fm_base.proofs.Fields.{SpellsLong, SpellsWord-from_count, Exact-word, Exact-long_word, Exact-tested, Exact-count, Exact-padded, Exact-name_at, Exact-kind_at}
 use Rattle.fm_base.proofs.Lists.{EachFrom, Adds, Exact-items_from, Exact-list_at}
 use Rattle.fm_base.proofs.Steps.{Through, Exact-test, Exact-unless, Exact-unless_both, Tests-pure}
@@ -81,7 +81,7 @@ Exact-attr_at found = Exact-as (AttrAsRead found) (Such SpellsAttr (IsFresh name
         counted = s.second.second.first;
         length_is = s.second.second.second.spelled.holds;
         values = s.second.second.second.spelled.spelled;
-        text_is = simp append_assoc (s.text_is ∙ ap (λ (l : List ℕ). s.front ++ l) (s.second.text_is ∙ ap (λ (l : List ℕ). s.second.front ++ l) s.second.second.text_is));
+        text_is = simp append_assoc (s.text_is ∙ onto s.front (s.second.text_is ∙ onto s.second.front s.second.second.text_is));
       };
       holds = s.first.holds;
     }))

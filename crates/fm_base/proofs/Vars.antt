@@ -8,7 +8,7 @@ use Rattle.fm_base.specs.Format.{ATTRIBUTE_TAG, MAX_RANK, has_name}
 use Rattle.fm_base.specs.Reading.{field, name_at, kind_at, items_from, list_at, attr_at, rank_at, dim_id_at, begin_at, var_at}
 use Rattle.fm_base.specs.Spelling.{SpellsWord, SpellsCount, SpellsName, SpellsKind, SpellsList, SpellsAttr, SpellsBegin, SpellsVar, Spelled, IsSoundVar}
 use Rattle.fm_base.proofs.Distinct.{IsFresh, AreDistinct-from_fresh, fresh-from_AreDistinct}
-use Rattle.fm_base.proofs.Exact.{Exact, Then, Such, Exact-then, Exact-as}
+use Rattle.fm_base.proofs.Exact.{onto, Exact, Then, Such, Exact-then, Exact-as}
 use Rattle.fm_base.proofs.Fields.{Exact-name_at, Exact-kind_at}
 use Rattle.fm_base.proofs.Lists.{EachFrom}
 use Rattle.fm_base.proofs.Parts.{name_of_attr, AreIds, Exact-attrs_at, Exact-rank_at, Exact-dim_ids, Exact-begin_at}
@@ -33,9 +33,6 @@ VarAsRead version dims found =
     (λ attrs. Then SpellsKind
     (λ kind. Then (IsField 4)
     (λ size. Through (SpellsBegin version) (λ begin var. var_of name ids attrs kind begin ≡ var)))))))
-
-onto : (a : List ℕ) {x y : List ℕ} → x ≡ y → a ++ x ≡ a ++ y
-onto a e = ap (λ (l : List ℕ). a ++ l) e
 
 var_spelled : (version : ℕ) (dims : List Dim) (found : List NcVar) (text : List ℕ) (var : NcVar) → VarAsRead version dims found text var
     → Such (SpellsVar version) (VarAfter dims found) text var
