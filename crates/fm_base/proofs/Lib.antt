@@ -1,0 +1,9 @@
+pub mod Distinct
+pub mod Exact
+pub mod Fields
+pub mod HeaderLaws
+pub mod HeaderParts
+pub mod Lists
+pub mod Parts
+pub mod Steps
+pub mod Vars
