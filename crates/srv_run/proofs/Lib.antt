@@ -1,2 +1,6 @@
 pub mod Asking
 pub mod AskingLink
+pub mod ExchangeLemmas
+pub mod LoadLemmas
+pub mod PieceLemmas
+pub mod RisingLemmas

@@ -1,5 +1,5 @@
 -- What the command does: it reads a prototype and a file, and answers one request over the collection of that file.
-use Rattle.std.specs.Prelude.{◌≡◌, ⊤, ℕ, ◌≤◌, List, length, take, Bool, Option, Some, None, Result, Ok, Err, IsOk, if◌then◌else◌}
+use Rattle.std.specs.Prelude.{◌≡◌, ⊤, ℕ, ◌≤◌, List, length, take, Bool, Option, Some, None, Result, Ok, Err, [], IsOk, if◌then◌else◌}
 use Rattle.fm_world.specs.declared.files.Found.{Found}
 use Rattle.fm_world.specs.declared.files.Found.TheVariants.{Content, Absent, TooLong as TooLongFound}
 use Rattle.fm_world.specs.Cause.{Rose}
@@ -68,6 +68,11 @@ loaded_or_end command held = read_or_end Prototype (held command.proto) >>= λ p
 unfoldable pub reply_over : List ℕ → ReadFile → List ℕ
 reply_over name file = reply_of Structure 1 (dds_of (best_label name) (decls_of file.shape (length (best_times (collection_of_one file.bytes file.shape)))))
 
+-- the reply over what was loaded, and nothing where the run ended
+unfoldable pub reply_to_loaded : List ℕ → Result ReadFile End → List ℕ
+reply_to_loaded name (Ok file) = reply_over name file
+reply_to_loaded name (Err end) = []
+
 -- How a run ended accords with what the files hold: a run comes to its request exactly where the file is loaded, and
 -- ends before it for the defined reason. Want of memory may come at any time, a fault of a file only where it is read.
 abbrev pub AccordsFiles : End → Result ReadFile End → Result ReadFile End → Type 0
@@ -75,11 +80,15 @@ AccordsFiles Done proto loaded = IsOk loaded
 AccordsFiles InputEnded proto loaded = IsOk loaded
 AccordsFiles LinkFault proto loaded = IsOk loaded
 AccordsFiles (Refused Request code) proto loaded = IsOk loaded × (code ≡ 60)
+AccordsFiles (Refused Prototype code) proto loaded = loaded ≡ Err (Refused Prototype code)
+AccordsFiles (Refused File code) proto loaded = loaded ≡ Err (Refused File code)
 AccordsFiles NoMemory proto loaded = ⊤
 AccordsFiles (FileFault Prototype) proto loaded = ⊤
 AccordsFiles (FileFault File) proto loaded = IsOk proto
 AccordsFiles (FileFault Request) proto loaded = ⊥
-AccordsFiles end proto loaded = loaded ≡ Err end
+AccordsFiles (NoFile subject) proto loaded = loaded ≡ Err (NoFile subject)
+AccordsFiles (TooLong subject len) proto loaded = loaded ≡ Err (TooLong subject len)
+AccordsFiles BadWords proto loaded = ⊥
 
 -- How a run ended accords with how its input meets the head.
 abbrev pub AccordsInput : End → Asked → Type 0

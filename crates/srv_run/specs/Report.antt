@@ -1,10 +1,15 @@
 -- What a program says of how it ended: its status and a line.
-use Rattle.std.specs.Prelude.{ℕ, List, [], ◌∷◌, ◌++◌, codes, decimal}
+use Rattle.std.specs.Prelude.{◌≡◌, ℕ, ◌≤◌, List, [], ◌++◌, length, take, codes, decimal, Option, Result, MatchResult}
+use Rattle.fm_world.specs.Sink.{after_append}
 use Rattle.srv_run.specs.declared.end.End.{End}
 use Rattle.srv_run.specs.declared.end.End.TheVariants.{Done, BadWords, Refused, NoMemory, FileFault, LinkFault, NoFile, TooLong, InputEnded}
 use Rattle.srv_run.specs.declared.end.Subject.{Subject as Matter}
 use Rattle.srv_run.specs.declared.end.Subject.TheVariants.{Prototype, File, Request}
 use Rattle.srv_run.specs.Words.{Command}
+
+-- All of the bytes were appended to a sink, or a front of them where it failed.
+abbrev pub Appends : {X E : Type 0} → List ℕ → Option (List ℕ) → Option (List ℕ) → Result X E → Type 0
+Appends bytes before after result = MatchResult result (λ _. after ≡ after_append bytes before) (λ _. (count : ℕ) × (count ≤ length bytes) × (after ≡ after_append (take count bytes) before))
 
 -- the status of a program that ended so
 abbrev pub status_of : End → ℕ
@@ -24,14 +29,26 @@ subject_text command Prototype = command.proto
 subject_text command File = command.path
 subject_text command Request = codes "ask"
 
--- the line that tells of an end, in its words; none where every step was done
+unfoldable pub refused_line : List ℕ → ℕ → List ℕ
+refused_line subject code = codes "refused " ++ subject ++ codes " code " ++ decimal code ++ codes "\n"
+
+unfoldable pub too_long_line : List ℕ → ℕ → List ℕ
+too_long_line subject len = codes "too long " ++ subject ++ codes " " ++ decimal len ++ codes "\n"
+
+unfoldable pub file_fault_line : List ℕ → List ℕ
+file_fault_line subject = codes "file fault " ++ subject ++ codes "\n"
+
+unfoldable pub no_file_line : List ℕ → List ℕ
+no_file_line subject = codes "no file " ++ subject ++ codes "\n"
+
+-- the line that tells of an end; none where every step was done
 unfoldable pub line_of : Command → End → List ℕ
 line_of command Done = []
 line_of command BadWords = codes "bad words\n"
-line_of command (Refused subject code) = codes "refused " ++ subject_text command subject ++ codes " code " ++ decimal code ++ codes "\n"
+line_of command (Refused subject code) = refused_line (subject_text command subject) code
 line_of command NoMemory = codes "no memory\n"
-line_of command (FileFault subject) = codes "file fault " ++ subject_text command subject ++ codes "\n"
+line_of command (FileFault subject) = file_fault_line (subject_text command subject)
 line_of command LinkFault = codes "link fault\n"
-line_of command (NoFile subject) = codes "no file " ++ subject_text command subject ++ codes "\n"
-line_of command (TooLong subject len) = codes "too long " ++ subject_text command subject ++ codes " " ++ decimal len ++ codes "\n"
+line_of command (NoFile subject) = no_file_line (subject_text command subject)
+line_of command (TooLong subject len) = too_long_line (subject_text command subject) len
 line_of command InputEnded = codes "input ended\n"

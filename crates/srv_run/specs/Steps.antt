@@ -2,8 +2,11 @@
 use Rattle.std.specs.Prelude.{◌≡◌, ⊤, ℕ, ◌≤◌, Result, Ok, Err}
 use Rattle.fm_world.specs.Cause.{Rose}
 use Rattle.srv_run.specs.declared.end.End.{End}
-use Rattle.srv_run.specs.declared.end.End.TheVariants.{NoMemory, FileFault, LinkFault}
+use Rattle.srv_run.specs.declared.end.End.TheVariants.{Done, BadWords, Refused, NoMemory, FileFault, LinkFault, NoFile, TooLong, InputEnded}
 use Rattle.srv_run.specs.declared.end.Subject.{Subject as Matter}
+use Rattle.srv_run.specs.declared.end.Subject.TheVariants.{Request}
+use Rattle.srv_run.specs.declared.file.ReadFile.{ReadFile}
+use Rattle.srv_run.specs.Once.{AccordsFiles}
 
 -- A step answers the defined value or end, unless memory ran out or a device failed.
 abbrev pub Gives : {X Y : Type 0} → (X → Y) → Result X End → Result Y End → Type 0
@@ -12,12 +15,44 @@ Gives view (Err NoMemory) defined = ⊤
 Gives view (Err (FileFault subject)) defined = ⊤
 Gives view (Err end) defined = defined ≡ Err end
 
--- Only a file's fault, with a count that rose, ends a run so, and it names the file.
-abbrev pub IsFaultOf : Matter → ℕ → ℕ → End → Type 0
-IsFaultOf subject before now (FileFault named) = (named ≡ subject) × Rose before now
-IsFaultOf subject before now end = ⊤
+-- A run may end so where this file is read.
+abbrev pub IsEndOfRead : Matter → End → Type 0
+IsEndOfRead subject NoMemory = ⊤
+IsEndOfRead subject (Refused named code) = named ≡ subject
+IsEndOfRead subject (FileFault named) = named ≡ subject
+IsEndOfRead subject (NoFile named) = named ≡ subject
+IsEndOfRead subject (TooLong named len) = named ≡ subject
+IsEndOfRead subject end = ⊥
 
--- The count never falls, and a fault that is answered has raised it.
-abbrev pub BlamesFile : {X : Type 0} → Matter → ℕ → ℕ → Result X End → Type 0
-BlamesFile subject before now (Ok x) = before ≤ now
-BlamesFile subject before now (Err end) = (before ≤ now) × IsFaultOf subject before now end
+-- A run of the command that ended so hasn't come to its request.
+abbrev pub IsBeforeRequest : End → Type 0
+IsBeforeRequest Done = ⊥
+IsBeforeRequest InputEnded = ⊥
+IsBeforeRequest LinkFault = ⊥
+IsBeforeRequest (Refused Request code) = ⊥
+IsBeforeRequest BadWords = ⊥
+IsBeforeRequest end = ⊤
+
+-- A run that ended so has come to its request, or wanted memory.
+abbrev pub IsFromRequest : End → Type 0
+IsFromRequest Done = ⊤
+IsFromRequest InputEnded = ⊤
+IsFromRequest LinkFault = ⊤
+IsFromRequest NoMemory = ⊤
+IsFromRequest (Refused Request code) = code ≡ 60
+IsFromRequest end = ⊥
+
+-- Both files were loaded as defined, or the run ended for a reason that accords with what the files hold.
+abbrev pub Loads : Result ReadFile End → Result ReadFile End → Result ReadFile End → Type 0
+Loads (Ok file) proto loaded = loaded ≡ Ok file
+Loads (Err end) proto loaded = AccordsFiles end proto loaded
+
+-- The count of the link's faults never falls, and the run ended by the link only where it rose.
+pub record BlamesLink (before now : ℕ) (end : End) : Type 0 where
+  pub later : before ≤ now
+  pub rose : end ≡ LinkFault → Rose before now
+
+-- The count of the files' faults never falls, and the run ended by a file only where it rose.
+pub record BlamesFiles (before now : ℕ) (end : End) : Type 0 where
+  pub later : before ≤ now
+  pub rose : (subject : Matter) → end ≡ FileFault subject → Rose before now

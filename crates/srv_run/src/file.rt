@@ -1,8 +1,9 @@
 //! Reads the files of a run.
-ghost use Rattle.std.specs.Prelude.{◌≡◌, true, IfSome, IfOk};
+ghost use Rattle.std.specs.Prelude.{◌≡◌, ◌≤◌, true, IfSome, IfOk, IfErr};
 ghost use Rattle.nc_model.specs.Thin.{HoldsPlaces, is_thin};
 ghost use Rattle.srv_run.specs.Once as spec;
-ghost use Rattle.srv_run.specs.Steps.{Gives, BlamesFile};
+ghost use Rattle.srv_run.specs.Steps.{Gives, Loads, BlamesFiles, IsEndOfRead, IsBeforeRequest};
+ghost use Rattle.srv_run.specs.Seen.{seen};
 
 use crate::collection::is_same_grid;
 use crate::end::{End, NOT_YET_READ, Subject};
@@ -32,7 +33,9 @@ fn content_of<F: Files>(
     ensures content { IfSome (F.told files.old) (λ held.
         Gives (λ bytes. bytes) result (spec.file_or_end subject (held path.now))) }
     ensures same { F.told files.new ≡ F.told files.old }
-    ensures cause { BlamesFile subject (F.fault_count files.old) (F.fault_count files.new) result }
+    ensures later { F.fault_count files.old ≤ F.fault_count files.new }
+    ensures cause { IfErr result (BlamesFiles (F.fault_count files.old) (F.fault_count files.new)) }
+    ensures end { IfErr result (IsEndOfRead subject) }
 {
     match files.read(alloc, path, FILE_BYTES) {
         Ok(Found::Content(bytes)) => Ok(bytes),
@@ -54,7 +57,9 @@ fn read_thin<F: Files>(
     ensures file { IfSome (F.told files.old) (λ held.
         Gives (λ file. file) result (spec.read_or_end subject (held path.now))) }
     ensures same { F.told files.new ≡ F.told files.old }
-    ensures cause { BlamesFile subject (F.fault_count files.old) (F.fault_count files.new) result }
+    ensures later { F.fault_count files.old ≤ F.fault_count files.new }
+    ensures cause { IfErr result (BlamesFiles (F.fault_count files.old) (F.fault_count files.new)) }
+    ensures end { IfErr result (IsEndOfRead subject) }
     ensures thin { IfOk result (λ file. is_thin file.bytes file.shape ≡ true) }
     ensures places { IfOk result (λ file. HoldsPlaces file.bytes file.shape) }
 {
@@ -64,4 +69,31 @@ fn read_thin<F: Files>(
         Ok(None) => Err(End::Refused(subject, NOT_YET_READ)),
         Err(NoMemory) => Err(End::NoMemory),
     }
+}
+
+// Reads the prototype and the file, and takes the file where it lies on the grid of the prototype.
+#[tactic(auto,
+    using(crate::proofs::LoadLemmas::load_ends),
+    unfolding(crate::specs::Once::loaded_or_end, crate::specs::Once::taken_or_end)
+)]
+pub(crate) fn load<F: Files>(
+    alloc: Global,
+    files: &mut F,
+    command: &Command<'_>,
+) -> Result<ReadFile, End>
+    ensures loaded { IfSome (F.told files.old) (λ held.
+        Loads result (spec.read_or_end Subject.Prototype (held command.now.proto.now))
+            (spec.loaded_or_end (seen command.now) held)) }
+    ensures same { F.told files.new ≡ F.told files.old }
+    ensures later { F.fault_count files.old ≤ F.fault_count files.new }
+    ensures cause { IfErr result (BlamesFiles (F.fault_count files.old) (F.fault_count files.new)) }
+    ensures before { IfErr result IsBeforeRequest }
+    ensures thin { IfOk result (λ file. is_thin file.bytes file.shape ≡ true) }
+{
+    let proto = read_thin(alloc, files, command.proto, Subject::Prototype)?;
+    let file = read_thin(alloc, files, command.path, Subject::File)?;
+    if !is_same_grid(proto.bytes.as_slice(), proto.shape, file.bytes.as_slice(), file.shape) {
+        return Err(End::Refused(Subject::File, NOT_YET_READ));
+    }
+    Ok(file)
 }

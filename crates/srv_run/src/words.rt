@@ -52,6 +52,15 @@ fn are_fixed(first: &[u8], second: &[u8], fourth: &[u8], last: &[u8]) -> bool
         && last == b"ask:1".as_slice()
 }
 
+impl Command<'_> {
+    // The command of no words.
+    pub(crate) const NONE: Command<'static> = Command {
+        name: b"",
+        proto: b"",
+        path: b"",
+    };
+}
+
 #[tactic(auto, unfolding(crate::specs::Words::command_of))]
 pub(crate) fn command_of(words: &[Bytes]) -> Option<Command<'_>>
     ensures { MatchOption result (spec.command_of words.now ≡ None) (λ c.

@@ -1,0 +1,10 @@
+use Rattle.std.proofs.Common.{◌≡◌, ◌≤◌, take}
+use Rattle.std.specs.List.{flat_map}
+use Rattle.fm_world.specs.Sink.{after_append}
+use Rattle.srv_run.proofs.report.put_pieces.Given as goal
+
+abbrev pub invariant-loop-piece : goal.invariant-loop-piece
+invariant-loop-piece g l = record {
+  put : g.S.Sink.told l.sink ≡ after_append (flat_map (λ piece. piece.now) (take l.piece-index l.pieces)) (g.S.Sink.told l.fn.sink);
+  faults : g.S.Sink.fault_count l.fn.sink ≤ g.S.Sink.fault_count l.sink;
+}
