@@ -3,4 +3,5 @@ pub mod AskingLink
 pub mod ExchangeLemmas
 pub mod LoadLemmas
 pub mod PieceLemmas
+pub mod ReportLemmas
 pub mod RisingLemmas

@@ -3,6 +3,7 @@ pub mod Once
 pub mod Reply
 pub mod Report
 pub mod Request
+pub mod Run
 pub mod Seen
 pub mod Steps
 pub mod StructureText

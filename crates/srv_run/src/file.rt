@@ -72,10 +72,7 @@ fn read_thin<F: Files>(
 }
 
 // Reads the prototype and the file, and takes the file where it lies on the grid of the prototype.
-#[tactic(auto,
-    using(crate::proofs::LoadLemmas::load_ends),
-    unfolding(crate::specs::Once::loaded_or_end, crate::specs::Once::taken_or_end)
-)]
+#[tactic(auto, using(crate::proofs::LoadLemmas::load_ends), unfolding(crate::specs::Once::loaded_or_end, crate::specs::Once::taken_or_end))]
 pub(crate) fn load<F: Files>(
     alloc: Global,
     files: &mut F,
@@ -83,7 +80,7 @@ pub(crate) fn load<F: Files>(
 ) -> Result<ReadFile, End>
     ensures loaded { IfSome (F.told files.old) (λ held.
         Loads result (spec.read_or_end Subject.Prototype (held command.now.proto.now))
-            (spec.loaded_or_end (seen command.now) held)) }
+        (spec.loaded_or_end (seen command.now) held)) }
     ensures same { F.told files.new ≡ F.told files.old }
     ensures later { F.fault_count files.old ≤ F.fault_count files.new }
     ensures cause { IfErr result (BlamesFiles (F.fault_count files.old) (F.fault_count files.new)) }
@@ -92,7 +89,12 @@ pub(crate) fn load<F: Files>(
 {
     let proto = read_thin(alloc, files, command.proto, Subject::Prototype)?;
     let file = read_thin(alloc, files, command.path, Subject::File)?;
-    if !is_same_grid(proto.bytes.as_slice(), proto.shape, file.bytes.as_slice(), file.shape) {
+    if !is_same_grid(
+        proto.bytes.as_slice(),
+        proto.shape,
+        file.bytes.as_slice(),
+        file.shape,
+    ) {
         return Err(End::Refused(Subject::File, NOT_YET_READ));
     }
     Ok(file)

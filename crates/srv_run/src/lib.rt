@@ -6,6 +6,7 @@ mod declaration;
 mod end;
 mod file;
 mod once;
+mod program;
 mod reply;
 mod report;
 mod request;
@@ -14,5 +15,6 @@ mod words;
 
 pub use declaration::{Array, DapKind, Decl};
 pub use end::{End, Subject};
+pub use program::run;
 pub use reply::Content;
 pub use request::Asked;

@@ -18,10 +18,7 @@ use fm_world::{Files, Link, put_all};
 use std::alloc::Global;
 
 // The reply over the collection of this one file, which is its revision 1.
-#[tactic(auto,
-    using(crate::proofs::RisingLemmas::best_rows),
-    unfolding(crate::specs::Once::reply_over)
-)]
+#[tactic(auto, using(crate::proofs::RisingLemmas::best_rows), unfolding(crate::specs::Once::reply_over))]
 fn reply_over(alloc: Global, name: &[u8], file: &ReadFile) -> Result<Bytes, NoMemory>
     requires { is_thin file.now.bytes file.now.shape ≡ true }
     ensures { IfOk result (λ reply. reply ≡ spec.reply_over name.now file.now) }
@@ -41,7 +38,7 @@ fn ask<L: Link>(alloc: Global, name: &[u8], file: &ReadFile, link: &mut L) -> En
         spec.AccordsInput result (request.asked_of (request.structure_head name.now) wire.left)) }
     ensures exchanged { IfSome (L.told link.old) (λ wire.
         spec.Exchanged result (request.structure_head name.now) (spec.reply_over name.now file.now)
-            wire (L.told link.new)) }
+        wire (L.told link.new)) }
     ensures cause { BlamesLink (L.fault_count link.old) (L.fault_count link.new) result }
 {
     let Ok(head) = structure_head(alloc, name) else {
@@ -72,14 +69,14 @@ pub(crate) fn once<F: Files, L: Link>(
 ) -> End
     ensures files { IfSome (F.told files.old) (λ held.
         spec.AccordsFiles result (spec.read_or_end Subject.Prototype (held command.now.proto.now))
-            (spec.loaded_or_end (seen command.now) held)) }
+        (spec.loaded_or_end (seen command.now) held)) }
     ensures input { IfSome (L.told link.old) (λ wire.
         spec.AccordsInput result
-            (request.asked_of (request.structure_head command.now.name.now) wire.left)) }
+        (request.asked_of (request.structure_head command.now.name.now) wire.left)) }
     ensures exchanged { IfSome (F.told files.old) (λ held. IfSome (L.told link.old) (λ wire.
         spec.Exchanged result (request.structure_head command.now.name.now)
-            (spec.reply_to_loaded command.now.name.now (spec.loaded_or_end (seen command.now) held))
-            wire (L.told link.new))) }
+        (spec.reply_to_loaded command.now.name.now (spec.loaded_or_end (seen command.now) held))
+        wire (L.told link.new))) }
     ensures same { F.told files.new ≡ F.told files.old }
     ensures file_cause { BlamesFiles (F.fault_count files.old) (F.fault_count files.new) result }
     ensures link_cause { BlamesLink (L.fault_count link.old) (L.fault_count link.new) result }

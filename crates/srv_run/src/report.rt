@@ -41,7 +41,16 @@ fn put_refused<S: Sink>(sink: &mut S, subject: &[u8], code: u16) -> Result<(), F
 {
     let mut digits = Buffer::new();
     let code = digits.format(code).as_bytes();
-    put_pieces(sink, &[b"refused ".as_slice(), subject, b" code ".as_slice(), code, b"\n".as_slice()])
+    put_pieces(
+        sink,
+        &[
+            b"refused ".as_slice(),
+            subject,
+            b" code ".as_slice(),
+            code,
+            b"\n".as_slice(),
+        ],
+    )
 }
 
 #[tactic(auto, unfolding(crate::specs::Report::too_long_line))]
@@ -51,7 +60,16 @@ fn put_too_long<S: Sink>(sink: &mut S, subject: &[u8], len: u64) -> Result<(), F
 {
     let mut digits = Buffer::new();
     let len = digits.format(len).as_bytes();
-    put_pieces(sink, &[b"too long ".as_slice(), subject, b" ".as_slice(), len, b"\n".as_slice()])
+    put_pieces(
+        sink,
+        &[
+            b"too long ".as_slice(),
+            subject,
+            b" ".as_slice(),
+            len,
+            b"\n".as_slice(),
+        ],
+    )
 }
 
 #[tactic(auto, unfolding(crate::specs::Report::file_fault_line))]
@@ -59,7 +77,10 @@ fn put_file_fault<S: Sink>(sink: &mut S, subject: &[u8]) -> Result<(), Failed>
     ensures put { Appends (spec.file_fault_line subject.now) (S.told sink.old) (S.told sink.new) result }
     ensures cause { HasCause (S.fault_count sink.old) (S.fault_count sink.new) result }
 {
-    put_pieces(sink, &[b"file fault ".as_slice(), subject, b"\n".as_slice()])
+    put_pieces(
+        sink,
+        &[b"file fault ".as_slice(), subject, b"\n".as_slice()],
+    )
 }
 
 #[tactic(auto, unfolding(crate::specs::Report::no_file_line))]

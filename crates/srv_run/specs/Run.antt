@@ -1,0 +1,61 @@
+-- What a run of the program says of its words, its world and its status.
+use Rattle.std.specs.Prelude.{◌≡◌, ℕ, ◌≤◌, List, [], length, take, Option, Some, None, IfSome, MatchOption}
+use Rattle.fm_world.specs.Cause.{Rose}
+use Rattle.fm_world.specs.Link.{Wire}
+use Rattle.fm_world.specs.Sink.{after_append}
+use Rattle.srv_run.specs.declared.end.End.{End}
+use Rattle.srv_run.specs.declared.end.End.TheVariants.{BadWords, LinkFault}
+use Rattle.srv_run.specs.declared.end.Subject.TheVariants.{Prototype}
+use Rattle.srv_run.specs.Once.{AccordsFiles, AccordsInput, Exchanged, read_or_end, loaded_or_end, reply_to_loaded}
+use Rattle.srv_run.specs.Report.{status_of, line_of}
+use Rattle.srv_run.specs.Request.{structure_head, asked_of}
+use Rattle.srv_run.specs.Steps.{BlamesFiles, BlamesLink}
+use Rattle.srv_run.specs.Words.{Command, command_of}
+
+-- what the files of a world tell, and how often they have failed
+pub record FilesSeen : Type 0 where
+  pub told : Option (List ℕ → Option (List ℕ))
+  pub faults : ℕ
+
+-- what the link of a world tells, and how often it has failed
+pub record LinkSeen : Type 0 where
+  pub told : Option Wire
+  pub faults : ℕ
+
+-- the command that words are, or one without a name and paths
+abbrev pub command_or_none : Option Command → Command
+command_or_none None = record { name = []; proto = []; path = [] }
+command_or_none (Some command) = command
+
+-- Words that aren't the command end the run at once: no file was read, and nothing was taken from the link or sent.
+pub record RefusesWords (end : End) (files files' : FilesSeen) (link link' : LinkSeen) : Type 0 where
+  pub is : end ≡ BadWords
+  pub unread : files' ≡ files
+  pub unused : link' ≡ link
+
+-- A run of the command: the end accords with what the files hold, where they tell, and with what the link gives,
+-- where it tells; where both tell, exactly what is defined was taken and sent. A device is blamed only where its
+-- count of faults rose, and want of memory may come at any time.
+pub record RunsCommand (command : Command) (end : End) (files files' : FilesSeen) (link link' : LinkSeen) : Type 0 where
+  pub loaded : IfSome files.told (λ held. AccordsFiles end (read_or_end Prototype (held command.proto)) (loaded_or_end command held))
+  pub asked : IfSome link.told (λ wire. AccordsInput end (asked_of (structure_head command.name) wire.left))
+  pub exchanged : IfSome files.told (λ held. IfSome link.told (λ wire. Exchanged end (structure_head command.name) (reply_to_loaded command.name (loaded_or_end command held)) wire link'.told))
+  pub held : files'.told ≡ files.told
+  pub file_cause : BlamesFiles files.faults files'.faults end
+  pub link_cause : BlamesLink link.faults link'.faults end
+
+-- what the words ask for was done, up to this end
+abbrev pub Does : Option Command → End → FilesSeen → FilesSeen → LinkSeen → LinkSeen → Type 0
+Does command end files files' link link' = MatchOption command (RefusesWords end files files' link link') (λ c. RunsCommand c end files files' link link')
+
+-- The line of the end was written, or a front of it, where the sink's count of faults rose.
+abbrev pub Reports : List ℕ → Option (List ℕ) → Option (List ℕ) → ℕ → ℕ → Type 0
+Reports line before after faults faults' = (count : ℕ) × (count ≤ length line) × (after ≡ after_append (take count line) before) × ((Rose faults faults' → ⊥) → take count line ≡ line)
+
+-- A run ended with this status: some end has it, what the words ask for was done up to that end, and its line was
+-- written.
+pub record Runs (words : List (List ℕ)) (status : ℕ) (files files' : FilesSeen) (link link' : LinkSeen) (sink sink' : Option (List ℕ)) (sink_faults sink_faults' : ℕ) : Type 0 where
+  pub end : End
+  pub status_is : status ≡ status_of end
+  pub does : Does (command_of words) end files files' link link'
+  pub reports : Reports (line_of (command_or_none (command_of words)) end) sink sink' sink_faults sink_faults'
