@@ -76,4 +76,18 @@ mod tests {
         }
         Ok(())
     }
+
+    #[test]
+    fn the_sink_beside_a_link_on_standard_output_is_standard_error(
+        rt: HostRuntime,
+    ) -> Result<(), Fail> {
+        let alloc = rt.alloc();
+        let mut words = List::new(alloc);
+        let sink = StdSink::of_words(&words, rt.stdout(), rt.stderr());
+        assert!(rt; matches!(sink.stream, Stream::Output(_)));
+        words.push(List::copy_of(alloc, b"once")?)?;
+        let sink = StdSink::of_words(&words, rt.stdout(), rt.stderr());
+        assert!(rt; matches!(sink.stream, Stream::Errors(_)));
+        Ok(())
+    }
 }
