@@ -1,4 +1,5 @@
 pub mod Cause
 pub mod Files
 pub mod Link
+pub mod Memory
 pub mod Sink

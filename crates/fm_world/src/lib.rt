@@ -18,7 +18,7 @@ mod world;
 pub use files::{Files, Found};
 pub use link::{Failed, Link};
 pub use mem_files::{Entry, MemFiles};
-pub use mem_link::MemLink;
+pub use mem_link::{Hold, MemLink};
 pub use mem_sink::MemSink;
 pub use sink::Sink;
 pub use whole::put_all;

@@ -24,10 +24,13 @@ pub struct MemFiles {
 }
 
 impl MemFiles {
+    ghost use Rattle.fm_world.specs.Memory.{files_failing};
+
     /// These files. The calls with these numbers, counted from 1, fail.
     pub fn new(entries: List<Entry>, failing: List<u64>) -> MemFiles
         ensures told { ⟦<MemFiles as Files>⟧.told result ≡ Some (held entries) }
         ensures faults { ⟦<MemFiles as Files>⟧.fault_count result ≡ 0 }
+        ensures failing { files_failing result ≡ failing }
     {
         MemFiles {
             entries,

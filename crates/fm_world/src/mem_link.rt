@@ -10,26 +10,31 @@ use std::alloc::Global;
 
 /// A place in the input, and how many bytes must have been put before the bytes from there on are given.
 #[derive(Clone, Copy)]
-struct Hold {
-    place: usize,
-    put: usize,
+pub struct Hold {
+    pub place: usize,
+    pub put: usize,
 }
 
 /// A link in memory: input that is given, and output with room that was made beforehand. A put with no room left
 /// fails, and a put for which there is some room takes what fits.
 #[derive(Drop)]
 pub struct MemLink {
+    /// How many bytes one take gives at most; 0 stands for 1.
+    pub most_taken: usize,
+    /// How many bytes one put takes at most; 0 stands for 1.
+    pub most_put: usize,
+    /// Input that waits for output.
+    pub hold: Option<Hold>,
     input: Bytes,
     taken: usize,
     output: Room,
-    most_taken: usize,
-    most_put: usize,
-    hold: Option<Hold>,
     calls: Calls,
     ghost within: { taken ≤ length input },
 }
 
 impl MemLink {
+    ghost use Rattle.fm_world.specs.Memory.{link_room, link_failing};
+
     /// A link with this input and room for so many bytes of output. The calls with these numbers, takes and puts
     /// counted together from 1, fail.
     pub fn new(
@@ -40,15 +45,17 @@ impl MemLink {
     ) -> Result<MemLink, NoMemory>
         ensures told { IfOk result (λ link. ⟦<MemLink as Link>⟧.told link ≡ Some (fresh_wire input)) }
         ensures faults { IfOk result (λ link. ⟦<MemLink as Link>⟧.fault_count link ≡ 0) }
+        ensures room { IfOk result (λ link. link_room link ≡ room) }
+        ensures failing { IfOk result (λ link. link_failing link ≡ failing) }
     {
         let output = Room::new(alloc, room)?;
         Ok(MemLink {
-            input,
-            taken: 0,
-            output,
             most_taken: usize::MAX,
             most_put: usize::MAX,
             hold: None,
+            input,
+            taken: 0,
+            output,
             calls: Calls::new(failing),
         })
     }
@@ -56,8 +63,7 @@ impl MemLink {
     /// The same link, of which one take gives at most `most_taken` bytes and one put takes at most `most_put`; 0
     /// stands for 1.
     pub fn in_pieces(self, most_taken: usize, most_put: usize) -> MemLink
-        ensures told { ⟦<MemLink as Link>⟧.told result ≡ ⟦<MemLink as Link>⟧.told self }
-        ensures faults { ⟦<MemLink as Link>⟧.fault_count result ≡ ⟦<MemLink as Link>⟧.fault_count self }
+        ensures { result ≡ record self { most_taken = most_taken; most_put = most_put } }
     {
         let mut link = self;
         link.most_taken = most_taken;
@@ -68,8 +74,7 @@ impl MemLink {
     /// The same link, which gives the bytes of its input from `place` on only once `put` bytes were put. A take that
     /// comes there too early fails.
     pub fn held_back(self, place: usize, put: usize) -> MemLink
-        ensures told { ⟦<MemLink as Link>⟧.told result ≡ ⟦<MemLink as Link>⟧.told self }
-        ensures faults { ⟦<MemLink as Link>⟧.fault_count result ≡ ⟦<MemLink as Link>⟧.fault_count self }
+        ensures { result ≡ record self { hold = Some (record { place = place; put = put }) } }
     {
         let mut link = self;
         link.hold = Some(Hold { place, put });

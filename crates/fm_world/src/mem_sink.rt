@@ -17,11 +17,15 @@ pub struct MemSink {
 }
 
 impl MemSink {
+    ghost use Rattle.fm_world.specs.Memory.{sink_room, sink_failing};
+
     /// An empty sink with room for so many bytes. The calls with these numbers, counted from 1, fail and append
     /// nothing.
     pub fn new(alloc: Global, room: usize, failing: List<u64>) -> Result<MemSink, NoMemory>
         ensures told { IfOk result (λ sink. ⟦<MemSink as Sink>⟧.told sink ≡ Some []) }
         ensures faults { IfOk result (λ sink. ⟦<MemSink as Sink>⟧.fault_count sink ≡ 0) }
+        ensures room { IfOk result (λ sink. sink_room sink ≡ room) }
+        ensures failing { IfOk result (λ sink. sink_failing sink ≡ failing) }
     {
         let all = Room::new(alloc, room)?;
         Ok(MemSink {

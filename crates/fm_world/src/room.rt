@@ -14,6 +14,7 @@ impl Room {
     /// No bytes yet, and room for so many.
     pub fn new(alloc: Global, room: usize) -> Result<Room, NoMemory>
         ensures bytes { IfOk result (λ made. made.bytes.items ≡ []) }
+        ensures len { IfOk result (λ made. vec_len made.bytes ≡ 0) }
         ensures room { IfOk result (λ made. vec_capacity made.bytes ≡ room) }
     {
         let bytes = Vec::with_capacity(alloc, room)?;

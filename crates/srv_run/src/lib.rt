@@ -18,3 +18,6 @@ pub use end::{End, Subject};
 pub use program::run;
 pub use reply::Content;
 pub use request::Asked;
+
+#[cfg(test)]
+mod tests;
