@@ -1,13 +1,12 @@
 -- Where the elements of a file's variables lie, and what is wrong with where they lie (NetCDF Classic Format
 -- Specification, "Computing File Offsets").
-use Rattle.std.specs.Prelude.{ℕ, zero, suc, ◌+◌, ◌-◌, ◌*◌, ◌^◌, List, [], ◌∷◌, length, take, drop, map, filter, sum_by, Option, Some, None, slice_get, slice_index, unwrap_or, option_map, Bool, true, false, nat_lt, nat_le, not, ◌==◌, ◌||◌, if◌then◌else◌}
+use Rattle.std.specs.Prelude.{ℕ, ◌+◌, ◌-◌, ◌*◌, ◌^◌, List, [], ◌∷◌, take, drop, map, filter, sum_by, Option, Some, None, slice_get, slice_index, Bool, false, nat_lt, not, ◌==◌, if◌then◌else◌}
 use Rattle.std.specs.Option.{option_map_or}
 use Rattle.fm_base.specs.declared.fault.LayoutFault.{LayoutFault}
 use Rattle.fm_base.specs.declared.fault.LayoutFault.TheVariants.{TooLarge, DataOutside}
 use Rattle.fm_base.specs.declared.header.Dim.{Dim}
 use Rattle.fm_base.specs.declared.header.Header.{Header}
 use Rattle.fm_base.specs.declared.header.NcVar.{NcVar}
-use Rattle.fm_base.specs.declared.kind.Kind.{Kind}
 use Rattle.fm_base.specs.Format.{padded_len, is_record}
 use Rattle.fm_base.specs.Kind.{size_of}
 use Rattle.fm_base.specs.Reading.{names_record}

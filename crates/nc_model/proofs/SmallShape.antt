@@ -1,6 +1,5 @@
 -- The bounds on the numbers of a thin file, as facts.
-use Rattle.std.proofs.Common.{◌≡◌, ℕ, ◌≤◌, Bool, true, false, ◌&&◌, refl, arith}
-use Rattle.std.proofs.lemmas.Bool.{false≢true}
+use Rattle.std.proofs.Common.{◌≡◌, ◌≤◌, true, arith}
 use Rattle.std.proofs.lemmas.Bool.Decides.{nat_tests}
 use Rattle.nc_model.specs.declared.shape.ThinShape.{ThinShape}
 use Rattle.nc_model.specs.Thin.{is_thin_shape}

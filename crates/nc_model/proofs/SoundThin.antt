@@ -1,13 +1,11 @@
 -- The header of a thin file is sound.
-use Rattle.std.proofs.Common.{◌≡◌, ◌≢◌, ℕ, ◌+◌, ◌<◌, ◌≤◌, Bool, true, false, ◌==◌, List, [], ◌∷◌, refl, arith}
-use Rattle.std.specs.Prelude.{codes}
+use Rattle.std.proofs.Common.{◌≡◌, ℕ, ◌≤◌, false, ◌==◌, refl, arith}
 use Rattle.std.specs.List.{IsDistinct}
 use Rattle.std.proofs.lemmas.Bool.Decides.{nat_tests}
-use Rattle.fm_base.specs.Format.{is_record}
-use Rattle.fm_base.specs.Spelling.{IsSound, IsSoundVar, AreDistinct}
+use Rattle.fm_base.specs.Spelling.{IsSound}
 use Rattle.nc_model.proofs.SmallShape.{IsSmall}
 use Rattle.nc_model.specs.declared.shape.ThinShape.{ThinShape}
-use Rattle.nc_model.specs.Thin.{header_of, dims_of, vars_of, time_var, float_var}
+use Rattle.nc_model.specs.Thin.{header_of}
 
 some_is_no_record : (n : ℕ) → 1 ≤ n → (n == 0) ≡ false
 some_is_no_record n some = grind (arith, nat_tests)

@@ -1,17 +1,14 @@
 -- The header of a thin file is spelled as the format says: its words, cut into the fields of the format.
-use Rattle.std.proofs.Common.{◌≡◌, ◌⊎◌, replicate, ℕ, ◌+◌, ◌*◌, ◌<◌, ◌≤◌, ◌^◌, Bool, true, false, not, ◌&&◌, ◌==◌, List, [], ◌∷◌, ◌++◌, length, map, refl, arith, inl, inr}
+use Rattle.std.proofs.Common.{◌≡◌, replicate, ℕ, ◌+◌, ◌*◌, ◌<◌, ◌^◌, true, false, ◌==◌, List, [], ◌∷◌, ◌++◌, length, refl, arith, inl, inr}
 use Rattle.std.specs.Prelude.{codes}
 use Rattle.std.specs.Int.{w32, to_be_bytes}
 use Rattle.std.specs.List.{list_any, AllByRecursion}
 use Rattle.std.specs.Str.{IsUtf8}
 use Rattle.std.proofs.lemmas.Str.{is_utf8-from_IsUtf8}
-use Rattle.fm_base.specs.declared.header.Attr.{Attr}
-use Rattle.fm_base.specs.declared.header.Dim.{Dim}
 use Rattle.fm_base.specs.declared.header.NcVar.{NcVar}
-use Rattle.fm_base.specs.declared.kind.Kind.TheVariants.{Float}
 use Rattle.fm_base.specs.Kind.{code_of}
 use Rattle.fm_base.specs.Format.{padded_len, is_barred, is_name_text, ATTRIBUTE_TAG}
-use Rattle.fm_base.specs.Spelling.{SpellsWord, SpellsCount, SpellsPadded, SpellsName, SpellsDim, SpellsAttr, SpellsVar, SpellsList, SpellsTagged, SpellsHeader, Spelled}
+use Rattle.fm_base.specs.Spelling.{SpellsWord, SpellsCount, SpellsName, SpellsDim, SpellsAttr, SpellsVar, SpellsList, SpellsHeader, Spelled}
 use Rattle.nc_model.specs.declared.shape.ThinShape.{ThinShape}
 use Rattle.nc_model.proofs.SmallShape.{IsSmall}
 use Rattle.nc_model.specs.Thin.{header_text, header_words, header_of, dims_of, vars_of, time_var, float_var, units_attr, data_begin}

@@ -1,21 +1,19 @@
 -- What the bytes of a thin file tell.
-use Rattle.std.proofs.Common.{◌≡◌, ℕ, ◌+◌, ◌*◌, ◌<◌, ◌≤◌, ◌^◌, Bool, true, false, ◌&&◌, IsTrue, List, [], ◌∷◌, ◌++◌, length, take, drop, nat_eq, nat_le, nat_lt, refl, sym, ap, ◌∙◌, subst, arith, T}
-use Rattle.std.specs.Prelude.{Some, None, Option, unwrap_or}
-use Rattle.std.specs.Int.{w32, to_be_bytes, from_be_bytes}
-use Rattle.std.specs.List.{starts_with, flat_map, list_all}
+use Rattle.std.proofs.Common.{◌≡◌, ℕ, ◌+◌, ◌<◌, ◌≤◌, ◌^◌, Bool, true, false, ◌&&◌, List, ◌++◌, length, take, drop, nat_eq, nat_le, nat_lt, refl, sym, ap, ◌∙◌, subst, arith}
+use Rattle.std.specs.Int.{w32, to_be_bytes}
+use Rattle.std.specs.List.{starts_with, flat_map}
 use Rattle.std.proofs.lemmas.Bool.{false≢true}
 use Rattle.std.proofs.lemmas.Bool.Decides.{Decides-eqb, nat_tests}
 use Rattle.std.proofs.lemmas.Slice.Eq.{starts_is}
 use Rattle.std.proofs.lemmas.Nat.{from_be_bytes-to_be_bytes_4}
-use Rattle.fm_base.specs.Field.{field_at}
 use Rattle.nc_model.specs.declared.shape.ThinShape.{ThinShape}
 use Rattle.fm_base.specs.Spelling.{HeaderOf}
-use Rattle.nc_model.proofs.SmallShape.{IsSmall, IsSmall-from_test}
+use Rattle.nc_model.proofs.SmallShape.{IsSmall-from_test}
 use Rattle.nc_model.proofs.SoundThin.{IsSound-thin}
 use Rattle.nc_model.proofs.SpellingOfThin.{SpellsHeader-thin}
 use Rattle.std.proofs.Common.{length-append}
 use Rattle.std.proofs.lemmas.List.{take_at, drop_at}
-use Rattle.nc_model.specs.Thin.{HoldsPlaces, header_of, number_at, shape_in, is_thin_shape, is_thin, header_text, header_words, thin_len, instants_of, is_instant, all_differ}
+use Rattle.nc_model.specs.Thin.{HoldsPlaces, header_of, number_at, shape_in, is_thin_shape, is_thin, header_text, header_words, thin_len}
 
 -- both tests pass
 pub both : (p q : Bool) → (p && q) ≡ true → (p ≡ true) × (q ≡ true)

@@ -1,11 +1,10 @@
 -- A head is met byte by byte.
-use Rattle.std.proofs.Common.{◌≡◌, ◌≢◌, ℕ, zero, suc, ◌+◌, ◌<◌, ◌≤◌, Bool, true, false, cond, List, [], ◌∷◌, ◌++◌, length, get_or, take, drop, Option, Some, None, IfSome, refl, sym, ap, subst, ◌∙◌, append_assoc, add-one, drop-cons, length-drop, ◌==◌, arith}
+use Rattle.std.proofs.Common.{◌≡◌, ◌≢◌, ℕ, ◌+◌, ◌<◌, ◌≤◌, false, List, [], ◌∷◌, ◌++◌, length, get_or, take, drop, Option, Some, None, refl, sym, ap, ◌∙◌, append_assoc, add-one, drop-cons, length-drop, ◌==◌, arith}
 use Rattle.std.proofs.Math.Seq.{take-add}
 use Rattle.std.proofs.lemmas.Bool.{eq-eqb}
 use Rattle.std.proofs.lemmas.Bool.Decides.{nat_tests}
 use Rattle.std.proofs.lemmas.List.{drop-drop, drop_all}
-use Rattle.fm_world.specs.Link.{Wire, GivesNext, after_take}
-use Rattle.srv_run.specs.declared.request.Asked.{Asked}
+use Rattle.fm_world.specs.Link.{Wire, after_take}
 use Rattle.srv_run.specs.declared.request.Asked.TheVariants.{Whole, Ended, Differs}
 use Rattle.srv_run.specs.Request.{asked_of, taken_of}
 

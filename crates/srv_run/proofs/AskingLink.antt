@@ -1,5 +1,5 @@
 -- A head is taken from a link byte by byte, where the link tells.
-use Rattle.std.proofs.Common.{◌≡◌, ◌≢◌, ℕ, ◌+◌, ◌<◌, ◌≤◌, List, [], ◌∷◌, ◌++◌, length, get_or, take, drop, Option, Some, None, IfSome, refl, sym, ap, subst, ◌∙◌, arith}
+use Rattle.std.proofs.Common.{◌≡◌, ◌≢◌, ℕ, ◌+◌, ◌<◌, ◌≤◌, List, ◌++◌, length, get_or, take, drop, Option, Some, None, IfSome, sym, ap, subst, ◌∙◌, arith}
 use Rattle.fm_world.specs.Link.{Wire, GivesNext, after_take}
 use Rattle.srv_run.specs.declared.request.Asked.{Asked}
 use Rattle.srv_run.specs.declared.request.Asked.TheVariants.{Whole, Ended, Differs}

@@ -1,5 +1,5 @@
 -- What is taken from a link and sent on it.
-use Rattle.std.proofs.Common.{◌≡◌, ℕ, ◌+◌, ◌≤◌, List, [], ◌∷◌, length, take, Option, Some, None, IfSome, Bool, true, false, cond, ◌==◌, refl, ap, ◌∙◌, arith}
+use Rattle.std.proofs.Common.{◌≡◌, ℕ, ◌+◌, ◌≤◌, List, [], ◌∷◌, length, take, Option, Some, None, IfSome, Bool, true, false, cond, ◌==◌, ap, ◌∙◌, arith}
 use Rattle.fm_world.specs.Link.{Wire, after_take, after_put}
 use Rattle.srv_run.specs.declared.end.End.TheVariants.{Done, NoMemory, LinkFault}
 use Rattle.srv_run.specs.Once.{Exchanged}

@@ -2,7 +2,6 @@
 use Rattle.std.proofs.Common.{◌≡◌, Result, Ok, Err, Option, Some, None, IfSome, ℕ, List, subst, ap, ◌∙◌, rules}
 use Rattle.srv_run.specs.declared.end.End.{End}
 use Rattle.srv_run.specs.declared.end.End.TheVariants.{Done, BadWords, Refused, NoMemory, FileFault, LinkFault, NoFile, TooLong, InputEnded}
-use Rattle.srv_run.specs.declared.end.Subject.{Subject as Matter}
 use Rattle.srv_run.specs.declared.end.Subject.TheVariants.{Prototype, File, Request}
 use Rattle.srv_run.specs.declared.file.ReadFile.{ReadFile}
 use Rattle.srv_run.specs.Once.{AccordsFiles, ◌>>=◌, read_or_end, taken_or_end, loaded_or_end}

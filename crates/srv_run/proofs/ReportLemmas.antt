@@ -1,12 +1,10 @@
 -- A report that was written whole or in part.
-use Rattle.std.proofs.Common.{◌≡◌, ℕ, ◌≤◌, List, length, take, Option, Result, Ok, Err, refl, sym, ap, subst, ◌∙◌, arith}
+use Rattle.std.proofs.Common.{◌≡◌, ℕ, List, length, take, Option, Result, Ok, Err, sym, ap, ◌∙◌, arith}
 use Rattle.std.proofs.lemmas.List.{take_all}
-use Rattle.fm_world.specs.Cause.{Rose, HasCause}
+use Rattle.fm_world.specs.Cause.{HasCause}
 use Rattle.fm_world.specs.Sink.{after_append}
 use Rattle.srv_run.specs.Report.{Appends}
 use Rattle.srv_run.specs.Run.{Reports}
-use Rattle.srv_run.specs.Seen.{seen}
-use Rattle.srv_run.specs.Words.{Command}
 
 whole : (line : List ℕ) → take (length line) line ≡ line
 whole line = take_all (length line) line (omega arith)

@@ -1,6 +1,6 @@
 -- Thin files as a collection, and its best view (THREDDS, Forecast Model Run Collections).
-use Rattle.std.specs.Prelude.{ℕ, ◌+◌, ◌*◌, List, [], ◌∷◌, ◌++◌, length, take, drop, Bool, true, ◌&&◌, ◌||◌, ◌==◌, ℤ, int_lt, int_le, Option, Some, None, Result, Ok, Err, codes, if◌then◌else◌}
-use Rattle.std.specs.List.{flat_map, slice_range}
+use Rattle.std.specs.Prelude.{ℕ, ◌+◌, ◌*◌, List, [], ◌∷◌, take, drop, Bool, ◌&&◌, ◌==◌, ℤ, int_lt, codes, if◌then◌else◌}
+use Rattle.std.specs.List.{flat_map}
 use Rattle.std.specs.Ordering.{int_eq}
 use Rattle.std.specs.Str.{bytes_eq}
 use Rattle.fm_base.specs.declared.header.Dim.{Dim}

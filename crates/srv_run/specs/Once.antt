@@ -1,8 +1,7 @@
 -- What the command does: it reads a prototype and a file, and answers one request over the collection of that file.
-use Rattle.std.specs.Prelude.{◌≡◌, ⊤, ℕ, ◌≤◌, List, length, take, Bool, Option, Some, None, Result, Ok, Err, [], IsOk, if◌then◌else◌}
+use Rattle.std.specs.Prelude.{◌≡◌, ⊤, ℕ, ◌≤◌, List, length, take, Option, Some, None, Result, Ok, Err, [], IsOk, if◌then◌else◌}
 use Rattle.fm_world.specs.declared.files.Found.{Found}
 use Rattle.fm_world.specs.declared.files.Found.TheVariants.{Content, Absent, TooLong as TooLongFound}
-use Rattle.fm_world.specs.Cause.{Rose}
 use Rattle.fm_world.specs.Files.{found_of}
 use Rattle.fm_world.specs.Link.{Wire, after_take, after_put}
 use Rattle.nc_model.specs.declared.shape.ThinShape.{ThinShape}
@@ -17,7 +16,7 @@ use Rattle.srv_run.specs.declared.request.Asked.{Asked}
 use Rattle.srv_run.specs.declared.request.Asked.TheVariants.{Whole, Ended, Differs}
 use Rattle.srv_run.specs.Collection.{is_same_grid, best_times, collection_of_one, decls_of}
 use Rattle.srv_run.specs.Reply.{reply_of}
-use Rattle.srv_run.specs.Request.{best_label, structure_head, asked_of, taken_of}
+use Rattle.srv_run.specs.Request.{best_label, taken_of}
 use Rattle.srv_run.specs.StructureText.{dds_of}
 use Rattle.srv_run.specs.Words.{Command}
 

@@ -4,7 +4,7 @@ use Rattle.fm_world.specs.Cause.{Rose}
 use Rattle.fm_world.specs.Link.{Wire}
 use Rattle.fm_world.specs.Sink.{after_append}
 use Rattle.srv_run.specs.declared.end.End.{End}
-use Rattle.srv_run.specs.declared.end.End.TheVariants.{BadWords, LinkFault}
+use Rattle.srv_run.specs.declared.end.End.TheVariants.{BadWords}
 use Rattle.srv_run.specs.declared.end.Subject.TheVariants.{Prototype}
 use Rattle.srv_run.specs.Once.{AccordsFiles, AccordsInput, Exchanged, read_or_end, loaded_or_end, reply_to_loaded}
 use Rattle.srv_run.specs.Report.{status_of, line_of}

@@ -1,5 +1,5 @@
 -- The words of the command.
-use Rattle.std.specs.Prelude.{ℕ, ◌≡◌, List, [], ◌∷◌, length, drop, codes, Bool, false, ◌&&◌, ◌||◌, not, ◌==◌, nat_eq, nat_le, Option, Some, None, if◌then◌else◌}
+use Rattle.std.specs.Prelude.{ℕ, List, [], ◌∷◌, length, drop, codes, Bool, ◌&&◌, ◌||◌, ◌==◌, nat_eq, nat_le, Option, Some, None, if◌then◌else◌}
 use Rattle.std.specs.List.{list_all, starts_with}
 use Rattle.std.specs.Str.{bytes_eq}
 

@@ -1,5 +1,5 @@
-use Rattle.std.proofs.Common.{◌≡◌, ◌≢◌, ℕ, ◌≤◌, get_or, rules, arith}
-use Rattle.srv_run.proofs.AskingLink.{Asks, Asks-ended, Asks-differs, Asks-whole, MetBy-more, told_more}
+use Rattle.std.proofs.Common.{◌≡◌, rules, arith}
+use Rattle.srv_run.proofs.AskingLink.{Asks-ended, Asks-differs, Asks-whole, MetBy-more, told_more}
 use Rattle.srv_run.proofs.request.take_head.Goals as goal
 
 pub returns-then-branch-eq0-clause-asked : goal.returns-then-branch-eq0-clause-asked
