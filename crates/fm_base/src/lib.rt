@@ -9,6 +9,7 @@ mod field;
 mod header;
 mod kind;
 mod list;
+mod pattern;
 mod shared;
 
 pub use decimal::put_decimal;
@@ -18,4 +19,5 @@ pub use field::{be16, be32, be64};
 pub use header::{Attr, Dim, Header, NcVar};
 pub use kind::Kind;
 pub use list::{Bytes, List};
+pub use pattern::{Pattern, Value};
 pub use shared::Arc;

@@ -1,0 +1,11 @@
+mod DigitLemmas
+mod FieldLemmas
+mod FormLemmas
+mod HexLemmas
+mod OddLemmas
+mod PatternLemmas
+mod Powers
+mod QuotedLemmas
+mod SecondsLemmas
+mod TextLemmas
+mod ValueLemmas

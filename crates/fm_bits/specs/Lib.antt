@@ -1,0 +1,4 @@
+pub mod Digits
+pub mod Quoted
+pub mod Text
+pub use Rattle.fm_base.specs.Pattern

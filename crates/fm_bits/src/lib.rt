@@ -1,0 +1,23 @@
+//! Numbers as their bits: whole seconds of a time, and one exact text for each value.
+#![tactic(auto)]
+
+mod digits;
+mod hexadecimal;
+mod laws;
+mod pattern;
+mod quoted;
+mod scale;
+mod seconds;
+#[cfg(test)]
+mod tests;
+mod text;
+mod value;
+
+pub use fm_base::Pattern;
+pub use laws::{
+    bits_have_fields, fields_tell, odd_part_keeps, odd_tells, quoted_tells, text_tells,
+};
+pub use pattern::pattern_at;
+pub use quoted::put_quoted;
+pub use seconds::whole_seconds;
+pub use text::text_of;
