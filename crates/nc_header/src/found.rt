@@ -30,7 +30,7 @@ impl Named for NcVar {
 /// The items of a list so far, and their names as they stand in the file. The set is what makes a look-up short.
 #[derive(Drop)]
 pub struct Found<'a, T: Named> {
-    items: List<T>,
+    items: Vec<T>,
     names: BTreeSet<&'a [u8]>,
 }
 
@@ -43,9 +43,9 @@ impl<'a, T: Named> Model for Found<'a, T> {
 
     ghost coded = { coded_list T.code };
 
-    ghost view = { λ found. found.items };
+    ghost view = { λ found. found.items.items };
 
-    ghost invariant = { λ found. HoldsNames found.names (map T.name_of found.items) };
+    ghost invariant = { λ found. HoldsNames found.names (map T.name_of found.items.items) };
 }
 
 impl<'a, T: Named> Found<'a, T> {
@@ -53,7 +53,7 @@ impl<'a, T: Named> Found<'a, T> {
         ensures { result ≡ [] }
     {
         Found {
-            items: List::new(alloc),
+            items: Vec::new(alloc),
             names: BTreeSet::new(alloc),
         }
     }
@@ -79,16 +79,16 @@ impl<'a, T: Named + Drop> Found<'a, T> {
         ensures ok { OnOk result (self.new ≡ self.old ++ item ∷ []) }
         ensures err { OnErr result (self.new ≡ self.old) }
     {
-        self.items.items.reserve(1)?;
+        self.items.reserve(1)?;
         self.names.insert(name)?;
-        self.items.items.push_reserved(item);
+        self.items.push_reserved(item);
         Ok(())
     }
 
     pub fn into_list(self) -> List<T>
-        ensures { result ≡ self }
+        ensures { result ≡ self.entry }
     {
         let Found { items, names: _ } = self;
-        items
+        List { items }
     }
 }

@@ -1,6 +1,8 @@
 //! Names.
 ghost use Rattle.std.specs.Prelude.{◌≡◌, map};
-ghost use Rattle.fm_base.specs.Format.{is_name_text};
+ghost use Rattle.std.specs.Str.{is_utf8};
+ghost use Rattle.std.specs.List.{list_any};
+ghost use Rattle.fm_base.specs.Format.{is_barred, is_name_text};
 ghost use Rattle.fm_base.specs.Reading as spec;
 ghost use Rattle.fm_base.specs.Reading.{Reads};
 
@@ -8,14 +10,25 @@ use crate::found::{Found, Named};
 use crate::reader::Reader;
 use fm_base::{Fail, HeaderFault};
 
+#[tactic(auto, using(crate::proofs::NameLemmas::utf8_laws))]
+fn is_utf8(text: &[u8]) -> bool
+    ensures { result ≡ is_utf8 text.now }
+{
+    str::from_utf8(text).is_ok()
+}
+
+fn has_barred(text: &[u8]) -> bool
+    ensures { result ≡ list_any is_barred text.now }
+{
+    text.iter().any(|byte| *byte == 0 || *byte == b'/')
+}
+
 /// Whether a text may be a name: UTF-8, not empty, without a zero byte and without a slash.
 #[tactic(auto, unfolding(fm_base::specs::Format::is_name_text))]
 fn is_name(text: &[u8]) -> bool
     ensures { result ≡ is_name_text text.now }
 {
-    !text.is_empty()
-        && str::from_utf8(text).is_ok()
-        && !text.iter().any(|byte| *byte == 0 || *byte == b'/')
+    !text.is_empty() && is_utf8(text) && !has_barred(text)
 }
 
 /// Reads a name that none of the items has.
