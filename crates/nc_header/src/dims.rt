@@ -71,10 +71,7 @@ fn read_dims(
 
 /// Reads the list of the dimensions.
 #[tactic(auto, unfolding(fm_base::specs::Reading::list_at))]
-pub fn read_dim_list(
-    alloc: Global,
-    reader: &mut Reader<'_>,
-) -> Result<List<Dim>, Fail<HeaderFault>>
+pub fn read_dim_list(alloc: Global, reader: &mut Reader<'_>) -> Result<List<Dim>, Fail<HeaderFault>>
     ensures { Reads (λ dims. dims)
         (spec.list_at DIMENSION_TAG spec.dim_at reader.old) result reader.new }
 {
