@@ -1,7 +1,7 @@
 -- What a loop over a count does, turn by turn.
-use Rattle.std.proofs.Common.{◌≡◌, ℕ, zero, suc, ◌+◌, ◌-◌, ◌<◌, ◌≤◌, List, [], ◌∷◌, ◌++◌, Ok, Err, ap, ◌∙◌, refl, sym, arith}
+use Rattle.std.proofs.Common.{◌≡◌, ℕ, suc, ◌+◌, ◌-◌, ◌<◌, ◌≤◌, List, [], ◌∷◌, ◌++◌, Ok, Err, ap, ◌∙◌, refl, arith}
 use Rattle.fm_base.specs.Input.{Input}
-use Rattle.fm_base.specs.Reading.{Outcome, Parser, and_then, ◌>>=◌, pure, items_from}
+use Rattle.fm_base.specs.Reading.{Outcome, Parser, and_then, pure, items_from}
 use Rattle.nc_header.specs.Turns.{one_more}
 
 -- one item, and then the others

@@ -13,3 +13,9 @@ Answers outcome (Err (fails.Fault fault)) = outcome ≡ Err fault
 abbrev pub IsReadAs : {A E : Type 0} → A → Result A (Fail E) → Type 0
 IsReadAs value (Ok found) = found ≡ value
 IsReadAs value (Err fail) = fail ≡ fails.NoMemory
+
+-- the fact holds where the answer is a fault of the input
+abbrev pub OnFault : {A E : Type 0} → Result A (Fail E) → Type 0 → Type 0
+OnFault (Ok found) P = Unit {0}
+OnFault (Err fails.NoMemory) P = Unit {0}
+OnFault (Err (fails.Fault fault)) P = P

@@ -3,7 +3,8 @@ ghost use Rattle.std.specs.Prelude.{◌≡◌, IfOk};
 ghost use Rattle.fm_base.specs.Reading as spec;
 ghost use Rattle.fm_base.specs.Reading.{Reads, header_or_fault};
 ghost use Rattle.fm_base.specs.Spelling.{HeaderOf};
-ghost use Rattle.nc_header.specs.Answer.{Answers, IsReadAs};
+ghost use Rattle.nc_header.specs.Answer.{Answers, IsReadAs, OnFault};
+ghost use Rattle.nc_header.specs.NoHeader.{HasNoHeader};
 
 use crate::attrs::read_attr_list;
 use crate::dims::read_dim_list;
@@ -39,9 +40,13 @@ fn read_fields(alloc: Global, reader: &mut Reader<'_>) -> Result<Header, Fail<He
 pub fn read_header(alloc: Global, bytes: &[u8]) -> Result<Header, Fail<HeaderFault>>
     ensures exact { Answers (header_or_fault bytes.now) result }
 
-    // What is read is spelled so, and what is spelled so is read.
+    // What is read is spelled so, what is spelled so is read, and bytes with a fault spell no header.
     ensures spelled { IfOk result (HeaderOf bytes.now) }
     ensures read { (h : _) → HeaderOf bytes.now h → IsReadAs h result }
+    ensures refused { OnFault result (HasNoHeader bytes.now) }
+
+    // Bytes spell one header at most.
+    ensures one { (h other : _) → HeaderOf bytes.now h → HeaderOf bytes.now other → h ≡ other }
 {
     let mut reader = Reader::new(bytes);
     read_fields(alloc, &mut reader)

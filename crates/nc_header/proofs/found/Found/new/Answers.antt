@@ -1,4 +1,3 @@
-use Rattle.std.proofs.Common.{map}
 use Rattle.nc_header.proofs.NameLemmas.{HoldsNames-empty}
 use Rattle.nc_header.proofs.found.Found.new.Goals as goal
 

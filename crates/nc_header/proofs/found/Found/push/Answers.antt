@@ -1,4 +1,4 @@
-use Rattle.std.proofs.Common.{◌≡◌, ◌∷◌, ◌++◌, [], List, ℕ, map, sym, ◌∙◌, ap, subst}
+use Rattle.std.proofs.Common.{map}
 use Rattle.std.proofs.lemmas.List.{map-append}
 use Rattle.nc_header.proofs.NameLemmas.{HoldsNames-push}
 use Rattle.nc_header.proofs.found.Found.push.Goals as goal
