@@ -1,0 +1,68 @@
+//! Lists of attributes, of the file and of a variable.
+ghost use Rattle.std.specs.Prelude.{◌≡◌, []};
+ghost use Rattle.fm_base.specs.Format.{ATTRIBUTE_TAG};
+ghost use Rattle.fm_base.specs.Reading as spec;
+ghost use Rattle.fm_base.specs.Reading.{Reads};
+ghost use Rattle.nc_header.specs.Turns.{one_more};
+
+use crate::found::Found;
+use crate::names::read_name;
+use crate::reader::Reader;
+use fm_base::{Bytes, Fail, HeaderFault, List};
+use nc_model::Attr;
+use std::alloc::Global;
+
+/// The tag of the list.
+const TAG: u32 = 12;
+
+#[tactic(auto, unfolding(fm_base::specs::Reading::attr_at, crate::specs::Turns::one_more))]
+fn read_attr<'a>(
+    alloc: Global,
+    reader: &mut Reader<'a>,
+    found: &mut Found<'a, Attr>,
+) -> Result<(), Fail<HeaderFault>>
+    ensures { Reads (λ _. found.new)
+        (one_more spec.attr_at found.old reader.old) result reader.new }
+{
+    let name = read_name(reader, found)?;
+    let kind = reader.kind()?;
+    let count = reader.count()?;
+    let values = reader.padded(u64::from(count) * u64::from(kind.size()))?;
+    let attr = Attr {
+        name: Bytes::copy_of(alloc, name)?,
+        kind,
+        values: Bytes::copy_of(alloc, values)?,
+    };
+    found.push(name, attr)?;
+    Ok(())
+}
+
+#[tactic(auto, using(crate::proofs::TurnLemmas::turns))]
+fn read_attrs(
+    alloc: Global,
+    reader: &mut Reader<'_>,
+    count: u32,
+) -> Result<List<Attr>, Fail<HeaderFault>>
+    ensures { Reads (λ attrs. attrs)
+        (spec.items_from spec.attr_at count [] reader.old) result reader.new }
+{
+    let mut found = Found::new(alloc);
+    for _turn in 0..count {
+        read_attr(alloc, reader, &mut found)?;
+    }
+    Ok(found.into_list())
+}
+
+/// Reads a list of attributes.
+#[tactic(auto, unfolding(fm_base::specs::Reading::list_at))]
+pub fn read_attr_list(
+    alloc: Global,
+    reader: &mut Reader<'_>,
+) -> Result<List<Attr>, Fail<HeaderFault>>
+    ensures { Reads (λ attrs. attrs)
+        (spec.list_at ATTRIBUTE_TAG spec.attr_at reader.old) result reader.new }
+{
+    let tag = reader.tag(TAG)?;
+    let count = reader.list_count(tag)?;
+    read_attrs(alloc, reader, count)
+}

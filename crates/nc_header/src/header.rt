@@ -1,0 +1,53 @@
+//! The whole header.
+ghost use Rattle.std.specs.Prelude.{◌≡◌, IfOk};
+ghost use Rattle.fm_base.specs.Reading as spec;
+ghost use Rattle.fm_base.specs.Reading.{Reads, header_or_fault};
+ghost use Rattle.fm_base.specs.Spelling.{HeaderOf};
+ghost use Rattle.nc_header.specs.Answer.{Answers, IsReadAs, OnFault};
+ghost use Rattle.nc_header.specs.NoHeader.{HasNoHeader};
+
+use crate::attrs::read_attr_list;
+use crate::dims::read_dim_list;
+use crate::reader::Reader;
+use crate::vars::read_var_list;
+use fm_base::{Fail, HeaderFault};
+use nc_model::Header;
+use std::alloc::Global;
+
+#[tactic(auto, unfolding(fm_base::specs::Reading::header_at))]
+fn read_fields(alloc: Global, reader: &mut Reader<'_>) -> Result<Header, Fail<HeaderFault>>
+    ensures { Reads (λ header. header) (spec.header_at reader.old) result reader.new }
+{
+    let version = reader.version()?;
+    let numrecs = reader.numrecs()?;
+    let dims = read_dim_list(alloc, reader)?;
+    let attrs = read_attr_list(alloc, reader)?;
+    let vars = read_var_list(alloc, reader, version, dims.as_slice())?;
+    Ok(Header {
+        version,
+        numrecs,
+        dims,
+        attrs,
+        vars,
+    })
+}
+
+/// The header that a file in the netCDF classic format begins with (CDF-1 or CDF-2), or its first fault in the order
+/// of the fields in the file, with the place of the field at fault.
+///
+/// A count in the file takes no memory by itself: each list grows as its items are read.
+#[tactic(auto, using(fm_base::proofs::HeaderLaws::header_laws), unfolding(fm_base::specs::Reading::header_or_fault))]
+pub fn read_header(alloc: Global, bytes: &[u8]) -> Result<Header, Fail<HeaderFault>>
+    ensures exact { Answers (header_or_fault bytes.now) result }
+
+    // What is read is spelled so, what is spelled so is read, and bytes with a fault spell no header.
+    ensures spelled { IfOk result (HeaderOf bytes.now) }
+    ensures read { (h : _) → HeaderOf bytes.now h → IsReadAs h result }
+    ensures refused { OnFault result (HasNoHeader bytes.now) }
+
+    // Bytes spell one header at most.
+    ensures one { (h other : _) → HeaderOf bytes.now h → HeaderOf bytes.now other → h ≡ other }
+{
+    let mut reader = Reader::new(bytes);
+    read_fields(alloc, &mut reader)
+}
