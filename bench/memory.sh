@@ -1,12 +1,13 @@
 #!/bin/sh
 # Counts the memory that the program asks for when a short file claims many items: each count of a list, of a name, of
 # values and of a rank in turn. Each case may ask for little more than a file of no bytes does.
-# Use: bench/memory.sh [PROGRAM]. PROGRAM answers `PROGRAM check FILE`; by default it is the one that `rt ci` leaves.
+# Use: bench/memory.sh [PROGRAM]. PROGRAM answers `PROGRAM check FILE`; by default one is built from
+# the header reader.
 set -eu
-program=${1:-$(dirname "$0")/../crates/fmrcd/out/fmrcd}
 limit=65536
 folder=$(mktemp -d)
 trap 'rm -r "$folder"' EXIT
+program=${1:-$("$(dirname "$0")/reader.sh" "$folder")}
 
 # A library that stands before the C library, and tells at the end how many bytes were asked for, in all and at most.
 cat > "$folder/count.c" <<'C'

@@ -1,10 +1,11 @@
 #!/bin/sh
 # Shows how long the program takes to check a header against the number of names in one of its lists.
-# Use: bench/names.sh [PROGRAM]. PROGRAM answers `PROGRAM check FILE`; by default it is the one that `rt ci` leaves.
+# Use: bench/names.sh [PROGRAM]. PROGRAM answers `PROGRAM check FILE`; by default one is built from
+# the header reader.
 set -eu
-program=${1:-$(dirname "$0")/../crates/fmrcd/out/fmrcd}
 folder=$(mktemp -d)
 trap 'rm -r "$folder"' EXIT
+program=${1:-$("$(dirname "$0")/reader.sh" "$folder")}
 
 # make LIST COUNT FILE: a CDF-1 header with so many names in the list of dimensions, attributes or variables.
 make() {
