@@ -1,3 +1,4 @@
+pub mod Calendar
 pub mod Field
 pub mod Format
 pub mod Input
@@ -5,3 +6,4 @@ pub mod Kind
 pub mod Layout
 pub mod Reading
 pub mod Spelling
+pub mod Stamp
