@@ -1,5 +1,5 @@
 -- Days and seconds of the proleptic Gregorian calendar, counted from 1970-01-01T00:00:00Z. There are no leap seconds.
-use Rattle.std.specs.Prelude.{ℕ, ◌+◌, ◌*◌, Bool, ◌&&◌, nat_lt, nat_le, if◌then◌else◌, Option, Some, None, option_map, ℤ, pos, ◌+ℤ◌, ◌*ℤ◌}
+use Rattle.std.specs.Prelude.{ℕ, ◌+◌, ◌*◌, Bool, ◌&&◌, nat_lt, nat_le, if◌then◌else◌, Option, Some, None, ℤ, pos, ◌+ℤ◌, ◌*ℤ◌}
 use Rattle.jiff_core.specs.Calendar.{days_in_month, days_from_civil}
 
 -- whether the calendar has this day of the years 0 to 9999
@@ -19,9 +19,9 @@ abbrev pub time_seconds : ℕ → ℕ → ℕ → ℕ
 time_seconds hour minute second = hour * 3600 + minute * 60 + second
 
 -- the seconds from 1970-01-01T00:00:00Z to so many seconds after the midnight that begins this day
-abbrev pub unix_seconds : ℤ → ℕ → ℤ
-unix_seconds day seconds = day *ℤ pos 86_400 +ℤ pos seconds
+abbrev pub unix_seconds : ℤ → ℤ → ℤ
+unix_seconds day seconds = day *ℤ pos 86_400 +ℤ seconds
 
 -- the Unix seconds of this date and time in UTC, where both exist
 unfoldable pub moment_of : ℕ → ℕ → ℕ → ℕ → ℕ → ℕ → Option ℤ
-moment_of year month day hour minute second = if is_date year month day && is_time hour minute second then Some (unix_seconds (days_from_civil (pos year) month day) (time_seconds hour minute second)) else None
+moment_of year month day hour minute second = if is_date year month day && is_time hour minute second then Some (unix_seconds (days_from_civil (pos year) month day) (pos (time_seconds hour minute second))) else None

@@ -7,3 +7,5 @@ pub mod Layout
 pub mod Reading
 pub mod Spelling
 pub mod Stamp
+pub mod Units
+pub mod UnitsReading

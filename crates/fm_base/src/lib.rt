@@ -10,6 +10,7 @@ mod header;
 mod kind;
 mod list;
 mod shared;
+mod units;
 
 pub use decimal::put_decimal;
 pub use fail::{Fail, NoMemory};
@@ -19,3 +20,4 @@ pub use header::{Attr, Dim, Header, NcVar};
 pub use kind::Kind;
 pub use list::{Bytes, List};
 pub use shared::Arc;
+pub use units::{Units, UnitsFault};
