@@ -2,10 +2,18 @@
 #![tactic(auto)]
 
 mod calendar;
+mod date;
 mod form;
 mod mark;
+mod number;
+mod scanner;
+mod time;
+mod unit;
+mod units;
 
+pub use fm_base::{Units, UnitsFault};
 pub use mark::read_mark;
+pub use units::read_units;
 
 #[cfg(test)]
 mod tests;

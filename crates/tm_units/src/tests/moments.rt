@@ -1,4 +1,4 @@
-//! Texts with the seconds that GNU `date` gives for them.
+//! Moments in names and texts, with the seconds that GNU `date` gives for them.
 
 use crate::read_mark;
 
