@@ -2,6 +2,7 @@ pub mod Calendar
 pub mod Field
 pub mod Format
 pub mod Input
+pub mod Instant
 pub mod Kind
 pub mod Layout
 pub mod Reading
