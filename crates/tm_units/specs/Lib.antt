@@ -1,4 +1,6 @@
+pub mod Parts
 pub use Rattle.fm_base.specs.Calendar
+pub use Rattle.fm_base.specs.Instant
 pub use Rattle.fm_base.specs.Stamp
 pub use Rattle.fm_base.specs.Units
 pub use Rattle.fm_base.specs.UnitsReading

@@ -4,6 +4,7 @@
 mod calendar;
 mod date;
 mod form;
+mod instant;
 mod mark;
 mod number;
 mod scanner;
@@ -12,6 +13,7 @@ mod unit;
 mod units;
 
 pub use fm_base::{Units, UnitsFault};
+pub use instant::{instant_text, read_instant};
 pub use mark::read_mark;
 pub use units::read_units;
 
