@@ -62,7 +62,7 @@ day_of-days_from_civil y m d small civil = rw (month_of-days_from_civil y m d sm
     let gap = abs-gap (days_from_civil (pos y) m d -ℤ days_from_civil (pos y) m 1) (d - 1) (omega (arith, signed_arith, days_from_civil-day_count, day_count-day (pos y) m d 1 low (omega arith))) in
     omega (arith, gap))
 
-first_count : day_count (pos 0) 1 1 ≡ 3_652_425
+pub first_count : day_count (pos 0) 1 1 ≡ 3_652_425
 first_count = day_count-early (pos 0) 9999 1 1 refl (omega arith) (omega arith) (omega arith)
 
 -- no date from 0000-01-01 on has a negative year

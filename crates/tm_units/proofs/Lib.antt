@@ -1,2 +1,5 @@
 pub mod DayLemmas
 pub mod FormLemmas
+pub mod InstantLemmas
+pub mod DayExists
+pub mod InstantLaws

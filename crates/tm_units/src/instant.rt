@@ -15,8 +15,19 @@ const SECONDS_PER_DAY: i64 = 86_400;
 
 /// The instant of a text `YYYY-MM-DDThh:mm:ssZ`, as Unix seconds. `None` exactly where the text isn't of that form, with
 /// a date that exists, an hour below 24, and minutes and seconds below 60.
-#[tactic(auto, unfolding(fm_base::specs::Instant::instant_of, fm_base::specs::Instant::instant_form))]
+#[tactic(auto, using(crate::proofs::InstantLaws::instants))]
 pub fn read_instant(text: &[u8]) -> Option<i64>
+    ensures value { result ≡ spec.instant_of text.now }
+
+    // No other text is read as this instant.
+    ensures written { IfSome result (λ t. text.now ≡ spec.instant_text_of t) }
+    ensures year { IfSome result (λ t. spec.HasFourDigitYear t) }
+{
+    moment_in(text)
+}
+
+#[tactic(auto, unfolding(fm_base::specs::Instant::instant_of, fm_base::specs::Instant::instant_form))]
+fn moment_in(text: &[u8]) -> Option<i64>
     ensures { result ≡ spec.instant_of text.now }
 {
     if !begins_in_form(b"0000-00-00T00:00:00Z", text) || text.len() != 20 {
@@ -100,11 +111,14 @@ fn text_of_day(day: i64, seconds: u32) -> [u8; 20]
 
 /// Writes an instant of the years 0 to 9999, given as Unix seconds, as `YYYY-MM-DDThh:mm:ssZ` at the end of `out`. An
 /// `Err` changes nothing.
-#[tactic(auto, unfolding(fm_base::specs::Instant::instant_text_of))]
+#[tactic(auto, using(crate::proofs::InstantLaws::instants), unfolding(fm_base::specs::Instant::instant_text_of))]
 pub fn instant_text(_alloc: Global, t: i64, out: &mut Bytes) -> Result<(), NoMemory>
     requires { spec.HasFourDigitYear t }
     ensures ok { OnOk result (out.new ≡ out.old ++ spec.instant_text_of t) }
     ensures err { OnErr result (out.new ≡ out.old) }
+
+    // What is written is read as this instant.
+    ensures read { spec.instant_of (spec.instant_text_of t) ≡ Some t }
 {
     let seconds = t.rem_euclid(SECONDS_PER_DAY) as u32;
     let text = text_of_day(t.div_euclid(SECONDS_PER_DAY), seconds);
