@@ -10,3 +10,4 @@ pub mod Spelling
 pub mod Stamp
 pub mod Units
 pub mod UnitsReading
+pub mod UnitsSpelling

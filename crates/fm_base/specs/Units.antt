@@ -2,9 +2,10 @@
 use Rattle.std.specs.Prelude.{◌≡◌, ℕ, List, codes, Bool, true, false, not, ◌&&◌, ◌||◌, if◌then◌else◌, Option, Some, None, Result, Ok, Err, ℤ, pos, int_lt}
 use Rattle.fm_base.specs.declared.units.Units.{Units}
 use Rattle.fm_base.specs.declared.units.UnitsFault.{UnitsFault}
-use Rattle.fm_base.specs.declared.units.UnitsFault.TheVariants.{Calendar, MixedCalendar}
+use Rattle.fm_base.specs.declared.units.UnitsFault.TheVariants.{BadUnits, Calendar, MixedCalendar}
 use Rattle.jiff_core.specs.Calendar.{days_from_civil}
 use Rattle.fm_base.specs.Calendar.{unix_seconds}
+use Rattle.fm_base.specs.UnitsSpelling.{SpellsUnits}
 use Rattle.fm_base.specs.UnitsReading.{Written, is_same_word, written_or_fault}
 
 -- whether the Gregorian calendar holds at every date
@@ -32,3 +33,11 @@ result_and_then (Err fault) f = Err fault
 -- the units of a text in a calendar, or the first fault
 unfoldable pub units_of : List ℕ → Option (List ℕ) → Result Units UnitsFault
 units_of text calendar = result_and_then (written_or_fault text) (in_calendar calendar)
+
+-- what an answer says of a text and a calendar: units are those that the text spells, a text with a bad place spells
+-- none, and a calendar is only refused beside a text that spells units
+abbrev pub Settles : List ℕ → Option (List ℕ) → Result Units UnitsFault → Type 0
+Settles text calendar (Ok units) = (written : Written) × SpellsUnits text written × (in_calendar calendar written ≡ Ok units)
+Settles text calendar (Err (BadUnits place)) = (written : Written) → ¬ SpellsUnits text written
+Settles text calendar (Err Calendar) = (written : Written) × SpellsUnits text written × (is_gregorian calendar ≡ false)
+Settles text calendar (Err MixedCalendar) = (written : Written) × SpellsUnits text written × (is_proleptic calendar ≡ false) × (is_before_gregorian written.day ≡ true)

@@ -1,6 +1,6 @@
 -- Reading units of time from left to right, with the place of the first fault. A number is the longest run of digits at
 -- its place, up to its most digits, and is tested whatever follows it. A unit word is the longest run of letters.
-use Rattle.std.specs.Prelude.{◌≡◌, ℕ, ◌+◌, List, [], ◌∷◌, length, take, drop, codes, slice_get, Bool, true, false, not, ◌&&◌, ◌||◌, ◌==◌, nat_lt, if◌then◌else◌, Option, Some, None, Result, Ok, Err, ℤ, pos, neg_ℤ, ◌-ℤ◌}
+use Rattle.std.specs.Prelude.{ℕ, ◌+◌, List, [], ◌∷◌, length, take, drop, codes, slice_get, Bool, true, false, not, ◌&&◌, ◌||◌, ◌==◌, nat_lt, if◌then◌else◌, Option, Some, None, Result, Ok, Err, ℤ, pos, neg_ℤ, ◌-ℤ◌}
 use Rattle.std.specs.Char.{is_ascii_alphabetic, is_ascii_digit, eq_ignore_ascii_case}
 use Rattle.std.specs.List.{prefix_len}
 use Rattle.std.specs.Option.{option_map_or}
@@ -11,16 +11,16 @@ use Rattle.fm_base.specs.Calendar.{day_number, time_seconds}
 use Rattle.fm_base.specs.Input.{Input, whole}
 use Rattle.fm_base.specs.Stamp.{number_of}
 
--- what reading a part gives: its value and the input after it, or the first fault
+-- what reading a part gives: its value and the input after it, or the place at which the text goes wrong
 abbrev pub Outcome : Type 0 → Type 0
-Outcome A = Result (A × Input) UnitsFault
+Outcome A = Result (A × Input) ℕ
 
 abbrev pub Parser : Type 0 → Type 0
 Parser A = Input → Outcome A
 
 abbrev pub and_then : {A B : Type 0} → Outcome A → (A → Parser B) → Outcome B
 and_then (Ok p) f = f p.0 p.1
-and_then (Err fault) f = Err fault
+and_then (Err at) f = Err at
 
 infixl 10 ◌>>=◌
 abbrev pub ◌>>=◌ : {A B : Type 0} → Parser A → (A → Parser B) → Parser B
@@ -32,7 +32,7 @@ pure value = λ i. Ok (value, i)
 
 -- the text goes wrong at this place
 abbrev pub refuse : {A : Type 0} → ℕ → Parser A
-refuse at = λ i. Err (BadUnits at)
+refuse at = λ i. Err at
 
 -- a part that is told its place
 abbrev pub located : {A : Type 0} → (ℕ → Parser A) → Parser A
@@ -40,7 +40,7 @@ located f = λ i. f i.at i
 
 -- the value, unless the test passes
 abbrev pub unless : {A : Type 0} → Bool → ℕ → A → Parser A
-unless bad at value = λ i. if bad then Err (BadUnits at) else Ok (value, i)
+unless bad at value = λ i. if bad then Err at else Ok (value, i)
 
 -- the value that was found
 abbrev pub known : {A : Type 0} → ℕ → Option A → Parser A
@@ -69,15 +69,15 @@ has_ended i = length i.rest == 0
 
 -- the end of the text
 unfoldable pub end_at : Parser (Unit {0})
-end_at = λ i. if has_ended i then Ok (tt, i) else Err (BadUnits i.at)
+end_at = λ i. if has_ended i then Ok (tt, i) else Err i.at
 
 -- this byte
 unfoldable pub byte_at : ℕ → Parser (Unit {0})
-byte_at byte = λ i. if next_is byte i then Ok (tt, past 1 i) else Err (BadUnits i.at)
+byte_at byte = λ i. if next_is byte i then Ok (tt, past 1 i) else Err i.at
 
 -- this letter in either case
 unfoldable pub letter_at : ℕ → Parser (Unit {0})
-letter_at letter = λ i. if next_is_letter letter i then Ok (tt, past 1 i) else Err (BadUnits i.at)
+letter_at letter = λ i. if next_is_letter letter i then Ok (tt, past 1 i) else Err i.at
 
 -- these letters in either case
 abbrev pub letters_at : List ℕ → Parser (Unit {0})
@@ -183,7 +183,7 @@ clock_at = time_at >>= λ time. last_zone_at >>= λ zone. pure (pos time -ℤ zo
 
 -- what follows a date up to the end of the text, which is midnight in UTC where there is no time
 unfoldable pub after_date_at : Parser ℤ
-after_date_at = λ i. if next_is_letter 116 i then (letter_at 116 >>= λ t. clock_at) i else (spaces_at >>= λ gap. λ j. if has_ended j then Ok (pos 0, j) else (if gap == 0 then Err (BadUnits j.at) else clock_at j)) i
+after_date_at = λ i. if next_is_letter 116 i then (letter_at 116 >>= λ t. clock_at) i else (spaces_at >>= λ gap. λ j. if has_ended j then Ok (pos 0, j) else (if gap == 0 then Err j.at else clock_at j)) i
 
 -- the seconds of the unit, the day number of the date, and the seconds from the midnight in UTC that begins that date to
 -- the origin
@@ -207,13 +207,8 @@ units_at = do
 -- the value that was read, without what is left
 abbrev pub value_of : {A : Type 0} → Outcome A → Result A UnitsFault
 value_of (Ok p) = Ok p.0
-value_of (Err fault) = Err fault
+value_of (Err at) = Err (BadUnits at)
 
--- what a text says, or its first fault
+-- what a text says, or the place at which it goes wrong
 unfoldable pub written_or_fault : List ℕ → Result Written UnitsFault
 written_or_fault text = value_of (units_at (whole text))
-
--- what a reader returned is what reading gives
-abbrev pub Reads : {X Y : Type 0} → (X → Y) → Outcome Y → Result X UnitsFault → Input → Type 0
-Reads view outcome (Ok x) new = outcome ≡ Ok (view x, new)
-Reads view outcome (Err fault) new = outcome ≡ Err fault
