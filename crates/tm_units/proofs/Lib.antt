@@ -3,3 +3,10 @@ pub mod FormLemmas
 pub mod InstantLemmas
 pub mod DayExists
 pub mod InstantLaws
+pub mod UnitsExact
+pub mod UnitsRuns
+pub mod UnitsNumbers
+pub mod UnitsParts
+pub mod UnitsZones
+pub mod UnitsEnds
+pub mod UnitsLaws

@@ -1,12 +1,11 @@
 //! The date of an origin.
 ghost use Rattle.std.specs.Prelude.{◌≡◌};
 ghost use Rattle.fm_base.specs.UnitsReading as spec;
-ghost use Rattle.fm_base.specs.UnitsReading.{Reads};
+ghost use Rattle.tm_units.specs.Scanning.{Reads};
 
 use crate::calendar::day_number;
 use crate::number::{Digits, number};
-use crate::scanner::Scanner;
-use fm_base::UnitsFault;
+use crate::scanner::{BadPlace, Scanner};
 
 const YEAR: Digits = Digits {
     fewest: 1,
@@ -31,7 +30,7 @@ const DAY: Digits = Digits {
 
 /// Reads a date as its day number.
 #[tactic(auto, unfolding(fm_base::specs::UnitsReading::date_at))]
-pub(crate) fn date(scanner: &mut Scanner<'_>) -> Result<i32, UnitsFault>
+pub(crate) fn date(scanner: &mut Scanner<'_>) -> Result<i32, BadPlace>
     ensures { Reads (λ day. day) (spec.date_at scanner.old) result scanner.new }
 {
     let year = number(scanner, YEAR)?;
@@ -40,5 +39,5 @@ pub(crate) fn date(scanner: &mut Scanner<'_>) -> Result<i32, UnitsFault>
     scanner.byte(b'-')?;
     let place = scanner.at();
     let day = number(scanner, DAY)?;
-    day_number(year, month, day).ok_or(UnitsFault::BadUnits(place))
+    day_number(year, month, day).ok_or(BadPlace { at: place })
 }

@@ -4,10 +4,15 @@ ghost use Rattle.std.specs.Char.{is_ascii_digit, is_ascii_alphabetic, eq_ignore_
 ghost use Rattle.std.specs.List.{prefix_len};
 ghost use Rattle.fm_base.specs.Input.{whole};
 ghost use Rattle.fm_base.specs.UnitsReading as spec;
-ghost use Rattle.fm_base.specs.UnitsReading.{Reads};
+ghost use Rattle.tm_units.specs.Scanning.{Reads};
 
-use fm_base::UnitsFault;
 use std::marker::Model;
+
+/// The text goes wrong at this place.
+#[derive(Clone, Copy)]
+pub(crate) struct BadPlace {
+    pub(crate) at: u64,
+}
 
 /// The bytes of a text that are left, and the place of the first.
 #[derive(Drop)]
@@ -129,23 +134,23 @@ impl<'a> Scanner<'a> {
 
     /// Passes over the end of the text.
     #[tactic(auto, unfolding(fm_base::specs::UnitsReading::end_at))]
-    pub(crate) fn end(&mut self) -> Result<(), UnitsFault>
+    pub(crate) fn end(&mut self) -> Result<(), BadPlace>
         ensures { Reads (λ u. u) (spec.end_at self.old) result self.new }
     {
         if self.has_ended() {
             Ok(())
         } else {
-            Err(UnitsFault::BadUnits(self.at))
+            Err(BadPlace { at: self.at })
         }
     }
 
     /// Passes over this byte.
     #[tactic(auto, unfolding(fm_base::specs::UnitsReading::byte_at))]
-    pub(crate) fn byte(&mut self, byte: u8) -> Result<(), UnitsFault>
+    pub(crate) fn byte(&mut self, byte: u8) -> Result<(), BadPlace>
         ensures { Reads (λ u. u) (spec.byte_at byte self.old) result self.new }
     {
         if !self.next_is(byte) {
-            return Err(UnitsFault::BadUnits(self.at));
+            return Err(BadPlace { at: self.at });
         }
         self.take(1);
         Ok(())
@@ -153,11 +158,11 @@ impl<'a> Scanner<'a> {
 
     /// Passes over this letter in either case.
     #[tactic(auto, unfolding(fm_base::specs::UnitsReading::letter_at))]
-    pub(crate) fn letter(&mut self, letter: u8) -> Result<(), UnitsFault>
+    pub(crate) fn letter(&mut self, letter: u8) -> Result<(), BadPlace>
         ensures { Reads (λ u. u) (spec.letter_at letter self.old) result self.new }
     {
         if !self.next_is_letter(letter) {
-            return Err(UnitsFault::BadUnits(self.at));
+            return Err(BadPlace { at: self.at });
         }
         self.take(1);
         Ok(())
@@ -175,12 +180,12 @@ impl<'a> Scanner<'a> {
 
     /// The same, where it stands there at least once.
     #[tactic(auto, unfolding(fm_base::specs::UnitsReading::some_at))]
-    pub(crate) fn some(&mut self, byte: u8) -> Result<usize, UnitsFault>
+    pub(crate) fn some(&mut self, byte: u8) -> Result<usize, BadPlace>
         ensures { Reads (λ n. n) (spec.some_at byte self.old) result self.new }
     {
         let count = self.many(byte);
         if count == 0 {
-            return Err(UnitsFault::BadUnits(self.at));
+            return Err(BadPlace { at: self.at });
         }
         Ok(count)
     }

@@ -2,11 +2,10 @@
 ghost use Rattle.std.specs.Prelude.{◌≡◌, ◌<◌, ◌≤◌, IfOk};
 ghost use Rattle.jiff_core.specs.Calendar.{IsWithin};
 ghost use Rattle.fm_base.specs.UnitsReading as spec;
-ghost use Rattle.fm_base.specs.UnitsReading.{Reads};
+ghost use Rattle.tm_units.specs.Scanning.{Reads};
 
 use crate::number::{Digits, letters, number};
-use crate::scanner::Scanner;
-use fm_base::UnitsFault;
+use crate::scanner::{BadPlace, Scanner};
 
 const HOUR: Digits = Digits {
     fewest: 1,
@@ -31,7 +30,7 @@ const MINUTE_OF_ZONE: Digits = Digits {
 
 /// Passes over a point and zeros, where there is a point.
 #[tactic(auto, unfolding(fm_base::specs::UnitsReading::fraction_at))]
-fn fraction(scanner: &mut Scanner<'_>) -> Result<usize, UnitsFault>
+fn fraction(scanner: &mut Scanner<'_>) -> Result<usize, BadPlace>
     ensures { Reads (λ n. n) (spec.fraction_at scanner.old) result scanner.new }
 {
     if !scanner.next_is(b'.') {
@@ -43,7 +42,7 @@ fn fraction(scanner: &mut Scanner<'_>) -> Result<usize, UnitsFault>
 
 /// Reads the second of a time, 0 where it is left out.
 #[tactic(auto, unfolding(fm_base::specs::UnitsReading::second_at))]
-fn second(scanner: &mut Scanner<'_>) -> Result<u32, UnitsFault>
+fn second(scanner: &mut Scanner<'_>) -> Result<u32, BadPlace>
     ensures read { Reads (λ n. n) (spec.second_at scanner.old) result scanner.new }
     ensures range { IfOk result (λ n. n ≤ 59) }
 {
@@ -58,7 +57,7 @@ fn second(scanner: &mut Scanner<'_>) -> Result<u32, UnitsFault>
 
 /// Reads a time of day as the seconds from midnight.
 #[tactic(auto, unfolding(fm_base::specs::UnitsReading::time_at))]
-fn time(scanner: &mut Scanner<'_>) -> Result<u32, UnitsFault>
+fn time(scanner: &mut Scanner<'_>) -> Result<u32, BadPlace>
     ensures read { Reads (λ n. n) (spec.time_at scanner.old) result scanner.new }
     ensures range { IfOk result (λ n. n < 86_400) }
 {
@@ -71,7 +70,7 @@ fn time(scanner: &mut Scanner<'_>) -> Result<u32, UnitsFault>
 
 /// Reads the minutes of a zone, 0 where they are left out.
 #[tactic(auto, unfolding(fm_base::specs::UnitsReading::zone_minute_at))]
-fn zone_minute(scanner: &mut Scanner<'_>) -> Result<u32, UnitsFault>
+fn zone_minute(scanner: &mut Scanner<'_>) -> Result<u32, BadPlace>
     ensures read { Reads (λ n. n) (spec.zone_minute_at scanner.old) result scanner.new }
     ensures range { IfOk result (λ n. n ≤ 59) }
 {
@@ -84,7 +83,7 @@ fn zone_minute(scanner: &mut Scanner<'_>) -> Result<u32, UnitsFault>
 
 /// Reads the hours and minutes of a zone as seconds.
 #[tactic(auto, unfolding(fm_base::specs::UnitsReading::distance_at))]
-fn distance(scanner: &mut Scanner<'_>) -> Result<u32, UnitsFault>
+fn distance(scanner: &mut Scanner<'_>) -> Result<u32, BadPlace>
     ensures read { Reads (λ n. n) (spec.distance_at scanner.old) result scanner.new }
     ensures range { IfOk result (λ n. n < 86_400) }
 {
@@ -95,7 +94,7 @@ fn distance(scanner: &mut Scanner<'_>) -> Result<u32, UnitsFault>
 
 /// Reads a zone as the seconds by which its clocks are ahead of UTC.
 #[tactic(auto, unfolding(fm_base::specs::UnitsReading::zone_at))]
-fn zone(scanner: &mut Scanner<'_>) -> Result<i32, UnitsFault>
+fn zone(scanner: &mut Scanner<'_>) -> Result<i32, BadPlace>
     ensures read { Reads (λ n. n) (spec.zone_at scanner.old) result scanner.new }
     ensures range { IfOk result (λ z. IsWithin 86_399 z) }
 {
@@ -117,7 +116,7 @@ fn zone(scanner: &mut Scanner<'_>) -> Result<i32, UnitsFault>
 
 /// Reads a zone up to the end of the text, UTC where it is left out.
 #[tactic(auto, unfolding(fm_base::specs::UnitsReading::last_zone_at))]
-fn last_zone(scanner: &mut Scanner<'_>) -> Result<i32, UnitsFault>
+fn last_zone(scanner: &mut Scanner<'_>) -> Result<i32, BadPlace>
     ensures read { Reads (λ n. n) (spec.last_zone_at scanner.old) result scanner.new }
     ensures range { IfOk result (λ z. IsWithin 86_399 z) }
 {
@@ -133,7 +132,7 @@ fn last_zone(scanner: &mut Scanner<'_>) -> Result<i32, UnitsFault>
 
 /// Reads a time and its zone up to the end of the text, as the seconds from the midnight in UTC that begins its date.
 #[tactic(auto, unfolding(fm_base::specs::UnitsReading::clock_at))]
-fn clock(scanner: &mut Scanner<'_>) -> Result<i32, UnitsFault>
+fn clock(scanner: &mut Scanner<'_>) -> Result<i32, BadPlace>
     ensures { Reads (λ n. n) (spec.clock_at scanner.old) result scanner.new }
 {
     let time = time(scanner)?;
@@ -143,7 +142,7 @@ fn clock(scanner: &mut Scanner<'_>) -> Result<i32, UnitsFault>
 
 /// Reads what follows a date up to the end of the text, which is midnight in UTC where there is no time.
 #[tactic(auto, unfolding(fm_base::specs::UnitsReading::after_date_at))]
-pub(crate) fn after_date(scanner: &mut Scanner<'_>) -> Result<i32, UnitsFault>
+pub(crate) fn after_date(scanner: &mut Scanner<'_>) -> Result<i32, BadPlace>
     ensures { Reads (λ n. n) (spec.after_date_at scanner.old) result scanner.new }
 {
     if scanner.next_is_letter(b't') {
@@ -155,7 +154,7 @@ pub(crate) fn after_date(scanner: &mut Scanner<'_>) -> Result<i32, UnitsFault>
         return Ok(0);
     }
     if gap == 0 {
-        return Err(UnitsFault::BadUnits(scanner.at()));
+        return Err(BadPlace { at: scanner.at() });
     }
     clock(scanner)
 }

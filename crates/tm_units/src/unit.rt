@@ -1,10 +1,9 @@
 //! The words for units of time.
 ghost use Rattle.std.specs.Prelude.{◌≡◌};
 ghost use Rattle.fm_base.specs.UnitsReading as spec;
-ghost use Rattle.fm_base.specs.UnitsReading.{Reads};
+ghost use Rattle.tm_units.specs.Scanning.{Reads};
 
-use crate::scanner::Scanner;
-use fm_base::UnitsFault;
+use crate::scanner::{BadPlace, Scanner};
 
 /// Whether two words are the same but for the case of their letters.
 #[tactic(auto, unfolding(fm_base::specs::UnitsReading::is_same_word))]
@@ -73,10 +72,10 @@ fn seconds_per(word: &[u8]) -> Option<u32>
 
 /// Reads the word of a unit, which is the longest run of letters.
 #[tactic(auto, unfolding(fm_base::specs::UnitsReading::unit_at))]
-pub(crate) fn unit(scanner: &mut Scanner<'_>) -> Result<u32, UnitsFault>
+pub(crate) fn unit(scanner: &mut Scanner<'_>) -> Result<u32, BadPlace>
     ensures { Reads (λ n. n) (spec.unit_at scanner.old) result scanner.new }
 {
     let place = scanner.at();
     let word = scanner.letters();
-    seconds_per(word).ok_or(UnitsFault::BadUnits(place))
+    seconds_per(word).ok_or(BadPlace { at: place })
 }

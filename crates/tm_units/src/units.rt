@@ -1,11 +1,13 @@
 //! The `units` and `calendar` attributes of a time variable.
 ghost use Rattle.std.specs.Prelude.{◌≡◌, option_map, option_copied};
 ghost use Rattle.fm_base.specs.Units as spec;
-ghost use Rattle.fm_base.specs.UnitsReading.{Reads, units_at, written_or_fault};
+ghost use Rattle.fm_base.specs.UnitsReading.{units_at};
+ghost use Rattle.fm_base.specs.UnitsSpelling.{SpellsUnits};
+ghost use Rattle.tm_units.specs.Scanning.{Reads};
 
 use crate::date::date;
 use crate::number::letters;
-use crate::scanner::Scanner;
+use crate::scanner::{BadPlace, Scanner};
 use crate::time::after_date;
 use crate::unit::{is_same_word, unit};
 use fm_base::{Units, UnitsFault};
@@ -23,7 +25,7 @@ struct Written {
 }
 
 #[tactic(auto, unfolding(fm_base::specs::UnitsReading::units_at))]
-fn read_written(scanner: &mut Scanner<'_>) -> Result<Written, UnitsFault>
+fn read_written(scanner: &mut Scanner<'_>) -> Result<Written, BadPlace>
     ensures { Reads (λ w. record { per = w.per; day = w.day; seconds = w.seconds })
         (units_at scanner.old) result scanner.new }
 {
@@ -87,11 +89,28 @@ fn in_calendar(written: Written, calendar: Option<&[u8]>) -> Result<Units, Units
     })
 }
 
-/// The units that the text of a `units` attribute names, with the text of the `calendar` attribute beside it.
+/// The units of a text in a calendar.
 #[tactic(auto, unfolding(fm_base::specs::Units::units_of, fm_base::specs::UnitsReading::written_or_fault))]
-pub fn read_units(text: &[u8], calendar: Option<&[u8]>) -> Result<Units, UnitsFault>
+fn units_of(text: &[u8], calendar: Option<&[u8]>) -> Result<Units, UnitsFault>
     ensures { result ≡ spec.units_of text.now (option_map (λ text. text.now) calendar.entry) }
 {
-    let written = read_written(&mut Scanner::new(text))?;
-    in_calendar(written, calendar)
+    match read_written(&mut Scanner::new(text)) {
+        Ok(written) => in_calendar(written, calendar),
+        Err(bad) => Err(UnitsFault::BadUnits(bad.at)),
+    }
+}
+
+/// The units that the text of a `units` attribute names, with the text of the `calendar` attribute beside it.
+#[tactic(auto, using(crate::proofs::UnitsLaws::units_laws))]
+pub fn read_units(text: &[u8], calendar: Option<&[u8]>) -> Result<Units, UnitsFault>
+    ensures value { result ≡ spec.units_of text.now (option_map (λ text. text.now) calendar.entry) }
+
+    // What is read is spelled so, and what is refused isn't spelled or has another calendar.
+    ensures settled { spec.Settles text.now (option_map (λ text. text.now) calendar.entry) result }
+
+    // What is spelled is read, so a text spells one reading at most.
+    ensures spelled { (written : _) → SpellsUnits text.now written
+        → result ≡ spec.in_calendar (option_map (λ text. text.now) calendar.entry) written }
+{
+    units_of(text, calendar)
 }
