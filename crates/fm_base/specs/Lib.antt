@@ -9,5 +9,6 @@ pub mod Reading
 pub mod Spelling
 pub mod Stamp
 pub mod Units
+pub mod UnitsFaults
 pub mod UnitsReading
 pub mod UnitsSpelling

@@ -5,6 +5,7 @@ use Rattle.fm_base.specs.declared.units.UnitsFault.{UnitsFault}
 use Rattle.fm_base.specs.declared.units.UnitsFault.TheVariants.{BadUnits, Calendar, MixedCalendar}
 use Rattle.jiff_core.specs.Calendar.{days_from_civil}
 use Rattle.fm_base.specs.Calendar.{unix_seconds}
+use Rattle.fm_base.specs.UnitsFaults.{GoesWrong}
 use Rattle.fm_base.specs.UnitsSpelling.{SpellsUnits}
 use Rattle.fm_base.specs.UnitsReading.{Written, is_same_word, written_or_fault}
 
@@ -34,10 +35,10 @@ result_and_then (Err fault) f = Err fault
 unfoldable pub units_of : List ℕ → Option (List ℕ) → Result Units UnitsFault
 units_of text calendar = result_and_then (written_or_fault text) (in_calendar calendar)
 
--- what an answer says of a text and a calendar: units are those that the text spells, a text with a bad place spells
--- none, and a calendar is only refused beside a text that spells units
+-- what an answer says of a text and a calendar: units are those that the text spells; a text with a bad place spells
+-- none, and goes wrong there; and a calendar is refused only beside a text that spells units
 abbrev pub Settles : List ℕ → Option (List ℕ) → Result Units UnitsFault → Type 0
 Settles text calendar (Ok units) = (written : Written) × SpellsUnits text written × (in_calendar calendar written ≡ Ok units)
-Settles text calendar (Err (BadUnits place)) = (written : Written) → ¬ SpellsUnits text written
+Settles text calendar (Err (BadUnits place)) = GoesWrong place text × ((written : Written) → ¬ SpellsUnits text written)
 Settles text calendar (Err Calendar) = (written : Written) × SpellsUnits text written × (is_gregorian calendar ≡ false)
 Settles text calendar (Err MixedCalendar) = (written : Written) × SpellsUnits text written × (is_proleptic calendar ≡ false) × (is_before_gregorian written.day ≡ true)
