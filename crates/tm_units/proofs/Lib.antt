@@ -10,3 +10,11 @@ pub mod UnitsParts
 pub mod UnitsZones
 pub mod UnitsEnds
 pub mod UnitsLaws
+pub mod UnitsReadings
+pub mod UnitsLocal
+pub mod UnitsLocalRuns
+pub mod UnitsLocalNumbers
+pub mod UnitsPlaces
+pub mod UnitsBegun
+pub mod UnitsBegunParts
+pub mod UnitsBegunEnds

@@ -19,10 +19,10 @@ spaces_end zero text rest may is = subst (λ (l : List ℕ). EndsTime (l ++ rest
 spaces_end (suc count) text rest may is = subst (λ (l : List ℕ). EndsTime (l ++ rest)) (sym is) (plain_ends 32 (32 ∷ (replicate count 32 ++ rest)) (replicate count 32 ++ rest) refl (record { digit = refl; zero_byte = refl; colon = refl; point = refl }))
 
 -- a zone, the spaces after it, and the end
-abbrev ToEnd : List ℕ → ℤ → Type 0
+abbrev pub ToEnd : List ℕ → ℤ → Type 0
 ToEnd = Then SpellsZone (λ zone. Then (Repeats 32) (λ gap. Then IsEnd (λ u. Is zone)))
 
-abbrev TheLast : List ℕ → ℤ → Type 0
+abbrev pub TheLast : List ℕ → ℤ → Type 0
 TheLast = Then (Repeats 32) (λ gap. Optional (pos 0) ToEnd)
 
 -- what begins with no space
@@ -41,7 +41,7 @@ last_stops back rest zone (inr s) end =
 begins_goes_on : (text more : List ℕ) → Starts text → GoesOn (text ++ more)
 begins_goes_on text more s = subst (λ (l : List ℕ). GoesOn (l ++ more)) (sym s.begins.text_is) (eqb-suc-zero (length (s.begins.more ++ more)))
 
-Exact-to_end : Exact ToEnd AtEnd (zone_at >>= λ zone. spaces_at >>= λ gap. end_at >>= λ end. pure zone)
+pub Exact-to_end : Exact ToEnd AtEnd (zone_at >>= λ zone. spaces_at >>= λ gap. end_at >>= λ end. pure zone)
 Exact-to_end =
     Exact-then {T = λ zone. Then (Repeats 32) (λ gap. Then IsEnd (λ u. Is zone))} {Q = AtEnd} Exact-zone
     (λ zone. Exact-then {T = λ gap. Then IsEnd (λ u. Is zone)} {Q = AtEnd} (Exact-many 32)
@@ -58,7 +58,7 @@ Exact-the_last =
     (λ gap. Exact-unless_ended {S = ToEnd} (pos 0) Exact-to_end (λ text zone s. subst GoesOn (sym s.text_is) (begins_goes_on s.front s.back (zone_starts s.front s.a (from_zone s.front s.a s.first)))))
     (λ a b back rest s may. last_stops back rest b s may)
 
-to_last : (text : List ℕ) (zone : ℤ) → TheLast text zone → SpellsLastZone text zone
+pub to_last : (text : List ℕ) (zone : ℤ) → TheLast text zone → SpellsLastZone text zone
 to_last text zone s = by_end s.second
   where
     by_end : Optional (pos 0) ToEnd s.back zone → SpellsLastZone text zone
@@ -113,31 +113,35 @@ last_zone_ends text rest zone (inr s) end =
     subst EndsTime (sym whole)
     (spaces_end s.front_is.count s.front (s.zone_text ++ more) (plain_ends first.byte (s.zone_text ++ more) (first.begins.more ++ more) (ap (λ (l : List ℕ). l ++ more) first.begins.text_is) first.plain) s.front_is.text_is)
 
-abbrev TheClock : List ℕ → ℤ → Type 0
+abbrev pub TheClock : List ℕ → ℤ → Type 0
 TheClock = Then SpellsTime (λ time. Then SpellsLastZone (λ zone. Is (pos time -ℤ zone)))
+
+pub to_clock : (text : List ℕ) (seconds : ℤ) → TheClock text seconds → SpellsClock text seconds
+to_clock text seconds s = record {
+  time_text = s.front;
+  zone_text = s.second.front;
+  time = s.a;
+  zone = s.second.a;
+  time_is = s.first;
+  zone_is = s.second.first;
+  seconds_is = s.second.second.value;
+  text_is = s.text_is ∙ ap (λ (l : List ℕ). s.front ++ l) (s.second.text_is ∙ ap (λ (l : List ℕ). s.second.front ++ l) s.second.second.text_is ∙ append-nil s.second.front);
+}
+
+from_clock : (text : List ℕ) (seconds : ℤ) → SpellsClock text seconds → TheClock text seconds
+from_clock text seconds s = record {
+  a = s.time;
+  front = s.time_text;
+  back = s.zone_text;
+  first = s.time_is;
+  second = record { a = s.zone; front = s.zone_text; back = []; first = s.zone_is; second = record { value = s.seconds_is; text_is = refl }; text_is = sym (append-nil s.zone_text) };
+  text_is = s.text_is;
+}
 
 pub Exact-clock : Exact SpellsClock AtEnd clock_at
 unfolding clock_at
 Exact-clock =
-    Exact-as
-    (λ text seconds s. record {
-      time_text = s.front;
-      zone_text = s.second.front;
-      time = s.a;
-      zone = s.second.a;
-      time_is = s.first;
-      zone_is = s.second.first;
-      seconds_is = s.second.second.value;
-      text_is = s.text_is ∙ ap (λ (l : List ℕ). s.front ++ l) (s.second.text_is ∙ ap (λ (l : List ℕ). s.second.front ++ l) s.second.second.text_is ∙ append-nil s.second.front);
-    })
-    (λ text seconds s. record {
-      a = s.time;
-      front = s.time_text;
-      back = s.zone_text;
-      first = s.time_is;
-      second = record { a = s.zone; front = s.zone_text; back = []; first = s.zone_is; second = record { value = s.seconds_is; text_is = refl }; text_is = sym (append-nil s.zone_text) };
-      text_is = s.text_is;
-    })
+    Exact-as to_clock from_clock
     (Exact-then {S = SpellsTime} {T = λ time. Then SpellsLastZone (λ zone. Is (pos time -ℤ zone))} {Q = AtEnd} Exact-time
     (λ time. Exact-then {T = λ zone. Is (pos time -ℤ zone)} {Q = AtEnd} Exact-last_zone (λ zone. Exact-before (λ rest may. tt) (Exact-pure (pos time -ℤ zone))) (λ a b back rest s may. after_nothing AtEnd back rest s.text_is may))
     (λ a b back rest s may.
@@ -176,13 +180,13 @@ clock_goes_on : (text : List ℕ) (seconds : ℤ) → SpellsClock text seconds �
 clock_goes_on text seconds s = let first = clock_begins text seconds s in subst GoesOn (sym first.begins.text_is) (eqb-suc-zero (length first.begins.more))
 
 -- spaces, and then the end or a time
-abbrev AfterGap : ℕ → List ℕ → ℤ → Type 0
+abbrev pub AfterGap : ℕ → List ℕ → ℤ → Type 0
 AfterGap gap = Optional (pos 0) (Allowed (gap == 0) SpellsClock)
 
-abbrev Spaced : List ℕ → ℤ → Type 0
+abbrev pub Spaced : List ℕ → ℤ → Type 0
 Spaced = Then (Repeats 32) AfterGap
 
-abbrev Marked : List ℕ → ℤ → Type 0
+abbrev pub Marked : List ℕ → ℤ → Type 0
 Marked = Then (IsLetter 116) (λ u. SpellsClock)
 
 after_gap_stops : (gap : ℕ) (back rest : List ℕ) (seconds : ℤ) → AfterGap gap back seconds → AtEnd rest → Stops (λ other. other == 32) (back ++ rest)
@@ -216,7 +220,7 @@ Exact-the_after =
     (λ a b back rest s may. after_gap_stops a back rest b s may))
     marked_is spaced_is_not)
 
-to_after : (text : List ℕ) (seconds : ℤ) → Marked text seconds ⊎ Spaced text seconds → SpellsAfterDate text seconds
+pub to_after : (text : List ℕ) (seconds : ℤ) → Marked text seconds ⊎ Spaced text seconds → SpellsAfterDate text seconds
 to_after text seconds (inl s) = inr (record {
   break = s.front;
   clock_text = s.back;

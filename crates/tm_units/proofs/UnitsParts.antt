@@ -23,10 +23,10 @@ pub Exact-after : {A : Type 0} {S : List ℕ → A → Type 0} {P : List ℕ →
 Exact-after byte ep = Exact-then (Exact-byte byte) (λ u. ep) (λ a b back rest s may. tt)
 
 -- the day of a date, after its year and month
-abbrev TheDay : ℕ → ℕ → List ℕ → ℤ → Type 0
+abbrev pub TheDay : ℕ → ℕ → List ℕ → ℤ → Type 0
 TheDay year month = Then (SpellsNumber 1 2 0 99) (λ day. Finds (day_number year month day))
 
-Exact-the_day : (year month : ℕ) → Exact (TheDay year month) (Stops is_ascii_digit) (located (λ at. number_at 1 2 0 99 >>= λ day. known at (day_number year month day)))
+pub Exact-the_day : (year month : ℕ) → Exact (TheDay year month) (Stops is_ascii_digit) (located (λ at. number_at 1 2 0 99 >>= λ day. known at (day_number year month day)))
 Exact-the_day year month =
     Exact-located (λ at.
     Exact-then {T = λ day. Finds (day_number year month day)} {Q = Stops is_ascii_digit} (Exact-number 1 2 0 99)
@@ -34,13 +34,13 @@ Exact-the_day year month =
     (λ a b back rest s may. after_nothing (Stops is_ascii_digit) back rest s.text_is may))
 
 -- the month of a date, after its year
-abbrev TheMonth : ℕ → List ℕ → ℤ → Type 0
+abbrev pub TheMonth : ℕ → List ℕ → ℤ → Type 0
 TheMonth year = Then (SpellsNumber 1 2 1 12) (λ month. After 45 (TheDay year month))
 
-abbrev TheDate : List ℕ → ℤ → Type 0
+abbrev pub TheDate : List ℕ → ℤ → Type 0
 TheDate = Then (SpellsNumber 1 4 0 9999) (λ year. After 45 (TheMonth year))
 
-to_date : (text : List ℕ) (day : ℤ) → TheDate text day → SpellsDate text day
+pub to_date : (text : List ℕ) (day : ℤ) → TheDate text day → SpellsDate text day
 to_date text day s =
     let month = s.second.second in
     let the_day = month.second.second in
@@ -59,7 +59,7 @@ to_date text day s =
       text_is = s.text_is ∙ ap (λ (l : List ℕ). s.front ++ l) (s.second.text_is ∙ ap (λ (l : List ℕ). l ++ s.second.back) s.second.first ∙ ap (λ (l : List ℕ). 45 ∷ l) (month.text_is ∙ ap (λ (l : List ℕ). month.front ++ l) (month.second.text_is ∙ ap (λ (l : List ℕ). l ++ month.second.back) month.second.first ∙ ap (λ (l : List ℕ). 45 ∷ l) (the_day.text_is ∙ day_text))));
     }
 
-from_date : (text : List ℕ) (day : ℤ) → SpellsDate text day → TheDate text day
+pub from_date : (text : List ℕ) (day : ℤ) → SpellsDate text day → TheDate text day
 from_date text day s = record {
   a = s.year;
   front = s.year_text;
@@ -116,20 +116,20 @@ pub record EndsTime (rest : List ℕ) : Type 0 where
   pub point : Stops (λ other. other == 46) rest
 
 -- a point and zeros, by how many there are
-abbrev Zeros : List ℕ → ℕ → Type 0
+abbrev pub Zeros : List ℕ → ℕ → Type 0
 Zeros = Optional 0 (After 46 (RepeatsSome 48))
 
 -- a part after its first byte begins with it
 pub begins_after : {A : Type 0} {S : List ℕ → A → Type 0} (byte : ℕ) (text rest : List ℕ) (a : A) → After byte S text a → next_passes (λ other. other == byte) (input 0 (text ++ rest)) ≡ true
 begins_after byte text rest a s = subst (λ (l : List ℕ). next_passes (λ other. other == byte) (input 0 (l ++ rest)) ≡ true) (sym (s.text_is ∙ ap (λ (l : List ℕ). l ++ s.back) s.first)) (eq-eqb byte byte refl)
 
-Exact-fraction : Exact Zeros EndsTime fraction_at
+pub Exact-fraction : Exact Zeros EndsTime fraction_at
 unfolding fraction_at
 Exact-fraction =
     Exact-before (λ rest may. (may.point, may.zero_byte))
     (Exact-optional {S = After 46 (RepeatsSome 48)} (λ other. other == 46) 0 (Exact-after 46 (Exact-some 48)) (λ text rest a s. begins_after 46 text rest a s))
 
-to_fraction : (text : List ℕ) (zeros : ℕ) → Zeros text zeros → SpellsFraction text
+pub to_fraction : (text : List ℕ) (zeros : ℕ) → Zeros text zeros → SpellsFraction text
 to_fraction text zeros (inl none) = inl none.0
 to_fraction text zero (inr s) = let some = s.second.some in absurd cc
 to_fraction text (suc more) (inr s) = inr (more, s.text_is ∙ ap (λ (l : List ℕ). l ++ s.back) s.first ∙ ap (λ (l : List ℕ). 46 ∷ l) s.second.text_is)
@@ -144,10 +144,10 @@ fraction_stops text rest zeros (inl none) may = after_nothing (Stops is_ascii_di
 fraction_stops text rest zeros (inr s) may = stops_at is_ascii_digit 46 text s.back rest (s.text_is ∙ ap (λ (l : List ℕ). l ++ s.back) s.first) refl
 
 -- a second and its fraction
-abbrev TheSecond : List ℕ → ℕ → Type 0
+abbrev pub TheSecond : List ℕ → ℕ → Type 0
 TheSecond = Then (SpellsNumber 1 2 0 59) (λ second. Then Zeros (λ zeros. Is second))
 
-to_second : (text : List ℕ) (second : ℕ) → Optional 0 (After 58 TheSecond) text second → SpellsSecond text second
+pub to_second : (text : List ℕ) (second : ℕ) → Optional 0 (After 58 TheSecond) text second → SpellsSecond text second
 to_second text second (inl none) = inl none
 to_second text second (inr s) =
     let the_second = s.second in
@@ -181,7 +181,7 @@ from_second text second (inr s) =
       text_is = s.text_is;
     })
 
-Exact-second : Exact SpellsSecond EndsTime second_at
+pub Exact-second : Exact SpellsSecond EndsTime second_at
 unfolding second_at
 Exact-second =
     Exact-as to_second from_second
@@ -200,13 +200,13 @@ second_stops text rest second (inl none) may = after_nothing (Stops is_ascii_dig
 second_stops text rest second (inr s) may = stops_at is_ascii_digit 58 text (s.second_text ++ s.fraction_text) rest s.text_is refl
 
 -- a time of day, after its hour
-abbrev TheMinute : ℕ → List ℕ → ℕ → Type 0
+abbrev pub TheMinute : ℕ → List ℕ → ℕ → Type 0
 TheMinute hour = Then (SpellsNumber 1 2 0 59) (λ minute. Then SpellsSecond (λ second. Is (time_seconds hour minute second)))
 
-abbrev TheTime : List ℕ → ℕ → Type 0
+abbrev pub TheTime : List ℕ → ℕ → Type 0
 TheTime = Then (SpellsNumber 1 2 0 23) (λ hour. After 58 (TheMinute hour))
 
-to_time : (text : List ℕ) (seconds : ℕ) → TheTime text seconds → SpellsTime text seconds
+pub to_time : (text : List ℕ) (seconds : ℕ) → TheTime text seconds → SpellsTime text seconds
 to_time text seconds s =
     let minute = s.second.second in
     let second = minute.second in
@@ -260,7 +260,7 @@ Exact-time =
     subst (λ (l : List ℕ). Stops is_ascii_digit (l ++ rest)) (sym (s.text_is ∙ ap (λ (l : List ℕ). s.front ++ l) s.second.text_is ∙ append-nil s.front)) (second_stops s.front rest s.a s.first may))))
     (λ a b back rest s may. stops_at is_ascii_digit 58 back s.back rest (s.text_is ∙ ap (λ (l : List ℕ). l ++ s.back) s.first) refl))
 
-to_zone_minute : (text : List ℕ) (minute : ℕ) → Optional 0 (After 58 (SpellsNumber 2 2 0 59)) text minute → SpellsZoneMinute text minute
+pub to_zone_minute : (text : List ℕ) (minute : ℕ) → Optional 0 (After 58 (SpellsNumber 2 2 0 59)) text minute → SpellsZoneMinute text minute
 to_zone_minute text minute (inl none) = inl none
 to_zone_minute text minute (inr s) = inr (record { minute_text = s.back; minute_is = s.second; text_is = s.text_is ∙ ap (λ (l : List ℕ). l ++ s.back) s.first })
 
@@ -268,7 +268,7 @@ from_zone_minute : (text : List ℕ) (minute : ℕ) → SpellsZoneMinute text mi
 from_zone_minute text minute (inl none) = inl none
 from_zone_minute text minute (inr s) = inr (record { a = tt; front = 58 ∷ []; back = s.minute_text; first = refl; second = s.minute_is; text_is = s.text_is })
 
-Exact-zone_minute : Exact SpellsZoneMinute EndsTime zone_minute_at
+pub Exact-zone_minute : Exact SpellsZoneMinute EndsTime zone_minute_at
 unfolding zone_minute_at
 Exact-zone_minute =
     Exact-as to_zone_minute from_zone_minute
@@ -279,10 +279,10 @@ zone_minute_stops : (text rest : List ℕ) (minute : ℕ) → SpellsZoneMinute t
 zone_minute_stops text rest minute (inl none) may = after_nothing (Stops is_ascii_digit) text rest none.0 may.digit
 zone_minute_stops text rest minute (inr s) may = stops_at is_ascii_digit 58 text s.minute_text rest s.text_is refl
 
-abbrev TheDistance : List ℕ → ℕ → Type 0
+abbrev pub TheDistance : List ℕ → ℕ → Type 0
 TheDistance = Then (SpellsNumber 1 2 0 23) (λ hour. Then SpellsZoneMinute (λ minute. Is (time_seconds hour minute 0)))
 
-to_distance : (text : List ℕ) (seconds : ℕ) → TheDistance text seconds → SpellsDistance text seconds
+pub to_distance : (text : List ℕ) (seconds : ℕ) → TheDistance text seconds → SpellsDistance text seconds
 to_distance text seconds s = record {
   hour_text = s.front;
   minute_text = s.second.front;

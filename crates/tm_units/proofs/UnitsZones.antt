@@ -134,7 +134,7 @@ zulu_is_zulu text rest zone s =
     let first = begins_zulu text zone s in
     begins_test (λ other. eq_ignore_ascii_case other 122) first.byte true text rest first.begins first.same
 
-Exact-named : Exact Named Anything (λ i. cond (next_passes (λ other. eq_ignore_ascii_case other 122) i) ((letter_at 122 >>= λ zulu. pure (pos 0)) i) ((letters_at (codes "utc") >>= λ utc. pure (pos 0)) i))
+pub Exact-named : Exact Named Anything (λ i. cond (next_passes (λ other. eq_ignore_ascii_case other 122) i) ((letter_at 122 >>= λ zulu. pure (pos 0)) i) ((letters_at (codes "utc") >>= λ utc. pure (pos 0)) i))
 Exact-named =
     Exact-before (λ rest may. (tt, tt))
     (Exact-either {S = Zulu} {T = Utc} (λ other. eq_ignore_ascii_case other 122)
@@ -142,7 +142,7 @@ Exact-named =
     (Exact-then {T = λ u. Is (pos 0)} {Q = Anything} (Exact-letters (codes "utc")) (λ u. Exact-pure (pos 0)) (λ a b back rest s may. tt))
     zulu_is_zulu (λ text rest zone s may. utc_not_zulu text rest zone s))
 
-Exact-signed : (sign : ℕ) (value : ℕ → ℤ) → Exact (After sign (Then SpellsDistance (λ distance. Is (value distance)))) EndsTime (byte_at sign >>= λ u. distance_at >>= λ distance. pure (value distance))
+pub Exact-signed : (sign : ℕ) (value : ℕ → ℤ) → Exact (After sign (Then SpellsDistance (λ distance. Is (value distance)))) EndsTime (byte_at sign >>= λ u. distance_at >>= λ distance. pure (value distance))
 Exact-signed sign value =
     Exact-after {S = Then SpellsDistance (λ distance. Is (value distance))} sign
     (Exact-then {T = λ distance. Is (value distance)} {Q = EndsTime} Exact-distance (λ distance. Exact-before (λ rest may. tt) (Exact-pure (value distance))) (λ a b back rest s may. after_nothing EndsTime back rest s.text_is may))
@@ -151,7 +151,7 @@ Exact-signed sign value =
 abbrev pub TheZone : List ℕ → ℤ → Type 0
 TheZone text zone = Ahead text zone ⊎ Western text zone
 
-Exact-the_zone : Exact TheZone EndsTime zone_at
+pub Exact-the_zone : Exact TheZone EndsTime zone_at
 unfolding zone_at
 Exact-the_zone =
     Exact-before (λ rest may. (may, (may, tt)))
@@ -165,7 +165,7 @@ Exact-the_zone =
 to_signed : (sign : ℕ) (value : ℕ → ℤ) (text : List ℕ) (zone : ℤ) (s : After sign (Then SpellsDistance (λ distance. Is (value distance))) text zone) → SpellsSigned sign text s.second.a
 to_signed sign value text zone s = record { distance_text = s.second.front; distance_is = s.second.first; text_is = s.text_is ∙ ap (λ (l : List ℕ). l ++ s.back) s.first ∙ ap (λ (l : List ℕ). sign ∷ l) (s.second.text_is ∙ ap (λ (l : List ℕ). s.second.front ++ l) s.second.second.text_is ∙ append-nil s.second.front) }
 
-to_zone : (text : List ℕ) (zone : ℤ) → TheZone text zone → SpellsZone text zone
+pub to_zone : (text : List ℕ) (zone : ℤ) → TheZone text zone → SpellsZone text zone
 to_zone text zone (inl s) = inl (record { distance = s.second.a; signed = to_signed 43 (λ distance. pos distance) text zone s; zone_is = sym s.second.second.value })
 to_zone text zone (inr (inl s)) = inr (inl (record { distance = s.second.a; signed = to_signed 45 (λ distance. neg_ℤ (pos distance)) text zone s; zone_is = sym s.second.second.value }))
 to_zone text zone (inr (inr (inl s))) =
