@@ -1,5 +1,5 @@
 -- Instants, and their texts `YYYY-MM-DDThh:mm:ssZ` (RFC 3339, in UTC and without fractions).
-use Rattle.std.specs.Prelude.{ℕ, zero, suc, ◌+◌, ◌*◌, ◌/◌, ◌%◌, List, [], ◌∷◌, ◌++◌, length, codes, Bool, ◌&&◌, ◌==◌, if◌then◌else◌, Option, Some, None, ℤ, pos, neg_ℤ, ◌-ℤ◌, int_le, unsigned_abs}
+use Rattle.std.specs.Prelude.{ℕ, zero, suc, ◌+◌, ◌/◌, ◌%◌, List, [], ◌∷◌, ◌++◌, length, codes, Bool, ◌&&◌, ◌==◌, if◌then◌else◌, Option, None, ℤ, pos, neg_ℤ, ◌-ℤ◌, int_le, unsigned_abs}
 use Rattle.std.specs.Int.{int_div_euclid, int_rem_euclid}
 use Rattle.jiff_core.specs.Calendar.{IsBetween, days_from_civil}
 use Rattle.fm_base.specs.Calendar.{moment_of}

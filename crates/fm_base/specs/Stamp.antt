@@ -1,5 +1,5 @@
 -- Moments that are written with a fixed number of digits.
-use Rattle.std.specs.Prelude.{ℕ, ◌+◌, ◌-◌, ◌*◌, List, [], ◌∷◌, length, take, drop, codes, Bool, true, false, ◌&&◌, ◌==◌, nat_eq, if◌then◌else◌, Option, Some, None, ℤ}
+use Rattle.std.specs.Prelude.{ℕ, ◌+◌, ◌-◌, ◌*◌, List, [], ◌∷◌, length, take, drop, codes, Bool, true, false, ◌&&◌, ◌==◌, nat_eq, if◌then◌else◌, Option, None, ℤ}
 use Rattle.std.specs.Char.{is_ascii_digit}
 use Rattle.std.specs.List.{starts_with}
 use Rattle.fm_base.specs.Calendar.{moment_of}

@@ -1,6 +1,6 @@
 -- How units of time are spelled (CF Conventions, after UDUNITS): `UNIT since DATE`, and after it nothing, or a time and
 -- then nothing or a zone. Letters of the words may be in either case.
-use Rattle.std.specs.Prelude.{◌≡◌, ◌⊎◌, ℕ, suc, ◌≤◌, List, [], ◌∷◌, ◌++◌, length, replicate, codes, IsTrue, Option, Some, ℤ, pos, neg_ℤ, ◌-ℤ◌}
+use Rattle.std.specs.Prelude.{◌≡◌, ◌⊎◌, ℕ, suc, ◌≤◌, List, [], ◌∷◌, ◌++◌, length, replicate, codes, IsTrue, Some, ℤ, pos, neg_ℤ, ◌-ℤ◌}
 use Rattle.std.specs.Char.{is_ascii_alphabetic, is_ascii_digit}
 use Rattle.std.specs.List.{list_all}
 use Rattle.fm_base.specs.Calendar.{day_number, time_seconds}

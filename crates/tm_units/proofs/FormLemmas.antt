@@ -1,5 +1,5 @@
 -- Whether a text begins in a form, one byte after the other.
-use Rattle.std.proofs.Common.{◌≡◌, ℕ, ◌+◌, ◌<◌, ◌≤◌, Bool, true, false, ◌&&◌, List, [], ◌∷◌, length, get_or, drop, refl, ap₂, ◌∙◌}
+use Rattle.std.proofs.Common.{◌≡◌, ℕ, ◌+◌, ◌<◌, ◌≤◌, false, ◌&&◌, List, length, get_or, drop, ap₂}
 use Rattle.std.proofs.lemmas.List.{drop_more, drop_all}
 use Rattle.fm_base.specs.Stamp.{begins_in_form, is_like}
 

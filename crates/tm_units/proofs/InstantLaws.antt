@@ -1,15 +1,15 @@
 -- The text of each instant of the years 0 to 9999 is read as that instant, and no other text is.
-use Rattle.std.proofs.Common.{◌≡◌, ℕ, ◌+◌, ◌-◌, ◌*◌, ◌/◌, ◌%◌, ◌<◌, ◌≤◌, Bool, true, false, cond, ◌&&◌, ◌==◌, nat_le, nat_lt, List, length, Option, Some, None, IfSome, refl, sym, ap, subst, ◌∙◌, inl, inr, arith, rules, ℤ, pos, neg_ℤ, ◌+ℤ◌, ◌*ℤ◌, ◌<ℤ◌, ◌≤ℤ◌, unsigned_abs}
+use Rattle.std.proofs.Common.{◌≡◌, ℕ, ◌+◌, ◌-◌, ◌/◌, ◌%◌, ◌<◌, ◌≤◌, Bool, true, false, cond, ◌&&◌, ◌==◌, nat_le, nat_lt, List, length, Option, Some, None, IfSome, refl, sym, ap, subst, ◌∙◌, inl, inr, arith, rules, ℤ, pos, unsigned_abs}
 use Rattle.std.proofs.lemmas.Bool.{cases_lt, leb-true, ltb-true, le-leb, lt-ltb, eqb-true}
 use Rattle.std.specs.Int.{int_div_euclid, int_rem_euclid}
-use Rattle.jiff_core.specs.Calendar.{day_count, days_from_civil, days_in_month, IsCivilDate, IsBetween}
+use Rattle.jiff_core.specs.Calendar.{day_count, days_from_civil, days_in_month, IsCivilDate}
 use Rattle.jiff_core.proofs.CalendarLemmas.{days_from_civil-day_count, days_in_month_bounds, day_count-lt_year, day_count-day_of_year, day_count_bounds}
 use Rattle.jiff_core.proofs.SignedLemmas.{signed_arith}
 use Rattle.fm_base.specs.Calendar.{is_date, is_time, time_seconds, unix_seconds, moment_of}
 use Rattle.fm_base.specs.Stamp.{number_at, begins_in_form}
-use Rattle.fm_base.specs.Instant.{HasFourDigitYear, instant_form, instant_of, instant_text_of, text_of_day, spelled_instant, year_of, month_of, day_of}
+use Rattle.fm_base.specs.Instant.{HasFourDigitYear, instant_form, instant_of, instant_text_of, text_of_day, spelled_instant}
 use Rattle.tm_units.proofs.DayLemmas.{first_count, year_of-days_from_civil, month_of-days_from_civil, day_of-days_from_civil}
-use Rattle.tm_units.proofs.DayExists.{DateAt, date_exists, is_year}
+use Rattle.tm_units.proofs.DayExists.{date_exists, is_year}
 use Rattle.tm_units.proofs.InstantLemmas.{and_parts, instant_of-spelled_instant, spelled_instant-form}
 use borrow.Author.Differences.{up, down}
 

@@ -1,10 +1,9 @@
 -- Instants and their texts: what is written is read again, and what is read is what would be written.
-use Rattle.std.proofs.Common.{◌≡◌, ℕ, zero, suc, ◌+◌, ◌-◌, ◌*◌, ◌/◌, ◌%◌, ◌<◌, ◌≤◌, Bool, true, false, cond, ◌&&◌, ◌==◌, nat_le, List, [], ◌∷◌, ◌++◌, length, codes, Option, Some, None, refl, sym, ap, subst, ◌∙◌, inl, inr, arith, rules, ℤ, pos, neg_ℤ, ◌+ℤ◌, ◌-ℤ◌, ◌*ℤ◌, ◌<ℤ◌, ◌≤ℤ◌, unsigned_abs}
-use Rattle.std.proofs.lemmas.Bool.{cases_lt, leb-true, eqb-true}
+use Rattle.std.proofs.Common.{◌≡◌, ℕ, ◌+◌, ◌/◌, ◌%◌, ◌<◌, ◌≤◌, Bool, true, false, ◌&&◌, ◌==◌, nat_le, List, [], ◌∷◌, ◌++◌, length, codes, refl, sym, ap, subst, ◌∙◌, arith}
+use Rattle.std.proofs.lemmas.Bool.{leb-true, eqb-true}
 use Rattle.std.proofs.lemmas.List.{nil_from_length}
 use Rattle.std.specs.Char.{is_ascii_digit}
-use Rattle.std.specs.Int.{int_div_euclid, int_rem_euclid}
-use Rattle.fm_base.specs.Calendar.{is_date, is_time, time_seconds, unix_seconds, moment_of}
+use Rattle.fm_base.specs.Calendar.{moment_of}
 use Rattle.fm_base.specs.Stamp.{number_of, number_at, begins_in_form, is_like}
 use Rattle.fm_base.specs.Instant.{instant_form, instant_of, two_digits, four_digits, spelled_instant}
 

@@ -1,15 +1,15 @@
 -- What stands before the place at which a text goes wrong begins some text that is spelled, but for its digits.
-use Rattle.std.proofs.Common.{◌≡◌, ◌⊎◌, inl, inr, ℕ, zero, suc, ◌+◌, ◌-◌, ◌<◌, ◌≤◌, min, Bool, true, false, cond, ◌&&◌, ◌==◌, List, [], ◌∷◌, ◌++◌, length, take, drop, Option, Some, None, Result, Ok, Err, refl, sym, ap, subst, ◌∙◌, IsTrue, arith, length-append}
-use Rattle.std.proofs.lemmas.List.{length-take, take-append-le, append-nil}
+use Rattle.std.proofs.Common.{◌≡◌, ◌⊎◌, inl, inr, ℕ, suc, ◌+◌, ◌≤◌, Bool, true, false, cond, List, [], ◌∷◌, ◌++◌, length, take, Ok, Err, refl, sym, ap, subst, ◌∙◌, arith, length-append}
+use Rattle.std.proofs.lemmas.List.{length-take, take-append-le}
 use Rattle.std.proofs.Math.Seq.{take-append-add}
 use Rattle.std.specs.Char.{is_ascii_digit}
 use Rattle.std.specs.List.{list_all}
 use Rattle.fm_base.specs.Input.{Input}
-use Rattle.fm_base.specs.UnitsReading.{Outcome, Parser, and_then, ◌>>=◌, pure, located, next_passes, has_ended}
-use Rattle.fm_base.specs.UnitsFaults.{IsAlike, AreAlike}
+use Rattle.fm_base.specs.UnitsReading.{Parser, ◌>>=◌, located, has_ended}
+use Rattle.fm_base.specs.UnitsFaults.{AreAlike}
 use Rattle.tm_units.proofs.InstantLemmas.{and_parts}
 use Rattle.tm_units.proofs.UnitsExact.{input, Took, Exact, Then, Optional}
-use Rattle.tm_units.proofs.UnitsLocal.{Stepped, stepped, err_is}
+use Rattle.tm_units.proofs.UnitsLocal.{stepped, err_is}
 
 pub alike_same : (xs : List ℕ) → AreAlike xs xs
 alike_same [] = tt

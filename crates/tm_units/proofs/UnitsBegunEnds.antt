@@ -1,19 +1,19 @@
 -- What stands before a bad place of a zone, or of the end of a text, begins some text that is spelled so.
-use Rattle.std.proofs.Common.{◌≡◌, ◌⊎◌, inl, inr, ℕ, zero, suc, ◌+◌, ◌<◌, ◌≤◌, Bool, true, false, cond, ◌==◌, List, [], ◌∷◌, ◌++◌, length, take, codes, Ok, Err, refl, sym, ap, subst, ◌∙◌, arith, ℤ, pos, neg_ℤ, ◌-ℤ◌}
+use Rattle.std.proofs.Common.{◌≡◌, inl, inr, ℕ, Bool, true, false, cond, ◌==◌, List, [], ◌∷◌, ◌++◌, codes, Err, refl, sym, ℤ, pos, neg_ℤ, ◌-ℤ◌}
 use Rattle.std.specs.Char.{eq_ignore_ascii_case}
 use Rattle.fm_base.specs.Input.{Input}
-use Rattle.fm_base.specs.UnitsReading.{Parser, ◌>>=◌, pure, next_passes, has_ended, end_at, byte_at, letter_at, letters_at, spaces_at, time_at, distance_at, zone_at, last_zone_at, clock_at, after_date_at, units_at, Written}
-use Rattle.fm_base.specs.UnitsSpelling.{SpellsUnit, SpellsDate, SpellsTime, SpellsDistance, SpellsZone, SpellsLastZone, SpellsClock, SpellsAfterDate, SpellsUnits}
+use Rattle.fm_base.specs.UnitsReading.{Parser, ◌>>=◌, pure, next_passes, has_ended, end_at, byte_at, distance_at, zone_at, last_zone_at, clock_at, after_date_at, units_at}
+use Rattle.fm_base.specs.UnitsSpelling.{SpellsDate, SpellsTime, SpellsDistance, SpellsZone, SpellsLastZone, SpellsClock, SpellsAfterDate, SpellsUnits}
 use Rattle.tm_units.proofs.UnitsExact.{input, Then, Is, Optional, Allowed, done}
-use Rattle.tm_units.proofs.UnitsRuns.{IsLetter, AreLetters, Repeats, RepeatsSome, Exact-letter, Exact-letters, Exact-many, Exact-some}
+use Rattle.tm_units.proofs.UnitsRuns.{Repeats, RepeatsSome, Exact-letter, Exact-letters, Exact-many, Exact-some}
 use Rattle.tm_units.proofs.UnitsNumbers.{Exact-unit}
 use Rattle.tm_units.proofs.UnitsParts.{After, Exact-date, Exact-time, Exact-distance, to_date, to_time, to_distance}
-use Rattle.tm_units.proofs.UnitsZones.{IsEnd, Ahead, Behind, Zulu, Utc, Named, Western, TheZone, Exact-end, Exact-zone, to_zone}
-use Rattle.tm_units.proofs.UnitsEnds.{ToEnd, TheLast, TheClock, AfterGap, Spaced, Marked, Exact-last_zone, Exact-clock, Exact-after_date, to_last, to_clock, to_after}
+use Rattle.tm_units.proofs.UnitsZones.{IsEnd, Ahead, Behind, Zulu, Utc, Named, Western, Exact-end, Exact-zone, to_zone}
+use Rattle.tm_units.proofs.UnitsEnds.{ToEnd, AfterGap, Spaced, Marked, Exact-last_zone, Exact-after_date, to_last, to_clock, to_after}
 use Rattle.tm_units.proofs.UnitsLocal.{err_is}
-use Rattle.tm_units.proofs.UnitsReadings.{TheEnd, FromDate, FromSince, FromUnit, TheUnits, to_units}
-use Rattle.tm_units.proofs.UnitsBegun.{Spelled, Begun, Viable, Viable-at_once, Viable-as, Viable-then, Viable-cond, Viable-unless_ended}
-use Rattle.tm_units.proofs.UnitsBegunParts.{Viable-pure, Viable-letter, Viable-letters, Viable-many, Viable-some, Viable-unit, Viable-date, Viable-time, Viable-distance, Viable-after, Spelled-letters, Spelled-after, Spelled-then, Spelled-is, a_unit, a_date, a_time, a_distance}
+use Rattle.tm_units.proofs.UnitsReadings.{TheEnd, FromDate, FromSince, FromUnit, to_units}
+use Rattle.tm_units.proofs.UnitsBegun.{Spelled, Viable, Viable-at_once, Viable-as, Viable-then, Viable-cond, Viable-unless_ended}
+use Rattle.tm_units.proofs.UnitsBegunParts.{Viable-pure, Viable-letter, Viable-letters, Viable-many, Viable-some, Viable-unit, Viable-date, Viable-time, Viable-distance, Viable-after, Spelled-letters, Spelled-then, Spelled-is, a_unit, a_date, a_time, a_distance}
 
 distance : Spelled SpellsDistance
 distance = record { text = a_distance.text; a = a_distance.a; spelled = to_distance a_distance.text a_distance.a a_distance.spelled }

@@ -1,25 +1,25 @@
 -- What stands before a bad place of a word, a number, a date or a time begins some text that is spelled so.
-use Rattle.std.proofs.Common.{◌≡◌, ◌⊎◌, inl, inr, ℕ, zero, suc, ◌+◌, ◌-◌, ◌<◌, ◌≤◌, Bool, true, false, cond, ◌&&◌, ◌==◌, ltb, List, [], ◌∷◌, ◌++◌, length, take, drop, replicate, codes, Option, Some, None, Result, Ok, Err, refl, sym, ap, subst, ◌∙◌, IsTrue, eq-eqb, arith, ℤ, pos}
+use Rattle.std.proofs.Common.{◌≡◌, ◌⊎◌, inl, inr, ℕ, zero, suc, ◌+◌, ◌-◌, ◌<◌, ◌≤◌, Bool, true, false, cond, ◌==◌, ltb, List, [], ◌∷◌, ◌++◌, length, take, codes, Option, Some, Ok, Err, refl, sym, ap, subst, ◌∙◌, IsTrue, eq-eqb, arith, pos}
 use Rattle.std.proofs.lemmas.Bool.{eqb-true, ltb-true, le-leb}
-use Rattle.std.proofs.lemmas.List.{length-take, append-nil}
-use Rattle.std.specs.Char.{is_ascii_digit, is_ascii_alphabetic, eq_ignore_ascii_case}
+use Rattle.std.proofs.lemmas.List.{length-take}
+use Rattle.std.specs.Char.{is_ascii_digit, eq_ignore_ascii_case}
 use Rattle.std.specs.List.{prefix_len, list_all}
 use Rattle.jiff_core.specs.Calendar.{days_from_civil, days_in_month}
 use Rattle.jiff_core.proofs.CalendarLemmas.{days_in_month_bounds}
 use Rattle.fm_base.specs.Calendar.{day_number, is_date, time_seconds}
 use Rattle.fm_base.specs.Input.{Input}
 use Rattle.fm_base.specs.Stamp.{number_of}
-use Rattle.fm_base.specs.UnitsReading.{Outcome, Parser, and_then, ◌>>=◌, pure, located, known, past, next_passes, byte_at, letter_at, letters_at, many_at, some_at, number_at, unit_at, date_at, fraction_at, second_at, time_at, zone_minute_at, distance_at, seconds_per, is_same_word, is_second}
+use Rattle.fm_base.specs.UnitsReading.{Parser, and_then, ◌>>=◌, pure, known, past, next_passes, byte_at, letter_at, letters_at, many_at, some_at, number_at, unit_at, date_at, fraction_at, second_at, time_at, zone_minute_at, distance_at, seconds_per, is_same_word, is_second}
 use Rattle.fm_base.specs.UnitsSpelling.{SpellsNumber, SpellsUnit, SpellsDate, SpellsSecond, SpellsTime, SpellsZoneMinute, SpellsDistance}
 use Rattle.tm_units.proofs.InstantLemmas.{and_parts}
-use Rattle.tm_units.proofs.UnitsExact.{input, Took, Exact, Then, Is, Finds, Optional, done, Exact-then}
-use Rattle.tm_units.proofs.UnitsRuns.{One, one_at, IsByte, IsLetter, AreLetters, Repeats, RepeatsSome, run_passes, letters_same, no_letters, Exact-byte, Exact-letter, Exact-letters}
+use Rattle.tm_units.proofs.UnitsExact.{input, Then, Is, done}
+use Rattle.tm_units.proofs.UnitsRuns.{one_at, IsByte, IsLetter, AreLetters, Repeats, RepeatsSome, run_passes, letters_same, no_letters, Exact-byte, Exact-letter}
 use Rattle.tm_units.proofs.UnitsNumbers.{Exact-number}
 use Rattle.tm_units.proofs.UnitsParts.{After, TheDay, TheMonth, TheDate, Zeros, TheSecond, TheMinute, TheTime, TheDistance, Exact-fraction, Exact-second, Exact-zone_minute, to_date, to_second, to_time, to_zone_minute, to_distance}
-use Rattle.tm_units.proofs.UnitsLocal.{Stepped, stepped, err_is}
+use Rattle.tm_units.proofs.UnitsLocal.{stepped, err_is}
 use Rattle.tm_units.proofs.UnitsLocalRuns.{short}
 use Rattle.tm_units.proofs.UnitsLocalNumbers.{is_out, checked-out, checked-in, digits_of, number_is, word_at, none_or}
-use Rattle.tm_units.proofs.UnitsBegun.{alike_digits, Spelled, Begun, Viable, Viable-at_once, Viable-as, Viable-located, Viable-then, Viable-cond, Viable-optional}
+use Rattle.tm_units.proofs.UnitsBegun.{alike_digits, Spelled, Viable, Viable-at_once, Viable-as, Viable-then, Viable-optional}
 
 -- nothing goes wrong where nothing is read
 pub Viable-pure : {A : Type 0} {S : List ℕ → A → Type 0} (x : A) → Viable S (pure x)

@@ -1,14 +1,14 @@
 -- The end of a text after its time, and after its date, is read exactly.
-use Rattle.std.proofs.Common.{◌≡◌, ◌≢◌, ◌⊎◌, inl, inr, ℕ, zero, suc, ◌+◌, ◌<◌, ◌≤◌, Bool, true, false, cond, ◌&&◌, ◌==◌, List, [], ◌∷◌, ◌++◌, length, replicate, codes, Ok, Err, refl, sym, ap, subst, ◌∙◌, append_assoc, IsTrue, ℤ, pos, ◌-ℤ◌, eq-eqb, arith}
+use Rattle.std.proofs.Common.{◌≡◌, ◌⊎◌, inl, inr, ℕ, zero, suc, Bool, true, false, ◌==◌, List, [], ◌∷◌, ◌++◌, length, replicate, codes, refl, sym, ap, subst, ◌∙◌, append_assoc, IsTrue, ℤ, pos, ◌-ℤ◌, arith}
 use Rattle.std.proofs.lemmas.Bool.{ne_eqb}
 use Rattle.std.proofs.lemmas.List.{append-nil}
 use Rattle.std.proofs.Math.Dec.{eqb-suc-zero}
 use Rattle.std.specs.Char.{is_ascii_digit, eq_ignore_ascii_case}
 use Rattle.std.specs.List.{list_all}
-use Rattle.fm_base.specs.UnitsReading.{Parser, ◌>>=◌, pure, next_passes, has_ended, end_at, letter_at, spaces_at, time_at, zone_at, last_zone_at, clock_at, after_date_at, is_same_word}
-use Rattle.fm_base.specs.UnitsSpelling.{AreSpaces, IsGap, IsWord, IsBreak, SpellsNumber, SpellsTime, SpellsZone, SpellsGivenZone, SpellsLastZone, SpellsClock, SpellsGivenClock, SpellsAfterDate}
+use Rattle.fm_base.specs.UnitsReading.{◌>>=◌, pure, next_passes, end_at, spaces_at, zone_at, last_zone_at, clock_at, after_date_at, is_same_word}
+use Rattle.fm_base.specs.UnitsSpelling.{SpellsNumber, SpellsTime, SpellsZone, SpellsLastZone, SpellsClock, SpellsAfterDate}
 use Rattle.tm_units.proofs.InstantLemmas.{and_parts}
-use Rattle.tm_units.proofs.UnitsExact.{input, Took, Exact, Stops, Anything, AtEnd, GoesOn, Then, Is, Optional, Allowed, Exact-then, Exact-as, Exact-before, Exact-pure, Exact-either, Exact-allowed, Exact-unless_ended}
+use Rattle.tm_units.proofs.UnitsExact.{input, Exact, Stops, AtEnd, GoesOn, Then, Is, Optional, Allowed, Exact-then, Exact-as, Exact-before, Exact-pure, Exact-either, Exact-allowed, Exact-unless_ended}
 use Rattle.tm_units.proofs.UnitsRuns.{IsLetter, Repeats, Exact-letter, Exact-many, after_nothing, same_letters, letters_same, no_word, no_letters}
 use Rattle.tm_units.proofs.UnitsParts.{EndsTime, Exact-time}
 use Rattle.tm_units.proofs.UnitsZones.{IsEnd, Exact-end, Exact-zone, Begins, begins_test, Starts, zone_starts, from_zone, plain_ends, nothing_ends, letter_above, letter_plain}

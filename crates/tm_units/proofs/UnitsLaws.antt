@@ -1,17 +1,15 @@
 -- What an answer says of a text and a calendar, and what is spelled is read.
-use Rattle.std.proofs.Common.{◌≡◌, ◌≢◌, ◌⊎◌, inl, inr, ℕ, zero, suc, ◌+◌, ◌<◌, ◌≤◌, Bool, true, false, cond, not, ◌&&◌, List, [], length, take, drop, Option, Some, None, Result, Ok, Err, refl, sym, ap, subst, ◌∙◌, IsTrue, arith}
+use Rattle.std.proofs.Common.{◌≡◌, inl, inr, ℕ, suc, ◌+◌, ◌≤◌, Bool, true, false, List, length, take, drop, Option, Result, Ok, Err, refl, sym, ap, subst, ◌∙◌, IsTrue, arith}
 use Rattle.std.specs.List.{list_all}
-use Rattle.fm_base.specs.declared.units.Units.{Units}
 use Rattle.fm_base.specs.declared.units.UnitsFault.{UnitsFault}
-use Rattle.fm_base.specs.declared.units.UnitsFault.TheVariants.{BadUnits, Calendar, MixedCalendar}
-use Rattle.fm_base.specs.Input.{Input, whole}
+use Rattle.fm_base.specs.declared.units.UnitsFault.TheVariants.{BadUnits}
+use Rattle.fm_base.specs.Input.{whole}
 use Rattle.fm_base.specs.Units.{Settles, in_calendar, is_gregorian, is_proleptic, is_before_gregorian, result_and_then, units_of}
-use Rattle.fm_base.specs.UnitsFaults.{IsBegun, GoesNowhere, IsWrongRun, GoesWrong, is_of_run, EndsRun, AreAlike}
+use Rattle.fm_base.specs.UnitsFaults.{IsWrongRun, GoesWrong, is_of_run, EndsRun, AreAlike}
 use Rattle.fm_base.specs.UnitsReading.{Outcome, units_at, Written, value_of, written_or_fault}
 use Rattle.fm_base.specs.UnitsSpelling.{SpellsUnits}
 use Rattle.tm_units.proofs.UnitsExact.{input}
-use Rattle.tm_units.proofs.UnitsLocal.{Agree, Failed, WrongRun, Local}
-use Rattle.tm_units.proofs.UnitsBegun.{Begun, Viable}
+use Rattle.tm_units.proofs.UnitsLocal.{WrongRun}
 use Rattle.tm_units.proofs.UnitsReadings.{SpellsUnits-written_or_fault, written_or_fault-spelled}
 use Rattle.tm_units.proofs.UnitsPlaces.{Local-units}
 use Rattle.tm_units.proofs.UnitsBegunEnds.{Viable-units}

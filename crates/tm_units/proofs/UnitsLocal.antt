@@ -1,11 +1,11 @@
 -- What a reader gives depends on the bytes that it takes and the next one alone. Where it goes wrong, on the bytes up to
 -- that place, or on the word or number that stands there.
-use Rattle.std.proofs.Common.{◌≡◌, ◌⊎◌, inl, inr, ℕ, zero, suc, ◌+◌, ◌-◌, ◌<◌, ◌≤◌, Bool, true, false, cond, ◌&&◌, ◌||◌, ◌==◌, ltb, List, [], ◌∷◌, ◌++◌, length, take, drop, Option, Some, None, Result, Ok, Err, refl, sym, ap, subst, ◌∙◌, IsTrue, arith}
-use Rattle.std.proofs.lemmas.List.{take-take, drop-take, drop-drop, length-take, length-drop}
+use Rattle.std.proofs.Common.{◌≡◌, ◌⊎◌, inl, inr, ℕ, suc, ◌+◌, ◌<◌, ◌≤◌, Bool, true, false, cond, List, [], ◌∷◌, length, take, drop, Result, Ok, Err, refl, sym, ap, subst, ◌∙◌, arith}
+use Rattle.std.proofs.lemmas.List.{take-take, drop-take, drop-drop, length-drop}
 use Rattle.std.proofs.Math.Dec.{eqb-suc-zero}
-use Rattle.std.specs.List.{prefix_len, list_all}
+use Rattle.std.specs.List.{list_all}
 use Rattle.fm_base.specs.Input.{Input}
-use Rattle.fm_base.specs.UnitsReading.{Outcome, Parser, and_then, ◌>>=◌, pure, located, unless, known, past, next_passes, has_ended}
+use Rattle.fm_base.specs.UnitsReading.{Outcome, Parser, and_then, ◌>>=◌, pure, located, past, next_passes, has_ended}
 use Rattle.fm_base.specs.UnitsFaults.{is_of_run}
 use Rattle.tm_units.proofs.UnitsExact.{input, Stops, done, ok_pair}
 

@@ -1,5 +1,5 @@
 -- Numbers, units and dates depend on the bytes that they take and the next one alone, and a wrong one on itself alone.
-use Rattle.std.proofs.Common.{◌≡◌, ◌⊎◌, inl, inr, ℕ, zero, suc, ◌+◌, ◌-◌, ◌<◌, ◌≤◌, Bool, true, false, cond, ◌||◌, ltb, List, [], ◌∷◌, ◌++◌, length, take, drop, Option, Some, None, Result, Ok, Err, refl, sym, ap, subst, ◌∙◌, arith, take-append-drop}
+use Rattle.std.proofs.Common.{◌≡◌, ◌⊎◌, inl, inr, ℕ, suc, ◌+◌, ◌≤◌, Bool, true, false, cond, ◌||◌, ltb, List, ◌++◌, length, take, drop, Option, Some, None, Ok, Err, refl, sym, ap, subst, ◌∙◌, arith, take-append-drop}
 use Rattle.std.proofs.lemmas.Bool.{cases_lt}
 use Rattle.std.proofs.lemmas.List.{length-take}
 use Rattle.std.proofs.lemmas.List.Sums.{prefix_len-le-length}
@@ -9,11 +9,11 @@ use Rattle.std.specs.List.{prefix_len, list_all}
 use Rattle.fm_base.specs.Calendar.{day_number}
 use Rattle.fm_base.specs.Input.{Input}
 use Rattle.fm_base.specs.Stamp.{number_of}
-use Rattle.fm_base.specs.UnitsReading.{Outcome, Parser, and_then, ◌>>=◌, pure, located, known, past, run_at, number_at, unit_at, seconds_per}
+use Rattle.fm_base.specs.UnitsReading.{Outcome, Parser, and_then, ◌>>=◌, located, known, past, run_at, number_at, unit_at, seconds_per}
 use Rattle.fm_base.specs.UnitsFaults.{is_of_run}
 use Rattle.tm_units.proofs.UnitsExact.{input, Stops, done, ok_pair}
 use Rattle.tm_units.proofs.UnitsRuns.{run_within, run_passes, run_is}
-use Rattle.tm_units.proofs.UnitsLocal.{Agree, agree_less, Taken, WrongRun, Failed, Local, Stepped, stepped, then_fails, refit, failed, err_is}
+use Rattle.tm_units.proofs.UnitsLocal.{Agree, agree_less, Taken, Failed, Local, stepped, then_fails, refit, failed, err_is}
 use Rattle.tm_units.proofs.UnitsLocalRuns.{prefix_agree, prefix_agree_within, short}
 
 -- a run of this class that was taken, which each text that begins with it and ends it gives too

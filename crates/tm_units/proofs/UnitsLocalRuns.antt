@@ -1,19 +1,15 @@
 -- Runs, bytes, numbers and words depend on the bytes that they take and the next one alone.
-use Rattle.std.proofs.Common.{◌≡◌, ◌⊎◌, inl, inr, ℕ, zero, suc, ◌+◌, ◌-◌, ◌<◌, ◌≤◌, Bool, true, false, cond, ◌&&◌, ◌||◌, ◌==◌, ltb, List, [], ◌∷◌, ◌++◌, length, take, drop, Option, Some, None, Result, Ok, Err, refl, sym, ap, subst, ◌∙◌, IsTrue, arith, take-append-drop}
+use Rattle.std.proofs.Common.{◌≡◌, ◌⊎◌, inl, inr, ℕ, suc, ◌+◌, ◌≤◌, Bool, true, false, cond, ◌==◌, List, [], ◌∷◌, length, take, Ok, Err, refl, sym, ap, subst, ◌∙◌, arith}
 use Rattle.std.proofs.lemmas.Bool.{cases_lt}
-use Rattle.std.proofs.lemmas.List.{take-take, length-take, length-drop}
+use Rattle.std.proofs.lemmas.List.{take-take, length-take}
 use Rattle.std.proofs.lemmas.List.Sums.{prefix_len-le-length}
-use Rattle.std.proofs.lemmas.List.Folds.{length-prefix_len}
-use Rattle.std.proofs.Math.Seq.{take-length}
-use Rattle.std.specs.Char.{is_ascii_digit, is_ascii_alphabetic, eq_ignore_ascii_case}
-use Rattle.std.specs.List.{prefix_len, list_all}
+use Rattle.std.specs.Char.{eq_ignore_ascii_case}
+use Rattle.std.specs.List.{prefix_len}
 use Rattle.fm_base.specs.Input.{Input}
-use Rattle.fm_base.specs.Stamp.{number_of}
-use Rattle.fm_base.specs.UnitsReading.{Outcome, Parser, and_then, ◌>>=◌, pure, located, unless, known, past, next_passes, has_ended, end_at, byte_at, letter_at, letters_at, run_at, many_at, some_at, number_at}
-use Rattle.fm_base.specs.UnitsFaults.{is_of_run}
-use Rattle.tm_units.proofs.UnitsExact.{input, Stops, done, ok_pair}
-use Rattle.tm_units.proofs.UnitsRuns.{run_within, run_passes, one_at}
-use Rattle.tm_units.proofs.UnitsLocal.{Agree, agree_less, agree_drop, agree_first, agree_ended, Taken, WrongRun, Failed, Local, Local-then, Local-located, Local-pure, Local-here, Local-cond}
+use Rattle.fm_base.specs.UnitsReading.{located, unless, past, next_passes, has_ended, end_at, byte_at, letter_at, letters_at, run_at, many_at, some_at}
+use Rattle.tm_units.proofs.UnitsExact.{input, done, ok_pair}
+use Rattle.tm_units.proofs.UnitsRuns.{one_at}
+use Rattle.tm_units.proofs.UnitsLocal.{Agree, agree_less, agree_first, agree_ended, Taken, Failed, Local, Local-then, Local-pure, Local-here, Local-cond}
 
 -- a run is as long in each text that begins with it and the same next byte
 pub prefix_agree : (test : ℕ → Bool) (xs ys : List ℕ) → Agree (suc (prefix_len test xs)) xs ys → prefix_len test ys ≡ prefix_len test xs

@@ -1,17 +1,16 @@
 -- Numbers and the words of units are read exactly.
-use Rattle.std.proofs.Common.{◌≡◌, ℕ, ◌+◌, ◌<◌, ◌≤◌, Bool, true, false, ◌||◌, ◌==◌, ltb, List, [], ◌∷◌, ◌++◌, length, take, drop, Option, Some, None, Ok, refl, sym, ap, subst, ◌∙◌, length-append, length-take, take-append-drop, IsTrue, arith}
+use Rattle.std.proofs.Common.{◌≡◌, ℕ, ◌+◌, ◌≤◌, Bool, true, false, ◌||◌, ltb, List, [], ◌++◌, length, take, Ok, refl, sym, ap, subst, ◌∙◌, length-append, length-take, take-append-drop, arith}
 use Rattle.std.proofs.lemmas.Bool.{or_parts, ltb-false, le-ltb}
 use Rattle.std.proofs.lemmas.List.{append-nil}
-use Rattle.std.proofs.lemmas.List.Folds.{length-prefix_len}
 use Rattle.std.proofs.lemmas.List.Sums.{prefix_len-le-length}
-use Rattle.std.proofs.Math.Seq.{take-length, drop-append_seam, take-append_seam}
+use Rattle.std.proofs.Math.Seq.{drop-append_seam, take-append_seam}
 use Rattle.std.specs.Char.{is_ascii_digit, is_ascii_alphabetic}
 use Rattle.std.specs.List.{prefix_len, list_all}
 use Rattle.fm_base.specs.Input.{Input}
 use Rattle.fm_base.specs.Stamp.{number_of}
-use Rattle.fm_base.specs.UnitsReading.{Parser, ◌>>=◌, located, unless, known, past, run_at, number_at, unit_at, seconds_per}
+use Rattle.fm_base.specs.UnitsReading.{past, run_at, number_at, unit_at, seconds_per}
 use Rattle.fm_base.specs.UnitsSpelling.{SpellsNumber, SpellsUnit}
-use Rattle.tm_units.proofs.UnitsExact.{input, Took, Exact, Stops, Anything, Then, Passes, Finds, done, ok_pair, Exact-then, Exact-as, Exact-before, Exact-unless, Exact-known, Exact-located}
+use Rattle.tm_units.proofs.UnitsExact.{input, Took, Exact, Stops, Then, Passes, Finds, done, ok_pair, Exact-then, Exact-as, Exact-before, Exact-unless, Exact-known, Exact-located}
 use Rattle.tm_units.proofs.UnitsRuns.{run_within, run_passes, after_nothing}
 
 -- a run of bytes that pass, of at most so many

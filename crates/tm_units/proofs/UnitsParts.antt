@@ -1,13 +1,12 @@
 -- Dates, times and zones are read exactly.
-use Rattle.std.proofs.Common.{◌≡◌, ◌⊎◌, inl, inr, ℕ, zero, suc, ◌+◌, ◌<◌, ◌≤◌, Bool, true, false, cond, ◌==◌, List, [], ◌∷◌, ◌++◌, length, replicate, codes, Option, Some, None, Ok, refl, sym, ap, subst, ◌∙◌, append_assoc, IsTrue, ℤ, pos, neg_ℤ, ◌-ℤ◌, eq-eqb, arith}
+use Rattle.std.proofs.Common.{◌≡◌, inl, inr, ℕ, zero, suc, Bool, true, false, ◌==◌, List, [], ◌∷◌, ◌++◌, replicate, refl, sym, ap, subst, ◌∙◌, ℤ, eq-eqb}
 use Rattle.std.proofs.Math.Dec.{eqb-suc-zero}
 use Rattle.std.proofs.lemmas.List.{append-nil}
-use Rattle.std.specs.Char.{is_ascii_digit, is_ascii_alphabetic, eq_ignore_ascii_case}
+use Rattle.std.specs.Char.{is_ascii_digit}
 use Rattle.fm_base.specs.Calendar.{day_number, time_seconds}
-use Rattle.fm_base.specs.Input.{Input}
-use Rattle.fm_base.specs.UnitsReading.{Parser, ◌>>=◌, pure, located, known, next_passes, next_is, byte_at, some_at, number_at, date_at, fraction_at, second_at, time_at, zone_minute_at, distance_at}
-use Rattle.fm_base.specs.UnitsSpelling.{SpellsNumber, SpellsDate, SpellsFraction, SpellsGivenSecond, SpellsSecond, SpellsTime, SpellsGivenZoneMinute, SpellsZoneMinute, SpellsDistance}
-use Rattle.tm_units.proofs.UnitsExact.{input, Took, Exact, Stops, Anything, Then, Is, Finds, Optional, Exact-then, Exact-as, Exact-before, Exact-pure, Exact-known, Exact-located, Exact-optional}
+use Rattle.fm_base.specs.UnitsReading.{Parser, ◌>>=◌, located, known, next_passes, byte_at, number_at, date_at, fraction_at, second_at, time_at, zone_minute_at, distance_at}
+use Rattle.fm_base.specs.UnitsSpelling.{SpellsNumber, SpellsDate, SpellsFraction, SpellsSecond, SpellsTime, SpellsZoneMinute, SpellsDistance}
+use Rattle.tm_units.proofs.UnitsExact.{input, Exact, Stops, Then, Is, Finds, Optional, Exact-then, Exact-as, Exact-before, Exact-pure, Exact-known, Exact-located, Exact-optional}
 use Rattle.tm_units.proofs.UnitsRuns.{IsByte, RepeatsSome, Exact-byte, Exact-some, after_nothing}
 use Rattle.tm_units.proofs.UnitsNumbers.{Exact-number}
 

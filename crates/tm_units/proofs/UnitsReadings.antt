@@ -1,19 +1,15 @@
 -- What is read is spelled so, what is spelled so is read, and a text has one reading at most.
-use Rattle.std.proofs.Common.{◌≡◌, ◌⊎◌, inl, inr, ℕ, zero, suc, ◌+◌, ◌<◌, ◌≤◌, Bool, true, false, cond, not, ◌&&◌, ◌==◌, List, [], ◌∷◌, ◌++◌, length, replicate, codes, Option, Some, None, Result, Ok, Err, refl, sym, ap, subst, ◌∙◌, append_assoc, IsTrue, ℤ, pos, ◌-ℤ◌, arith}
+use Rattle.std.proofs.Common.{◌≡◌, ℕ, zero, suc, ◌+◌, Bool, true, false, cond, ◌==◌, List, [], ◌∷◌, ◌++◌, length, replicate, codes, Some, Ok, Err, refl, sym, ap, subst, ◌∙◌, append_assoc, IsTrue, ℤ, pos, ◌-ℤ◌, arith}
 use Rattle.std.proofs.lemmas.Bool.{eqb-true, ne_eqb}
 use Rattle.std.proofs.lemmas.List.{append-nil, nil_from_length}
 use Rattle.std.proofs.Math.Dec.{eqb-suc-zero}
 use Rattle.std.specs.Char.{is_ascii_digit, is_ascii_alphabetic, eq_ignore_ascii_case}
 use Rattle.std.specs.List.{list_all}
-use Rattle.fm_base.specs.declared.units.Units.{Units}
-use Rattle.fm_base.specs.declared.units.UnitsFault.{UnitsFault}
-use Rattle.fm_base.specs.declared.units.UnitsFault.TheVariants.{BadUnits, Calendar, MixedCalendar}
 use Rattle.fm_base.specs.Input.{Input, whole}
-use Rattle.fm_base.specs.Units.{Settles, in_calendar, is_gregorian, is_proleptic, is_before_gregorian, result_and_then, units_of}
-use Rattle.fm_base.specs.UnitsReading.{Outcome, Parser, and_then, ◌>>=◌, pure, has_ended, next_passes, end_at, byte_at, letters_at, spaces_at, gap_at, unit_at, date_at, zone_at, time_at, letter_at, last_zone_at, clock_at, after_date_at, units_at, Written, seconds_per, is_same_word, is_second, is_minute, is_hour, is_day, value_of, written_or_fault}
+use Rattle.fm_base.specs.UnitsReading.{Outcome, Parser, ◌>>=◌, pure, has_ended, next_passes, end_at, letters_at, spaces_at, gap_at, unit_at, date_at, zone_at, time_at, letter_at, last_zone_at, clock_at, after_date_at, units_at, Written, seconds_per, is_same_word, is_second, is_minute, is_hour, is_day, value_of, written_or_fault}
 use Rattle.fm_base.specs.UnitsSpelling.{SpellsUnit, SpellsDate, SpellsAfterDate, SpellsUnits}
 use Rattle.tm_units.proofs.InstantLemmas.{and_parts}
-use Rattle.tm_units.proofs.UnitsExact.{input, Took, Exact, Stops, Anything, AtEnd, Then, Is, done, bind_ok, ok_pair, Exact-then, Exact-as, Exact-before, Exact-pure}
+use Rattle.tm_units.proofs.UnitsExact.{input, Exact, Stops, AtEnd, Then, Is, done, bind_ok, ok_pair, Exact-then, Exact-as, Exact-before, Exact-pure}
 use Rattle.tm_units.proofs.UnitsRuns.{Repeats, RepeatsSome, AreLetters, Exact-many, Exact-some, Exact-letters, after_nothing, same_letters}
 use Rattle.tm_units.proofs.UnitsNumbers.{Exact-unit}
 use Rattle.tm_units.proofs.UnitsParts.{Exact-date}

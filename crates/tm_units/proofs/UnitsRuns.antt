@@ -1,18 +1,16 @@
 -- Runs of bytes, single bytes, words and numbers are read exactly.
-use Rattle.std.proofs.Common.{◌≡◌, ◌⊎◌, inl, inr, ℕ, zero, suc, ◌+◌, ◌<◌, ◌≤◌, Bool, true, false, cond, ◌&&◌, ◌||◌, ◌==◌, eqb, ltb, List, [], ◌∷◌, ◌++◌, length, take, drop, replicate, Option, Some, None, Result, Ok, Err, refl, sym, ap, ap₂, subst, ◌∙◌, append_assoc, length-append, take-append-drop, IsTrue, eq-eqb, arith}
-use Rattle.std.proofs.lemmas.Bool.{or_parts, ltb-false, le-ltb, eqb-true}
+use Rattle.std.proofs.Common.{◌≡◌, ℕ, zero, suc, ◌+◌, ◌≤◌, Bool, true, false, cond, ◌==◌, List, [], ◌∷◌, ◌++◌, length, take, replicate, Ok, Err, refl, sym, ap, ap₂, subst, ◌∙◌, take-append-drop, IsTrue, eq-eqb, arith}
+use Rattle.std.proofs.lemmas.Bool.{eqb-true}
 use Rattle.std.proofs.lemmas.List.{append-nil, length-replicate}
-use Rattle.std.proofs.lemmas.List.Folds.{prefix_len-append, length-prefix_len}
-use Rattle.std.proofs.Math.Seq.{take-length, drop-append_seam, take-append_seam}
-use Rattle.std.specs.Char.{is_ascii_digit, is_ascii_alphabetic, eq_ignore_ascii_case}
+use Rattle.std.proofs.lemmas.List.Folds.{length-prefix_len}
+use Rattle.std.proofs.Math.Seq.{take-length, drop-append_seam}
+use Rattle.std.specs.Char.{eq_ignore_ascii_case}
 use Rattle.std.specs.List.{prefix_len, list_all}
 use Rattle.std.specs.Str.{str_eq_ignore_ascii_case}
 use Rattle.fm_base.specs.Input.{Input}
-use Rattle.fm_base.specs.Stamp.{number_of}
-use Rattle.fm_base.specs.UnitsReading.{Outcome, Parser, and_then, ◌>>=◌, pure, located, unless, past, next_passes, next_is, next_is_letter, byte_at, letter_at, letters_at, run_at, many_at, some_at, number_at, is_same_word}
-use Rattle.fm_base.specs.UnitsSpelling.{SpellsNumber}
+use Rattle.fm_base.specs.UnitsReading.{Parser, past, next_passes, byte_at, letter_at, letters_at, many_at, some_at, is_same_word}
 use Rattle.tm_units.proofs.InstantLemmas.{and_parts}
-use Rattle.tm_units.proofs.UnitsExact.{input, Took, Exact, Stops, Anything, Then, Passes, done, bind_ok, ok_pair, Is, Exact-then, Exact-pure, Exact-as, Exact-before, Exact-unless, Exact-located}
+use Rattle.tm_units.proofs.UnitsExact.{input, Took, Exact, Stops, Anything, Passes, done, ok_pair, Exact-then, Exact-pure, Exact-as, Exact-before, Exact-unless, Exact-located}
 
 -- a run is as long as it can be
 pub run_is : (test : ℕ → Bool) (run rest : List ℕ) → list_all test run ≡ true → Stops test rest → prefix_len test (run ++ rest) ≡ length run

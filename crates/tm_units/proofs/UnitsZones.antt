@@ -1,15 +1,14 @@
 -- Zones, and the end of a text after its time, are read exactly.
-use Rattle.std.proofs.Common.{◌≡◌, ◌⊎◌, inl, inr, ℕ, zero, suc, ◌+◌, ◌<◌, ◌≤◌, Bool, true, false, cond, ◌&&◌, ◌==◌, nat_le, List, [], ◌∷◌, ◌++◌, length, replicate, codes, Option, Some, None, Ok, Err, ◌≢◌, refl, sym, ap, subst, ◌∙◌, append_assoc, IsTrue, ℤ, pos, neg_ℤ, ◌-ℤ◌, eq-eqb, arith}
+use Rattle.std.proofs.Common.{◌≡◌, ◌⊎◌, inl, inr, ℕ, ◌<◌, ◌≤◌, Bool, true, false, cond, ◌==◌, List, [], ◌∷◌, ◌++◌, codes, Err, ◌≢◌, refl, sym, ap, subst, ◌∙◌, IsTrue, ℤ, pos, neg_ℤ, arith}
 use Rattle.std.proofs.lemmas.Bool.{cases_lt, ne_eqb, eqb-true, lt-ltb}
 use Rattle.std.proofs.lemmas.List.{append-nil}
-use Rattle.std.proofs.Math.Dec.{eqb-suc-zero}
 use Rattle.std.specs.Char.{is_ascii_digit, eq_ignore_ascii_case, to_ascii_lowercase}
 use Rattle.fm_base.specs.Input.{Input}
-use Rattle.fm_base.specs.UnitsReading.{Parser, ◌>>=◌, pure, next_passes, has_ended, byte_at, end_at, letter_at, letters_at, many_at, distance_at, zone_at, last_zone_at, is_same_word}
-use Rattle.fm_base.specs.UnitsSpelling.{AreSpaces, IsWord, SpellsDistance, SpellsSigned, IsAhead, IsBehind, IsUtc, SpellsZone, SpellsGivenZone, SpellsLastZone}
-use Rattle.tm_units.proofs.UnitsExact.{input, Took, Exact, Stops, Anything, AtEnd, GoesOn, Then, Is, Optional, done, took_none, none_again, Exact-then, Exact-as, Exact-before, Exact-pure, Exact-either, Exact-unless_ended}
-use Rattle.tm_units.proofs.UnitsRuns.{IsByte, IsLetter, AreLetters, Repeats, Exact-letter, Exact-letters, Exact-many, after_nothing, same_letters, letters_same, no_word, no_letters}
-use Rattle.tm_units.proofs.UnitsParts.{After, EndsTime, Exact-after, Exact-distance, begins_after}
+use Rattle.fm_base.specs.UnitsReading.{◌>>=◌, pure, next_passes, has_ended, byte_at, end_at, letter_at, letters_at, distance_at, zone_at, is_same_word}
+use Rattle.fm_base.specs.UnitsSpelling.{SpellsDistance, SpellsSigned, SpellsZone}
+use Rattle.tm_units.proofs.UnitsExact.{input, Exact, Anything, AtEnd, Then, Is, done, took_none, none_again, Exact-then, Exact-as, Exact-before, Exact-pure, Exact-either}
+use Rattle.tm_units.proofs.UnitsRuns.{IsLetter, AreLetters, Exact-letter, Exact-letters, after_nothing, same_letters, letters_same, no_word, no_letters}
+use Rattle.tm_units.proofs.UnitsParts.{After, EndsTime, Exact-after, Exact-distance}
 
 -- a byte that no time goes on with
 pub record IsPlain (byte : ℕ) : Type 0 where
