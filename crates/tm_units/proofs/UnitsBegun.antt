@@ -8,7 +8,8 @@ use Rattle.fm_base.specs.Input.{Input}
 use Rattle.fm_base.specs.UnitsReading.{Parser, ◌>>=◌, located, has_ended}
 use Rattle.fm_base.specs.UnitsFaults.{AreAlike}
 use Rattle.tm_units.proofs.InstantLemmas.{and_parts}
-use Rattle.tm_units.proofs.UnitsExact.{input, Took, Exact, Then, Optional}
+use Rattle.tm_units.proofs.UnitsExact.{input, Took, Exact, Then}
+use Rattle.tm_units.proofs.UnitsChoices.{Optional}
 use Rattle.tm_units.proofs.UnitsLocal.{stepped, err_is}
 
 pub alike_same : (xs : List ℕ) → AreAlike xs xs

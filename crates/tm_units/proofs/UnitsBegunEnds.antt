@@ -4,16 +4,21 @@ use Rattle.std.specs.Char.{eq_ignore_ascii_case}
 use Rattle.fm_base.specs.Input.{Input}
 use Rattle.fm_base.specs.UnitsReading.{Parser, ◌>>=◌, pure, next_passes, has_ended, end_at, byte_at, distance_at, zone_at, last_zone_at, clock_at, after_date_at, units_at}
 use Rattle.fm_base.specs.UnitsSpelling.{SpellsDate, SpellsTime, SpellsDistance, SpellsZone, SpellsLastZone, SpellsClock, SpellsAfterDate, SpellsUnits}
-use Rattle.tm_units.proofs.UnitsExact.{input, Then, Is, Optional, Allowed, done}
+use Rattle.tm_units.proofs.UnitsExact.{input, Then, Is, done}
+use Rattle.tm_units.proofs.UnitsChoices.{Optional, Allowed}
 use Rattle.tm_units.proofs.UnitsRuns.{Repeats, RepeatsSome, Exact-letter, Exact-letters, Exact-many, Exact-some}
 use Rattle.tm_units.proofs.UnitsNumbers.{Exact-unit}
-use Rattle.tm_units.proofs.UnitsParts.{After, Exact-date, Exact-time, Exact-distance, to_date, to_time, to_distance}
-use Rattle.tm_units.proofs.UnitsZones.{IsEnd, Ahead, Behind, Zulu, Utc, Named, Western, Exact-end, Exact-zone, to_zone}
-use Rattle.tm_units.proofs.UnitsEnds.{ToEnd, AfterGap, Spaced, Marked, Exact-last_zone, Exact-after_date, to_last, to_clock, to_after}
+use Rattle.tm_units.proofs.UnitsDates.{After, Exact-date, to_date}
+use Rattle.tm_units.proofs.UnitsTimes.{Exact-time, Exact-distance, to_time, to_distance}
+use Rattle.tm_units.proofs.UnitsZones.{IsEnd, Ahead, Behind, Zulu, Utc, Named, Western, Exact-end}
+use Rattle.tm_units.proofs.UnitsZoneTexts.{Exact-zone, to_zone}
+use Rattle.tm_units.proofs.UnitsEnds.{ToEnd, Exact-last_zone, to_last, to_clock}
+use Rattle.tm_units.proofs.UnitsAfterDate.{AfterGap, Spaced, Marked, Exact-after_date, to_after}
 use Rattle.tm_units.proofs.UnitsLocal.{err_is}
 use Rattle.tm_units.proofs.UnitsReadings.{TheEnd, FromDate, FromSince, FromUnit, to_units}
 use Rattle.tm_units.proofs.UnitsBegun.{Spelled, Viable, Viable-at_once, Viable-as, Viable-then, Viable-cond, Viable-unless_ended}
-use Rattle.tm_units.proofs.UnitsBegunParts.{Viable-pure, Viable-letter, Viable-letters, Viable-many, Viable-some, Viable-unit, Viable-date, Viable-time, Viable-distance, Viable-after, Spelled-letters, Spelled-then, Spelled-is, a_unit, a_date, a_time, a_distance}
+use Rattle.tm_units.proofs.UnitsBegunParts.{Viable-pure, Viable-letter, Viable-letters, Viable-many, Viable-some, Viable-unit, Spelled-letters, a_unit}
+use Rattle.tm_units.proofs.UnitsBegunTimes.{Viable-date, Viable-time, Viable-distance, Viable-after, Spelled-then, Spelled-is, a_date, a_time, a_distance}
 
 distance : Spelled SpellsDistance
 distance = record { text = a_distance.text; a = a_distance.a; spelled = to_distance a_distance.text a_distance.a a_distance.spelled }

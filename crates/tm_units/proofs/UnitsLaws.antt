@@ -10,7 +10,7 @@ use Rattle.fm_base.specs.UnitsReading.{Outcome, units_at, Written, value_of, wri
 use Rattle.fm_base.specs.UnitsSpelling.{SpellsUnits}
 use Rattle.tm_units.proofs.UnitsExact.{input}
 use Rattle.tm_units.proofs.UnitsLocal.{WrongRun}
-use Rattle.tm_units.proofs.UnitsReadings.{SpellsUnits-written_or_fault, written_or_fault-spelled}
+use Rattle.tm_units.proofs.UnitsSpelled.{SpellsUnits-written_or_fault, written_or_fault-spelled}
 use Rattle.tm_units.proofs.UnitsPlaces.{Local-units}
 use Rattle.tm_units.proofs.UnitsBegunEnds.{Viable-units}
 

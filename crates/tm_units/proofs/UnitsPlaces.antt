@@ -5,7 +5,8 @@ use Rattle.fm_base.specs.Calendar.{time_seconds}
 use Rattle.fm_base.specs.UnitsReading.{Parser, next_passes, has_ended, date_at, fraction_at, second_at, time_at, zone_minute_at, distance_at, zone_at, last_zone_at, clock_at, after_date_at, units_at}
 use Rattle.tm_units.proofs.UnitsLocal.{Local, Local-then, Local-pure, Local-here, Local-cond, agree_first, agree_ended}
 use Rattle.tm_units.proofs.UnitsLocalRuns.{Local-many, Local-some, Local-byte, Local-letter, Local-letters, Local-end}
-use Rattle.tm_units.proofs.UnitsLocalNumbers.{Local-number, Local-unit, Local-the_day}
+use Rattle.tm_units.proofs.UnitsLocalNumbers.{Local-number}
+use Rattle.tm_units.proofs.UnitsLocalFound.{Local-unit, Local-the_day}
 
 -- one reader or the other, by the next byte
 Local-next : {A : Type 0} {p q : Parser A} (test : ℕ → Bool) → Local p → Local q → Local (λ i. cond (next_passes test i) (p i) (q i))

@@ -1,14 +1,15 @@
--- Zones, and the end of a text after its time, are read exactly.
-use Rattle.std.proofs.Common.{◌≡◌, ◌⊎◌, inl, inr, ℕ, ◌<◌, ◌≤◌, Bool, true, false, cond, ◌==◌, List, [], ◌∷◌, ◌++◌, codes, Err, ◌≢◌, refl, sym, ap, subst, ◌∙◌, IsTrue, ℤ, pos, neg_ℤ, arith}
+-- Zones are told apart by their first byte, and read exactly.
+use Rattle.std.proofs.Common.{◌≡◌, ◌⊎◌, inl, inr, ℕ, ◌<◌, ◌≤◌, Bool, true, false, cond, ◌==◌, List, [], ◌∷◌, ◌++◌, codes, Err, ◌≢◌, refl, sym, ap, subst, ◌∙◌, ℤ, pos, neg_ℤ, arith}
 use Rattle.std.proofs.lemmas.Bool.{cases_lt, ne_eqb, eqb-true, lt-ltb}
-use Rattle.std.proofs.lemmas.List.{append-nil}
 use Rattle.std.specs.Char.{is_ascii_digit, eq_ignore_ascii_case, to_ascii_lowercase}
 use Rattle.fm_base.specs.Input.{Input}
-use Rattle.fm_base.specs.UnitsReading.{◌>>=◌, pure, next_passes, has_ended, byte_at, end_at, letter_at, letters_at, distance_at, zone_at, is_same_word}
-use Rattle.fm_base.specs.UnitsSpelling.{SpellsDistance, SpellsSigned, SpellsZone}
-use Rattle.tm_units.proofs.UnitsExact.{input, Exact, Anything, AtEnd, Then, Is, done, took_none, none_again, Exact-then, Exact-as, Exact-before, Exact-pure, Exact-either}
-use Rattle.tm_units.proofs.UnitsRuns.{IsLetter, AreLetters, Exact-letter, Exact-letters, after_nothing, same_letters, letters_same, no_word, no_letters}
-use Rattle.tm_units.proofs.UnitsParts.{After, EndsTime, Exact-after, Exact-distance}
+use Rattle.fm_base.specs.UnitsReading.{◌>>=◌, pure, next_passes, has_ended, byte_at, end_at, letter_at, letters_at, distance_at, zone_at}
+use Rattle.fm_base.specs.UnitsSpelling.{SpellsDistance}
+use Rattle.tm_units.proofs.UnitsExact.{input, Exact, Anything, AtEnd, Then, Is, done, took_none, none_again, Exact-then, Exact-before, Exact-pure}
+use Rattle.tm_units.proofs.UnitsChoices.{Exact-either}
+use Rattle.tm_units.proofs.UnitsRuns.{IsLetter, AreLetters, Exact-letter, Exact-letters, after_nothing, same_letters}
+use Rattle.tm_units.proofs.UnitsDates.{After, Exact-after}
+use Rattle.tm_units.proofs.UnitsTimes.{EndsTime, Exact-distance}
 
 -- a byte that no time goes on with
 pub record IsPlain (byte : ℕ) : Type 0 where
@@ -86,24 +87,24 @@ pub record Begins (text : List ℕ) (byte : ℕ) : Type 0 where
 pub begins_test : (test : ℕ → Bool) (byte : ℕ) (b : Bool) (text rest : List ℕ) → Begins text byte → test byte ≡ b → next_passes test (input 0 (text ++ rest)) ≡ b
 begins_test test byte b text rest begins e = subst (λ (l : List ℕ). next_passes test (input 0 (l ++ rest)) ≡ b) (sym begins.text_is) e
 
-begins_signed : {A : Type 0} {S : List ℕ → A → Type 0} (sign : ℕ) (text : List ℕ) (a : A) → After sign S text a → Begins text sign
+pub begins_signed : {A : Type 0} {S : List ℕ → A → Type 0} (sign : ℕ) (text : List ℕ) (a : A) → After sign S text a → Begins text sign
 begins_signed sign text a s = record { more = s.back; text_is = s.text_is ∙ ap (λ (l : List ℕ). l ++ s.back) s.first }
 
 -- a letter in front
-record BeginsWithLetter (letter : ℕ) (text : List ℕ) : Type 0 where
+pub record BeginsWithLetter (letter : ℕ) (text : List ℕ) : Type 0 where
   pub byte : ℕ
-  same : eq_ignore_ascii_case byte letter ≡ true
+  pub same : eq_ignore_ascii_case byte letter ≡ true
   pub begins : Begins text byte
 
-begins_zulu : (text : List ℕ) (zone : ℤ) → Zulu text zone → BeginsWithLetter 122 text
+pub begins_zulu : (text : List ℕ) (zone : ℤ) → Zulu text zone → BeginsWithLetter 122 text
 begins_zulu text zone s = record { byte = s.first.byte; same = s.first.passes; begins = record { more = s.back; text_is = s.text_is ∙ ap (λ (l : List ℕ). l ++ s.back) s.first.text_is } }
 
-begins_utc : (text : List ℕ) (zone : ℤ) → Utc text zone → BeginsWithLetter 117 text
+pub begins_utc : (text : List ℕ) (zone : ℤ) → Utc text zone → BeginsWithLetter 117 text
 begins_utc text zone s =
     let first = same_letters 117 (codes "tc") s.front s.first in
     record { byte = first.0; same = first.3; begins = record { more = first.1 ++ s.back; text_is = s.text_is ∙ ap (λ (l : List ℕ). l ++ s.back) first.2 } }
 
-not_sign : (sign byte : ℕ) → sign < 65 → 65 ≤ byte → (byte == sign) ≡ false
+pub not_sign : (sign byte : ℕ) → sign < 65 → 65 ≤ byte → (byte == sign) ≡ false
 not_sign sign byte low high = ne_eqb byte sign (λ e. omega arith)
 
 letter_not_sign : (sign letter : ℕ) (text rest : List ℕ) → sign < 65 → 97 ≤ letter → letter ≤ 122 → BeginsWithLetter letter text → next_passes (λ other. other == sign) (input 0 (text ++ rest)) ≡ false
@@ -160,57 +161,3 @@ Exact-the_zone =
     (λ text rest zone s may. named_not_sign 45 text rest zone (omega arith) s))
     (λ text rest zone s. begins_test (λ other. other == 43) 43 true text rest (begins_signed 43 text zone s) refl)
     (λ text rest zone s may. western_not_plus text rest zone s))
-
-to_signed : (sign : ℕ) (value : ℕ → ℤ) (text : List ℕ) (zone : ℤ) (s : After sign (Then SpellsDistance (λ distance. Is (value distance))) text zone) → SpellsSigned sign text s.second.a
-to_signed sign value text zone s = record { distance_text = s.second.front; distance_is = s.second.first; text_is = s.text_is ∙ ap (λ (l : List ℕ). l ++ s.back) s.first ∙ ap (λ (l : List ℕ). sign ∷ l) (s.second.text_is ∙ ap (λ (l : List ℕ). s.second.front ++ l) s.second.second.text_is ∙ append-nil s.second.front) }
-
-pub to_zone : (text : List ℕ) (zone : ℤ) → TheZone text zone → SpellsZone text zone
-to_zone text zone (inl s) = inl (record { distance = s.second.a; signed = to_signed 43 (λ distance. pos distance) text zone s; zone_is = sym s.second.second.value })
-to_zone text zone (inr (inl s)) = inr (inl (record { distance = s.second.a; signed = to_signed 45 (λ distance. neg_ℤ (pos distance)) text zone s; zone_is = sym s.second.second.value }))
-to_zone text zone (inr (inr (inl s))) =
-    let whole : text ≡ s.front = s.text_is ∙ ap (λ (l : List ℕ). s.front ++ l) s.second.text_is ∙ append-nil s.front in
-    inr (inr (record { word = inl (subst (λ (l : List ℕ). IsTrue (is_same_word l (codes "z"))) (sym (whole ∙ s.first.text_is)) (letters_same 122 [] s.first.byte [] s.first.passes (no_letters tt))); zone_is = sym s.second.value }))
-to_zone text zone (inr (inr (inr s))) =
-    let whole : text ≡ s.front = s.text_is ∙ ap (λ (l : List ℕ). s.front ++ l) s.second.text_is ∙ append-nil s.front in
-    inr (inr (record { word = inr (subst (λ (l : List ℕ). IsTrue (is_same_word l (codes "utc"))) (sym whole) s.first); zone_is = sym s.second.value }))
-
-from_signed : (sign : ℕ) (value : ℕ → ℤ) (text : List ℕ) (distance : ℕ) (zone : ℤ) → SpellsSigned sign text distance → zone ≡ value distance → After sign (Then SpellsDistance (λ distance. Is (value distance))) text zone
-from_signed sign value text distance zone s is = record {
-  a = tt;
-  front = sign ∷ [];
-  back = s.distance_text;
-  first = refl;
-  second = record { a = distance; front = s.distance_text; back = []; first = s.distance_is; second = record { value = sym is; text_is = refl }; text_is = sym (append-nil s.distance_text) };
-  text_is = s.text_is;
-}
-
-pub from_zone : (text : List ℕ) (zone : ℤ) → SpellsZone text zone → TheZone text zone
-from_zone text zone (inl s) = inl (from_signed 43 (λ distance. pos distance) text s.distance zone s.signed s.zone_is)
-from_zone text zone (inr (inl s)) = inr (inl (from_signed 45 (λ distance. neg_ℤ (pos distance)) text s.distance zone s.signed s.zone_is))
-from_zone text zone (inr (inr s)) = inr (inr (elim s.word [
-  | inl z ↦
-      let first = same_letters 122 [] text z in
-      inl (record { a = tt; front = text; back = []; first = record { byte = first.0; passes = first.3; text_is = first.2 ∙ ap (λ (l : List ℕ). first.0 ∷ l) (no_word first.1 first.4) }; second = record { value = sym s.zone_is; text_is = refl }; text_is = sym (append-nil text) })
-  | inr utc ↦ inr (record { a = tt; front = text; back = []; first = utc; second = record { value = sym s.zone_is; text_is = refl }; text_is = sym (append-nil text) })
-]))
-
-pub Exact-zone : Exact SpellsZone EndsTime zone_at
-Exact-zone = Exact-as to_zone from_zone Exact-the_zone
-
--- the first byte of a zone
-pub record Starts (text : List ℕ) : Type 0 where
-  pub byte : ℕ
-  pub begins : Begins text byte
-  pub plain : IsPlain byte
-  pub no_space : (byte == 32) ≡ false
-
-letter_starts : (letter : ℕ) (text : List ℕ) → 97 ≤ letter → letter ≤ 122 → BeginsWithLetter letter text → Starts text
-letter_starts letter text low high s =
-    let above = letter_above letter s.byte low s.same high in
-    record { byte = s.byte; begins = s.begins; plain = letter_plain s.byte above; no_space = not_sign 32 s.byte (omega arith) above }
-
-pub zone_starts : (text : List ℕ) (zone : ℤ) → TheZone text zone → Starts text
-zone_starts text zone (inl s) = record { byte = 43; begins = begins_signed 43 text zone s; plain = record { digit = refl; zero_byte = refl; colon = refl; point = refl }; no_space = refl }
-zone_starts text zone (inr (inl s)) = record { byte = 45; begins = begins_signed 45 text zone s; plain = record { digit = refl; zero_byte = refl; colon = refl; point = refl }; no_space = refl }
-zone_starts text zone (inr (inr (inl s))) = letter_starts 122 text (omega arith) (omega arith) (begins_zulu text zone s)
-zone_starts text zone (inr (inr (inr s))) = letter_starts 117 text (omega arith) (omega arith) (begins_utc text zone s)

@@ -1,5 +1,5 @@
 //! Days and seconds of the calendar.
-ghost use Rattle.std.specs.Prelude.{◌≡◌, ◌<◌};
+ghost use Rattle.std.specs.Prelude.{◌≡◌};
 ghost use Rattle.fm_base.specs.Calendar as spec;
 
 use jiff::civil::Date;

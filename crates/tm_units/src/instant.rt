@@ -1,7 +1,6 @@
 //! Instants as texts.
-ghost use Rattle.std.specs.Prelude.{◌≡◌, ℕ, ◌+◌, ◌/◌, ◌%◌, ◌++◌, ◌<◌, OnOk, OnErr, Some, IfSome, pos, neg_ℤ, unsigned_abs};
+ghost use Rattle.std.specs.Prelude.{◌≡◌, ◌+◌, ◌%◌, ◌++◌, OnOk, OnErr, IfSome, pos, neg_ℤ, unsigned_abs};
 ghost use Rattle.jiff_core.specs.Calendar.{IsBetween};
-ghost use Rattle.jiff_core.specs.Date.{epoch_day};
 ghost use Rattle.fm_base.specs.Instant as spec;
 ghost use Rattle.tm_units.specs.Parts.{HasParts};
 
@@ -26,6 +25,7 @@ pub fn read_instant(text: &[u8]) -> Option<i64>
     moment_in(text)
 }
 
+/// The instant that a text writes.
 #[tactic(auto, unfolding(fm_base::specs::Instant::instant_of, fm_base::specs::Instant::instant_form))]
 fn moment_in(text: &[u8]) -> Option<i64>
     ensures { result ≡ spec.instant_of text.now }

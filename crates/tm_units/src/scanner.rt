@@ -1,6 +1,6 @@
 //! A scanner over a text that knows its place.
-ghost use Rattle.std.specs.Prelude.{◌≡◌, ◌==◌, ◌+◌, ◌<◌, ◌≤◌, ◌^◌, length, take};
-ghost use Rattle.std.specs.Char.{is_ascii_digit, is_ascii_alphabetic, eq_ignore_ascii_case};
+ghost use Rattle.std.specs.Prelude.{◌≡◌, ◌==◌, ◌≤◌, length, take};
+ghost use Rattle.std.specs.Char.{is_ascii_digit, is_ascii_alphabetic};
 ghost use Rattle.std.specs.List.{prefix_len};
 ghost use Rattle.fm_base.specs.Input.{whole};
 ghost use Rattle.fm_base.specs.UnitsReading as spec;

@@ -13,6 +13,7 @@ pub(crate) fn is_same_word(word: &[u8], other: &[u8]) -> bool
     word.eq_ignore_ascii_case(other)
 }
 
+/// Whether a word names a second.
 #[tactic(auto, unfolding(fm_base::specs::UnitsReading::is_second))]
 fn is_second(word: &[u8]) -> bool
     ensures { result ≡ spec.is_second word.now }
@@ -24,6 +25,7 @@ fn is_second(word: &[u8]) -> bool
         || is_same_word(word, b"s")
 }
 
+/// Whether a word names a minute.
 #[tactic(auto, unfolding(fm_base::specs::UnitsReading::is_minute))]
 fn is_minute(word: &[u8]) -> bool
     ensures { result ≡ spec.is_minute word.now }
@@ -34,6 +36,7 @@ fn is_minute(word: &[u8]) -> bool
         || is_same_word(word, b"mins")
 }
 
+/// Whether a word names an hour.
 #[tactic(auto, unfolding(fm_base::specs::UnitsReading::is_hour))]
 fn is_hour(word: &[u8]) -> bool
     ensures { result ≡ spec.is_hour word.now }
@@ -45,6 +48,7 @@ fn is_hour(word: &[u8]) -> bool
         || is_same_word(word, b"h")
 }
 
+/// Whether a word names a day.
 #[tactic(auto, unfolding(fm_base::specs::UnitsReading::is_day))]
 fn is_day(word: &[u8]) -> bool
     ensures { result ≡ spec.is_day word.now }

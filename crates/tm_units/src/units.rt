@@ -1,5 +1,5 @@
 //! The `units` and `calendar` attributes of a time variable.
-ghost use Rattle.std.specs.Prelude.{◌≡◌, option_map, option_copied};
+ghost use Rattle.std.specs.Prelude.{◌≡◌, option_map};
 ghost use Rattle.fm_base.specs.Units as spec;
 ghost use Rattle.fm_base.specs.UnitsReading.{units_at};
 ghost use Rattle.fm_base.specs.UnitsSpelling.{SpellsUnits};
@@ -24,6 +24,7 @@ struct Written {
     seconds: i32,
 }
 
+/// Reads units of time up to the end of the text.
 #[tactic(auto, unfolding(fm_base::specs::UnitsReading::units_at))]
 fn read_written(scanner: &mut Scanner<'_>) -> Result<Written, BadPlace>
     ensures { Reads (λ w. record { per = w.per; day = w.day; seconds = w.seconds })
@@ -39,6 +40,7 @@ fn read_written(scanner: &mut Scanner<'_>) -> Result<Written, BadPlace>
     Ok(Written { per, day, seconds })
 }
 
+/// Whether the Gregorian calendar holds at every date.
 #[tactic(auto, unfolding(fm_base::specs::Units::is_proleptic))]
 fn is_proleptic(calendar: Option<&[u8]>) -> bool
     ensures { result ≡ spec.is_proleptic (option_map (λ text. text.now) calendar.entry) }
@@ -49,6 +51,7 @@ fn is_proleptic(calendar: Option<&[u8]>) -> bool
     }
 }
 
+/// Whether the Gregorian calendar holds from 1582-10-15 on.
 #[tactic(auto, unfolding(fm_base::specs::Units::is_gregorian))]
 fn is_gregorian(calendar: Option<&[u8]>) -> bool
     ensures { result ≡ spec.is_gregorian (option_map (λ text. text.now) calendar.entry) }
