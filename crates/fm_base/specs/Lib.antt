@@ -1,8 +1,15 @@
+pub mod Calendar
 pub mod Field
 pub mod Format
 pub mod Input
+pub mod Instant
 pub mod Kind
 pub mod Layout
 pub mod Pattern
 pub mod Reading
 pub mod Spelling
+pub mod Stamp
+pub mod Units
+pub mod UnitsFaults
+pub mod UnitsReading
+pub mod UnitsSpelling

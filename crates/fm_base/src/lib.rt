@@ -11,6 +11,7 @@ mod kind;
 mod list;
 mod pattern;
 mod shared;
+mod units;
 
 pub use decimal::put_decimal;
 pub use fail::{Fail, NoMemory};
@@ -21,3 +22,4 @@ pub use kind::Kind;
 pub use list::{Bytes, List};
 pub use pattern::{Pattern, Value};
 pub use shared::Arc;
+pub use units::{Units, UnitsFault};

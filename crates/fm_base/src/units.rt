@@ -1,0 +1,19 @@
+//! Units of time, and what is wrong with a text that should name them.
+
+/// A number `x` in these units stands for the moment `origin + per * x`, in Unix seconds.
+#[derive(Clone, Copy, Debug, PartialEq, Eq)]
+pub struct Units {
+    pub per: u32,
+    pub origin: i64,
+}
+
+/// Why a `units` attribute, with a `calendar` attribute beside it or none, gives no units.
+#[derive(Clone, Copy, Debug, PartialEq, Eq)]
+pub enum UnitsFault {
+    /// The text isn't `UNIT since DATE TIME ZONE`. The place is that of the first byte at fault, counted from 0.
+    BadUnits(u64),
+    /// The calendar isn't the Gregorian one.
+    Calendar,
+    /// The date lies before 1582-10-15, where the mixed calendar has Julian dates.
+    MixedCalendar,
+}

@@ -1,0 +1,6 @@
+use Rattle.std.proofs.Common.{◌≡◌, drop}
+use Rattle.fm_base.specs.UnitsReading.{letters_at}
+use Rattle.tm_units.proofs.number.letters.Given as goal
+
+abbrev pub invariant-loop-letter : goal.invariant-loop-letter
+invariant-loop-letter l = letters_at l.letters l.fn.scanner ≡ letters_at (drop l.letter-index l.letters) l.scanner

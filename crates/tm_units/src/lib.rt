@@ -1,0 +1,21 @@
+//! Moments and units of time, as names, texts and the `units` attribute of a file spell them.
+#![tactic(auto)]
+
+mod calendar;
+mod date;
+mod form;
+mod instant;
+mod mark;
+mod number;
+mod scanner;
+mod time;
+mod unit;
+mod units;
+
+pub use fm_base::{Units, UnitsFault};
+pub use instant::{instant_text, read_instant};
+pub use mark::read_mark;
+pub use units::read_units;
+
+#[cfg(test)]
+mod tests;

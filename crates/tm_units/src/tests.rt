@@ -1,0 +1,5 @@
+//! Tests against values from outside.
+
+mod faults;
+mod moments;
+mod spellings;

@@ -1,0 +1,160 @@
+//! The time of an origin, and its zone.
+ghost use Rattle.std.specs.Prelude.{◌≡◌, ◌<◌, ◌≤◌, IfOk};
+ghost use Rattle.jiff_core.specs.Calendar.{IsWithin};
+ghost use Rattle.fm_base.specs.UnitsReading as spec;
+ghost use Rattle.tm_units.specs.Scanning.{Reads};
+
+use crate::number::{Digits, letters, number};
+use crate::scanner::{BadPlace, Scanner};
+
+const HOUR: Digits = Digits {
+    fewest: 1,
+    most: 2,
+    low: 0,
+    high: 23,
+};
+
+const MINUTE: Digits = Digits {
+    fewest: 1,
+    most: 2,
+    low: 0,
+    high: 59,
+};
+
+const MINUTE_OF_ZONE: Digits = Digits {
+    fewest: 2,
+    most: 2,
+    low: 0,
+    high: 59,
+};
+
+/// Passes over a point and zeros, where there is a point.
+#[tactic(auto, unfolding(fm_base::specs::UnitsReading::fraction_at))]
+fn fraction(scanner: &mut Scanner<'_>) -> Result<usize, BadPlace>
+    ensures { Reads (λ n. n) (spec.fraction_at scanner.old) result scanner.new }
+{
+    if !scanner.next_is(b'.') {
+        return Ok(0);
+    }
+    scanner.byte(b'.')?;
+    scanner.some(b'0')
+}
+
+/// Reads the second of a time, 0 where it is left out.
+#[tactic(auto, unfolding(fm_base::specs::UnitsReading::second_at))]
+fn second(scanner: &mut Scanner<'_>) -> Result<u32, BadPlace>
+    ensures read { Reads (λ n. n) (spec.second_at scanner.old) result scanner.new }
+    ensures range { IfOk result (λ n. n ≤ 59) }
+{
+    if !scanner.next_is(b':') {
+        return Ok(0);
+    }
+    scanner.byte(b':')?;
+    let second = number(scanner, MINUTE)?;
+    fraction(scanner)?;
+    Ok(second)
+}
+
+/// Reads a time of day as the seconds from midnight.
+#[tactic(auto, unfolding(fm_base::specs::UnitsReading::time_at))]
+fn time(scanner: &mut Scanner<'_>) -> Result<u32, BadPlace>
+    ensures read { Reads (λ n. n) (spec.time_at scanner.old) result scanner.new }
+    ensures range { IfOk result (λ n. n < 86_400) }
+{
+    let hour = number(scanner, HOUR)?;
+    scanner.byte(b':')?;
+    let minute = number(scanner, MINUTE)?;
+    let second = second(scanner)?;
+    Ok(hour * 3600 + minute * 60 + second)
+}
+
+/// Reads the minutes of a zone, 0 where they are left out.
+#[tactic(auto, unfolding(fm_base::specs::UnitsReading::zone_minute_at))]
+fn zone_minute(scanner: &mut Scanner<'_>) -> Result<u32, BadPlace>
+    ensures read { Reads (λ n. n) (spec.zone_minute_at scanner.old) result scanner.new }
+    ensures range { IfOk result (λ n. n ≤ 59) }
+{
+    if !scanner.next_is(b':') {
+        return Ok(0);
+    }
+    scanner.byte(b':')?;
+    number(scanner, MINUTE_OF_ZONE)
+}
+
+/// Reads the hours and minutes of a zone as seconds.
+#[tactic(auto, unfolding(fm_base::specs::UnitsReading::distance_at))]
+fn distance(scanner: &mut Scanner<'_>) -> Result<u32, BadPlace>
+    ensures read { Reads (λ n. n) (spec.distance_at scanner.old) result scanner.new }
+    ensures range { IfOk result (λ n. n < 86_400) }
+{
+    let hour = number(scanner, HOUR)?;
+    let minute = zone_minute(scanner)?;
+    Ok(hour * 3600 + minute * 60)
+}
+
+/// Reads a zone as the seconds by which its clocks are ahead of UTC.
+#[tactic(auto, unfolding(fm_base::specs::UnitsReading::zone_at))]
+fn zone(scanner: &mut Scanner<'_>) -> Result<i32, BadPlace>
+    ensures read { Reads (λ n. n) (spec.zone_at scanner.old) result scanner.new }
+    ensures range { IfOk result (λ z. IsWithin 86_399 z) }
+{
+    if scanner.next_is(b'+') {
+        scanner.byte(b'+')?;
+        return Ok(distance(scanner)? as i32);
+    }
+    if scanner.next_is(b'-') {
+        scanner.byte(b'-')?;
+        return Ok(-(distance(scanner)? as i32));
+    }
+    if scanner.next_is_letter(b'z') {
+        scanner.letter(b'z')?;
+        return Ok(0);
+    }
+    letters(scanner, b"utc")?;
+    Ok(0)
+}
+
+/// Reads a zone up to the end of the text, UTC where it is left out.
+#[tactic(auto, unfolding(fm_base::specs::UnitsReading::last_zone_at))]
+fn last_zone(scanner: &mut Scanner<'_>) -> Result<i32, BadPlace>
+    ensures read { Reads (λ n. n) (spec.last_zone_at scanner.old) result scanner.new }
+    ensures range { IfOk result (λ z. IsWithin 86_399 z) }
+{
+    scanner.many(b' ');
+    if scanner.has_ended() {
+        return Ok(0);
+    }
+    let zone = zone(scanner)?;
+    scanner.many(b' ');
+    scanner.end()?;
+    Ok(zone)
+}
+
+/// Reads a time and its zone up to the end of the text, as the seconds from the midnight in UTC that begins its date.
+#[tactic(auto, unfolding(fm_base::specs::UnitsReading::clock_at))]
+fn clock(scanner: &mut Scanner<'_>) -> Result<i32, BadPlace>
+    ensures { Reads (λ n. n) (spec.clock_at scanner.old) result scanner.new }
+{
+    let time = time(scanner)?;
+    let zone = last_zone(scanner)?;
+    Ok(time as i32 - zone)
+}
+
+/// Reads what follows a date up to the end of the text, which is midnight in UTC where there is no time.
+#[tactic(auto, unfolding(fm_base::specs::UnitsReading::after_date_at))]
+pub(crate) fn after_date(scanner: &mut Scanner<'_>) -> Result<i32, BadPlace>
+    ensures { Reads (λ n. n) (spec.after_date_at scanner.old) result scanner.new }
+{
+    if scanner.next_is_letter(b't') {
+        scanner.letter(b't')?;
+        return clock(scanner);
+    }
+    let gap = scanner.many(b' ');
+    if scanner.has_ended() {
+        return Ok(0);
+    }
+    if gap == 0 {
+        return Err(BadPlace { at: scanner.at() });
+    }
+    clock(scanner)
+}

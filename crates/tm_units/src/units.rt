@@ -1,0 +1,119 @@
+//! The `units` and `calendar` attributes of a time variable.
+ghost use Rattle.std.specs.Prelude.{◌≡◌, option_map};
+ghost use Rattle.fm_base.specs.Units as spec;
+ghost use Rattle.fm_base.specs.UnitsReading.{units_at};
+ghost use Rattle.fm_base.specs.UnitsSpelling.{SpellsUnits};
+ghost use Rattle.tm_units.specs.Scanning.{Reads};
+
+use crate::date::date;
+use crate::number::letters;
+use crate::scanner::{BadPlace, Scanner};
+use crate::time::after_date;
+use crate::unit::{is_same_word, unit};
+use fm_base::{Units, UnitsFault};
+use jiff::civil::Date;
+
+const SECONDS_PER_DAY: i64 = 86_400;
+
+/// What a `units` text says: the seconds of the unit, the day number of the date, and the seconds from the midnight in
+/// UTC that begins that date to the origin.
+#[derive(Clone, Copy)]
+struct Written {
+    per: u32,
+    day: i32,
+    seconds: i32,
+}
+
+/// Reads units of time up to the end of the text.
+#[tactic(auto, unfolding(fm_base::specs::UnitsReading::units_at))]
+fn read_written(scanner: &mut Scanner<'_>) -> Result<Written, BadPlace>
+    ensures { Reads (λ w. record { per = w.per; day = w.day; seconds = w.seconds })
+        (units_at scanner.old) result scanner.new }
+{
+    scanner.many(b' ');
+    let per = unit(scanner)?;
+    scanner.some(b' ')?;
+    letters(scanner, b"since")?;
+    scanner.some(b' ')?;
+    let day = date(scanner)?;
+    let seconds = after_date(scanner)?;
+    Ok(Written { per, day, seconds })
+}
+
+/// Whether the Gregorian calendar holds at every date.
+#[tactic(auto, unfolding(fm_base::specs::Units::is_proleptic))]
+fn is_proleptic(calendar: Option<&[u8]>) -> bool
+    ensures { result ≡ spec.is_proleptic (option_map (λ text. text.now) calendar.entry) }
+{
+    match calendar {
+        Some(text) => is_same_word(text, b"proleptic_gregorian"),
+        None => false,
+    }
+}
+
+/// Whether the Gregorian calendar holds from 1582-10-15 on.
+#[tactic(auto, unfolding(fm_base::specs::Units::is_gregorian))]
+fn is_gregorian(calendar: Option<&[u8]>) -> bool
+    ensures { result ≡ spec.is_gregorian (option_map (λ text. text.now) calendar.entry) }
+{
+    match calendar {
+        Some(text) => {
+            is_same_word(text, b"standard")
+                || is_same_word(text, b"gregorian")
+                || is_same_word(text, b"proleptic_gregorian")
+        }
+        None => true,
+    }
+}
+
+/// Whether a day lies before the first of the Gregorian calendar.
+#[tactic(auto, unfolding(fm_base::specs::Units::is_before_gregorian))]
+fn is_before_gregorian(day: i32) -> bool
+    ensures { result ≡ spec.is_before_gregorian day }
+{
+    day < Date::constant(1582, 10, 15).to_plain().to_unix_epoch_day()
+}
+
+/// The units of what a text says, in a calendar.
+#[tactic(auto, unfolding(fm_base::specs::Units::in_calendar))]
+fn in_calendar(written: Written, calendar: Option<&[u8]>) -> Result<Units, UnitsFault>
+    ensures { result ≡ spec.in_calendar (option_map (λ text. text.now) calendar.entry)
+        (record { per = written.per; day = written.day; seconds = written.seconds }) }
+{
+    if !is_gregorian(calendar) {
+        return Err(UnitsFault::Calendar);
+    }
+    if !is_proleptic(calendar) && is_before_gregorian(written.day) {
+        return Err(UnitsFault::MixedCalendar);
+    }
+    Ok(Units {
+        per: written.per,
+        origin: i64::from(written.day) * SECONDS_PER_DAY + i64::from(written.seconds),
+    })
+}
+
+/// The units of a text in a calendar.
+#[tactic(auto, unfolding(fm_base::specs::Units::units_of, fm_base::specs::UnitsReading::written_or_fault))]
+fn units_of(text: &[u8], calendar: Option<&[u8]>) -> Result<Units, UnitsFault>
+    ensures { result ≡ spec.units_of text.now (option_map (λ text. text.now) calendar.entry) }
+{
+    match read_written(&mut Scanner::new(text)) {
+        Ok(written) => in_calendar(written, calendar),
+        Err(bad) => Err(UnitsFault::BadUnits(bad.at)),
+    }
+}
+
+/// The units that the text of a `units` attribute names, with the text of the `calendar` attribute beside it.
+#[tactic(auto, using(crate::proofs::UnitsLaws::units_laws))]
+pub fn read_units(text: &[u8], calendar: Option<&[u8]>) -> Result<Units, UnitsFault>
+    ensures value { result ≡ spec.units_of text.now (option_map (λ text. text.now) calendar.entry) }
+
+    // What is read is spelled so, and what is refused isn't spelled or has another calendar.
+    ensures settled { spec.Settles text.now (option_map (λ text. text.now) calendar.entry) result }
+
+    // What is spelled is read, so a text spells one reading at most.
+    ensures spelled { (written : _) → SpellsUnits text.now written
+        → result ≡ spec.in_calendar (option_map (λ text. text.now) calendar.entry) written }
+{
+    units_of(text, calendar)
+}
