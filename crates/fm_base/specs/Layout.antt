@@ -1,6 +1,7 @@
 -- Where the elements of a file's variables lie, and what is wrong with where they lie (NetCDF Classic Format
 -- Specification, "Computing File Offsets").
 use Rattle.std.specs.Prelude.{ℕ, ◌+◌, ◌-◌, ◌*◌, ◌^◌, List, [], ◌∷◌, take, drop, map, filter, sum_by, Option, Some, None, slice_get, slice_index, Bool, false, nat_lt, not, ◌==◌, if◌then◌else◌}
+use Rattle.std.specs.List.{flat_map, range_with_len}
 use Rattle.std.specs.Option.{option_map_or}
 use Rattle.fm_base.specs.declared.fault.LayoutFault.{LayoutFault}
 use Rattle.fm_base.specs.declared.fault.LayoutFault.TheVariants.{TooLarge, DataOutside}
@@ -66,6 +67,15 @@ place_of header var index = if has_records header var then var.begin + slice_ind
 -- the bytes of an element
 unfoldable pub element : List ℕ → Header → NcVar → List ℕ → List ℕ
 element bytes header var index = take (size_of var.kind) (drop (place_of header var index) bytes)
+
+-- all index lists of an array of this shape, in row-major order
+unfoldable pub indices_of : List ℕ → List (List ℕ)
+indices_of [] = [] ∷ []
+indices_of (n ∷ shape) = flat_map (λ (i : ℕ). map (λ (index : List ℕ). i ∷ index) (indices_of shape)) (range_with_len 0 n)
+
+-- the bytes of all elements of a variable, in row-major order
+unfoldable pub elements_of : List ℕ → Header → NcVar → List ℕ
+elements_of bytes header var = flat_map (element bytes header var) (indices_of (shape_of header var))
 
 -- the index list of the last element
 abbrev pub last_index : Header → NcVar → List ℕ

@@ -1,4 +1,6 @@
+pub mod Answer
 pub mod Calendar
+pub mod Code
 pub mod Field
 pub mod Format
 pub mod Input

@@ -1,4 +1,6 @@
 //! What can be wrong with a netCDF classic file.
+ghost use Rattle.std.specs.Prelude.{◌≡◌};
+ghost use Rattle.fm_base.specs.Code.{header_code, layout_code};
 
 /// The first fault of a header, with the place of the first byte of the field at fault, counted from 0.
 #[derive(Clone, Copy, Debug, PartialEq, Eq)]
@@ -29,6 +31,28 @@ pub enum HeaderFault {
     Streaming,
 }
 
+impl HeaderFault {
+    /// The number by which the fault is reported.
+    pub fn code(self) -> u16
+        ensures { result ≡ header_code self }
+    {
+        match self {
+            HeaderFault::BadMagic => 1,
+            HeaderFault::BadVersion(_) => 2,
+            HeaderFault::Truncated(_) => 3,
+            HeaderFault::BadTag(_) => 4,
+            HeaderFault::BadCount(_) => 5,
+            HeaderFault::BadName(_) => 6,
+            HeaderFault::BadType(_) => 7,
+            HeaderFault::BadDimId(_) => 8,
+            HeaderFault::TwoRecordDims(_) => 9,
+            HeaderFault::RecordNotFirst(_) => 10,
+            HeaderFault::RepeatedName(_) => 11,
+            HeaderFault::Streaming => 12,
+        }
+    }
+}
+
 /// What is wrong with where the data of a sound header lies. A variable is named by its number from 0.
 #[derive(Clone, Copy, Debug, PartialEq, Eq)]
 pub enum LayoutFault {
@@ -36,4 +60,16 @@ pub enum LayoutFault {
     TooLarge(u64),
     /// The last element of the variable ends at `end`, past the file's length.
     DataOutside { var: u64, end: u128, len: u64 },
+}
+
+impl LayoutFault {
+    /// The number by which the fault is reported.
+    pub fn code(self) -> u16
+        ensures { result ≡ layout_code self }
+    {
+        match self {
+            LayoutFault::TooLarge(_) => 13,
+            LayoutFault::DataOutside { .. } => 14,
+        }
+    }
 }

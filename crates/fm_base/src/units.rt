@@ -1,4 +1,6 @@
 //! Units of time, and what is wrong with a text that should name them.
+ghost use Rattle.std.specs.Prelude.{◌≡◌};
+ghost use Rattle.fm_base.specs.Code.{units_code};
 
 /// A number `x` in these units stands for the moment `origin + per * x`, in Unix seconds.
 #[derive(Clone, Copy, Debug, PartialEq, Eq)]
@@ -16,4 +18,17 @@ pub enum UnitsFault {
     Calendar,
     /// The date lies before 1582-10-15, where the mixed calendar has Julian dates.
     MixedCalendar,
+}
+
+impl UnitsFault {
+    /// The number by which the fault is reported.
+    pub fn code(self) -> u16
+        ensures { result ≡ units_code self }
+    {
+        match self {
+            UnitsFault::BadUnits(_) => 15,
+            UnitsFault::Calendar => 16,
+            UnitsFault::MixedCalendar => 17,
+        }
+    }
 }

@@ -8,7 +8,7 @@ use Rattle.fm_base.specs.Reading.{Reads, header_at, header_or_fault}
 use Rattle.fm_base.specs.Input.{Input, whole}
 use Rattle.fm_base.specs.Spelling.{HeaderOf}
 use Rattle.fm_base.proofs.HeaderLaws.{read-from_HeaderOf}
-use Rattle.nc_header.specs.Answer.{Answers, IsReadAs, OnFault}
+use Rattle.fm_base.specs.Answer.{Answers, IsReadAs, OnFault}
 use Rattle.nc_header.specs.NoHeader.{HasNoHeader}
 
 -- what the reader of all fields answers is the answer

@@ -3,7 +3,7 @@ ghost use Rattle.std.specs.Prelude.{◌≡◌, IfOk};
 ghost use Rattle.fm_base.specs.Reading as spec;
 ghost use Rattle.fm_base.specs.Reading.{Reads, header_or_fault};
 ghost use Rattle.fm_base.specs.Spelling.{HeaderOf};
-ghost use Rattle.nc_header.specs.Answer.{Answers, IsReadAs, OnFault};
+ghost use Rattle.fm_base.specs.Answer.{Answers, IsReadAs, OnFault};
 ghost use Rattle.nc_header.specs.NoHeader.{HasNoHeader};
 
 use crate::attrs::read_attr_list;

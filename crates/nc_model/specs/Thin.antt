@@ -59,6 +59,10 @@ header_words shape =
 unfoldable pub header_text : ThinShape → List ℕ
 header_text shape = flat_map (to_be_bytes w32) (header_words shape)
 
+-- where the field of record k begins
+abbrev pub field_begin : ThinShape → ℕ → ℕ
+field_begin shape k = data_begin shape + k * record_len shape + 4
+
 -- 2020-01-01T00:00:00Z in Unix seconds, from which instants are counted
 abbrev pub EPOCH_SECONDS : ℤ
 EPOCH_SECONDS = pos 1577836800

@@ -24,12 +24,9 @@ fn instant_at(bytes: &[u8], shape: ThinShape, k: u32) -> i64
     i64::from(time) - EPOCH
 }
 
+/// The times of the records of a thin file, in seconds from 2020-01-01T00:00:00Z.
 #[tactic(auto, using(crate::proofs::InstantLemmas::one_more), unfolding(crate::specs::Thin::instants_of))]
-pub(crate) fn instants_of(
-    alloc: Global,
-    bytes: &[u8],
-    shape: ThinShape,
-) -> Result<List<i64>, NoMemory>
+pub fn instants_of(alloc: Global, bytes: &[u8], shape: ThinShape) -> Result<List<i64>, NoMemory>
     requires shape { IsTrue (is_thin_shape shape) }
     requires long { thin_len shape ≤ length bytes.now }
     ensures { IfOk result (λ instants. instants ≡ instants_of bytes.now shape) }

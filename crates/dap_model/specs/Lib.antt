@@ -1,0 +1,2 @@
+pub mod StructureText
+pub mod Xdr

@@ -1,0 +1,9 @@
+//! What DAP 2.0 sends, as plain data: declarations of a dataset, slabs of arrays, and what a constraint asks for. The
+//! definitions in `specs/` say what a structure text is, what a constraint means, and how values are laid out.
+#![tactic(auto)]
+
+mod declaration;
+mod projection;
+
+pub use declaration::{Array, DapKind, Decl};
+pub use projection::{Clause, Projection, Sent, Slab};

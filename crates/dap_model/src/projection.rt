@@ -1,0 +1,33 @@
+//! What a constraint asks for, and what is sent for it (ESE-RFC-004, constraint expressions).
+
+use fm_base::{Bytes, List};
+
+/// Some of the places along one dimension: `start`, `start + stride` and so on, up to `stop`.
+#[derive(Clone, Copy, Debug, PartialEq, Eq)]
+pub struct Slab {
+    pub start: u64,
+    pub stride: u64,
+    pub stop: u64,
+}
+
+/// One item of a projection: the names of a path, and a slab for each dimension, or none for the whole.
+#[derive(Debug, Drop)]
+pub struct Clause {
+    pub path: List<Bytes>,
+    pub slabs: List<Slab>,
+}
+
+/// What a constraint asks for, in the order in which it is written. No clause asks for everything.
+#[derive(Debug, Drop)]
+pub struct Projection {
+    pub clauses: List<Clause>,
+}
+
+/// A part of a declaration that is sent, with a slab for each of its dimensions. The declaration is named by its place
+/// in the dataset; part 0 is its array, and part `i` the `i`-th map from 1.
+#[derive(Debug, Drop)]
+pub struct Sent {
+    pub decl: u32,
+    pub part: u32,
+    pub slabs: List<Slab>,
+}
