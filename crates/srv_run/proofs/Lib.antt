@@ -1,5 +1,6 @@
 pub mod Asking
 pub mod AskingLink
+pub mod CheckLemmas
 pub mod ExchangeLemmas
 pub mod LoadLemmas
 pub mod PieceLemmas

@@ -1,7 +1,7 @@
 -- Where the reading of a file ends a run.
 use Rattle.std.proofs.Common.{◌≡◌, Result, Ok, Err, Option, Some, None, IfSome, ℕ, List, subst, ap, ◌∙◌, rules}
 use Rattle.srv_run.specs.declared.end.End.{End}
-use Rattle.srv_run.specs.declared.end.End.TheVariants.{Done, BadWords, Refused, NoMemory, FileFault, LinkFault, NoFile, TooLong, InputEnded}
+use Rattle.srv_run.specs.declared.end.End.TheVariants.{Done, BadWords, Refused, NoMemory, FileFault, SinkFault, LinkFault, NoFile, TooLong, InputEnded}
 use Rattle.srv_run.specs.declared.end.Subject.TheVariants.{Prototype, File, Request}
 use Rattle.srv_run.specs.declared.file.ReadFile.{ReadFile}
 use Rattle.srv_run.specs.Once.{AccordsFiles, ◌>>=◌, read_or_end, taken_or_end, loaded_or_end}
@@ -31,6 +31,7 @@ AccordsFiles-proto (TooLong subject len) proto rest gives ends = stops proto res
 AccordsFiles-proto Done proto rest gives ends = absurd ends
 AccordsFiles-proto BadWords proto rest gives ends = absurd ends
 AccordsFiles-proto LinkFault proto rest gives ends = absurd ends
+AccordsFiles-proto SinkFault proto rest gives ends = absurd ends
 AccordsFiles-proto InputEnded proto rest gives ends = absurd ends
 
 second : (proto file : Read) (first : ReadFile) (rest : ReadFile → ReadFile → Read) (end : End) → proto ≡ Ok first → file ≡ Err end → (proto >>= λ p. file >>= rest p) ≡ Err end
@@ -50,6 +51,7 @@ AccordsFiles-file (TooLong subject len) proto file first rest taken gives ends =
 AccordsFiles-file Done proto file first rest taken gives ends = absurd ends
 AccordsFiles-file BadWords proto file first rest taken gives ends = absurd ends
 AccordsFiles-file LinkFault proto file first rest taken gives ends = absurd ends
+AccordsFiles-file SinkFault proto file first rest taken gives ends = absurd ends
 AccordsFiles-file InputEnded proto file first rest taken gives ends = absurd ends
 
 -- a run that ends where a file is read hasn't come to its request
@@ -64,6 +66,7 @@ IsBeforeRequest-proto (TooLong named len) ends = tt
 IsBeforeRequest-proto Done ends = absurd ends
 IsBeforeRequest-proto BadWords ends = absurd ends
 IsBeforeRequest-proto LinkFault ends = absurd ends
+IsBeforeRequest-proto SinkFault ends = absurd ends
 IsBeforeRequest-proto InputEnded ends = absurd ends
 
 pub IsBeforeRequest-file : (end : End) → IsEndOfRead File end → IsBeforeRequest end
@@ -77,6 +80,7 @@ IsBeforeRequest-file (TooLong named len) ends = tt
 IsBeforeRequest-file Done ends = absurd ends
 IsBeforeRequest-file BadWords ends = absurd ends
 IsBeforeRequest-file LinkFault ends = absurd ends
+IsBeforeRequest-file SinkFault ends = absurd ends
 IsBeforeRequest-file InputEnded ends = absurd ends
 
 pub ruleset load_ends = (IsBeforeRequest-proto, IsBeforeRequest-file)

@@ -1,3 +1,4 @@
+pub mod Check
 pub mod Collection
 pub mod Once
 pub mod Reply

@@ -7,7 +7,7 @@ use Rattle.fm_world.specs.Link.{Wire, after_take, after_put}
 use Rattle.nc_model.specs.declared.shape.ThinShape.{ThinShape}
 use Rattle.nc_model.specs.Thin.{thin_shape}
 use Rattle.srv_run.specs.declared.end.End.{End}
-use Rattle.srv_run.specs.declared.end.End.TheVariants.{Done, BadWords, Refused, NoMemory, FileFault, LinkFault, NoFile, TooLong, InputEnded}
+use Rattle.srv_run.specs.declared.end.End.TheVariants.{Done, BadWords, Refused, NoMemory, FileFault, SinkFault, LinkFault, NoFile, TooLong, InputEnded}
 use Rattle.srv_run.specs.declared.end.Subject.{Subject as Matter}
 use Rattle.srv_run.specs.declared.end.Subject.TheVariants.{Prototype, File, Request}
 use Rattle.srv_run.specs.declared.file.ReadFile.{ReadFile}
@@ -87,6 +87,7 @@ AccordsFiles (FileFault File) proto loaded = IsOk proto
 AccordsFiles (FileFault Request) proto loaded = ⊥
 AccordsFiles (NoFile subject) proto loaded = loaded ≡ Err (NoFile subject)
 AccordsFiles (TooLong subject len) proto loaded = loaded ≡ Err (TooLong subject len)
+AccordsFiles SinkFault proto loaded = ⊥
 AccordsFiles BadWords proto loaded = ⊥
 
 -- How a run ended accords with how its input meets the head.

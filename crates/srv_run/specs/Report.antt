@@ -2,7 +2,7 @@
 use Rattle.std.specs.Prelude.{◌≡◌, ℕ, ◌≤◌, List, [], ◌++◌, length, take, codes, decimal, Option, Result, MatchResult}
 use Rattle.fm_world.specs.Sink.{after_append}
 use Rattle.srv_run.specs.declared.end.End.{End}
-use Rattle.srv_run.specs.declared.end.End.TheVariants.{Done, BadWords, Refused, NoMemory, FileFault, LinkFault, NoFile, TooLong, InputEnded}
+use Rattle.srv_run.specs.declared.end.End.TheVariants.{Done, BadWords, Refused, NoMemory, FileFault, SinkFault, LinkFault, NoFile, TooLong, InputEnded}
 use Rattle.srv_run.specs.declared.end.Subject.{Subject as Matter}
 use Rattle.srv_run.specs.declared.end.Subject.TheVariants.{Prototype, File, Request}
 use Rattle.srv_run.specs.Words.{Command}
@@ -18,6 +18,7 @@ status_of BadWords = 2
 status_of (Refused subject code) = 3
 status_of NoMemory = 4
 status_of (FileFault subject) = 5
+status_of SinkFault = 7
 status_of LinkFault = 9
 status_of (NoFile subject) = 10
 status_of (TooLong subject len) = 10
@@ -41,13 +42,14 @@ file_fault_line subject = codes "file fault " ++ subject ++ codes "\n"
 unfoldable pub no_file_line : List ℕ → List ℕ
 no_file_line subject = codes "no file " ++ subject ++ codes "\n"
 
--- the line that tells of an end; none where every step was done
+-- the line that tells of an end; none where every step was done, or where the line of what was done failed
 unfoldable pub line_of : Command → End → List ℕ
 line_of command Done = []
 line_of command BadWords = codes "bad words\n"
 line_of command (Refused subject code) = refused_line (subject_text command subject) code
 line_of command NoMemory = codes "no memory\n"
 line_of command (FileFault subject) = file_fault_line (subject_text command subject)
+line_of command SinkFault = []
 line_of command LinkFault = codes "link fault\n"
 line_of command (NoFile subject) = no_file_line (subject_text command subject)
 line_of command (TooLong subject len) = too_long_line (subject_text command subject) len

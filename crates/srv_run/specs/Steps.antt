@@ -2,9 +2,9 @@
 use Rattle.std.specs.Prelude.{◌≡◌, ⊤, ℕ, ◌≤◌, Result, Ok, Err}
 use Rattle.fm_world.specs.Cause.{Rose}
 use Rattle.srv_run.specs.declared.end.End.{End}
-use Rattle.srv_run.specs.declared.end.End.TheVariants.{Done, BadWords, Refused, NoMemory, FileFault, LinkFault, NoFile, TooLong, InputEnded}
+use Rattle.srv_run.specs.declared.end.End.TheVariants.{Done, BadWords, Refused, NoMemory, FileFault, SinkFault, LinkFault, NoFile, TooLong, InputEnded}
 use Rattle.srv_run.specs.declared.end.Subject.{Subject as Matter}
-use Rattle.srv_run.specs.declared.end.Subject.TheVariants.{Request}
+use Rattle.srv_run.specs.declared.end.Subject.TheVariants.{File, Request}
 use Rattle.srv_run.specs.declared.file.ReadFile.{ReadFile}
 use Rattle.srv_run.specs.Once.{AccordsFiles}
 
@@ -24,12 +24,19 @@ IsEndOfRead subject (NoFile named) = named ≡ subject
 IsEndOfRead subject (TooLong named len) = named ≡ subject
 IsEndOfRead subject end = ⊥
 
+-- A run may end so where the content of a file is looked at.
+abbrev pub IsOfContent : End → Type 0
+IsOfContent NoMemory = ⊤
+IsOfContent (Refused File code) = ⊤
+IsOfContent end = ⊥
+
 -- A run of the command that ended so hasn't come to its request.
 abbrev pub IsBeforeRequest : End → Type 0
 IsBeforeRequest Done = ⊥
 IsBeforeRequest InputEnded = ⊥
 IsBeforeRequest LinkFault = ⊥
 IsBeforeRequest (Refused Request code) = ⊥
+IsBeforeRequest SinkFault = ⊥
 IsBeforeRequest BadWords = ⊥
 IsBeforeRequest end = ⊤
 

@@ -23,6 +23,8 @@ pub enum End {
     NoMemory,
     /// A file couldn't be read.
     FileFault(Subject),
+    /// The line of what was done couldn't be written.
+    SinkFault,
     /// The link failed.
     LinkFault,
     /// No file lies at the path.
@@ -47,6 +49,7 @@ impl End {
             End::Refused(_, _) => 3,
             End::NoMemory => 4,
             End::FileFault(_) => 5,
+            End::SinkFault => 7,
             End::LinkFault => 9,
             End::NoFile(_) | End::TooLong(_, _) => 10,
             End::InputEnded => 11,

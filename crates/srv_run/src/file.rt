@@ -24,7 +24,7 @@ pub(crate) struct ReadFile {
 }
 
 #[tactic(auto, unfolding(crate::specs::Once::file_or_end))]
-fn content_of<F: Files>(
+pub(crate) fn content_of<F: Files>(
     alloc: Global,
     files: &mut F,
     path: &[u8],

@@ -1,6 +1,7 @@
 //! The commands of the program over any files, link and sink.
 #![tactic(auto)]
 
+mod check;
 mod collection;
 mod declaration;
 mod end;

@@ -13,7 +13,7 @@ use itoa::Buffer;
 
 // Writes the pieces one after the other.
 #[tactic(auto, using(crate::proofs::PieceLemmas::pieces))]
-fn put_pieces<S: Sink>(sink: &mut S, pieces: &[&[u8]]) -> Result<(), Failed>
+pub(crate) fn put_pieces<S: Sink>(sink: &mut S, pieces: &[&[u8]]) -> Result<(), Failed>
     ensures put { Appends (flat_map (λ piece. piece.now) pieces.now) (S.told sink.old) (S.told sink.new) result }
     ensures cause { HasCause (S.fault_count sink.old) (S.fault_count sink.new) result }
 {
@@ -98,7 +98,7 @@ pub(crate) fn report<S: Sink>(sink: &mut S, command: &Command<'_>, end: End) -> 
     ensures cause { HasCause (S.fault_count sink.old) (S.fault_count sink.new) result }
 {
     match end {
-        End::Done => Ok(()),
+        End::Done | End::SinkFault => Ok(()),
         End::BadWords => sink.put(b"bad words\n"),
         End::Refused(subject, code) => put_refused(sink, subject_of(command, subject), code),
         End::NoMemory => sink.put(b"no memory\n"),
