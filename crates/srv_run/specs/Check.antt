@@ -13,16 +13,12 @@ use Rattle.srv_run.specs.declared.end.End.TheVariants.{Done, Refused, SinkFault}
 use Rattle.srv_run.specs.declared.end.Subject.TheVariants.{File}
 use Rattle.srv_run.specs.Once.{◌>>=◌, file_or_end}
 use Rattle.srv_run.specs.Report.{line_of}
-use Rattle.srv_run.specs.Words.{Command}
+use Rattle.srv_run.specs.Words.{naming}
 
 -- the path of the file that the words `check FILE` name
 unfoldable pub checked_path : List (List ℕ) → Option (List ℕ)
 checked_path (first ∷ path ∷ []) = if bytes_eq first (codes "check") then Some path else None
 checked_path words = None
-
--- a command that names this file alone
-abbrev pub naming : List ℕ → Command
-naming path = record { name = []; proto = []; path = path }
 
 -- a header, or the refusal by the number of its first fault
 abbrev pub header_or_refusal : Result Header HeaderFault → Result Header End

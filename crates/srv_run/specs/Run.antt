@@ -1,15 +1,18 @@
 -- What a run of the program says of its words, its world and its status.
-use Rattle.std.specs.Prelude.{◌≡◌, ℕ, ◌≤◌, List, [], length, take, Option, Some, None, IfSome, MatchOption}
+use Rattle.std.specs.Prelude.{◌≡◌, ℕ, ◌≤◌, List, [], ◌∷◌, length, take, codes, Bool, true, false, Option, Some, None, IfSome, MatchOption, Result}
+use Rattle.std.specs.Str.{bytes_eq}
+use Rattle.fm_base.specs.declared.header.Header.{Header}
 use Rattle.fm_world.specs.Cause.{Rose}
 use Rattle.fm_world.specs.Link.{Wire}
 use Rattle.fm_world.specs.Sink.{after_append}
 use Rattle.srv_run.specs.declared.end.End.{End}
-use Rattle.srv_run.specs.declared.end.End.TheVariants.{BadWords}
+use Rattle.srv_run.specs.declared.end.End.TheVariants.{Done, BadWords, SinkFault}
 use Rattle.srv_run.specs.declared.end.Subject.TheVariants.{Prototype}
+use Rattle.srv_run.specs.Check.{checked_path, checked_or_end, check_line, EndsCheck}
 use Rattle.srv_run.specs.Once.{AccordsFiles, AccordsInput, Exchanged, read_or_end, loaded_or_end, reply_to_loaded}
 use Rattle.srv_run.specs.Report.{status_of, line_of}
 use Rattle.srv_run.specs.Request.{structure_head, asked_of}
-use Rattle.srv_run.specs.Steps.{BlamesFiles, BlamesLink}
+use Rattle.srv_run.specs.Steps.{Gives, BlamesFiles, BlamesLink}
 use Rattle.srv_run.specs.Words.{Command, command_of}
 
 -- what the files of a world tell, and how often they have failed
@@ -20,6 +23,11 @@ pub record FilesSeen : Type 0 where
 -- what the link of a world tells, and how often it has failed
 pub record LinkSeen : Type 0 where
   pub told : Option Wire
+  pub faults : ℕ
+
+-- what the sink of a world tells, and how often it has failed
+pub record SinkSeen : Type 0 where
+  pub told : Option (List ℕ)
   pub faults : ℕ
 
 -- the command that words are, or one without a name and paths
@@ -49,13 +57,54 @@ abbrev pub Does : Option Command → End → FilesSeen → FilesSeen → LinkSee
 Does command end files files' link link' = MatchOption command (RefusesWords end files files' link link') (λ c. RunsCommand c end files files' link link')
 
 -- The line of the end was written, or a front of it, where the sink's count of faults rose.
-abbrev pub Reports : List ℕ → Option (List ℕ) → Option (List ℕ) → ℕ → ℕ → Type 0
-Reports line before after faults faults' = (count : ℕ) × (count ≤ length line) × (after ≡ after_append (take count line) before) × ((Rose faults faults' → ⊥) → take count line ≡ line)
+abbrev pub Reports : List ℕ → SinkSeen → SinkSeen → Type 0
+Reports line sink sink' = (count : ℕ) × (count ≤ length line) × (sink'.told ≡ after_append (take count line) sink.told) × ((Rose sink.faults sink'.faults → ⊥) → take count line ≡ line)
 
--- A run ended with this status: some end has it, what the words ask for was done up to that end, and its line was
--- written.
-pub record Runs (words : List (List ℕ)) (status : ℕ) (files files' : FilesSeen) (link link' : LinkSeen) (sink sink' : Option (List ℕ)) (sink_faults sink_faults' : ℕ) : Type 0 where
+-- A run of `once` ended with this status: some end has it, what the words ask for was done up to that end, and its line
+-- was written.
+pub record RunsOnce (words : List (List ℕ)) (status : ℕ) (files files' : FilesSeen) (link link' : LinkSeen) (sink sink' : SinkSeen) : Type 0 where
   pub end : End
   pub status_is : status ≡ status_of end
   pub does : Does (command_of words) end files files' link link'
-  pub reports : Reports (line_of (command_or_none (command_of words)) end) sink sink' sink_faults sink_faults'
+  pub reports : Reports (line_of (command_or_none (command_of words)) end) sink sink'
+
+-- A file was checked up to this end: the check gave a header or ended as defined, where the files tell; its line was
+-- written, and where a file without fault is reported, the whole line, or the sink failed.
+pub record ChecksFile (path : List ℕ) (end : End) (files files' : FilesSeen) (sink sink' : SinkSeen) : Type 0 where
+  pub checked : Result Header End
+  pub found : IfSome files.told (λ held. Gives (λ header. header) checked (checked_or_end (held path)))
+  pub ends : EndsCheck checked end
+  pub held : files'.told ≡ files.told
+  pub file_cause : BlamesFiles files.faults files'.faults end
+  pub reports : Reports (check_line path checked) sink sink'
+  pub whole : end ≡ Done → sink'.told ≡ after_append (check_line path checked) sink.told
+  pub sink_cause : end ≡ SinkFault → Rose sink.faults sink'.faults
+
+-- Words that aren't `check FILE` end the run at once.
+pub record RefusesCheck (end : End) (files files' : FilesSeen) (sink sink' : SinkSeen) : Type 0 where
+  pub is : end ≡ BadWords
+  pub unread : files' ≡ files
+  pub reports : Reports (codes "bad words\n") sink sink'
+
+-- A run of `check` ended with this status: some end has it, the file that the words name was checked up to that end,
+-- and the link wasn't used.
+pub record RunsCheck (words : List (List ℕ)) (status : ℕ) (files files' : FilesSeen) (link link' : LinkSeen) (sink sink' : SinkSeen) : Type 0 where
+  pub end : End
+  pub status_is : status ≡ status_of end
+  pub does : MatchOption (checked_path words) (RefusesCheck end files files' sink sink') (λ path. ChecksFile path end files files' sink sink')
+  pub unused : link' ≡ link
+
+-- whether the first word names the command `check`
+abbrev pub names_check : List (List ℕ) → Bool
+names_check [] = false
+names_check (first ∷ more) = bytes_eq first (codes "check")
+
+-- A run ended with this status, as the command that the first word names.
+abbrev pub RunsAs : Bool → List (List ℕ) → ℕ → FilesSeen → FilesSeen → LinkSeen → LinkSeen → SinkSeen → SinkSeen → Type 0
+RunsAs true words status files files' link link' sink sink' = RunsCheck words status files files' link link' sink sink'
+RunsAs false words status files files' link link' sink sink' = RunsOnce words status files files' link link' sink sink'
+
+-- The words are those of no command.
+abbrev pub AreBadAs : Bool → List (List ℕ) → Type 0
+AreBadAs true words = checked_path words ≡ None
+AreBadAs false words = command_of words ≡ None

@@ -9,6 +9,10 @@ pub record Command : Type 0 where
   pub proto : List ℕ
   pub path : List ℕ
 
+-- a command that names this file alone
+abbrev pub naming : List ℕ → Command
+naming path = record { name = []; proto = []; path = path }
+
 -- a letter, a digit, `_` or `-`
 unfoldable pub is_name_byte : ℕ → Bool
 is_name_byte byte = (nat_le 48 byte && nat_le byte 57) || (nat_le 65 byte && nat_le byte 90) || (nat_le 97 byte && nat_le byte 122) || byte == 95 || byte == 45

@@ -3,7 +3,7 @@ ghost use Rattle.std.specs.Prelude.{◌≡◌, ◌≤◌, IfSome, IfErr, OnOk, M
 ghost use Rattle.fm_world.specs.Cause.{HasCause};
 ghost use Rattle.srv_run.specs.Check as spec;
 ghost use Rattle.srv_run.specs.Report.{Appends};
-ghost use Rattle.srv_run.specs.Steps.{Gives, BlamesFiles, IsOfContent};
+ghost use Rattle.srv_run.specs.Steps.{Gives, BlamesFiles, IsOfContent, IsEndOfRead};
 
 use crate::end::{End, Subject};
 use crate::file::content_of;
@@ -57,6 +57,7 @@ pub(crate) fn check_file<F: Files>(alloc: Global, files: &mut F, path: &[u8]) ->
     ensures same { F.told files.new ≡ F.told files.old }
     ensures later { F.fault_count files.old ≤ F.fault_count files.new }
     ensures cause { IfErr result (BlamesFiles (F.fault_count files.old) (F.fault_count files.new)) }
+    ensures end { IfErr result (IsEndOfRead Subject.File) }
 {
     let bytes = content_of(alloc, files, path, Subject::File)?;
     sound_header(alloc, bytes.as_slice())

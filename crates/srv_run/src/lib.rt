@@ -16,7 +16,7 @@ mod words;
 
 pub use declaration::{Array, DapKind, Decl};
 pub use end::{End, Subject};
-pub use program::run;
+pub use program::{run, run_check, run_once};
 pub use reply::Content;
 pub use request::Asked;
 

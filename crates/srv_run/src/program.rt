@@ -1,10 +1,12 @@
-//! The top call of the program.
-ghost use Rattle.std.specs.Prelude.{◌≡◌, ◌↔◌, ◌≤◌, None};
+//! The top call of the program, and a call for each of its commands.
+ghost use Rattle.std.specs.Prelude.{◌≡◌, ◌≢◌, ◌↔◌, ◌≤◌, None};
 ghost use Rattle.fm_world.specs.Cause.{Rose};
+ghost use Rattle.srv_run.specs.Check.{checked_path as words_path};
 ghost use Rattle.srv_run.specs.Run as spec;
 ghost use Rattle.srv_run.specs.Seen.{seen};
 ghost use Rattle.srv_run.specs.Words.{command_of as words_command};
 
+use crate::check::{check_file, checked_path, put_sound};
 use crate::end::End;
 use crate::once::once;
 use crate::report::report;
@@ -37,11 +39,9 @@ fn act<'w, F: Files, L: Link>(
     }
 }
 
-/// Does what the words ask for, reports how it ended, and answers the status of the program.
-///
-/// The words are `once --name NAME --proto PROTO put:PATH ask:1`, without the program's own name: it reads the
-/// prototype PROTO and the file PATH, takes one request head for the structure text of the best view from the link,
-/// byte by byte and no byte after it, and sends the reply over the collection of that one file, its revision 1.
+/// Runs `once --name NAME --proto PROTO put:PATH ask:1`: reads the prototype PROTO and the file PATH, takes one request
+/// head for the structure text of the best view from the link, byte by byte and no byte after it, and sends the reply
+/// over the collection of that one file, its revision 1. Answers the status of the program.
 ///
 /// | Status | Line | Comes |
 /// |---|---|---|
@@ -55,18 +55,18 @@ fn act<'w, F: Files, L: Link>(
 /// | 11 | `input ended` | exactly where the input ends before the request does |
 ///
 /// A line that can't be written changes no status.
-pub fn run<F: Files, L: Link, S: Sink>(
+pub fn run_once<F: Files, L: Link, S: Sink>(
     alloc: Global,
     words: &List<Bytes>,
     world: &mut World<F, L, S>,
 ) -> u8
-    ensures runs { spec.Runs words.now result
+    ensures runs { spec.RunsOnce words.now result
         (record { told = F.told world.old.files; faults = F.fault_count world.old.files })
         (record { told = F.told world.new.files; faults = F.fault_count world.new.files })
         (record { told = L.told world.old.link; faults = L.fault_count world.old.link })
         (record { told = L.told world.new.link; faults = L.fault_count world.new.link })
-        (S.told world.old.sink) (S.told world.new.sink)
-        (S.fault_count world.old.sink) (S.fault_count world.new.sink) }
+        (record { told = S.told world.old.sink; faults = S.fault_count world.old.sink })
+        (record { told = S.told world.new.sink; faults = S.fault_count world.new.sink }) }
 
     // What a reader looks for first: when the words are refused, and whom a status blames.
     ensures words { (result ≡ 2) ↔ (words_command words.now ≡ None) }
@@ -78,4 +78,96 @@ pub fn run<F: Files, L: Link, S: Sink>(
     let (command, end) = act(alloc, words, &mut world.files, &mut world.link);
     let _written = report(&mut world.sink, &command, end);
     end.status()
+}
+
+// Checks a file and writes its line.
+fn check<F: Files, S: Sink>(alloc: Global, path: &[u8], files: &mut F, sink: &mut S) -> End
+    ensures checks { spec.ChecksFile path.now result
+        (record { told = F.told files.old; faults = F.fault_count files.old })
+        (record { told = F.told files.new; faults = F.fault_count files.new })
+        (record { told = S.told sink.old; faults = S.fault_count sink.old })
+        (record { told = S.told sink.new; faults = S.fault_count sink.new }) }
+    ensures words { result ≢ End.BadWords }
+{
+    let header = match check_file(alloc, files, path) {
+        Ok(header) => header,
+        Err(end) => {
+            let _written = report(sink, &Command::naming(path), end);
+            return end;
+        }
+    };
+    match put_sound(sink, &header) {
+        Ok(()) => End::Done,
+        Err(_failed) => End::SinkFault,
+    }
+}
+
+/// Runs `check FILE`: reads the header of a file in the netCDF classic format and sees that all its data lies in the
+/// file. Answers the status of the program.
+///
+/// | Status | Line | Comes |
+/// |---|---|---|
+/// | 0 | `ok CDF-VERSION dims D vars V records R` | the file has no fault, and the line was written |
+/// | 2 | `bad words` | exactly where the words aren't these two |
+/// | 3 | `refused FILE code C` | exactly where the header or the layout has a fault; C is the number of the first |
+/// | 4 | `no memory` | at any time |
+/// | 5 | `file fault FILE` | only where the files' count of faults rose |
+/// | 7 | a front of the line of 0 | only where the sink's count of faults rose |
+/// | 10 | `no file FILE`, `too long FILE LEN` | exactly where no file lies at the path, or one of over 536,870,912 bytes |
+///
+/// A line of another status that can't be written changes no status. The link isn't used.
+pub fn run_check<F: Files, L: Link, S: Sink>(
+    alloc: Global,
+    words: &List<Bytes>,
+    world: &mut World<F, L, S>,
+) -> u8
+    ensures runs { spec.RunsCheck words.now result
+        (record { told = F.told world.old.files; faults = F.fault_count world.old.files })
+        (record { told = F.told world.new.files; faults = F.fault_count world.new.files })
+        (record { told = L.told world.old.link; faults = L.fault_count world.old.link })
+        (record { told = L.told world.new.link; faults = L.fault_count world.new.link })
+        (record { told = S.told world.old.sink; faults = S.fault_count world.old.sink })
+        (record { told = S.told world.new.sink; faults = S.fault_count world.new.sink }) }
+    ensures words { (result ≡ 2) ↔ (words_path words.now ≡ None) }
+{
+    match checked_path(words.as_slice()) {
+        None => {
+            let _written = report(&mut world.sink, &Command::NONE, End::BadWords);
+            End::BadWords.status()
+        }
+        Some(path) => check(alloc, path, &mut world.files, &mut world.sink).status(),
+    }
+}
+
+// Whether the first word names the command that checks a file.
+fn names_check(words: &[Bytes]) -> bool
+    ensures { result ≡ spec.names_check words.now }
+{
+    match words {
+        [first, ..] => first.as_slice() == b"check".as_slice(),
+        [] => false,
+    }
+}
+
+/// Does what the words ask for, without the program's own name, reports how it ended, and answers the status of the
+/// program: as [`run_check`] where the first word is `check`, else as [`run_once`].
+pub fn run<F: Files, L: Link, S: Sink>(
+    alloc: Global,
+    words: &List<Bytes>,
+    world: &mut World<F, L, S>,
+) -> u8
+    ensures runs { spec.RunsAs (spec.names_check words.now) words.now result
+        (record { told = F.told world.old.files; faults = F.fault_count world.old.files })
+        (record { told = F.told world.new.files; faults = F.fault_count world.new.files })
+        (record { told = L.told world.old.link; faults = L.fault_count world.old.link })
+        (record { told = L.told world.new.link; faults = L.fault_count world.new.link })
+        (record { told = S.told world.old.sink; faults = S.fault_count world.old.sink })
+        (record { told = S.told world.new.sink; faults = S.fault_count world.new.sink }) }
+    ensures words { (result ≡ 2) ↔ spec.AreBadAs (spec.names_check words.now) words.now }
+{
+    if names_check(words.as_slice()) {
+        run_check(alloc, words, world)
+    } else {
+        run_once(alloc, words, world)
+    }
 }

@@ -2,6 +2,8 @@
 ghost use Rattle.std.specs.Prelude.{◌≡◌, ◌≤◌, length, MatchOption, None, Some, IsTrue};
 ghost use Rattle.std.specs.List.{list_all};
 ghost use Rattle.srv_run.specs.Words as spec;
+ghost use Rattle.srv_run.specs.Words.{naming};
+ghost use Rattle.srv_run.specs.Seen.{seen};
 
 use fm_base::Bytes;
 
@@ -59,6 +61,18 @@ impl Command<'_> {
         proto: b"",
         path: b"",
     };
+}
+
+impl<'a> Command<'a> {
+    // A command that names this file alone.
+    pub(crate) fn naming(path: &'a [u8]) -> Command<'a>
+        ensures { seen result ≡ naming path.now }
+    {
+        Command {
+            path,
+            ..Command::NONE
+        }
+    }
 }
 
 #[tactic(auto, unfolding(crate::specs::Words::command_of))]

@@ -1,0 +1,21 @@
+use Rattle.std.proofs.Common.{◌≡◌, None, refl, sym, ap, ◌∙◌}
+use Rattle.srv_run.specs.declared.end.End.TheVariants.{BadWords}
+use Rattle.srv_run.specs.Check.{checked_path}
+use Rattle.srv_run.specs.Report.{line_of}
+use Rattle.srv_run.proofs.ReportLemmas.{Reports-from_put}
+use Rattle.srv_run.proofs.program.run_check.Goals as goal
+
+pub returns-in-None-clause-runs : goal.returns-in-None-clause-runs
+unfolding line_of
+returns-in-None-clause-runs g c =
+    let none : checked_path c.args.words.now ≡ None = ap checked_path (sym c.as_slice.ensures) ∙ c.in-None.ensures in
+    record {
+      end = BadWords;
+      status_is = c.status.ensures;
+      does = rw none (record {
+        is = refl;
+        unread = refl;
+        reports = Reports-from_put _ _ _ _ c.report-written.ensures.put c.report-written.ensures.cause;
+      });
+      unused = refl;
+    }
