@@ -1,5 +1,13 @@
--- Where the content of a file ends a check.
-use Rattle.std.proofs.Common.{◌≡◌, ℕ, ◌≤◌, refl, Result, Ok, Err, IfErr}
+-- Where the content of a file ends a check, and where its layout does.
+use Rattle.std.proofs.Common.{◌≡◌, ℕ, ◌≤◌, refl, sym, ◌∙◌, Option, Some, None, Result, Ok, Err, IfErr}
+use Rattle.fm_base.specs.declared.fail.Fail.{Fail}
+use Rattle.fm_base.specs.declared.fail.Fail.TheVariants as fails
+use Rattle.fm_base.specs.declared.fault.LayoutFault.{LayoutFault}
+use Rattle.fm_base.specs.declared.header.Header.{Header}
+use Rattle.fm_base.specs.Answer.{Answers}
+use Rattle.fm_base.specs.Layout.{layout_fault}
+use Rattle.nc_layout.specs.Faults.{layout_or_fault}
+use Rattle.nc_layout.specs.Places.{Places}
 use Rattle.srv_run.specs.declared.end.End.{End}
 use Rattle.srv_run.specs.declared.end.End.TheVariants.{Done, BadWords, Refused, NoMemory, FileFault, SinkFault, LinkFault, NoFile, TooLong, InputEnded}
 use Rattle.srv_run.specs.declared.end.Subject.TheVariants.{Prototype, File, Request}
@@ -56,3 +64,23 @@ IsFault-read BadWords ends = absurd ends
 IsFault-read SinkFault ends = absurd ends
 IsFault-read LinkFault ends = absurd ends
 IsFault-read InputEnded ends = absurd ends
+
+-- a file that is laid out has no fault of its layout
+pub layout_fault-none : (header : Header) (len : ℕ) (places : Places) → layout_or_fault header len ≡ Ok places → layout_fault header len ≡ None
+unfolding layout_or_fault
+layout_fault-none header len places laid = by_fault (layout_fault header len) refl
+  where
+    by_fault : (fault : Option LayoutFault) → layout_fault header len ≡ fault → layout_fault header len ≡ None
+    by_fault None is = is
+    by_fault (Some fault) is = absurd (let refused : Err fault ≡ Ok places = rw is at laid in cc)
+
+-- one that is refused has this fault
+pub layout_fault-some : (header : Header) (len : ℕ) (found : LayoutFault) → layout_or_fault header len ≡ Err found → layout_fault header len ≡ Some found
+unfolding layout_or_fault
+layout_fault-some header len found refused = by_fault (layout_fault header len) refl
+  where
+    by_fault : (fault : Option LayoutFault) → layout_fault header len ≡ fault → layout_fault header len ≡ Some found
+    by_fault None is = absurd (let laid = rw is at refused in cc)
+    by_fault (Some fault) is = let same = rw is at refused in cc
+
+pub ruleset laid = (layout_fault-none, layout_fault-some)

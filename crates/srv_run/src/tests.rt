@@ -37,7 +37,7 @@ const ONCE: [&[u8]; 7] = [
 const REQUEST: &[u8] = b"GET /thredds/dodsC/gfs/gfs_best.ncd.dds HTTP/1.1\r\n\r\n";
 
 /// The sample file with some words changed, by their places.
-fn sample(alloc: Global, changes: &[(usize, u32)]) -> Result<Bytes, NoMemory> {
+pub(crate) fn sample(alloc: Global, changes: &[(usize, u32)]) -> Result<Bytes, NoMemory> {
     let mut bytes = Bytes::new(alloc);
     for (i, word) in SAMPLE.iter().enumerate() {
         let mut next = *word;
@@ -85,7 +85,7 @@ struct Left {
     input: Bytes,
 }
 
-fn numbers(alloc: Global, numbers: &[u64]) -> Result<List<u64>, NoMemory> {
+pub(crate) fn numbers(alloc: Global, numbers: &[u64]) -> Result<List<u64>, NoMemory> {
     let mut list = List::new(alloc);
     for number in numbers {
         list.push(*number)?;
@@ -93,7 +93,7 @@ fn numbers(alloc: Global, numbers: &[u64]) -> Result<List<u64>, NoMemory> {
     Ok(list)
 }
 
-fn entry(alloc: Global, path: &[u8], content: Bytes) -> Result<Entry, NoMemory> {
+pub(crate) fn entry(alloc: Global, path: &[u8], content: Bytes) -> Result<Entry, NoMemory> {
     let path = Bytes::copy_of(alloc, path)?;
     Ok(Entry { path, content })
 }

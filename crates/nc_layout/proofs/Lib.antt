@@ -1,0 +1,7 @@
+pub mod EndLemmas
+pub mod FaultLemmas
+pub mod HeaderLemmas
+pub mod ProductLemmas
+pub mod RankLemmas
+pub mod ReadLemmas
+pub mod RecordLemmas
