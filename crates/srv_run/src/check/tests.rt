@@ -8,6 +8,7 @@ use std::alloc::Global;
 use std::test::Fail;
 
 /// The sample file with some words changed, cut to a length, and calls that are to fail.
+#[derive(Drop)]
 struct Given<'a> {
     words: &'a [&'a [u8]],
     changes: &'a [(usize, u32)],
