@@ -1,7 +1,12 @@
+pub mod ArrayLemmas
 pub mod Asking
 pub mod AskingLink
 pub mod ExchangeLemmas
+pub mod FieldLemmas
 pub mod LoadLemmas
 pub mod PieceLemmas
 pub mod ReportLemmas
+pub mod RisenLemmas
 pub mod RisingLemmas
+pub mod RowLemmas
+pub mod WordLemmas

@@ -6,11 +6,13 @@ use Rattle.std.specs.Str.{bytes_eq}
 use Rattle.fm_base.specs.declared.header.Dim.{Dim}
 use Rattle.nc_model.specs.declared.shape.ThinShape.{ThinShape}
 use Rattle.nc_model.specs.Thin.{instants_of}
-use Rattle.srv_run.specs.declared.declaration.Array.{Array}
-use Rattle.srv_run.specs.declared.declaration.DapKind.{DapKind}
-use Rattle.srv_run.specs.declared.declaration.DapKind.TheVariants.{Int32, Float32}
-use Rattle.srv_run.specs.declared.declaration.Decl.{Decl}
-use Rattle.srv_run.specs.declared.declaration.Decl.TheVariants.{Plain, Grid}
+use Rattle.dap_model.specs.declared.declaration.Array.{Array}
+use Rattle.dap_model.specs.declared.declaration.DapKind.{DapKind}
+use Rattle.dap_model.specs.declared.declaration.DapKind.TheVariants.{Int32, Float32}
+use Rattle.dap_model.specs.declared.declaration.Decl.{Decl}
+use Rattle.dap_model.specs.declared.declaration.Decl.TheVariants.{Plain, Grid}
+use Rattle.srv_run.specs.declared.rows.Row.{Row}
+use Rattle.srv_run.specs.Rows.{rows_of, rising}
 
 -- the bytes of the latitudes and the longitudes of a thin file
 abbrev pub places_of : List ℕ → ThinShape → List ℕ
@@ -20,27 +22,9 @@ places_of bytes shape = take (4 * shape.lats + 4 * shape.lons) (drop 276 bytes)
 unfoldable pub is_same_grid : List ℕ → ThinShape → List ℕ → ThinShape → Bool
 is_same_grid proto grid file shape = shape.lats == grid.lats && shape.lons == grid.lons && bytes_eq (places_of file shape) (places_of proto grid)
 
--- a file of a collection: the instants of its records
-pub record Loaded : Type 0 where
-  pub instants : List ℤ
-
--- a list that rises, with one more instant in its place where it isn't there
-unfoldable pub insert_once : ℤ → List ℤ → List ℤ
-insert_once instant [] = instant ∷ []
-insert_once instant (first ∷ more) = if int_eq first instant then first ∷ more else (if int_lt instant first then instant ∷ first ∷ more else first ∷ insert_once instant more)
-
--- each of the instants once, rising
-unfoldable pub rising : List ℤ → List ℤ
-rising [] = []
-rising (instant ∷ more) = insert_once instant (rising more)
-
--- the valid times of the best view: each instant that some file has
-unfoldable pub best_times : List Loaded → List ℤ
-best_times files = rising (flat_map (λ (f : Loaded). f.instants) files)
-
--- the collection that one thin file makes
-abbrev pub collection_of_one : List ℕ → ThinShape → List Loaded
-collection_of_one file shape = record { instants = instants_of file shape } ∷ []
+-- the rows of the best view of one file: one for each of its instants, rising, with the place of its record
+unfoldable pub best_rows : ℤ → List ℕ → ThinShape → List Row
+best_rows run file shape = rising (rows_of run (instants_of file shape) shape.times)
 
 -- an array over these dimensions
 abbrev pub array : List ℕ → DapKind → List Dim → Array

@@ -3,8 +3,10 @@ pub mod Once
 pub mod Reply
 pub mod Report
 pub mod Request
+pub mod Rows
 pub mod Run
 pub mod Seen
 pub mod Steps
-pub mod StructureText
+pub mod Times
+pub mod Values
 pub mod Words

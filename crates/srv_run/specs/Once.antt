@@ -17,7 +17,7 @@ use Rattle.srv_run.specs.declared.request.Asked.TheVariants.{Whole, Ended, Diffe
 use Rattle.srv_run.specs.Collection.{is_same_grid, best_times, collection_of_one, decls_of}
 use Rattle.srv_run.specs.Reply.{reply_of}
 use Rattle.srv_run.specs.Request.{best_label, taken_of}
-use Rattle.srv_run.specs.StructureText.{dds_of}
+use Rattle.dap_model.specs.StructureText.{dds_of}
 use Rattle.srv_run.specs.Words.{Command}
 
 -- the greatest length of a file

@@ -2,7 +2,6 @@
 #![tactic(auto)]
 
 mod collection;
-mod declaration;
 mod end;
 mod file;
 mod once;
@@ -10,10 +9,12 @@ mod program;
 mod reply;
 mod report;
 mod request;
+mod rows;
 mod structure;
+mod values;
 mod words;
+mod xdr;
 
-pub use declaration::{Array, DapKind, Decl};
 pub use end::{End, Subject};
 pub use program::run;
 pub use reply::Content;
