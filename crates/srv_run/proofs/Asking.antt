@@ -4,7 +4,7 @@ use Rattle.std.proofs.Math.Seq.{take-add}
 use Rattle.std.proofs.lemmas.List.{drop-drop}
 use Rattle.fm_world.specs.Link.{Wire, after_take}
 use Rattle.srv_run.specs.declared.request.Asked.{Asked}
-use Rattle.srv_run.specs.declared.request.Asked.TheVariants.{Whole, Ended, Differs}
+use Rattle.srv_run.specs.declared.request.Asked.TheVariants.{Ended}
 use Rattle.srv_run.specs.Request.{after_byte, decided, asked_of, taken_of}
 
 -- the first bytes of the input were met: what is left of it and of the heads decides

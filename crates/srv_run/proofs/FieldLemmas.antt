@@ -1,5 +1,5 @@
 -- How many numbers the fields are.
-use Rattle.std.proofs.Common.{◌≡◌, ℕ, ◌+◌, ◌*◌, List, [], ◌∷◌, length, length-append, refl, arith}
+use Rattle.std.proofs.Common.{◌≡◌, ◌*◌, List, [], ◌∷◌, length, length-append, arith}
 use Rattle.nc_model.specs.Thin.{field_begin}
 use Rattle.srv_run.specs.declared.file.ReadFile.{ReadFile}
 use Rattle.srv_run.specs.declared.rows.Row.{Row}

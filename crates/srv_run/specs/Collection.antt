@@ -1,18 +1,13 @@
 -- Thin files as a collection, and its best view (THREDDS, Forecast Model Run Collections).
-use Rattle.std.specs.Prelude.{ℕ, ◌+◌, ◌*◌, List, [], ◌∷◌, take, drop, Bool, ◌&&◌, ◌==◌, ℤ, int_lt, codes, if◌then◌else◌}
-use Rattle.std.specs.List.{flat_map}
-use Rattle.std.specs.Ordering.{int_eq}
+use Rattle.std.specs.Prelude.{ℕ, ◌+◌, ◌*◌, List, [], ◌∷◌, take, drop, Bool, ◌&&◌, ◌==◌, codes}
 use Rattle.std.specs.Str.{bytes_eq}
 use Rattle.fm_base.specs.declared.header.Dim.{Dim}
 use Rattle.nc_model.specs.declared.shape.ThinShape.{ThinShape}
-use Rattle.nc_model.specs.Thin.{instants_of}
 use Rattle.dap_model.specs.declared.declaration.Array.{Array}
 use Rattle.dap_model.specs.declared.declaration.DapKind.{DapKind}
 use Rattle.dap_model.specs.declared.declaration.DapKind.TheVariants.{Int32, Float32}
 use Rattle.dap_model.specs.declared.declaration.Decl.{Decl}
 use Rattle.dap_model.specs.declared.declaration.Decl.TheVariants.{Plain, Grid}
-use Rattle.srv_run.specs.declared.rows.Row.{Row}
-use Rattle.srv_run.specs.Rows.{rows_of, rising}
 
 -- the bytes of the latitudes and the longitudes of a thin file
 abbrev pub places_of : List ℕ → ThinShape → List ℕ
@@ -21,10 +16,6 @@ places_of bytes shape = take (4 * shape.lats + 4 * shape.lons) (drop 276 bytes)
 -- whether a thin file lies on the same grid as the prototype
 unfoldable pub is_same_grid : List ℕ → ThinShape → List ℕ → ThinShape → Bool
 is_same_grid proto grid file shape = shape.lats == grid.lats && shape.lons == grid.lons && bytes_eq (places_of file shape) (places_of proto grid)
-
--- the rows of the best view of one file: one for each of its instants, rising, with the place of its record
-unfoldable pub best_rows : ℤ → List ℕ → ThinShape → List Row
-best_rows run file shape = rising (rows_of run (instants_of file shape) shape.times)
 
 -- an array over these dimensions
 abbrev pub array : List ℕ → DapKind → List Dim → Array

@@ -1,4 +1,6 @@
+pub mod Best
 pub mod Collection
+pub mod Marked
 pub mod Once
 pub mod Reply
 pub mod Report

@@ -41,3 +41,11 @@ asked_of structure values (byte ∷ input) = unwrap_or (decided structure values
 unfoldable pub taken_of : Option (List ℕ) → Option (List ℕ) → List ℕ → ℕ
 taken_of structure values [] = 0
 taken_of structure values (byte ∷ input) = if is_some (decided structure values) then 0 else 1 + taken_of (after_byte byte structure) (after_byte byte values) input
+
+-- how input meets the two heads that ask for the best view of a collection
+abbrev pub asked_by : List ℕ → List ℕ → Asked
+asked_by name input = asked_of (Some (structure_head name)) (Some (data_head name)) input
+
+-- how many bytes of the input are taken for it
+abbrev pub taken_by : List ℕ → List ℕ → ℕ
+taken_by name input = taken_of (Some (structure_head name)) (Some (data_head name)) input

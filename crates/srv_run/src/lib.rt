@@ -1,9 +1,11 @@
 //! The commands of the program over any files, link and sink.
 #![tactic(auto)]
 
+mod best;
 mod collection;
 mod end;
 mod file;
+mod marked;
 mod once;
 mod program;
 mod reply;

@@ -1,11 +1,11 @@
 //! Takes a request from a link.
 ghost use Rattle.std.specs.Prelude.{◌≡◌, ◌≤◌, ℕ, ◌++◌, length, option_map, Some, IfSome, IfOk, OnOk, OnErr};
-ghost use Rattle.fm_world.specs.Cause.{HasCause};
+ghost use Rattle.fm_world.specs.Cause.{HasCause, HasReadCause};
 ghost use Rattle.fm_world.specs.Link.{after_take};
 ghost use Rattle.srv_run.specs.Request as spec;
 
 use crate::reply::Content;
-use fm_base::{Bytes, NoMemory};
+use fm_base::{Bytes, Fail, NoMemory};
 use fm_world::{Failed, Link};
 use std::alloc::Global;
 
@@ -81,7 +81,7 @@ fn decided(structure: Option<&[u8]>, values: Option<&[u8]>) -> Option<Asked>
 
 // Takes a request byte by byte, up to the end of its head or the first byte that differs from both heads, and no byte
 // after it.
-pub(crate) fn take_request<L: Link>(
+fn take_request<L: Link>(
     link: &mut L,
     structure: &[u8],
     values: &[u8],
@@ -107,5 +107,28 @@ pub(crate) fn take_request<L: Link>(
         }
         structure = after_byte(next[0], structure);
         values = after_byte(next[0], values);
+    }
+}
+
+// Takes the request for the best view of a collection.
+pub(crate) fn take_asked<L: Link>(
+    alloc: Global,
+    name: &[u8],
+    link: &mut L,
+) -> Result<Asked, Fail<Failed>>
+    ensures asked { IfSome (L.told link.old) (λ wire. IfOk result (λ asked.
+        asked ≡ spec.asked_by name.now wire.left)) }
+    ensures taken { IfSome (L.told link.old) (λ wire. OnOk result (L.told link.new
+        ≡ after_take (spec.taken_by name.now wire.left) (L.told link.old))) }
+    ensures err { IfSome (L.told link.old) (λ wire. OnErr result ((count : ℕ)
+        × (count ≤ spec.taken_by name.now wire.left)
+        × (L.told link.new ≡ after_take count (L.told link.old)))) }
+    ensures cause { HasReadCause (L.fault_count link.old) (L.fault_count link.new) result }
+{
+    let structure = structure_head(alloc, name)?;
+    let values = data_head(alloc, name)?;
+    match take_request(link, structure.as_slice(), values.as_slice()) {
+        Ok(asked) => Ok(asked),
+        Err(failed) => Err(Fail::Fault(failed)),
     }
 }

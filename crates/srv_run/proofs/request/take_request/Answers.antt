@@ -1,6 +1,5 @@
-use Rattle.std.proofs.Common.{◌≡◌, rules, arith, sym, ◌∙◌}
-use Rattle.srv_run.proofs.Asking.{left_after}
-use Rattle.srv_run.proofs.AskingLink.{Meets-none, Meets-more, Meets-ended, Meets-decided, Meets-failed}
+use Rattle.std.proofs.Common.{rules, arith, sym, ◌∙◌}
+use Rattle.srv_run.proofs.AskingLink.{Meets-none, Meets-more, Meets-ended, Meets-decided}
 use Rattle.srv_run.proofs.request.take_request.Goals as goal
 
 pub loop-asked-init : goal.loop-asked-init

@@ -1,4 +1,4 @@
-use Rattle.std.proofs.Common.{◌≤◌, ◌+◌, ℕ, List, Option, option_map, Some}
+use Rattle.std.proofs.Common.{◌≤◌, ◌+◌, option_map, Some}
 use Rattle.srv_run.proofs.Asking.{left_len}
 use Rattle.srv_run.proofs.AskingLink.{Meets}
 use Rattle.srv_run.proofs.request.take_request.Given as goal

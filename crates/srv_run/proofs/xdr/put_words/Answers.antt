@@ -1,4 +1,4 @@
-use Rattle.std.proofs.Common.{◌≡◌, List, ℕ, OnOk, subst, sym, ◌∙◌, ap, ◌++◌}
+use Rattle.std.proofs.Common.{◌≡◌, List, ℕ, OnOk, subst, ◌∙◌, ap, ◌++◌}
 use Rattle.dap_model.specs.declared.declaration.DapKind.TheVariants.{Float32}
 use Rattle.srv_run.specs.Values.{words_at}
 use Rattle.srv_run.proofs.ArrayLemmas.{counted_array}
