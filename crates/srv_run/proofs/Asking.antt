@@ -5,12 +5,12 @@ use Rattle.std.proofs.lemmas.List.{drop-drop}
 use Rattle.fm_world.specs.Link.{Wire, after_take}
 use Rattle.srv_run.specs.declared.request.Asked.{Asked}
 use Rattle.srv_run.specs.declared.request.Asked.TheVariants.{Ended}
-use Rattle.srv_run.specs.Request.{after_byte, decided, asked_of, taken_of}
+use Rattle.srv_run.specs.Taking.{after_byte, decided, met_by, met_len}
 
 -- the first bytes of the input were met: what is left of it and of the heads decides
 pub record Met (structure values structure' values' : Option (List ℕ)) (input : List ℕ) (i : ℕ) : Type 0 where
-  pub asked : asked_of structure values input ≡ asked_of structure' values' (drop i input)
-  pub taken : taken_of structure values input ≡ i + taken_of structure' values' (drop i input)
+  pub asked : met_by structure values input ≡ met_by structure' values' (drop i input)
+  pub taken : met_len structure values input ≡ i + met_len structure' values' (drop i input)
 
 drop_next : (xs : List ℕ) (i : ℕ) → i < length xs → drop i xs ≡ get_or xs i 0 ∷ drop (i + 1) xs
 drop_next xs i below = rw (add-one, drop-cons xs i 0) refl
@@ -21,25 +21,25 @@ Met-none structure values input = record { asked = refl; taken = omega arith }
 
 -- one more byte is met
 pub Met-more : (structure values s v : Option (List ℕ)) (input : List ℕ) (i : ℕ) → decided s v ≡ None → i < length input → Met structure values s v input i → Met structure values (after_byte (get_or input i 0) s) (after_byte (get_or input i 0) v) input (i + 1)
-unfolding asked_of taken_of
+unfolding met_by met_len
 Met-more structure values s v input i undecided below met = record {
   asked = met.asked ∙ rw (drop_next input i below, undecided) refl;
   taken = met.taken ∙ rw (drop_next input i below, undecided) (omega arith);
 }
 
 -- the input ends
-pub Met-ended : (structure values s v : Option (List ℕ)) (input : List ℕ) (i : ℕ) → decided s v ≡ None → drop i input ≡ [] → Met structure values s v input i → (asked_of structure values input ≡ Ended) × (taken_of structure values input ≡ i)
-unfolding asked_of taken_of
+pub Met-ended : (structure values s v : Option (List ℕ)) (input : List ℕ) (i : ℕ) → decided s v ≡ None → drop i input ≡ [] → Met structure values s v input i → (met_by structure values input ≡ Ended) × (met_len structure values input ≡ i)
+unfolding met_by met_len
 Met-ended structure values s v input i undecided none met =
     (met.asked ∙ rw (none, undecided) refl, met.taken ∙ rw none (omega arith))
 
 -- what is decided takes nothing more
-asked_decided : (s v : Option (List ℕ)) (input : List ℕ) (asked : Asked) → decided s v ≡ Some asked → (asked_of s v input ≡ asked) × (taken_of s v input ≡ 0)
-unfolding asked_of taken_of
+asked_decided : (s v : Option (List ℕ)) (input : List ℕ) (asked : Asked) → decided s v ≡ Some asked → (met_by s v input ≡ asked) × (met_len s v input ≡ 0)
+unfolding met_by met_len
 asked_decided s v [] asked is = (rw is refl, refl)
 asked_decided s v (byte ∷ input) asked is = (rw is refl, rw is refl)
 
-pub Met-decided : (structure values s v : Option (List ℕ)) (input : List ℕ) (i : ℕ) (asked : Asked) → decided s v ≡ Some asked → Met structure values s v input i → (asked_of structure values input ≡ asked) × (taken_of structure values input ≡ i)
+pub Met-decided : (structure values s v : Option (List ℕ)) (input : List ℕ) (i : ℕ) (asked : Asked) → decided s v ≡ Some asked → Met structure values s v input i → (met_by structure values input ≡ asked) × (met_len structure values input ≡ i)
 Met-decided structure values s v input i asked is met =
     let now = asked_decided s v (drop i input) asked is in
     (met.asked ∙ now.0, met.taken ∙ rw now.1 (omega arith))

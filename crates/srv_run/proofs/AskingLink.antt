@@ -3,7 +3,7 @@ use Rattle.std.proofs.Common.{◌≡◌, ℕ, ◌+◌, ◌<◌, ◌≤◌, List,
 use Rattle.fm_world.specs.Link.{Wire, GivesNext, after_take}
 use Rattle.srv_run.specs.declared.request.Asked.{Asked}
 use Rattle.srv_run.specs.declared.request.Asked.TheVariants.{Ended}
-use Rattle.srv_run.specs.Request.{after_byte, decided, asked_of, taken_of}
+use Rattle.srv_run.specs.Taking.{after_byte, decided, met_by, met_len}
 use Rattle.srv_run.proofs.Asking.{Met, Met-none, Met-more, Met-ended, Met-decided, after_take-add, next_byte}
 
 -- so many bytes of the link were met
@@ -14,8 +14,8 @@ pub record Meets (structure values structure' values' : Option (List ℕ)) (befo
 
 -- how the input met the heads, and what was taken
 pub record Asks (structure values : Option (List ℕ)) (before after : Option Wire) (asked : Asked) : Type 0 where
-  pub met : IfSome before (λ wire. asked ≡ asked_of structure values wire.left)
-  pub taken : IfSome before (λ wire. after ≡ after_take (taken_of structure values wire.left) before)
+  pub met : IfSome before (λ wire. asked ≡ met_by structure values wire.left)
+  pub taken : IfSome before (λ wire. after ≡ after_take (met_len structure values wire.left) before)
 
 -- the link after one more take
 taken_more : (told now next : Option Wire) (i n m : ℕ) → i + n ≡ m → now ≡ after_take i told → next ≡ after_take n now → next ≡ after_take m told
@@ -52,7 +52,7 @@ asks_ended structure values s v buf (Some wire) now next i n undecided met is gi
     let ends = Met-ended structure values s v wire.left i undecided (given.ended.0 none) met in
     record {
       met = sym ends.0;
-      taken = taken_more (Some wire) now next i n (taken_of structure values wire.left) (omega (arith, ends.1)) is step;
+      taken = taken_more (Some wire) now next i n (met_len structure values wire.left) (omega (arith, ends.1)) is step;
     }
 
 pub Meets-ended : (structure values s v : Option (List ℕ)) (buf : List ℕ) (told now next : Option Wire) (n : ℕ) → decided s v ≡ None → Meets structure values s v told now → IfSome now (λ wire. GivesNext wire buf n) → next ≡ after_take n now → n ≡ 0 → Asks structure values told next Ended
@@ -68,6 +68,6 @@ pub Meets-decided : (structure values s v : Option (List ℕ)) (asked : Asked) (
 Meets-decided structure values s v asked told now is meets = asks_decided structure values s v asked told now meets.count is meets.met meets.told
 
 -- a link that fails has taken no more than is to be taken
-pub Meets-failed : (structure values s v : Option (List ℕ)) (told now next : Option Wire) → Meets structure values s v told now → next ≡ now → IfSome told (λ wire. (count : ℕ) × (count ≤ taken_of structure values wire.left) × (next ≡ after_take count told))
+pub Meets-failed : (structure values s v : Option (List ℕ)) (told now next : Option Wire) → Meets structure values s v told now → next ≡ now → IfSome told (λ wire. (count : ℕ) × (count ≤ met_len structure values wire.left) × (next ≡ after_take count told))
 Meets-failed structure values s v None now next meets same = tt
 Meets-failed structure values s v (Some wire) now next meets same = (meets.count, omega (arith, meets.met.taken), same ∙ meets.told)

@@ -1,18 +1,20 @@
 -- What the files that were loaded tell of the rows of their best view.
-use Rattle.std.proofs.Common.{◌≡◌, ℕ, ◌<◌, ◌≤◌, true, nat_le, IsTrue, List, length, get_or, ℤ, pos, refl, ◌∙◌, arith}
+use Rattle.std.proofs.Common.{◌≡◌, ℕ, ◌<◌, ◌≤◌, true, nat_le, IsTrue, List, length, get_or, ℤ, ap, pos, refl, ◌∙◌, arith}
 use Rattle.std.specs.List.{list_all}
+use Rattle.std.specs.List.Sorted.{IsPermutation}
 use Rattle.std.proofs.lemmas.Bool.Decides.{nat_tests}
 use Rattle.std.proofs.lemmas.List.FromFn.{length-map-range_with_len}
 use Rattle.std.proofs.lemmas.List.Sums.{AllPass-from_list_all}
-use Rattle.nc_model.specs.Thin.{is_thin, is_thin_shape, thin_len, is_instant, instants_of, instant_at}
+use Rattle.nc_model.specs.Thin.{is_thin, is_thin_shape, thin_len, is_instant, instants_of, instant_at, all_differ}
 use Rattle.nc_model.proofs.SmallShape.{IsSmall-from_test}
 use Rattle.nc_model.proofs.ThinLemmas.{both, is_thin-shape}
 use Rattle.srv_run.specs.declared.file.Loaded.{Loaded}
 use Rattle.srv_run.specs.Best.{IsLoaded, best_rows}
-use Rattle.srv_run.specs.Rows.{row_at, rows_of}
+use Rattle.srv_run.specs.Rows.{row_at, rows_of, is_rising}
 use Rattle.srv_run.specs.Times.{is_in_range}
 use Rattle.srv_run.specs.Values.{has_record}
-use Rattle.srv_run.proofs.RisingLemmas.{length-rising, all-rising, length-rows_of, all-rows_of}
+use Rattle.srv_run.proofs.RisesLemmas.{is_rising-rising}
+use Rattle.srv_run.proofs.RisingLemmas.{IsPermutation-rising, length-rising, all-rising, length-rows_of, all-rows_of, valid-rows_of}
 
 -- the times of the file
 abbrev times_of : Loaded → List ℤ
@@ -63,4 +65,14 @@ is_in_range-best_rows loaded facts =
     ranges : (place : ℕ) → place < loaded.file.shape.times → is_in_range (row_at loaded.run (times_of loaded) place) ≡ true
     ranges place below = rw (valid_in_range place below, facts.run) refl
 
-pub ruleset loaded = (is_thin_shape-loaded, times-loaded, thin_len-loaded, all-times-loaded, length-times, length-best_rows, has_record-best_rows, is_in_range-best_rows)
+-- the rows are those of the times, and each is valid before all that follow it
+pub IsPermutation-best_rows : (loaded : Loaded) → IsPermutation (rows_of loaded.run (times_of loaded) loaded.file.shape.times) (best_rows loaded)
+IsPermutation-best_rows loaded = IsPermutation-rising (rows_of loaded.run (times_of loaded) loaded.file.shape.times)
+
+pub is_rising-best_rows : (loaded : Loaded) → IsLoaded loaded → IsTrue (is_rising (best_rows loaded))
+unfolding is_thin
+is_rising-best_rows loaded facts =
+    let differ : all_differ (times_of loaded) ≡ true = (both _ _ facts.thin).1 in
+    is_rising-rising (rows_of loaded.run (times_of loaded) loaded.file.shape.times) (ap all_differ (valid-rows_of loaded.run (times_of loaded) loaded.file.shape.times (length-times loaded)) ∙ differ)
+
+pub ruleset loaded = (IsPermutation-best_rows, is_rising-best_rows, is_thin_shape-loaded, times-loaded, thin_len-loaded, all-times-loaded, length-times, length-best_rows, has_record-best_rows, is_in_range-best_rows)

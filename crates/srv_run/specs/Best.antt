@@ -21,9 +21,13 @@ pub record IsLoaded (loaded : Loaded) : Type 0 where
   pub thin : is_thin loaded.file.bytes loaded.file.shape ≡ true
   pub run : IsTrue (is_instant loaded.run)
 
--- a row for each time of the file, in their order
+-- a row for each time of the file, by the places of its records
+abbrev pub file_rows : Loaded → List Row
+file_rows loaded = rows_of loaded.run (instants_of loaded.file.bytes loaded.file.shape) loaded.file.shape.times
+
+-- the rows of the best view
 abbrev pub best_rows : Loaded → List Row
-best_rows loaded = rising (rows_of loaded.run (instants_of loaded.file.bytes loaded.file.shape) loaded.file.shape.times)
+best_rows loaded = rising (file_rows loaded)
 
 -- the structure text
 unfoldable pub structure_of : List ℕ → Loaded → List ℕ

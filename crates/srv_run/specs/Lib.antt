@@ -9,6 +9,7 @@ pub mod Rows
 pub mod Run
 pub mod Seen
 pub mod Steps
+pub mod Taking
 pub mod Times
 pub mod Values
 pub mod Words

@@ -1,7 +1,9 @@
 //! The best view of what was loaded, and the reply to a request for it.
-ghost use Rattle.std.specs.Prelude.{◌≡◌, IfOk};
+ghost use Rattle.std.specs.Prelude.{◌≡◌, IfOk, IsTrue};
+ghost use Rattle.std.specs.List.Sorted.{IsPermutation};
 ghost use Rattle.nc_model.specs.Thin.{instants_of};
 ghost use Rattle.srv_run.specs.Best as spec;
+ghost use Rattle.srv_run.specs.Rows.{is_rising};
 
 use crate::collection::decls_of;
 use crate::file::Loaded;
@@ -28,6 +30,10 @@ fn times_of(alloc: Global, loaded: &Loaded) -> Result<List<i64>, NoMemory>
 fn best_rows(alloc: Global, loaded: &Loaded) -> Result<List<Row>, NoMemory>
     requires { spec.IsLoaded loaded.now }
     ensures rows { IfOk result (λ rows. rows ≡ spec.best_rows loaded.now) }
+
+    // They are the rows of the file's times, and no two are valid at one time.
+    ensures moved { IsPermutation (spec.file_rows loaded.now) (spec.best_rows loaded.now) }
+    ensures rising { IsTrue (is_rising (spec.best_rows loaded.now)) }
 {
     let times = times_of(alloc, loaded)?;
     rising_rows(alloc, loaded.run, times.as_slice())

@@ -5,6 +5,7 @@ mod best;
 mod collection;
 mod end;
 mod file;
+mod laws;
 mod marked;
 mod once;
 mod program;
@@ -18,6 +19,7 @@ mod words;
 mod xdr;
 
 pub use end::{End, Subject};
+pub use laws::heads_are_told;
 pub use program::run;
 pub use reply::Content;
 pub use request::Asked;

@@ -3,6 +3,7 @@ ghost use Rattle.std.specs.Prelude.{◌≡◌, ◌≤◌, ℕ, ◌++◌, length,
 ghost use Rattle.fm_world.specs.Cause.{HasCause, HasReadCause};
 ghost use Rattle.fm_world.specs.Link.{after_take};
 ghost use Rattle.srv_run.specs.Request as spec;
+ghost use Rattle.srv_run.specs.Taking as taking;
 
 use crate::reply::Content;
 use fm_base::{Bytes, Fail, NoMemory};
@@ -58,7 +59,7 @@ pub(crate) fn data_head(alloc: Global, name: &[u8]) -> Result<Bytes, NoMemory>
 
 // What is left of a head after a byte, where it goes on with that byte.
 fn after_byte(byte: u8, head: Option<&[u8]>) -> Option<&[u8]>
-    ensures { option_map (λ h. h.now) result ≡ spec.after_byte byte (option_map (λ h. h.now) head.entry) }
+    ensures { option_map (λ h. h.now) result ≡ taking.after_byte byte (option_map (λ h. h.now) head.entry) }
 {
     match head {
         Some([next, rest @ ..]) if *next == byte => Some(rest),
@@ -68,7 +69,7 @@ fn after_byte(byte: u8, head: Option<&[u8]>) -> Option<&[u8]>
 
 // What is decided, by what is left of each head that still agrees with the input.
 fn decided(structure: Option<&[u8]>, values: Option<&[u8]>) -> Option<Asked>
-    ensures { result ≡ spec.decided (option_map (λ h. h.now) structure.entry)
+    ensures { result ≡ taking.decided (option_map (λ h. h.now) structure.entry)
         (option_map (λ h. h.now) values.entry) }
 {
     match (structure, values) {
@@ -87,11 +88,11 @@ fn take_request<L: Link>(
     values: &[u8],
 ) -> Result<Asked, Failed>
     ensures asked { IfSome (L.told link.old) (λ wire. IfOk result (λ asked.
-        asked ≡ spec.asked_of (Some structure.now) (Some values.now) wire.left)) }
+        asked ≡ taking.met_by (Some structure.now) (Some values.now) wire.left)) }
     ensures taken { IfSome (L.told link.old) (λ wire. OnOk result (L.told link.new
-        ≡ after_take (spec.taken_of (Some structure.now) (Some values.now) wire.left) (L.told link.old))) }
+        ≡ after_take (taking.met_len (Some structure.now) (Some values.now) wire.left) (L.told link.old))) }
     ensures err { IfSome (L.told link.old) (λ wire. OnErr result ((count : ℕ)
-        × (count ≤ spec.taken_of (Some structure.now) (Some values.now) wire.left)
+        × (count ≤ taking.met_len (Some structure.now) (Some values.now) wire.left)
         × (L.told link.new ≡ after_take count (L.told link.old)))) }
     ensures cause { HasCause (L.fault_count link.old) (L.fault_count link.new) result }
 {
@@ -111,6 +112,7 @@ fn take_request<L: Link>(
 }
 
 // Takes the request for the best view of a collection.
+#[tactic(auto, using(crate::proofs::Heads::told_heads))]
 pub(crate) fn take_asked<L: Link>(
     alloc: Global,
     name: &[u8],
