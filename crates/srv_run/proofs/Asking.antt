@@ -1,54 +1,67 @@
--- A head is met byte by byte.
-use Rattle.std.proofs.Common.{◌≡◌, ◌≢◌, ℕ, ◌+◌, ◌<◌, ◌≤◌, false, List, [], ◌∷◌, ◌++◌, length, get_or, take, drop, Option, Some, None, refl, sym, ap, ◌∙◌, append_assoc, add-one, drop-cons, length-drop, ◌==◌, arith}
+-- The heads are met byte by byte.
+use Rattle.std.proofs.Common.{◌≡◌, ℕ, ◌+◌, ◌<◌, ◌≤◌, List, [], ◌∷◌, ◌++◌, length, get_or, take, drop, Option, Some, None, refl, sym, ap, ◌∙◌, append_assoc, add-one, drop-cons, length-drop, ◌==◌, Bool, true, false, if◌then◌else◌, arith}
 use Rattle.std.proofs.Math.Seq.{take-add}
-use Rattle.std.proofs.lemmas.Bool.{eq-eqb}
-use Rattle.std.proofs.lemmas.Bool.Decides.{nat_tests}
-use Rattle.std.proofs.lemmas.List.{drop-drop, drop_all}
+use Rattle.std.proofs.lemmas.List.{drop-drop}
 use Rattle.fm_world.specs.Link.{Wire, after_take}
-use Rattle.srv_run.specs.declared.request.Asked.TheVariants.{Whole, Ended, Differs}
-use Rattle.srv_run.specs.Request.{asked_of, taken_of}
+use Rattle.srv_run.specs.declared.request.Asked.{Asked}
+use Rattle.srv_run.specs.declared.request.Asked.TheVariants.{Ended}
+use Rattle.srv_run.specs.Taking.{after_byte, decided, met_by, met_len}
 
--- the first bytes of the head were met: what is left of both decides
-pub record Met (head input : List ℕ) (i : ℕ) : Type 0 where
-  pub asked : asked_of head input ≡ asked_of (drop i head) (drop i input)
-  pub taken : taken_of head input ≡ i + taken_of (drop i head) (drop i input)
+-- the first bytes of the input were met: what is left of it and of the heads decides
+pub record Met (structure values structure' values' : Option (List ℕ)) (input : List ℕ) (i : ℕ) : Type 0 where
+  pub asked : met_by structure values input ≡ met_by structure' values' (drop i input)
+  pub taken : met_len structure values input ≡ i + met_len structure' values' (drop i input)
 
 drop_next : (xs : List ℕ) (i : ℕ) → i < length xs → drop i xs ≡ get_or xs i 0 ∷ drop (i + 1) xs
 drop_next xs i below = rw (add-one, drop-cons xs i 0) refl
 
--- one more byte is met
-pub Met-same : (head input : List ℕ) (i : ℕ) → i < length head → i < length input → get_or input i 0 ≡ get_or head i 0 → Met head input i → Met head input (i + 1)
-unfolding asked_of taken_of
-Met-same head input i in_head in_input same met =
-    let byte = eq-eqb (get_or input i 0) (get_or head i 0) same in
-    record {
-      asked = met.asked ∙ rw (drop_next head i in_head, drop_next input i in_input, byte) refl;
-      taken = met.taken ∙ rw (drop_next head i in_head, drop_next input i in_input, byte) (omega arith);
-    }
+-- nothing is met yet
+pub Met-none : (structure values : Option (List ℕ)) (input : List ℕ) → Met structure values structure values input 0
+Met-none structure values input = record { asked = refl; taken = omega arith }
 
--- a byte differs
-pub Met-differs : (head input : List ℕ) (i : ℕ) → i < length head → i < length input → get_or input i 0 ≢ get_or head i 0 → Met head input i → (asked_of head input ≡ Differs) × (taken_of head input ≡ i + 1)
-unfolding asked_of taken_of
-Met-differs head input i in_head in_input other met =
-    let byte : (get_or input i 0 == get_or head i 0) ≡ false = grind (arith, nat_tests) in
-    (met.asked ∙ rw (drop_next head i in_head, drop_next input i in_input, byte) refl, met.taken ∙ rw (drop_next head i in_head, drop_next input i in_input, byte) refl)
+-- one more byte is met
+pub Met-more : (structure values s v : Option (List ℕ)) (input : List ℕ) (i : ℕ) → decided s v ≡ None → i < length input → Met structure values s v input i → Met structure values (after_byte (get_or input i 0) s) (after_byte (get_or input i 0) v) input (i + 1)
+unfolding met_by met_len
+Met-more structure values s v input i undecided below met = record {
+  asked = met.asked ∙ rw (drop_next input i below, undecided) refl;
+  taken = met.taken ∙ rw (drop_next input i below, undecided) (omega arith);
+}
 
 -- the input ends
-pub Met-ended : (head input : List ℕ) (i : ℕ) → i < length head → drop i input ≡ [] → Met head input i → (asked_of head input ≡ Ended) × (taken_of head input ≡ i)
-unfolding asked_of taken_of
-Met-ended head input i in_head none met =
-    (met.asked ∙ rw (drop_next head i in_head, none) refl, met.taken ∙ rw (drop_next head i in_head, none) (omega arith))
+pub Met-ended : (structure values s v : Option (List ℕ)) (input : List ℕ) (i : ℕ) → decided s v ≡ None → drop i input ≡ [] → Met structure values s v input i → (met_by structure values input ≡ Ended) × (met_len structure values input ≡ i)
+unfolding met_by met_len
+Met-ended structure values s v input i undecided none met =
+    (met.asked ∙ rw (none, undecided) refl, met.taken ∙ rw none (omega arith))
 
--- the head ends
-pub Met-whole : (head input : List ℕ) (i : ℕ) → length head ≤ i → Met head input i → (asked_of head input ≡ Whole) × (taken_of head input ≡ i)
-unfolding asked_of taken_of
-Met-whole head input i past met =
-    let none = drop_all i head past in
-    (met.asked ∙ rw none refl, met.taken ∙ rw none (omega arith))
+-- what is decided takes nothing more
+asked_decided : (s v : Option (List ℕ)) (input : List ℕ) (asked : Asked) → decided s v ≡ Some asked → (met_by s v input ≡ asked) × (met_len s v input ≡ 0)
+unfolding met_by met_len
+asked_decided s v [] asked is = (rw is refl, refl)
+asked_decided s v (byte ∷ input) asked is = (rw is refl, rw is refl)
 
--- nothing is met yet
-pub Met-none : (head input : List ℕ) → Met head input 0
-Met-none head input = record { asked = refl; taken = omega arith }
+pub Met-decided : (structure values s v : Option (List ℕ)) (input : List ℕ) (i : ℕ) (asked : Asked) → decided s v ≡ Some asked → Met structure values s v input i → (met_by structure values input ≡ asked) × (met_len structure values input ≡ i)
+Met-decided structure values s v input i asked is met =
+    let now = asked_decided s v (drop i input) asked is in
+    (met.asked ∙ now.0, met.taken ∙ rw now.1 (omega arith))
+
+-- how many bytes are left of a head
+abbrev pub left_len : Option (List ℕ) → ℕ
+left_len None = 0
+left_len (Some head) = length head
+
+left_where : (same : Bool) (head : List ℕ) → left_len (if same then Some head else None) ≤ length head
+left_where true head = omega arith
+left_where false head = omega arith
+
+-- while nothing is decided, each byte leaves less of the heads
+pub left_after : (byte : ℕ) (s v : Option (List ℕ)) → decided s v ≡ None → left_len (after_byte byte s) + left_len (after_byte byte v) < left_len s + left_len v
+left_after byte None None is = grind (arith, is)
+left_after byte None (Some []) is = grind (arith, is)
+left_after byte None (Some (next ∷ other)) is = omega (arith, left_where (next == byte) other)
+left_after byte (Some []) v is = grind (arith, is)
+left_after byte (Some (first ∷ head)) None is = omega (arith, left_where (first == byte) head)
+left_after byte (Some (first ∷ head)) (Some []) is = grind (arith, is)
+left_after byte (Some (first ∷ head)) (Some (next ∷ other)) is = omega (arith, left_where (first == byte) head, left_where (next == byte) other)
 
 -- the link after i of its bytes were taken, and then one more
 pub after_take-add : (i n : ℕ) (told : Option Wire) → after_take n (after_take i told) ≡ after_take (i + n) told

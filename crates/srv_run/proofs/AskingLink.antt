@@ -1,33 +1,25 @@
--- A head is taken from a link byte by byte, where the link tells.
-use Rattle.std.proofs.Common.{◌≡◌, ◌≢◌, ℕ, ◌+◌, ◌<◌, ◌≤◌, List, ◌++◌, length, get_or, take, drop, Option, Some, None, IfSome, sym, ap, subst, ◌∙◌, arith}
+-- The heads are met byte by byte on a link, where it tells.
+use Rattle.std.proofs.Common.{◌≡◌, ℕ, ◌+◌, ◌<◌, ◌≤◌, List, ◌++◌, length, get_or, take, drop, Option, Some, None, IfSome, refl, sym, ap, subst, ◌∙◌, append-nil, arith}
 use Rattle.fm_world.specs.Link.{Wire, GivesNext, after_take}
 use Rattle.srv_run.specs.declared.request.Asked.{Asked}
-use Rattle.srv_run.specs.declared.request.Asked.TheVariants.{Whole, Ended, Differs}
-use Rattle.srv_run.specs.Request.{asked_of, taken_of}
-use Rattle.srv_run.proofs.Asking.{Met, Met-same, Met-differs, Met-ended, Met-whole, after_take-add, next_byte}
+use Rattle.srv_run.specs.declared.request.Asked.TheVariants.{Ended}
+use Rattle.srv_run.specs.Taking.{after_byte, decided, met_by, met_len}
+use Rattle.srv_run.proofs.Asking.{Met, Met-none, Met-more, Met-ended, Met-decided, after_take-add, next_byte}
 
--- so many bytes were met
-abbrev pub MetBy : List ℕ → Option Wire → ℕ → Type 0
-MetBy head told i = IfSome told (λ wire. Met head wire.left i)
+-- so many bytes of the link were met
+pub record Meets (structure values structure' values' : Option (List ℕ)) (before now : Option Wire) : Type 0 where
+  pub count : ℕ
+  pub met : IfSome before (λ wire. Met structure values structure' values' wire.left count)
+  pub told : now ≡ after_take count before
 
--- how the input met the head, and what was taken
-pub record Asks (head : List ℕ) (before after : Option Wire) (asked : Asked) : Type 0 where
-  pub met : IfSome before (λ wire. asked ≡ asked_of head wire.left)
-  pub taken : IfSome before (λ wire. after ≡ after_take (taken_of head wire.left) before)
+-- how the input met the heads, and what was taken
+pub record Asks (structure values : Option (List ℕ)) (before after : Option Wire) (asked : Asked) : Type 0 where
+  pub met : IfSome before (λ wire. asked ≡ met_by structure values wire.left)
+  pub taken : IfSome before (λ wire. after ≡ after_take (met_len structure values wire.left) before)
 
 -- the link after one more take
 taken_more : (told now next : Option Wire) (i n m : ℕ) → i + n ≡ m → now ≡ after_take i told → next ≡ after_take n now → next ≡ after_take m told
 taken_more told now next i n m sum is step = step ∙ ap (after_take n) is ∙ after_take-add i n told ∙ ap (λ (k : ℕ). after_take k told) sum
-
-pub Asks-ended : (head buf : List ℕ) (told now next : Option Wire) (i n : ℕ) → i < length head → MetBy head told i → now ≡ after_take i told → IfSome now (λ wire. GivesNext wire buf n) → next ≡ after_take n now → n ≡ 0 → Asks head told next Ended
-Asks-ended head buf None now next i n below met is gives step none = record { met = tt; taken = tt }
-Asks-ended head buf (Some wire) now next i n below met is gives step none =
-    let given = subst (λ (t : Option Wire). IfSome t (λ w. GivesNext w buf n)) is gives in
-    let ends = Met-ended head wire.left i below (given.ended.0 none) met in
-    record {
-      met = sym ends.0;
-      taken = taken_more (Some wire) now next i n (taken_of head wire.left) (omega (arith, ends.1)) is step;
-    }
 
 -- the byte that was given is the next of the input
 given_byte : (wire : Wire) (now : Option Wire) (buf : List ℕ) (i n : ℕ) → now ≡ after_take i (Some wire) → IfSome now (λ w. GivesNext w buf n) → n ≡ 1 → (i < length wire.left) × (get_or buf 0 0 ≡ get_or wire.left i 0)
@@ -36,27 +28,46 @@ given_byte wire now buf i n is gives one =
     let given = subst (λ (k : ℕ). GivesNext (record { taken = wire.taken ++ take i wire.left; left = drop i wire.left; put = wire.put }) buf k) one at_link in
     next_byte wire.left buf i given.left given.bytes
 
-pub Asks-differs : (head buf : List ℕ) (told now next : Option Wire) (i n : ℕ) → i < length head → MetBy head told i → now ≡ after_take i told → IfSome now (λ wire. GivesNext wire buf n) → next ≡ after_take n now → n ≡ 1 → get_or buf 0 0 ≢ get_or head i 0 → Asks head told next Differs
-Asks-differs head buf None now next i n below met is gives step one other = record { met = tt; taken = tt }
-Asks-differs head buf (Some wire) now next i n below met is gives step one other =
+met_more : (structure values s v : Option (List ℕ)) (buf : List ℕ) (told now : Option Wire) (i n : ℕ) → decided s v ≡ None → IfSome told (λ wire. Met structure values s v wire.left i) → now ≡ after_take i told → IfSome now (λ wire. GivesNext wire buf n) → n ≡ 1 → IfSome told (λ wire. Met structure values (after_byte (get_or buf 0 0) s) (after_byte (get_or buf 0 0) v) wire.left (i + 1))
+met_more structure values s v buf None now i n undecided met is gives one = tt
+met_more structure values s v buf (Some wire) now i n undecided met is gives one =
     let byte = given_byte wire now buf i n is gives one in
-    let ends = Met-differs head wire.left i below byte.0 (λ same. other (byte.1 ∙ same)) met in
+    rw byte.1 (Met-more structure values s v wire.left i undecided byte.0 met)
+
+pub Meets-none : (structure values : Option (List ℕ)) (told : Option Wire) → Meets structure values structure values told told
+Meets-none structure values None = record { count = 0; met = tt; told = refl }
+Meets-none structure values (Some wire) = record { count = 0; met = Met-none structure values wire.left; told = rw (append-nil wire.taken) refl }
+
+pub Meets-more : (structure values s v : Option (List ℕ)) (buf : List ℕ) (told now next : Option Wire) (n : ℕ) → decided s v ≡ None → Meets structure values s v told now → IfSome now (λ wire. GivesNext wire buf n) → next ≡ after_take n now → n ≡ 1 → Meets structure values (after_byte (get_or buf 0 0) s) (after_byte (get_or buf 0 0) v) told next
+Meets-more structure values s v buf told now next n undecided meets gives step one = record {
+  count = meets.count + 1;
+  met = met_more structure values s v buf told now meets.count n undecided meets.met meets.told gives one;
+  told = taken_more told now next meets.count n (meets.count + 1) (omega (arith, one)) meets.told step;
+}
+
+asks_ended : (structure values s v : Option (List ℕ)) (buf : List ℕ) (told now next : Option Wire) (i n : ℕ) → decided s v ≡ None → IfSome told (λ wire. Met structure values s v wire.left i) → now ≡ after_take i told → IfSome now (λ wire. GivesNext wire buf n) → next ≡ after_take n now → n ≡ 0 → Asks structure values told next Ended
+asks_ended structure values s v buf None now next i n undecided met is gives step none = record { met = tt; taken = tt }
+asks_ended structure values s v buf (Some wire) now next i n undecided met is gives step none =
+    let given = subst (λ (t : Option Wire). IfSome t (λ w. GivesNext w buf n)) is gives in
+    let ends = Met-ended structure values s v wire.left i undecided (given.ended.0 none) met in
     record {
       met = sym ends.0;
-      taken = taken_more (Some wire) now next i n (taken_of head wire.left) (omega (arith, ends.1)) is step;
+      taken = taken_more (Some wire) now next i n (met_len structure values wire.left) (omega (arith, ends.1)) is step;
     }
 
-pub Asks-whole : (head : List ℕ) (told now : Option Wire) (i : ℕ) → length head ≤ i → MetBy head told i → now ≡ after_take i told → Asks head told now Whole
-Asks-whole head None now i past met is = record { met = tt; taken = tt }
-Asks-whole head (Some wire) now i past met is =
-    let ends = Met-whole head wire.left i past met in
-    record { met = sym ends.0; taken = is ∙ ap (λ (k : ℕ). after_take k (Some wire)) (sym ends.1) }
+pub Meets-ended : (structure values s v : Option (List ℕ)) (buf : List ℕ) (told now next : Option Wire) (n : ℕ) → decided s v ≡ None → Meets structure values s v told now → IfSome now (λ wire. GivesNext wire buf n) → next ≡ after_take n now → n ≡ 0 → Asks structure values told next Ended
+Meets-ended structure values s v buf told now next n undecided meets gives step none = asks_ended structure values s v buf told now next meets.count n undecided meets.met meets.told gives step none
 
-pub MetBy-more : (head buf : List ℕ) (told now : Option Wire) (i n : ℕ) → i < length head → MetBy head told i → now ≡ after_take i told → IfSome now (λ wire. GivesNext wire buf n) → n ≡ 1 → get_or buf 0 0 ≡ get_or head i 0 → MetBy head told (i + 1)
-MetBy-more head buf None now i n below met is gives one same = tt
-MetBy-more head buf (Some wire) now i n below met is gives one same =
-    let byte = given_byte wire now buf i n is gives one in
-    Met-same head wire.left i below byte.0 (sym byte.1 ∙ same) met
+asks_decided : (structure values s v : Option (List ℕ)) (asked : Asked) (told now : Option Wire) (i : ℕ) → decided s v ≡ Some asked → IfSome told (λ wire. Met structure values s v wire.left i) → now ≡ after_take i told → Asks structure values told now asked
+asks_decided structure values s v asked None now i is met told = record { met = tt; taken = tt }
+asks_decided structure values s v asked (Some wire) now i is met told =
+    let ends = Met-decided structure values s v wire.left i asked is met in
+    record { met = sym ends.0; taken = told ∙ ap (λ (k : ℕ). after_take k (Some wire)) (sym ends.1) }
 
-pub told_more : (told now next : Option Wire) (i n : ℕ) → n ≡ 1 → now ≡ after_take i told → next ≡ after_take n now → next ≡ after_take (i + 1) told
-told_more told now next i n one is step = taken_more told now next i n (i + 1) (omega arith) is step
+pub Meets-decided : (structure values s v : Option (List ℕ)) (asked : Asked) (told now : Option Wire) → decided s v ≡ Some asked → Meets structure values s v told now → Asks structure values told now asked
+Meets-decided structure values s v asked told now is meets = asks_decided structure values s v asked told now meets.count is meets.met meets.told
+
+-- a link that fails has taken no more than is to be taken
+pub Meets-failed : (structure values s v : Option (List ℕ)) (told now next : Option Wire) → Meets structure values s v told now → next ≡ now → IfSome told (λ wire. (count : ℕ) × (count ≤ met_len structure values wire.left) × (next ≡ after_take count told))
+Meets-failed structure values s v None now next meets same = tt
+Meets-failed structure values s v (Some wire) now next meets same = (meets.count, omega (arith, meets.met.taken), same ∙ meets.told)

@@ -11,10 +11,10 @@ use Rattle.nc_layout.specs.Places.{Places}
 use Rattle.srv_run.specs.declared.end.End.{End}
 use Rattle.srv_run.specs.declared.end.End.TheVariants.{Done, BadWords, Refused, NoMemory, FileFault, SinkFault, LinkFault, NoFile, TooLong, InputEnded}
 use Rattle.srv_run.specs.declared.end.Subject.TheVariants.{Prototype, File, Request}
-use Rattle.srv_run.specs.Steps.{BlamesFiles, IsOfContent, IsEndOfRead}
+use Rattle.srv_run.specs.Steps.{BlamesFiles, IsEndOfTake, IsEndOfRead}
 
 -- the files are not blamed for what a file holds
-pub BlamesFiles-content : {X : Type 0} (before now : ℕ) (result : Result X End) → before ≤ now → IfErr result IsOfContent → IfErr result (BlamesFiles before now)
+pub BlamesFiles-content : {X : Type 0} (before now : ℕ) (result : Result X End) → before ≤ now → IfErr result IsEndOfTake → IfErr result (BlamesFiles before now)
 BlamesFiles-content before now (Ok x) later content = tt
 BlamesFiles-content before now (Err NoMemory) later content = record { later = later; rose = λ subject is. absurd cc }
 BlamesFiles-content before now (Err (Refused File code)) later content = record { later = later; rose = λ subject is. absurd cc }
@@ -30,7 +30,7 @@ BlamesFiles-content before now (Err LinkFault) later content = absurd content
 BlamesFiles-content before now (Err InputEnded) later content = absurd content
 
 -- what ends a check of a content ends one of a file
-pub IsEndOfRead-content : {X : Type 0} (result : Result X End) → IfErr result IsOfContent → IfErr result (IsEndOfRead File)
+pub IsEndOfRead-content : {X : Type 0} (result : Result X End) → IfErr result IsEndOfTake → IfErr result (IsEndOfRead File)
 IsEndOfRead-content (Ok x) content = tt
 IsEndOfRead-content (Err NoMemory) content = tt
 IsEndOfRead-content (Err (Refused File code)) content = refl

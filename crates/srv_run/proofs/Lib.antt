@@ -1,8 +1,17 @@
+pub mod ArrayLemmas
 pub mod Asking
 pub mod AskingLink
 pub mod CheckLemmas
 pub mod ExchangeLemmas
+pub mod FieldLemmas
+pub mod Heads
 pub mod LoadLemmas
+pub mod LoadedLemmas
 pub mod PieceLemmas
 pub mod ReportLemmas
+pub mod RisenLemmas
+pub mod RequestLaws
+pub mod RisesLemmas
 pub mod RisingLemmas
+pub mod RowLemmas
+pub mod WordLemmas

@@ -1,16 +1,13 @@
 -- Thin files as a collection, and its best view (THREDDS, Forecast Model Run Collections).
-use Rattle.std.specs.Prelude.{ℕ, ◌+◌, ◌*◌, List, [], ◌∷◌, take, drop, Bool, ◌&&◌, ◌==◌, ℤ, int_lt, codes, if◌then◌else◌}
-use Rattle.std.specs.List.{flat_map}
-use Rattle.std.specs.Ordering.{int_eq}
+use Rattle.std.specs.Prelude.{ℕ, ◌+◌, ◌*◌, List, [], ◌∷◌, take, drop, Bool, ◌&&◌, ◌==◌, codes}
 use Rattle.std.specs.Str.{bytes_eq}
 use Rattle.fm_base.specs.declared.header.Dim.{Dim}
 use Rattle.nc_model.specs.declared.shape.ThinShape.{ThinShape}
-use Rattle.nc_model.specs.Thin.{instants_of}
-use Rattle.srv_run.specs.declared.declaration.Array.{Array}
-use Rattle.srv_run.specs.declared.declaration.DapKind.{DapKind}
-use Rattle.srv_run.specs.declared.declaration.DapKind.TheVariants.{Int32, Float32}
-use Rattle.srv_run.specs.declared.declaration.Decl.{Decl}
-use Rattle.srv_run.specs.declared.declaration.Decl.TheVariants.{Plain, Grid}
+use Rattle.dap_model.specs.declared.declaration.Array.{Array}
+use Rattle.dap_model.specs.declared.declaration.DapKind.{DapKind}
+use Rattle.dap_model.specs.declared.declaration.DapKind.TheVariants.{Int32, Float32}
+use Rattle.dap_model.specs.declared.declaration.Decl.{Decl}
+use Rattle.dap_model.specs.declared.declaration.Decl.TheVariants.{Plain, Grid}
 
 -- the bytes of the latitudes and the longitudes of a thin file
 abbrev pub places_of : List ℕ → ThinShape → List ℕ
@@ -19,28 +16,6 @@ places_of bytes shape = take (4 * shape.lats + 4 * shape.lons) (drop 276 bytes)
 -- whether a thin file lies on the same grid as the prototype
 unfoldable pub is_same_grid : List ℕ → ThinShape → List ℕ → ThinShape → Bool
 is_same_grid proto grid file shape = shape.lats == grid.lats && shape.lons == grid.lons && bytes_eq (places_of file shape) (places_of proto grid)
-
--- a file of a collection: the instants of its records
-pub record Loaded : Type 0 where
-  pub instants : List ℤ
-
--- a list that rises, with one more instant in its place where it isn't there
-unfoldable pub insert_once : ℤ → List ℤ → List ℤ
-insert_once instant [] = instant ∷ []
-insert_once instant (first ∷ more) = if int_eq first instant then first ∷ more else (if int_lt instant first then instant ∷ first ∷ more else first ∷ insert_once instant more)
-
--- each of the instants once, rising
-unfoldable pub rising : List ℤ → List ℤ
-rising [] = []
-rising (instant ∷ more) = insert_once instant (rising more)
-
--- the valid times of the best view: each instant that some file has
-unfoldable pub best_times : List Loaded → List ℤ
-best_times files = rising (flat_map (λ (f : Loaded). f.instants) files)
-
--- the collection that one thin file makes
-abbrev pub collection_of_one : List ℕ → ThinShape → List Loaded
-collection_of_one file shape = record { instants = instants_of file shape } ∷ []
 
 -- an array over these dimensions
 abbrev pub array : List ℕ → DapKind → List Dim → Array

@@ -1,11 +1,16 @@
+pub mod Best
 pub mod Check
 pub mod Collection
+pub mod Marked
 pub mod Once
 pub mod Reply
 pub mod Report
 pub mod Request
+pub mod Rows
 pub mod Run
 pub mod Seen
 pub mod Steps
-pub mod StructureText
+pub mod Taking
+pub mod Times
+pub mod Values
 pub mod Words

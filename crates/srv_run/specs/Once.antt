@@ -1,23 +1,22 @@
 -- What the command does: it reads a prototype and a file, and answers one request over the collection of that file.
-use Rattle.std.specs.Prelude.{◌≡◌, ⊤, ℕ, ◌≤◌, List, length, take, Option, Some, None, Result, Ok, Err, [], IsOk, if◌then◌else◌}
+use Rattle.std.specs.Prelude.{◌≡◌, ⊤, ℕ, ◌≤◌, List, length, take, Option, Some, None, Result, Ok, Err, ℤ, ◌-ℤ◌, IsOk, if◌then◌else◌}
 use Rattle.fm_world.specs.declared.files.Found.{Found}
 use Rattle.fm_world.specs.declared.files.Found.TheVariants.{Content, Absent, TooLong as TooLongFound}
 use Rattle.fm_world.specs.Files.{found_of}
 use Rattle.fm_world.specs.Link.{Wire, after_take, after_put}
 use Rattle.nc_model.specs.declared.shape.ThinShape.{ThinShape}
-use Rattle.nc_model.specs.Thin.{thin_shape}
+use Rattle.nc_model.specs.Thin.{EPOCH_SECONDS, is_instant, thin_shape}
 use Rattle.srv_run.specs.declared.end.End.{End}
 use Rattle.srv_run.specs.declared.end.End.TheVariants.{Done, BadWords, Refused, NoMemory, FileFault, SinkFault, LinkFault, NoFile, TooLong, InputEnded}
 use Rattle.srv_run.specs.declared.end.Subject.{Subject as Matter}
 use Rattle.srv_run.specs.declared.end.Subject.TheVariants.{Prototype, File, Request}
+use Rattle.srv_run.specs.declared.file.Loaded.{Loaded}
 use Rattle.srv_run.specs.declared.file.ReadFile.{ReadFile}
-use Rattle.srv_run.specs.declared.reply.Content.TheVariants.{Structure}
 use Rattle.srv_run.specs.declared.request.Asked.{Asked}
 use Rattle.srv_run.specs.declared.request.Asked.TheVariants.{Whole, Ended, Differs}
-use Rattle.srv_run.specs.Collection.{is_same_grid, best_times, collection_of_one, decls_of}
-use Rattle.srv_run.specs.Reply.{reply_of}
-use Rattle.srv_run.specs.Request.{best_label, taken_of}
-use Rattle.srv_run.specs.StructureText.{dds_of}
+use Rattle.srv_run.specs.Collection.{is_same_grid}
+use Rattle.srv_run.specs.Marked.{marked_moment}
+use Rattle.srv_run.specs.Request.{taken_by}
 use Rattle.srv_run.specs.Words.{Command}
 
 -- the greatest length of a file
@@ -55,26 +54,30 @@ thin_or_end subject bytes = shape_or_refusal subject (thin_shape bytes)
 unfoldable pub read_or_end : Matter → Option (List ℕ) → Result ReadFile End
 read_or_end subject held = file_or_end subject held >>= λ bytes. thin_or_end subject bytes >>= λ shape. Ok (record { bytes = bytes; shape = shape })
 
--- a file is taken where it lies on the grid of the prototype
-unfoldable pub taken_or_end : ReadFile → ReadFile → Result ReadFile End
-taken_or_end proto file = if is_same_grid proto.bytes proto.shape file.bytes file.shape then Ok file else Err (not_yet_read File)
+-- a run, where it is an instant
+abbrev pub run_in_range : ℤ → Result ℤ End
+run_in_range run = if is_instant run then Ok run else Err (Refused File 55)
+
+-- the run of a moment, in seconds from the epoch
+abbrev pub run_of_moment : Option ℤ → Result ℤ End
+run_of_moment None = Err (Refused File 45)
+run_of_moment (Some moment) = run_in_range (moment -ℤ EPOCH_SECONDS)
+
+-- the run of a file, by its name
+unfoldable pub run_or_end : List ℕ → List ℕ → Result ℤ End
+run_or_end name path = run_of_moment (marked_moment name path)
+
+-- a file is taken where it lies on the grid of the prototype and its name marks a run
+unfoldable pub taken_or_end : Command → ReadFile → ReadFile → Result Loaded End
+taken_or_end command proto file = if is_same_grid proto.bytes proto.shape file.bytes file.shape then (run_or_end command.name command.path >>= λ run. Ok (record { proto = proto; file = file; run = run })) else Err (not_yet_read File)
 
 -- both files, each read whole, and the second taken over the first
-unfoldable pub loaded_or_end : Command → (List ℕ → Option (List ℕ)) → Result ReadFile End
-loaded_or_end command held = read_or_end Prototype (held command.proto) >>= λ proto. read_or_end File (held command.path) >>= λ file. taken_or_end proto file
-
--- the reply to the request over the collection of this one file, which is its revision 1
-unfoldable pub reply_over : List ℕ → ReadFile → List ℕ
-reply_over name file = reply_of Structure 1 (dds_of (best_label name) (decls_of file.shape (length (best_times (collection_of_one file.bytes file.shape)))))
-
--- the reply over what was loaded, and nothing where the run ended
-unfoldable pub reply_to_loaded : List ℕ → Result ReadFile End → List ℕ
-reply_to_loaded name (Ok file) = reply_over name file
-reply_to_loaded name (Err end) = []
+unfoldable pub loaded_or_end : Command → (List ℕ → Option (List ℕ)) → Result Loaded End
+loaded_or_end command held = read_or_end Prototype (held command.proto) >>= λ proto. read_or_end File (held command.path) >>= λ file. taken_or_end command proto file
 
 -- How a run ended accords with what the files hold: a run comes to its request exactly where the file is loaded, and
 -- ends before it for the defined reason. Want of memory may come at any time, a fault of a file only where it is read.
-abbrev pub AccordsFiles : End → Result ReadFile End → Result ReadFile End → Type 0
+abbrev pub AccordsFiles : End → Result ReadFile End → Result Loaded End → Type 0
 AccordsFiles Done proto loaded = IsOk loaded
 AccordsFiles InputEnded proto loaded = IsOk loaded
 AccordsFiles LinkFault proto loaded = IsOk loaded
@@ -90,19 +93,24 @@ AccordsFiles (TooLong subject len) proto loaded = loaded ≡ Err (TooLong subjec
 AccordsFiles SinkFault proto loaded = ⊥
 AccordsFiles BadWords proto loaded = ⊥
 
--- How a run ended accords with how its input meets the head.
+-- A request is whole.
+abbrev pub IsWhole : Asked → Type 0
+IsWhole (Whole content) = ⊤
+IsWhole asked = ⊥
+
+-- How a run ended accords with how its input meets the heads.
 abbrev pub AccordsInput : End → Asked → Type 0
-AccordsInput Done asked = asked ≡ Whole
+AccordsInput Done asked = IsWhole asked
 AccordsInput InputEnded asked = asked ≡ Ended
 AccordsInput (Refused Request code) asked = asked ≡ Differs
 AccordsInput end asked = ⊤
 
 -- What was taken from the link and sent on it: the head and the whole reply; or the input up to where it ended or
--- differed, and nothing; or parts of both where the link failed; or nothing.
+-- differed, and nothing; or parts of both where the link failed; or a part of the head; or nothing.
 abbrev pub Exchanged : End → List ℕ → List ℕ → Wire → Option Wire → Type 0
-Exchanged Done head reply wire after = after ≡ after_put reply (after_take (taken_of head wire.left) (Some wire))
-Exchanged InputEnded head reply wire after = after ≡ after_take (taken_of head wire.left) (Some wire)
-Exchanged (Refused Request code) head reply wire after = after ≡ after_take (taken_of head wire.left) (Some wire)
-Exchanged LinkFault head reply wire after = (m n : ℕ) × (m ≤ length head) × (n ≤ length reply) × (after ≡ after_put (take n reply) (after_take m (Some wire)))
-Exchanged NoMemory head reply wire after = (m : ℕ) × (m ≤ length head) × (after ≡ after_take m (Some wire))
-Exchanged end head reply wire after = after ≡ Some wire
+Exchanged Done name reply wire after = after ≡ after_put reply (after_take (taken_by name wire.left) (Some wire))
+Exchanged InputEnded name reply wire after = after ≡ after_take (taken_by name wire.left) (Some wire)
+Exchanged (Refused Request code) name reply wire after = after ≡ after_take (taken_by name wire.left) (Some wire)
+Exchanged LinkFault name reply wire after = (m n : ℕ) × (m ≤ taken_by name wire.left) × (n ≤ length reply) × (after ≡ after_put (take n reply) (after_take m (Some wire)))
+Exchanged NoMemory name reply wire after = (m : ℕ) × (m ≤ taken_by name wire.left) × (after ≡ after_take m (Some wire))
+Exchanged end name reply wire after = after ≡ Some wire

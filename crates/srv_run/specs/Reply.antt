@@ -1,15 +1,17 @@
 -- A reply: its head and its body (RFC 9112; ESE-RFC-004, the DAP 2.0 header lines).
 use Rattle.std.specs.Prelude.{ℕ, List, ◌++◌, codes, decimal, length}
 use Rattle.srv_run.specs.declared.reply.Content.{Content}
-use Rattle.srv_run.specs.declared.reply.Content.TheVariants.{Structure}
+use Rattle.srv_run.specs.declared.reply.Content.TheVariants.{Structure, Data}
 
 -- what a body is called in DAP
 unfoldable pub description_of : Content → List ℕ
 description_of Structure = codes "dods_dds"
+description_of Data = codes "dods_data"
 
 -- the media type of a body
 unfoldable pub media_type_of : Content → List ℕ
 media_type_of Structure = codes "text/plain"
+media_type_of Data = codes "application/octet-stream"
 
 -- a header line
 unfoldable pub field_line : List ℕ → List ℕ → List ℕ

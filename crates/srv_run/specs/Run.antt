@@ -8,10 +8,11 @@ use Rattle.fm_world.specs.Sink.{after_append}
 use Rattle.srv_run.specs.declared.end.End.{End}
 use Rattle.srv_run.specs.declared.end.End.TheVariants.{Done, BadWords, SinkFault}
 use Rattle.srv_run.specs.declared.end.Subject.TheVariants.{Prototype}
+use Rattle.srv_run.specs.Best.{reply_to}
 use Rattle.srv_run.specs.Check.{checked_path, checked_or_end, check_line, EndsCheck}
-use Rattle.srv_run.specs.Once.{AccordsFiles, AccordsInput, Exchanged, read_or_end, loaded_or_end, reply_to_loaded}
+use Rattle.srv_run.specs.Once.{AccordsFiles, AccordsInput, Exchanged, read_or_end, loaded_or_end}
 use Rattle.srv_run.specs.Report.{status_of, line_of}
-use Rattle.srv_run.specs.Request.{structure_head, asked_of}
+use Rattle.srv_run.specs.Request.{asked_by}
 use Rattle.srv_run.specs.Steps.{Gives, BlamesFiles, BlamesLink}
 use Rattle.srv_run.specs.Words.{Command, command_of}
 
@@ -46,8 +47,8 @@ pub record RefusesWords (end : End) (files files' : FilesSeen) (link link' : Lin
 -- count of faults rose, and want of memory may come at any time.
 pub record RunsCommand (command : Command) (end : End) (files files' : FilesSeen) (link link' : LinkSeen) : Type 0 where
   pub loaded : IfSome files.told (λ held. AccordsFiles end (read_or_end Prototype (held command.proto)) (loaded_or_end command held))
-  pub asked : IfSome link.told (λ wire. AccordsInput end (asked_of (structure_head command.name) wire.left))
-  pub exchanged : IfSome files.told (λ held. IfSome link.told (λ wire. Exchanged end (structure_head command.name) (reply_to_loaded command.name (loaded_or_end command held)) wire link'.told))
+  pub asked : IfSome link.told (λ wire. AccordsInput end (asked_by command.name wire.left))
+  pub exchanged : IfSome files.told (λ held. IfSome link.told (λ wire. Exchanged end command.name (reply_to command.name (asked_by command.name wire.left) (loaded_or_end command held)) wire link'.told))
   pub held : files'.told ≡ files.told
   pub file_cause : BlamesFiles files.faults files'.faults end
   pub link_cause : BlamesLink link.faults link'.faults end

@@ -5,6 +5,7 @@ use Rattle.srv_run.specs.declared.end.End.{End}
 use Rattle.srv_run.specs.declared.end.End.TheVariants.{Done, BadWords, Refused, NoMemory, FileFault, SinkFault, LinkFault, NoFile, TooLong, InputEnded}
 use Rattle.srv_run.specs.declared.end.Subject.{Subject as Matter}
 use Rattle.srv_run.specs.declared.end.Subject.TheVariants.{File, Request}
+use Rattle.srv_run.specs.declared.file.Loaded.{Loaded}
 use Rattle.srv_run.specs.declared.file.ReadFile.{ReadFile}
 use Rattle.srv_run.specs.Once.{AccordsFiles}
 
@@ -25,10 +26,10 @@ IsEndOfRead subject (TooLong named len) = named ≡ subject
 IsEndOfRead subject end = ⊥
 
 -- A run may end so where the content of a file is looked at.
-abbrev pub IsOfContent : End → Type 0
-IsOfContent NoMemory = ⊤
-IsOfContent (Refused File code) = ⊤
-IsOfContent end = ⊥
+abbrev pub IsEndOfTake : End → Type 0
+IsEndOfTake NoMemory = ⊤
+IsEndOfTake (Refused File code) = ⊤
+IsEndOfTake end = ⊥
 
 -- A run of the command that ended so hasn't come to its request.
 abbrev pub IsBeforeRequest : End → Type 0
@@ -50,8 +51,8 @@ IsFromRequest (Refused Request code) = code ≡ 60
 IsFromRequest end = ⊥
 
 -- Both files were loaded as defined, or the run ended for a reason that accords with what the files hold.
-abbrev pub Loads : Result ReadFile End → Result ReadFile End → Result ReadFile End → Type 0
-Loads (Ok file) proto loaded = loaded ≡ Ok file
+abbrev pub Loads : Result Loaded End → Result ReadFile End → Result Loaded End → Type 0
+Loads (Ok found) proto loaded = loaded ≡ Ok found
 Loads (Err end) proto loaded = AccordsFiles end proto loaded
 
 -- The count of the link's faults never falls, and the run ended by the link only where it rose.

@@ -3,7 +3,7 @@ ghost use Rattle.std.specs.Prelude.{◌≡◌, ◌≤◌, IfSome, IfErr, OnOk, M
 ghost use Rattle.fm_world.specs.Cause.{HasCause};
 ghost use Rattle.srv_run.specs.Check as spec;
 ghost use Rattle.srv_run.specs.Report.{Appends};
-ghost use Rattle.srv_run.specs.Steps.{Gives, BlamesFiles, IsOfContent, IsEndOfRead};
+ghost use Rattle.srv_run.specs.Steps.{Gives, BlamesFiles, IsEndOfTake, IsEndOfRead};
 
 use crate::end::{End, Subject};
 use crate::file::content_of;
@@ -35,7 +35,7 @@ pub(crate) fn checked_path(words: &[Bytes]) -> Option<&[u8]>
 #[tactic(auto, using(nc_layout::proofs::ReadLemmas::headers_read, crate::proofs::CheckLemmas::laid), unfolding(crate::specs::Check::sound_or_refusal))]
 fn sound_header(alloc: Global, bytes: &[u8]) -> Result<Header, End>
     ensures sound { Gives (λ header. header) result (spec.sound_or_refusal bytes.now) }
-    ensures calm { IfErr result IsOfContent }
+    ensures calm { IfErr result IsEndOfTake }
 {
     let header = match read_header(alloc, bytes) {
         Ok(header) => header,

@@ -3,7 +3,7 @@ ghost use Rattle.std.specs.Prelude.{◌≡◌, codes, IfOk};
 ghost use Rattle.nc_model.specs.Thin.{HoldsPlaces};
 ghost use Rattle.srv_run.specs.Collection as spec;
 
-use crate::declaration::{Array, DapKind, Decl};
+use dap_model::{Array, DapKind, Decl};
 use fm_base::{Bytes, Dim, List, NoMemory};
 use nc_model::ThinShape;
 use std::alloc::Global;

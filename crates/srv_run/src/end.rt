@@ -38,6 +38,12 @@ pub enum End {
 /// The number of the refusal of what isn't read yet: a file of another form, or another request.
 pub(crate) const NOT_YET_READ: u16 = 60;
 
+/// The number of the refusal of a file whose name marks no run.
+pub(crate) const NO_RUN_TIME: u16 = 45;
+
+/// The number of the refusal of a file whose run is no instant.
+pub(crate) const RUN_OUT_OF_RANGE: u16 = 55;
+
 impl End {
     /// The status of a program that ends so.
     pub fn status(self) -> u8

@@ -1,12 +1,14 @@
 //! Reads the files of a run.
 ghost use Rattle.std.specs.Prelude.{◌≡◌, ◌≤◌, true, IfSome, IfOk, IfErr};
 ghost use Rattle.nc_model.specs.Thin.{HoldsPlaces, is_thin};
+ghost use Rattle.srv_run.specs.Best.{IsLoaded};
 ghost use Rattle.srv_run.specs.Once as spec;
-ghost use Rattle.srv_run.specs.Steps.{Gives, Loads, BlamesFiles, IsEndOfRead, IsBeforeRequest};
+ghost use Rattle.srv_run.specs.Steps.{Gives, Loads, BlamesFiles, IsEndOfRead, IsEndOfTake, IsBeforeRequest};
 ghost use Rattle.srv_run.specs.Seen.{seen};
 
 use crate::collection::is_same_grid;
 use crate::end::{End, NOT_YET_READ, Subject};
+use crate::marked::run_of;
 use crate::words::Command;
 use fm_base::{Bytes, Fail, NoMemory};
 use fm_world::{Files, Found};
@@ -21,6 +23,14 @@ const FILE_BYTES: u64 = 536_870_912;
 pub(crate) struct ReadFile {
     pub(crate) bytes: Bytes,
     pub(crate) shape: ThinShape,
+}
+
+/// A file over the grid of a prototype, and its run in seconds from the epoch.
+#[derive(Drop)]
+pub(crate) struct Loaded {
+    pub(crate) proto: ReadFile,
+    pub(crate) file: ReadFile,
+    pub(crate) run: i32,
 }
 
 #[tactic(auto, unfolding(crate::specs::Once::file_or_end))]
@@ -71,24 +81,21 @@ fn read_thin<F: Files>(
     }
 }
 
-// Reads the prototype and the file, and takes the file where it lies on the grid of the prototype.
-#[tactic(auto, using(crate::proofs::LoadLemmas::load_ends), unfolding(crate::specs::Once::loaded_or_end, crate::specs::Once::taken_or_end))]
-pub(crate) fn load<F: Files>(
+// Takes a file over the prototype, where it lies on the same grid and its name marks a run.
+#[tactic(auto, unfolding(crate::specs::Once::taken_or_end))]
+fn take_file(
     alloc: Global,
-    files: &mut F,
     command: &Command<'_>,
-) -> Result<ReadFile, End>
-    ensures loaded { IfSome (F.told files.old) (λ held.
-        Loads result (spec.read_or_end Subject.Prototype (held command.now.proto.now))
-        (spec.loaded_or_end (seen command.now) held)) }
-    ensures same { F.told files.new ≡ F.told files.old }
-    ensures later { F.fault_count files.old ≤ F.fault_count files.new }
-    ensures cause { IfErr result (BlamesFiles (F.fault_count files.old) (F.fault_count files.new)) }
-    ensures before { IfErr result IsBeforeRequest }
-    ensures thin { IfOk result (λ file. is_thin file.bytes file.shape ≡ true) }
+    proto: ReadFile,
+    file: ReadFile,
+) -> Result<Loaded, End>
+    requires proto { HoldsPlaces proto.bytes proto.shape }
+    requires file { HoldsPlaces file.bytes file.shape }
+    requires thin { is_thin file.bytes file.shape ≡ true }
+    ensures taken { Gives (λ loaded. loaded) result (spec.taken_or_end (seen command.now) proto file) }
+    ensures loaded { IfOk result IsLoaded }
+    ensures end { IfErr result IsEndOfTake }
 {
-    let proto = read_thin(alloc, files, command.proto, Subject::Prototype)?;
-    let file = read_thin(alloc, files, command.path, Subject::File)?;
     if !is_same_grid(
         proto.bytes.as_slice(),
         proto.shape,
@@ -97,5 +104,27 @@ pub(crate) fn load<F: Files>(
     ) {
         return Err(End::Refused(Subject::File, NOT_YET_READ));
     }
-    Ok(file)
+    let run = run_of(alloc, command.name, command.path)?;
+    Ok(Loaded { proto, file, run })
+}
+
+// Reads the prototype and the file, and takes the file over it.
+#[tactic(auto, using(crate::proofs::LoadLemmas::load_ends), unfolding(crate::specs::Once::loaded_or_end))]
+pub(crate) fn load<F: Files>(
+    alloc: Global,
+    files: &mut F,
+    command: &Command<'_>,
+) -> Result<Loaded, End>
+    ensures loaded { IfSome (F.told files.old) (λ held.
+        Loads result (spec.read_or_end Subject.Prototype (held command.now.proto.now))
+        (spec.loaded_or_end (seen command.now) held)) }
+    ensures same { F.told files.new ≡ F.told files.old }
+    ensures later { F.fault_count files.old ≤ F.fault_count files.new }
+    ensures cause { IfErr result (BlamesFiles (F.fault_count files.old) (F.fault_count files.new)) }
+    ensures before { IfErr result IsBeforeRequest }
+    ensures facts { IfOk result IsLoaded }
+{
+    let proto = read_thin(alloc, files, command.proto, Subject::Prototype)?;
+    let file = read_thin(alloc, files, command.path, Subject::File)?;
+    take_file(alloc, command, proto, file)
 }

@@ -1,21 +1,26 @@
 //! The commands of the program over any files, link and sink.
 #![tactic(auto)]
 
+mod best;
 mod check;
 mod collection;
-mod declaration;
 mod end;
 mod file;
+mod laws;
+mod marked;
 mod once;
 mod program;
 mod reply;
 mod report;
 mod request;
+mod rows;
 mod structure;
+mod values;
 mod words;
+mod xdr;
 
-pub use declaration::{Array, DapKind, Decl};
 pub use end::{End, Subject};
+pub use laws::heads_are_told;
 pub use program::{run, run_check, run_once};
 pub use reply::Content;
 pub use request::Asked;

@@ -10,6 +10,8 @@ use std::alloc::Global;
 pub enum Content {
     /// A structure text.
     Structure,
+    /// A structure text and the values.
+    Data,
 }
 
 #[tactic(auto, unfolding(crate::specs::Reply::status_line, crate::specs::Reply::server_line))]
@@ -28,6 +30,7 @@ impl Content {
     {
         match self {
             Content::Structure => b"dods_dds",
+            Content::Data => b"dods_data",
         }
     }
 
@@ -37,6 +40,7 @@ impl Content {
     {
         match self {
             Content::Structure => b"text/plain",
+            Content::Data => b"application/octet-stream",
         }
     }
 }

@@ -1,12 +1,12 @@
 //! The structure text (DDS).
 ghost use Rattle.std.specs.Prelude.{◌≡◌, ◌<◌, ◌++◌, IfOk, OnOk};
-ghost use Rattle.srv_run.specs.StructureText as text;
+ghost use Rattle.dap_model.specs.StructureText as text;
 
-use crate::declaration::{Array, DapKind, Decl};
+use dap_model::{Array, DapKind, Decl};
 use fm_base::{Bytes, Dim, List, NoMemory, put_decimal};
 use std::alloc::Global;
 
-#[tactic(auto, unfolding(crate::specs::StructureText::kind_text))]
+#[tactic(auto, unfolding(dap_model::specs::StructureText::kind_text))]
 fn put_kind(kind: DapKind, out: &mut Bytes) -> Result<(), NoMemory>
     ensures { OnOk result (out.new ≡ out.old ++ text.kind_text kind) }
 {
@@ -20,7 +20,7 @@ fn put_kind(kind: DapKind, out: &mut Bytes) -> Result<(), NoMemory>
     }
 }
 
-#[tactic(auto, unfolding(crate::specs::StructureText::indent))]
+#[tactic(auto, unfolding(dap_model::specs::StructureText::indent))]
 fn put_indent(depth: u32, out: &mut Bytes) -> Result<(), NoMemory>
     requires { depth < 8 }
     ensures { OnOk result (out.new ≡ out.old ++ text.indent depth) }
@@ -31,7 +31,7 @@ fn put_indent(depth: u32, out: &mut Bytes) -> Result<(), NoMemory>
     Ok(())
 }
 
-#[tactic(auto, unfolding(crate::specs::StructureText::dim_text))]
+#[tactic(auto, unfolding(dap_model::specs::StructureText::dim_text))]
 fn put_dim(alloc: Global, dim: &Dim, out: &mut Bytes) -> Result<(), NoMemory>
     ensures { OnOk result (out.new ≡ out.old ++ text.dim_text dim.now) }
 {
@@ -42,7 +42,7 @@ fn put_dim(alloc: Global, dim: &Dim, out: &mut Bytes) -> Result<(), NoMemory>
     out.append(b"]")
 }
 
-#[tactic(auto, unfolding(crate::specs::StructureText::dims_text))]
+#[tactic(auto, unfolding(dap_model::specs::StructureText::dims_text))]
 fn put_dims(alloc: Global, dims: &[Dim], out: &mut Bytes) -> Result<(), NoMemory>
     ensures { OnOk result (out.new ≡ out.old ++ text.dims_text dims.now) }
 {
@@ -52,7 +52,7 @@ fn put_dims(alloc: Global, dims: &[Dim], out: &mut Bytes) -> Result<(), NoMemory
     Ok(())
 }
 
-#[tactic(auto, unfolding(crate::specs::StructureText::array_text))]
+#[tactic(auto, unfolding(dap_model::specs::StructureText::array_text))]
 fn put_array(alloc: Global, array: &Array, depth: u32, out: &mut Bytes) -> Result<(), NoMemory>
     requires { depth < 8 }
     ensures { OnOk result (out.new ≡ out.old ++ text.array_text depth array.now) }
@@ -65,7 +65,7 @@ fn put_array(alloc: Global, array: &Array, depth: u32, out: &mut Bytes) -> Resul
     out.append(b";\n")
 }
 
-#[tactic(auto, unfolding(crate::specs::StructureText::arrays_text))]
+#[tactic(auto, unfolding(dap_model::specs::StructureText::arrays_text))]
 fn put_arrays(alloc: Global, arrays: &[Array], depth: u32, out: &mut Bytes) -> Result<(), NoMemory>
     requires { depth < 8 }
     ensures { OnOk result (out.new ≡ out.old ++ text.arrays_text depth arrays.now) }
@@ -76,7 +76,7 @@ fn put_arrays(alloc: Global, arrays: &[Array], depth: u32, out: &mut Bytes) -> R
     Ok(())
 }
 
-#[tactic(auto, unfolding(crate::specs::StructureText::line_text))]
+#[tactic(auto, unfolding(dap_model::specs::StructureText::line_text))]
 fn put_line(depth: u32, words: &[u8], out: &mut Bytes) -> Result<(), NoMemory>
     requires { depth < 8 }
     ensures { OnOk result (out.new ≡ out.old ++ text.line_text depth words.now) }
@@ -86,7 +86,7 @@ fn put_line(depth: u32, words: &[u8], out: &mut Bytes) -> Result<(), NoMemory>
     out.append(b"\n")
 }
 
-#[tactic(auto, unfolding(crate::specs::StructureText::close_text))]
+#[tactic(auto, unfolding(dap_model::specs::StructureText::close_text))]
 fn put_close(depth: u32, name: &[u8], out: &mut Bytes) -> Result<(), NoMemory>
     requires { depth < 8 }
     ensures { OnOk result (out.new ≡ out.old ++ text.close_text depth name.now) }
@@ -97,7 +97,7 @@ fn put_close(depth: u32, name: &[u8], out: &mut Bytes) -> Result<(), NoMemory>
     out.append(b";\n")
 }
 
-#[tactic(auto, unfolding(crate::specs::StructureText::grid_text))]
+#[tactic(auto, unfolding(dap_model::specs::StructureText::grid_text))]
 fn put_grid(
     alloc: Global,
     name: &[u8],
@@ -117,7 +117,23 @@ fn put_grid(
     put_close(depth, name, out)
 }
 
-#[tactic(auto, unfolding(crate::specs::StructureText::decl_text))]
+#[tactic(auto, unfolding(dap_model::specs::StructureText::structure_text))]
+fn put_structure(
+    alloc: Global,
+    name: &[u8],
+    members: &[Array],
+    depth: u32,
+    out: &mut Bytes,
+) -> Result<(), NoMemory>
+    requires { depth < 4 }
+    ensures { OnOk result (out.new ≡ out.old ++ text.structure_text depth name.now members.now) }
+{
+    put_line(depth, b"Structure {", out)?;
+    put_arrays(alloc, members, depth + 1, out)?;
+    put_close(depth, name, out)
+}
+
+#[tactic(auto, unfolding(dap_model::specs::StructureText::decl_text))]
 fn put_decl(alloc: Global, decl: &Decl, depth: u32, out: &mut Bytes) -> Result<(), NoMemory>
     requires { depth < 4 }
     ensures { OnOk result (out.new ≡ out.old ++ text.decl_text depth decl.now) }
@@ -127,10 +143,13 @@ fn put_decl(alloc: Global, decl: &Decl, depth: u32, out: &mut Bytes) -> Result<(
         Decl::Grid { name, array, maps } => {
             put_grid(alloc, name.as_slice(), array, maps.as_slice(), depth, out)
         }
+        Decl::Structure { name, members } => {
+            put_structure(alloc, name.as_slice(), members.as_slice(), depth, out)
+        }
     }
 }
 
-#[tactic(auto, unfolding(crate::specs::StructureText::decls_text))]
+#[tactic(auto, unfolding(dap_model::specs::StructureText::decls_text))]
 fn put_decls(alloc: Global, decls: &[Decl], depth: u32, out: &mut Bytes) -> Result<(), NoMemory>
     requires { depth < 4 }
     ensures { OnOk result (out.new ≡ out.old ++ text.decls_text depth decls.now) }
@@ -142,7 +161,7 @@ fn put_decls(alloc: Global, decls: &[Decl], depth: u32, out: &mut Bytes) -> Resu
 }
 
 // The text of a dataset with this label.
-#[tactic(auto, unfolding(crate::specs::StructureText::dds_of))]
+#[tactic(auto, unfolding(dap_model::specs::StructureText::dds_of))]
 pub(crate) fn structure_text(
     alloc: Global,
     label: &[u8],

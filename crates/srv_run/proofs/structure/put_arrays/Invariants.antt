@@ -1,5 +1,5 @@
 use Rattle.std.proofs.Common.{◌≡◌, ◌++◌, take}
-use Rattle.srv_run.specs.StructureText.{arrays_text}
+use Rattle.dap_model.specs.StructureText.{arrays_text}
 use Rattle.srv_run.proofs.structure.put_arrays.Given as goal
 
 abbrev pub invariant-loop-array : goal.invariant-loop-array

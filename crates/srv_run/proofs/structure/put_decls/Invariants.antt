@@ -1,5 +1,5 @@
 use Rattle.std.proofs.Common.{◌≡◌, ◌++◌, take}
-use Rattle.srv_run.specs.StructureText.{decls_text}
+use Rattle.dap_model.specs.StructureText.{decls_text}
 use Rattle.srv_run.proofs.structure.put_decls.Given as goal
 
 abbrev pub invariant-loop-decl : goal.invariant-loop-decl

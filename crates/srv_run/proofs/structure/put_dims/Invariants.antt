@@ -1,5 +1,5 @@
 use Rattle.std.proofs.Common.{◌≡◌, ◌++◌, take}
-use Rattle.srv_run.specs.StructureText.{dims_text}
+use Rattle.dap_model.specs.StructureText.{dims_text}
 use Rattle.srv_run.proofs.structure.put_dims.Given as goal
 
 abbrev pub invariant-loop-dim : goal.invariant-loop-dim
