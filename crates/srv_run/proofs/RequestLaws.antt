@@ -1,5 +1,5 @@
 -- Input that begins with a head is told by it.
-use Rattle.std.proofs.Common.{◌≡◌, List, ℕ, ◌++◌, length, true, false, nat_eq, refl, sym, ap, ◌∙◌}
+use Rattle.std.proofs.Common.{◌≡◌, List, ℕ, ◌++◌, length, true, nat_eq, refl, ap}
 use Rattle.std.specs.List.{starts_with}
 use Rattle.std.proofs.lemmas.Bool.Decides.{Decides-eqb}
 use Rattle.std.proofs.lemmas.Slice.Eq.{starts_is}

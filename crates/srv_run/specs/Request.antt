@@ -1,5 +1,5 @@
 -- The requests that are taken, and how input meets their heads.
-use Rattle.std.specs.Prelude.{ℕ, ◌+◌, List, ◌++◌, length, max, codes, Bool, ◌||◌, nat_eq, if◌then◌else◌}
+use Rattle.std.specs.Prelude.{ℕ, ◌+◌, List, ◌++◌, length, max, codes, ◌||◌, nat_eq, if◌then◌else◌}
 use Rattle.std.specs.List.{common_prefix_len, starts_with}
 use Rattle.srv_run.specs.declared.reply.Content.TheVariants.{Structure, Data}
 use Rattle.srv_run.specs.declared.request.Asked.{Asked}

@@ -29,12 +29,15 @@ const ONCE: [&[u8]; 7] = [
     b"gfs",
     b"--proto",
     b"proto.nc",
-    b"put:file.nc",
+    b"put:in/gfs_20240101_0000.nc",
     b"ask:1",
 ];
 
 /// The request for the structure text of the best view.
 const REQUEST: &[u8] = b"GET /thredds/dodsC/gfs/gfs_best.ncd.dds HTTP/1.1\r\n\r\n";
+
+/// The request for its data.
+const DATA_REQUEST: &[u8] = b"GET /thredds/dodsC/gfs/gfs_best.ncd.dods HTTP/1.1\r\n\r\n";
 
 /// The sample file with some words changed, by their places.
 pub(crate) fn sample(alloc: Global, changes: &[(usize, u32)]) -> Result<Bytes, NoMemory> {
@@ -55,6 +58,7 @@ pub(crate) fn sample(alloc: Global, changes: &[(usize, u32)]) -> Result<Bytes, N
 #[derive(Drop)]
 struct Given<'a> {
     words: &'a [&'a [u8]],
+    path: &'a [u8],
     proto: &'a [(usize, u32)],
     file: &'a [(usize, u32)],
     input: &'a [u8],
@@ -67,6 +71,7 @@ impl<'a> Given<'a> {
     fn sample() -> Given<'a> {
         Given {
             words: &ONCE,
+            path: b"in/gfs_20240101_0000.nc",
             proto: &[],
             file: &[],
             input: REQUEST,
@@ -105,7 +110,7 @@ fn ran(alloc: Global, given: &Given<'_>) -> Result<Left, Fail> {
     }
     let mut entries = List::new(alloc);
     entries.push(entry(alloc, b"proto.nc", sample(alloc, given.proto)?)?)?;
-    entries.push(entry(alloc, b"file.nc", sample(alloc, given.file)?)?)?;
+    entries.push(entry(alloc, given.path, sample(alloc, given.file)?)?)?;
     let input = Bytes::copy_of(alloc, given.input)?;
     let mut world = World {
         files: MemFiles::new(entries, numbers(alloc, given.failing_reads)?),
@@ -135,6 +140,96 @@ fn the_structure_of_the_best_view_is_sent_whole(rt: HostRuntime) -> Result<(), F
     Ok(())
 }
 
+/// The head of the reply with the data.
+const DATA_HEAD: &[u8] =
+    b"HTTP/1.1 200 OK\r\nXDODS-Server: dods/3.2\r\nContent-Description: dods_data\r\nContent-Type: application/octet-stream\r\nX-Collection-Revision: 1\r\nContent-Length: 575\r\nConnection: keep-alive\r\n\r\n";
+
+/// The data as words of four bytes: each array behind its count, which stands twice.
+#[rattlefmt::skip]
+const DATA: [u32; 50] = [
+    3, 3, 0x0786_1f80, 0x0786_73e0, 0x0786_c840,
+    2, 2, 0x4120_0000, 0x41a0_0000,
+    2, 2, 0x41f0_0000, 0x4220_0000,
+    12, 12, 0x3f80_0000, 0x4000_0000, 0x4040_0000, 0x4080_0000, 0x40a0_0000, 0x40c0_0000,
+    0x40e0_0000, 0x4100_0000, 0x4110_0000, 0x4120_0000, 0x4130_0000, 0x4140_0000,
+    3, 3, 0x0786_1f80, 0x0786_73e0, 0x0786_c840,
+    2, 2, 0x4120_0000, 0x41a0_0000,
+    2, 2, 0x41f0_0000, 0x4220_0000,
+    3, 3, 0x0786_1f80, 0x0786_1f80, 0x0786_1f80,
+    3, 3, 0, 0x5460, 0xa8c0,
+];
+
+#[test]
+fn the_data_of_the_best_view_is_sent_whole(rt: HostRuntime) -> Result<(), Fail> {
+    let alloc = rt.alloc();
+    let mut given = Given::sample();
+    given.input = DATA_REQUEST;
+    let left = ran(alloc, &given)?;
+    let mut reply = Bytes::copy_of(alloc, DATA_HEAD)?;
+    reply.append(&REPLY[171..])?;
+    reply.append(b"Data:\n")?;
+    for word in DATA.iter() {
+        reply.append(&word.to_be_bytes())?;
+    }
+    assert_eq!(rt; left.status, 0);
+    assert_eq!(rt; left.output.len(), 761);
+    assert_eq!(rt; left.output.as_slice(), reply.as_slice());
+    assert!(rt; left.report.is_empty());
+    Ok(())
+}
+
+/// The words of the command with another file.
+fn putting<'a>(put: &'a [u8]) -> [&'a [u8]; 7] {
+    [
+        b"once", b"--name", b"gfs", b"--proto", b"proto.nc", put, b"ask:1",
+    ]
+}
+
+#[test]
+fn a_file_is_taken_by_the_mark_in_its_name(rt: HostRuntime) -> Result<(), Fail> {
+    let cases: [(&[u8], &[(usize, u32)], &[u8]); 8] = [
+        (b"put:x.nc", &[], b"refused x.nc code 45\n"),
+        (
+            b"put:gfs_20240101_0000/x.nc",
+            &[],
+            b"refused gfs_20240101_0000/x.nc code 45\n",
+        ),
+        (
+            b"put:gfs_20230229_0000.nc",
+            &[],
+            b"refused gfs_20230229_0000.nc code 45\n",
+        ),
+        (
+            b"put:x.nc",
+            &[(276, 0x4020_0000)],
+            b"refused x.nc code 60\n",
+        ),
+        (
+            b"put:gfs_20540109_1338.nc",
+            &[],
+            b"refused gfs_20540109_1338.nc code 55\n",
+        ),
+        (
+            b"put:gfs_19851222_1022.nc",
+            &[],
+            b"refused gfs_19851222_1022.nc code 55\n",
+        ),
+        (b"put:gfs_20540109_1337.nc", &[], b""),
+        (b"put:gfs_19851222_1023.nc", &[], b""),
+    ];
+    for (put, file, line) in &cases {
+        let words = putting(put);
+        let mut given = Given::sample();
+        given.words = &words;
+        given.path = &put[4..];
+        given.file = file;
+        let left = ran(rt.alloc(), &given)?;
+        assert_eq!(rt; left.report.as_slice(), *line);
+        assert_eq!(rt; left.status, if line.is_empty() { 0 } else { 3 });
+    }
+    Ok(())
+}
+
 #[test]
 fn no_byte_after_the_request_is_taken(rt: HostRuntime) -> Result<(), Fail> {
     let mut given = Given::sample();
@@ -155,7 +250,7 @@ fn each_end_has_its_status_and_its_line(rt: HostRuntime) -> Result<(), Fail> {
         b"gfs",
         b"--proto",
         b"nofile",
-        b"put:file.nc",
+        b"put:in/gfs_20240101_0000.nc",
         b"ask:1",
     ];
     let sample = Given::sample;
@@ -190,7 +285,7 @@ fn each_end_has_its_status_and_its_line(rt: HostRuntime) -> Result<(), Fail> {
                 ..sample()
             },
             3,
-            b"refused file.nc code 60\n",
+            b"refused in/gfs_20240101_0000.nc code 60\n",
         ),
         (
             Given {
@@ -198,7 +293,7 @@ fn each_end_has_its_status_and_its_line(rt: HostRuntime) -> Result<(), Fail> {
                 ..sample()
             },
             3,
-            b"refused file.nc code 60\n",
+            b"refused in/gfs_20240101_0000.nc code 60\n",
         ),
         (
             Given {
@@ -230,7 +325,7 @@ fn each_end_has_its_status_and_its_line(rt: HostRuntime) -> Result<(), Fail> {
                 ..sample()
             },
             5,
-            b"file fault file.nc\n",
+            b"file fault in/gfs_20240101_0000.nc\n",
         ),
         (
             Given {
@@ -259,7 +354,11 @@ fn a_reply_is_cut_where_the_link_fails(rt: HostRuntime) -> Result<(), Fail> {
     }
     let mut entries = List::new(alloc);
     entries.push(entry(alloc, b"proto.nc", sample(alloc, &[])?)?)?;
-    entries.push(entry(alloc, b"file.nc", sample(alloc, &[])?)?)?;
+    entries.push(entry(
+        alloc,
+        b"in/gfs_20240101_0000.nc",
+        sample(alloc, &[])?,
+    )?)?;
     let input = Bytes::copy_of(alloc, REQUEST)?;
     let mut world = World {
         files: MemFiles::new(entries, List::new(alloc)),
