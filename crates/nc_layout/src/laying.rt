@@ -21,11 +21,12 @@ pub fn lay_out(alloc: Global, header: &Header, len: u64) -> Result<Layout, Fail<
     ensures { Answers (layout_or_fault header.now len) result }
 {
     let vars = all_places(alloc, header)?;
-    if let Some(fault) = first_large(vars.as_slice()) {
+    let places = vars.as_slice();
+    if let Some(fault) = first_large(places) {
         return Err(Fail::Fault(fault));
     }
-    let record_size = record_size(vars.as_slice());
-    if let Some(fault) = first_past(len, header.numrecs, record_size, vars.as_slice()) {
+    let record_size = record_size(places);
+    if let Some(fault) = first_past(len, header.numrecs, record_size, places) {
         return Err(Fail::Fault(fault));
     }
     Ok(Layout {
