@@ -1,6 +1,9 @@
 pub mod EndLemmas
 pub mod FaultLemmas
 pub mod HeaderLemmas
+pub mod OrderLemmas
+pub mod PlaceLemmas
 pub mod ProductLemmas
 pub mod RankLemmas
+pub mod ReadLemmas
 pub mod RecordLemmas

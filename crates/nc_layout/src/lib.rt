@@ -1,6 +1,7 @@
 //! Where the elements of a netCDF classic file lie.
 #![tactic(auto)]
 
+mod elements;
 mod ends;
 mod laying;
 mod places;
