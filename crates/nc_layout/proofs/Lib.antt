@@ -1,6 +1,8 @@
+pub mod EndLaws
 pub mod EndLemmas
 pub mod FaultLemmas
 pub mod HeaderLemmas
+pub mod MeaningLemmas
 pub mod OrderLemmas
 pub mod PlaceLemmas
 pub mod ProductLemmas

@@ -141,3 +141,5 @@ All-indices_of (n ∷ shape) =
     All-flat_map (IsIndex (n ∷ shape)) (λ i. map (λ (rest : List ℕ). i ∷ rest) (indices_of shape)) (λ i. i < 0 + n)
     (λ i below. All-map (IsIndex (n ∷ shape)) (λ (rest : List ℕ). i ∷ rest) (indices_of shape) (All-weaker (IsIndex shape) (λ rest. IsIndex (n ∷ shape) (i ∷ rest)) (λ rest is. (omega arith, is)) (indices_of shape) (All-indices_of shape)))
     (range_with_len 0 n) (All-range 0 n)
+
+pub ruleset orders = (map-rank_in, length-indices_of, slice_get-indices_of, All-indices_of)

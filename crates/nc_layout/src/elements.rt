@@ -4,7 +4,12 @@ ghost use Rattle.fm_base.specs.Kind.{size_of};
 ghost use Rattle.fm_base.specs.Layout.{product, rank_in};
 ghost use Rattle.nc_layout.specs.Faults.{IsSized, IsWithin};
 ghost use Rattle.nc_layout.specs.Places.{
-    IsIndex, place_in, shape_in, slab_begin_in, slab_count_in, slab_in
+  IsIndex,
+  place_in,
+  shape_in,
+  slab_begin_in,
+  slab_count_in,
+  slab_in,
 };
 
 use crate::places::VarPlaces;
@@ -39,13 +44,7 @@ fn rank(shape: &[u64], index: &[u64]) -> u64
 
 /// The place of the first byte of a slab of a variable.
 #[tactic(auto, using(crate::proofs::PlaceLemmas::places))]
-pub fn slab_begin_in(
-    var: &VarPlaces,
-    len: u64,
-    records: u32,
-    record_size: u128,
-    k: u32,
-) -> u64
+pub fn slab_begin_in(var: &VarPlaces, len: u64, records: u32, record_size: u128, k: u32) -> u64
     requires within { IsWithin len records record_size var.now }
     requires slab { k < slab_count_in records var.now }
     ensures exact { result ≡ slab_begin_in record_size var.now k }
@@ -67,13 +66,7 @@ fn offset(var: &VarPlaces, index: &[u64]) -> u64
 
 /// The place of the first byte of an element of a variable.
 #[tactic(auto, using(crate::proofs::PlaceLemmas::places))]
-pub fn place_in(
-    var: &VarPlaces,
-    len: u64,
-    records: u32,
-    record_size: u128,
-    index: &[u64],
-) -> u64
+pub fn place_in(var: &VarPlaces, len: u64, records: u32, record_size: u128, index: &[u64]) -> u64
     requires within { IsWithin len records record_size var.now }
     requires index { IsIndex (shape_in records var.now) index.now }
     ensures exact { result ≡ place_in record_size var.now index.now }

@@ -42,7 +42,16 @@ impl Model for Layout {
 impl Layout {
     ghost use Rattle.nc_layout.specs.Faults.{IsWithin};
     ghost use Rattle.nc_layout.specs.Places.{
-        HasDim, HasElement, HasSlab, IsLayoutOf, layout_of, place_in, shape_in, slab_begin_in, slab_count_in, slab_in,
+      HasDim,
+      HasElement,
+      HasSlab,
+      IsLayoutOf,
+      layout_of,
+      place_in,
+      shape_in,
+      slab_begin_in,
+      slab_count_in,
+      slab_in,
     };
 
     /// Where the elements of a variable lie.
@@ -75,7 +84,13 @@ impl Layout {
         ensures within { IfSome (slice_get self.now.vars var) (λ v.
             result + size_of v.kind ≤ self.now.len) }
     {
-        place_in(self.var(var), self.len, self.records, self.record_size, index)
+        place_in(
+            self.var(var),
+            self.len,
+            self.records,
+            self.record_size,
+            index,
+        )
     }
 
     /// How many slabs a variable has: one a record, or one where it has no records. A slab's elements lie one after
