@@ -1,5 +1,6 @@
 pub mod EndLaws
 pub mod EndLemmas
+pub mod ExampleLemmas
 pub mod FaultLemmas
 pub mod HeaderLemmas
 pub mod MeaningLemmas
