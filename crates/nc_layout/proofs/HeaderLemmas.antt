@@ -9,11 +9,11 @@ use Rattle.fm_base.specs.declared.header.Dim.{Dim}
 use Rattle.fm_base.specs.declared.header.Header.{Header}
 use Rattle.fm_base.specs.declared.header.NcVar.{NcVar}
 use Rattle.fm_base.specs.Format.{is_record}
-use Rattle.fm_base.specs.Layout.{size_in, size_at, has_records, shape_of, fixed_shape}
+use Rattle.fm_base.specs.Layout.{size_in, size_at, has_records, shape_of, fixed_shape, place_of, record_size}
 use Rattle.fm_base.specs.Reading.{names_record}
 use Rattle.fm_base.specs.Spelling.{IsSoundVar, NamesNoRecord}
 use Rattle.nc_layout.specs.declared.places.VarPlaces.{VarPlaces}
-use Rattle.nc_layout.specs.Places.{Places, IsLayoutOf, var_places, shape_in}
+use Rattle.nc_layout.specs.Places.{Places, IsLayoutOf, var_places, shape_in, place_in}
 use Rattle.nc_layout.specs.Faults.{CanLayOut, HasLengths}
 
 -- the record dimension has as many places as there are records
@@ -38,6 +38,14 @@ shape_of-is header var = at (has_records header var) refl var.dims refl
 pub slice_get-layout : {places : Places} {number : ℕ} {header : Header} {var : NcVar} → IsLayoutOf places number header var → slice_get places.vars number ≡ Some (var_places header var)
 slice_get-layout {places} {number} {header} {var} is =
     ap (λ (p : Places). slice_get p.vars number) is.layout ∙ slice_get-map (var_places header) header.vars number ∙ ap (option_map (var_places header)) is.numbered
+
+-- where its elements lie
+pub place_in-layout : {places : Places} {number : ℕ} {header : Header} {var : NcVar} (kept : VarPlaces) (index : List ℕ) → IsLayoutOf places number header var → slice_get places.vars number ≡ Some kept → place_in places.record_size kept index ≡ place_of header var index
+unfolding place_of
+place_in-layout {places} {number} {header} {var} kept index is found =
+    let same : kept ≡ var_places header var = let e = slice_get-layout is in cc in
+    let size : places.record_size ≡ record_size header = ap (λ (p : Places). p.record_size) is.layout in
+    rw (same, size) refl
 
 -- the lengths of its dimensions
 pub shape_in-layout : {places : Places} {number : ℕ} {header : Header} {var : NcVar} (kept : VarPlaces) → IsLayoutOf places number header var → slice_get places.vars number ≡ Some kept → shape_in places.records kept ≡ shape_of header var

@@ -1,6 +1,11 @@
+pub mod EndLaws
 pub mod EndLemmas
+pub mod ExampleLemmas
 pub mod FaultLemmas
 pub mod HeaderLemmas
+pub mod MeaningLemmas
+pub mod OrderLemmas
+pub mod PlaceLemmas
 pub mod ProductLemmas
 pub mod RankLemmas
 pub mod ReadLemmas

@@ -1,7 +1,12 @@
 -- The numbers of index lists in row-major order.
-use Rattle.std.proofs.Common.{◌≡◌, ℕ, ◌+◌, ◌-◌, ◌*◌, ◌≤◌, List, [], ◌∷◌, map, All, refl, sym, ap, ◌∙◌, arith}
-use Rattle.std.proofs.lemmas.List.Elements.{All-head, All-tail}
+use Rattle.std.proofs.Common.{◌≡◌, ℕ, suc, ◌+◌, ◌-◌, ◌*◌, ◌<◌, ◌≤◌, List, [], ◌∷◌, length, get_or, drop, map, All, refl, sym, ap, ◌∙◌, arith}
+use Rattle.std.proofs.Math.Nat.{mul_comm, le-mul_of_pos_right}
+use Rattle.std.proofs.lemmas.Nat.{mul-add-lt}
+use Rattle.std.proofs.lemmas.List.{drop_more, drop_all}
+use Rattle.std.proofs.lemmas.List.Elements.{All-nil, All-cons, All-drop, All-head, All-tail}
 use Rattle.fm_base.specs.Layout.{product, rank_in}
+use Rattle.nc_layout.specs.Places.{IsIndex}
+use Rattle.nc_layout.proofs.ProductLemmas.{product-pos}
 
 last_turn : (m whole rank : ℕ) → rank + 1 ≡ whole → m * whole + rank + 1 ≡ (m + 1) * whole
 last_turn m whole rank e = omega arith
@@ -14,3 +19,56 @@ rank_in-last (n ∷ ns) all =
     let some : 1 ≤ n = All-head (λ m. 1 ≤ m) n ns all in
     let back : n - 1 + 1 ≡ n = omega arith in
     last_turn (n - 1) (product ns) (rank_in ns (map (λ m. m - 1) ns)) (rank_in-last ns (All-tail (λ m. 1 ≤ m) n ns all)) ∙ ap (λ m. m * product ns) back
+
+-- an index list has one index for each length
+pub length-index : (shape index : List ℕ) → IsIndex shape index → length index ≡ length shape
+length-index [] [] is = refl
+length-index [] (i ∷ index) is = absurd is
+length-index (n ∷ shape) [] is = absurd is
+length-index (n ∷ shape) (i ∷ index) is = ap suc (length-index shape index is.1)
+
+-- an array with an element has no length 0
+pub lengths-index : (shape index : List ℕ) → IsIndex shape index → All (λ n. 1 ≤ n) shape
+lengths-index [] index is = All-nil (λ n. 1 ≤ n)
+lengths-index (n ∷ shape) [] is = absurd is
+lengths-index (n ∷ shape) (i ∷ index) is = All-cons (λ n. 1 ≤ n) n shape (let below = is.0 in omega arith) (lengths-index shape index is.1)
+
+-- the number of an index list is below the number of elements
+pub rank_in-lt : (shape index : List ℕ) → IsIndex shape index → rank_in shape index < product shape
+unfolding rank_in product
+rank_in-lt [] index is = omega arith
+rank_in-lt (n ∷ shape) [] is = absurd is
+rank_in-lt (n ∷ shape) (i ∷ index) is = rw (mul_comm n (product shape)) (mul-add-lt i (product shape) (rank_in shape index) n is.0 (rank_in-lt shape index is.1))
+
+rank_step : (so_far n i whole rest : ℕ) → so_far * (n * whole) + (i * whole + rest) ≡ (so_far * n + i) * whole + rest
+rank_step so_far n i whole rest = omega arith
+
+-- an index that goes into the number so far
+pub rank_more : (so_far n i total : ℕ) (shape index : List ℕ) (at : ℕ) → at < length shape → at < length index → n ≡ get_or shape at 0 → i ≡ get_or index at 0 → so_far * product (drop at shape) + rank_in (drop at shape) (drop at index) ≡ total → (so_far * n + i) * product (drop (at + 1) shape) + rank_in (drop (at + 1) shape) (drop (at + 1) index) ≡ total
+unfolding rank_in product
+rank_more so_far n i total shape index at below there size is e =
+    let shape_more : drop at shape ≡ n ∷ drop (at + 1) shape = rw size (drop_more shape at 0 below) in
+    let index_more : drop at index ≡ i ∷ drop (at + 1) index = rw is (drop_more index at 0 there) in
+    let e' = rw (shape_more, index_more) at e in
+    sym (rank_step so_far n i (product (drop (at + 1) shape)) (rank_in (drop (at + 1) shape) (drop (at + 1) index))) ∙ e'
+
+-- no index is left
+pub rank_all : (so_far total : ℕ) (shape index : List ℕ) (at : ℕ) → length shape ≤ at → so_far * product (drop at shape) + rank_in (drop at shape) (drop at index) ≡ total → so_far ≡ total
+unfolding rank_in product
+rank_all so_far total shape index at past e =
+    let none : drop at shape ≡ [] = drop_all at shape past in
+    let e' = rw none at e in
+    omega arith
+
+-- the number with the next index is below the number of elements
+pub rank_fits : (so_far n i : ℕ) (shape index : List ℕ) (at : ℕ) → IsIndex shape index → at < length shape → n ≡ get_or shape at 0 → i ≡ get_or index at 0 → so_far * product (drop at shape) + rank_in (drop at shape) (drop at index) ≡ rank_in shape index → so_far * n + i < product shape
+rank_fits so_far n i shape index at is below size here e =
+    let same = length-index shape index is in
+    let there : at < length index = omega arith in
+    let more = rank_more so_far n i (rank_in shape index) shape index at below there size here e in
+    let some : 0 < product (drop (at + 1) shape) = product-pos (drop (at + 1) shape) (All-drop (λ n. 1 ≤ n) (at + 1) shape (lengths-index shape index is)) in
+    let most : so_far * n + i ≤ (so_far * n + i) * product (drop (at + 1) shape) = le-mul_of_pos_right (so_far * n + i) some in
+    let least = rank_in-lt shape index is in
+    omega arith
+
+pub ruleset ranks = (rank_more, rank_all, length-index)

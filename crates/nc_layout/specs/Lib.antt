@@ -1,2 +1,4 @@
 pub mod Places
 pub mod Faults
+pub mod Meaning
+pub mod Examples

@@ -36,6 +36,14 @@ shape_in records var = if var.has_records then records ∷ var.fixed else var.fi
 abbrev pub slab_in : VarPlaces → ℕ
 slab_in var = size_of var.kind * product var.fixed
 
+-- how many slabs a variable has: one a record, or one where it has no records
+abbrev pub slab_count_in : ℕ → VarPlaces → ℕ
+slab_count_in records var = if var.has_records then records else 1
+
+-- the place of the first byte of a slab, in a file whose records take so many bytes
+abbrev pub slab_begin_in : ℕ → VarPlaces → ℕ → ℕ
+slab_begin_in record_size var k = var.begin + k * record_size
+
 -- the place of the first byte of an element, in a file whose records take so many bytes
 abbrev pub place_in : ℕ → VarPlaces → List ℕ → ℕ
 place_in record_size var index = if var.has_records then var.begin + slice_index index 0 * record_size + size_of var.kind * rank_in var.fixed (drop 1 index) else var.begin + size_of var.kind * rank_in var.fixed index
@@ -59,3 +67,7 @@ HasElement places number index = IsSomeAnd (slice_get places.vars number) (λ va
 -- the variable of this number has a dimension at this place
 abbrev pub HasDim : Places → ℕ → ℕ → Type 0
 HasDim places number dim = IsSomeAnd (slice_get places.vars number) (λ var. dim < length (shape_in places.records var))
+
+-- the variable of this number has a slab of this number
+abbrev pub HasSlab : Places → ℕ → ℕ → Type 0
+HasSlab places number k = IsSomeAnd (slice_get places.vars number) (λ var. k < slab_count_in places.records var)

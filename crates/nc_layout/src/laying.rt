@@ -1,5 +1,7 @@
 //! From a header to a layout.
+ghost use Rattle.std.specs.Prelude.{◌≡◌, IfOk};
 ghost use Rattle.nc_layout.specs.Faults.{CanLayOut, layout_or_fault};
+ghost use Rattle.nc_layout.specs.Places.{layout_of};
 ghost use Rattle.fm_base.specs.Answer.{Answers};
 
 use crate::ends::first_past;
@@ -18,7 +20,8 @@ use std::alloc::Global;
 /// out.
 pub fn lay_out(alloc: Global, header: &Header, len: u64) -> Result<Layout, Fail<LayoutFault>>
     requires { CanLayOut header.now }
-    ensures { Answers (layout_or_fault header.now len) result }
+    ensures exact { Answers (layout_or_fault header.now len) result }
+    ensures layout { IfOk result (λ layout. layout ≡ layout_of header.now len) }
 {
     let vars = all_places(alloc, header)?;
     let places = vars.as_slice();

@@ -1,0 +1,4 @@
+pub mod AddedLemmas
+pub mod CaseLemmas
+pub mod HeaderLemmas
+pub mod SlabLemmas

@@ -1,0 +1,2 @@
+pub mod Slabs
+pub use Rattle.nc_layout.specs.Places
