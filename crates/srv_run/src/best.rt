@@ -58,12 +58,7 @@ fn structure_of(
 
 // The body of a reply.
 #[tactic(auto, using(crate::proofs::LoadedLemmas::loaded), unfolding(crate::specs::Best::body_of))]
-fn body_of(
-    alloc: Global,
-    name: &[u8],
-    content: Content,
-    loaded: &Loaded,
-) -> Result<Bytes, NoMemory>
+fn body_of(alloc: Global, name: &[u8], content: Content, loaded: &Loaded) -> Result<Bytes, NoMemory>
     requires { spec.IsLoaded loaded.now }
     ensures { IfOk result (λ body. body ≡ spec.body_of name.now content loaded.now) }
 {

@@ -19,10 +19,7 @@ fn name_len(path: &[u8]) -> usize
     ensures len { result ≡ suffix_len (λ byte. not (byte == 47)) path.now }
     ensures within { result ≤ length path.now }
 {
-    path.iter()
-        .rev()
-        .take_while(|byte| **byte != b'/')
-        .count()
+    path.iter().rev().take_while(|byte| **byte != b'/').count()
 }
 
 // The name of a file: what follows the last `/` of its path.

@@ -63,6 +63,7 @@ pub(crate) fn once<F: Files, L: Link>(
     ensures file_cause { BlamesFiles (F.fault_count files.old) (F.fault_count files.new) result }
     ensures link_cause { BlamesLink (L.fault_count link.old) (L.fault_count link.new) result }
     ensures words { result ≢ End.BadWords }
+    ensures sink { result ≢ End.SinkFault }
 {
     match load(alloc, files, command) {
         Ok(loaded) => ask(alloc, command.name, &loaded, link),

@@ -24,6 +24,7 @@ fn act<'w, F: Files, L: Link>(
 ) -> (Command<'w>, End)
     ensures command { seen result.0 ≡ spec.command_or_none (words_command words.now) }
     ensures words { (result.1 ≡ End.BadWords) ↔ (words_command words.now ≡ None) }
+    ensures sink { result.1 ≢ End.SinkFault }
     ensures does { spec.Does (words_command words.now) result.1
         (record { told = F.told files.old; faults = F.fault_count files.old })
         (record { told = F.told files.new; faults = F.fault_count files.new })
@@ -40,14 +41,20 @@ fn act<'w, F: Files, L: Link>(
 }
 
 /// Runs `once --name NAME --proto PROTO put:PATH ask:1`: reads the prototype PROTO and the file PATH, takes one request
-/// head for the structure text of the best view from the link, byte by byte and no byte after it, and sends the reply
-/// over the collection of that one file, its revision 1. Answers the status of the program.
+/// head for the structure text or the data of the best view from the link, byte by byte and no byte after it, and sends
+/// the reply over the collection of that one file, its revision 1. Answers the status of the program.
+///
+/// The run of the file is the moment that follows NAME and `_` in its name, which is what follows the last `/` of PATH.
 ///
 /// | Status | Line | Comes |
 /// |---|---|---|
 /// | 0 | none | the whole reply was sent |
 /// | 2 | `bad words` | exactly where the words aren't the command |
-/// | 3 | `refused PATH code 60`, `refused ask code 60` | exactly where the prototype isn't thin; where the file isn't or lies on another grid; at the first byte of the request that differs |
+/// | 3 | `refused PROTO code 60` | exactly where the prototype isn't thin |
+/// | 3 | `refused PATH code 60` | exactly where the file isn't thin, or lies on another grid |
+/// | 3 | `refused PATH code 45` | exactly where the file's name has no moment |
+/// | 3 | `refused PATH code 55` | exactly where the run lies 2^30 seconds or more from 2020-01-01 |
+/// | 3 | `refused ask code 60` | exactly at the first byte with which the input begins neither head |
 /// | 4 | `no memory` | at any time |
 /// | 5 | `file fault PATH` | only where the files' count of faults rose |
 /// | 9 | `link fault` | only where the link's count of faults rose |
@@ -74,6 +81,7 @@ pub fn run_once<F: Files, L: Link, S: Sink>(
         Rose (F.fault_count world.old.files) (F.fault_count world.new.files) }
     ensures link_fault { result ≡ 9 →
         Rose (L.fault_count world.old.link) (L.fault_count world.new.link) }
+    ensures sink_fault { result ≢ 7 }
 {
     let (command, end) = act(alloc, words, &mut world.files, &mut world.link);
     let _written = report(&mut world.sink, &command, end);
@@ -88,6 +96,7 @@ fn check<F: Files, S: Sink>(alloc: Global, path: &[u8], files: &mut F, sink: &mu
         (record { told = S.told sink.old; faults = S.fault_count sink.old })
         (record { told = S.told sink.new; faults = S.fault_count sink.new }) }
     ensures words { result ≢ End.BadWords }
+    ensures link { result ≢ End.LinkFault }
 {
     let header = match check_file(alloc, files, path) {
         Ok(header) => header,
@@ -128,7 +137,14 @@ pub fn run_check<F: Files, L: Link, S: Sink>(
         (record { told = L.told world.new.link; faults = L.fault_count world.new.link })
         (record { told = S.told world.old.sink; faults = S.fault_count world.old.sink })
         (record { told = S.told world.new.sink; faults = S.fault_count world.new.sink }) }
+
+    // What a reader looks for first: when the words are refused, and whom a status blames.
     ensures words { (result ≡ 2) ↔ (words_path words.now ≡ None) }
+    ensures file_fault { result ≡ 5 →
+        Rose (F.fault_count world.old.files) (F.fault_count world.new.files) }
+    ensures sink_fault { result ≡ 7 →
+        Rose (S.fault_count world.old.sink) (S.fault_count world.new.sink) }
+    ensures link_fault { result ≢ 9 }
 {
     match checked_path(words.as_slice()) {
         None => {
@@ -163,7 +179,15 @@ pub fn run<F: Files, L: Link, S: Sink>(
         (record { told = L.told world.new.link; faults = L.fault_count world.new.link })
         (record { told = S.told world.old.sink; faults = S.fault_count world.old.sink })
         (record { told = S.told world.new.sink; faults = S.fault_count world.new.sink }) }
+
+    // What a reader looks for first: when the words are refused, and whom a status blames.
     ensures words { (result ≡ 2) ↔ spec.AreBadAs (spec.names_check words.now) words.now }
+    ensures file_fault { result ≡ 5 →
+        Rose (F.fault_count world.old.files) (F.fault_count world.new.files) }
+    ensures sink_fault { result ≡ 7 →
+        Rose (S.fault_count world.old.sink) (S.fault_count world.new.sink) }
+    ensures link_fault { result ≡ 9 →
+        Rose (L.fault_count world.old.link) (L.fault_count world.new.link) }
 {
     if names_check(words.as_slice()) {
         run_check(alloc, words, world)

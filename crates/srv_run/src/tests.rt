@@ -181,7 +181,13 @@ fn the_data_of_the_best_view_is_sent_whole(rt: HostRuntime) -> Result<(), Fail> 
 /// The words of the command with another file.
 fn putting<'a>(put: &'a [u8]) -> [&'a [u8]; 7] {
     [
-        b"once", b"--name", b"gfs", b"--proto", b"proto.nc", put, b"ask:1",
+        b"once",
+        b"--name",
+        b"gfs",
+        b"--proto",
+        b"proto.nc",
+        put,
+        b"ask:1",
     ]
 }
 
@@ -354,11 +360,7 @@ fn a_reply_is_cut_where_the_link_fails(rt: HostRuntime) -> Result<(), Fail> {
     }
     let mut entries = List::new(alloc);
     entries.push(entry(alloc, b"proto.nc", sample(alloc, &[])?)?)?;
-    entries.push(entry(
-        alloc,
-        b"in/gfs_20240101_0000.nc",
-        sample(alloc, &[])?,
-    )?)?;
+    entries.push(entry(alloc, b"in/gfs_20240101_0000.nc", sample(alloc, &[])?)?)?;
     let input = Bytes::copy_of(alloc, REQUEST)?;
     let mut world = World {
         files: MemFiles::new(entries, List::new(alloc)),
