@@ -1,0 +1,17 @@
+//! What a collection of forecast runs is: what a file is taken for, what is done to the files, and which rows the views
+//! of them have (THREDDS Data Server, Forecast Model Run Collections). The definitions stand in `specs/`, on plain lists.
+#![tactic(auto)]
+
+mod full;
+mod loaded;
+mod op;
+mod proto;
+mod row;
+mod site;
+
+pub use full::{Full, Tally, Which};
+pub use loaded::{LoadFault, Loaded, Slot};
+pub use op::Op;
+pub use proto::{Proto, ProtoFault, ProtoVar};
+pub use row::{Row, ViewName};
+pub use site::Site;
