@@ -1,1 +1,10 @@
+pub mod Attribute
+pub mod Cell
+pub mod Chain
 pub mod Code
+pub mod Collection
+pub mod Load
+pub mod Prototype
+pub mod Rising
+pub mod Rows
+pub mod Variable

@@ -3,6 +3,7 @@
 #![tactic(auto)]
 
 mod full;
+mod limit;
 mod loaded;
 mod op;
 mod proto;
@@ -10,6 +11,7 @@ mod row;
 mod site;
 
 pub use full::{Full, Tally, Which};
+pub use limit::{MAX_BYTES, MAX_FILES, MAX_INSTANT, MAX_ROWS, MAX_TIMES};
 pub use loaded::{LoadFault, Loaded, Slot};
 pub use op::Op;
 pub use proto::{Proto, ProtoFault, ProtoVar};

@@ -34,7 +34,10 @@ pub enum LoadFault {
     /// The time at this place isn't a whole number of seconds.
     NotWhole(u64),
     /// The time lies outside the range of instants.
-    TimeRange { k: u64, seconds: i128 },
+    TimeRange {
+        k: u64,
+        seconds: i128,
+    },
     /// An earlier time is the same.
     TimeRepeated(u64),
     /// The file has no variable of this name.
@@ -42,7 +45,12 @@ pub enum LoadFault {
     /// The variable has another kind, other lengths or other dimensions than the prototype's.
     VariableDiffers(Bytes),
     /// A coordinate variable has another byte than the prototype's at this place among its elements.
-    GridDiffers { name: Bytes, byte: u64, proto: u8, file: u8 },
+    GridDiffers {
+        name: Bytes,
+        byte: u64,
+        proto: u8,
+        file: u8,
+    },
     /// The axis has no times.
     NoTimes,
     /// The axis has more times than a file may have.
