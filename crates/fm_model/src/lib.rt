@@ -3,6 +3,7 @@
 #![tactic(auto)]
 
 mod full;
+pub mod laws;
 mod limit;
 mod loaded;
 mod op;
