@@ -1,2 +1,3 @@
+pub mod CellLemmas
 pub mod Members
 pub mod RisingLemmas
