@@ -1,3 +1,5 @@
+pub mod BestLemmas
 pub mod CellLemmas
 pub mod Members
 pub mod RisingLemmas
+pub mod RowLemmas

@@ -1,6 +1,6 @@
 -- Membership by recursion on a list, and what it says of the lists that definitions make.
 use Rattle.std.proofs.Common.{◌≡◌, ◌⊎◌, ℕ, zero, suc, ◌<◌, Bool, true, false, cond, List, [], ◌∷◌, ◌++◌, map, length, get_or, Option, Some, None, refl, sym, ap, subst, ◌∙◌, inl, inr, arith}
-use Rattle.std.specs.List.{AllPairs, All, Contains, filter, filter_map, flat_map, cons_option}
+use Rattle.std.specs.List.{AllPairs, All, Any, Contains, filter, filter_map, flat_map, cons_option}
 use Rattle.std.proofs.lemmas.List.Elements.{All-head, All-tail, All-nil}
 use Rattle.std.proofs.lemmas.List.Kept.{AllPairs-cons}
 
@@ -137,3 +137,9 @@ AllPairs-from_each R (x ∷ xs) each = AllPairs-cons R x xs (All-from_each (R x)
 pub each_from_AllPairs : {A : Type 0} (R : A → A → Type 0) (xs : List A) → AllPairs R xs → EachPair R xs
 each_from_AllPairs R [] pairs = tt
 each_from_AllPairs R (x ∷ xs) pairs = (each_from_All (R x) xs (λ k d lt. pairs 0 (suc k) d (omega arith) (omega arith)), each_from_AllPairs R xs (λ i j d lt within. pairs (suc i) (suc j) d (omega arith) (omega arith)))
+
+pub Any-from_in : {A : Type 0} (P : A → Type 0) (x : A) (xs : List A) → In x xs → P x → Any P xs
+Any-from_in P x xs h p = let c = Contains-from_in x xs h in (c.0, x, c.1, c.2, p)
+
+pub in_from_Any : {A : Type 0} (P : A → Type 0) (xs : List A) → Any P xs → (x : A) × In x xs × P x
+in_from_Any P xs any = (any.1, in_from_Contains any.1 xs (any.0, any.2, any.3), any.4)

@@ -1,6 +1,6 @@
 -- The rows of the views of a collection (THREDDS Data Server, Forecast Model Run Collections: run, constant offset,
 -- constant forecast and best time series datasets).
-use Rattle.std.specs.Prelude.{◌≡◌, List, Option, Some, option_and_then, ℤ, ◌+ℤ◌}
+use Rattle.std.specs.Prelude.{◌≡◌, Contains, slice_get, List, Option, Some, option_and_then, ℤ, ◌+ℤ◌}
 use Rattle.std.specs.List.{filter_map}
 use Rattle.std.specs.Option.{option_map}
 use Rattle.fm_model.specs.declared.loaded.Loaded.{Loaded}
@@ -39,3 +39,9 @@ Shows files Best run valid = best files valid ≡ Some run
 Shows files (Run only) run valid = run ≡ only
 Shows files (Offset seconds) run valid = valid ≡ run +ℤ seconds
 Shows files (Forecast only) run valid = valid ≡ only
+
+-- a row's file is held, and has the row's run and valid time
+pub record TellsFile (files : List Loaded) (row : Row) : Type 0 where
+  pub held : Contains files row.file
+  pub run_is : row.file.run ≡ row.run
+  pub time_is : slice_get row.file.times row.place ≡ Some row.valid
