@@ -7,7 +7,7 @@ use Rattle.fm_model.specs.declared.loaded.Loaded.{Loaded}
 use Rattle.fm_model.specs.declared.row.Row.{Row}
 use Rattle.fm_model.specs.declared.row.ViewName.{ViewName}
 use Rattle.fm_model.specs.declared.row.ViewName.TheVariants.{Best, Run, Offset, Forecast}
-use Rattle.fm_model.specs.Cell.{runs_of, times_of, cell, best, IsCell}
+use Rattle.fm_model.specs.Cell.{runs_of, times_of, cell, best, IsBest, IsCell}
 use Rattle.fm_model.specs.Rising.{Rises}
 use Rattle.fm_model.specs.Rows.{row_at, best_row, rows, instant_in, Shows, TellsFile}
 use Rattle.fm_model.proofs.BestLemmas.{value-from_some, rises_runs_of, rises_times_of, in_times_of, In-times_of, run_of_cell, time_of_cell, IsBest-from_best, best-from_file}
@@ -153,3 +153,7 @@ TellsFile-rows files view row c =
     let shown = (Contains-rows files view row).0 c in
     let is = IsCell-from_cell files row.run row.valid row.file row.place shown.0 in
     record { held = Contains-from_in row.file files (held-from_cell files row.run row.valid row.file row.place is); run_is = is.run_is; time_is = is.time_is }
+
+-- a row of the best time series is from the greatest run
+pub IsBest-row : (files : List Loaded) (row : Row) → Contains (rows files Best) row → IsBest files row.valid row.run
+IsBest-row files row c = IsBest-from_best files row.valid row.run ((Contains-rows files Best row).0 c).1

@@ -1,10 +1,11 @@
 -- The files that a collection holds after operations, how much it holds, and when it is full (THREDDS Data Server,
 -- Forecast Model Run Collections).
-use Rattle.std.specs.Prelude.{ℕ, List, [], ◌∷◌, ◌++◌, length, filter, sum_by, fold, not, nat_lt, if◌then◌else◌, Option, Some, None, ℤ, int_le}
+use Rattle.std.specs.Prelude.{◌≡◌, ◌≢◌, ◌<◌, ◌≤◌, ℕ, List, [], ◌∷◌, ◌++◌, length, filter, sum_by, fold, not, nat_lt, if◌then◌else◌, Option, Some, None, ℤ, int_le}
 use Rattle.std.specs.Str.{bytes_eq}
 use Rattle.fm_model.specs.declared.limit.TheConstants.{MAX_FILES, MAX_ROWS, MAX_BYTES}
 use Rattle.fm_model.specs.declared.full.Full.{Full as TooMany}
 use Rattle.fm_model.specs.declared.full.Tally.{Tally}
+use Rattle.fm_model.specs.declared.full.Which.{Which}
 use Rattle.fm_model.specs.declared.full.Which.TheVariants.{Files, Rows, Size}
 use Rattle.fm_model.specs.declared.loaded.Loaded.{Loaded}
 use Rattle.fm_model.specs.declared.op.Op.{Op}
@@ -42,3 +43,35 @@ full_of held =
 -- why an operation isn't taken: what the collection after it would hold too much of
 unfoldable pub full_at : List Loaded → Op → Option TooMany
 full_at files op = full_of (tally (after_op files op))
+
+-- what is counted, and the most that there may be of it
+abbrev pub number_of : Which → Tally → ℕ
+number_of Files held = held.files
+number_of Rows held = held.rows
+number_of Size held = held.size
+
+abbrev pub limit_of : Which → ℕ
+limit_of Files = MAX_FILES
+limit_of Rows = MAX_ROWS
+limit_of Size = MAX_BYTES
+
+-- the order in which limits are looked at
+abbrev pub place_of : Which → ℕ
+place_of Files = 0
+place_of Rows = 1
+place_of Size = 2
+
+-- every number is within its limit
+abbrev pub IsWithin : Tally → Type 0
+IsWithin held = (which : Which) → number_of which held ≤ limit_of which
+
+-- a number passes its limit, and none that is looked at before does
+pub record IsFirstPassed (held : Tally) (full : TooMany) : Type 0 where
+  pub held_is : full.held ≡ number_of full.which held
+  pub limit_is : full.limit ≡ limit_of full.which
+  pub passed : full.limit < full.held
+  pub first : (which : Which) → place_of which < place_of full.which → number_of which held ≤ limit_of which
+
+-- two files have different names
+abbrev pub DifferInName : Loaded → Loaded → Type 0
+DifferInName file other = file.name ≢ other.name

@@ -4,7 +4,7 @@ ghost use Rattle.fm_model.specs.declared.loaded.Loaded.{Loaded};
 ghost use Rattle.fm_model.specs.declared.row.Row.{Row};
 ghost use Rattle.fm_model.specs.declared.row.ViewName.{ViewName};
 ghost use Rattle.fm_model.specs.declared.row.ViewName.TheVariants.{Best};
-ghost use Rattle.fm_model.specs.Cell.{cell, times_of};
+ghost use Rattle.fm_model.specs.Cell.{cell, times_of, IsBest};
 ghost use Rattle.fm_model.specs.Rising.{Rises};
 ghost use Rattle.fm_model.specs.Rows.{rows, instant_in, Shows, TellsFile};
 
@@ -23,13 +23,16 @@ pub fn rows_are_the_cells_shown()
             × Shows files view row.run row.valid) }
 {}
 
-/// Each valid time that any file has stands once in the best time series, in rising order.
+/// Each valid time that any file has stands once in the best time series, in rising order, from the greatest run that has
+/// it.
 pub fn best_has_each_time_once()
     ensures times { (files : List Loaded) →
         map (λ (row : Row). row.valid) (rows files Best) ≡ times_of files }
     ensures any_file { (files : List Loaded) (valid : ℤ) →
         Contains (map (λ (row : Row). row.valid) (rows files Best)) valid
         ↔ Any (λ (file : Loaded). Contains file.times valid) files }
+    ensures greatest { (files : List Loaded) (row : Row) →
+        Contains (rows files Best) row → IsBest files row.valid row.run }
 {}
 
 /// The file of a row is held, is of the row's run, and has the row's valid time at the row's place.
