@@ -1,13 +1,12 @@
 -- The runs and the valid times of files, and the best run for a valid time.
-use Rattle.std.proofs.Common.{◌≡◌, ◌↔◌, ℕ, true, false, List, [], ◌∷◌, ◌++◌, map, Option, Some, None, ℤ, ◌≤ℤ◌, ◌<ℤ◌, refl, sym, ap, subst, ◌∙◌, inl, inr, arith}
+use Rattle.std.proofs.Common.{◌≡◌, ◌↔◌, false, List, [], ◌∷◌, ◌++◌, map, Option, Some, None, ℤ, ◌≤ℤ◌, ◌<ℤ◌, refl, sym, ap, subst, ◌∙◌, inl, inr, arith}
 use Rattle.std.specs.Prelude.{All, Contains, IsSome, is_some}
 use Rattle.std.proofs.lemmas.Bool.{both_ways, false≢true}
 use Rattle.std.proofs.lemmas.Int.{ints}
 use Rattle.fm_model.specs.declared.loaded.Loaded.{Loaded}
-use Rattle.fm_model.specs.Cell.{runs_of, times_of, cell, best, HasCell, IsCell, IsBest}
-use Rattle.fm_model.specs.Rising.{rising}
-use Rattle.fm_model.proofs.CellLemmas.{IsLast, is_last, none_passes, IsCell-from_cell, held-from_cell, cell-from_file, in_from_slice_get, no_value}
-use Rattle.fm_model.proofs.Members.{In, Each, EachPair, Contains-from_in, in_from_Contains, In-append_right, In-append_cases, In-map, in_map, In-flat_map, in_flat_map, Each-in, Each-from_in, All-from_each, each_from_All}
+use Rattle.fm_model.specs.Cell.{runs_of, times_of, cell, best, IsBest}
+use Rattle.fm_model.proofs.CellLemmas.{IsLast, is_last, none_passes, IsCell-from_cell, held-from_cell, cell-from_file, in_from_slice_get}
+use Rattle.fm_model.proofs.Members.{In, EachPair, Contains-from_in, in_from_Contains, In-append_right, In-append_cases, In-map, In-flat_map, in_flat_map, Each-in, Each-from_in, All-from_each, each_from_All}
 use Rattle.fm_model.proofs.RisingLemmas.{Above, in_rising, In-rising, rises_rising}
 
 -- the value that is there

@@ -1,6 +1,6 @@
 -- The last item that passes, and cells.
-use Rattle.std.proofs.Common.{◌≡◌, ◌⊎◌, ◌↔◌, ℕ, zero, suc, ◌+◌, ◌<◌, ◌≤◌, Bool, true, false, cond, not, ◌&&◌, ◌||◌, List, [], ◌∷◌, ◌++◌, length, Option, Some, None, ℤ, refl, sym, ap, subst, ◌∙◌, inl, inr, arith}
-use Rattle.std.specs.Prelude.{slice_get, All, Contains, IsSome, is_some}
+use Rattle.std.proofs.Common.{◌≡◌, ◌↔◌, ℕ, zero, suc, ◌+◌, ◌<◌, Bool, true, false, cond, ◌||◌, List, [], ◌∷◌, ◌++◌, Option, Some, None, ℤ, refl, sym, ap, subst, ◌∙◌, inl, inr, arith}
+use Rattle.std.specs.Prelude.{slice_get, All, IsSome, is_some}
 use Rattle.std.specs.List.{list_any, position_or_len}
 use Rattle.std.specs.Option.{option_map, option_or}
 use Rattle.std.specs.Ordering.{int_eq}
@@ -9,7 +9,7 @@ use Rattle.std.proofs.lemmas.Bool.{and_parts, and_from, both_ways, cases_order, 
 use Rattle.std.proofs.lemmas.Option.{none-some, same_Some, some_pair_parts}
 use Rattle.fm_model.specs.declared.loaded.Loaded.{Loaded}
 use Rattle.fm_model.specs.Cell.{last_such, has_time, has_cell, place_of_time, cell, HasCell, IsCell}
-use Rattle.fm_model.proofs.Members.{In, Each, Contains-from_in, in_from_Contains, In-append_right, In-append_left, Each-in, Each-from_in, Each-weaker, All-from_each, each_from_All}
+use Rattle.fm_model.proofs.Members.{In, Each, Contains-from_in, in_from_Contains, In-append_right, Each-in, Each-weaker, All-from_each, each_from_All}
 
 pub no_value : {A : Type 0} (x : A) → Some x ≡ None → ⊥
 no_value x e = none-some x (sym e)

@@ -1,13 +1,13 @@
 -- The rows of views: which they are, and that they rise.
-use Rattle.std.proofs.Common.{◌≡◌, ◌↔◌, ℕ, List, [], ◌∷◌, map, Option, Some, None, ℤ, ◌+ℤ◌, refl, sym, ap, subst, ◌∙◌, inl, inr}
-use Rattle.std.specs.Prelude.{slice_get, Any, Contains, IsSome, is_some}
+use Rattle.std.proofs.Common.{◌≡◌, ◌↔◌, ℕ, List, [], ◌∷◌, map, Option, Some, None, ℤ, ◌+ℤ◌, refl, sym, ap, subst, ◌∙◌}
+use Rattle.std.specs.Prelude.{Any, Contains, IsSome, is_some}
 use Rattle.std.specs.List.{filter_map, cons_option}
-use Rattle.std.proofs.lemmas.Option.{option_and_then_some, same_Some}
+use Rattle.std.proofs.lemmas.Option.{option_and_then_some}
 use Rattle.fm_model.specs.declared.loaded.Loaded.{Loaded}
 use Rattle.fm_model.specs.declared.row.Row.{Row}
 use Rattle.fm_model.specs.declared.row.ViewName.{ViewName}
 use Rattle.fm_model.specs.declared.row.ViewName.TheVariants.{Best, Run, Offset, Forecast}
-use Rattle.fm_model.specs.Cell.{runs_of, times_of, cell, best, IsBest, IsCell}
+use Rattle.fm_model.specs.Cell.{runs_of, times_of, cell, best, IsBest}
 use Rattle.fm_model.specs.Rising.{Rises}
 use Rattle.fm_model.specs.Rows.{row_at, best_row, rows, instant_in, Shows, TellsFile}
 use Rattle.fm_model.proofs.BestLemmas.{value-from_some, rises_runs_of, rises_times_of, in_times_of, In-times_of, run_of_cell, time_of_cell, IsBest-from_best, best-from_file}

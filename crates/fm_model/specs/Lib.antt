@@ -4,6 +4,9 @@ pub mod Chain
 pub mod Code
 pub mod Collection
 pub mod Load
+pub mod LoadAxis
+pub mod LoadTimes
+pub mod LoadVars
 pub mod Prototype
 pub mod Rising
 pub mod Rows
