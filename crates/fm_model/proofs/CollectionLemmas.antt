@@ -13,7 +13,7 @@ use Rattle.fm_model.specs.declared.loaded.Loaded.{Loaded}
 use Rattle.fm_model.specs.declared.op.Op.{Op}
 use Rattle.fm_model.specs.declared.op.Op.TheVariants.{Put, Expire}
 use Rattle.fm_model.specs.Collection.{without, kept_from, after_op, coll, DifferInName}
-use Rattle.fm_model.proofs.Members.{In, Each, EachPair, Contains-from_in, in_from_Contains, In-filter, in_filter, Each-in, Each-from_in, each_from_All, AllPairs-from_each, each_from_AllPairs, in_from_Any}
+use Rattle.fm_model.proofs.Members.{In, Each, EachPair, Contains-from_in, in_from_Contains, In-filter, in_filter, Each-in, Each-from_in, each_from_All, AllPairs-from_each, each_from_AllPairs, EachPair-push, in_from_Any}
 
 -- whether a file has a name
 abbrev pub named : List ℕ → Loaded → Bool
@@ -133,14 +133,6 @@ EachPair-filter {A} R test (item ∷ items) pairs = by_test (test item) (EachPai
     by_test : (b : Bool) → EachPair R (filter test items) → EachPair R (cond b (item ∷ filter test items) (filter test items))
     by_test true others = (Each-from_in (R item) (filter test items) (λ x h. Each-in (R item) x items pairs.0 (in_filter test x items h).0), others)
     by_test false others = others
-
-EachPair-push : {A : Type 0} (R : A → A → Type 0) (items : List A) (last : A) → EachPair R items → Each (λ x. R x last) items → EachPair R (items ++ last ∷ [])
-EachPair-push R [] last pairs each = (tt, tt)
-EachPair-push R (item ∷ items) last pairs each = (Each-push (R item) items last pairs.0 each.0, EachPair-push R items last pairs.1 each.1)
-  where
-    Each-push : {A : Type 0} (P : A → Type 0) (xs : List A) (x : A) → Each P xs → P x → Each P (xs ++ x ∷ [])
-    Each-push P [] x each p = (p, tt)
-    Each-push P (y ∷ xs) x each p = (each.0, Each-push P xs x each.1 p)
 
 differ_after : (files : List Loaded) (op : Op) → EachPair DifferInName files → EachPair DifferInName (after_op files op)
 unfolding after_op without kept_from

@@ -1,7 +1,11 @@
 pub mod BestLemmas
 pub mod CellLemmas
+pub mod ChainLemmas
 pub mod CollectionLemmas
 pub mod FullLemmas
+pub mod LoadLemmas
 pub mod Members
 pub mod RisingLemmas
 pub mod RowLemmas
+pub mod SlotLemmas
+pub mod TimeLemmas

@@ -143,3 +143,11 @@ Any-from_in P x xs h p = let c = Contains-from_in x xs h in (c.0, x, c.1, c.2, p
 
 pub in_from_Any : {A : Type 0} (P : A → Type 0) (xs : List A) → Any P xs → (x : A) × In x xs × P x
 in_from_Any P xs any = (any.1, in_from_Contains any.1 xs (any.0, any.2, any.3), any.4)
+
+pub Each-push : {A : Type 0} (P : A → Type 0) (xs : List A) (x : A) → Each P xs → P x → Each P (xs ++ x ∷ [])
+Each-push P [] x each p = (p, tt)
+Each-push P (y ∷ xs) x each p = (each.0, Each-push P xs x each.1 p)
+
+pub EachPair-push : {A : Type 0} (R : A → A → Type 0) (items : List A) (last : A) → EachPair R items → Each (λ x. R x last) items → EachPair R (items ++ last ∷ [])
+EachPair-push R [] last pairs each = (tt, tt)
+EachPair-push R (item ∷ items) last pairs each = (Each-push (R item) items last pairs.0 each.0, EachPair-push R items last pairs.1 each.1)

@@ -1,5 +1,5 @@
 -- The run and the valid times of a file (CF Conventions, time coordinate; THREDDS Data Server, run time of a file).
-use Rattle.std.specs.Prelude.{ℕ, zero, suc, List, [], ◌∷◌, ◌++◌, codes, length, map, Bool, not, ◌&&◌, ◌==◌, nat_lt, Option, Some, None, option_and_then, unwrap_or, Result, Ok, ℤ, ◌+ℤ◌, ◌-ℤ◌, neg_ℤ, int_le}
+use Rattle.std.specs.Prelude.{◌≤ℤ◌, ℕ, zero, suc, List, [], ◌∷◌, ◌++◌, codes, length, map, Bool, not, ◌&&◌, ◌==◌, nat_lt, Option, Some, None, option_and_then, unwrap_or, Result, Ok, ℤ, ◌+ℤ◌, ◌-ℤ◌, neg_ℤ, int_le}
 use Rattle.std.specs.List.{list_any}
 use Rattle.std.specs.Option.{ok_or}
 use Rattle.std.specs.Ordering.{int_eq}
@@ -91,3 +91,8 @@ times_from time (suc n) found = do
 -- the valid times of a file, in its order
 unfoldable pub file_times : Site → List ℕ → FileHeader → NcVar → TimeUnits → ℕ → Result (List ℤ) LoadFault
 file_times site bytes header axis units count = times_from (time_at site bytes header axis units) count []
+
+-- seconds from the epoch that are an instant of a collection
+pub record IsInstant (seconds : ℤ) : Type 0 where
+  pub low : neg_ℤ MAX_INSTANT ≤ℤ seconds
+  pub high : seconds ≤ℤ MAX_INSTANT

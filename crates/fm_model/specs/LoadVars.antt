@@ -1,5 +1,5 @@
 -- The variables of a file beside those of the prototype, and where their data lies.
-use Rattle.std.specs.Prelude.{ℕ, ◌*◌, List, [], ◌∷◌, ◌++◌, length, drop, map, filter, slice_get, slice_index, Bool, false, not, ◌&&◌, ◌||◌, ◌==◌, nat_eq, nat_lt, if◌then◌else◌, Result, Ok}
+use Rattle.std.specs.Prelude.{◌≡◌, IsTrue, take, ℕ, ◌*◌, List, [], ◌∷◌, ◌++◌, length, drop, map, filter, slice_get, slice_index, Bool, false, not, ◌&&◌, ◌||◌, ◌==◌, nat_eq, nat_lt, if◌then◌else◌, Result, Ok}
 use Rattle.std.specs.List.{common_prefix_len}
 use Rattle.std.specs.Option.{option_map_or}
 use Rattle.std.specs.Str.{bytes_eq}
@@ -15,7 +15,7 @@ use Rattle.fm_model.specs.declared.loaded.Slot.{Slot}
 use Rattle.fm_model.specs.declared.proto.Proto.{Proto}
 use Rattle.fm_model.specs.declared.proto.ProtoVar.{ProtoVar}
 use Rattle.fm_model.specs.Chain.{Check, ◌>>=◌, ◌>>◌, refuse_if}
-use Rattle.fm_model.specs.Variable.{is_same_kind, is_coordinate, dim_of_axis, lies_along}
+use Rattle.fm_model.specs.Variable.{are_same, is_same_kind, is_coordinate, dim_of_axis, lies_along}
 use Rattle.fm_model.specs.LoadAxis.{file_var}
 
 -- the lengths of a prototype's dimensions of these numbers
@@ -29,7 +29,7 @@ stands_first_alone id (first ∷ others) = first == id && not (lies_along id oth
 
 -- whether a variable along the axis is like the prototype's: the same kind, the file's axis first, the same other lengths
 unfoldable pub is_like_timed : Proto → FileHeader → NcVar → ProtoVar → NcVar → Bool
-is_like_timed proto header axis wanted var = is_same_kind wanted.kind var.kind && stands_first_alone (dim_of_axis axis) var.dims && bytes_eq (drop 1 (lengths_of proto wanted.dims)) (drop 1 (shape_of header var))
+is_like_timed proto header axis wanted var = is_same_kind wanted.kind var.kind && stands_first_alone (dim_of_axis axis) var.dims && are_same (drop 1 (lengths_of proto wanted.dims)) (drop 1 (shape_of header var))
 
 -- where the data of a variable along the axis lies
 unfoldable pub slot_in : FileHeader → NcVar → NcVar → Slot
@@ -44,7 +44,7 @@ file_slot proto header axis wanted = do
 
 -- whether a coordinate variable is like the prototype's: the same kind and lengths
 unfoldable pub is_like_fixed : Proto → FileHeader → ProtoVar → NcVar → Bool
-is_like_fixed proto header wanted var = is_same_kind wanted.kind var.kind && bytes_eq (lengths_of proto wanted.dims) (shape_of header var)
+is_like_fixed proto header wanted var = is_same_kind wanted.kind var.kind && are_same (lengths_of proto wanted.dims) (shape_of header var)
 
 -- two lists of bytes are the same, or differ first at a place
 unfoldable pub same_bytes : List ℕ → List ℕ → List ℕ → Check LoadFault
@@ -76,3 +76,22 @@ steps_from step (item ∷ items) found = step found item >>= λ next. steps_from
 -- the slots of a file, in the prototype's order
 unfoldable pub file_slots : Proto → List ℕ → FileHeader → NcVar → Result (List Slot) LoadFault
 file_slots proto bytes header axis = steps_from (slots_after proto bytes header axis) (filter (is_compared proto) proto.vars) []
+
+-- the variables that have a slot: those along the axis but for the axis itself, in the prototype's order
+unfoldable pub slotted_vars : Proto → List ProtoVar
+slotted_vars proto = filter (λ (wanted : ProtoVar). wanted.timed && not (bytes_eq wanted.name proto.axis)) proto.vars
+
+-- a slot says where the file's variable of the name of a prototype's variable lies, which is like it
+pub record IsSlotOf (proto : Proto) (header : FileHeader) (axis : NcVar) (wanted : ProtoVar) (slot : Slot) : Type 0 where
+  pub var : NcVar
+  pub named : file_var header wanted.name ≡ Ok var
+  pub like : IsTrue (is_like_timed proto header axis wanted var)
+  pub slot_is : slot ≡ slot_in header axis var
+
+-- the file's variable of the name of a prototype's coordinate variable is like it, and its elements begin with the
+-- prototype's
+pub record IsSameGrid (proto : Proto) (bytes : List ℕ) (header : FileHeader) (wanted : ProtoVar) : Type 0 where
+  pub var : NcVar
+  pub named : file_var header wanted.name ≡ Ok var
+  pub like : IsTrue (is_like_fixed proto header wanted var)
+  pub elements : take (length wanted.fixed) (elements_of bytes header var) ≡ wanted.fixed

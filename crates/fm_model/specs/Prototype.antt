@@ -16,7 +16,7 @@ use Rattle.fm_model.specs.declared.proto.ProtoVar.{ProtoVar}
 use Rattle.fm_model.specs.declared.site.Site.{Site}
 use Rattle.fm_model.specs.Attribute.{is_char}
 use Rattle.fm_model.specs.Chain.{Check, ◌>>=◌, ◌>>◌, refuse, fault_as}
-use Rattle.fm_model.specs.Variable.{axis_of, dim_of_axis, lies_along, reference_of}
+use Rattle.fm_model.specs.Variable.{are_same, axis_of, dim_of_axis, lies_along, reference_of}
 
 -- a sound header, with all data in the file
 unfoldable pub sound_header : List ℕ → Result FileHeader ProtoFault
@@ -47,7 +47,7 @@ is_reference header var = option_map_or (λ (reference : NcVar). bytes_eq refere
 
 -- whether a variable has one character for each time
 unfoldable pub is_char_per_time : NcVar → NcVar → Bool
-is_char_per_time axis var = is_char var.kind && bytes_eq var.dims (dim_of_axis axis ∷ [])
+is_char_per_time axis var = is_char var.kind && are_same var.dims (dim_of_axis axis ∷ [])
 
 -- the variables that the views show: the axis, and all others but for the one of the run's time and those of one
 -- character for each time

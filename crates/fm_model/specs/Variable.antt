@@ -15,6 +15,10 @@ use Rattle.fm_model.specs.Attribute.{is_char, has_text}
 abbrev pub is_same_kind : Kind → Kind → Bool
 is_same_kind kind other = code_of kind == code_of other
 
+-- whether two lists of numbers are the same
+abbrev pub are_same : List ℕ → List ℕ → Bool
+are_same numbers others = bytes_eq numbers others
+
 -- whether the dimension of this number has this name
 unfoldable pub is_named : List Dim → List ℕ → ℕ → Bool
 is_named dims name id = option_map_or (λ (dim : Dim). bytes_eq dim.name name) (slice_get dims id) false

@@ -2,5 +2,6 @@
 
 pub mod cell;
 pub mod collection;
+pub mod load;
 pub mod rising;
 pub mod rows;
