@@ -5,6 +5,7 @@ pub mod CollectionLemmas
 pub mod FullLemmas
 pub mod LoadLemmas
 pub mod Members
+pub mod ProtoLemmas
 pub mod RisingLemmas
 pub mod RowLemmas
 pub mod SlotLemmas

@@ -20,8 +20,8 @@ use Rattle.fm_model.specs.declared.proto.ProtoVar.{ProtoVar}
 use Rattle.fm_model.specs.Chain.{Check, ◌>>=◌, ◌>>◌, refuse_if}
 use Rattle.fm_model.specs.Load.{Fits}
 use Rattle.fm_model.specs.LoadAxis.{file_header, file_axis, file_var}
-use Rattle.fm_model.specs.LoadVars.{is_like_timed, is_like_fixed, slot_in, file_slot, same_bytes, same_grid, is_compared, slots_after, steps_from, file_slots, slotted_vars, stands_first_alone, IsSlotOf, IsSameGrid}
-use Rattle.fm_model.specs.Variable.{dim_of_axis, lies_along, is_coordinate}
+use Rattle.fm_model.specs.LoadVars.{is_like_timed, is_like_fixed, slot_in, file_slot, same_bytes, same_grid, is_compared, slots_after, steps_from, file_slots, slotted_vars, IsSlotOf, IsSameGrid}
+use Rattle.fm_model.specs.Variable.{dim_of_axis, stands_first_alone, lies_along, is_coordinate}
 use Rattle.fm_model.proofs.ChainLemmas.{step_ok, refuse_if_ok, check_ok, passed_if, same_Ok}
 use Rattle.fm_model.proofs.LoadLemmas.{IsTaken, IsTaken-load_of}
 use Rattle.fm_model.proofs.Members.{In, Each, Each-in, Each-from_in, All-from_each, In-filter}

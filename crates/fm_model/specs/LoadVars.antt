@@ -15,17 +15,12 @@ use Rattle.fm_model.specs.declared.loaded.Slot.{Slot}
 use Rattle.fm_model.specs.declared.proto.Proto.{Proto}
 use Rattle.fm_model.specs.declared.proto.ProtoVar.{ProtoVar}
 use Rattle.fm_model.specs.Chain.{Check, ◌>>=◌, ◌>>◌, refuse_if}
-use Rattle.fm_model.specs.Variable.{are_same, is_same_kind, is_coordinate, dim_of_axis, lies_along}
+use Rattle.fm_model.specs.Variable.{are_same, is_same_kind, is_coordinate, dim_of_axis, stands_first_alone}
 use Rattle.fm_model.specs.LoadAxis.{file_var}
 
 -- the lengths of a prototype's dimensions of these numbers
 abbrev pub lengths_of : Proto → List ℕ → List ℕ
 lengths_of proto ids = map (λ id. option_map_or (λ (dim : Dim). dim.size) (slice_get proto.dims id) 0) ids
-
--- whether the dimension of this number stands first, and only there
-unfoldable pub stands_first_alone : ℕ → List ℕ → Bool
-stands_first_alone id [] = false
-stands_first_alone id (first ∷ others) = first == id && not (lies_along id others)
 
 -- whether a variable along the axis is like the prototype's: the same kind, the file's axis first, the same other lengths
 unfoldable pub is_like_timed : Proto → FileHeader → NcVar → ProtoVar → NcVar → Bool

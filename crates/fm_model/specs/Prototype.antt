@@ -1,5 +1,5 @@
 -- The prototype that some bytes are, or the first fault.
-use Rattle.std.specs.Prelude.{ℕ, List, [], ◌∷◌, ◌++◌, codes, length, drop, map, filter, find, Bool, false, not, ◌&&◌, ◌||◌, ◌==◌, if◌then◌else◌, Result, Ok}
+use Rattle.std.specs.Prelude.{◌≡◌, ◌≢◌, ◌<◌, All, Any, IsTrue, true, false, ℕ, List, [], ◌∷◌, ◌++◌, codes, length, drop, map, filter, find, Bool, false, not, ◌&&◌, ◌||◌, ◌==◌, if◌then◌else◌, Result, Ok}
 use Rattle.std.specs.Char.{is_ascii_alphanumeric}
 use Rattle.std.specs.List.{list_all}
 use Rattle.std.specs.Option.{ok_or, option_map, option_map_or}
@@ -16,7 +16,7 @@ use Rattle.fm_model.specs.declared.proto.ProtoVar.{ProtoVar}
 use Rattle.fm_model.specs.declared.site.Site.{Site}
 use Rattle.fm_model.specs.Attribute.{is_char}
 use Rattle.fm_model.specs.Chain.{Check, ◌>>=◌, ◌>>◌, refuse, fault_as}
-use Rattle.fm_model.specs.Variable.{are_same, axis_of, dim_of_axis, lies_along, reference_of}
+use Rattle.fm_model.specs.Variable.{are_same, is_named, stands_first_alone, axis_of, dim_of_axis, lies_along, reference_of}
 
 -- a sound header, with all data in the file
 unfoldable pub sound_header : List ℕ → Result FileHeader ProtoFault
@@ -37,9 +37,12 @@ time_stands_first header axis = refuse (option_map (λ (var : NcVar). TimeNotFir
 abbrev pub is_name_byte : ℕ → Bool
 is_name_byte byte = is_ascii_alphanumeric byte || byte == 95 || byte == 45
 
+unfoldable pub is_plain_name : List ℕ → Bool
+is_plain_name name = list_all is_name_byte name
+
 -- all names of dimensions, and then of variables, are of letters, digits, `_` and `-`
 unfoldable pub names_are_plain : FileHeader → Check ProtoFault
-names_are_plain header = refuse (option_map BadProtoName (find (λ name. not (list_all is_name_byte name)) (map (λ (dim : Dim). dim.name) header.dims ++ map (λ (var : NcVar). var.name) header.vars)))
+names_are_plain header = refuse (option_map BadProtoName (find (λ name. not (is_plain_name name)) (map (λ (dim : Dim). dim.name) header.dims ++ map (λ (var : NcVar). var.name) header.vars)))
 
 -- whether a variable is the one of the run's time
 unfoldable pub is_reference : FileHeader → NcVar → Bool
@@ -93,3 +96,31 @@ proto_of bytes site = do
   names_are_free header axis
   dims_have_lengths header axis
   Ok (proto_with bytes site header axis)
+
+-- a variable of a prototype lies along the axis with that dimension first and only there, or not at all
+abbrev pub LiesFirst : ℕ → ProtoVar → Type 0
+LiesFirst id var = (var.timed ≡ true → IsTrue (stands_first_alone id var.dims)) × (var.timed ≡ false → lies_along id var.dims ≡ false)
+
+-- a variable is a prototype's axis, over the dimension of this number
+pub record IsAxis (proto : Proto) (id : ℕ) (var : ProtoVar) : Type 0 where
+  pub name_is : var.name ≡ proto.axis
+  pub dims_are : var.dims ≡ id ∷ []
+  pub timed : var.timed ≡ true
+
+-- a variable has neither of the names under which the views show the run and the offset of each row
+pub record HasFreeName (proto : Proto) (var : ProtoVar) : Type 0 where
+  pub run : var.name ≢ run_name proto.axis
+  pub offset : var.name ≢ offset_name proto.axis
+
+-- What a prototype keeps: its axis is among its variables, over the dimension of its name; a variable along the axis has
+-- that dimension first and only there; names are plain, and those of the views are free; and all other dimensions have
+-- a length.
+pub record IsSound (proto : Proto) : Type 0 where
+  pub id : ℕ
+  pub named : IsTrue (is_named proto.dims proto.axis id)
+  pub axis : Any (IsAxis proto id) proto.vars
+  pub timed : All (LiesFirst id) proto.vars
+  pub plain_dims : All (λ (dim : Dim). IsTrue (is_plain_name dim.name)) proto.dims
+  pub plain_vars : All (λ (var : ProtoVar). IsTrue (is_plain_name var.name)) proto.vars
+  pub free : All (HasFreeName proto) proto.vars
+  pub lengths : All (λ (dim : Dim). dim.name ≢ proto.axis → 0 < dim.size) proto.dims

@@ -50,6 +50,11 @@ dim_of_axis axis = slice_index axis.dims 0
 unfoldable pub lies_along : ℕ → List ℕ → Bool
 lies_along id ids = list_any (λ other. other == id) ids
 
+-- whether the dimension of this number stands first, and only there
+unfoldable pub stands_first_alone : ℕ → List ℕ → Bool
+stands_first_alone id [] = false
+stands_first_alone id (first ∷ others) = first == id && not (lies_along id others)
+
 -- the variable of the run's time: the first with the standard name of a reference time
 unfoldable pub reference_of : Header → Option NcVar
 reference_of header = find (has_standard_name (codes "forecast_reference_time")) header.vars

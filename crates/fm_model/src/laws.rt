@@ -3,5 +3,6 @@
 pub mod cell;
 pub mod collection;
 pub mod load;
+pub mod proto;
 pub mod rising;
 pub mod rows;

@@ -13,9 +13,9 @@ ghost use Rattle.fm_model.specs.declared.proto.ProtoVar.{ProtoVar};
 ghost use Rattle.fm_model.specs.Load.{load_of, Fits};
 ghost use Rattle.fm_model.specs.LoadAxis.{file_axis, file_header};
 ghost use Rattle.fm_model.specs.LoadTimes.{file_units, time_at, IsInstant};
-ghost use Rattle.fm_model.specs.LoadVars.{is_compared, slot_in, slotted_vars, stands_first_alone};
+ghost use Rattle.fm_model.specs.LoadVars.{is_compared, slot_in, slotted_vars};
 ghost use Rattle.fm_model.specs.LoadVars.{IsSameGrid, IsSlotOf};
-ghost use Rattle.fm_model.specs.Variable.{dim_of_axis};
+ghost use Rattle.fm_model.specs.Variable.{dim_of_axis, stands_first_alone};
 
 use crate::limit::MAX_TIMES;
 
