@@ -3,6 +3,7 @@ pub mod Cell
 pub mod Chain
 pub mod Code
 pub mod Collection
+pub mod Example
 pub mod Load
 pub mod LoadAxis
 pub mod LoadTimes

@@ -2,6 +2,7 @@
 //! of them have (THREDDS Data Server, Forecast Model Run Collections). The definitions stand in `specs/`, on plain lists.
 #![tactic(auto)]
 
+pub mod examples;
 mod full;
 pub mod laws;
 mod limit;
