@@ -5,7 +5,8 @@ use Rattle.std.proofs.lemmas.Bool.{both_ways, false≢true}
 use Rattle.std.proofs.lemmas.Int.{ints}
 use Rattle.fm_model.specs.declared.loaded.Loaded.{Loaded}
 use Rattle.fm_model.specs.Cell.{runs_of, times_of, cell, best, IsBest}
-use Rattle.fm_model.proofs.CellLemmas.{IsLast, is_last, none_passes, IsCell-from_cell, held-from_cell, cell-from_file, in_from_slice_get}
+use Rattle.fm_model.proofs.CellLemmas.{IsCell-from_cell, held-from_cell, cell-from_file, in_from_slice_get}
+use Rattle.fm_model.proofs.LastLemmas.{IsLast, is_last, none_passes}
 use Rattle.fm_model.proofs.Members.{In, EachPair, Contains-from_in, in_from_Contains, In-append_right, In-append_cases, In-map, In-flat_map, in_flat_map, Each-in, Each-from_in, All-from_each, each_from_All}
 use Rattle.fm_model.proofs.RisingLemmas.{Above, in_rising, In-rising, rises_rising}
 

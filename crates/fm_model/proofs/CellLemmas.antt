@@ -1,8 +1,7 @@
--- The last item that passes, and cells.
-use Rattle.std.proofs.Common.{◌≡◌, ◌↔◌, ℕ, zero, suc, ◌+◌, ◌<◌, Bool, true, false, cond, ◌||◌, List, [], ◌∷◌, ◌++◌, Option, Some, None, ℤ, refl, sym, ap, subst, ◌∙◌, inl, inr, arith}
+-- Cells: which file stands for a run and a valid time.
+use Rattle.std.proofs.Common.{◌≡◌, ◌↔◌, ℕ, zero, suc, ◌+◌, ◌<◌, Bool, true, false, ◌||◌, List, [], ◌∷◌, Option, Some, None, ℤ, refl, sym, ap, subst, ◌∙◌, inl, inr, arith}
 use Rattle.std.specs.Prelude.{slice_get, All, IsSome, is_some}
 use Rattle.std.specs.List.{list_any, position_or_len}
-use Rattle.std.specs.Option.{option_map, option_or}
 use Rattle.std.specs.Ordering.{int_eq}
 use Rattle.std.specs.Cmp.{signed_Decides}
 use Rattle.std.proofs.lemmas.Bool.{and_parts, and_from, both_ways, cases_order, false≢true}
@@ -10,58 +9,7 @@ use Rattle.std.proofs.lemmas.Option.{none-some, same_Some, some_pair_parts}
 use Rattle.fm_model.specs.declared.loaded.Loaded.{Loaded}
 use Rattle.fm_model.specs.Cell.{last_such, has_time, has_cell, place_of_time, cell, HasCell, IsCell}
 use Rattle.fm_model.proofs.Members.{In, Each, Contains-from_in, in_from_Contains, In-append_right, Each-in, Each-weaker, All-from_each, each_from_All}
-
-pub no_value : {A : Type 0} (x : A) → Some x ≡ None → ⊥
-no_value x e = none-some x (sym e)
-
-pub option_map-some : {A B : Type 0} (f : A → B) (o : Option A) (y : B) → option_map f o ≡ Some y → (x : A) × (o ≡ Some x) × (f x ≡ y)
-option_map-some f None y e = absurd (none-some y e)
-option_map-some f (Some x) y e = (x, refl, same_Some (f x) y e)
-
-pub option_map-none : {A B : Type 0} (f : A → B) (o : Option A) → option_map f o ≡ None → o ≡ None
-option_map-none f None e = refl
-option_map-none f (Some x) e = absurd (no_value (f x) e)
-
--- the last item that passes, between items before it and items that don't pass
-pub record IsLast {A : Type 0} (test : A → Bool) (items : List A) (item : A) : Type 0 where
-  pub before : List A
-  pub after : List A
-  pub split : items ≡ before ++ item ∷ after
-  pub passes : test item ≡ true
-  pub fails : Each (λ other. test other ≡ false) after
-
-pub none_passes : {A : Type 0} (test : A → Bool) (items : List A) → last_such test items ≡ None → Each (λ item. test item ≡ false) items
-none_passes test [] e = tt
-none_passes test (item ∷ items) e = by_rest (last_such test items) refl e (test item) refl (none_passes test items)
-  where
-    by_rest : (o : Option _) → last_such test items ≡ o → option_or o (cond (test item) (Some item) None) ≡ None → (b : Bool) → test item ≡ b
-      → (last_such test items ≡ None → Each (λ i. test i ≡ false) items) → Each (λ i. test i ≡ false) (item ∷ items)
-    by_rest (Some later) is e b t more = absurd (no_value later e)
-    by_rest None is e true t more = absurd (no_value item (rw t at e))
-    by_rest None is e false t more = (t, more is)
-
-pub last_such-none : {A : Type 0} (test : A → Bool) (items : List A) → Each (λ item. test item ≡ false) items → last_such test items ≡ None
-last_such-none test [] each = refl
-last_such-none test (item ∷ items) each = rw (last_such-none test items each.1, each.0) refl
-
-pub last_such-is : {A : Type 0} (test : A → Bool) (before : List A) (item : A) (after : List A) → test item ≡ true → Each (λ other. test other ≡ false) after
-    → last_such test (before ++ item ∷ after) ≡ Some item
-last_such-is test [] item after passes fails = rw (last_such-none test after fails, passes) refl
-last_such-is test (first ∷ before) item after passes fails = rw (last_such-is test before item after passes fails) refl
-
-pub is_last : {A : Type 0} (test : A → Bool) (items : List A) (item : A) → last_such test items ≡ Some item → IsLast test items item
-is_last test [] item e = absurd (none-some item e)
-is_last {A} test (first ∷ items) item e = by_rest (last_such test items) refl e (test first) refl (is_last test items)
-  where
-    by_rest : (o : Option A) → last_such test items ≡ o → option_or o (cond (test first) (Some first) None) ≡ Some item → (b : Bool) → test first ≡ b
-      → ((x : A) → last_such test items ≡ Some x → IsLast test items x) → IsLast test (first ∷ items) item
-    by_rest (Some later) is e b t more =
-        let found = more item (is ∙ e) in
-        record { before = first ∷ found.before; after = found.after; split = ap (λ l. first ∷ l) found.split; passes = found.passes; fails = found.fails }
-    by_rest None is e true t more =
-        let same : first ≡ item = same_Some first item (rw t at e) in
-        record { before = []; after = items; split = ap (λ x. x ∷ items) same; passes = ap test (sym same) ∙ t; fails = none_passes test items is }
-    by_rest None is e false t more = absurd (none-some item (rw t at e))
+use Rattle.fm_model.proofs.LastLemmas.{option_map-some, option_map-none, none_passes, last_such-none, last_such-is, is_last}
 
 -- the test of a time among times
 pub has-in : (valid : ℤ) (times : List ℤ) → list_any (λ time. int_eq time valid) times ≡ true → In valid times
@@ -109,7 +57,7 @@ slice_get-place valid [] h = absurd h
 slice_get-place valid (time ∷ times) h = by_first (int_eq time valid) refl h (slice_get-place valid times)
   where
     by_first : (b : Bool) → int_eq time valid ≡ b → In valid (time ∷ times) → (In valid times → slice_get times (position_or_len (λ t. int_eq t valid) times) ≡ Some valid)
-      → slice_get (time ∷ times) (position_or_len (λ t. int_eq t valid) (time ∷ times)) ≡ Some valid
+        → slice_get (time ∷ times) (position_or_len (λ t. int_eq t valid) (time ∷ times)) ≡ Some valid
     by_first true is h more = rw is (ap Some ((signed_Decides time valid).0 is))
     by_first false is (inl same) more = absurd (both_ways (int_eq time valid) is ((signed_Decides time valid).1 same))
     by_first false is (inr later) more =
@@ -121,7 +69,7 @@ before_place valid [] k below e = absurd (omega arith)
 before_place valid (time ∷ times) k below e = by_first (int_eq time valid) refl k below e (before_place valid times)
   where
     by_first : (b : Bool) → int_eq time valid ≡ b → (k : ℕ) → k < position_or_len (λ t. int_eq t valid) (time ∷ times) → slice_get (time ∷ times) k ≡ Some valid
-      → ((j : ℕ) → j < position_or_len (λ t. int_eq t valid) times → slice_get times j ≡ Some valid → ⊥) → ⊥
+        → ((j : ℕ) → j < position_or_len (λ t. int_eq t valid) times → slice_get times j ≡ Some valid → ⊥) → ⊥
     by_first true is k below e more = let none : k < 0 = rw is at below in absurd (omega arith)
     by_first false is zero below e more = both_ways (int_eq time valid) is ((signed_Decides time valid).1 (same_Some time valid e))
     by_first false is (suc k) below e more = let less : suc k < 1 + position_or_len (λ t. int_eq t valid) times = rw is at below in more k (omega arith) e
@@ -180,8 +128,9 @@ no_cell_from_none files run valid each = rw (last_such-none (has_cell run valid)
 
 pub no_cell_both : (files : List Loaded) (run valid : ℤ) → (cell files run valid ≡ None) ↔ All (λ file. ¬ HasCell run valid file) files
 no_cell_both files run valid = (
-    λ e. All-from_each (λ file. ¬ HasCell run valid file) files (none_from_no_cell files run valid e),
-    λ all. no_cell_from_none files run valid (each_from_All (λ file. ¬ HasCell run valid file) files all))
+  λ e. All-from_each (λ file. ¬ HasCell run valid file) files (none_from_no_cell files run valid e),
+  λ all. no_cell_from_none files run valid (each_from_All (λ file. ¬ HasCell run valid file) files all),
+)
 
 -- a cell is of a file that is held
 pub held-from_cell : (files : List Loaded) (run valid : ℤ) (file : Loaded) (place : ℕ) → IsCell files run valid file place → In file files

@@ -112,10 +112,11 @@ cutoff_test cutoff run h = grind (arith, ints)
 pub Contains-expire : (files : List Loaded) (cutoff : ℤ) (file : Loaded) → Contains (after_op files (Expire cutoff)) file ↔ (Contains files file × cutoff ≤ℤ file.run)
 unfolding after_op kept_from
 Contains-expire files cutoff file = (
-    λ c.
-    let found = in_filter (λ (f : Loaded). int_le cutoff f.run) file files (in_from_Contains file (kept_from cutoff files) c) in
-    (Contains-from_in file files found.0, from_cutoff cutoff file.run found.1),
-    λ h. Contains-from_in file (kept_from cutoff files) (In-filter (λ (f : Loaded). int_le cutoff f.run) file files (in_from_Contains file files h.0) (cutoff_test cutoff file.run h.1)))
+  λ c.
+      let found = in_filter (λ (f : Loaded). int_le cutoff f.run) file files (in_from_Contains file (kept_from cutoff files) c) in
+      (Contains-from_in file files found.0, from_cutoff cutoff file.run found.1),
+  λ h. Contains-from_in file (kept_from cutoff files) (In-filter (λ (f : Loaded). int_le cutoff f.run) file files (in_from_Contains file files h.0) (cutoff_test cutoff file.run h.1)),
+)
 
 pub expire-append : (files more : List Loaded) (cutoff : ℤ) → after_op (files ++ more) (Expire cutoff) ≡ after_op files (Expire cutoff) ++ after_op more (Expire cutoff)
 unfolding after_op kept_from
@@ -138,8 +139,8 @@ differ_after : (files : List Loaded) (op : Op) → EachPair DifferInName files �
 unfolding after_op without kept_from
 differ_after files (Put file) differ =
     EachPair-push DifferInName (without file.name files) file (EachPair-filter DifferInName (λ (f : Loaded). not (named file.name f)) files differ)
-      (Each-from_in (λ other. DifferInName other file) (without file.name files) (λ other h e.
-      both_ways (named file.name other) (not-true (named file.name other) (in_filter (λ (f : Loaded). not (named file.name f)) other files h).1) (same_name file other e)))
+    (Each-from_in (λ other. DifferInName other file) (without file.name files) (λ other h e.
+    both_ways (named file.name other) (not-true (named file.name other) (in_filter (λ (f : Loaded). not (named file.name f)) other files h).1) (same_name file other e)))
 differ_after files (Expire cutoff) differ = EachPair-filter DifferInName (λ (f : Loaded). int_le cutoff f.run) files differ
 
 differ_from : (files : List Loaded) (ops : List Op) → EachPair DifferInName files → EachPair DifferInName (fold after_op files ops)

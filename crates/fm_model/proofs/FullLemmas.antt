@@ -11,7 +11,7 @@ use Rattle.fm_model.specs.declared.limit.TheConstants.{MAX_FILES, MAX_ROWS, MAX_
 use Rattle.fm_model.specs.declared.loaded.Loaded.{Loaded}
 use Rattle.fm_model.specs.declared.op.Op.{Op}
 use Rattle.fm_model.specs.Collection.{after_op, tally, full_of, full_at, number_of, limit_of, place_of, IsWithin, IsFirstPassed}
-use Rattle.fm_model.proofs.CellLemmas.{no_value}
+use Rattle.fm_model.proofs.LastLemmas.{no_value}
 
 -- which limit is passed first, if any
 abbrev passed : Which → Tally → TooMany
@@ -45,7 +45,7 @@ unfolding full_of
 answer_of held = by_tests (nat_lt MAX_FILES held.files) refl (nat_lt MAX_ROWS held.rows) refl (nat_lt MAX_BYTES held.size) refl
   where
     by_tests : (f : Bool) → nat_lt MAX_FILES held.files ≡ f → (r : Bool) → nat_lt MAX_ROWS held.rows ≡ r → (s : Bool) → nat_lt MAX_BYTES held.size ≡ s
-      → Answer held (cond f (Some (passed Files held)) (cond r (Some (passed Rows held)) (cond s (Some (passed Size held)) None)))
+        → Answer held (cond f (Some (passed Files held)) (cond r (Some (passed Rows held)) (cond s (Some (passed Size held)) None)))
     by_tests true f r _ s _ = some Files (record { held_is = refl; limit_is = refl; passed = ltb-true MAX_FILES held.files f; first = none_before_files held })
     by_tests false f true r s _ = some Rows (record { held_is = refl; limit_is = refl; passed = ltb-true MAX_ROWS held.rows r; first = before_rows held (ltb-false MAX_FILES held.files f) })
     by_tests false f false r true s = some Size (record { held_is = refl; limit_is = refl; passed = ltb-true MAX_BYTES held.size s; first = before_size held (ltb-false MAX_FILES held.files f) (ltb-false MAX_ROWS held.rows r) })

@@ -2,11 +2,16 @@ pub mod BestLemmas
 pub mod CellLemmas
 pub mod ChainLemmas
 pub mod CollectionLemmas
+pub mod FindLemmas
 pub mod FullLemmas
+pub mod GridLemmas
+pub mod LastLemmas
 pub mod LoadLemmas
 pub mod Members
+pub mod PlaceLemmas
 pub mod ProtoLemmas
 pub mod RisingLemmas
 pub mod RowLemmas
+pub mod RunLemmas
 pub mod SlotLemmas
 pub mod TimeLemmas

@@ -1,10 +1,10 @@
 -- What is known of a prototype.
-use Rattle.std.proofs.Common.{◌≡◌, ◌≢◌, ◌⊎◌, ℕ, ◌<◌, Bool, true, false, cond, not, ◌&&◌, ◌||◌, List, [], ◌∷◌, ◌++◌, drop, length, map, Option, Some, None, Ok, refl, sym, ap, subst, ◌∙◌, inl, inr, arith}
-use Rattle.std.specs.Prelude.{All, Any, IsTrue, filter, find, slice_get, slice_index, ◌==◌}
+use Rattle.std.proofs.Common.{◌≡◌, ◌≢◌, ℕ, ◌<◌, Bool, true, false, not, ◌&&◌, ◌||◌, List, [], ◌∷◌, ◌++◌, drop, map, Option, Some, None, Ok, refl, sym, ap, subst, ◌∙◌, inl, inr, arith}
+use Rattle.std.specs.Prelude.{All, IsTrue, slice_get, slice_index, ◌==◌}
 use Rattle.std.specs.Option.{option_map, option_map_or}
 use Rattle.std.specs.Str.{bytes_eq}
-use Rattle.std.proofs.lemmas.Bool.{and_cases, and_from, and_parts, both_ways, eq-eqb, eqb-false, eqb-true, false≢true, not-false, or_parts}
-use Rattle.std.proofs.lemmas.Option.{none-some, same_Some, slice_get-map}
+use Rattle.std.proofs.lemmas.Bool.{and_cases, and_parts, both_ways, eq-eqb, eqb-false, false≢true, not-false, or_parts}
+use Rattle.std.proofs.lemmas.Option.{slice_get-map}
 use Rattle.std.proofs.lemmas.Slice.Eq.{bytes_eq-Decides}
 use Rattle.fm_base.specs.declared.header.Dim.{Dim}
 use Rattle.fm_base.specs.declared.header.Header.{Header as FileHeader}
@@ -16,37 +16,11 @@ use Rattle.fm_model.specs.declared.proto.ProtoFault.TheVariants.{NoTimeAxis, Tim
 use Rattle.fm_model.specs.declared.proto.ProtoVar.{ProtoVar}
 use Rattle.fm_model.specs.declared.site.Site.{Site}
 use Rattle.fm_model.specs.Attribute.{is_char}
-use Rattle.fm_model.specs.Chain.{Check, ◌>>◌, refuse}
-use Rattle.fm_model.specs.Prototype.{sound_header, proto_axis, time_stands_first, is_plain_name, names_are_plain, is_reference, is_char_per_time, kept_vars, run_name, offset_name, names_are_free, dims_have_lengths, proto_var, with_length, proto_with, proto_of, LiesFirst, IsAxis, HasFreeName, IsSound}
-use Rattle.fm_model.specs.Variable.{is_named, is_coordinate, is_axis, has_standard_name, axis_of, dim_of_axis, lies_along, stands_first_alone}
+use Rattle.fm_model.specs.Prototype.{sound_header, proto_axis, time_stands_first, is_plain_name, names_are_plain, kept_vars, run_name, offset_name, names_are_free, dims_have_lengths, proto_var, with_length, proto_with, proto_of, LiesFirst, HasFreeName, IsSound}
+use Rattle.fm_model.specs.Variable.{is_named, is_coordinate, is_axis, axis_of, dim_of_axis, lies_along, stands_first_alone}
 use Rattle.fm_model.proofs.ChainLemmas.{step_ok, check_ok, ok_or_ok, same_Ok}
-use Rattle.fm_model.proofs.CellLemmas.{option_map-none, no_value}
-use Rattle.fm_model.proofs.Members.{In, Each, Each-in, Each-from_in, Each-weaker, All-from_each, Any-from_in, In-append_left, In-append_right, In-filter, in_filter, In-map, in_map}
-
--- the first item that passes is there, and passes
-in_find : {A : Type 0} (test : A → Bool) (items : List A) (item : A) → find test items ≡ Some item → In item items × (test item ≡ true)
-in_find test [] item e = absurd (none-some item e)
-in_find {A} test (first ∷ items) item e = by_test (test first) refl e (in_find test items item)
-  where
-    by_test : (b : Bool) → test first ≡ b → cond b (Some first) (find test items) ≡ Some item → (find test items ≡ Some item → In item items × (test item ≡ true)) → In item (first ∷ items) × (test item ≡ true)
-    by_test true is e more = let same = same_Some first item e in (inl same, ap test (sym same) ∙ is)
-    by_test false is e more = let found = more e in (inr found.0, found.1)
-
-find-none : {A : Type 0} (test : A → Bool) (items : List A) → find test items ≡ None → Each (λ item. test item ≡ false) items
-find-none test [] e = tt
-find-none {A} test (first ∷ items) e = by_test (test first) refl e (find-none test items)
-  where
-    by_test : (b : Bool) → test first ≡ b → cond b (Some first) (find test items) ≡ None → (find test items ≡ None → Each (λ item. test item ≡ false) items) → Each (λ item. test item ≡ false) (first ∷ items)
-    by_test true is e more = absurd (no_value first e)
-    by_test false is e more = (is, more e)
-
-not_refused : {E : Type 0} (o : Option E) → refuse o ≡ Ok tt → o ≡ None
-not_refused None e = refl
-not_refused (Some fault) e = absurd cc
-
--- no item is refused where none of them is the first
-each_passes : {A E : Type 0} (fault : A → E) (test : A → Bool) (items : List A) → refuse (option_map fault (find test items)) ≡ Ok tt → Each (λ item. test item ≡ false) items
-each_passes fault test items e = find-none test items (option_map-none fault (find test items) (not_refused (option_map fault (find test items)) e))
+use Rattle.fm_model.proofs.Members.{In, Each-in, Each-from_in, All-from_each, Any-from_in, In-append_left, In-append_right, In-filter, in_filter, In-map, in_map}
+use Rattle.fm_model.proofs.FindLemmas.{in_find, each_passes}
 
 -- the steps by which a prototype was taken
 pub record IsProto (bytes : List ℕ) (site : Site) (proto : Proto) : Type 0 where
@@ -127,13 +101,13 @@ module _ (bytes : List ℕ) (site : Site) (header : FileHeader) (axis : NcVar) w
   -- a fact of each variable that is shown, from one of each variable that is kept
   all_vars : (P : ProtoVar → Type 0) → ((var : NcVar) → In var (kept_vars header axis) → P (proto_var bytes header axis var)) → All P (map (proto_var bytes header axis) (kept_vars header axis))
   all_vars P each = All-from_each P _ (Each-from_in P _ (λ v h.
-    let found = in_map (proto_var bytes header axis) v (kept_vars header axis) h in
-    subst P found.2 (each found.0 found.1)))
+      let found = in_map (proto_var bytes header axis) v (kept_vars header axis) h in
+      subst P found.2 (each found.0 found.1)))
 
   all_dims : (P : Dim → Type 0) → ((dim : Dim) → In dim header.dims → P (with_length header dim)) → All P (map (with_length header) header.dims)
   all_dims P each = All-from_each P _ (Each-from_in P _ (λ d h.
-    let found = in_map (with_length header) d header.dims h in
-    subst P found.2 (each found.0 found.1)))
+      let found = in_map (with_length header) d header.dims h in
+      subst P found.2 (each found.0 found.1)))
 
   kept_is_held : (var : NcVar) → In var (kept_vars header axis) → In var header.vars
   unfolding kept_vars

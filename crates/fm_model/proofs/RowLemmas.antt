@@ -11,7 +11,8 @@ use Rattle.fm_model.specs.Cell.{runs_of, times_of, cell, best, IsBest}
 use Rattle.fm_model.specs.Rising.{Rises}
 use Rattle.fm_model.specs.Rows.{row_at, best_row, rows, instant_in, Shows, TellsFile}
 use Rattle.fm_model.proofs.BestLemmas.{value-from_some, rises_runs_of, rises_times_of, in_times_of, In-times_of, run_of_cell, time_of_cell, IsBest-from_best, best-from_file}
-use Rattle.fm_model.proofs.CellLemmas.{option_map-some, IsCell-from_cell, held-from_cell}
+use Rattle.fm_model.proofs.CellLemmas.{IsCell-from_cell, held-from_cell}
+use Rattle.fm_model.proofs.LastLemmas.{option_map-some}
 use Rattle.fm_model.proofs.Members.{In, Each, EachPair, Contains-from_in, in_from_Contains, in_map, In-filter_map, in_filter_map, Each-in, Each-from_in, AllPairs-from_each, Any-from_in, in_from_Any}
 use Rattle.fm_model.proofs.RisingLemmas.{Above}
 
@@ -51,11 +52,14 @@ rises_filter_map key make (t ∷ more) tells rises = by_first (make t) refl (ris
   where
     by_first : (o : Option Row) → make t ≡ o → EachPair Above (map key (filter_map make more)) → EachPair Above (map key (cons_option o (filter_map make more)))
     by_first None is others = others
-    by_first (Some row) is others = (Each-from_in _ _ (λ x h.
-      let mapped = in_map key x (filter_map make more) h in
-      let made = in_filter_map make mapped.0 more mapped.1 in
-      let same : x ≡ made.0 = sym mapped.2 ∙ tells made.0 mapped.0 made.2 in
-      subst (λ a. Above a x) (sym (tells t row is)) (subst (Above t) (sym same) (Each-in (Above t) made.0 more rises.0 made.1))), others)
+    by_first (Some row) is others = (
+      Each-from_in _ _ (λ x h.
+          let mapped = in_map key x (filter_map make more) h in
+          let made = in_filter_map make mapped.0 more mapped.1 in
+          let same : x ≡ made.0 = sym mapped.2 ∙ tells made.0 mapped.0 made.2 in
+          subst (λ a. Above a x) (sym (tells t row is)) (subst (Above t) (sym same) (Each-in (Above t) made.0 more rises.0 made.1))),
+      others,
+    )
 
 rows_rise : (files : List Loaded) (view : ViewName) → EachPair Above (map (instant_in view) (rows files view))
 unfolding rows
@@ -107,8 +111,9 @@ in_from_shown files (Forecast valid) row shown =
 
 pub Contains-rows : (files : List Loaded) (view : ViewName) (row : Row) → Contains (rows files view) row ↔ IsShown files view row
 Contains-rows files view row = (
-    λ c. shown_from_in files view row (in_from_Contains row (rows files view) c),
-    λ shown. Contains-from_in row (rows files view) (in_from_shown files view row shown))
+  λ c. shown_from_in files view row (in_from_Contains row (rows files view) c),
+  λ shown. Contains-from_in row (rows files view) (in_from_shown files view row shown),
+)
 
 -- where each item makes one that tells it, those that are made tell the list
 map-filter_map : (key : Row → ℤ) (make : ℤ → Option Row) (instants : List ℤ) → Each (λ t. IsSome (make t)) instants → ((t : ℤ) (row : Row) → make t ≡ Some row → key row ≡ t)

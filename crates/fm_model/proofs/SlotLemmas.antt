@@ -1,30 +1,27 @@
--- The variables and the slots of a file that was taken.
-use Rattle.std.proofs.Common.{◌≡◌, ℕ, zero, suc, ◌+◌, ◌*◌, ◌<◌, ◌≤◌, Bool, true, false, cond, not, ◌&&◌, ◌||◌, List, [], ◌∷◌, ◌++◌, length, take, drop, map, Result, Ok, refl, sym, ap, ap₂, subst, ◌∙◌, inl, inr, arith}
-use Rattle.std.specs.Prelude.{All, IsTrue, filter, slice_get, slice_index, nat_eq, nat_lt, ◌==◌}
-use Rattle.std.specs.List.{AllZip, common_prefix_len}
-use Rattle.std.specs.Option.{option_map_or}
+-- The slots of a file that was taken.
+use Rattle.std.proofs.Common.{◌≡◌, ℕ, suc, Bool, true, false, cond, not, ◌&&◌, ◌||◌, List, [], ◌∷◌, ◌++◌, length, Result, Ok, refl, sym, ap, ap₂, subst, ◌∙◌}
+use Rattle.std.specs.Prelude.{All, IsTrue, filter}
+use Rattle.std.specs.List.{AllZip}
 use Rattle.std.specs.Str.{bytes_eq}
-use Rattle.std.proofs.lemmas.Bool.{and_parts, eqb-true, false≢true, ltb-false, not-false}
+use Rattle.std.proofs.lemmas.Bool.{false≢true, not-false}
 use Rattle.std.proofs.lemmas.List.{append-nil, append_assoc}
 use Rattle.fm_base.specs.declared.header.Header.{Header as FileHeader}
 use Rattle.fm_base.specs.declared.header.NcVar.{NcVar}
-use Rattle.fm_base.specs.Kind.{size_of}
-use Rattle.fm_base.specs.Layout.{elements_of, fixed_shape, has_records, place_of, product, rank_in, record_size, shape_of, size_at}
-use Rattle.fm_base.specs.Reading.{names_record}
 use Rattle.fm_model.specs.declared.loaded.Loaded.{Loaded}
 use Rattle.fm_model.specs.declared.loaded.LoadFault.{LoadFault}
-use Rattle.fm_model.specs.declared.loaded.LoadFault.TheVariants.{VariableDiffers, GridDiffers}
+use Rattle.fm_model.specs.declared.loaded.LoadFault.TheVariants.{VariableDiffers}
 use Rattle.fm_model.specs.declared.loaded.Slot.{Slot}
 use Rattle.fm_model.specs.declared.proto.Proto.{Proto}
 use Rattle.fm_model.specs.declared.proto.ProtoVar.{ProtoVar}
-use Rattle.fm_model.specs.Chain.{Check, ◌>>=◌, ◌>>◌, refuse_if}
+use Rattle.fm_model.specs.Chain.{◌>>=◌, ◌>>◌, refuse_if}
 use Rattle.fm_model.specs.Load.{Fits}
 use Rattle.fm_model.specs.LoadAxis.{file_header, file_axis, file_var}
-use Rattle.fm_model.specs.LoadVars.{is_like_timed, is_like_fixed, slot_in, file_slot, same_bytes, same_grid, is_compared, slots_after, steps_from, file_slots, slotted_vars, IsSlotOf, IsSameGrid}
-use Rattle.fm_model.specs.Variable.{dim_of_axis, stands_first_alone, lies_along, is_coordinate}
-use Rattle.fm_model.proofs.ChainLemmas.{step_ok, refuse_if_ok, check_ok, passed_if, same_Ok}
+use Rattle.fm_model.specs.LoadVars.{is_like_timed, slot_in, file_slot, same_grid, is_compared, slots_after, steps_from, file_slots, slotted_vars, IsSlotOf, IsSameGrid}
+use Rattle.fm_model.specs.Variable.{is_coordinate}
+use Rattle.fm_model.proofs.ChainLemmas.{step_ok, refuse_if_ok, check_ok, same_Ok}
 use Rattle.fm_model.proofs.LoadLemmas.{IsTaken, IsTaken-load_of}
-use Rattle.fm_model.proofs.Members.{In, Each, Each-in, Each-from_in, All-from_each, In-filter}
+use Rattle.fm_model.proofs.Members.{Each, Each-in, Each-from_in, All-from_each, In-filter}
+use Rattle.fm_model.proofs.GridLemmas.{IsSameGrid-same_grid}
 
 -- a slot that was found is that of its variable
 IsSlotOf-file_slot : (proto : Proto) (header : FileHeader) (axis : NcVar) (wanted : ProtoVar) (slot : Slot) → file_slot proto header axis wanted ≡ Ok slot → IsSlotOf proto header axis wanted slot
@@ -33,30 +30,6 @@ IsSlotOf-file_slot proto header axis wanted slot e =
     let var = step_ok (file_var header wanted.name) (λ v. refuse_if (not (is_like_timed proto header axis wanted v)) (VariableDiffers wanted.name) >> Ok (slot_in header axis v)) slot e in
     let passed = refuse_if_ok (not (is_like_timed proto header axis wanted var.0)) (VariableDiffers wanted.name) (Ok (slot_in header axis var.0)) slot var.2 in
     record { var = var.0; named = var.1; like = not-false _ passed.0; slot_is = sym (same_Ok {E = LoadFault} (slot_in header axis var.0) slot passed.1) }
-
--- the first difference of two lists of bytes lies past the first list, so the second begins with it
-begins_with : (proto file : List ℕ) → length proto ≤ common_prefix_len nat_eq proto file → take (length proto) file ≡ proto
-begins_with [] file le = refl
-begins_with (a ∷ proto) [] le = absurd (omega arith)
-begins_with (a ∷ proto) (b ∷ file) le = by_first (nat_eq a b) refl le (begins_with proto file)
-  where
-    by_first : (same : Bool) → nat_eq a b ≡ same → suc (length proto) ≤ cond same (1 + common_prefix_len nat_eq proto file) 0
-      → (length proto ≤ common_prefix_len nat_eq proto file → take (length proto) file ≡ proto) → take (suc (length proto)) (b ∷ file) ≡ a ∷ proto
-    by_first true is le more = let first : a ≡ b = eqb-true a b is in let others = more (omega arith) in cc (first, others)
-    by_first false is le more = absurd (omega arith)
-
-begins-same_bytes : (name proto file : List ℕ) → same_bytes name proto file ≡ Ok tt → take (length proto) file ≡ proto
-unfolding same_bytes
-begins-same_bytes name proto file e =
-    let place : ℕ = common_prefix_len nat_eq proto file in
-    begins_with proto file (ltb-false place (length proto) (passed_if (nat_lt place (length proto)) (GridDiffers name place (slice_index proto place) (slice_index file place)) e))
-
-IsSameGrid-same_grid : (proto : Proto) (bytes : List ℕ) (header : FileHeader) (wanted : ProtoVar) → same_grid proto bytes header wanted ≡ Ok tt → IsSameGrid proto bytes header wanted
-unfolding same_grid
-IsSameGrid-same_grid proto bytes header wanted e =
-    let var = step_ok (file_var header wanted.name) (λ v. refuse_if (not (is_like_fixed proto header wanted v)) (VariableDiffers wanted.name) >> same_bytes wanted.name wanted.fixed (elements_of bytes header v)) tt e in
-    let passed = refuse_if_ok (not (is_like_fixed proto header wanted var.0)) (VariableDiffers wanted.name) (same_bytes wanted.name wanted.fixed (elements_of bytes header var.0)) tt var.2 in
-    record { var = var.0; named = var.1; like = not-false _ passed.0; elements = begins-same_bytes wanted.name wanted.fixed (elements_of bytes header var.0) passed.1 }
 
 AllZip-push : {A B : Type 0} (R : A → B → Type 0) (as' : List A) (bs : List B) (a : A) (b : B) → AllZip R as' bs → R a b → AllZip R (as' ++ a ∷ []) (bs ++ b ∷ [])
 AllZip-push R [] [] a b zip r = (r, tt)
@@ -81,7 +54,7 @@ unfolding slots_after
 IsNextVar-slots_after proto bytes header axis found wanted next e = by_kind wanted.timed refl e
   where
     by_kind : (timed : Bool) → wanted.timed ≡ timed → cond timed (file_slot proto header axis wanted >>= λ slot. Ok (found ++ slot ∷ [])) (same_grid proto bytes header wanted >> Ok found) ≡ Ok next
-      → IsNextVar proto bytes header axis found wanted next
+        → IsNextVar proto bytes header axis found wanted next
     by_kind true is e =
         let slot = step_ok (file_slot proto header axis wanted) (λ s. Ok (found ++ s ∷ [])) next e in
         record {
@@ -119,14 +92,14 @@ slots_zip proto bytes header axis done (wanted ∷ wanteds) found all zip e =
     by_kind wanted.timed refl next.0 is next.2 (slots_zip proto bytes header axis (done ++ wanted ∷ []) wanteds next.0 all) (slots_zip proto bytes header axis done wanteds next.0 all)
   where
     by_kind : (timed : Bool) → wanted.timed ≡ timed → (next : List Slot) → IsNextVar proto bytes header axis found wanted next
-      → steps_from (slots_after proto bytes header axis) wanteds next ≡ Ok all
-      → (AllZip (IsSlotOf proto header axis) (done ++ wanted ∷ []) next → steps_from (slots_after proto bytes header axis) wanteds next ≡ Ok all → AllZip (IsSlotOf proto header axis) (done ++ wanted ∷ [] ++ filter is_timed wanteds) all)
-      → (AllZip (IsSlotOf proto header axis) done next → steps_from (slots_after proto bytes header axis) wanteds next ≡ Ok all → AllZip (IsSlotOf proto header axis) (done ++ filter is_timed wanteds) all)
-      → AllZip (IsSlotOf proto header axis) (done ++ cond timed (wanted ∷ filter is_timed wanteds) (filter is_timed wanteds)) all
+        → steps_from (slots_after proto bytes header axis) wanteds next ≡ Ok all
+        → (AllZip (IsSlotOf proto header axis) (done ++ wanted ∷ []) next → steps_from (slots_after proto bytes header axis) wanteds next ≡ Ok all → AllZip (IsSlotOf proto header axis) (done ++ wanted ∷ [] ++ filter is_timed wanteds) all)
+        → (AllZip (IsSlotOf proto header axis) done next → steps_from (slots_after proto bytes header axis) wanteds next ≡ Ok all → AllZip (IsSlotOf proto header axis) (done ++ filter is_timed wanteds) all)
+        → AllZip (IsSlotOf proto header axis) (done ++ cond timed (wanted ∷ filter is_timed wanteds) (filter is_timed wanteds)) all
     by_kind true is next var e with_slot without_slot =
         let slot = var.slot is in
         subst (λ l. AllZip (IsSlotOf proto header axis) l all) (append_assoc done (wanted ∷ []) (filter is_timed wanteds))
-          (with_slot (subst (AllZip (IsSlotOf proto header axis) (done ++ wanted ∷ [])) (sym slot.2) (AllZip-push (IsSlotOf proto header axis) done found wanted slot.0 zip slot.1)) e)
+        (with_slot (subst (AllZip (IsSlotOf proto header axis) (done ++ wanted ∷ [])) (sym slot.2) (AllZip-push (IsSlotOf proto header axis) done found wanted slot.0 zip slot.1)) e)
     by_kind false is next var e with_slot without_slot =
         without_slot (subst (AllZip (IsSlotOf proto header axis) done) (sym (var.grid is).1) zip) e
 
@@ -165,7 +138,7 @@ slots_taken : (file : Loaded) (proto : Proto) (t : IsTaken file.name file.conten
 unfolding file_slots
 slots_taken file proto t =
     subst (λ l. AllZip (IsSlotOf proto t.header t.axis) l file.slots) (slotted_are_compared proto)
-      (slots_zip proto file.content t.header t.axis [] (filter (is_compared proto) proto.vars) [] file.slots tt t.slots_is)
+    (slots_zip proto file.content t.header t.axis [] (filter (is_compared proto) proto.vars) [] file.slots tt t.slots_is)
 
 pub slots_count : (file : Loaded) (proto : Proto) → Fits file proto → length file.slots ≡ length (slotted_vars proto)
 slots_count file proto fits =
@@ -189,37 +162,4 @@ same_grids file proto header fits e =
     let each = grids proto file.content t.header t.axis (filter (is_compared proto) proto.vars) [] file.slots t.slots_is in
     let Same : ProtoVar → Type 0 = λ (w : ProtoVar). IsTrue (is_compared proto w) → w.timed ≡ false → IsSameGrid proto file.content header w in
     All-from_each Same proto.vars (Each-from_in Same proto.vars (λ wanted held compared no.
-      subst (λ x. IsSameGrid proto file.content x wanted) h (Each-in (λ (w : ProtoVar). w.timed ≡ false → IsSameGrid proto file.content t.header w) wanted (filter (is_compared proto) proto.vars) each (In-filter (is_compared proto) wanted proto.vars held compared) no)))
-
--- the place of an element by the slot of its variable
-place_by_slot : (header : FileHeader) (axis var : NcVar) (first : ℕ) (others : List ℕ) (k : ℕ) (index : List ℕ) → var.dims ≡ first ∷ others → first ≡ dim_of_axis axis
-    → place_of header var (k ∷ index) ≡ (slot_in header axis var).begin + k * (slot_in header axis var).step + size_of var.kind * rank_in (drop 1 (shape_of header var)) index
-unfolding place_of slot_in rank_in product
-place_by_slot header axis var first others k index dims same = by_record (names_record header.dims first) refl
-  where
-    records_is : has_records header var ≡ names_record header.dims first
-    records_is = ap (λ (l : List ℕ). option_map_or (names_record header.dims) (slice_get l 0) false) dims
-
-    shape_is : shape_of header var ≡ size_at header first ∷ map (size_at header) others
-    shape_is = ap (map (size_at header)) dims
-
-    by_record : (b : Bool) → names_record header.dims first ≡ b
-      → place_of header var (k ∷ index) ≡ (slot_in header axis var).begin + k * (slot_in header axis var).step + size_of var.kind * rank_in (drop 1 (shape_of header var)) index
-    by_record true is =
-        let has : has_records header var ≡ true = records_is ∙ is in
-        let along : names_record header.dims (dim_of_axis axis) ≡ true = ap (names_record header.dims) (sym same) ∙ is in
-        rw (has, along) refl
-    by_record false is =
-        let has : has_records header var ≡ false = records_is ∙ is in
-        let along : names_record header.dims (dim_of_axis axis) ≡ false = ap (names_record header.dims) (sym same) ∙ is in
-        rw (has, along, shape_is) (omega arith)
-
-pub slots_tell : (header : FileHeader) (axis var : NcVar) (k : ℕ) (index : List ℕ) → IsTrue (stands_first_alone (dim_of_axis axis) var.dims)
-    → place_of header var (k ∷ index) ≡ (slot_in header axis var).begin + k * (slot_in header axis var).step + size_of var.kind * rank_in (drop 1 (shape_of header var)) index
-unfolding stands_first_alone
-slots_tell header axis var k index alone = by_dims var.dims refl alone
-  where
-    by_dims : (dims : List ℕ) → var.dims ≡ dims → IsTrue (stands_first_alone (dim_of_axis axis) dims)
-      → place_of header var (k ∷ index) ≡ (slot_in header axis var).begin + k * (slot_in header axis var).step + size_of var.kind * rank_in (drop 1 (shape_of header var)) index
-    by_dims [] is alone = absurd (false≢true alone)
-    by_dims (first ∷ others) is alone = place_by_slot header axis var first others k index is (eqb-true first (dim_of_axis axis) (and_parts (first == dim_of_axis axis) (not (lies_along (dim_of_axis axis) others)) alone).0)
+    subst (λ x. IsSameGrid proto file.content x wanted) h (Each-in (λ (w : ProtoVar). w.timed ≡ false → IsSameGrid proto file.content t.header w) wanted (filter (is_compared proto) proto.vars) each (In-filter (is_compared proto) wanted proto.vars held compared) no)))

@@ -1,70 +1,32 @@
--- The run and the times of a file that was taken.
-use Rattle.std.proofs.Common.{◌≡◌, ◌≢◌, ℕ, zero, suc, ◌+◌, ◌<◌, ◌≤◌, Bool, true, false, not, ◌&&◌, List, [], ◌∷◌, ◌++◌, length, Option, Some, None, Result, Ok, Err, ℤ, ◌≤ℤ◌, ◌-ℤ◌, map, refl, sym, ap, ap₂, subst, ◌∙◌, inl, inr, zero-add, arith}
-use Rattle.std.specs.Prelude.{All, AllPairs, slice_get, int_le, neg_ℤ}
+-- The times of a file that was taken.
+use Rattle.std.proofs.Common.{◌≡◌, ◌≢◌, ℕ, zero, suc, ◌+◌, ◌<◌, ◌≤◌, false, not, List, [], ◌∷◌, ◌++◌, length, Some, Result, Ok, ℤ, refl, sym, ap, ap₂, subst, ◌∙◌, inl, inr, zero-add, arith}
+use Rattle.std.specs.Prelude.{All, AllPairs, slice_get}
 use Rattle.std.specs.List.{list_any}
 use Rattle.std.specs.Ordering.{int_eq}
 use Rattle.std.specs.Option.{ok_or}
 use Rattle.std.specs.Result.{result_ok}
-use Rattle.std.proofs.lemmas.Bool.{and_parts, both_ways, cases_order, eqb-false, ltb-false, not-false}
-use Rattle.std.proofs.lemmas.Int.{ints}
+use Rattle.std.proofs.lemmas.Bool.{both_ways, cases_order, eqb-false, ltb-false}
 use Rattle.std.proofs.lemmas.List.{length-append}
 use Rattle.fm_base.specs.declared.header.Header.{Header as FileHeader}
 use Rattle.fm_base.specs.declared.header.NcVar.{NcVar}
 use Rattle.fm_base.specs.declared.units.Units.{Units as TimeUnits}
 use Rattle.fm_base.specs.Layout.{size_at}
-use Rattle.fm_base.specs.Stamp.{mark_of}
-use Rattle.fm_model.specs.declared.limit.TheConstants.{MAX_INSTANT, MAX_TIMES}
+use Rattle.fm_model.specs.declared.limit.TheConstants.{MAX_TIMES}
 use Rattle.fm_model.specs.declared.loaded.Loaded.{Loaded}
 use Rattle.fm_model.specs.declared.loaded.LoadFault.{LoadFault}
-use Rattle.fm_model.specs.declared.loaded.LoadFault.TheVariants.{NoRunTime, NotWhole, TimeRange, RunNotWhole}
+use Rattle.fm_model.specs.declared.loaded.LoadFault.TheVariants.{NotWhole, TimeRange}
 use Rattle.fm_model.specs.declared.proto.Proto.{Proto}
 use Rattle.fm_model.specs.declared.site.Site.{Site}
 use Rattle.fm_model.specs.Chain.{◌>>◌, refuse_if}
 use Rattle.fm_model.specs.Load.{Fits}
 use Rattle.fm_model.specs.LoadAxis.{file_header, file_axis}
-use Rattle.fm_model.specs.LoadTimes.{file_units, seconds_at, from_epoch, is_instant, run_in_range, run_by, run_by_variable, run_by_name, file_run, time_count, time_at, times_from, file_times, IsInstant}
-use Rattle.fm_model.specs.Variable.{dim_of_axis, reference_of}
+use Rattle.fm_model.specs.LoadTimes.{file_units, seconds_at, from_epoch, is_instant, time_count, time_at, times_from, file_times, IsInstant}
+use Rattle.fm_model.specs.Variable.{dim_of_axis}
 use Rattle.fm_model.proofs.CellLemmas.{in-has}
 use Rattle.fm_model.proofs.ChainLemmas.{step_ok, refuse_if_ok, same_Ok}
 use Rattle.fm_model.proofs.LoadLemmas.{IsTaken, IsTaken-load_of}
 use Rattle.fm_model.proofs.Members.{In, Each, EachPair, Each-from_in, Each-push, EachPair-push, All-from_each, AllPairs-from_each}
-
-at_most_from_test : (a b : ℤ) → int_le a b ≡ true → a ≤ℤ b
-at_most_from_test a b e = grind (arith, ints)
-
-pub IsInstant-from_test : (seconds : ℤ) → not (is_instant seconds) ≡ false → IsInstant seconds
-unfolding is_instant
-IsInstant-from_test seconds e =
-    let parts = and_parts (int_le (neg_ℤ MAX_INSTANT) seconds) (int_le seconds MAX_INSTANT) (not-false _ e) in
-    record { low = at_most_from_test (neg_ℤ MAX_INSTANT) seconds parts.0; high = at_most_from_test seconds MAX_INSTANT parts.1 }
-
-IsInstant-run_in_range : (seconds run : ℤ) → run_in_range seconds ≡ Ok run → IsInstant run
-unfolding run_in_range
-IsInstant-run_in_range seconds run e =
-    let passed = refuse_if_ok (not (is_instant seconds)) _ (Ok seconds) run e in
-    subst IsInstant (same_Ok {E = LoadFault} seconds run passed.1) (IsInstant-from_test seconds passed.0)
-
-IsInstant-by_variable : (site : Site) (bytes : List ℕ) (header : FileHeader) (var : NcVar) (run : ℤ) → run_by_variable site bytes header var ≡ Ok run → IsInstant run
-unfolding run_by_variable
-IsInstant-by_variable site bytes header var run e =
-    let passed = refuse_if_ok _ _ _ run e in
-    let units = step_ok (file_units var) _ run passed.1 in
-    let seconds = step_ok (ok_or (seconds_at bytes header var units.0 (map (λ id. 0) var.dims)) RunNotWhole) (λ s. run_in_range (from_epoch site units.0 s)) run units.2 in
-    IsInstant-run_in_range (from_epoch site units.0 seconds.0) run seconds.2
-
-IsInstant-by_name : (site : Site) (name : List ℕ) (run : ℤ) → run_by_name site name ≡ Ok run → IsInstant run
-unfolding run_by_name
-IsInstant-by_name site name run e =
-    let moment = step_ok (ok_or (mark_of name site.mark) NoRunTime) (λ m. run_in_range (m -ℤ site.epoch)) run e in
-    IsInstant-run_in_range (moment.0 -ℤ site.epoch) run moment.2
-
-IsInstant-file_run : (site : Site) (name bytes : List ℕ) (header : FileHeader) (run : ℤ) → file_run site name bytes header ≡ Ok run → IsInstant run
-unfolding file_run
-IsInstant-file_run site name bytes header run e = by_reference (reference_of header) e
-  where
-    by_reference : (o : Option NcVar) → run_by site name bytes header o ≡ Ok run → IsInstant run
-    by_reference (Some var) e = IsInstant-by_variable site bytes header var run e
-    by_reference None e = IsInstant-by_name site name run e
+use Rattle.fm_model.proofs.RunLemmas.{IsInstant-from_test, IsInstant-file_run}
 
 -- the number of times
 pub record IsCount (header : FileHeader) (axis : NcVar) (count : ℕ) : Type 0 where

@@ -1,11 +1,10 @@
 -- Small files for worked examples. Instants are seconds from the epoch; 21600 seconds are six hours.
 use Rattle.std.specs.Prelude.{ℕ, List, [], ◌∷◌, codes, ℤ, pos}
-use Rattle.fm_base.specs.declared.header.Dim.{Dim}
 use Rattle.fm_base.specs.declared.header.Attr.{Attr}
 use Rattle.fm_base.specs.declared.header.Header.{Header}
 use Rattle.fm_base.specs.declared.header.NcVar.{NcVar}
 use Rattle.fm_base.specs.declared.kind.Kind.{Kind}
-use Rattle.fm_base.specs.declared.kind.Kind.TheVariants.{Char, Int, Float, Double}
+use Rattle.fm_base.specs.declared.kind.Kind.TheVariants.{Char, Int, Float}
 use Rattle.fm_base.specs.declared.units.Units.{Units}
 use Rattle.fm_model.specs.declared.loaded.Loaded.{Loaded}
 use Rattle.fm_model.specs.declared.row.Row.{Row}

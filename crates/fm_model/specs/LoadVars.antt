@@ -1,5 +1,5 @@
 -- The variables of a file beside those of the prototype, and where their data lies.
-use Rattle.std.specs.Prelude.{◌≡◌, IsTrue, take, ℕ, ◌*◌, List, [], ◌∷◌, ◌++◌, length, drop, map, filter, slice_get, slice_index, Bool, false, not, ◌&&◌, ◌||◌, ◌==◌, nat_eq, nat_lt, if◌then◌else◌, Result, Ok}
+use Rattle.std.specs.Prelude.{◌≡◌, IsTrue, take, ℕ, ◌*◌, List, [], ◌∷◌, ◌++◌, length, drop, map, filter, slice_get, slice_index, Bool, not, ◌&&◌, ◌||◌, nat_eq, nat_lt, if◌then◌else◌, Result, Ok}
 use Rattle.std.specs.List.{common_prefix_len}
 use Rattle.std.specs.Option.{option_map_or}
 use Rattle.std.specs.Str.{bytes_eq}

@@ -54,7 +54,7 @@ pub fn a_fit_file_has_the_times_of_its_axis()
         → file_header file.content ≡ Ok header → file_axis proto header ≡ Ok axis
         → file_units axis ≡ Ok units → k < length file.times
         → slice_get file.times k
-            ≡ result_ok (time_at proto.site file.content header axis units k) }
+        ≡ result_ok (time_at proto.site file.content header axis units k) }
 {}
 
 /// A file that fits has one slot for each variable along the axis but for the axis itself, in the prototype's order.
@@ -72,7 +72,7 @@ pub fn a_fit_file_has_the_same_grid()
     ensures { (file : Loaded) (proto : Proto) (header : FileHeader) → Fits file proto
         → file_header file.content ≡ Ok header
         → All (λ (wanted : ProtoVar). IsTrue (is_compared proto wanted)
-            → wanted.timed ≡ false → IsSameGrid proto file.content header wanted) proto.vars }
+        → wanted.timed ≡ false → IsSameGrid proto file.content header wanted) proto.vars }
 {}
 
 /// A slot tells where each element of its variable lies: at the k-th time they begin at `begin + k * step`, and follow
@@ -81,6 +81,6 @@ pub fn slots_tell_places()
     ensures { (header : FileHeader) (axis var : NcVar) (k : ℕ) (index : List ℕ) →
         IsTrue (stands_first_alone (dim_of_axis axis) var.dims)
         → place_of header var (k ∷ index)
-            ≡ (slot_in header axis var).begin + k * (slot_in header axis var).step
-                + size_of var.kind * rank_in (drop 1 (shape_of header var)) index }
+        ≡ (slot_in header axis var).begin + k * (slot_in header axis var).step
+        + size_of var.kind * rank_in (drop 1 (shape_of header var)) index }
 {}

@@ -20,7 +20,7 @@ pub fn rows_are_the_cells_shown()
     ensures { (files : List Loaded) (view : ViewName) (row : Row) →
         Contains (rows files view) row
         ↔ ((cell files row.run row.valid ≡ Some (row.file, row.place))
-            × Shows files view row.run row.valid) }
+        × Shows files view row.run row.valid) }
 {}
 
 /// Each valid time that any file has stands once in the best time series, in rising order, from the greatest run that has

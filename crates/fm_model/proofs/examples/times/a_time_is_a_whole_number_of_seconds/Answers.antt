@@ -5,7 +5,7 @@ use Rattle.fm_base.specs.Layout.{element, place_of, product, rank_in, record_siz
 use Rattle.fm_base.specs.Pattern.{finite, value_of_fields}
 use Rattle.fm_base.specs.Reading.{names_record}
 use Rattle.fm_model.specs.LoadTimes.{is_instant, seconds_at, time_at}
-use Rattle.fm_model.proofs.examples.a_time_is_a_whole_number_of_seconds.Goals as goal
+use Rattle.fm_model.proofs.examples.times.a_time_is_a_whole_number_of_seconds.Goals as goal
 
 pub returns-clause-half : goal.returns-clause-half
 unfolding element place_of product rank_in record_size slab_size finite value_of_fields names_record count_trailing_zeros is_instant seconds_at time_at

@@ -5,7 +5,7 @@ use Rattle.fm_base.specs.Layout.{element, place_of, product, rank_in, record_siz
 use Rattle.fm_base.specs.Pattern.{finite, value_of_fields}
 use Rattle.fm_base.specs.Reading.{names_record}
 use Rattle.fm_model.specs.LoadTimes.{is_instant, seconds_at, time_at, file_times, times_from}
-use Rattle.fm_model.proofs.examples.a_repeated_time_is_refused.Goals as goal
+use Rattle.fm_model.proofs.examples.times.a_repeated_time_is_refused.Goals as goal
 
 pub returns : goal.returns
 unfolding element place_of product rank_in record_size slab_size finite value_of_fields names_record count_trailing_zeros is_instant seconds_at time_at file_times times_from

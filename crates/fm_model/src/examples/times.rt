@@ -1,0 +1,33 @@
+//! Times of a file. The epoch is 2020-01-01T00:00:00Z, and so is the origin of the units.
+ghost use Rattle.std.specs.Prelude.{◌≡◌, [], ◌∷◌, Ok, Err, pos};
+ghost use Rattle.fm_base.specs.declared.kind.Kind.TheVariants.{Double, Int};
+ghost use Rattle.fm_model.specs.declared.loaded.LoadFault.TheVariants.{NotWhole, TimeRange, TimeRepeated};
+ghost use Rattle.fm_model.specs.Example.{site, since_epoch, times_var, times_header};
+ghost use Rattle.fm_model.specs.LoadTimes.{file_times, time_at};
+
+/// A time is taken up to 2^30 - 1 seconds from the epoch, and not one second further.
+pub fn a_time_is_taken_up_to_the_range()
+    ensures last { time_at site (63 ∷ 255 ∷ 255 ∷ 255 ∷ []) (times_header 1 (times_var Int []))
+        (times_var Int []) (since_epoch 1) 0
+        ≡ Ok (pos 1073741823) }
+    ensures past { time_at site (64 ∷ 0 ∷ 0 ∷ 0 ∷ []) (times_header 1 (times_var Int []))
+        (times_var Int []) (since_epoch 1) 0
+        ≡ Err (TimeRange 0 (pos 1073741824)) }
+{}
+
+/// Half an hour is 1800 seconds, and a third of an hour in binary is no whole number of them.
+pub fn a_time_is_a_whole_number_of_seconds()
+    ensures half { time_at site (63 ∷ 224 ∷ 0 ∷ 0 ∷ 0 ∷ 0 ∷ 0 ∷ 0 ∷ [])
+        (times_header 1 (times_var Double [])) (times_var Double []) (since_epoch 3600) 0
+        ≡ Ok (pos 1800) }
+    ensures third { time_at site (63 ∷ 213 ∷ 85 ∷ 85 ∷ 85 ∷ 85 ∷ 85 ∷ 85 ∷ [])
+        (times_header 1 (times_var Double [])) (times_var Double []) (since_epoch 3600) 0
+        ≡ Err (NotWhole 0) }
+{}
+
+/// The second of two equal times is refused.
+pub fn a_repeated_time_is_refused()
+    ensures { file_times site (0 ∷ 0 ∷ 0 ∷ 9 ∷ 0 ∷ 0 ∷ 0 ∷ 9 ∷ [])
+        (times_header 2 (times_var Int [])) (times_var Int []) (since_epoch 1) 2
+        ≡ Err (TimeRepeated 1) }
+{}
