@@ -11,6 +11,8 @@ mod op;
 mod proto;
 mod row;
 mod site;
+#[cfg(test)]
+mod tests;
 
 pub use full::{Full, Tally, Which};
 pub use limit::{MAX_BYTES, MAX_FILES, MAX_INSTANT, MAX_ROWS, MAX_TIMES};
