@@ -1,5 +1,5 @@
 -- The first limit that is passed.
-use Rattle.std.proofs.Common.{◌≡◌, ◌↔◌, ℕ, ◌<◌, ◌≤◌, Bool, true, false, cond, List, Option, Some, None, refl, sym, ap, ap₂, subst, ◌∙◌, inl, inr, arith}
+use Rattle.std.proofs.Common.{◌≡◌, ◌≢◌, ◌↔◌, ℕ, ◌+◌, ◌<◌, ◌≤◌, length, All, AllPairs, Any, Bool, true, false, cond, List, Option, Some, None, refl, sym, ap, ap₂, subst, ◌∙◌, inl, inr, arith}
 use Rattle.std.specs.Prelude.{nat_lt}
 use Rattle.std.proofs.lemmas.Bool.{ltb-true, ltb-false, cases_order}
 use Rattle.std.proofs.lemmas.Option.{none-some, same_Some}
@@ -10,7 +10,9 @@ use Rattle.fm_model.specs.declared.full.Which.TheVariants.{Files, Rows, Size}
 use Rattle.fm_model.specs.declared.limit.TheConstants.{MAX_FILES, MAX_ROWS, MAX_BYTES}
 use Rattle.fm_model.specs.declared.loaded.Loaded.{Loaded}
 use Rattle.fm_model.specs.declared.op.Op.{Op}
-use Rattle.fm_model.specs.Collection.{after_op, tally, full_of, full_at, number_of, limit_of, place_of, IsWithin, IsFirstPassed}
+use Rattle.fm_model.specs.declared.op.Op.TheVariants.{Put}
+use Rattle.fm_model.specs.Collection.{DifferInName, after_op, tally, full_of, full_at, number_of, limit_of, place_of, IsWithin, IsFirstPassed}
+use Rattle.fm_model.proofs.CollectionLemmas.{length-put_held, length-put_new}
 use Rattle.fm_model.proofs.LastLemmas.{no_value}
 
 -- which limit is passed first, if any
@@ -98,3 +100,20 @@ full_at-none files op = full_none (tally (after_op files op))
 pub full_at-some : (files : List Loaded) (op : Op) (full : TooMany) → (full_at files op ≡ Some full) ↔ IsFirstPassed (tally (after_op files op)) full
 unfolding full_at
 full_at-some files op full = full_some (tally (after_op files op)) full
+
+pub full-new : (files : List Loaded) (file : Loaded) → length files ≡ MAX_FILES → All (DifferInName file) files
+    → full_at files (Put file) ≡ Some (record { which = Files; held = MAX_FILES + 1; limit = MAX_FILES })
+unfolding tally
+full-new files file most new =
+    let more : length (after_op files (Put file)) ≡ MAX_FILES + 1 = length-put_new files file new ∙ ap (λ n. n + 1) most in
+    (full_at-some files (Put file) (record { which = Files; held = MAX_FILES + 1; limit = MAX_FILES })).1 (record { held_is = sym more; limit_is = refl; passed = omega arith; first = λ which lt. absurd (omega arith) })
+
+pub full-held : (files : List Loaded) (file : Loaded) (full : TooMany) → length files ≤ MAX_FILES → AllPairs DifferInName files → Any (λ (other : Loaded). other.name ≡ file.name) files
+    → full_at files (Put file) ≡ Some full → full.which ≢ Files
+unfolding tally
+full-held files file full most differ held e same =
+    let first = (full_at-some files (Put file) full).0 e in
+    let count : full.held ≡ length (after_op files (Put file)) = first.held_is ∙ ap (λ w. number_of w (tally (after_op files (Put file)))) same in
+    let limit : full.limit ≡ MAX_FILES = first.limit_is ∙ ap limit_of same in
+    let as_many = length-put_held files file differ held in
+    omega (arith, first.passed, count, limit, as_many)

@@ -14,4 +14,5 @@ pub mod RisingLemmas
 pub mod RowLemmas
 pub mod RunLemmas
 pub mod SlotLemmas
+pub mod TextLemmas
 pub mod TimeLemmas

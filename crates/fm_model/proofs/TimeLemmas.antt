@@ -20,7 +20,7 @@ use Rattle.fm_model.specs.declared.site.Site.{Site}
 use Rattle.fm_model.specs.Chain.{◌>>◌, refuse_if}
 use Rattle.fm_model.specs.Load.{Fits}
 use Rattle.fm_model.specs.LoadAxis.{file_header, file_axis}
-use Rattle.fm_model.specs.LoadTimes.{file_units, seconds_at, from_epoch, is_instant, time_count, time_at, times_from, file_times, IsInstant}
+use Rattle.fm_model.specs.LoadTimes.{file_units, file_run, seconds_at, from_epoch, is_instant, time_count, time_at, times_from, file_times, IsInstant}
 use Rattle.fm_model.specs.Variable.{dim_of_axis}
 use Rattle.fm_model.proofs.CellLemmas.{in-has}
 use Rattle.fm_model.proofs.ChainLemmas.{step_ok, refuse_if_ok, same_Ok}
@@ -192,3 +192,8 @@ times_each file proto header axis units k fits e d u lt =
     let a = same_axis proto t.header header t.axis axis h t.axis_is d in
     let w = same_units t.axis axis t.units units a t.units_is u in
     (HasTimes-taken file proto t).each k lt ∙ ap₂ (λ (x : FileHeader) (y : NcVar). result_ok (time_at proto.site file.content x y t.units k)) h a ∙ ap (λ (v : TimeUnits). result_ok (time_at proto.site file.content header axis v k)) w
+
+pub run_named : (file : Loaded) (proto : Proto) (header : FileHeader) → Fits file proto → file_header file.content ≡ Ok header → file_run proto.site file.name file.content header ≡ Ok file.run
+run_named file proto header fits e =
+    let t = fit file proto fits in
+    ap (file_run proto.site file.name file.content) (sym (same_header file.content t.header header t.header_is e)) ∙ t.run_is

@@ -63,3 +63,17 @@ field_header = record {
   attrs = [];
   vars = record { name = codes "time"; dims = 0 ∷ []; attrs = []; kind = Int; begin = 292 } ∷ field_var ∷ [];
 }
+
+-- a variable of whole numbers over dimensions of these numbers
+abbrev pub number_var : List ℕ → List ℕ → NcVar
+number_var name dims = record { name = name; dims = dims; attrs = []; kind = Int; begin = 0 }
+
+-- a time axis over two times, a dimension of this name and length, and one more variable
+abbrev pub header_with : List ℕ → ℕ → NcVar → Header
+header_with name size var = record {
+  version = 1;
+  numrecs = 0;
+  dims = record { name = codes "time"; size = 2 } ∷ record { name = name; size = size } ∷ [];
+  attrs = [];
+  vars = times_var Int [] ∷ var ∷ [];
+}

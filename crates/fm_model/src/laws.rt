@@ -1,5 +1,6 @@
 //! What a reader believes of the definitions, each as the contract of a call that does nothing.
 
+pub mod attribute;
 pub mod cell;
 pub mod collection;
 pub mod load;

@@ -1,9 +1,9 @@
 //! Times of a file. The epoch is 2020-01-01T00:00:00Z, and so is the origin of the units.
-ghost use Rattle.std.specs.Prelude.{◌≡◌, [], ◌∷◌, Ok, Err, pos};
+ghost use Rattle.std.specs.Prelude.{◌≡◌, [], ◌∷◌, Ok, Err, codes, pos};
 ghost use Rattle.fm_base.specs.declared.kind.Kind.TheVariants.{Double, Int};
-ghost use Rattle.fm_model.specs.declared.loaded.LoadFault.TheVariants.{NotWhole, TimeRange, TimeRepeated};
+ghost use Rattle.fm_model.specs.declared.loaded.LoadFault.TheVariants.{NoRunTime, NotWhole, TimeRange, TimeRepeated};
 ghost use Rattle.fm_model.specs.Example.{site, since_epoch, times_var, times_header};
-ghost use Rattle.fm_model.specs.LoadTimes.{file_times, time_at};
+ghost use Rattle.fm_model.specs.LoadTimes.{file_times, run_by_name, time_at};
 
 /// A time is taken up to 2^30 - 1 seconds from the epoch, and not one second further.
 pub fn a_time_is_taken_up_to_the_range()
@@ -30,4 +30,9 @@ pub fn a_repeated_time_is_refused()
     ensures { file_times site (0 ∷ 0 ∷ 0 ∷ 9 ∷ 0 ∷ 0 ∷ 0 ∷ 9 ∷ [])
         (times_header 2 (times_var Int [])) (times_var Int []) (since_epoch 1) 2
         ≡ Err (TimeRepeated 1) }
+{}
+
+/// A name without a mark has no run.
+pub fn a_name_without_a_mark_has_no_run()
+    ensures { run_by_name site (codes "x.nc") ≡ Err NoRunTime }
 {}

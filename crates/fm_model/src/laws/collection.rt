@@ -1,13 +1,16 @@
 //! Collections after operations.
-ghost use Rattle.std.specs.Prelude.{◌≡◌, ◌+◌, ◌↔◌, [], ◌∷◌, ◌++◌, List, ℤ, ◌≤ℤ◌, None, Some, All, AllPairs, Any, Contains, filter, length};
+ghost use Rattle.std.specs.Prelude.{◌≡◌, ◌≢◌, ◌≤◌, ◌+◌, ◌↔◌, [], ◌∷◌, ◌++◌, List, ℤ, ◌≤ℤ◌, None, Some, All, AllPairs, Any, Contains, filter, length};
 ghost use Rattle.std.specs.List.{last_or};
 ghost use Rattle.std.specs.Str.{bytes_eq};
 ghost use Rattle.fm_model.specs.declared.full.Full.{Full as TooMany};
+ghost use Rattle.fm_model.specs.declared.full.Which.TheVariants.{Files};
 ghost use Rattle.fm_model.specs.declared.loaded.Loaded.{Loaded};
 ghost use Rattle.fm_model.specs.declared.op.Op.{Op};
 ghost use Rattle.fm_model.specs.declared.op.Op.TheVariants.{Put, Expire};
 ghost use Rattle.fm_model.specs.Collection.{after_op, coll, full_at, tally, without};
 ghost use Rattle.fm_model.specs.Collection.{DifferInName, IsFirstPassed, IsWithin};
+
+use crate::limit::MAX_FILES;
 
 /// A put leaves one file of its name, which is the last of all, and all other files in their order.
 pub fn put_leaves_one_of_its_name()
@@ -59,4 +62,17 @@ pub fn full_exactly_past_a_limit()
         (full_at files op ≡ None) ↔ IsWithin (tally (after_op files op)) }
     ensures full { (files : List Loaded) (op : Op) (full : TooMany) →
         (full_at files op ≡ Some full) ↔ IsFirstPassed (tally (after_op files op)) full }
+{}
+
+/// A collection with as many files as it may hold refuses a file of one more name, and never for the number of its
+/// files one whose name is held.
+pub fn a_collection_of_most_files_takes_held_names()
+    ensures new { (files : List Loaded) (file : Loaded) → length files ≡ MAX_FILES
+        → All (DifferInName file) files
+        → full_at files (Put file)
+        ≡ Some (record { which = Files; held = MAX_FILES + 1; limit = MAX_FILES }) }
+    ensures held { (files : List Loaded) (file : Loaded) (full : TooMany) →
+        length files ≤ MAX_FILES → AllPairs DifferInName files
+        → Any (λ (other : Loaded). other.name ≡ file.name) files
+        → full_at files (Put file) ≡ Some full → full.which ≢ Files }
 {}

@@ -12,7 +12,7 @@ ghost use Rattle.fm_model.specs.declared.proto.Proto.{Proto};
 ghost use Rattle.fm_model.specs.declared.proto.ProtoVar.{ProtoVar};
 ghost use Rattle.fm_model.specs.Load.{load_of, Fits};
 ghost use Rattle.fm_model.specs.LoadAxis.{file_axis, file_header};
-ghost use Rattle.fm_model.specs.LoadTimes.{file_units, time_at, IsInstant};
+ghost use Rattle.fm_model.specs.LoadTimes.{file_run, file_units, time_at, IsInstant};
 ghost use Rattle.fm_model.specs.LoadVars.{is_compared, slot_in, slotted_vars};
 ghost use Rattle.fm_model.specs.LoadVars.{IsSameGrid, IsSlotOf};
 ghost use Rattle.fm_model.specs.Variable.{dim_of_axis, stands_first_alone};
@@ -41,6 +41,13 @@ pub fn a_fit_file_has_sound_times()
     ensures instants { (file : Loaded) (proto : Proto) → Fits file proto
         → All IsInstant file.times }
     ensures run { (file : Loaded) (proto : Proto) → Fits file proto → IsInstant file.run }
+{}
+
+/// The run of a file that fits is read from its variable of the run's time, or else from its name.
+pub fn a_fit_file_has_the_run_that_it_names()
+    ensures { (file : Loaded) (proto : Proto) (header : FileHeader) → Fits file proto
+        → file_header file.content ≡ Ok header
+        → file_run proto.site file.name file.content header ≡ Ok file.run }
 {}
 
 /// The times of a file that fits are those of its axis, in the file's order.
