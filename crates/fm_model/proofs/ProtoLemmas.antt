@@ -117,7 +117,7 @@ module _ (bytes : List ℕ) (site : Site) (header : FileHeader) (axis : NcVar) w
   unfolding time_stands_first proto_var
   lies_first time var h =
       let later : lies_along (dim_of_axis axis) (drop 1 var.dims) ≡ false = Each-in _ var header.vars (each_passes (λ (v : NcVar). TimeNotFirst v.name) (λ (v : NcVar). lies_along (dim_of_axis axis) (drop 1 v.dims)) header.vars time) (kept_is_held var h) in
-      (λ along. alone (dim_of_axis axis) var.dims along later, λ no. no)
+      (λ along. (alone (dim_of_axis axis) var.dims along later, rw along refl), λ no. no)
 
   plain_name : names_are_plain header ≡ Ok tt → (name : List ℕ) → In name (map (λ (dim : Dim). dim.name) header.dims ++ map (λ (var : NcVar). var.name) header.vars) → IsTrue (is_plain_name name)
   unfolding names_are_plain

@@ -1,12 +1,14 @@
 -- The slots of a file that was taken.
-use Rattle.std.proofs.Common.{◌≡◌, ℕ, suc, Bool, true, false, cond, not, ◌&&◌, ◌||◌, List, [], ◌∷◌, ◌++◌, length, Result, Ok, refl, sym, ap, ap₂, subst, ◌∙◌}
+use Rattle.std.proofs.Common.{◌≡◌, ℕ, suc, Bool, true, false, cond, not, ◌&&◌, ◌||◌, List, [], ◌∷◌, ◌++◌, drop, length, Result, Ok, refl, sym, ap, ap₂, subst, ◌∙◌}
 use Rattle.std.specs.Prelude.{All, IsTrue, filter}
 use Rattle.std.specs.List.{AllZip}
 use Rattle.std.specs.Str.{bytes_eq}
-use Rattle.std.proofs.lemmas.Bool.{false≢true, not-false}
+use Rattle.std.proofs.lemmas.Bool.{and_parts, false≢true, not-false}
 use Rattle.std.proofs.lemmas.List.{append-nil, append_assoc}
+use Rattle.std.proofs.lemmas.Slice.Eq.{bytes_eq-Decides}
 use Rattle.fm_base.specs.declared.header.Header.{Header as FileHeader}
 use Rattle.fm_base.specs.declared.header.NcVar.{NcVar}
+use Rattle.fm_base.specs.Layout.{shape_of}
 use Rattle.fm_model.specs.declared.loaded.Loaded.{Loaded}
 use Rattle.fm_model.specs.declared.loaded.LoadFault.{LoadFault}
 use Rattle.fm_model.specs.declared.loaded.LoadFault.TheVariants.{VariableDiffers}
@@ -16,20 +18,25 @@ use Rattle.fm_model.specs.declared.proto.ProtoVar.{ProtoVar}
 use Rattle.fm_model.specs.Chain.{◌>>=◌, ◌>>◌, refuse_if}
 use Rattle.fm_model.specs.Load.{Fits}
 use Rattle.fm_model.specs.LoadAxis.{file_header, file_axis, file_var}
-use Rattle.fm_model.specs.LoadVars.{is_like_timed, slot_in, file_slot, same_grid, is_compared, slots_after, steps_from, file_slots, slotted_vars, IsSlotOf, IsSameGrid}
-use Rattle.fm_model.specs.Variable.{is_coordinate}
+use Rattle.fm_model.specs.LoadVars.{lengths_of, is_like_timed, slot_in, file_slot, same_grid, is_compared, slots_after, steps_from, file_slots, slotted_vars, IsSlotOf, IsSameGrid}
+use Rattle.fm_model.specs.Variable.{are_same, dim_of_axis, is_coordinate, is_same_kind, stands_first_alone}
 use Rattle.fm_model.proofs.ChainLemmas.{step_ok, refuse_if_ok, check_ok, same_Ok}
 use Rattle.fm_model.proofs.LoadLemmas.{IsTaken, IsTaken-load_of}
 use Rattle.fm_model.proofs.Members.{Each, Each-in, Each-from_in, All-from_each, In-filter}
-use Rattle.fm_model.proofs.GridLemmas.{IsSameGrid-same_grid}
+use Rattle.fm_model.proofs.GridLemmas.{IsSameGrid-same_grid, same_kind}
 
 -- a slot that was found is that of its variable
 IsSlotOf-file_slot : (proto : Proto) (header : FileHeader) (axis : NcVar) (wanted : ProtoVar) (slot : Slot) → file_slot proto header axis wanted ≡ Ok slot → IsSlotOf proto header axis wanted slot
-unfolding file_slot
+unfolding file_slot is_like_timed
 IsSlotOf-file_slot proto header axis wanted slot e =
     let var = step_ok (file_var header wanted.name) (λ v. refuse_if (not (is_like_timed proto header axis wanted v)) (VariableDiffers wanted.name) >> Ok (slot_in header axis v)) slot e in
     let passed = refuse_if_ok (not (is_like_timed proto header axis wanted var.0)) (VariableDiffers wanted.name) (Ok (slot_in header axis var.0)) slot var.2 in
-    record { var = var.0; named = var.1; like = not-false _ passed.0; slot_is = sym (same_Ok {E = LoadFault} (slot_in header axis var.0) slot passed.1) }
+    let kind : Bool = is_same_kind wanted.kind var.0.kind in
+    let along : Bool = stands_first_alone (dim_of_axis axis) var.0.dims in
+    let lengths : Bool = are_same (drop 1 (lengths_of proto wanted.dims)) (drop 1 (shape_of header var.0)) in
+    let like = and_parts (kind && along) lengths (not-false _ passed.0) in
+    let both = and_parts kind along like.0 in
+    record { var = var.0; named = var.1; kind_is = same_kind wanted.kind var.0.kind both.0; along = both.1; lengths = sym ((bytes_eq-Decides (drop 1 (lengths_of proto wanted.dims)) (drop 1 (shape_of header var.0))).0 like.1); slot_is = sym (same_Ok {E = LoadFault} (slot_in header axis var.0) slot passed.1) }
 
 AllZip-push : {A B : Type 0} (R : A → B → Type 0) (as' : List A) (bs : List B) (a : A) (b : B) → AllZip R as' bs → R a b → AllZip R (as' ++ a ∷ []) (bs ++ b ∷ [])
 AllZip-push R [] [] a b zip r = (r, tt)

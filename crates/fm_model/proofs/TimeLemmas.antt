@@ -1,5 +1,5 @@
 -- The times of a file that was taken.
-use Rattle.std.proofs.Common.{◌≡◌, ◌≢◌, ℕ, zero, suc, ◌+◌, ◌<◌, ◌≤◌, false, not, List, [], ◌∷◌, ◌++◌, length, Some, Result, Ok, ℤ, refl, sym, ap, ap₂, subst, ◌∙◌, inl, inr, zero-add, arith}
+use Rattle.std.proofs.Common.{None, ◌≡◌, ◌≢◌, ℕ, zero, suc, ◌+◌, ◌<◌, ◌≤◌, false, not, List, [], ◌∷◌, ◌++◌, length, Some, Result, Ok, ℤ, refl, sym, ap, ap₂, subst, ◌∙◌, inl, inr, zero-add, arith}
 use Rattle.std.specs.Prelude.{All, AllPairs, slice_get}
 use Rattle.std.specs.List.{list_any}
 use Rattle.std.specs.Ordering.{int_eq}
@@ -20,8 +20,8 @@ use Rattle.fm_model.specs.declared.site.Site.{Site}
 use Rattle.fm_model.specs.Chain.{◌>>◌, refuse_if}
 use Rattle.fm_model.specs.Load.{Fits}
 use Rattle.fm_model.specs.LoadAxis.{file_header, file_axis}
-use Rattle.fm_model.specs.LoadTimes.{file_units, file_run, seconds_at, from_epoch, is_instant, time_count, time_at, times_from, file_times, IsInstant}
-use Rattle.fm_model.specs.Variable.{dim_of_axis}
+use Rattle.fm_model.specs.LoadTimes.{file_units, file_run, seconds_at, from_epoch, is_instant, time_count, time_at, times_from, file_times, IsInstant, run_by, run_by_variable, run_by_name}
+use Rattle.fm_model.specs.Variable.{dim_of_axis, reference_of}
 use Rattle.fm_model.proofs.CellLemmas.{in-has}
 use Rattle.fm_model.proofs.ChainLemmas.{step_ok, refuse_if_ok, same_Ok}
 use Rattle.fm_model.proofs.LoadLemmas.{IsTaken, IsTaken-load_of}
@@ -193,7 +193,17 @@ times_each file proto header axis units k fits e d u lt =
     let w = same_units t.axis axis t.units units a t.units_is u in
     (HasTimes-taken file proto t).each k lt ∙ ap₂ (λ (x : FileHeader) (y : NcVar). result_ok (time_at proto.site file.content x y t.units k)) h a ∙ ap (λ (v : TimeUnits). result_ok (time_at proto.site file.content header axis v k)) w
 
-pub run_named : (file : Loaded) (proto : Proto) (header : FileHeader) → Fits file proto → file_header file.content ≡ Ok header → file_run proto.site file.name file.content header ≡ Ok file.run
+run_named : (file : Loaded) (proto : Proto) (header : FileHeader) → Fits file proto → file_header file.content ≡ Ok header
+    → run_by proto.site file.name file.content header (reference_of header) ≡ Ok file.run
+unfolding file_run
 run_named file proto header fits e =
     let t = fit file proto fits in
-    ap (file_run proto.site file.name file.content) (sym (same_header file.content t.header header t.header_is e)) ∙ t.run_is
+    ap (λ (h : FileHeader). run_by proto.site file.name file.content h (reference_of h)) (sym (same_header file.content t.header header t.header_is e)) ∙ t.run_is
+
+pub run_of_variable : (file : Loaded) (proto : Proto) (header : FileHeader) (var : NcVar) → Fits file proto → file_header file.content ≡ Ok header → reference_of header ≡ Some var
+    → run_by_variable proto.site file.content header var ≡ Ok file.run
+run_of_variable file proto header var fits e is = ap (run_by proto.site file.name file.content header) (sym is) ∙ run_named file proto header fits e
+
+pub run_of_name : (file : Loaded) (proto : Proto) (header : FileHeader) → Fits file proto → file_header file.content ≡ Ok header → reference_of header ≡ None
+    → run_by_name proto.site file.name ≡ Ok file.run
+run_of_name file proto header fits e is = ap (run_by proto.site file.name file.content header) (sym is) ∙ run_named file proto header fits e

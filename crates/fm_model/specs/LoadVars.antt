@@ -76,17 +76,21 @@ file_slots proto bytes header axis = steps_from (slots_after proto bytes header 
 unfoldable pub slotted_vars : Proto → List ProtoVar
 slotted_vars proto = filter (λ (wanted : ProtoVar). wanted.timed && not (bytes_eq wanted.name proto.axis)) proto.vars
 
--- a slot says where the file's variable of the name of a prototype's variable lies, which is like it
+-- a slot says where the file's variable of the name of a prototype's variable lies: it is of the same kind, has the
+-- file's axis first and only there, and the same lengths otherwise
 pub record IsSlotOf (proto : Proto) (header : FileHeader) (axis : NcVar) (wanted : ProtoVar) (slot : Slot) : Type 0 where
   pub var : NcVar
   pub named : file_var header wanted.name ≡ Ok var
-  pub like : IsTrue (is_like_timed proto header axis wanted var)
+  pub kind_is : var.kind ≡ wanted.kind
+  pub along : IsTrue (stands_first_alone (dim_of_axis axis) var.dims)
+  pub lengths : drop 1 (shape_of header var) ≡ drop 1 (lengths_of proto wanted.dims)
   pub slot_is : slot ≡ slot_in header axis var
 
--- the file's variable of the name of a prototype's coordinate variable is like it, and its elements begin with the
--- prototype's
+-- the file's variable of the name of a prototype's coordinate variable is of the same kind and length, and its elements
+-- begin with the prototype's
 pub record IsSameGrid (proto : Proto) (bytes : List ℕ) (header : FileHeader) (wanted : ProtoVar) : Type 0 where
   pub var : NcVar
   pub named : file_var header wanted.name ≡ Ok var
-  pub like : IsTrue (is_like_fixed proto header wanted var)
+  pub kind_is : var.kind ≡ wanted.kind
+  pub lengths : shape_of header var ≡ lengths_of proto wanted.dims
   pub elements : take (length wanted.fixed) (elements_of bytes header var) ≡ wanted.fixed

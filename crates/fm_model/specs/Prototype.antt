@@ -97,9 +97,10 @@ proto_of bytes site = do
   dims_have_lengths header axis
   Ok (proto_with bytes site header axis)
 
--- a variable of a prototype lies along the axis with that dimension first and only there, or not at all
+-- a variable of a prototype lies along the axis with that dimension first and only there, and has no fixed elements; or
+-- it has not that dimension
 abbrev pub LiesFirst : ℕ → ProtoVar → Type 0
-LiesFirst id var = (var.timed ≡ true → IsTrue (stands_first_alone id var.dims)) × (var.timed ≡ false → lies_along id var.dims ≡ false)
+LiesFirst id var = (var.timed ≡ true → IsTrue (stands_first_alone id var.dims) × (var.fixed ≡ [])) × (var.timed ≡ false → lies_along id var.dims ≡ false)
 
 -- a variable is a prototype's axis, over the dimension of this number
 pub record IsAxis (proto : Proto) (id : ℕ) (var : ProtoVar) : Type 0 where

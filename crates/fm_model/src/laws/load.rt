@@ -1,5 +1,5 @@
 //! Files that are taken.
-ghost use Rattle.std.specs.Prelude.{◌≡◌, ◌≢◌, ◌+◌, ◌*◌, ◌<◌, ◌≤◌, ◌∷◌, ℕ, List, ℤ, Ok, All, AllPairs, IsTrue, drop, length, slice_get, true, false};
+ghost use Rattle.std.specs.Prelude.{None, Some, ◌≡◌, ◌≢◌, ◌+◌, ◌*◌, ◌<◌, ◌≤◌, ◌∷◌, ℕ, List, ℤ, Ok, All, AllPairs, IsTrue, drop, length, slice_get, true, false};
 ghost use Rattle.std.specs.List.{AllZip};
 ghost use Rattle.std.specs.Result.{result_ok};
 ghost use Rattle.fm_base.specs.declared.header.Header.{Header as FileHeader};
@@ -12,10 +12,10 @@ ghost use Rattle.fm_model.specs.declared.proto.Proto.{Proto};
 ghost use Rattle.fm_model.specs.declared.proto.ProtoVar.{ProtoVar};
 ghost use Rattle.fm_model.specs.Load.{load_of, Fits};
 ghost use Rattle.fm_model.specs.LoadAxis.{file_axis, file_header};
-ghost use Rattle.fm_model.specs.LoadTimes.{file_run, file_units, time_at, IsInstant};
+ghost use Rattle.fm_model.specs.LoadTimes.{file_units, run_by_name, run_by_variable, time_at, IsInstant};
 ghost use Rattle.fm_model.specs.LoadVars.{is_compared, slot_in, slotted_vars};
 ghost use Rattle.fm_model.specs.LoadVars.{IsSameGrid, IsSlotOf};
-ghost use Rattle.fm_model.specs.Variable.{dim_of_axis, stands_first_alone};
+ghost use Rattle.fm_model.specs.Variable.{dim_of_axis, reference_of, stands_first_alone};
 
 use crate::limit::MAX_TIMES;
 
@@ -43,11 +43,14 @@ pub fn a_fit_file_has_sound_times()
     ensures run { (file : Loaded) (proto : Proto) → Fits file proto → IsInstant file.run }
 {}
 
-/// The run of a file that fits is read from its variable of the run's time, or else from its name.
+/// The run of a file that fits is the value of its variable of the run's time; where it has none, the mark in its name.
 pub fn a_fit_file_has_the_run_that_it_names()
-    ensures { (file : Loaded) (proto : Proto) (header : FileHeader) → Fits file proto
-        → file_header file.content ≡ Ok header
-        → file_run proto.site file.name file.content header ≡ Ok file.run }
+    ensures variable { (file : Loaded) (proto : Proto) (header : FileHeader) (var : NcVar) →
+        Fits file proto → file_header file.content ≡ Ok header → reference_of header ≡ Some var
+        → run_by_variable proto.site file.content header var ≡ Ok file.run }
+    ensures name { (file : Loaded) (proto : Proto) (header : FileHeader) → Fits file proto
+        → file_header file.content ≡ Ok header → reference_of header ≡ None
+        → run_by_name proto.site file.name ≡ Ok file.run }
 {}
 
 /// The times of a file that fits are those of its axis, in the file's order.
