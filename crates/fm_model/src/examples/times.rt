@@ -1,9 +1,9 @@
 //! Times of a file. The epoch is 2020-01-01T00:00:00Z, and so is the origin of the units.
 ghost use Rattle.std.specs.Prelude.{◌≡◌, [], ◌∷◌, Ok, Err, codes, pos};
 ghost use Rattle.fm_base.specs.declared.kind.Kind.TheVariants.{Double, Int};
-ghost use Rattle.fm_model.specs.declared.loaded.LoadFault.TheVariants.{NoRunTime, NotWhole, TimeRange, TimeRepeated};
-ghost use Rattle.fm_model.specs.Example.{site, since_epoch, times_var, times_header};
-ghost use Rattle.fm_model.specs.LoadTimes.{file_times, run_by_name, time_at};
+ghost use Rattle.fm_model.specs.declared.loaded.LoadFault.TheVariants.{NoRunTime, NoTimes, NotWhole, TimeRange, TimeRepeated, TooManyTimes};
+ghost use Rattle.fm_model.specs.Example.{site, since_1970, since_epoch, times_var, times_header};
+ghost use Rattle.fm_model.specs.LoadTimes.{file_times, run_by_name, time_at, time_count};
 
 /// A time is taken up to 2^30 - 1 seconds from the epoch, and not one second further.
 pub fn a_time_is_taken_up_to_the_range()
@@ -35,4 +35,22 @@ pub fn a_repeated_time_is_refused()
 /// A name without a mark has no run.
 pub fn a_name_without_a_mark_has_no_run()
     ensures { run_by_name site (codes "x.nc") ≡ Err NoRunTime }
+{}
+
+/// A time is counted from the collection's epoch, whatever the origin of its units: 2024-01-01T00:00:00Z is 126230400
+/// seconds after 2020-01-01T00:00:00Z.
+pub fn a_time_counts_from_the_epoch()
+    ensures { time_at site (101 ∷ 146 ∷ 0 ∷ 128 ∷ []) (times_header 1 (times_var Int []))
+        (times_var Int []) since_1970 0
+        ≡ Ok (pos 126230400) }
+{}
+
+/// A file has 1 to 4,096 times.
+pub fn a_file_has_some_times_and_not_too_many()
+    ensures none { time_count (times_header 0 (times_var Int [])) (times_var Int [])
+        ≡ Err NoTimes }
+    ensures most { time_count (times_header 4096 (times_var Int [])) (times_var Int [])
+        ≡ Ok 4096 }
+    ensures more { time_count (times_header 4097 (times_var Int [])) (times_var Int [])
+        ≡ Err (TooManyTimes 4097) }
 {}
