@@ -1,0 +1,62 @@
+-- Which file stands for a run and a valid time, and which run is the best for a valid time (THREDDS Data Server, Forecast
+-- Model Run Collections, best time series).
+use Rattle.std.specs.Prelude.{◌≡◌, ◌<◌, ◌++◌, ◌≤ℤ◌, slice_get, IsSome, All, Contains, ℕ, List, [], ◌∷◌, map, Bool, ◌&&◌, Option, Some, None, is_some, ℤ, if◌then◌else◌}
+use Rattle.std.specs.List.{flat_map, list_any, position_or_len}
+use Rattle.std.specs.Option.{option_map, option_or}
+use Rattle.std.specs.Ordering.{int_eq}
+use Rattle.fm_model.specs.declared.loaded.Loaded.{Loaded}
+use Rattle.fm_model.specs.Rising.{rising}
+
+-- the last item that passes
+abbrev pub last_such : {A : Type 0} → (A → Bool) → List A → Option A
+last_such test [] = None
+last_such test (item ∷ items) = option_or (last_such test items) (if test item then Some item else None)
+
+-- the runs of some files, each once, rising
+unfoldable pub runs_of : List Loaded → List ℤ
+runs_of files = rising (map (λ (f : Loaded). f.run) files)
+
+-- the valid times of some files, each once, rising
+unfoldable pub times_of : List Loaded → List ℤ
+times_of files = rising (flat_map (λ (f : Loaded). f.times) files)
+
+-- whether a file has a valid time
+unfoldable pub has_time : ℤ → Loaded → Bool
+has_time valid file = list_any (λ time. int_eq time valid) file.times
+
+-- whether a file is of a run and has a valid time
+unfoldable pub has_cell : ℤ → ℤ → Loaded → Bool
+has_cell run valid file = int_eq file.run run && has_time valid file
+
+-- the place of a valid time among a file's times
+unfoldable pub place_of_time : ℤ → Loaded → ℕ
+place_of_time valid file = position_or_len (λ time. int_eq time valid) file.times
+
+-- the cell of a run and a valid time: the last file of that run with that time, and the time's place in it
+unfoldable pub cell : List Loaded → ℤ → ℤ → Option (Loaded × ℕ)
+cell files run valid = option_map (λ file. (file, place_of_time valid file)) (last_such (has_cell run valid) files)
+
+-- the best run for a valid time: the greatest that has a cell there
+unfoldable pub best : List Loaded → ℤ → Option ℤ
+best files valid = last_such (λ run. is_some (cell files run valid)) (runs_of files)
+
+-- a file is of a run and has a valid time
+pub record HasCell (run valid : ℤ) (file : Loaded) : Type 0 where
+  pub run_is : file.run ≡ run
+  pub time : Contains file.times valid
+
+-- A file and a place are the cell of a run and a valid time: the file is of the run and has the time at that place and
+-- at none before it, and no file after it is of the run and has the time.
+pub record IsCell (files : List Loaded) (run valid : ℤ) (file : Loaded) (place : ℕ) : Type 0 where
+  pub before : List Loaded
+  pub after : List Loaded
+  pub split : files ≡ before ++ file ∷ after
+  pub run_is : file.run ≡ run
+  pub time_is : slice_get file.times place ≡ Some valid
+  pub first : (k : ℕ) → k < place → slice_get file.times k ≡ Some valid → ⊥
+  pub last : All (λ other. ¬ HasCell run valid other) after
+
+-- a run has a cell at a valid time, and no greater run has one
+pub record IsBest (files : List Loaded) (valid run : ℤ) : Type 0 where
+  pub has : IsSome (cell files run valid)
+  pub greatest : (other : ℤ) → IsSome (cell files other valid) → other ≤ℤ run

@@ -1,0 +1,14 @@
+pub mod Attribute
+pub mod Cell
+pub mod Chain
+pub mod Code
+pub mod Collection
+pub mod Example
+pub mod Load
+pub mod LoadAxis
+pub mod LoadTimes
+pub mod LoadVars
+pub mod Prototype
+pub mod Rising
+pub mod Rows
+pub mod Variable

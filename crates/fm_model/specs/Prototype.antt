@@ -1,0 +1,127 @@
+-- The prototype that some bytes are, or the first fault.
+use Rattle.std.specs.Prelude.{◌≡◌, ◌≢◌, ◌<◌, All, Any, IsTrue, true, false, ℕ, List, [], ◌∷◌, ◌++◌, codes, length, drop, map, filter, find, Bool, false, not, ◌&&◌, ◌||◌, ◌==◌, if◌then◌else◌, Result, Ok}
+use Rattle.std.specs.Char.{is_ascii_alphanumeric}
+use Rattle.std.specs.List.{list_all}
+use Rattle.std.specs.Option.{ok_or, option_map, option_map_or}
+use Rattle.std.specs.Str.{bytes_eq}
+use Rattle.fm_base.specs.declared.header.Dim.{Dim}
+use Rattle.fm_base.specs.declared.header.Header.{Header as FileHeader}
+use Rattle.fm_base.specs.declared.header.NcVar.{NcVar}
+use Rattle.fm_base.specs.Layout.{size_in, elements_of, layout_fault}
+use Rattle.fm_base.specs.Reading.{header_or_fault}
+use Rattle.fm_model.specs.declared.proto.Proto.{Proto}
+use Rattle.fm_model.specs.declared.proto.ProtoFault.{ProtoFault}
+use Rattle.fm_model.specs.declared.proto.ProtoFault.TheVariants.{Header, Layout, NoTimeAxis, TimeNotFirst, BadProtoName, NameTaken, EmptyDimension}
+use Rattle.fm_model.specs.declared.proto.ProtoVar.{ProtoVar}
+use Rattle.fm_model.specs.declared.site.Site.{Site}
+use Rattle.fm_model.specs.Attribute.{is_char}
+use Rattle.fm_model.specs.Chain.{Check, ◌>>=◌, ◌>>◌, refuse, fault_as}
+use Rattle.fm_model.specs.Variable.{are_same, is_named, stands_first_alone, axis_of, dim_of_axis, lies_along, reference_of}
+
+-- a sound header, with all data in the file
+unfoldable pub sound_header : List ℕ → Result FileHeader ProtoFault
+sound_header bytes = do
+  header ← fault_as Header (header_or_fault bytes)
+  refuse (option_map Layout (layout_fault header (length bytes)))
+  Ok header
+
+-- there is a time axis
+unfoldable pub proto_axis : FileHeader → Result NcVar ProtoFault
+proto_axis header = ok_or (axis_of header) NoTimeAxis
+
+-- each variable that lies along the axis has the axis's dimension first, and once
+unfoldable pub time_stands_first : FileHeader → NcVar → Check ProtoFault
+time_stands_first header axis = refuse (option_map (λ (var : NcVar). TimeNotFirst var.name) (find (λ (var : NcVar). lies_along (dim_of_axis axis) (drop 1 var.dims)) header.vars))
+
+-- whether a byte is a letter, a digit, `_` or `-`
+abbrev pub is_name_byte : ℕ → Bool
+is_name_byte byte = is_ascii_alphanumeric byte || byte == 95 || byte == 45
+
+unfoldable pub is_plain_name : List ℕ → Bool
+is_plain_name name = list_all is_name_byte name
+
+-- all names of dimensions, and then of variables, are of letters, digits, `_` and `-`
+unfoldable pub names_are_plain : FileHeader → Check ProtoFault
+names_are_plain header = refuse (option_map BadProtoName (find (λ name. not (is_plain_name name)) (map (λ (dim : Dim). dim.name) header.dims ++ map (λ (var : NcVar). var.name) header.vars)))
+
+-- whether a variable is the one of the run's time
+unfoldable pub is_reference : FileHeader → NcVar → Bool
+is_reference header var = option_map_or (λ (reference : NcVar). bytes_eq reference.name var.name) (reference_of header) false
+
+-- whether a variable has one character for each time
+unfoldable pub is_char_per_time : NcVar → NcVar → Bool
+is_char_per_time axis var = is_char var.kind && are_same var.dims (dim_of_axis axis ∷ [])
+
+-- the variables that the views show: the axis, and all others but for the one of the run's time and those of one
+-- character for each time
+unfoldable pub kept_vars : FileHeader → NcVar → List NcVar
+kept_vars header axis = filter (λ (var : NcVar). bytes_eq var.name axis.name || not (is_reference header var || is_char_per_time axis var)) header.vars
+
+-- the names under which the views show the run and the offset of each row
+unfoldable pub run_name : List ℕ → List ℕ
+run_name axis = axis ++ codes "_run"
+
+unfoldable pub offset_name : List ℕ → List ℕ
+offset_name axis = axis ++ codes "_offset"
+
+-- no variable that the views show has one of these names
+unfoldable pub names_are_free : FileHeader → NcVar → Check ProtoFault
+names_are_free header axis = refuse (option_map (λ (var : NcVar). NameTaken var.name) (find (λ (var : NcVar). bytes_eq var.name (run_name axis.name) || bytes_eq var.name (offset_name axis.name)) (kept_vars header axis)))
+
+-- each dimension other than the axis's has a length
+unfoldable pub dims_have_lengths : FileHeader → NcVar → Check ProtoFault
+dims_have_lengths header axis = refuse (option_map (λ (dim : Dim). EmptyDimension dim.name) (find (λ (dim : Dim). size_in header dim == 0 && not (bytes_eq dim.name axis.name)) header.dims))
+
+-- a variable as the views show it
+unfoldable pub proto_var : List ℕ → FileHeader → NcVar → NcVar → ProtoVar
+proto_var bytes header axis var =
+    let timed : Bool = lies_along (dim_of_axis axis) var.dims in
+    record { name = var.name; kind = var.kind; dims = var.dims; attrs = var.attrs; timed = timed; fixed = if timed then [] else elements_of bytes header var }
+
+-- a dimension with its length
+abbrev pub with_length : FileHeader → Dim → Dim
+with_length header dim = record { name = dim.name; size = size_in header dim }
+
+-- what a prototype keeps of its file
+unfoldable pub proto_with : List ℕ → Site → FileHeader → NcVar → Proto
+proto_with bytes site header axis = record { site = site; axis = axis.name; dims = map (with_length header) header.dims; attrs = header.attrs; vars = map (proto_var bytes header axis) (kept_vars header axis) }
+
+-- the prototype that some bytes are at a site, or its first fault
+unfoldable pub proto_of : List ℕ → Site → Result Proto ProtoFault
+proto_of bytes site = do
+  header ← sound_header bytes
+  axis ← proto_axis header
+  time_stands_first header axis
+  names_are_plain header
+  names_are_free header axis
+  dims_have_lengths header axis
+  Ok (proto_with bytes site header axis)
+
+-- a variable of a prototype lies along the axis with that dimension first and only there, and has no fixed elements; or
+-- it has not that dimension
+abbrev pub LiesFirst : ℕ → ProtoVar → Type 0
+LiesFirst id var = (var.timed ≡ true → IsTrue (stands_first_alone id var.dims) × (var.fixed ≡ [])) × (var.timed ≡ false → lies_along id var.dims ≡ false)
+
+-- a variable is a prototype's axis, over the dimension of this number
+pub record IsAxis (proto : Proto) (id : ℕ) (var : ProtoVar) : Type 0 where
+  pub name_is : var.name ≡ proto.axis
+  pub dims_are : var.dims ≡ id ∷ []
+  pub timed : var.timed ≡ true
+
+-- a variable has neither of the names under which the views show the run and the offset of each row
+pub record HasFreeName (proto : Proto) (var : ProtoVar) : Type 0 where
+  pub run : var.name ≢ run_name proto.axis
+  pub offset : var.name ≢ offset_name proto.axis
+
+-- What a prototype keeps: its axis is among its variables, over the dimension of its name; a variable along the axis has
+-- that dimension first and only there; names are plain, and those of the views are free; and all other dimensions have
+-- a length.
+pub record IsSound (proto : Proto) : Type 0 where
+  pub id : ℕ
+  pub named : IsTrue (is_named proto.dims proto.axis id)
+  pub axis : Any (IsAxis proto id) proto.vars
+  pub timed : All (LiesFirst id) proto.vars
+  pub plain_dims : All (λ (dim : Dim). IsTrue (is_plain_name dim.name)) proto.dims
+  pub plain_vars : All (λ (var : ProtoVar). IsTrue (is_plain_name var.name)) proto.vars
+  pub free : All (HasFreeName proto) proto.vars
+  pub lengths : All (λ (dim : Dim). dim.name ≢ proto.axis → 0 < dim.size) proto.dims

@@ -1,0 +1,47 @@
+//! The rows of two runs that overlap: midnight's has 00Z, 06Z and 12Z, and the morning's 06Z, 12Z and 18Z.
+#![tactic(auto, unfolding(crate::specs::Collection::after_op, crate::specs::Collection::coll, crate::specs::Collection::kept_from, crate::specs::Collection::without, crate::specs::Cell::best, crate::specs::Cell::cell, crate::specs::Cell::has_cell, crate::specs::Cell::has_time, crate::specs::Cell::place_of_time, crate::specs::Cell::runs_of, crate::specs::Cell::times_of, crate::specs::Rising::insert_once, crate::specs::Rising::rising, crate::specs::Rows::best_row, crate::specs::Rows::row_at, crate::specs::Rows::rows))]
+
+ghost use Rattle.std.specs.Prelude.{◌≡◌, [], ◌∷◌, pos, negsuc};
+ghost use Rattle.fm_model.specs.declared.op.Op.TheVariants.{Put, Expire};
+ghost use Rattle.fm_model.specs.declared.row.ViewName.TheVariants.{Best, Run, Offset, Forecast};
+ghost use Rattle.fm_model.specs.Collection.{coll};
+ghost use Rattle.fm_model.specs.Example.{midnight, morning, midnight_again, row_of};
+ghost use Rattle.fm_model.specs.Rows.{rows};
+
+/// A later run has the times that both runs have, whichever file came first; the time that the old run alone has stays.
+pub fn a_later_run_wins_whatever_came_first()
+    ensures in_order { rows (coll (Put midnight ∷ Put morning ∷ [])) Best
+        ≡ row_of midnight (pos 0) 0 ∷ row_of morning (pos 21600) 0
+        ∷ row_of morning (pos 43200) 1 ∷ row_of morning (pos 64800) 2 ∷ [] }
+    ensures other_order { rows (coll (Put morning ∷ Put midnight ∷ [])) Best
+        ≡ row_of midnight (pos 0) 0 ∷ row_of morning (pos 21600) 0
+        ∷ row_of morning (pos 43200) 1 ∷ row_of morning (pos 64800) 2 ∷ [] }
+{}
+
+/// A file that comes again takes the place of the old one: a time that only the old one had is gone.
+pub fn a_file_that_comes_again_drops_old_times()
+    ensures best { rows (coll (Put midnight ∷ Put midnight_again ∷ [])) Best
+        ≡ row_of midnight_again (pos 0) 0 ∷ row_of midnight_again (pos 21600) 1 ∷ [] }
+    ensures run { rows (coll (Put midnight ∷ Put midnight_again ∷ [])) (Run (pos 0))
+        ≡ row_of midnight_again (pos 0) 0 ∷ row_of midnight_again (pos 21600) 1 ∷ [] }
+{}
+
+/// An expire keeps a run that equals its cutoff.
+pub fn an_expire_keeps_the_run_at_its_cutoff()
+    ensures { coll (Put midnight ∷ Put morning ∷ Expire (pos 21600) ∷ []) ≡ morning ∷ [] }
+{}
+
+/// An offset takes one row from each run that has the time so long after it, and none at an offset that no run has.
+pub fn an_offset_takes_a_row_from_each_run()
+    ensures none { rows (midnight ∷ morning ∷ []) (Offset (negsuc 3599)) ≡ [] }
+    ensures zero { rows (midnight ∷ morning ∷ []) (Offset (pos 0))
+        ≡ row_of midnight (pos 0) 0 ∷ row_of morning (pos 21600) 0 ∷ [] }
+    ensures six_hours { rows (midnight ∷ morning ∷ []) (Offset (pos 21600))
+        ≡ row_of midnight (pos 21600) 1 ∷ row_of morning (pos 43200) 1 ∷ [] }
+{}
+
+/// A forecast time takes one row from each run that has it.
+pub fn a_forecast_time_takes_a_row_from_each_run()
+    ensures { rows (midnight ∷ morning ∷ []) (Forecast (pos 43200))
+        ≡ row_of midnight (pos 43200) 2 ∷ row_of morning (pos 43200) 1 ∷ [] }
+{}

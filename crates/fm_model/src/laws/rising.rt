@@ -1,0 +1,20 @@
+//! Rising lists of instants.
+ghost use Rattle.std.specs.Prelude.{◌≡◌, ◌↔◌, List, ℤ, Contains};
+ghost use Rattle.fm_model.specs.Rising.{rising, Rises};
+
+/// A rising list has the members of the list that it is made from.
+pub fn rising_keeps_the_members()
+    ensures { (instants : List ℤ) (instant : ℤ) →
+        Contains (rising instants) instant ↔ Contains instants instant }
+{}
+
+/// A rising list rises: it has each of its members once.
+pub fn rising_rises()
+    ensures { (instants : List ℤ) → Rises (rising instants) }
+{}
+
+/// A list that rises is told by its members.
+pub fn rising_lists_differ_by_members()
+    ensures { (a b : List ℤ) → Rises a → Rises b
+        → ((instant : ℤ) → Contains a instant ↔ Contains b instant) → a ≡ b }
+{}

@@ -1,0 +1,23 @@
+//! What a collection of forecast runs is: what a file is taken for, what is done to the files, and which rows the views
+//! of them have (THREDDS Data Server, Forecast Model Run Collections). The definitions stand in `specs/`, on plain lists.
+#![tactic(auto)]
+
+pub mod examples;
+mod full;
+pub mod laws;
+mod limit;
+mod loaded;
+mod op;
+mod proto;
+mod row;
+mod site;
+#[cfg(test)]
+mod tests;
+
+pub use full::{Full, Tally, Which};
+pub use limit::{MAX_BYTES, MAX_FILES, MAX_INSTANT, MAX_ROWS, MAX_TIMES};
+pub use loaded::{LoadFault, Loaded, Slot};
+pub use op::Op;
+pub use proto::{Proto, ProtoFault, ProtoVar};
+pub use row::{Row, ViewName};
+pub use site::Site;

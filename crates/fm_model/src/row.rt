@@ -1,0 +1,23 @@
+//! The views of a collection and their rows (THREDDS Data Server, Forecast Model Run Collections).
+
+use crate::loaded::Loaded;
+use fm_base::Arc;
+
+/// A row of a view: what the file of the run has for the valid time, at that place among the file's times. Instants are
+/// seconds from the collection's epoch.
+#[derive(Drop)]
+pub struct Row {
+    pub valid: i64,
+    pub run: i64,
+    pub file: Arc<Loaded>,
+    pub place: u32,
+}
+
+/// The best time series, the dataset of a run, of a constant offset in seconds, or of a constant forecast time.
+#[derive(Clone, Copy, Debug, PartialEq, Eq)]
+pub enum ViewName {
+    Best,
+    Run(i64),
+    Offset(i64),
+    Forecast(i64),
+}
