@@ -1,11 +1,11 @@
 -- No element of a variable ends past its last element.
-use Rattle.std.proofs.Common.{◌≡◌, ℕ, ◌+◌, ◌-◌, ◌*◌, ◌<◌, ◌≤◌, Bool, true, false, cond, List, [], ◌∷◌, map, drop, arith}
+use Rattle.std.proofs.Common.{ℕ, ◌+◌, ◌-◌, ◌*◌, ◌≤◌, Bool, true, false, cond, List, [], ◌∷◌, map, drop, arith}
 use Rattle.std.specs.List.{slice_index}
 use Rattle.std.proofs.lemmas.Nat.{mul-le}
 use Rattle.fm_base.specs.declared.header.Header.{Header}
 use Rattle.fm_base.specs.declared.header.NcVar.{NcVar}
 use Rattle.fm_base.specs.Kind.{size_of}
-use Rattle.fm_base.specs.Layout.{product, rank_in, has_records, shape_of, record_size, place_of, end_of}
+use Rattle.fm_base.specs.Layout.{rank_in, has_records, shape_of, record_size, place_of, end_of}
 use Rattle.nc_layout.specs.Places.{IsIndex}
 use Rattle.nc_layout.proofs.RankLemmas.{rank_in-last, rank_in-lt, lengths-index}
 

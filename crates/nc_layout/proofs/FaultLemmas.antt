@@ -1,5 +1,5 @@
 -- The faults of a header's variables are those of what the layout keeps of them.
-use Rattle.std.proofs.Common.{◌≡◌, ℕ, ◌+◌, ◌-◌, ◌<◌, ◌≤◌, ◌^◌, Bool, true, false, cond, not, eqb, ltb, List, [], ◌∷◌, map, All, Option, None, Some, Ok, Err, refl, sym, ap, ◌∙◌}
+use Rattle.std.proofs.Common.{◌≡◌, ℕ, ◌+◌, ◌-◌, ◌≤◌, ◌^◌, Bool, true, false, cond, not, eqb, ltb, List, [], ◌∷◌, map, All, Option, None, Some, Ok, Err, refl, sym, ap, ◌∙◌}
 use Rattle.std.specs.List.{filter}
 use Rattle.std.specs.Option.{IfSome}
 use Rattle.std.proofs.lemmas.Bool.{ltb-false}
@@ -10,7 +10,7 @@ use Rattle.fm_base.specs.declared.fault.LayoutFault.TheVariants.{TooLarge, DataO
 use Rattle.fm_base.specs.declared.header.Header.{Header}
 use Rattle.fm_base.specs.declared.header.NcVar.{NcVar}
 use Rattle.fm_base.specs.Kind.{size_of}
-use Rattle.fm_base.specs.Layout.{product, rank_in, has_records, fixed_shape, shape_of, slab_size, place_of, end_of, is_outside, or_else, record_vars, record_size_of, record_size, first_too_large, first_outside, layout_fault}
+use Rattle.fm_base.specs.Layout.{product, has_records, shape_of, slab_size, place_of, end_of, is_outside, or_else, record_vars, record_size_of, record_size, first_too_large, first_outside, layout_fault}
 use Rattle.nc_layout.specs.declared.places.VarPlaces.{VarPlaces}
 use Rattle.nc_layout.specs.Places.{var_places, layout_of, slab_in, place_in}
 use Rattle.nc_layout.specs.Faults.{IsSized, IsWithin, HasLengths, layout_or_fault, first_large, first_past, past, end_in, with_records, record_size_in, padded_slab}

@@ -9,7 +9,7 @@ use Rattle.fm_base.specs.declared.header.Dim.{Dim}
 use Rattle.fm_base.specs.declared.header.Header.{Header}
 use Rattle.fm_base.specs.declared.header.NcVar.{NcVar}
 use Rattle.fm_base.specs.Format.{is_record}
-use Rattle.fm_base.specs.Layout.{size_in, size_at, has_records, shape_of, fixed_shape, place_of, record_size}
+use Rattle.fm_base.specs.Layout.{size_in, size_at, has_records, shape_of, place_of, record_size}
 use Rattle.fm_base.specs.Reading.{names_record}
 use Rattle.fm_base.specs.Spelling.{IsSoundVar, NamesNoRecord}
 use Rattle.nc_layout.specs.declared.places.VarPlaces.{VarPlaces}

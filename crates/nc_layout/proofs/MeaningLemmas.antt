@@ -1,5 +1,5 @@
 -- The first fault of a list of variables says that one is at fault, and none before it.
-use Rattle.std.proofs.Common.{◌≡◌, ℕ, zero, suc, ◌+◌, ◌^◌, ◌<◌, ◌≤◌, Bool, true, false, cond, ltb, List, [], ◌∷◌, take, All, Option, None, Some, refl, sym, ap, subst, ◌∙◌, arith}
+use Rattle.std.proofs.Common.{◌≡◌, ℕ, suc, ◌+◌, ◌^◌, ◌<◌, ◌≤◌, Bool, true, false, cond, ltb, List, [], ◌∷◌, take, All, Option, None, Some, refl, sym, ap, subst, ◌∙◌, arith}
 use Rattle.std.specs.List.{slice_get}
 use Rattle.std.specs.Option.{MatchOption}
 use Rattle.std.proofs.lemmas.Bool.{ltb-true, ltb-false, false≢true}
@@ -9,7 +9,7 @@ use Rattle.fm_base.specs.declared.fault.LayoutFault.TheVariants.{TooLarge, DataO
 use Rattle.fm_base.specs.declared.header.Header.{Header}
 use Rattle.fm_base.specs.declared.header.NcVar.{NcVar}
 use Rattle.fm_base.specs.Layout.{slab_size, has_elements, end_of, is_outside, or_else, first_too_large, first_outside, layout_fault}
-use Rattle.nc_layout.specs.Meaning.{IsSmall, EndsWithin, IsFirstTooLarge, IsFirstOutside, IsInside, Says}
+use Rattle.nc_layout.specs.Meaning.{IsSmall, EndsWithin, IsInside, Says}
 
 -- the first variable that fails a test, among those from a number on, and none before it
 record IsFirst (Good Bad : NcVar → Type 0) (fault_of : ℕ → NcVar → LayoutFault) (from : ℕ) (vars : List NcVar) (fault : LayoutFault) : Type 0 where

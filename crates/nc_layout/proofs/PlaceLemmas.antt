@@ -1,13 +1,11 @@
 -- Elements and slabs lie in the file.
-use Rattle.std.proofs.Common.{◌≡◌, ℕ, ◌+◌, ◌-◌, ◌*◌, ◌<◌, ◌≤◌, ◌^◌, Bool, true, false, cond, List, [], ◌∷◌, drop, Option, Some, refl, sym, ap, subst, ◌∙◌, arith}
-use Rattle.std.specs.List.{slice_index}
-use Rattle.std.specs.Option.{IfSome}
+use Rattle.std.proofs.Common.{◌≡◌, ℕ, ◌+◌, ◌-◌, ◌*◌, ◌<◌, ◌≤◌, Bool, true, false, cond, List, Some, refl, arith}
 use Rattle.std.proofs.lemmas.Option.{MatchOption-at_some}
 use Rattle.std.proofs.lemmas.Nat.{mul-le}
 use Rattle.fm_base.specs.Kind.{size_of}
 use Rattle.fm_base.specs.Layout.{product, rank_in}
 use Rattle.nc_layout.specs.declared.places.VarPlaces.{VarPlaces}
-use Rattle.nc_layout.specs.Places.{IsIndex, slab_in, shape_in, place_in, slab_begin_in, slab_count_in}
+use Rattle.nc_layout.specs.Places.{IsIndex, slab_in, slab_begin_in, slab_count_in}
 use Rattle.nc_layout.specs.Faults.{IsWithin, end_in}
 use Rattle.nc_layout.proofs.EndLemmas.{end_in-fixed, end_in-records}
 use Rattle.nc_layout.proofs.RankLemmas.{rank_in-lt}

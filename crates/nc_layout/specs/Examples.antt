@@ -1,11 +1,10 @@
 -- Headers of small files.
 use Rattle.std.specs.Prelude.{ℕ, List, [], ◌∷◌, ◌++◌, map, codes}
-use Rattle.fm_base.specs.declared.header.Dim.{Dim}
 use Rattle.fm_base.specs.declared.header.Header.{Header}
 use Rattle.fm_base.specs.declared.header.NcVar.{NcVar}
 use Rattle.fm_base.specs.declared.kind.Kind.TheVariants.{Short}
 use Rattle.fm_base.specs.Layout.{shape_of, place_of, indices_of}
-use Rattle.nc_model.specs.Thin.{header_of, dims_of, time_var, float_var, vars_of}
+use Rattle.nc_model.specs.Thin.{header_of, dims_of, time_var, float_var}
 
 -- the places of all elements of a variable, in row-major order
 abbrev pub places_of : Header → NcVar → List ℕ

@@ -1,5 +1,5 @@
 //! A layout, and what it answers.
-ghost use Rattle.std.specs.Prelude.{◌≡◌, ◌+◌, ◌*◌, ◌<◌, ◌≤◌, ◌^◌, Some, IfSome, length, slice_get, slice_index};
+ghost use Rattle.std.specs.Prelude.{◌≡◌, ◌+◌, ◌<◌, ◌≤◌, Some, IfSome, length, slice_get, slice_index};
 ghost use Rattle.fm_base.specs.Kind.{size_of};
 ghost use Rattle.fm_base.specs.Layout.{shape_of, record_size, place_of};
 

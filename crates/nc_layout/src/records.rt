@@ -1,5 +1,5 @@
 //! How many bytes one record takes, over all variables with records.
-ghost use Rattle.std.specs.Prelude.{◌≡◌, ◌*◌, ◌<◌, ◌≤◌, ◌^◌, All, length};
+ghost use Rattle.std.specs.Prelude.{◌≡◌, ◌<◌, ◌^◌, All, length};
 ghost use Rattle.nc_layout.specs.Faults.{IsSized, padded_slab, lone_slab, record_size_in, with_records};
 
 use crate::places::VarPlaces;

@@ -1,7 +1,6 @@
 //! How many bytes variables take, and the first that takes too many.
-ghost use Rattle.std.specs.Prelude.{◌≡◌, ◌*◌, ◌<◌, ◌≤◌, ◌^◌, All, None, Some, length, nat_lt, if◌then◌else◌};
-ghost use Rattle.fm_base.specs.Format.{padded_len};
-ghost use Rattle.nc_layout.specs.Faults.{HasLengths, IsSized, first_large, record_size_in, with_records};
+ghost use Rattle.std.specs.Prelude.{◌≡◌, ◌^◌, All, None, Some, nat_lt, if◌then◌else◌};
+ghost use Rattle.nc_layout.specs.Faults.{HasLengths, IsSized, first_large};
 ghost use Rattle.nc_layout.specs.Places.{slab_in};
 
 use crate::places::VarPlaces;

@@ -1,6 +1,6 @@
 //! What a header says of where its variables lie.
 ghost use Rattle.std.specs.Prelude.{◌≡◌, IfOk, map};
-ghost use Rattle.fm_base.specs.Layout.{size_in, size_at, shape_of, has_records, fixed_shape};
+ghost use Rattle.fm_base.specs.Layout.{size_at, has_records};
 ghost use Rattle.fm_base.specs.Reading.{names_record};
 ghost use Rattle.nc_layout.specs.Places.{var_places};
 

@@ -1,4 +1,4 @@
-use Rattle.std.proofs.Common.{◌≡◌, ◌*◌, ◌+◌, ◌^◌}
+use Rattle.std.proofs.Common.{◌*◌, ◌+◌, ◌^◌}
 use Rattle.std.proofs.lemmas.Bool.{cond_below}
 use Rattle.nc_layout.specs.Places.{slab_in}
 use Rattle.nc_layout.proofs.ProductLemmas.{product_more, product_over}

@@ -1,4 +1,4 @@
-use Rattle.std.proofs.Common.{◌≡◌, ap, ◌∙◌}
+use Rattle.std.proofs.Common.{ap, ◌∙◌}
 use Rattle.nc_layout.specs.Places.{Places, place_in}
 use Rattle.nc_layout.proofs.HeaderLemmas.{place_in-layout}
 use Rattle.nc_layout.proofs.places.Layout.place.Goals as goal

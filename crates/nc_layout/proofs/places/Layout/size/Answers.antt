@@ -1,4 +1,4 @@
-use Rattle.std.proofs.Common.{◌≡◌, ap, ◌∙◌}
+use Rattle.std.proofs.Common.{ap, ◌∙◌}
 use Rattle.std.specs.List.{slice_index}
 use Rattle.nc_layout.specs.Places.{Places, shape_in}
 use Rattle.nc_layout.proofs.HeaderLemmas.{shape_in-layout}
