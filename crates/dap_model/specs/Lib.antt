@@ -1,2 +1,4 @@
+pub mod Box
+pub mod Code
 pub mod StructureText
 pub mod Xdr

@@ -3,7 +3,9 @@
 #![tactic(auto)]
 
 mod declaration;
+mod fault;
 mod projection;
 
 pub use declaration::{Array, DapKind, Decl};
-pub use projection::{Clause, Projection, Sent, Slab};
+pub use fault::{CeFault, ProjectFault};
+pub use projection::{Clause, Projected, Projection, Sent, Slab};
