@@ -1,4 +1,6 @@
 pub mod Box
 pub mod Code
+pub mod Constraint
+pub mod ConstraintReading
 pub mod StructureText
 pub mod Xdr
