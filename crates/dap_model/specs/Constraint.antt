@@ -1,6 +1,6 @@
 -- Which texts are constraints, and what they ask for (ESE-RFC-004, constraint expressions, projections alone): paths of
 -- names with slabs, as `time[0:2:6],t.lat`.
-use Rattle.std.specs.Prelude.{◌≡◌, ◌⊎◌, ℕ, ◌<◌, ◌≤◌, List, [], ◌∷◌, ◌++◌, length, take, codes, slice_get, Bool, ◌||◌, ◌==◌, IsTrue, Option, Some, None}
+use Rattle.std.specs.Prelude.{◌≡◌, ◌⊎◌, ℕ, ◌<◌, ◌≤◌, List, [], ◌∷◌, ◌++◌, length, take, slice_get, Bool, ◌||◌, ◌==◌, IsTrue, Option, Some, None}
 use Rattle.std.specs.Char.{is_ascii_alphanumeric, is_ascii_digit}
 use Rattle.std.specs.List.{list_all}
 use Rattle.fm_base.specs.Spelling.{Spelled}

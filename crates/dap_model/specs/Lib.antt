@@ -2,5 +2,6 @@ pub mod Box
 pub mod Code
 pub mod Constraint
 pub mod ConstraintReading
+pub mod Projection
 pub mod StructureText
 pub mod Xdr

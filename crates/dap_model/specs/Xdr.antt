@@ -1,7 +1,7 @@
 -- Values as XDR (RFC 4506; ESE-RFC-004, the data of DAP 2.0).
 use Rattle.std.specs.Prelude.{ℕ, ◌+◌, ◌-◌, ◌*◌, List, [], ◌++◌, length, map, replicate}
 use Rattle.std.specs.Int.{w16, w32, w64, to_be_bytes, cast_signed, cast_unsigned}
-use Rattle.std.specs.List.{flat_map, sum_by}
+use Rattle.std.specs.List.{flat_map}
 use Rattle.fm_base.specs.Format.{padded_len}
 use Rattle.dap_model.specs.Box.{box_of}
 use Rattle.dap_model.specs.declared.declaration.DapKind.{DapKind}
