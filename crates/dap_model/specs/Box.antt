@@ -34,6 +34,10 @@ index_at (slab ∷ slabs) place = slab_index slab (place / box_len slabs) ∷ in
 unfoldable pub whole_slab : ℕ → Slab
 whole_slab size = if size == 0 then record { start = 1; stride = 1; stop = 0 } else record { start = 0; stride = 1; stop = size - 1 }
 
+-- a slab's stride is 1 or more
+abbrev pub HasStride : Slab → Type 0
+HasStride slab = 1 ≤ slab.stride
+
 -- a slab picks the indices from its start to its stop that lie a whole number of strides from its start
 pub record Picks (slab : Slab) (index : ℕ) : Type 0 where
   pub from_start : slab.start ≤ index

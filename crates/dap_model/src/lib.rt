@@ -4,8 +4,10 @@
 
 mod declaration;
 mod fault;
+mod laws;
 mod projection;
 
 pub use declaration::{Array, DapKind, Decl};
 pub use fault::{CeFault, ProjectFault};
+pub use laws::{box_picks, box_places, slab_picks, whole_box};
 pub use projection::{Clause, Projected, Projection, Sent, Slab};
