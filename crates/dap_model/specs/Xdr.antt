@@ -1,5 +1,5 @@
 -- Values as XDR (RFC 4506; ESE-RFC-004, the data of DAP 2.0).
-use Rattle.std.specs.Prelude.{ℕ, ◌+◌, ◌-◌, ◌*◌, List, [], ◌++◌, length, map, replicate}
+use Rattle.std.specs.Prelude.{ℕ, ◌+◌, ◌-◌, ◌*◌, List, [], ◌∷◌, ◌++◌, length, map, replicate}
 use Rattle.std.specs.Int.{w16, w32, w64, to_be_bytes, cast_signed, cast_unsigned}
 use Rattle.std.specs.List.{flat_map}
 use Rattle.fm_base.specs.Format.{padded_len}
@@ -75,7 +75,7 @@ abbrev pub values_at : DapKind → List Slab → (List ℕ → ℕ) → (List �
 values_at Text slabs bits words = texts_at slabs words
 values_at kind slabs bits words = numbers_at slabs bits
 
--- how many bytes a number takes
+-- how many bytes a number takes alone
 unfoldable pub number_len : DapKind → ℕ
 number_len Byte = 4
 number_len Int16 = 4
@@ -84,14 +84,27 @@ number_len Float32 = 4
 number_len Float64 = 8
 number_len Text = 0
 
--- how many bytes so many elements of an array take
+-- an element of an array: a byte takes one
+unfoldable pub element_bytes : DapKind → ℕ → List ℕ
+element_bytes Byte bits = bits ∷ []
+element_bytes Int16 bits = number_bytes Int16 bits
+element_bytes Int32 bits = number_bytes Int32 bits
+element_bytes Float32 bits = number_bytes Float32 bits
+element_bytes Float64 bits = number_bytes Float64 bits
+element_bytes Text bits = []
+
+-- how many bytes an element of an array takes
+unfoldable pub element_len : DapKind → ℕ
+element_len Byte = 1
+element_len Int16 = 4
+element_len Int32 = 4
+element_len Float32 = 4
+element_len Float64 = 8
+element_len Text = 0
+
+-- how many bytes so many elements take, with zero bytes up to a multiple of four
 unfoldable pub elements_len : DapKind → ℕ → ℕ
-elements_len Byte n = padded_len n
-elements_len Int16 n = 4 * n
-elements_len Int32 n = 4 * n
-elements_len Float32 n = 4 * n
-elements_len Float64 n = 8 * n
-elements_len Text n = 0
+elements_len kind n = padded_len (n * element_len kind)
 
 -- how many bytes a text of this length takes
 abbrev pub text_len : ℕ → ℕ

@@ -1,11 +1,16 @@
 //! Laws of the definitions, each as the contract of a call that does nothing.
-ghost use Rattle.std.specs.Prelude.{◌≡◌, ◌<◌, ◌↔◌, Some, length, map, slice_get, All, Contains};
+ghost use Rattle.std.specs.Prelude.{◌≡◌, ◌+◌, ◌*◌, ◌<◌, ◌↔◌, Some, length, map, sum_by};
+ghost use Rattle.std.specs.Prelude.{slice_get, slice_index, All, Contains};
 ghost use Rattle.std.specs.List.Sorted.{IsStrictlyIncreasing};
 ghost use Rattle.fm_base.specs.Layout.{indices_of};
 ghost use Rattle.dap_model.specs.Box.{box_len, box_of, index_at, slab_count, slab_indices};
 ghost use Rattle.dap_model.specs.Box.{whole_slab, HasStride, Picks, EachPicks};
+ghost use Rattle.dap_model.specs.Xdr.{array_bytes, element_bytes, element_len, elements_len};
+ghost use Rattle.dap_model.specs.Xdr.{number_bytes, number_len, text_bytes, text_len, texts_bytes};
 
+use crate::declaration::DapKind;
 use crate::projection::Slab;
+use fm_base::Bytes;
 
 /// The indices of a slab are those from its start to its stop that lie a whole number of strides from its start. They
 /// rise, and there are as many as its count says.
@@ -36,4 +41,32 @@ pub fn box_places(slabs: &[Slab], place: u64, other: u64)
 /// The box of whole dimensions is all index lists of the array.
 pub fn whole_box(shape: &[u64])
     ensures { box_of (map whole_slab shape.now) ≡ indices_of shape.now }
+{}
+
+/// An array of numbers is two counts of four bytes and its elements one after the other, each in as many bytes as its
+/// kind takes, with zero bytes up to a multiple of four.
+pub fn array_layout(kind: DapKind, numbers: &[u64], place: u64, offset: u64)
+    requires within { place < length numbers.now }
+    requires inside { offset < element_len kind }
+    ensures length { length (array_bytes kind numbers.now)
+        ≡ 8 + elements_len kind (length numbers.now) }
+    ensures element { slice_get (array_bytes kind numbers.now)
+            (8 + (place * element_len kind + offset))
+        ≡ slice_get (element_bytes kind (slice_index numbers.now place)) offset }
+{}
+
+/// A number alone takes as many bytes as its kind says.
+pub fn number_layout(kind: DapKind, bits: u64)
+    ensures { length (number_bytes kind bits) ≡ number_len kind }
+{}
+
+/// A text takes four bytes and its own with zero bytes up to a multiple of four.
+pub fn text_layout(text: &[u8])
+    ensures { length (text_bytes text.now) ≡ text_len (length text.now) }
+{}
+
+/// An array of texts takes four bytes and those of its texts.
+pub fn texts_layout(texts: &[Bytes])
+    ensures { length (texts_bytes texts.now)
+        ≡ 4 + sum_by (λ text. text_len (length text)) texts.now }
 {}

@@ -9,5 +9,5 @@ mod projection;
 
 pub use declaration::{Array, DapKind, Decl};
 pub use fault::{CeFault, ProjectFault};
-pub use laws::{box_picks, box_places, slab_picks, whole_box};
+pub use laws::{array_layout, box_picks, box_places, number_layout, slab_picks, text_layout, texts_layout, whole_box};
 pub use projection::{Clause, Projected, Projection, Sent, Slab};
