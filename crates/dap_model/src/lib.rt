@@ -3,11 +3,13 @@
 #![tactic(auto)]
 
 mod declaration;
+mod examples;
 mod fault;
 mod laws;
 mod projection;
 
 pub use declaration::{Array, DapKind, Decl};
+pub use examples::{boxes, constraint_faults, constraints, slabs, texts, words};
 pub use fault::{CeFault, ProjectFault};
 pub use laws::{array_layout, box_picks, box_places, number_layout, slab_picks, text_layout, texts_layout, whole_box};
 pub use projection::{Clause, Projected, Projection, Sent, Slab};
