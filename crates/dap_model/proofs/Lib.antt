@@ -1,2 +1,4 @@
 pub mod BoxLemmas
+pub mod ConstraintLeads
+pub mod SeparatedLemmas
 pub mod XdrLemmas

@@ -36,13 +36,21 @@ with_name begun name = record begun { path = begun.path ++ name ∷ [] }
 abbrev pub with_slab : Begun → Slab → Begun
 with_slab begun slab = record begun { slabs = begun.slabs ++ slab ∷ [] }
 
+-- the clause that is read last, as far as it is read
+abbrev pub last_clause : Begun → Clause
+last_clause begun = record { path = begun.path; slabs = begun.slabs }
+
 -- the clauses with the last one
-unfoldable pub clauses_of : Begun → List Clause
-clauses_of begun = begun.clauses ++ record { path = begun.path; slabs = begun.slabs } ∷ []
+abbrev pub clauses_of : Begun → List Clause
+clauses_of begun = begun.clauses ++ last_clause begun ∷ []
+
+-- the front of the next clause
+abbrev pub next_clause : Begun → Begun
+next_clause begun = record { clauses = clauses_of begun; path = []; slabs = [] }
 
 -- after a clause that may end here: a slab or the next clause
 unfoldable pub step_on : Begun → ℕ → Option State
-step_on begun byte = if byte == 91 then Some (before_number begun []) else (if byte == 44 then Some (before_name (record { clauses = clauses_of begun; path = []; slabs = [] })) else None)
+step_on begun byte = if byte == 91 then Some (before_number begun []) else (if byte == 44 then Some (before_name (next_clause begun)) else None)
 
 -- the first byte of a name
 unfoldable pub step_to_name : Begun → ℕ → Option State
