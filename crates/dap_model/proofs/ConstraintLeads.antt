@@ -1,18 +1,17 @@
 -- What the text is that leads reading to a state: where a constraint may end, the text is one.
-use Rattle.std.proofs.Common.{◌≡◌, ◌⊎◌, ℕ, suc, ◌+◌, ◌-◌, ◌*◌, ◌<◌, ◌≤◌, Bool, true, false, cond, not, ◌&&◌, ◌||◌, ◌==◌, nat_lt, List, [], ◌∷◌, ◌++◌, length, Option, Some, None, refl, sym, ap, ap₂, subst, ◌∙◌, append_assoc, append-nil, inl, inr, arith}
+use Rattle.std.proofs.Common.{◌≡◌, ℕ, ◌+◌, ◌-◌, ◌*◌, ◌<◌, ◌≤◌, Bool, true, false, cond, List, [], ◌∷◌, ◌++◌, length, Option, Some, None, refl, sym, ap, ap₂, subst, ◌∙◌, append_assoc, append-nil, inl, inr, arith}
 use Rattle.std.specs.Char.{is_ascii_digit}
-use Rattle.std.specs.List.{list_all}
 use Rattle.std.specs.Option.{option_map, option_and_then}
 use Rattle.std.proofs.lemmas.Bool.{cases_Bool, cond-true, cond-false, and_parts, and_from, ltb-true, eqb-true}
 use Rattle.std.proofs.lemmas.List.{length-append}
 use Rattle.std.proofs.lemmas.List.Folds.{list_all-append}
 use Rattle.std.proofs.lemmas.Option.{none-some, option_and_then_some, same_Some}
 use Rattle.fm_base.specs.Spelling.{Spelled}
-use Rattle.fm_base.specs.Stamp.{number_after, number_of}
+use Rattle.fm_base.specs.Stamp.{number_after}
 use Rattle.dap_model.specs.declared.projection.Clause.{Clause}
 use Rattle.dap_model.specs.declared.projection.Slab.{Slab}
 use Rattle.dap_model.specs.Constraint.{is_name_byte, slab_of, Separated, SpellsName, SpellsNumber, SpellsSlab, SpellsClause, Constrains}
-use Rattle.dap_model.specs.ConstraintReading.{Begun, State, front, before_name, in_name, before_number, in_number, after_slab, nothing, with_name, with_slab, last_clause, clauses_of, next_clause, step_on, step_to_name, step_name, step_close, step_number, step, clauses_at}
+use Rattle.dap_model.specs.ConstraintReading.{Begun, State, front, before_name, in_name, before_number, in_number, after_slab, nothing, with_name, with_slab, last_clause, clauses_of, step_on, step_to_name, step_name, step_close, step_number, step, clauses_at}
 use Rattle.dap_model.proofs.SeparatedLemmas.{Followed, Spelled-push, Followed-push, Separated-last}
 
 -- clauses with commas, and names with dots

@@ -1,20 +1,20 @@
 -- Where a constraint leads reading, part by part: a text that is a constraint is read.
-use Rattle.std.proofs.Common.{◌≡◌, ◌⊎◌, ℕ, suc, ◌+◌, ◌-◌, ◌*◌, ◌<◌, ◌≤◌, Bool, true, false, cond, ◌&&◌, ◌==◌, nat_lt, List, [], ◌∷◌, ◌++◌, length, Option, Some, None, refl, sym, ap, ap₂, subst, ◌∙◌, append_assoc, append-nil, inl, inr, arith}
+use Rattle.std.proofs.Common.{◌≡◌, ℕ, ◌+◌, ◌-◌, ◌*◌, ◌≤◌, true, List, [], ◌∷◌, ◌++◌, length, Option, Some, refl, sym, ap, subst, ◌∙◌, append_assoc, append-nil, inl, inr, arith}
 use Rattle.std.specs.Char.{is_ascii_digit}
 use Rattle.std.specs.List.{list_all}
 use Rattle.std.specs.Option.{option_map, option_and_then}
-use Rattle.std.proofs.lemmas.Bool.{cond-true, cond-false, and_parts, and_from, and_left, lt-ltb}
+use Rattle.std.proofs.lemmas.Bool.{cond-true, and_parts, and_from, lt-ltb}
 use Rattle.std.proofs.lemmas.List.{length-append}
 use Rattle.std.proofs.lemmas.Option.{none-some, option_and_then_some, same_Some}
 use Rattle.fm_base.specs.Spelling.{Spelled}
-use Rattle.fm_base.specs.Stamp.{number_after, number_of}
+use Rattle.fm_base.specs.Stamp.{number_after}
 use Rattle.dap_model.specs.declared.projection.Clause.{Clause}
 use Rattle.dap_model.specs.declared.projection.Slab.{Slab}
 use Rattle.dap_model.specs.Constraint.{is_name_byte, slab_of, Separated, SpellsName, SpellsNumber, SpellsSlab, SpellsClause, Constrains}
-use Rattle.dap_model.specs.ConstraintReading.{Begun, State, front, before_name, in_name, before_number, in_number, after_slab, nothing, with_name, with_slab, last_clause, clauses_of, next_clause, step_on, step_to_name, step_name, step_close, step_number, step, clauses_at}
+use Rattle.dap_model.specs.ConstraintReading.{Begun, State, front, before_name, in_name, before_number, in_number, after_slab, nothing, with_name, with_slab, clauses_of, next_clause, step_on, step_to_name, step_name, step_number, step, clauses_at}
 
 -- where reading stands after all bytes of a text
-pub run : State → List ℕ → Option State
+unfoldable pub run : State → List ℕ → Option State
 run state [] = Some state
 run state (byte ∷ rest) = option_and_then (λ next. run next rest) (step state byte)
 

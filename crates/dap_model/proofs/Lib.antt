@@ -1,4 +1,5 @@
 pub mod BoxLemmas
+pub mod ConstraintFaultLemmas
 pub mod ConstraintLeads
 pub mod ConstraintRuns
 pub mod SeparatedLemmas

@@ -1,5 +1,5 @@
 -- Items with a byte after each, and one more item at the end.
-use Rattle.std.proofs.Common.{◌≡◌, ℕ, List, [], ◌∷◌, ◌++◌, refl, sym, ap, ap₂, subst, ◌∙◌, append_assoc, append-nil}
+use Rattle.std.proofs.Common.{◌≡◌, ℕ, List, [], ◌∷◌, ◌++◌, refl, sym, ap, subst, ◌∙◌, append_assoc, append-nil}
 use Rattle.fm_base.specs.Spelling.{Spelled}
 use Rattle.dap_model.specs.Constraint.{Separated}
 

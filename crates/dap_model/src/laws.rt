@@ -1,15 +1,18 @@
 //! Laws of the definitions, each as the contract of a call that does nothing.
-ghost use Rattle.std.specs.Prelude.{◌≡◌, ◌+◌, ◌*◌, ◌<◌, ◌↔◌, Some, length, map, sum_by};
-ghost use Rattle.std.specs.Prelude.{slice_get, slice_index, All, Contains};
+ghost use Rattle.std.specs.Prelude.{◌≡◌, ◌+◌, ◌*◌, ◌<◌, ◌↔◌, Some, Ok, Err, length, map, sum_by};
+ghost use Rattle.std.specs.Prelude.{slice_get, slice_index, All, Contains, MatchResult};
 ghost use Rattle.std.specs.List.Sorted.{IsStrictlyIncreasing};
 ghost use Rattle.fm_base.specs.Layout.{indices_of};
 ghost use Rattle.dap_model.specs.Box.{box_len, box_of, index_at, slab_count, slab_indices};
 ghost use Rattle.dap_model.specs.Box.{whole_slab, HasStride, Picks, EachPicks};
+ghost use Rattle.dap_model.specs.Constraint.{Constrains, HasFault};
+ghost use Rattle.dap_model.specs.ConstraintReading.{constraint_of};
 ghost use Rattle.dap_model.specs.Xdr.{array_bytes, element_bytes, element_len, elements_len};
 ghost use Rattle.dap_model.specs.Xdr.{number_bytes, number_len, text_bytes, text_len, texts_bytes};
 
 use crate::declaration::DapKind;
-use crate::projection::Slab;
+use crate::fault::CeFault;
+use crate::projection::{Clause, Slab};
 use fm_base::Bytes;
 
 /// The indices of a slab are those from its start to its stop that lie a whole number of strides from its start. They
@@ -69,4 +72,25 @@ pub fn text_layout(text: &[u8])
 pub fn texts_layout(texts: &[Bytes])
     ensures { length (texts_bytes texts.now)
         ≡ 4 + sum_by (λ text. text_len (length text)) texts.now }
+{}
+
+/// Reading a text gives clauses exactly where the text is a constraint that asks for them, so no text asks for two lists
+/// of clauses.
+pub fn constraint_tells(text: &[u8], clauses: &[Clause], others: &[Clause])
+    ensures read { constraint_of text.now ≡ Ok clauses.now ↔ Constrains text.now clauses.now }
+    ensures one { Constrains text.now clauses.now → Constrains text.now others.now
+        → clauses.now ≡ others.now }
+{}
+
+/// Reading a text gives a fault exactly where the text has it, so a text has one fault at most.
+pub fn constraint_fault_tells(text: &[u8], fault: CeFault, other: CeFault)
+    ensures read { constraint_of text.now ≡ Err fault ↔ HasFault text.now fault }
+    ensures one { HasFault text.now fault → HasFault text.now other → fault ≡ other }
+{}
+
+/// Each text is a constraint or has a fault, and none is and has both.
+pub fn constraint_or_fault(text: &[u8], clauses: &[Clause], fault: CeFault)
+    ensures either { MatchResult (constraint_of text.now) (λ read. Constrains text.now read)
+        (λ found. HasFault text.now found) }
+    ensures never_both { Constrains text.now clauses.now → HasFault text.now fault → ⊥ }
 {}
