@@ -1,11 +1,14 @@
 //! Examples of the definitions, each as the contract of a call that does nothing.
 ghost use Rattle.std.specs.Prelude.{◌≡◌, [], ◌∷◌, ◌++◌, codes, Ok, Err};
-ghost use Rattle.dap_model.specs.Box.{box_of, index_at, slab_count, slab_indices};
+ghost use Rattle.dap_model.specs.Box.{box_of, index_at, slab_indices, whole_slab};
 ghost use Rattle.dap_model.specs.ConstraintReading.{constraint_of};
+ghost use Rattle.dap_model.specs.Example.{array, at, coordinate, dim, example_decls};
+ghost use Rattle.dap_model.specs.Example.{example_sent, t_grid};
+ghost use Rattle.dap_model.specs.StructureText.{dds_of};
 ghost use Rattle.dap_model.specs.Xdr.{array_bytes, number_bytes, text_bytes, texts_bytes};
 
-use crate::declaration::DapKind;
-use crate::fault::CeFault;
+use crate::declaration::{DapKind, Decl};
+use crate::fault::{CeFault, ProjectFault};
 use crate::projection::Slab;
 
 /// Slabs with a stride, of one index, and with their stop before their start.
@@ -84,4 +87,89 @@ pub fn constraint_faults()
         ≡ Err (CeFault.BadConstraint 20) }
     ensures name_after_slab { constraint_of (codes "t[1].lat")
         ≡ Err (CeFault.BadConstraint 4) }
+{}
+
+/// The structure text of a dataset with a Grid.
+pub fn structure_text()
+    ensures { dds_of (codes "gfs_best.ncd") example_decls ≡ codes "Dataset {\n"
+        ++ codes "    Int32 time[time = 3];\n"
+        ++ codes "    Float32 lat[lat = 2];\n"
+        ++ codes "    Float32 lon[lon = 2];\n"
+        ++ codes "    Grid {\n"
+        ++ codes "        ARRAY:\n"
+        ++ codes "            Float32 t[time = 3][lat = 2][lon = 2];\n"
+        ++ codes "        MAPS:\n"
+        ++ codes "            Int32 time[time = 3];\n"
+        ++ codes "            Float32 lat[lat = 2];\n"
+        ++ codes "            Float32 lon[lon = 2];\n"
+        ++ codes "    } t;\n"
+        ++ codes "    Int32 time_run[time = 3];\n"
+        ++ codes "    Int32 time_offset[time = 3];\n"
+        ++ codes "} gfs_best.ncd;\n" }
+{}
+
+/// A part of a Grid is sent in a Structure.
+pub fn structure_text_of_a_member()
+    ensures { dds_of (codes "gfs_best.ncd") (Decl.Structure (codes "t")
+            (coordinate DapKind.Float32 (codes "lat") 2 ∷ []) ∷ [])
+        ≡ codes "Dataset {\n"
+        ++ codes "    Structure {\n"
+        ++ codes "        Float32 lat[lat = 2];\n"
+        ++ codes "    } t;\n"
+        ++ codes "} gfs_best.ncd;\n" }
+{}
+
+/// What is sent of a dataset: a slab of a Grid goes to its array and to the maps of its dimensions, and a map named
+/// alone is sent in a Structure.
+pub fn projections()
+    ensures grid { example_sent (codes "t[1][0][0]") ≡ Ok (record {
+            decls = t_grid 1 1 1 ∷ [];
+            sent = record { decl = 3; part = 0; slabs = at 1 ∷ at 0 ∷ at 0 ∷ [] }
+                ∷ record { decl = 3; part = 1; slabs = at 1 ∷ [] }
+                ∷ record { decl = 3; part = 2; slabs = at 0 ∷ [] }
+                ∷ record { decl = 3; part = 3; slabs = at 0 ∷ [] } ∷ []
+        }) }
+    ensures member { example_sent (codes "t.lat") ≡ Ok (record {
+            decls = Decl.Structure (codes "t")
+                (coordinate DapKind.Float32 (codes "lat") 2 ∷ []) ∷ [];
+            sent = record { decl = 3; part = 2; slabs = whole_slab 2 ∷ [] } ∷ []
+        }) }
+    ensures in_order { example_sent (codes "t.lon,lat[1],t.t[0:2:2][0][0]") ≡ Ok (record {
+            decls = Decl.Plain (coordinate DapKind.Float32 (codes "lat") 1)
+                ∷ Decl.Structure (codes "t") (array DapKind.Float32 (codes "t")
+                    (dim (codes "time") 2 ∷ dim (codes "lat") 1 ∷ dim (codes "lon") 1 ∷ [])
+                    ∷ coordinate DapKind.Float32 (codes "lon") 2 ∷ []) ∷ [];
+            sent = record { decl = 1; part = 0; slabs = at 1 ∷ [] }
+                ∷ record {
+                    decl = 3;
+                    part = 0;
+                    slabs = record { start = 0; stride = 2; stop = 2 } ∷ at 0 ∷ at 0 ∷ []
+                }
+                ∷ record { decl = 3; part = 3; slabs = whole_slab 2 ∷ [] } ∷ []
+        }) }
+    ensures same_twice { example_sent (codes "time,time[0:2]") ≡ example_sent (codes "time") }
+{}
+
+/// Constraints that don't fit a dataset.
+pub fn projection_faults()
+    ensures no_variable { example_sent (codes "q")
+        ≡ Err (ProjectFault.NoSuchVariable (codes "q")) }
+    ensures no_part { example_sent (codes "t.q[1],time[9]")
+        ≡ Err (ProjectFault.NoSuchVariable (codes "t.q")) }
+    ensures part_of_an_array { example_sent (codes "time.time")
+        ≡ Err (ProjectFault.NoSuchVariable (codes "time.time")) }
+    ensures rank { example_sent (codes "t[0][0]")
+        ≡ Err (ProjectFault.SlabRank (codes "t") 2 3) }
+    ensures past_the_end { example_sent (codes "time[0:2:3]")
+        ≡ Err (ProjectFault.SlabRange (codes "time") 0 3) }
+    ensures turned { example_sent (codes "time[1:0]")
+        ≡ Err (ProjectFault.SlabRange (codes "time") 0 3) }
+    ensures no_stride { example_sent (codes "time[0:0:1]")
+        ≡ Err (ProjectFault.SlabRange (codes "time") 0 3) }
+    ensures range_in_a_map { example_sent (codes "lat,t.lon[2]")
+        ≡ Err (ProjectFault.SlabRange (codes "t.lon") 0 2) }
+    ensures conflict { example_sent (codes "t[0][0][0],t")
+        ≡ Err (ProjectFault.SlabConflict (codes "t")) }
+    ensures conflict_in_a_map { example_sent (codes "t.lat[1],t")
+        ≡ Err (ProjectFault.SlabConflict (codes "t")) }
 {}
