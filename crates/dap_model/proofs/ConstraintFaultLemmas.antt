@@ -11,6 +11,7 @@ use Rattle.dap_model.specs.declared.projection.Slab.{Slab}
 use Rattle.dap_model.specs.Constraint.{is_name_byte, slab_of, Constrains, BeginsConstraint, IsSelection, IsBadConstraint, HasFault}
 use Rattle.dap_model.specs.ConstraintReading.{Begun, State, front, before_name, in_name, before_number, in_number, after_slab, with_name, with_slab, clauses_of, step_on, step_to_name, step_name, step_number, step, clauses_at, may_end, fault_at, ended_at, read_from, constraint_of}
 use Rattle.dap_model.proofs.ConstraintLeads.{Leads, Leads-step, Constrains-from_leads}
+use Rattle.dap_model.proofs.ListLemmas.{cases_Option}
 use Rattle.dap_model.proofs.ConstraintRuns.{run, run-append, run-cons, Reads-constraint}
 
 -- reading goes on up to a place and dies of the byte there
@@ -42,10 +43,6 @@ goes_on state next byte text took (inr dies) = inr (record {
   here = dies.here;
   dead = dies.dead;
 })
-
-cases_Option : {A : Type 0} (o : Option A) → (o ≡ None) ⊎ ((x : A) × (o ≡ Some x))
-cases_Option None = inl refl
-cases_Option (Some x) = inr (x, refl)
 
 pub goes-text : (state : State) (text : List ℕ) → goes state text
 unfolding run

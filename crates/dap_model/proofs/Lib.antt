@@ -3,5 +3,7 @@ pub mod ConstraintFaultLemmas
 pub mod ConstraintLeads
 pub mod ConstraintRuns
 pub mod ListLemmas
+pub mod ProjectionAgreeLemmas
+pub mod ProjectionFaultLemmas
 pub mod SeparatedLemmas
 pub mod XdrLemmas

@@ -62,7 +62,8 @@ Has-flat_map f [] x y has gives = absurd has
 Has-flat_map f (z ∷ xs) x y (inl same) gives = Has-left (f z) (flat_map f xs) y (subst (λ w. Has (f w) y) (sym same) gives)
 Has-flat_map f (z ∷ xs) x y (inr has) gives = Has-right (f z) (flat_map f xs) y (Has-flat_map f xs x y has gives)
 
-cases_Option : {A : Type 0} (o : Option A) → (o ≡ None) ⊎ ((x : A) × (o ≡ Some x))
+-- something or nothing
+pub cases_Option : {A : Type 0} (o : Option A) → (o ≡ None) ⊎ ((x : A) × (o ≡ Some x))
 cases_Option None = inl refl
 cases_Option (Some x) = inr (x, refl)
 

@@ -4,5 +4,6 @@ pub mod Constraint
 pub mod ConstraintReading
 pub mod Example
 pub mod Projection
+pub mod ProjectionFacts
 pub mod StructureText
 pub mod Xdr
