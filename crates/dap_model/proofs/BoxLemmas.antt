@@ -2,7 +2,7 @@
 use Rattle.std.proofs.Common.{◌≡◌, ◌⊎◌, ℕ, zero, suc, ◌+◌, ◌-◌, ◌*◌, ◌/◌, ◌%◌, ◌<◌, ◌≤◌, List, [], ◌∷◌, ◌++◌, length, get_or, map, refl, sym, ap, ap₂, zero-add, subst, ◌∙◌, arith, inl, inr, ◌↔◌}
 use Rattle.std.specs.List.{All, Contains, flat_map, range_with_len}
 use Rattle.std.specs.List.Sorted.{IsStrictlyIncreasing}
-use Rattle.std.proofs.lemmas.Bool.{cond-true, cond-false}
+use Rattle.std.proofs.lemmas.Bool.{cond-true, cond-false, ne_eqb}
 use Rattle.std.proofs.lemmas.List.{get_or_append_left, get_or-append-add, get_or-map, length-map, length-append}
 use Rattle.std.proofs.lemmas.List.FromFn.{length-map-range_with_len, length-range_with_len, get_or-map-range_with_len, get_or-range_with_len}
 use Rattle.std.proofs.Math.Nat.{mul_comm, mul-le-mul_right}
@@ -215,6 +215,11 @@ IsStrictlyIncreasing-slab_indices slab some = λ k more.
     let second = get_or-slab_indices slab (k + 1) 0 (omega arith) in
     let step : (k + 1) * slab.stride ≡ k * slab.stride + slab.stride = grind arith in
     omega arith
+
+-- the slab of a dimension with an index
+pub whole_slab-some : (last : ℕ) → whole_slab (suc last) ≡ record { start = 0; stride = 1; stop = last }
+unfolding whole_slab
+whole_slab-some last = cond-false _ _ _ (ne_eqb (suc last) 0 (omega arith)) ∙ ap (λ (n : ℕ). record { start = 0; stride = 1; stop = n }) (omega arith)
 
 -- a whole slab has each index of its dimension
 pub slab_count-whole : (size : ℕ) → slab_count (whole_slab size) ≡ size

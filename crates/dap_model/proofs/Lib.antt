@@ -5,5 +5,6 @@ pub mod ConstraintRuns
 pub mod ListLemmas
 pub mod ProjectionAgreeLemmas
 pub mod ProjectionFaultLemmas
+pub mod ProjectionFitLemmas
 pub mod SeparatedLemmas
 pub mod XdrLemmas
