@@ -6,5 +6,7 @@ pub mod ListLemmas
 pub mod ProjectionAgreeLemmas
 pub mod ProjectionFaultLemmas
 pub mod ProjectionFitLemmas
+pub mod ProjectionSentLemmas
+pub mod ProjectionWholeLemmas
 pub mod SeparatedLemmas
 pub mod XdrLemmas

@@ -1,6 +1,7 @@
 -- What is in a list, by recursion on the list, and lists in which each item stands before the later ones.
-use Rattle.std.proofs.Common.{◌≡◌, ◌⊎◌, ℕ, zero, suc, ◌+◌, ◌<◌, ◌≤◌, Bool, false, List, [], ◌∷◌, ◌++◌, length, get_or, slice_get, Option, Some, None, refl, sym, ap, ap₂, subst, ◌∙◌, inl, inr, arith, add-zero}
+use Rattle.std.proofs.Common.{◌≡◌, ◌⊎◌, ℕ, zero, suc, ◌+◌, ◌<◌, ◌≤◌, Bool, false, List, [], ◌∷◌, ◌++◌, length, get_or, slice_get, Option, Some, None, refl, sym, ap, ap₂, subst, ◌∙◌, inl, inr, arith, add-zero, map}
 use Rattle.std.specs.List.{AllPairs, Contains, enumerate_from, filter_map, flat_map, list_any, range_with_len}
+use Rattle.std.specs.Option.{option_map}
 use Rattle.std.proofs.lemmas.Bool.{or_parts, cases_eq}
 use Rattle.std.proofs.lemmas.Option.{none-some, same_Some}
 
@@ -152,3 +153,57 @@ Ordered-append R (x ∷ xs) ys first second across = (
   λ y has. elim (Has-either xs ys y has) [ inl left ↦ first.0 y left | inr right ↦ across x y (inl refl) right ],
   Ordered-append R xs ys first.1 second (λ a b left right. across a b (inr left) right)
 )
+
+-- what stands before in a list gives what stands before
+pub Ordered-filter_map : {A B : Type 0} (R : A → A → Type 0) (S : B → B → Type 0) (h : A → Option B) (xs : List A) → Ordered R xs
+    → ((x y : A) (a b : B) → R x y → h x ≡ Some a → h y ≡ Some b → S a b) → Ordered S (filter_map h xs)
+Ordered-filter_map R S h [] ordered keeps = tt
+Ordered-filter_map R S h (x ∷ xs) ordered keeps =
+    let others = Ordered-filter_map R S h xs ordered.1 keeps in
+    elim (cases_Option (h x)) [
+      | inl none ↦ subst (Ordered S) (sym (filter_map-none h x xs none)) others
+      | inr some ↦ subst (Ordered S) (sym (filter_map-some h x xs some.0 some.1)) (
+        λ b has.
+        let s = Source-filter_map h xs b has in
+        keeps x s.item some.0 b (ordered.0 s.item s.has) some.1 s.gives,
+        others
+      )
+    ]
+
+pub Ordered-flat_map : {A B : Type 0} (R : A → A → Type 0) (S : B → B → Type 0) (f : A → List B) (xs : List A) → Ordered R xs → ((x : A) → Ordered S (f x))
+    → ((x y : A) (a b : B) → R x y → Has (f x) a → Has (f y) b → S a b) → Ordered S (flat_map f xs)
+Ordered-flat_map R S f [] ordered each keeps = tt
+Ordered-flat_map R S f (x ∷ xs) ordered each keeps =
+    Ordered-append S (f x) (flat_map f xs) (each x) (Ordered-flat_map R S f xs ordered.1 each keeps)
+    (λ a b first second.
+    let s = Source-flat_map f xs b second in
+    keeps x s.item a b (ordered.0 s.item s.has) first s.gives)
+
+pub Ordered-range : (a n : ℕ) → Ordered (λ (i j : ℕ). i < j) (range_with_len a n)
+Ordered-range a zero = tt
+Ordered-range a (suc n) = (λ k has. let parts = within_range (a + 1) n k has in omega arith, Ordered-range (a + 1) n)
+
+pub Ordered-numbered : {A : Type 0} (n : ℕ) (xs : List A) → Ordered (λ (p q : ℕ × A). p.0 < q.0) (enumerate_from n xs)
+Ordered-numbered n [] = tt
+Ordered-numbered n (x ∷ xs) = (λ q has. let found = slice_get-numbered (n + 1) xs q has in omega (arith, found.1), Ordered-numbered (n + 1) xs)
+
+-- each item gives something
+pub filter_map-each : {A B : Type 0} (h : A → Option B) (g : A → B) (xs : List A) → ((x : A) → Has xs x → h x ≡ Some (g x)) → filter_map h xs ≡ map g xs
+filter_map-each h g [] each = refl
+filter_map-each h g (x ∷ xs) each = filter_map-some h x xs (g x) (each x (inl refl)) ∙ ap (λ l. g x ∷ l) (filter_map-each h g xs (λ y has. each y (inr has)))
+
+pub items-numbered : {A : Type 0} (n : ℕ) (xs : List A) → map (λ (p : ℕ × A). p.1) (enumerate_from n xs) ≡ xs
+items-numbered n [] = refl
+items-numbered n (x ∷ xs) = ap (λ l. x ∷ l) (items-numbered (n + 1) xs)
+
+pub map-same : {A : Type 0} (f : A → A) (xs : List A) → ((x : A) → f x ≡ x) → map f xs ≡ xs
+map-same f [] same = refl
+map-same f (x ∷ xs) same = ap₂ (λ y l. y ∷ l) (same x) (map-same f xs same)
+
+pub map-map : {A B C : Type 0} (f : B → C) (g : A → B) (h : A → C) (xs : List A) → ((x : A) → f (g x) ≡ h x) → map f (map g xs) ≡ map h xs
+map-map f g h [] same = refl
+map-map f g h (x ∷ xs) same = ap₂ (λ y l. y ∷ l) (same x) (map-map f g h xs same)
+
+pub mapped_some : {A B : Type 0} (f : A → B) (o : Option A) (y : B) → option_map f o ≡ Some y → (x : A) × (o ≡ Some x) × (f x ≡ y)
+mapped_some f None y e = absurd (none-some y e)
+mapped_some f (Some x) y e = (x, refl, same_Some (f x) y e)

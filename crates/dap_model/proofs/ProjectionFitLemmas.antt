@@ -14,6 +14,7 @@ use Rattle.dap_model.specs.Box.{whole_slab}
 use Rattle.dap_model.specs.Projection.{parts_of, dims_of, part_dims, Picked, nothing, every, only, picked_by, whole_slabs, or_whole, spread, slabs_for, given_by, picked_dims, path_text, rank_fault, is_within, range_fault}
 use Rattle.dap_model.specs.ProjectionFacts.{IsGridded, FitsDim}
 use Rattle.dap_model.proofs.BoxLemmas.{whole_slab-some}
+use Rattle.dap_model.proofs.ListLemmas.{mapped_some}
 use Rattle.dap_model.proofs.ProjectionAgreeLemmas.{Sound}
 
 whole_fit : (dim : Dim) (size : ℕ) → dim.size ≡ size → FitsDim dim (whole_slab size)
@@ -91,10 +92,6 @@ some_part : (maps : List Array) (place : ℕ) → place < length maps → (part 
 some_part [] place within = absurd (omega arith)
 some_part (part ∷ maps) zero within = (part, refl)
 some_part (part ∷ maps) (suc place) within = some_part maps place (omega arith)
-
-mapped_some : {A B : Type 0} (f : A → B) (o : Option A) (y : B) → option_map f o ≡ Some y → (x : A) × (o ≡ Some x) × (f x ≡ y)
-mapped_some f None y e = absurd (none-some y e)
-mapped_some f (Some x) y e = (x, refl, same_Some (f x) y e)
 
 map_at : (array : Array) (maps : List Array) (place : ℕ) → place < length maps → map (λ (part : Array). part.dims) maps ≡ map (λ (dim : Dim). dim ∷ []) array.dims → MapAt array maps place
 map_at array maps place within gridded =

@@ -1,18 +1,22 @@
 //! Laws of the definitions, each as the contract of a call that does nothing.
-ghost use Rattle.std.specs.Prelude.{◌≡◌, ◌+◌, ◌*◌, ◌<◌, ◌↔◌, Some, Ok, Err, length, map, sum_by};
-ghost use Rattle.std.specs.Prelude.{slice_get, slice_index, All, Contains, MatchResult};
+ghost use Rattle.std.specs.Prelude.{◌≡◌, ◌≢◌, ◌+◌, ◌*◌, ◌<◌, ◌↔◌, [], Some, Ok, Err, length};
+ghost use Rattle.std.specs.Prelude.{map, filter, sum_by};
+ghost use Rattle.std.specs.Prelude.{slice_get, slice_index, All, AllPairs, Contains, MatchResult};
 ghost use Rattle.std.specs.List.Sorted.{IsStrictlyIncreasing};
 ghost use Rattle.fm_base.specs.Layout.{indices_of};
 ghost use Rattle.dap_model.specs.Box.{box_len, box_of, index_at, slab_count, slab_indices};
 ghost use Rattle.dap_model.specs.Box.{whole_slab, HasStride, Picks, EachPicks};
 ghost use Rattle.dap_model.specs.Constraint.{Constrains, HasFault};
 ghost use Rattle.dap_model.specs.ConstraintReading.{constraint_of};
+ghost use Rattle.dap_model.specs.Projection.{is_sent, name_of, projection_of};
+ghost use Rattle.dap_model.specs.ProjectionFacts.{AreNamedApart, FitsPart, IsAsked};
+ghost use Rattle.dap_model.specs.ProjectionFacts.{IsFirstFault, IsGridded, IsWhole, StandsBefore};
 ghost use Rattle.dap_model.specs.Xdr.{array_bytes, element_bytes, element_len, elements_len};
 ghost use Rattle.dap_model.specs.Xdr.{number_bytes, number_len, text_bytes, text_len, texts_bytes};
 
-use crate::declaration::DapKind;
-use crate::fault::CeFault;
-use crate::projection::{Clause, Slab};
+use crate::declaration::{DapKind, Decl};
+use crate::fault::{CeFault, ProjectFault};
+use crate::projection::{Clause, Projected, Sent, Slab};
 use fm_base::Bytes;
 
 /// The indices of a slab are those from its start to its stop that lie a whole number of strides from its start. They
@@ -93,4 +97,41 @@ pub fn constraint_or_fault(text: &[u8], clauses: &[Clause], fault: CeFault)
     ensures either { MatchResult (constraint_of text.now) (λ read. Constrains text.now read)
         (λ found. HasFault text.now found) }
     ensures never_both { Constrains text.now clauses.now → HasFault text.now fault → ⊥ }
+{}
+
+/// A projection is refused with the first fault of the first clause that has one.
+pub fn projection_refuses(decls: &[Decl], clauses: &[Clause], fault: &ProjectFault)
+    ensures { projection_of decls.now clauses.now ≡ Err fault.now
+        ↔ IsFirstFault decls.now clauses.now fault.now }
+{}
+
+/// Without a clause all declarations are sent as they stand, and each part whole.
+pub fn projection_of_all(decls: &[Decl], projected: &Projected, sent: &Sent)
+    requires { projection_of decls.now [] ≡ Ok projected.now }
+    ensures decls { projected.now.decls ≡ decls.now }
+    ensures sent { Contains projected.now.sent sent.now ↔ IsWhole decls.now sent.now }
+{}
+
+/// With clauses exactly the parts are sent that some clause names, with the slabs that each of these gives.
+pub fn projection_sends(decls: &[Decl], clauses: &[Clause], projected: &Projected, sent: &Sent)
+    requires apart { AreNamedApart decls.now }
+    requires some { clauses.now ≢ [] }
+    requires accepted { projection_of decls.now clauses.now ≡ Ok projected.now }
+    ensures { Contains projected.now.sent sent.now ↔ IsAsked decls.now clauses.now sent.now }
+{}
+
+/// Declarations and parts are sent in the dataset's order, so each once.
+pub fn projection_keeps_order(decls: &[Decl], clauses: &[Clause], projected: &Projected)
+    requires { projection_of decls.now clauses.now ≡ Ok projected.now }
+    ensures decls { map name_of projected.now.decls
+        ≡ map name_of (filter (is_sent clauses.now) decls.now) }
+    ensures sent { AllPairs StandsBefore projected.now.sent }
+{}
+
+/// Each part is sent with one slab for each of its dimensions, whose indices lie within the dimension.
+pub fn projection_fits(decls: &[Decl], clauses: &[Clause], projected: &Projected)
+    requires apart { AreNamedApart decls.now }
+    requires gridded { All IsGridded decls.now }
+    requires accepted { projection_of decls.now clauses.now ≡ Ok projected.now }
+    ensures { All (FitsPart decls.now) projected.now.sent }
 {}
