@@ -4,6 +4,7 @@ pub mod ConstraintLeads
 pub mod ConstraintRuns
 pub mod ListLemmas
 pub mod ProjectionAgreeLemmas
+pub mod ProjectionCutLemmas
 pub mod ProjectionFaultLemmas
 pub mod ProjectionFitLemmas
 pub mod ProjectionSentLemmas

@@ -2,8 +2,8 @@
 use Rattle.std.specs.Prelude.{◌≡◌, ◌≢◌, ◌⊎◌, ℕ, ◌<◌, ◌≤◌, List, [], ◌∷◌, length, map, take, slice_get, AllPairs, Contains, Some, None}
 use Rattle.std.specs.List.{AllZip}
 use Rattle.fm_base.specs.declared.header.Dim.{Dim}
-use Rattle.dap_model.specs.Box.{HasStride, slab_count}
-use Rattle.dap_model.specs.Projection.{name_of, parts_of, part_dims, whole_slabs, given_by, clause_fault}
+use Rattle.dap_model.specs.Box.{HasStride}
+use Rattle.dap_model.specs.Projection.{name_of, parts_of, part_dims, whole_slabs, given_by, clause_fault, cut_array}
 use Rattle.dap_model.specs.declared.declaration.Array.{Array}
 use Rattle.dap_model.specs.declared.declaration.Decl.{Decl}
 use Rattle.dap_model.specs.declared.declaration.Decl.TheVariants.{Plain, Grid, Structure}
@@ -61,10 +61,18 @@ pub record IsFirstFault (decls : List Decl) (clauses : List Clause) (fault : Pro
   pub fault_is : clause_fault decls (take place clauses) clause ≡ Some fault
   pub none_before : (before : ℕ) (other : Clause) → before < place → slice_get clauses before ≡ Some other → clause_fault decls (take before clauses) other ≡ None
 
+-- no clause has a fault
+abbrev pub HasNoFault : List Decl → List Clause → Type 0
+HasNoFault decls clauses = (place : ℕ) (clause : Clause) → slice_get clauses place ≡ Some clause → clause_fault decls (take place clauses) clause ≡ None
+
+-- an array that is sent is the part of the dataset with the lengths that the slabs leave
+pub record IsCut (decls : List Decl) (array : Array) (sent : Sent) : Type 0 where
+  pub decl : Decl
+  pub part : Array
+  pub decl_is : slice_get decls sent.decl ≡ Some decl
+  pub part_is : slice_get (parts_of decl) sent.part ≡ Some part
+  pub array_is : array ≡ cut_array sent.slabs part
+
 -- the lengths of an array
 abbrev pub lengths_of : Array → List ℕ
 lengths_of array = map (λ (dim : Dim). dim.size) array.dims
-
--- how many indices each slab of a part has
-abbrev pub counts_of : Sent → List ℕ
-counts_of sent = map slab_count sent.slabs
