@@ -3,6 +3,8 @@ pub mod ConstraintFaultLemmas
 pub mod ConstraintLeads
 pub mod ConstraintRuns
 pub mod ListLemmas
+pub mod NumberLemmas
+pub mod PartLemmas
 pub mod ProjectionAgreeLemmas
 pub mod ProjectionCutLemmas
 pub mod ProjectionFaultLemmas
@@ -11,3 +13,4 @@ pub mod ProjectionSentLemmas
 pub mod ProjectionWholeLemmas
 pub mod SeparatedLemmas
 pub mod XdrLemmas
+pub mod XdrTellLemmas

@@ -7,7 +7,7 @@ use Rattle.dap_model.specs.declared.declaration.Decl.{Decl}
 use Rattle.dap_model.specs.declared.fault.ProjectFault.{ProjectFault}
 use Rattle.dap_model.specs.declared.projection.Clause.{Clause}
 use Rattle.dap_model.specs.Projection.{clause_fault, first_fault}
-use Rattle.dap_model.specs.ProjectionFacts.{IsFirstFault}
+use Rattle.dap_model.specs.ProjectionFacts.{HasNoFault, IsFirstFault}
 use Rattle.dap_model.proofs.ListLemmas.{cases_Option}
 
 -- the first of two faults
@@ -74,10 +74,10 @@ IsFirstFault-first_fault decls clauses fault e =
     record { place = s.place; clause = s.clause; clause_is = s.clause_is; fault_is = s.fault_is; none_before = s.none_before }
 
 -- no clause has a fault after those before it
-abbrev NoneAfter : List Decl → List Clause → List Clause → Type 0
+abbrev pub NoneAfter : List Decl → List Clause → List Clause → Type 0
 NoneAfter decls earlier clauses = (place : ℕ) (clause : Clause) → slice_get clauses place ≡ Some clause → clause_fault decls (earlier ++ take place clauses) clause ≡ None
 
-none_after : (decls : List Decl) (earlier clauses : List Clause) → first_fault decls earlier clauses ≡ None → NoneAfter decls earlier clauses
+pub none_after : (decls : List Decl) (earlier clauses : List Clause) → first_fault decls earlier clauses ≡ None → NoneAfter decls earlier clauses
 unfolding first_fault
 none_after decls earlier [] e place clause is = absurd (none-some clause is)
 none_after decls earlier (first ∷ clauses) e place clause is =
@@ -104,4 +104,13 @@ first_fault-is decls clauses fault s = elim (cases_Option (first_fault decls [] 
   | inr some ↦
       let t = IsFirstFault-first_fault decls clauses some.0 some.1 in
       some.1 ∙ ap Some (same_first decls clauses some.0 fault t s)
+]
+
+-- where no clause has a fault there is no first one
+pub no_first_fault : (decls : List Decl) (clauses : List Clause) → HasNoFault decls clauses → first_fault decls [] clauses ≡ None
+no_first_fault decls clauses none = elim (cases_Option (first_fault decls [] clauses)) [
+  | inl without ↦ without
+  | inr some ↦
+      let s = IsFirstFault-first_fault decls clauses some.0 some.1 in
+      absurd (none-some some.0 (sym (none s.place s.clause s.clause_is) ∙ s.fault_is))
 ]

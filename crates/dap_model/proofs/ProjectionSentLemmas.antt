@@ -3,6 +3,8 @@ use Rattle.std.proofs.Common.{◌≡◌, ◌≢◌, ℕ, ◌<◌, List, [], ◌�
 use Rattle.std.specs.List.{All, AllZip, enumerate_from, range_with_len}
 use Rattle.std.specs.Option.{option_map}
 use Rattle.std.proofs.lemmas.List.Elements.{All-contains}
+use Rattle.std.specs.Result.{IsOk, is_ok}
+use Rattle.std.proofs.lemmas.Bool.{false≢true}
 use Rattle.std.proofs.lemmas.Option.{same_Some}
 use Rattle.dap_model.specs.declared.declaration.Decl.{Decl}
 use Rattle.dap_model.specs.declared.fault.ProjectFault.{ProjectFault}
@@ -42,6 +44,18 @@ first_fault-refused decls clauses fault e = refused_from (all_sent decls clauses
 pub refused-first_fault : (decls : List Decl) (clauses : List Clause) (fault : ProjectFault) → first_fault decls [] clauses ≡ Some fault → projection_of decls clauses ≡ Err fault
 unfolding projection_of
 refused-first_fault decls clauses fault e = ap (unless_fault (all_sent decls clauses)) e
+
+none_if_ok : (first : Projected) (o : Option ProjectFault) → IsOk (unless_fault first o) → o ≡ None
+none_if_ok first None ok = refl
+none_if_ok first (Some fault) ok = absurd (false≢true ok)
+
+pub faultless_if_ok : (decls : List Decl) (clauses : List Clause) → IsOk (projection_of decls clauses) → first_fault decls [] clauses ≡ None
+unfolding projection_of
+faultless_if_ok decls clauses ok = none_if_ok (all_sent decls clauses) (first_fault decls [] clauses) ok
+
+pub ok_if_faultless : (decls : List Decl) (clauses : List Clause) → first_fault decls [] clauses ≡ None → IsOk (projection_of decls clauses)
+unfolding projection_of
+ok_if_faultless decls clauses none = ap (λ (o : Option ProjectFault). is_ok (unless_fault (all_sent decls clauses) o)) none
 
 -- a part that is sent
 pub record PartSent (decls : List Decl) (clauses : List Clause) (sent : Sent) : Type 0 where

@@ -1,11 +1,12 @@
 -- How long values are as XDR, and where the elements of an array stand.
-use Rattle.std.proofs.Common.{◌≡◌, ℕ, zero, suc, ◌+◌, ◌-◌, ◌*◌, ◌<◌, List, [], ◌∷◌, ◌++◌, length, replicate, get_or, refl, sym, ap, ap₂, subst, ◌∙◌, arith, append-nil}
+use Rattle.std.proofs.Common.{◌≡◌, ℕ, zero, suc, ◌+◌, ◌-◌, ◌*◌, ◌<◌, List, [], ◌∷◌, ◌++◌, length, replicate, get_or, refl, sym, ap, ap₂, subst, ◌∙◌, arith, append-nil, slice_get, Some}
 use Rattle.std.specs.Int.{w32, to_be_bytes}
 use Rattle.std.specs.List.{flat_map, sum_by}
 use Rattle.std.proofs.lemmas.List.{get_or_append_left, get_or-append-add, length-append, length-replicate}
 use Rattle.std.proofs.lemmas.List.Sums.{sum_by-cons}
 use Rattle.std.proofs.Math.Nat.{mul_comm}
 use Rattle.std.proofs.lemmas.Nat.{mul-add-lt}
+use Rattle.std.proofs.lemmas.Option.{slice_get-get_or}
 use Rattle.fm_base.specs.Format.{padded_len}
 use Rattle.dap_model.specs.declared.declaration.DapKind.{DapKind}
 use Rattle.dap_model.specs.declared.declaration.DapKind.TheVariants.{Byte, Int16, Int32, Float32, Float64, Text}
@@ -135,3 +136,13 @@ element_within kind numbers place offset within inside =
     let turned = mul_comm (element_len kind) (length numbers) in
     let whole = length-array_bytes kind numbers in
     omega arith
+
+-- a byte of an element, as what stands there
+pub slice_get-array_bytes : (kind : DapKind) (numbers : List ℕ) (place offset : ℕ) → place < length numbers → offset < element_len kind
+    → slice_get (array_bytes kind numbers) (8 + (place * element_len kind + offset)) ≡ slice_get (element_bytes kind (get_or numbers place 0)) offset
+slice_get-array_bytes kind numbers place offset within inside =
+    let element = element_bytes kind (get_or numbers place 0) in
+    let short = subst (λ (n : ℕ). offset < n) (sym (length-element_bytes kind (get_or numbers place 0))) inside in
+    slice_get-get_or (array_bytes kind numbers) _ 0 (element_within kind numbers place offset within inside)
+    ∙ ap Some (get_or-array_bytes kind numbers place offset within inside)
+    ∙ sym (slice_get-get_or element offset 0 short)

@@ -1,5 +1,5 @@
 -- Values as XDR (RFC 4506; ESE-RFC-004, the data of DAP 2.0).
-use Rattle.std.specs.Prelude.{ℕ, ◌+◌, ◌-◌, ◌*◌, List, [], ◌∷◌, ◌++◌, length, map, replicate}
+use Rattle.std.specs.Prelude.{ℕ, ◌+◌, ◌-◌, ◌*◌, ◌^◌, ◌<◌, List, [], ◌∷◌, ◌++◌, length, map, replicate}
 use Rattle.std.specs.Int.{w16, w32, w64, to_be_bytes, cast_signed, cast_unsigned}
 use Rattle.std.specs.List.{flat_map}
 use Rattle.fm_base.specs.Format.{padded_len}
@@ -74,6 +74,19 @@ texts_at slabs words = texts (map words (box_of slabs))
 abbrev pub values_at : DapKind → List Slab → (List ℕ → ℕ) → (List ℕ → List ℕ) → Values
 values_at Text slabs bits words = texts_at slabs words
 values_at kind slabs bits words = numbers_at slabs bits
+
+-- how many bits a number has
+unfoldable pub bits_in : DapKind → ℕ
+bits_in Byte = 8
+bits_in Int16 = 16
+bits_in Int32 = 32
+bits_in Float32 = 32
+bits_in Float64 = 64
+bits_in Text = 0
+
+-- the bits are those of a number of this kind
+abbrev pub AreBitsOf : DapKind → ℕ → Type 0
+AreBitsOf kind bits = bits < 2 ^ bits_in kind
 
 -- how many bytes a number takes alone
 unfoldable pub number_len : DapKind → ℕ

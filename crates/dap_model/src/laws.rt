@@ -1,20 +1,24 @@
 //! Laws of the definitions, each as the contract of a call that does nothing.
-ghost use Rattle.std.specs.Prelude.{◌≡◌, ◌≢◌, ◌+◌, ◌*◌, ◌<◌, ◌↔◌, [], Some, Ok, Err, length};
+ghost use Rattle.std.specs.Prelude.{◌≡◌, ◌≢◌, ℕ, ◌+◌, ◌*◌, ◌^◌, ◌<◌, List, ◌↔◌, [], Some, Ok, Err, length};
 ghost use Rattle.std.specs.Prelude.{map, filter, sum_by};
-ghost use Rattle.std.specs.Prelude.{slice_get, slice_index, All, AllPairs, Contains, MatchResult};
+ghost use Rattle.std.specs.Prelude.{slice_get, slice_index, All, AllPairs, Contains, IsOk, MatchResult};
+ghost use Rattle.std.specs.List.{AllZip, flat_map};
 ghost use Rattle.std.specs.List.Sorted.{IsStrictlyIncreasing};
 ghost use Rattle.fm_base.specs.Layout.{indices_of};
 ghost use Rattle.dap_model.specs.Box.{box_len, box_of, index_at, slab_count, slab_indices};
 ghost use Rattle.dap_model.specs.Box.{whole_slab, HasStride, Picks, EachPicks};
-ghost use Rattle.dap_model.specs.Constraint.{Constrains, HasFault};
+ghost use Rattle.dap_model.specs.Constraint.{Constrains, HasFault, SpellsNumber};
 ghost use Rattle.dap_model.specs.ConstraintReading.{constraint_of};
-ghost use Rattle.dap_model.specs.Projection.{is_sent, name_of, projection_of};
-ghost use Rattle.dap_model.specs.ProjectionFacts.{AreNamedApart, FitsPart, IsAsked};
+ghost use Rattle.dap_model.specs.Projection.{cut_array, is_sent, name_of, parts_of};
+ghost use Rattle.dap_model.specs.Projection.{projection_of};
+ghost use Rattle.dap_model.specs.ProjectionFacts.{lengths_of, AreNamedApart, FitsPart, HasNoFault};
+ghost use Rattle.dap_model.specs.ProjectionFacts.{IsAsked, IsCut};
 ghost use Rattle.dap_model.specs.ProjectionFacts.{IsFirstFault, IsGridded, IsWhole, StandsBefore};
 ghost use Rattle.dap_model.specs.Xdr.{array_bytes, element_bytes, element_len, elements_len};
+ghost use Rattle.dap_model.specs.Xdr.{xdr_of, values_at, AreBitsOf};
 ghost use Rattle.dap_model.specs.Xdr.{number_bytes, number_len, text_bytes, text_len, texts_bytes};
 
-use crate::declaration::{DapKind, Decl};
+use crate::declaration::{Array, DapKind, Decl};
 use crate::fault::{CeFault, ProjectFault};
 use crate::projection::{Clause, Projected, Sent, Slab};
 use fm_base::Bytes;
@@ -62,6 +66,31 @@ pub fn array_layout(kind: DapKind, numbers: &[u64], place: u64, offset: u64)
         ≡ slice_get (element_bytes kind (slice_index numbers.now place)) offset }
 {}
 
+/// The bytes of an array tell its numbers.
+pub fn array_tells(kind: DapKind, first: &[u64], second: &[u64])
+    requires few { length first.now < 2 ^ 32 }
+    requires fewer { length second.now < 2 ^ 32 }
+    requires bits { All (AreBitsOf kind) first.now }
+    requires other_bits { All (AreBitsOf kind) second.now }
+    ensures { array_bytes kind first.now ≡ array_bytes kind second.now
+        → first.now ≡ second.now }
+{}
+
+/// The numbers of a part are an array of as many as its slabs pick, and the index of each is found by division.
+pub fn part_layout(kind: DapKind, slabs: &[Slab], place: u64, offset: u64)
+    requires number { kind ≢ DapKind.Text }
+    requires dims { slabs.now ≢ [] }
+    requires within { place < box_len slabs.now }
+    requires inside { offset < element_len kind }
+    ensures length { (bits : List ℕ → ℕ) (words : List ℕ → List ℕ)
+        → length (xdr_of kind (values_at kind slabs.now bits words))
+            ≡ 8 + elements_len kind (box_len slabs.now) }
+    ensures element { (bits : List ℕ → ℕ) (words : List ℕ → List ℕ)
+        → slice_get (xdr_of kind (values_at kind slabs.now bits words))
+                (8 + (place * element_len kind + offset))
+            ≡ slice_get (element_bytes kind (bits (index_at slabs.now place))) offset }
+{}
+
 /// A number alone takes as many bytes as its kind says.
 pub fn number_layout(kind: DapKind, bits: u64)
     ensures { length (number_bytes kind bits) ≡ number_len kind }
@@ -99,6 +128,17 @@ pub fn constraint_or_fault(text: &[u8], clauses: &[Clause], fault: CeFault)
     ensures never_both { Constrains text.now clauses.now → HasFault text.now fault → ⊥ }
 {}
 
+/// The numbers of a constraint are below 10^18.
+pub fn number_fits(text: &[u8], number: u64)
+    requires { SpellsNumber text.now number }
+    ensures { number < 10 ^ 18 }
+{}
+
+/// A projection is accepted exactly where no clause has a fault.
+pub fn projection_accepts(decls: &[Decl], clauses: &[Clause])
+    ensures { IsOk (projection_of decls.now clauses.now) ↔ HasNoFault decls.now clauses.now }
+{}
+
 /// A projection is refused with the first fault of the first clause that has one.
 pub fn projection_refuses(decls: &[Decl], clauses: &[Clause], fault: &ProjectFault)
     ensures { projection_of decls.now clauses.now ≡ Err fault.now
@@ -134,4 +174,17 @@ pub fn projection_fits(decls: &[Decl], clauses: &[Clause], projected: &Projected
     requires gridded { All IsGridded decls.now }
     requires accepted { projection_of decls.now clauses.now ≡ Ok projected.now }
     ensures { All (FitsPart decls.now) projected.now.sent }
+{}
+
+/// The arrays of the declarations that are sent are the parts that are sent, each cut by its slabs.
+pub fn projection_cuts(decls: &[Decl], clauses: &[Clause], projected: &Projected)
+    requires { projection_of decls.now clauses.now ≡ Ok projected.now }
+    ensures { AllZip (IsCut decls.now) (flat_map parts_of projected.now.decls)
+        projected.now.sent }
+{}
+
+/// An array that is cut by a slab for each dimension is as long in each as the slab has indices.
+pub fn cut_lengths(array: &Array, slabs: &[Slab])
+    requires { length slabs.now ≡ length array.now.dims }
+    ensures { lengths_of (cut_array slabs.now array.now) ≡ map slab_count slabs.now }
 {}

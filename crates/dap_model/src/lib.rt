@@ -3,13 +3,11 @@
 #![tactic(auto)]
 
 mod declaration;
-mod examples;
+pub mod examples;
 mod fault;
-mod laws;
+pub mod laws;
 mod projection;
 
 pub use declaration::{Array, DapKind, Decl};
-pub use examples::{boxes, constraint_faults, constraints, projection_faults, projections, slabs, structure_text, structure_text_of_a_member, texts, words};
 pub use fault::{CeFault, ProjectFault};
-pub use laws::{array_layout, box_picks, box_places, constraint_fault_tells, constraint_or_fault, constraint_tells, number_layout, projection_fits, projection_keeps_order, projection_of_all, projection_refuses, projection_sends, slab_picks, text_layout, texts_layout, whole_box};
 pub use projection::{Clause, Projected, Projection, Sent, Slab};
