@@ -1,9 +1,0 @@
--- Lemmas on the definitions.
-use Rattle.dap_model.proofs.XdrLemmas.{length-array_bytes, slice_get-array_bytes}
-use Rattle.dap_model.proofs.laws.array_layout.Goals as goal
-
-pub returns : goal.returns
-returns c = record {
-  length = length-array_bytes c.args.kind c.args.numbers.now;
-  element = slice_get-array_bytes c.args.kind c.args.numbers.now c.args.place c.args.offset c.requires.within c.requires.inside;
-}

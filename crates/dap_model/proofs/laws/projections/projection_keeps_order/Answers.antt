@@ -1,0 +1,20 @@
+-- Each list is made in the dataset's order.
+use Rattle.std.proofs.Common.{List, ◌∙◌, ap, map, subst, sym}
+use Rattle.dap_model.specs.declared.projection.Projected.{Projected}
+use Rattle.dap_model.specs.declared.projection.Sent.{Sent}
+use Rattle.dap_model.specs.Projection.{name_of}
+use Rattle.dap_model.specs.ProjectionFacts.{StandsBefore}
+use Rattle.dap_model.proofs.ListLemmas.{Ordered, AllPairs-from_ordered}
+use Rattle.dap_model.proofs.ProjectionSentLemmas.{Accepted-projection_of, AllPairs-all_sent}
+use Rattle.dap_model.proofs.ProjectionWholeLemmas.{names_sent}
+use Rattle.dap_model.proofs.laws.projections.projection_keeps_order.Goals as goal
+
+pub returns : goal.returns
+returns c =
+    let decls = c.args.decls.now in
+    let clauses = c.args.clauses.now in
+    let all = (Accepted-projection_of decls clauses c.args.projected.now c.requires).all in
+    record {
+      decls = ap (λ (p : Projected). map name_of p.decls) (sym all) ∙ names_sent decls clauses;
+      sent = AllPairs-from_ordered StandsBefore c.args.projected.now.sent (subst (λ (l : List Sent). Ordered StandsBefore l) (ap (λ (p : Projected). p.sent) all) (AllPairs-all_sent decls clauses));
+    }

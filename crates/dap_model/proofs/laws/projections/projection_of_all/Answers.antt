@@ -1,0 +1,22 @@
+-- Whole slabs leave the lengths as they are.
+use Rattle.std.proofs.Common.{[], List, ◌∙◌, ap, subst, sym}
+use Rattle.dap_model.specs.declared.projection.Projected.{Projected}
+use Rattle.dap_model.specs.declared.projection.Sent.{Sent}
+use Rattle.dap_model.proofs.ListLemmas.{Has, Has-from_contains, contains_from_Has}
+use Rattle.dap_model.proofs.ProjectionSentLemmas.{Accepted-projection_of, PartSent-all_sent, Has-all_sent, whole_sent}
+use Rattle.dap_model.proofs.ProjectionWholeLemmas.{all_sent-whole}
+use Rattle.dap_model.proofs.laws.projections.projection_of_all.Goals as goal
+
+pub returns : goal.returns
+returns c =
+    let decls = c.args.decls.now in
+    let sent = c.args.sent.now in
+    let all = (Accepted-projection_of decls [] c.args.projected.now c.requires).all in
+    let same = ap (λ (p : Projected). p.sent) all in
+    record {
+      decls = sym (ap (λ (p : Projected). p.decls) all) ∙ all_sent-whole decls;
+      sent = (
+        λ found. (whole_sent decls sent).0 (PartSent-all_sent decls [] sent (subst (λ (l : List Sent). Has l sent) (sym same) (Has-from_contains c.args.projected.now.sent sent found))),
+        λ whole. contains_from_Has c.args.projected.now.sent sent (subst (λ (l : List Sent). Has l sent) same (Has-all_sent decls [] sent ((whole_sent decls sent).1 whole)))
+      );
+    }
