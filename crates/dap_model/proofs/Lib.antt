@@ -1,10 +1,18 @@
 pub mod BoxLemmas
+pub mod ConstraintBegins
+pub mod ConstraintDeath
 pub mod ConstraintFaultLemmas
 pub mod ConstraintLeads
+pub mod ConstraintNames
+pub mod ConstraintNumbers
+pub mod ConstraintReads
 pub mod ConstraintRuns
+pub mod ConstraintStates
 pub mod ListLemmas
 pub mod NumberLemmas
+pub mod OrderLemmas
 pub mod PartLemmas
+pub mod ProjectionAcceptLemmas
 pub mod ProjectionAgreeLemmas
 pub mod ProjectionCutLemmas
 pub mod ProjectionFaultLemmas
@@ -12,5 +20,6 @@ pub mod ProjectionFitLemmas
 pub mod ProjectionSentLemmas
 pub mod ProjectionWholeLemmas
 pub mod SeparatedLemmas
+pub mod SlabLemmas
 pub mod XdrLemmas
 pub mod XdrTellLemmas

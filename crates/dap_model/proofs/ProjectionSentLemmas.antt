@@ -1,61 +1,19 @@
--- Which parts are sent, in which order, and what is sent where there is no clause.
-use Rattle.std.proofs.Common.{◌≡◌, ◌≢◌, ℕ, ◌<◌, List, [], ◌∷◌, length, slice_get, Option, Some, None, Ok, Err, refl, sym, ap, subst, ◌∙◌, inl, inr, arith, zero-add, ◌++◌, ◌↔◌}
+-- Which parts are sent, and in which order.
+use Rattle.std.proofs.Common.{◌≡◌, ◌≢◌, ℕ, ◌<◌, List, [], ◌∷◌, length, slice_get, Some, refl, sym, ap, subst, ◌∙◌, inl, inr, arith, zero-add, ◌++◌, ◌↔◌}
 use Rattle.std.specs.List.{All, AllZip, enumerate_from, range_with_len}
 use Rattle.std.specs.Option.{option_map}
 use Rattle.std.proofs.lemmas.List.Elements.{All-contains}
-use Rattle.std.specs.Result.{IsOk, is_ok}
-use Rattle.std.proofs.lemmas.Bool.{false≢true}
 use Rattle.std.proofs.lemmas.Option.{same_Some}
 use Rattle.dap_model.specs.declared.declaration.Decl.{Decl}
-use Rattle.dap_model.specs.declared.fault.ProjectFault.{ProjectFault}
 use Rattle.dap_model.specs.declared.projection.Clause.{Clause}
-use Rattle.dap_model.specs.declared.projection.Projected.{Projected}
 use Rattle.dap_model.specs.declared.projection.Sent.{Sent}
 use Rattle.dap_model.specs.declared.projection.Slab.{Slab}
-use Rattle.dap_model.specs.Projection.{name_of, parts_of, part_dims, given_by, slabs_of, sent_of, all_sent, first_fault, unless_fault, projection_of}
+use Rattle.dap_model.specs.Projection.{name_of, parts_of, part_dims, given_by, slabs_of, sent_of, all_sent}
 use Rattle.dap_model.specs.ProjectionFacts.{AreNamedApart, IsGridded, StandsBefore, IsAsked, IsWhole, FitsDim, FitsPart}
-use Rattle.dap_model.proofs.ListLemmas.{Has, Has-slice_get, Has-from_contains, contains_from_Has, Has-flat_map, Source-flat_map, Has-filter_map, Source-filter_map, within_range, Has-range, slice_get-numbered, Has-numbered, Ordered, Ordered-from_pairs, Ordered-filter_map, Ordered-flat_map, Ordered-range, Ordered-numbered, mapped_some}
 use Rattle.dap_model.proofs.ProjectionAgreeLemmas.{Sound, Sound-from_none, decl_named-is, picked_if_given, Faultless, Faultless-first, slabs_of-given, given-slabs_of}
 use Rattle.dap_model.proofs.ProjectionFitLemmas.{whole_slabs-fit, given-fit}
-
--- an accepted projection has no fault and is what is sent
-pub record Accepted (decls : List Decl) (clauses : List Clause) (projected : Projected) : Type 0 where
-  pub faultless : Faultless decls [] clauses
-  pub all : all_sent decls clauses ≡ projected
-
-accepted_from : (first : Projected) (fault : Option ProjectFault) (projected : Projected) → unless_fault first fault ≡ Ok projected → (fault ≡ None) × (first ≡ projected)
-accepted_from first None projected e = (refl, cc)
-accepted_from first (Some fault) projected e = absurd (cc)
-
-pub Accepted-projection_of : (decls : List Decl) (clauses : List Clause) (projected : Projected) → projection_of decls clauses ≡ Ok projected → Accepted decls clauses projected
-unfolding projection_of
-Accepted-projection_of decls clauses projected e =
-    let parts = accepted_from (all_sent decls clauses) (first_fault decls [] clauses) projected e in
-    record { faultless = parts.0; all = parts.1 }
-
-refused_from : (first : Projected) (o : Option ProjectFault) (fault : ProjectFault) → unless_fault first o ≡ Err fault → o ≡ Some fault
-refused_from first None fault e = absurd (cc)
-refused_from first (Some other) fault e = cc
-
-pub first_fault-refused : (decls : List Decl) (clauses : List Clause) (fault : ProjectFault) → projection_of decls clauses ≡ Err fault → first_fault decls [] clauses ≡ Some fault
-unfolding projection_of
-first_fault-refused decls clauses fault e = refused_from (all_sent decls clauses) (first_fault decls [] clauses) fault e
-
-pub refused-first_fault : (decls : List Decl) (clauses : List Clause) (fault : ProjectFault) → first_fault decls [] clauses ≡ Some fault → projection_of decls clauses ≡ Err fault
-unfolding projection_of
-refused-first_fault decls clauses fault e = ap (unless_fault (all_sent decls clauses)) e
-
-none_if_ok : (first : Projected) (o : Option ProjectFault) → IsOk (unless_fault first o) → o ≡ None
-none_if_ok first None ok = refl
-none_if_ok first (Some fault) ok = absurd (false≢true ok)
-
-pub faultless_if_ok : (decls : List Decl) (clauses : List Clause) → IsOk (projection_of decls clauses) → first_fault decls [] clauses ≡ None
-unfolding projection_of
-faultless_if_ok decls clauses ok = none_if_ok (all_sent decls clauses) (first_fault decls [] clauses) ok
-
-pub ok_if_faultless : (decls : List Decl) (clauses : List Clause) → first_fault decls [] clauses ≡ None → IsOk (projection_of decls clauses)
-unfolding projection_of
-ok_if_faultless decls clauses none = ap (λ (o : Option ProjectFault). is_ok (unless_fault (all_sent decls clauses) o)) none
+use Rattle.dap_model.proofs.ListLemmas.{Has, Has-slice_get, Has-from_contains, contains_from_Has, Has-flat_map, Source-flat_map, Has-filter_map, Source-filter_map, within_range, Has-range, slice_get-numbered, Has-numbered, mapped_some}
+use Rattle.dap_model.proofs.OrderLemmas.{Ordered, Ordered-from_pairs, Ordered-filter_map, Ordered-flat_map, Ordered-range, Ordered-numbered}
 
 -- a part that is sent
 pub record PartSent (decls : List Decl) (clauses : List Clause) (sent : Sent) : Type 0 where

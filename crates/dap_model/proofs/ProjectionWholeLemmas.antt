@@ -10,7 +10,7 @@ use Rattle.dap_model.specs.declared.projection.Clause.{Clause}
 use Rattle.dap_model.specs.declared.projection.Slab.{Slab}
 use Rattle.dap_model.specs.Box.{slab_count}
 use Rattle.dap_model.specs.Projection.{name_of, parts_of, part_dims, whole_slabs, slabs_of, cut_array, cut_parts, is_sent, is_kept, rebuilt, decl_sent, all_sent}
-use Rattle.dap_model.proofs.BoxLemmas.{slab_count-whole}
+use Rattle.dap_model.proofs.SlabLemmas.{slab_count-whole}
 use Rattle.dap_model.proofs.ListLemmas.{Has, slice_get-numbered, filter_map-each, items-numbered, map-same, map-map}
 
 whole_cut : (dims : List Dim) → map (λ (pair : Dim × Slab). record pair.0 { size = slab_count pair.1 }) (zip dims (whole_slabs dims)) ≡ dims

@@ -1,5 +1,5 @@
 -- Lemmas on the definitions.
-use Rattle.dap_model.proofs.BoxLemmas.{length-slab_indices, Contains-slab_indices, IsStrictlyIncreasing-slab_indices}
+use Rattle.dap_model.proofs.SlabLemmas.{length-slab_indices, Contains-slab_indices, IsStrictlyIncreasing-slab_indices}
 use Rattle.dap_model.proofs.laws.boxes.slab_picks.Goals as goal
 
 pub returns : goal.returns

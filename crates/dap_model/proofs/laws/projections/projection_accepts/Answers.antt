@@ -1,7 +1,7 @@
 -- No first fault is no fault.
 use Rattle.std.proofs.Common.{[]}
 use Rattle.dap_model.proofs.ProjectionFaultLemmas.{none_after, no_first_fault}
-use Rattle.dap_model.proofs.ProjectionSentLemmas.{faultless_if_ok, ok_if_faultless}
+use Rattle.dap_model.proofs.ProjectionAcceptLemmas.{faultless_if_ok, ok_if_faultless}
 use Rattle.dap_model.proofs.laws.projections.projection_accepts.Goals as goal
 
 pub returns : goal.returns

@@ -5,7 +5,7 @@ use Rattle.dap_model.specs.declared.projection.Projected.{Projected}
 use Rattle.dap_model.specs.Projection.{parts_of}
 use Rattle.dap_model.specs.ProjectionFacts.{IsCut}
 use Rattle.dap_model.proofs.ProjectionCutLemmas.{cut_sent}
-use Rattle.dap_model.proofs.ProjectionSentLemmas.{Accepted-projection_of}
+use Rattle.dap_model.proofs.ProjectionAcceptLemmas.{Accepted-projection_of}
 use Rattle.dap_model.proofs.laws.projections.projection_cuts.Goals as goal
 
 pub returns : goal.returns

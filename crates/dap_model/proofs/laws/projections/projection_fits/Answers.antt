@@ -3,7 +3,8 @@ use Rattle.std.proofs.Common.{List, ap, get_or, subst, sym}
 use Rattle.dap_model.specs.declared.projection.Projected.{Projected}
 use Rattle.dap_model.specs.declared.projection.Sent.{Sent}
 use Rattle.dap_model.proofs.ListLemmas.{Has, Has-at}
-use Rattle.dap_model.proofs.ProjectionSentLemmas.{Accepted-projection_of, PartSent-all_sent, FitsPart-sent}
+use Rattle.dap_model.proofs.ProjectionAcceptLemmas.{Accepted-projection_of}
+use Rattle.dap_model.proofs.ProjectionSentLemmas.{PartSent-all_sent, FitsPart-sent}
 use Rattle.dap_model.proofs.laws.projections.projection_fits.Goals as goal
 
 pub returns : goal.returns

@@ -4,8 +4,9 @@ use Rattle.dap_model.specs.declared.projection.Projected.{Projected}
 use Rattle.dap_model.specs.declared.projection.Sent.{Sent}
 use Rattle.dap_model.specs.Projection.{name_of}
 use Rattle.dap_model.specs.ProjectionFacts.{StandsBefore}
-use Rattle.dap_model.proofs.ListLemmas.{Ordered, AllPairs-from_ordered}
-use Rattle.dap_model.proofs.ProjectionSentLemmas.{Accepted-projection_of, AllPairs-all_sent}
+use Rattle.dap_model.proofs.OrderLemmas.{Ordered, AllPairs-from_ordered}
+use Rattle.dap_model.proofs.ProjectionAcceptLemmas.{Accepted-projection_of}
+use Rattle.dap_model.proofs.ProjectionSentLemmas.{AllPairs-all_sent}
 use Rattle.dap_model.proofs.ProjectionWholeLemmas.{names_sent}
 use Rattle.dap_model.proofs.laws.projections.projection_keeps_order.Goals as goal
 

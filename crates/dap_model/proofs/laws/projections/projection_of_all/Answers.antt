@@ -3,7 +3,8 @@ use Rattle.std.proofs.Common.{[], List, ◌∙◌, ap, subst, sym}
 use Rattle.dap_model.specs.declared.projection.Projected.{Projected}
 use Rattle.dap_model.specs.declared.projection.Sent.{Sent}
 use Rattle.dap_model.proofs.ListLemmas.{Has, Has-from_contains, contains_from_Has}
-use Rattle.dap_model.proofs.ProjectionSentLemmas.{Accepted-projection_of, PartSent-all_sent, Has-all_sent, whole_sent}
+use Rattle.dap_model.proofs.ProjectionAcceptLemmas.{Accepted-projection_of}
+use Rattle.dap_model.proofs.ProjectionSentLemmas.{PartSent-all_sent, Has-all_sent, whole_sent}
 use Rattle.dap_model.proofs.ProjectionWholeLemmas.{all_sent-whole}
 use Rattle.dap_model.proofs.laws.projections.projection_of_all.Goals as goal
 

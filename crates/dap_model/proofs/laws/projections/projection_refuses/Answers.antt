@@ -1,6 +1,6 @@
 -- The first fault is the one that is found.
 use Rattle.dap_model.proofs.ProjectionFaultLemmas.{IsFirstFault-first_fault, first_fault-is}
-use Rattle.dap_model.proofs.ProjectionSentLemmas.{first_fault-refused, refused-first_fault}
+use Rattle.dap_model.proofs.ProjectionAcceptLemmas.{first_fault-refused, refused-first_fault}
 use Rattle.dap_model.proofs.laws.projections.projection_refuses.Goals as goal
 
 pub returns : goal.returns
