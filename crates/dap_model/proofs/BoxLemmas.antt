@@ -131,18 +131,18 @@ placed_of (slab ∷ slabs) (i ∷ index) some picks =
       place = picks.0.strides * box_len slabs + others.place;
       within = subst (λ (n : ℕ). picks.0.strides * box_len slabs + others.place < n) (mul_comm (box_len slabs) (slab_count slab)) (mul-add-lt picks.0.strides (box_len slabs) others.place (slab_count slab) first others.within);
       index_is = index_at-cons slab slabs picks.0.strides others.place others.within
-      ∙ ap₂ (λ (n : ℕ) (l : List ℕ). n ∷ l) (sym picks.0.whole) others.index_is;
+          ∙ ap₂ (λ (n : ℕ) (l : List ℕ). n ∷ l) (sym picks.0.whole) others.index_is;
     }
 
 -- the index lists of a box are those that are picked
 pub Contains-box_of : (slabs : List Slab) (index : List ℕ) → All HasStride slabs → Contains (box_of slabs) index ↔ EachPicks slabs index
 Contains-box_of slabs index some = (
   λ found.
-  let within : found.0 < box_len slabs = subst (λ (n : ℕ). found.0 < n) (length-box_of slabs) found.1 in
-  subst (EachPicks slabs) (sym (get_or-box_of slabs found.0 index within) ∙ found.2) (EachPicks-index_at slabs found.0 some within),
+      let within : found.0 < box_len slabs = subst (λ (n : ℕ). found.0 < n) (length-box_of slabs) found.1 in
+      subst (EachPicks slabs) (sym (get_or-box_of slabs found.0 index within) ∙ found.2) (EachPicks-index_at slabs found.0 some within),
   λ picks.
-  let placed = placed_of slabs index some picks in
-  (placed.place, subst (λ (n : ℕ). placed.place < n) (sym (length-box_of slabs)) placed.within, get_or-box_of slabs placed.place index placed.within ∙ placed.index_is)
+      let placed = placed_of slabs index some picks in
+      (placed.place, subst (λ (n : ℕ). placed.place < n) (sym (length-box_of slabs)) placed.within, get_or-box_of slabs placed.place index placed.within ∙ placed.index_is),
 )
 
 -- the box of whole slabs is all index lists of the shape

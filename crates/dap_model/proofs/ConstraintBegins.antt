@@ -64,7 +64,7 @@ BeginsConstraint-run text last ran =
       rest = more.rest;
       clauses = more.clauses;
       spelled = Constrains-from_leads (text ++ more.rest) more.last more.clauses
-      (Leads-front (text ++ more.rest) more.last (run-append front last text more.rest ran ∙ more.ran)) more.ends;
+          (Leads-front (text ++ more.rest) more.last (run-append front last text more.rest ran ∙ more.ran)) more.ends;
     }
 
 -- where reading dies it doesn't go on, whatever follows

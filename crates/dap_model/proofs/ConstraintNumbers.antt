@@ -62,7 +62,7 @@ closed text begun numbers count value slab s made =
         text_is = ap (λ (l : List ℕ). l ++ slab_text) front.clause.text_is ∙ append_assoc front.clause.path_text front.clause.slabs_text slab_text;
       };
       text_is = ap (λ (l : List ℕ). l ++ 93 ∷ []) (s.text_is ∙ ap (λ (l : List ℕ). l ++ s.digits) (s.leads.text_is ∙ ap (λ (l : List ℕ). l ++ 91 ∷ s.leads.inner) front.text_is))
-      ∙ simp append_assoc;
+          ∙ simp append_assoc;
     }
 
 as_and_then : (begun : Begun) (made : Option Slab)

@@ -84,8 +84,8 @@ run-clause clauses text clause s =
     record {
       last = slabs.last;
       ran = ap (run (before_name (opened clauses))) s.text_is
-      ∙ run-append (before_name (opened clauses)) (in_name path.earlier path.name) s.path_text s.slabs_text path.ran
-      ∙ slabs.ran;
+          ∙ run-append (before_name (opened clauses)) (in_name path.earlier path.name) s.path_text s.slabs_text path.ran
+          ∙ slabs.ran;
       stands = slabs.stands;
     }
 
@@ -107,9 +107,9 @@ run-clauses before text (clause ∷ next ∷ clauses) s =
     record {
       last = others.last;
       ran = ap (run (before_name (opened before))) s.4
-      ∙ run-append (before_name (opened before)) first.last s.0 (44 ∷ s.1) first.ran
-      ∙ run-cons first.last (before_name (opened (before ++ clause ∷ []))) 44 s.1 first.stands.comma
-      ∙ others.ran;
+          ∙ run-append (before_name (opened before)) first.last s.0 (44 ∷ s.1) first.ran
+          ∙ run-cons first.last (before_name (opened (before ++ clause ∷ []))) 44 s.1 first.stands.comma
+          ∙ others.ran;
       clauses_are = others.clauses_are ∙ ap Some (append_assoc before (clause ∷ []) (next ∷ clauses));
     }
 

@@ -63,9 +63,9 @@ run-path begun text (name ∷ next ∷ path) s =
       earlier = others.earlier;
       name = others.name;
       ran = ap (run (before_name begun)) s.4
-      ∙ run-append (before_name begun) (in_name begun name) s.0 (46 ∷ s.1) (run-name begun s.0 name s.2)
-      ∙ run-cons (in_name begun name) (before_name (with_name begun name)) 46 s.1 refl
-      ∙ others.ran;
+          ∙ run-append (before_name begun) (in_name begun name) s.0 (46 ∷ s.1) (run-name begun s.0 name s.2)
+          ∙ run-cons (in_name begun name) (before_name (with_name begun name)) 46 s.1 refl
+          ∙ others.ran;
       whole = others.whole ∙ ap (λ (each : List (List ℕ)). record begun { path = each }) (append_assoc begun.path (name ∷ []) (next ∷ path));
     }
 
@@ -94,9 +94,9 @@ run-number begun numbers (byte ∷ text) value s =
     record {
       count = 1 + length text;
       ran = run-cons (before_number begun numbers) (in_number begun numbers 1 (byte - 48)) byte text (cond-true _ _ _ tests.0)
-      ∙ more_digits begun numbers 1 (byte - 48) text tests.1 (omega (arith, s.few))
-      ∙ ap (λ (v : ℕ). Some (in_number begun numbers (1 + length text) (number_after v text))) first
-      ∙ ap (λ (v : ℕ). Some (in_number begun numbers (1 + length text) v)) (sym s.value);
+          ∙ more_digits begun numbers 1 (byte - 48) text tests.1 (omega (arith, s.few))
+          ∙ ap (λ (v : ℕ). Some (in_number begun numbers (1 + length text) (number_after v text))) first
+          ∙ ap (λ (v : ℕ). Some (in_number begun numbers (1 + length text) v)) (sym s.value);
     }
 
 -- reading stands in the last of some numbers
@@ -123,8 +123,8 @@ run-numbers begun before text (number ∷ next ∷ numbers) few s =
       count = others.count;
       value = others.value;
       ran = ap (run (before_number begun before)) s.4
-      ∙ run-append (before_number begun before) (in_number begun before first.count number) s.0 (58 ∷ s.1) first.ran
-      ∙ run-cons (in_number begun before first.count number) (before_number begun (before ++ number ∷ [])) 58 s.1 (cond-true _ _ _ below)
-      ∙ others.ran;
+          ∙ run-append (before_number begun before) (in_number begun before first.count number) s.0 (58 ∷ s.1) first.ran
+          ∙ run-cons (in_number begun before first.count number) (before_number begun (before ++ number ∷ [])) 58 s.1 (cond-true _ _ _ below)
+          ∙ others.ran;
       whole = others.whole ∙ append_assoc before (number ∷ []) (next ∷ numbers);
     }

@@ -18,9 +18,9 @@ pub Ordered-from_pairs : {A : Type 0} (R : A → A → Type 0) (xs : List A) →
 Ordered-from_pairs R [] pairs = tt
 Ordered-from_pairs R (x ∷ xs) pairs = (
   λ y has.
-  let found = contains_from_Has xs y has in
-  subst (R x) found.2 (pairs 0 (suc found.0) y (omega arith) (omega (arith, found.1))),
-  Ordered-from_pairs R xs (λ i j d before within. pairs (suc i) (suc j) d (omega arith) (omega arith))
+      let found = contains_from_Has xs y has in
+      subst (R x) found.2 (pairs 0 (suc found.0) y (omega arith) (omega (arith, found.1))),
+  Ordered-from_pairs R xs (λ i j d before within. pairs (suc i) (suc j) d (omega arith) (omega arith)),
 )
 
 pub Ordered-append : {A : Type 0} (R : A → A → Type 0) (xs ys : List A) → Ordered R xs → Ordered R ys
@@ -28,7 +28,7 @@ pub Ordered-append : {A : Type 0} (R : A → A → Type 0) (xs ys : List A) → 
 Ordered-append R [] ys first second across = second
 Ordered-append R (x ∷ xs) ys first second across = (
   λ y has. elim (Has-either xs ys y has) [ inl left ↦ first.0 y left | inr right ↦ across x y (inl refl) right ],
-  Ordered-append R xs ys first.1 second (λ a b left right. across a b (inr left) right)
+  Ordered-append R xs ys first.1 second (λ a b left right. across a b (inr left) right),
 )
 
 -- what stands before in a list gives what stands before
@@ -41,9 +41,9 @@ Ordered-filter_map R S h (x ∷ xs) ordered keeps =
       | inl none ↦ subst (Ordered S) (sym (filter_map-none h x xs none)) others
       | inr some ↦ subst (Ordered S) (sym (filter_map-some h x xs some.0 some.1)) (
         λ b has.
-        let s = Source-filter_map h xs b has in
-        keeps x s.item some.0 b (ordered.0 s.item s.has) some.1 s.gives,
-        others
+            let s = Source-filter_map h xs b has in
+            keeps x s.item some.0 b (ordered.0 s.item s.has) some.1 s.gives,
+        others,
       )
     ]
 

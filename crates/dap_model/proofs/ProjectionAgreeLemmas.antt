@@ -23,13 +23,13 @@ made start stride stop = record { start = start; stride = stride; stop = stop }
 same_slab : (slab other : Slab) → Decides (is_same_slab slab other) (slab ≡ other)
 same_slab slab other = (
   λ passes.
-  let tests = and_parts _ _ passes in
-  let front = and_parts _ _ tests.0 in
-  let start : slab.start ≡ other.start = eqb-true _ _ front.0 in
-  let stride : slab.stride ≡ other.stride = eqb-true _ _ front.1 in
-  let stop : slab.stop ≡ other.stop = eqb-true _ _ tests.1 in
-  ap₂ (λ (a b : ℕ). made a b slab.stop) start stride ∙ ap (made other.start other.stride) stop,
-  λ same. and_from _ _ (and_from _ _ (eq-eqb _ _ (ap (λ (s : Slab). s.start) same)) (eq-eqb _ _ (ap (λ (s : Slab). s.stride) same))) (eq-eqb _ _ (ap (λ (s : Slab). s.stop) same))
+      let tests = and_parts _ _ passes in
+      let front = and_parts _ _ tests.0 in
+      let start : slab.start ≡ other.start = eqb-true _ _ front.0 in
+      let stride : slab.stride ≡ other.stride = eqb-true _ _ front.1 in
+      let stop : slab.stop ≡ other.stop = eqb-true _ _ tests.1 in
+      ap₂ (λ (a b : ℕ). made a b slab.stop) start stride ∙ ap (made other.start other.stride) stop,
+  λ same. and_from _ _ (and_from _ _ (eq-eqb _ _ (ap (λ (s : Slab). s.start) same)) (eq-eqb _ _ (ap (λ (s : Slab). s.stride) same))) (eq-eqb _ _ (ap (λ (s : Slab). s.stop) same)),
 )
 
 same_slabs : (first second : List Slab) → are_other (Some first) (Some second) ≡ false → first ≡ second

@@ -73,7 +73,7 @@ pub whole_sent : (decls : List Decl) (sent : Sent) → PartSent decls [] sent �
 unfolding slabs_of
 whole_sent decls sent = (
   λ s. record { decl = s.decl; decl_is = s.decl_is; within = s.within; slabs_are = sym (same_Some _ _ s.slabs_are) },
-  λ s. record { decl = s.decl; decl_is = s.decl_is; within = s.within; slabs_are = ap Some (sym s.slabs_are) }
+  λ s. record { decl = s.decl; decl_is = s.decl_is; within = s.within; slabs_are = ap Some (sym s.slabs_are) },
 )
 
 -- what is sent for clauses without a fault is each part that some clause names
@@ -81,15 +81,15 @@ pub asked_sent : (decls : List Decl) (clauses : List Clause) (sent : Sent) → c
 asked_sent decls [] sent some apart none = absurd (some refl)
 asked_sent decls (x ∷ clauses) sent some apart none = (
   λ s.
-  let t = given-slabs_of x clauses s.decl sent.part sent.slabs s.slabs_are in
-  record { decl = s.decl; clause = t.0; decl_is = s.decl_is; within = s.within; clause_is = contains_from_Has (x ∷ clauses) t.0 t.1; slabs_are = t.2 },
+      let t = given-slabs_of x clauses s.decl sent.part sent.slabs s.slabs_are in
+      record { decl = s.decl; clause = t.0; decl_is = s.decl_is; within = s.within; clause_is = contains_from_Has (x ∷ clauses) t.0 t.1; slabs_are = t.2 },
   λ s. record {
     decl = s.decl;
     decl_is = s.decl_is;
     within = s.within;
     slabs_are = slabs_of-given decls (x ∷ clauses) s.decl s.clause sent.part sent.slabs apart (Has-slice_get decls sent.decl s.decl s.decl_is) s.within none
-    (Has-from_contains (x ∷ clauses) s.clause s.clause_is) s.slabs_are;
-  }
+        (Has-from_contains (x ∷ clauses) s.clause s.clause_is) s.slabs_are;
+  },
 )
 
 -- parts are sent in the dataset's order

@@ -16,9 +16,13 @@ Followed byte S text items = Spelled (Ended byte S) text items
 pub Spelled-push : {A : Type 0} (S : List ℕ → A → Type 0) (front last : List ℕ) (items : List A) (item : A)
     → Spelled S front items → S last item → Spelled S (front ++ last) (items ++ item ∷ [])
 Spelled-push S front last [] item none s = (last, [], s, refl, ap (λ (l : List ℕ). l ++ last) none ∙ sym (append-nil last))
-Spelled-push S front last (x ∷ items) item each s =
-    (each.0, each.1 ++ last, each.2, Spelled-push S each.1 last items item each.3 s,
-    ap (λ (l : List ℕ). l ++ last) each.4 ∙ append_assoc each.0 each.1 last)
+Spelled-push S front last (x ∷ items) item each s = (
+  each.0,
+  each.1 ++ last,
+  each.2,
+  Spelled-push S each.1 last items item each.3 s,
+  ap (λ (l : List ℕ). l ++ last) each.4 ∙ append_assoc each.0 each.1 last,
+)
 
 -- one item more, with the byte after it
 pub Followed-push : {A : Type 0} (byte : ℕ) (S : List ℕ → A → Type 0) (front last : List ℕ) (items : List A) (item : A)
@@ -37,9 +41,17 @@ joined byte front first others inner last whole ended =
 pub Separated-last : {A : Type 0} (byte : ℕ) (S : List ℕ → A → Type 0) (front last : List ℕ) (items : List A) (item : A)
     → Followed byte S front items → S last item → Separated byte S (front ++ last) (items ++ item ∷ [])
 Separated-last byte S front last [] item none s = subst (λ (l : List ℕ). S (l ++ last) item) (sym none) s
-Separated-last byte S front last (x ∷ []) item each s =
-    (each.2.inner, each.1 ++ last, each.2.spelled, Separated-last byte S each.1 last [] item each.3 s,
-    joined byte front each.0 each.1 each.2.inner last each.4 each.2.text_is)
-Separated-last byte S front last (x ∷ y ∷ items) item each s =
-    (each.2.inner, each.1 ++ last, each.2.spelled, Separated-last byte S each.1 last (y ∷ items) item each.3 s,
-    joined byte front each.0 each.1 each.2.inner last each.4 each.2.text_is)
+Separated-last byte S front last (x ∷ []) item each s = (
+  each.2.inner,
+  each.1 ++ last,
+  each.2.spelled,
+  Separated-last byte S each.1 last [] item each.3 s,
+  joined byte front each.0 each.1 each.2.inner last each.4 each.2.text_is,
+)
+Separated-last byte S front last (x ∷ y ∷ items) item each s = (
+  each.2.inner,
+  each.1 ++ last,
+  each.2.spelled,
+  Separated-last byte S each.1 last (y ∷ items) item each.3 s,
+  joined byte front each.0 each.1 each.2.inner last each.4 each.2.text_is,
+)

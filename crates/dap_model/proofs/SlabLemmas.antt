@@ -62,11 +62,11 @@ strides_within slab index some picks = elim (count_cases slab) [
 pub Contains-slab_indices : (slab : Slab) (index : ℕ) → HasStride slab → Contains (slab_indices slab) index ↔ Picks slab index
 Contains-slab_indices slab index some = (
   λ found.
-  let within : found.0 < slab_count slab = subst (λ (n : ℕ). found.0 < n) (length-slab_indices slab) found.1 in
-  subst (Picks slab) (sym (get_or-slab_indices slab found.0 index within) ∙ found.2) (Picks-slab_index slab found.0 some within),
+      let within : found.0 < slab_count slab = subst (λ (n : ℕ). found.0 < n) (length-slab_indices slab) found.1 in
+      subst (Picks slab) (sym (get_or-slab_indices slab found.0 index within) ∙ found.2) (Picks-slab_index slab found.0 some within),
   λ picks.
-  let within = strides_within slab index some picks in
-  (picks.strides, subst (λ (n : ℕ). picks.strides < n) (sym (length-slab_indices slab)) within, get_or-slab_indices slab picks.strides index within ∙ sym picks.whole)
+      let within = strides_within slab index some picks in
+      (picks.strides, subst (λ (n : ℕ). picks.strides < n) (sym (length-slab_indices slab)) within, get_or-slab_indices slab picks.strides index within ∙ sym picks.whole),
 )
 
 -- the indices of a slab rise

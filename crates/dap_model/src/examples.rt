@@ -25,11 +25,11 @@ pub fn slabs()
 pub fn boxes()
     ensures none { box_of [] ≡ [] ∷ [] }
     ensures rows { box_of (record { start = 0; stride = 2; stop = 2 }
-            ∷ record { start = 1; stride = 1; stop = 3 } ∷ [])
+        ∷ record { start = 1; stride = 1; stop = 3 } ∷ [])
         ≡ (0 ∷ 1 ∷ []) ∷ (0 ∷ 2 ∷ []) ∷ (0 ∷ 3 ∷ [])
-            ∷ (2 ∷ 1 ∷ []) ∷ (2 ∷ 2 ∷ []) ∷ (2 ∷ 3 ∷ []) ∷ [] }
+        ∷ (2 ∷ 1 ∷ []) ∷ (2 ∷ 2 ∷ []) ∷ (2 ∷ 3 ∷ []) ∷ [] }
     ensures by_division { index_at (record { start = 0; stride = 2; stop = 2 }
-            ∷ record { start = 1; stride = 1; stop = 3 } ∷ []) 4
+        ∷ record { start = 1; stride = 1; stop = 3 } ∷ []) 4
         ≡ 2 ∷ 2 ∷ [] }
 {}
 
@@ -37,7 +37,7 @@ pub fn boxes()
 pub fn words()
     ensures shorts { array_bytes DapKind.Int16 (1 ∷ 0xfffe ∷ 3 ∷ [])
         ≡ 0 ∷ 0 ∷ 0 ∷ 3 ∷ 0 ∷ 0 ∷ 0 ∷ 3
-            ∷ 0 ∷ 0 ∷ 0 ∷ 1 ∷ 0xff ∷ 0xff ∷ 0xff ∷ 0xfe ∷ 0 ∷ 0 ∷ 0 ∷ 3 ∷ [] }
+        ∷ 0 ∷ 0 ∷ 0 ∷ 1 ∷ 0xff ∷ 0xff ∷ 0xff ∷ 0xfe ∷ 0 ∷ 0 ∷ 0 ∷ 3 ∷ [] }
     ensures bytes { array_bytes DapKind.Byte (1 ∷ 2 ∷ 3 ∷ 4 ∷ 255 ∷ [])
         ≡ 0 ∷ 0 ∷ 0 ∷ 5 ∷ 0 ∷ 0 ∷ 0 ∷ 5 ∷ 1 ∷ 2 ∷ 3 ∷ 4 ∷ 255 ∷ 0 ∷ 0 ∷ 0 ∷ [] }
     ensures byte_alone { number_bytes DapKind.Byte 0xff ≡ 0 ∷ 0 ∷ 0 ∷ 0xff ∷ [] }
@@ -50,28 +50,28 @@ pub fn texts()
     ensures alone { text_bytes (codes "ab") ≡ 0 ∷ 0 ∷ 0 ∷ 2 ∷ 97 ∷ 98 ∷ 0 ∷ 0 ∷ [] }
     ensures two { texts_bytes (codes "ab" ∷ codes "cdef" ∷ [])
         ≡ 0 ∷ 0 ∷ 0 ∷ 2 ∷ 0 ∷ 0 ∷ 0 ∷ 2 ∷ 97 ∷ 98 ∷ 0 ∷ 0
-            ∷ 0 ∷ 0 ∷ 0 ∷ 4 ∷ 99 ∷ 100 ∷ 101 ∷ 102 ∷ [] }
+        ∷ 0 ∷ 0 ∷ 0 ∷ 4 ∷ 99 ∷ 100 ∷ 101 ∷ 102 ∷ [] }
 {}
 
 /// Constraints, and what they ask for.
 pub fn constraints()
     ensures empty { constraint_of [] ≡ Ok [] }
     ensures strided { constraint_of (codes "time[0:2:3]") ≡ Ok (record {
-            path = codes "time" ∷ [];
-            slabs = record { start = 0; stride = 2; stop = 3 } ∷ []
-        } ∷ []) }
+      path = codes "time" ∷ [];
+      slabs = record { start = 0; stride = 2; stop = 3 } ∷ [];
+    } ∷ []) }
     ensures three { constraint_of (codes "t[1][0][007]") ≡ Ok (record {
-            path = codes "t" ∷ [];
-            slabs = record { start = 1; stride = 1; stop = 1 }
-                ∷ record { start = 0; stride = 1; stop = 0 }
-                ∷ record { start = 7; stride = 1; stop = 7 } ∷ []
-        } ∷ []) }
+      path = codes "t" ∷ [];
+      slabs = record { start = 1; stride = 1; stop = 1 }
+          ∷ record { start = 0; stride = 1; stop = 0 }
+          ∷ record { start = 7; stride = 1; stop = 7 } ∷ [];
+    } ∷ []) }
     ensures member { constraint_of (codes "t.lat,time_run[4:2]")
         ≡ Ok (record { path = codes "t" ∷ codes "lat" ∷ []; slabs = [] }
-            ∷ record {
-                path = codes "time_run" ∷ [];
-                slabs = record { start = 4; stride = 1; stop = 2 } ∷ []
-            } ∷ []) }
+        ∷ record {
+          path = codes "time_run" ∷ [];
+          slabs = record { start = 4; stride = 1; stop = 2 } ∷ [];
+        } ∷ []) }
 {}
 
 /// Texts that are no constraints, with the place up to which some constraint begins so.
@@ -111,7 +111,7 @@ pub fn structure_text()
 /// A part of a Grid is sent in a Structure.
 pub fn structure_text_of_a_member()
     ensures { dds_of (codes "gfs_best.ncd") (Decl.Structure (codes "t")
-            (coordinate DapKind.Float32 (codes "lat") 2 ∷ []) ∷ [])
+        (coordinate DapKind.Float32 (codes "lat") 2 ∷ []) ∷ [])
         ≡ codes "Dataset {\n"
         ++ codes "    Structure {\n"
         ++ codes "        Float32 lat[lat = 2];\n"
@@ -123,30 +123,30 @@ pub fn structure_text_of_a_member()
 /// alone is sent in a Structure.
 pub fn projections()
     ensures grid { example_sent (codes "t[1][0][0]") ≡ Ok (record {
-            decls = t_grid 1 1 1 ∷ [];
-            sent = record { decl = 3; part = 0; slabs = at 1 ∷ at 0 ∷ at 0 ∷ [] }
-                ∷ record { decl = 3; part = 1; slabs = at 1 ∷ [] }
-                ∷ record { decl = 3; part = 2; slabs = at 0 ∷ [] }
-                ∷ record { decl = 3; part = 3; slabs = at 0 ∷ [] } ∷ []
-        }) }
+      decls = t_grid 1 1 1 ∷ [];
+      sent = record { decl = 3; part = 0; slabs = at 1 ∷ at 0 ∷ at 0 ∷ [] }
+          ∷ record { decl = 3; part = 1; slabs = at 1 ∷ [] }
+          ∷ record { decl = 3; part = 2; slabs = at 0 ∷ [] }
+          ∷ record { decl = 3; part = 3; slabs = at 0 ∷ [] } ∷ [];
+    }) }
     ensures member { example_sent (codes "t.lat") ≡ Ok (record {
-            decls = Decl.Structure (codes "t")
-                (coordinate DapKind.Float32 (codes "lat") 2 ∷ []) ∷ [];
-            sent = record { decl = 3; part = 2; slabs = whole_slab 2 ∷ [] } ∷ []
-        }) }
+      decls = Decl.Structure (codes "t")
+          (coordinate DapKind.Float32 (codes "lat") 2 ∷ []) ∷ [];
+      sent = record { decl = 3; part = 2; slabs = whole_slab 2 ∷ [] } ∷ [];
+    }) }
     ensures in_order { example_sent (codes "t.lon,lat[1],t.t[0:2:2][0][0]") ≡ Ok (record {
-            decls = Decl.Plain (coordinate DapKind.Float32 (codes "lat") 1)
-                ∷ Decl.Structure (codes "t") (array DapKind.Float32 (codes "t")
-                    (dim (codes "time") 2 ∷ dim (codes "lat") 1 ∷ dim (codes "lon") 1 ∷ [])
-                    ∷ coordinate DapKind.Float32 (codes "lon") 2 ∷ []) ∷ [];
-            sent = record { decl = 1; part = 0; slabs = at 1 ∷ [] }
-                ∷ record {
-                    decl = 3;
-                    part = 0;
-                    slabs = record { start = 0; stride = 2; stop = 2 } ∷ at 0 ∷ at 0 ∷ []
-                }
-                ∷ record { decl = 3; part = 3; slabs = whole_slab 2 ∷ [] } ∷ []
-        }) }
+      decls = Decl.Plain (coordinate DapKind.Float32 (codes "lat") 1)
+          ∷ Decl.Structure (codes "t") (array DapKind.Float32 (codes "t")
+          (dim (codes "time") 2 ∷ dim (codes "lat") 1 ∷ dim (codes "lon") 1 ∷ [])
+          ∷ coordinate DapKind.Float32 (codes "lon") 2 ∷ []) ∷ [];
+      sent = record { decl = 1; part = 0; slabs = at 1 ∷ [] }
+          ∷ record {
+            decl = 3;
+            part = 0;
+            slabs = record { start = 0; stride = 2; stop = 2 } ∷ at 0 ∷ at 0 ∷ [];
+          }
+          ∷ record { decl = 3; part = 3; slabs = whole_slab 2 ∷ [] } ∷ [];
+    }) }
     ensures same_twice { example_sent (codes "time,time[0:2]") ≡ example_sent (codes "time") }
 {}
 

@@ -23,7 +23,7 @@ pub fn array_layout(kind: DapKind, numbers: &[u64], place: u64, offset: u64)
     ensures length { length (array_bytes kind numbers.now)
         ≡ 8 + elements_len kind (length numbers.now) }
     ensures element { slice_get (array_bytes kind numbers.now)
-            (8 + (place * element_len kind + offset))
+        (8 + (place * element_len kind + offset))
         ≡ slice_get (element_bytes kind (slice_index numbers.now place)) offset }
 {}
 
@@ -45,11 +45,11 @@ pub fn part_layout(kind: DapKind, slabs: &[Slab], place: u64, offset: u64)
     requires inside { offset < element_len kind }
     ensures length { (bits : List ℕ → ℕ) (words : List ℕ → List ℕ)
         → length (xdr_of kind (values_at kind slabs.now bits words))
-            ≡ 8 + elements_len kind (box_len slabs.now) }
+        ≡ 8 + elements_len kind (box_len slabs.now) }
     ensures element { (bits : List ℕ → ℕ) (words : List ℕ → List ℕ)
         → slice_get (xdr_of kind (values_at kind slabs.now bits words))
-                (8 + (place * element_len kind + offset))
-            ≡ slice_get (element_bytes kind (bits (index_at slabs.now place))) offset }
+        (8 + (place * element_len kind + offset))
+        ≡ slice_get (element_bytes kind (bits (index_at slabs.now place))) offset }
 {}
 
 /// A text takes four bytes and its own with zero bytes up to a multiple of four.

@@ -11,6 +11,6 @@ returns c =
     let place = c.args.place in
     record {
       found = slice_get-get_or (box_of slabs) place [] (subst (λ n. place < n) (sym (length-box_of slabs)) c.requires.first)
-      ∙ ap Some (get_or-box_of slabs place [] c.requires.first);
+          ∙ ap Some (get_or-box_of slabs place [] c.requires.first);
       distinct = index_at_tells slabs place c.args.other c.requires.strides c.requires.first c.requires.second;
     }

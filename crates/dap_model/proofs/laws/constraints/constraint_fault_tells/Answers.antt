@@ -8,7 +8,7 @@ returns c =
     record {
       read = (HasFault-constraint_of text c.args.fault, constraint_of-fault text c.args.fault);
       one = λ s t.
-      let first = constraint_of-fault text c.args.fault s in
-      let second = constraint_of-fault text c.args.other t in
-      cc;
+          let first = constraint_of-fault text c.args.fault s in
+          let second = constraint_of-fault text c.args.other t in
+          cc;
     }

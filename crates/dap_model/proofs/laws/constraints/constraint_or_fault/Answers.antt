@@ -19,7 +19,7 @@ returns c =
     record {
       either = matched text (constraint_of text) refl;
       never_both = λ s t.
-      let first = constraint_of-constrains text c.args.clauses.now s in
-      let second = constraint_of-fault text c.args.fault t in
-      cc;
+          let first = constraint_of-constrains text c.args.clauses.now s in
+          let second = constraint_of-fault text c.args.fault t in
+          cc;
     }

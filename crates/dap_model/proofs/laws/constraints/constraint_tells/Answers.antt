@@ -8,7 +8,7 @@ returns c =
     record {
       read = (constrains_from_constraint_of text c.args.clauses.now, constraint_of-constrains text c.args.clauses.now);
       one = λ s t.
-      let first = constraint_of-constrains text c.args.clauses.now s in
-      let second = constraint_of-constrains text c.args.others.now t in
-      cc;
+          let first = constraint_of-constrains text c.args.clauses.now s in
+          let second = constraint_of-constrains text c.args.others.now t in
+          cc;
     }

@@ -18,6 +18,6 @@ returns c =
       decls = sym (ap (λ (p : Projected). p.decls) all) ∙ all_sent-whole decls;
       sent = (
         λ found. (whole_sent decls sent).0 (PartSent-all_sent decls [] sent (subst (λ (l : List Sent). Has l sent) (sym same) (Has-from_contains c.args.projected.now.sent sent found))),
-        λ whole. contains_from_Has c.args.projected.now.sent sent (subst (λ (l : List Sent). Has l sent) same (Has-all_sent decls [] sent ((whole_sent decls sent).1 whole)))
+        λ whole. contains_from_Has c.args.projected.now.sent sent (subst (λ (l : List Sent). Has l sent) same (Has-all_sent decls [] sent ((whole_sent decls sent).1 whole))),
       );
     }

@@ -7,8 +7,7 @@ pub returns : goal.returns
 returns c =
     let decls = c.args.decls.now in
     let clauses = c.args.clauses.now in
-    let fault = c.args.fault.now in
-    (
+    let fault = c.args.fault.now in (
       λ e. IsFirstFault-first_fault decls clauses fault (first_fault-refused decls clauses fault e),
-      λ s. refused-first_fault decls clauses fault (first_fault-is decls clauses fault s)
+      λ s. refused-first_fault decls clauses fault (first_fault-is decls clauses fault s),
     )

@@ -14,13 +14,13 @@ returns c =
     let offset = c.args.offset in
     record {
       length = λ bits words.
-      ap length (array_at kind slabs bits words c.requires.number c.requires.dims)
-      ∙ length-array_bytes kind (map bits (box_of slabs))
-      ∙ ap (λ n. 8 + elements_len kind n) (length-numbers slabs bits);
+          ap length (array_at kind slabs bits words c.requires.number c.requires.dims)
+          ∙ length-array_bytes kind (map bits (box_of slabs))
+          ∙ ap (λ n. 8 + elements_len kind n) (length-numbers slabs bits);
       element = λ bits words.
-      let numbers = map bits (box_of slabs) in
-      let within = subst (λ n. place < n) (sym (length-numbers slabs bits)) c.requires.within in
-      ap (λ l. slice_get l (8 + (place * element_len kind + offset))) (array_at kind slabs bits words c.requires.number c.requires.dims)
-      ∙ slice_get-array_bytes kind numbers place offset within c.requires.inside
-      ∙ ap (λ n. slice_get (element_bytes kind n) offset) (get_or-numbers slabs bits place c.requires.within);
+          let numbers = map bits (box_of slabs) in
+          let within = subst (λ n. place < n) (sym (length-numbers slabs bits)) c.requires.within in
+          ap (λ l. slice_get l (8 + (place * element_len kind + offset))) (array_at kind slabs bits words c.requires.number c.requires.dims)
+          ∙ slice_get-array_bytes kind numbers place offset within c.requires.inside
+          ∙ ap (λ n. slice_get (element_bytes kind n) offset) (get_or-numbers slabs bits place c.requires.within);
     }
