@@ -6,7 +6,8 @@ use Rattle.dap_model.specs.declared.declaration.Decl.{Decl}
 use Rattle.dap_model.specs.declared.fault.ProjectFault.{ProjectFault}
 use Rattle.dap_model.specs.declared.projection.Clause.{Clause}
 use Rattle.dap_model.specs.declared.projection.Projected.{Projected}
-use Rattle.dap_model.specs.Projection.{all_sent, first_fault, unless_fault, projection_of}
+use Rattle.dap_model.specs.ClauseFaults.{first_fault}
+use Rattle.dap_model.specs.Projection.{all_sent, unless_fault, projection_of}
 use Rattle.dap_model.proofs.ProjectionAgreeLemmas.{Faultless}
 
 -- an accepted projection has no fault and is what is sent

@@ -10,7 +10,9 @@ use Rattle.std.proofs.lemmas.Slice.Eq.{slice_eq-Decides, bytes_eq-Decides}
 use Rattle.dap_model.specs.declared.declaration.Decl.{Decl}
 use Rattle.dap_model.specs.declared.projection.Clause.{Clause}
 use Rattle.dap_model.specs.declared.projection.Slab.{Slab}
-use Rattle.dap_model.specs.Projection.{name_of, parts_of, Picked, nothing, every, only, picked_by, is_picked, slabs_for, given_by, decl_named, rank_fault, range_fault, conflict_fault, decl_fault, clause_fault, first_fault, fault_in, is_same_slab, are_other, picked_dims, path_text, slabs_of}
+use Rattle.dap_model.specs.ClauseFaults.{rank_fault, range_fault, conflict_fault, decl_fault, clause_fault, first_fault, fault_in, is_same_slab, are_other, path_text}
+use Rattle.dap_model.specs.Picking.{name_of, parts_of, Picked, nothing, every, only, picked_by, is_picked, slabs_for, given_by, decl_named, picked_dims}
+use Rattle.dap_model.specs.Projection.{slabs_of}
 use Rattle.dap_model.specs.ProjectionFacts.{AreNamedApart}
 use Rattle.dap_model.proofs.ListLemmas.{Has, Has-left, Has-right, Has-range, Has-slice_get, Source-filter_map, filter_map-some, filter_map-none, none_passes, cases_Option}
 use Rattle.dap_model.proofs.OrderLemmas.{Ordered, Ordered-from_pairs}

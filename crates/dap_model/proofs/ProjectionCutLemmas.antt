@@ -11,7 +11,8 @@ use Rattle.dap_model.specs.declared.projection.Clause.{Clause}
 use Rattle.dap_model.specs.declared.projection.Sent.{Sent}
 use Rattle.dap_model.specs.declared.projection.Slab.{Slab}
 use Rattle.dap_model.specs.Box.{slab_count}
-use Rattle.dap_model.specs.Projection.{parts_of, picked_by, is_picked, slabs_of, sent_of, cut_array, cut_parts, is_sent, is_kept, rebuilt, decl_sent, all_sent}
+use Rattle.dap_model.specs.Picking.{parts_of, picked_by, is_picked}
+use Rattle.dap_model.specs.Projection.{slabs_of, sent_of, cut_array, cut_parts, is_sent, is_kept, rebuilt, decl_sent, all_sent}
 use Rattle.dap_model.specs.ProjectionFacts.{IsCut, lengths_of}
 use Rattle.dap_model.proofs.ListLemmas.{Has, Source-filter_map, filter_map-some, filter_map-none, none_passes, cases_Option, mapped_some}
 use Rattle.dap_model.proofs.ProjectionAgreeLemmas.{picked_if_given, given-slabs_of}

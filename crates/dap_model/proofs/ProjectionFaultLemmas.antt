@@ -6,7 +6,7 @@ use Rattle.fm_base.specs.Layout.{or_else}
 use Rattle.dap_model.specs.declared.declaration.Decl.{Decl}
 use Rattle.dap_model.specs.declared.fault.ProjectFault.{ProjectFault}
 use Rattle.dap_model.specs.declared.projection.Clause.{Clause}
-use Rattle.dap_model.specs.Projection.{clause_fault, first_fault}
+use Rattle.dap_model.specs.ClauseFaults.{clause_fault, first_fault}
 use Rattle.dap_model.specs.ProjectionFacts.{HasNoFault, IsFirstFault}
 use Rattle.dap_model.proofs.ListLemmas.{cases_Option}
 

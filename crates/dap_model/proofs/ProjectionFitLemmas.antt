@@ -11,7 +11,8 @@ use Rattle.dap_model.specs.declared.declaration.Decl.TheVariants.{Plain, Grid, S
 use Rattle.dap_model.specs.declared.projection.Clause.{Clause}
 use Rattle.dap_model.specs.declared.projection.Slab.{Slab}
 use Rattle.dap_model.specs.Box.{whole_slab}
-use Rattle.dap_model.specs.Projection.{parts_of, dims_of, part_dims, Picked, nothing, every, only, picked_by, whole_slabs, or_whole, spread, slabs_for, given_by, picked_dims, path_text, rank_fault, is_within, range_fault}
+use Rattle.dap_model.specs.ClauseFaults.{path_text, rank_fault, is_within, range_fault}
+use Rattle.dap_model.specs.Picking.{parts_of, dims_of, part_dims, Picked, nothing, every, only, picked_by, whole_slabs, or_whole, spread, slabs_for, given_by, picked_dims}
 use Rattle.dap_model.specs.ProjectionFacts.{IsGridded, FitsDim}
 use Rattle.dap_model.proofs.SlabLemmas.{whole_slab-some}
 use Rattle.dap_model.proofs.ListLemmas.{mapped_some}

@@ -8,7 +8,8 @@ use Rattle.dap_model.specs.declared.declaration.Decl.{Decl}
 use Rattle.dap_model.specs.declared.projection.Clause.{Clause}
 use Rattle.dap_model.specs.declared.projection.Sent.{Sent}
 use Rattle.dap_model.specs.declared.projection.Slab.{Slab}
-use Rattle.dap_model.specs.Projection.{name_of, parts_of, part_dims, given_by, slabs_of, sent_of, all_sent}
+use Rattle.dap_model.specs.Picking.{name_of, parts_of, part_dims, given_by}
+use Rattle.dap_model.specs.Projection.{slabs_of, sent_of, all_sent}
 use Rattle.dap_model.specs.ProjectionFacts.{AreNamedApart, IsGridded, StandsBefore, IsAsked, IsWhole, FitsDim, FitsPart}
 use Rattle.dap_model.proofs.ProjectionAgreeLemmas.{Sound, Sound-from_none, decl_named-is, picked_if_given, Faultless, Faultless-first, slabs_of-given, given-slabs_of}
 use Rattle.dap_model.proofs.ProjectionFitLemmas.{whole_slabs-fit, given-fit}

@@ -9,7 +9,8 @@ use Rattle.dap_model.specs.declared.declaration.Decl.TheVariants.{Plain, Grid, S
 use Rattle.dap_model.specs.declared.projection.Clause.{Clause}
 use Rattle.dap_model.specs.declared.projection.Slab.{Slab}
 use Rattle.dap_model.specs.Box.{slab_count}
-use Rattle.dap_model.specs.Projection.{name_of, parts_of, part_dims, whole_slabs, slabs_of, cut_array, cut_parts, is_sent, is_kept, rebuilt, decl_sent, all_sent}
+use Rattle.dap_model.specs.Picking.{name_of, parts_of, part_dims, whole_slabs}
+use Rattle.dap_model.specs.Projection.{slabs_of, cut_array, cut_parts, is_sent, is_kept, rebuilt, decl_sent, all_sent}
 use Rattle.dap_model.proofs.SlabLemmas.{slab_count-whole}
 use Rattle.dap_model.proofs.ListLemmas.{Has, slice_get-numbered, filter_map-each, items-numbered, map-same, map-map}
 

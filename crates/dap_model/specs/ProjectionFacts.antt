@@ -3,7 +3,9 @@ use Rattle.std.specs.Prelude.{◌≡◌, ◌≢◌, ◌⊎◌, ℕ, ◌<◌, ◌
 use Rattle.std.specs.List.{AllZip}
 use Rattle.fm_base.specs.declared.header.Dim.{Dim}
 use Rattle.dap_model.specs.Box.{HasStride}
-use Rattle.dap_model.specs.Projection.{name_of, parts_of, part_dims, whole_slabs, given_by, clause_fault, cut_array}
+use Rattle.dap_model.specs.ClauseFaults.{clause_fault}
+use Rattle.dap_model.specs.Picking.{name_of, parts_of, part_dims, whole_slabs, given_by}
+use Rattle.dap_model.specs.Projection.{cut_array}
 use Rattle.dap_model.specs.declared.declaration.Array.{Array}
 use Rattle.dap_model.specs.declared.declaration.Decl.{Decl}
 use Rattle.dap_model.specs.declared.declaration.Decl.TheVariants.{Plain, Grid, Structure}

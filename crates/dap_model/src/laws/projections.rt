@@ -3,7 +3,8 @@ ghost use Rattle.std.specs.Prelude.{◌≡◌, ◌≢◌, ◌↔◌, [], Ok, Err
 ghost use Rattle.std.specs.Prelude.{Contains, IsOk};
 ghost use Rattle.std.specs.List.{AllZip, flat_map};
 ghost use Rattle.dap_model.specs.Box.{slab_count};
-ghost use Rattle.dap_model.specs.Projection.{cut_array, is_sent, name_of, parts_of, projection_of};
+ghost use Rattle.dap_model.specs.Picking.{name_of, parts_of};
+ghost use Rattle.dap_model.specs.Projection.{cut_array, is_sent, projection_of};
 ghost use Rattle.dap_model.specs.ProjectionFacts.{lengths_of, AreNamedApart, FitsPart, HasNoFault};
 ghost use Rattle.dap_model.specs.ProjectionFacts.{IsAsked, IsCut, IsFirstFault, IsGridded, IsWhole};
 ghost use Rattle.dap_model.specs.ProjectionFacts.{StandsBefore};

@@ -2,7 +2,7 @@
 use Rattle.std.proofs.Common.{subst}
 use Rattle.std.specs.List.{AllZip, flat_map}
 use Rattle.dap_model.specs.declared.projection.Projected.{Projected}
-use Rattle.dap_model.specs.Projection.{parts_of}
+use Rattle.dap_model.specs.Picking.{parts_of}
 use Rattle.dap_model.specs.ProjectionFacts.{IsCut}
 use Rattle.dap_model.proofs.ProjectionCutLemmas.{cut_sent}
 use Rattle.dap_model.proofs.ProjectionAcceptLemmas.{Accepted-projection_of}

@@ -2,7 +2,7 @@
 use Rattle.std.proofs.Common.{List, ◌∙◌, ap, map, subst, sym}
 use Rattle.dap_model.specs.declared.projection.Projected.{Projected}
 use Rattle.dap_model.specs.declared.projection.Sent.{Sent}
-use Rattle.dap_model.specs.Projection.{name_of}
+use Rattle.dap_model.specs.Picking.{name_of}
 use Rattle.dap_model.specs.ProjectionFacts.{StandsBefore}
 use Rattle.dap_model.proofs.OrderLemmas.{Ordered, AllPairs-from_ordered}
 use Rattle.dap_model.proofs.ProjectionAcceptLemmas.{Accepted-projection_of}
