@@ -12,6 +12,7 @@ pub mod ListLemmas
 pub mod NumberLemmas
 pub mod OrderLemmas
 pub mod PartLemmas
+pub mod PickingLemmas
 pub mod ProjectionAcceptLemmas
 pub mod ProjectionAgreeLemmas
 pub mod ProjectionCutLemmas

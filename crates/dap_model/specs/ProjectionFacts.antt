@@ -4,7 +4,7 @@ use Rattle.std.specs.List.{AllZip}
 use Rattle.fm_base.specs.declared.header.Dim.{Dim}
 use Rattle.dap_model.specs.Box.{HasStride}
 use Rattle.dap_model.specs.ClauseFaults.{clause_fault}
-use Rattle.dap_model.specs.Picking.{name_of, parts_of, part_dims, whole_slabs, given_by}
+use Rattle.dap_model.specs.Picking.{name_of, named_parts, parts_of, part_dims, whole_slabs, given_by}
 use Rattle.dap_model.specs.Projection.{cut_array}
 use Rattle.dap_model.specs.declared.declaration.Array.{Array}
 use Rattle.dap_model.specs.declared.declaration.Decl.{Decl}
@@ -17,6 +17,10 @@ use Rattle.dap_model.specs.declared.projection.Slab.{Slab}
 -- no two declarations have one name
 abbrev pub AreNamedApart : List Decl → Type 0
 AreNamedApart decls = AllPairs (λ (decl other : Decl). name_of decl ≢ name_of other) decls
+
+-- a path names a declaration, or a part of one that isn't a plain array
+abbrev pub Names : Decl → List (List ℕ) → Type 0
+Names decl path = (path ≡ name_of decl ∷ []) ⊎ ((part : Array) × Contains (named_parts decl) part × (path ≡ name_of decl ∷ part.name ∷ []))
 
 -- a Grid has one map for each dimension of its array, over that dimension alone
 abbrev pub IsGridded : Decl → Type 0

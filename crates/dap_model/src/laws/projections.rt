@@ -8,10 +8,20 @@ ghost use Rattle.dap_model.specs.Projection.{cut_array, is_sent, projection_of};
 ghost use Rattle.dap_model.specs.ProjectionFacts.{lengths_of, AreNamedApart, FitsPart, HasNoFault};
 ghost use Rattle.dap_model.specs.ProjectionFacts.{IsAsked, IsCut, IsFirstFault, IsGridded, IsWhole};
 ghost use Rattle.dap_model.specs.ProjectionFacts.{StandsBefore};
+ghost use Rattle.std.specs.Prelude.{IsTrue};
+ghost use Rattle.dap_model.specs.Picking.{is_picked, picked_by};
+ghost use Rattle.dap_model.specs.ProjectionFacts.{Names};
 
 use crate::declaration::{Array, Decl};
 use crate::fault::ProjectFault;
 use crate::projection::{Clause, Projected, Sent, Slab};
+use fm_base::Bytes;
+
+/// A path picks something of a declaration exactly where it names the declaration, or a part of one that isn't a plain
+/// array.
+pub fn path_names(decl: &Decl, path: &[Bytes])
+    ensures { IsTrue (is_picked (picked_by decl.now path.now)) ↔ Names decl.now path.now }
+{}
 
 /// A projection is accepted exactly where no clause has a fault.
 pub fn projection_accepts(decls: &[Decl], clauses: &[Clause])
