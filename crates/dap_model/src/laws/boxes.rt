@@ -1,5 +1,5 @@
 //! Slabs pick the indices that lie whole strides from their start, and a box has the index lists that its slabs pick.
-ghost use Rattle.std.specs.Prelude.{◌≡◌, ◌<◌, ◌↔◌, Some, length, map, slice_get, All, Contains};
+ghost use Rattle.std.specs.Prelude.{◌≡◌, ℕ, ◌<◌, ◌↔◌, Some, length, map, slice_get, All, Contains};
 ghost use Rattle.std.specs.List.Sorted.{IsStrictlyIncreasing};
 ghost use Rattle.fm_base.specs.Layout.{indices_of};
 ghost use Rattle.dap_model.specs.Box.{box_len, box_of, index_at, slab_count, slab_indices};
@@ -16,8 +16,8 @@ pub fn slab_picks(slab: Slab, index: u64)
     ensures count { length (slab_indices slab) ≡ slab_count slab }
 {}
 
-/// The index lists of a box are those whose indices are each picked by the slab at their place, and there are as many as
-/// the product of the counts of the slabs.
+/// The index lists of a box are those whose indices are each picked by the slab at their place, and there are as many
+/// as the product of the counts of the slabs.
 pub fn box_picks(slabs: &[Slab], index: &[u64])
     requires { All HasStride slabs.now }
     ensures indices { Contains (box_of slabs.now) index.now ↔ EachPicks slabs.now index.now }
@@ -25,12 +25,12 @@ pub fn box_picks(slabs: &[Slab], index: &[u64])
 {}
 
 /// The index list at a place of a box is found by division, and no two places have the same.
-pub fn box_places(slabs: &[Slab], place: u64, other: u64)
-    requires strides { All HasStride slabs.now }
-    requires first { place < box_len slabs.now }
-    requires second { other < box_len slabs.now }
-    ensures found { slice_get (box_of slabs.now) place ≡ Some (index_at slabs.now place) }
-    ensures distinct { index_at slabs.now place ≡ index_at slabs.now other → place ≡ other }
+pub fn box_places(slabs: &[Slab])
+    requires { All HasStride slabs.now }
+    ensures found { (place : ℕ) → place < box_len slabs.now
+        → slice_get (box_of slabs.now) place ≡ Some (index_at slabs.now place) }
+    ensures distinct { (place other : ℕ) → place < box_len slabs.now → other < box_len slabs.now
+        → index_at slabs.now place ≡ index_at slabs.now other → place ≡ other }
 {}
 
 /// The box of whole dimensions is all index lists of the array.

@@ -1,13 +1,13 @@
 //! A text is a constraint with one list of clauses, or has one fault.
-ghost use Rattle.std.specs.Prelude.{◌≡◌, ◌^◌, ◌<◌, ◌↔◌, Ok, Err, MatchResult};
+ghost use Rattle.std.specs.Prelude.{◌≡◌, ℕ, ◌^◌, ◌<◌, ◌↔◌, Ok, Err, MatchResult};
 ghost use Rattle.dap_model.specs.Constraint.{Constrains, HasFault, SpellsNumber};
 ghost use Rattle.dap_model.specs.ConstraintReading.{constraint_of};
 
 use crate::fault::CeFault;
 use crate::projection::Clause;
 
-/// Reading a text gives clauses exactly where the text is a constraint that asks for them, so no text asks for two lists
-/// of clauses.
+/// Reading a text gives clauses exactly where the text is a constraint that asks for them, so no text asks for two
+/// lists of clauses.
 pub fn constraint_tells(text: &[u8], clauses: &[Clause], others: &[Clause])
     ensures read { constraint_of text.now ≡ Ok clauses.now ↔ Constrains text.now clauses.now }
     ensures one { Constrains text.now clauses.now → Constrains text.now others.now
@@ -28,7 +28,6 @@ pub fn constraint_or_fault(text: &[u8], clauses: &[Clause], fault: CeFault)
 {}
 
 /// The numbers of a constraint are below 10^18.
-pub fn number_fits(text: &[u8], number: u64)
-    requires { SpellsNumber text.now number }
-    ensures { number < 10 ^ 18 }
+pub fn number_fits(text: &[u8])
+    ensures { (number : ℕ) → SpellsNumber text.now number → number < 10 ^ 18 }
 {}

@@ -1,16 +1,13 @@
 //! What is sent for a constraint is what it names, in order and in range.
-ghost use Rattle.std.specs.Prelude.{◌≡◌, ◌≢◌, ◌↔◌, [], Ok, Err, length, map, filter, All, AllPairs};
-ghost use Rattle.std.specs.Prelude.{Contains, IsOk};
+ghost use Rattle.std.specs.Prelude.{◌≡◌, ◌≢◌, ◌↔◌, [], Ok, Err, length, map, filter, IsOk, IsTrue};
+ghost use Rattle.std.specs.Prelude.{All, AllPairs, Contains};
 ghost use Rattle.std.specs.List.{AllZip, flat_map};
 ghost use Rattle.dap_model.specs.Box.{slab_count};
-ghost use Rattle.dap_model.specs.Picking.{name_of, parts_of};
+ghost use Rattle.dap_model.specs.Picking.{is_picked, name_of, parts_of, picked_by};
 ghost use Rattle.dap_model.specs.Projection.{cut_array, is_sent, projection_of};
 ghost use Rattle.dap_model.specs.ProjectionFacts.{lengths_of, AreNamedApart, FitsPart, HasNoFault};
 ghost use Rattle.dap_model.specs.ProjectionFacts.{IsAsked, IsCut, IsFirstFault, IsGridded, IsWhole};
-ghost use Rattle.dap_model.specs.ProjectionFacts.{StandsBefore};
-ghost use Rattle.std.specs.Prelude.{IsTrue};
-ghost use Rattle.dap_model.specs.Picking.{is_picked, picked_by};
-ghost use Rattle.dap_model.specs.ProjectionFacts.{Names};
+ghost use Rattle.dap_model.specs.ProjectionFacts.{Names, StandsBefore};
 
 use crate::declaration::{Array, Decl};
 use crate::fault::ProjectFault;
@@ -36,44 +33,46 @@ pub fn projection_refuses(decls: &[Decl], clauses: &[Clause], fault: &ProjectFau
 
 /// Without a clause all declarations are sent as they stand, and each part whole.
 pub fn projection_of_all(decls: &[Decl], projected: &Projected, sent: &Sent)
-    requires { projection_of decls.now [] ≡ Ok projected.now }
-    ensures decls { projected.now.decls ≡ decls.now }
-    ensures sent { Contains projected.now.sent sent.now ↔ IsWhole decls.now sent.now }
+    ensures decls { projection_of decls.now [] ≡ Ok projected.now
+        → projected.now.decls ≡ decls.now }
+    ensures sent { projection_of decls.now [] ≡ Ok projected.now
+        → Contains projected.now.sent sent.now ↔ IsWhole decls.now sent.now }
 {}
 
 /// With clauses exactly the parts are sent that some clause names, with the slabs that each of these gives.
 pub fn projection_sends(decls: &[Decl], clauses: &[Clause], projected: &Projected, sent: &Sent)
     requires apart { AreNamedApart decls.now }
     requires some { clauses.now ≢ [] }
-    requires accepted { projection_of decls.now clauses.now ≡ Ok projected.now }
-    ensures { Contains projected.now.sent sent.now ↔ IsAsked decls.now clauses.now sent.now }
+    ensures { projection_of decls.now clauses.now ≡ Ok projected.now
+        → Contains projected.now.sent sent.now ↔ IsAsked decls.now clauses.now sent.now }
 {}
 
 /// Declarations and parts are sent in the dataset's order, so each once.
 pub fn projection_keeps_order(decls: &[Decl], clauses: &[Clause], projected: &Projected)
-    requires { projection_of decls.now clauses.now ≡ Ok projected.now }
-    ensures decls { map name_of projected.now.decls
+    ensures decls { projection_of decls.now clauses.now ≡ Ok projected.now
+        → map name_of projected.now.decls
         ≡ map name_of (filter (is_sent clauses.now) decls.now) }
-    ensures sent { AllPairs StandsBefore projected.now.sent }
+    ensures sent { projection_of decls.now clauses.now ≡ Ok projected.now
+        → AllPairs StandsBefore projected.now.sent }
 {}
 
 /// Each part is sent with one slab for each of its dimensions, whose indices lie within the dimension.
 pub fn projection_fits(decls: &[Decl], clauses: &[Clause], projected: &Projected)
     requires apart { AreNamedApart decls.now }
     requires gridded { All IsGridded decls.now }
-    requires accepted { projection_of decls.now clauses.now ≡ Ok projected.now }
-    ensures { All (FitsPart decls.now) projected.now.sent }
+    ensures { projection_of decls.now clauses.now ≡ Ok projected.now
+        → All (FitsPart decls.now) projected.now.sent }
 {}
 
 /// The arrays of the declarations that are sent are the parts that are sent, each cut by its slabs.
 pub fn projection_cuts(decls: &[Decl], clauses: &[Clause], projected: &Projected)
-    requires { projection_of decls.now clauses.now ≡ Ok projected.now }
-    ensures { AllZip (IsCut decls.now) (flat_map parts_of projected.now.decls)
+    ensures { projection_of decls.now clauses.now ≡ Ok projected.now
+        → AllZip (IsCut decls.now) (flat_map parts_of projected.now.decls)
         projected.now.sent }
 {}
 
 /// An array that is cut by a slab for each dimension is as long in each as the slab has indices.
 pub fn cut_lengths(array: &Array, slabs: &[Slab])
-    requires { length slabs.now ≡ length array.now.dims }
-    ensures { lengths_of (cut_array slabs.now array.now) ≡ map slab_count slabs.now }
+    ensures { length slabs.now ≡ length array.now.dims
+        → lengths_of (cut_array slabs.now array.now) ≡ map slab_count slabs.now }
 {}

@@ -17,13 +17,11 @@ pub fn number_layout(kind: DapKind, bits: u64)
 
 /// An array of numbers is two counts of four bytes and its elements one after the other, each in as many bytes as its
 /// kind takes, with zero bytes up to a multiple of four.
-pub fn array_layout(kind: DapKind, numbers: &[u64], place: u64, offset: u64)
-    requires within { place < length numbers.now }
-    requires inside { offset < element_len kind }
+pub fn array_layout(kind: DapKind, numbers: &[u64])
     ensures length { length (array_bytes kind numbers.now)
         ≡ 8 + elements_len kind (length numbers.now) }
-    ensures element { slice_get (array_bytes kind numbers.now)
-        (8 + (place * element_len kind + offset))
+    ensures element { (place offset : ℕ) → place < length numbers.now → offset < element_len kind
+        → slice_get (array_bytes kind numbers.now) (8 + (place * element_len kind + offset))
         ≡ slice_get (element_bytes kind (slice_index numbers.now place)) offset }
 {}
 
@@ -38,15 +36,14 @@ pub fn array_tells(kind: DapKind, first: &[u64], second: &[u64])
 {}
 
 /// The numbers of a part are an array of as many as its slabs pick, and the index of each is found by division.
-pub fn part_layout(kind: DapKind, slabs: &[Slab], place: u64, offset: u64)
+pub fn part_layout(kind: DapKind, slabs: &[Slab])
     requires number { kind ≢ DapKind.Text }
     requires dims { slabs.now ≢ [] }
-    requires within { place < box_len slabs.now }
-    requires inside { offset < element_len kind }
     ensures length { (bits : List ℕ → ℕ) (words : List ℕ → List ℕ)
         → length (xdr_of kind (values_at kind slabs.now bits words))
         ≡ 8 + elements_len kind (box_len slabs.now) }
-    ensures element { (bits : List ℕ → ℕ) (words : List ℕ → List ℕ)
+    ensures element { (bits : List ℕ → ℕ) (words : List ℕ → List ℕ) (place offset : ℕ)
+        → place < box_len slabs.now → offset < element_len kind
         → slice_get (xdr_of kind (values_at kind slabs.now bits words))
         (8 + (place * element_len kind + offset))
         ≡ slice_get (element_bytes kind (bits (index_at slabs.now place))) offset }

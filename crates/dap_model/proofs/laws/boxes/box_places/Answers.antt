@@ -8,9 +8,9 @@ use Rattle.dap_model.proofs.laws.boxes.box_places.Goals as goal
 pub returns : goal.returns
 returns c =
     let slabs = c.args.slabs.now in
-    let place = c.args.place in
     record {
-      found = slice_get-get_or (box_of slabs) place [] (subst (λ n. place < n) (sym (length-box_of slabs)) c.requires.first)
-          ∙ ap Some (get_or-box_of slabs place [] c.requires.first);
-      distinct = index_at_tells slabs place c.args.other c.requires.strides c.requires.first c.requires.second;
+      found = λ place within.
+          slice_get-get_or (box_of slabs) place [] (subst (λ n. place < n) (sym (length-box_of slabs)) within)
+          ∙ ap Some (get_or-box_of slabs place [] within);
+      distinct = λ place other before within same. index_at_tells slabs place other c.requires before within same;
     }

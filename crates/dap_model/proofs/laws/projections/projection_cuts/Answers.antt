@@ -9,8 +9,8 @@ use Rattle.dap_model.proofs.ProjectionAcceptLemmas.{Accepted-projection_of}
 use Rattle.dap_model.proofs.laws.projections.projection_cuts.Goals as goal
 
 pub returns : goal.returns
-returns c =
+returns c = λ sends.
     let decls = c.args.decls.now in
     let clauses = c.args.clauses.now in
-    let all = (Accepted-projection_of decls clauses c.args.projected.now c.requires).all in
+    let all = (Accepted-projection_of decls clauses c.args.projected.now sends).all in
     subst (λ (p : Projected). AllZip (IsCut decls) (flat_map parts_of p.decls) p.sent) all (cut_sent decls clauses)

@@ -8,11 +8,11 @@ use Rattle.dap_model.proofs.ProjectionSentLemmas.{PartSent-all_sent, FitsPart-se
 use Rattle.dap_model.proofs.laws.projections.projection_fits.Goals as goal
 
 pub returns : goal.returns
-returns c = λ k d within.
+returns c = λ sends k d within.
     let decls = c.args.decls.now in
     let clauses = c.args.clauses.now in
     let list = c.args.projected.now.sent in
-    let accepted = Accepted-projection_of decls clauses c.args.projected.now c.requires.accepted in
+    let accepted = Accepted-projection_of decls clauses c.args.projected.now sends in
     let same = ap (λ (p : Projected). p.sent) accepted.all in
     let has = subst (λ (l : List Sent). Has l (get_or list k d)) (sym same) (Has-at list k d within) in
     FitsPart-sent decls clauses (get_or list k d) c.requires.apart c.requires.gridded accepted.faultless (PartSent-all_sent decls clauses (get_or list k d) has)

@@ -14,8 +14,12 @@ pub returns : goal.returns
 returns c =
     let decls = c.args.decls.now in
     let clauses = c.args.clauses.now in
-    let all = (Accepted-projection_of decls clauses c.args.projected.now c.requires).all in
     record {
-      decls = ap (λ (p : Projected). map name_of p.decls) (sym all) ∙ names_sent decls clauses;
-      sent = AllPairs-from_ordered StandsBefore c.args.projected.now.sent (subst (λ (l : List Sent). Ordered StandsBefore l) (ap (λ (p : Projected). p.sent) all) (AllPairs-all_sent decls clauses));
+      decls = λ sends.
+          let all = (Accepted-projection_of decls clauses c.args.projected.now sends).all in
+          ap (λ (p : Projected). map name_of p.decls) (sym all) ∙ names_sent decls clauses;
+      sent = λ sends.
+          let all = (Accepted-projection_of decls clauses c.args.projected.now sends).all in
+          AllPairs-from_ordered StandsBefore c.args.projected.now.sent
+          (subst (λ (l : List Sent). Ordered StandsBefore l) (ap (λ (p : Projected). p.sent) all) (AllPairs-all_sent decls clauses));
     }

@@ -12,12 +12,14 @@ pub returns : goal.returns
 returns c =
     let decls = c.args.decls.now in
     let sent = c.args.sent.now in
-    let all = (Accepted-projection_of decls [] c.args.projected.now c.requires).all in
-    let same = ap (λ (p : Projected). p.sent) all in
+    let list = c.args.projected.now.sent in
     record {
-      decls = sym (ap (λ (p : Projected). p.decls) all) ∙ all_sent-whole decls;
-      sent = (
-        λ found. (whole_sent decls sent).0 (PartSent-all_sent decls [] sent (subst (λ (l : List Sent). Has l sent) (sym same) (Has-from_contains c.args.projected.now.sent sent found))),
-        λ whole. contains_from_Has c.args.projected.now.sent sent (subst (λ (l : List Sent). Has l sent) same (Has-all_sent decls [] sent ((whole_sent decls sent).1 whole))),
-      );
+      decls = λ sends.
+          let all = (Accepted-projection_of decls [] c.args.projected.now sends).all in
+          sym (ap (λ (p : Projected). p.decls) all) ∙ all_sent-whole decls;
+      sent = λ sends.
+          let same = ap (λ (p : Projected). p.sent) (Accepted-projection_of decls [] c.args.projected.now sends).all in (
+            λ found. (whole_sent decls sent).0 (PartSent-all_sent decls [] sent (subst (λ (l : List Sent). Has l sent) (sym same) (Has-from_contains list sent found))),
+            λ whole. contains_from_Has list sent (subst (λ (l : List Sent). Has l sent) same (Has-all_sent decls [] sent ((whole_sent decls sent).1 whole))),
+          );
     }

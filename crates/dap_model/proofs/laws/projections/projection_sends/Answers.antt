@@ -8,11 +8,11 @@ use Rattle.dap_model.proofs.ProjectionSentLemmas.{PartSent-all_sent, Has-all_sen
 use Rattle.dap_model.proofs.laws.projections.projection_sends.Goals as goal
 
 pub returns : goal.returns
-returns c =
+returns c = λ sends.
     let decls = c.args.decls.now in
     let clauses = c.args.clauses.now in
     let sent = c.args.sent.now in
-    let accepted = Accepted-projection_of decls clauses c.args.projected.now c.requires.accepted in
+    let accepted = Accepted-projection_of decls clauses c.args.projected.now sends in
     let same = ap (λ (p : Projected). p.sent) accepted.all in
     let asked = asked_sent decls clauses sent c.requires.some c.requires.apart accepted.faultless in (
       λ found. asked.0 (PartSent-all_sent decls clauses sent (subst (λ (l : List Sent). Has l sent) (sym same) (Has-from_contains c.args.projected.now.sent sent found))),

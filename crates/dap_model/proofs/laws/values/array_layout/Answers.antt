@@ -5,5 +5,5 @@ use Rattle.dap_model.proofs.laws.values.array_layout.Goals as goal
 pub returns : goal.returns
 returns c = record {
   length = length-array_bytes c.args.kind c.args.numbers.now;
-  element = slice_get-array_bytes c.args.kind c.args.numbers.now c.args.place c.args.offset c.requires.within c.requires.inside;
+  element = slice_get-array_bytes c.args.kind c.args.numbers.now;
 }

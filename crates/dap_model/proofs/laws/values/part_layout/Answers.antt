@@ -10,17 +10,15 @@ pub returns : goal.returns
 returns c =
     let kind = c.args.kind in
     let slabs = c.args.slabs.now in
-    let place = c.args.place in
-    let offset = c.args.offset in
     record {
       length = λ bits words.
           ap length (array_at kind slabs bits words c.requires.number c.requires.dims)
           ∙ length-array_bytes kind (map bits (box_of slabs))
           ∙ ap (λ n. 8 + elements_len kind n) (length-numbers slabs bits);
-      element = λ bits words.
+      element = λ bits words place offset below inside.
           let numbers = map bits (box_of slabs) in
-          let within = subst (λ n. place < n) (sym (length-numbers slabs bits)) c.requires.within in
+          let within = subst (λ n. place < n) (sym (length-numbers slabs bits)) below in
           ap (λ l. slice_get l (8 + (place * element_len kind + offset))) (array_at kind slabs bits words c.requires.number c.requires.dims)
-          ∙ slice_get-array_bytes kind numbers place offset within c.requires.inside
-          ∙ ap (λ n. slice_get (element_bytes kind n) offset) (get_or-numbers slabs bits place c.requires.within);
+          ∙ slice_get-array_bytes kind numbers place offset within inside
+          ∙ ap (λ n. slice_get (element_bytes kind n) offset) (get_or-numbers slabs bits place below);
     }
