@@ -8,7 +8,7 @@ use Rattle.std.proofs.lemmas.Nat.{div-add-mod', div-mul-add, mod-mul-add, div_be
 use Rattle.fm_base.specs.Layout.{product, indices_of}
 use Rattle.dap_model.specs.declared.projection.Slab.{Slab}
 use Rattle.dap_model.specs.Box.{HasStride, slab_count, slab_index, slab_indices, box_of, box_len, index_at, whole_slab, EachPicks}
-use Rattle.dap_model.proofs.SlabLemmas.{length-slab_indices, get_or-slab_indices, slab_index_tells, Picks-slab_index, strides_within, slab_indices-whole}
+use Rattle.dap_model.proofs.SlabLemmas.{length-slab_indices, get_or-slab_indices, slab_index_tells, Picks-slab_index, strides_within, slab_count-whole, slab_indices-whole}
 
 -- the index lists that begin with one of these numbers, in rows
 abbrev rows : List ℕ → List (List ℕ) → List (List ℕ)
@@ -150,3 +150,9 @@ pub box_of-whole : (shape : List ℕ) → box_of (map whole_slab shape) ≡ indi
 unfolding box_of indices_of
 box_of-whole [] = refl
 box_of-whole (size ∷ shape) = ap₂ rows (slab_indices-whole size) (box_of-whole shape)
+
+-- and there are as many as the product of the sizes
+pub box_len-whole : (shape : List ℕ) → box_len (map whole_slab shape) ≡ product shape
+unfolding box_len product
+box_len-whole [] = refl
+box_len-whole (size ∷ shape) = ap₂ (λ (m n : ℕ). m * n) (slab_count-whole size) (box_len-whole shape)

@@ -3,16 +3,16 @@ use Rattle.std.proofs.Common.{◌≡◌, ℕ, List, [], ◌∷◌, ◌++◌, Som
 use Rattle.std.proofs.lemmas.Option.{none-some, same_Some}
 use Rattle.dap_model.specs.declared.projection.Clause.{Clause}
 use Rattle.dap_model.specs.Constraint.{Separated, SpellsClause, Constrains}
-use Rattle.dap_model.specs.ConstraintReading.{Begun, State, front, before_name, in_name, before_number, in_number, after_slab, nothing, with_name, last_clause, clauses_of, step, clauses_at}
+use Rattle.dap_model.specs.ConstraintReading.{Begun, State, front, before_name, in_name, before_number, in_number, after_slab, fresh, with_name, last_clause, clauses_of, step, clauses_at}
 use Rattle.dap_model.proofs.SeparatedLemmas.{Separated-last}
 use Rattle.dap_model.proofs.ConstraintNames.{to_name, AfterClause-in_name, on_clause, on_name}
 use Rattle.dap_model.proofs.ConstraintNumbers.{first_digit, on_number}
-use Rattle.dap_model.proofs.ConstraintStates.{BeforeName, AfterClause, Leads, choose, reached, BeforeName-nothing}
+use Rattle.dap_model.proofs.ConstraintStates.{BeforeName, AfterClause, Leads, choose, reached, BeforeName-fresh}
 
 -- one byte more
 pub Leads-step : (text : List ℕ) (state : State) (byte : ℕ) (next : State) → Leads text state → step state byte ≡ Some next → Leads (text ++ byte ∷ []) next
 unfolding step
-Leads-step text front byte next s h = to_name text nothing byte next (subst (λ (l : List ℕ). BeforeName l nothing) (sym s) BeforeName-nothing) h
+Leads-step text front byte next s h = to_name text fresh byte next (subst (λ (l : List ℕ). BeforeName l fresh) (sym s) BeforeName-fresh) h
 Leads-step text (before_name begun) byte next s h = to_name text begun byte next s h
 Leads-step text (in_name begun name) byte next s h = on_name text begun name byte next s h
 Leads-step text (before_number begun numbers) byte next s h = choose _ _ _ next h

@@ -6,7 +6,7 @@ use Rattle.fm_base.specs.Spelling.{Spelled}
 use Rattle.dap_model.specs.declared.projection.Clause.{Clause}
 use Rattle.dap_model.specs.declared.projection.Slab.{Slab}
 use Rattle.dap_model.specs.Constraint.{is_name_byte, slab_of, Separated, SpellsSlab, SpellsClause, Constrains}
-use Rattle.dap_model.specs.ConstraintReading.{Begun, State, front, before_name, in_name, before_number, in_number, after_slab, nothing, with_name, with_slab, clauses_of, next_clause, step_on, step_name, step_number, step, clauses_at}
+use Rattle.dap_model.specs.ConstraintReading.{Begun, State, front, before_name, in_name, before_number, in_number, after_slab, fresh, with_name, with_slab, clauses_of, next_clause, step_on, step_name, step_number, step, clauses_at}
 use Rattle.dap_model.proofs.ConstraintRuns.{run, run-append, run-cons, run-path, run-numbers}
 
 -- a clause may end here
@@ -113,7 +113,7 @@ run-clauses before text (clause ∷ next ∷ clauses) s =
       clauses_are = others.clauses_are ∙ ap Some (append_assoc before (clause ∷ []) (next ∷ clauses));
     }
 
-no_clauses : (clauses : List Clause) → Reads clauses (run (before_name nothing) []) → ⊥
+no_clauses : (clauses : List Clause) → Reads clauses (run (before_name fresh) []) → ⊥
 unfolding run clauses_at
 no_clauses clauses reads = none-some clauses (ap clauses_at (same_Some _ _ reads.ran) ∙ reads.clauses_are)
 

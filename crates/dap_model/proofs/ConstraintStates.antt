@@ -3,7 +3,7 @@ use Rattle.std.proofs.Common.{◌≡◌, ℕ, ◌≤◌, Bool, true, false, cond
 use Rattle.std.proofs.lemmas.Bool.{cases_Bool, cond-true, cond-false}
 use Rattle.std.proofs.lemmas.Option.{same_Some}
 use Rattle.dap_model.specs.Constraint.{SpellsName, SpellsNumber, SpellsClause}
-use Rattle.dap_model.specs.ConstraintReading.{Begun, State, front, before_name, in_name, before_number, in_number, after_slab, nothing, last_clause}
+use Rattle.dap_model.specs.ConstraintReading.{Begun, State, front, before_name, in_name, before_number, in_number, after_slab, fresh, last_clause}
 use Rattle.dap_model.proofs.SeparatedLemmas.{Followed}
 
 -- clauses with commas, and names with dots
@@ -66,5 +66,5 @@ choose b x y z h then otherwise = elim (cases_Bool b) [
 pub reached : (text : List ℕ) (state next : State) → Some state ≡ Some next → Leads text state → Leads text next
 reached text state next same leads = subst (Leads text) (same_Some state next same) leads
 
-pub BeforeName-nothing : BeforeName [] nothing
-BeforeName-nothing = record { clauses_text = []; path_text = []; clauses = refl; path = refl; none = refl; text_is = refl }
+pub BeforeName-fresh : BeforeName [] fresh
+BeforeName-fresh = record { clauses_text = []; path_text = []; clauses = refl; path = refl; none = refl; text_is = refl }

@@ -22,5 +22,6 @@ pub mod ProjectionSentLemmas
 pub mod ProjectionWholeLemmas
 pub mod SeparatedLemmas
 pub mod SlabLemmas
+pub mod TextsLemmas
 pub mod XdrLemmas
 pub mod XdrTellLemmas

@@ -10,7 +10,7 @@ use Rattle.dap_model.specs.declared.declaration.Decl.{Decl}
 use Rattle.dap_model.specs.declared.declaration.Decl.TheVariants.{Plain, Grid, Structure}
 use Rattle.dap_model.specs.declared.projection.Clause.{Clause}
 use Rattle.dap_model.specs.declared.projection.Slab.{Slab}
-use Rattle.dap_model.specs.Box.{whole_slab}
+use Rattle.dap_model.specs.Box.{whole_slab, EachPicks}
 use Rattle.dap_model.specs.ClauseFaults.{path_text, rank_fault, is_within, range_fault}
 use Rattle.dap_model.specs.Picking.{parts_of, dims_of, part_dims, Picked, nothing, every, only, picked_by, whole_slabs, or_whole, spread, slabs_for, given_by, picked_dims}
 use Rattle.dap_model.specs.ProjectionFacts.{IsGridded, FitsDim}
@@ -141,3 +141,16 @@ given-fit decl earlier clause part slabs gridded within sound e = go (picked_by 
         (subst (λ (p : ℕ). AllZip FitsDim (part_dims decl p) (or_whole (part_dims decl p) clause.slabs)) same (or_whole-fit (path_text clause.path) (part_dims decl other) clause.slabs rank range))
     | inr f ↦ absurd (none-some slabs (sym (cond-false _ _ _ f) ∙ h))
   ]
+
+-- what fitting slabs pick lies within the dimensions
+pub picked_within : (dims : List Dim) (slabs : List Slab) (index : List ℕ) → AllZip FitsDim dims slabs → EachPicks slabs index → AllZip (λ (dim : Dim) (i : ℕ). i < dim.size) dims index
+picked_within [] [] [] fits picks = tt
+picked_within [] [] (i ∷ index) fits picks = absurd picks
+picked_within [] (slab ∷ slabs) index fits picks = absurd fits
+picked_within (dim ∷ dims) [] index fits picks = absurd fits
+picked_within (dim ∷ dims) (slab ∷ slabs) [] fits picks = absurd picks
+picked_within (dim ∷ dims) (slab ∷ slabs) (i ∷ index) fits picks =
+    let low = picks.0.from_start in
+    let high = picks.0.to_stop in
+    let within = fits.0.within (omega arith) in
+    (omega arith, picked_within dims slabs index fits.1 picks.1)

@@ -1,7 +1,7 @@
 -- How long values are as XDR, and where the elements of an array stand.
 use Rattle.std.proofs.Common.{◌≡◌, ℕ, zero, suc, ◌+◌, ◌-◌, ◌*◌, ◌<◌, List, [], ◌∷◌, ◌++◌, length, replicate, get_or, refl, sym, ap, ap₂, subst, ◌∙◌, arith, append-nil, slice_get, Some}
 use Rattle.std.specs.Int.{w32, to_be_bytes}
-use Rattle.std.specs.List.{flat_map, sum_by}
+use Rattle.std.specs.List.{flat_map}
 use Rattle.std.proofs.lemmas.List.{get_or_append_left, get_or-append-add, length-append, length-replicate}
 use Rattle.std.proofs.lemmas.List.Sums.{sum_by-cons}
 use Rattle.std.proofs.Math.Nat.{mul_comm}
@@ -10,7 +10,7 @@ use Rattle.std.proofs.lemmas.Option.{slice_get-get_or}
 use Rattle.fm_base.specs.Format.{padded_len}
 use Rattle.dap_model.specs.declared.declaration.DapKind.{DapKind}
 use Rattle.dap_model.specs.declared.declaration.DapKind.TheVariants.{Byte, Int16, Int32, Float32, Float64, Text}
-use Rattle.dap_model.specs.Xdr.{number_bytes, elements_bytes, count_twice, array_bytes, text_bytes, texts_bytes, zeros_after, number_len, element_bytes, element_len, elements_len, text_len}
+use Rattle.dap_model.specs.Xdr.{number_bytes, elements_bytes, count_twice, array_bytes, text_bytes, texts_bytes, zeros_after, number_len, element_bytes, element_len, elements_len, text_len, texts_len}
 
 pub length-number_bytes : (kind : DapKind) (bits : ℕ) → length (number_bytes kind bits) ≡ number_len kind
 unfolding number_bytes number_len
@@ -115,14 +115,15 @@ length-text_bytes text =
     ∙ ap (λ (n : ℕ). n + length (zeros_after (length text))) (length-append (to_be_bytes w32 (length text)) text)
     ∙ omega (arith, length-zeros_after (length text))
 
-length-texts : (texts : List (List ℕ)) → length (flat_map text_bytes texts) ≡ sum_by (λ (text : List ℕ). text_len (length text)) texts
+pub length-texts : (texts : List (List ℕ)) → length (flat_map text_bytes texts) ≡ texts_len texts
+unfolding texts_len
 length-texts [] = refl
 length-texts (text ∷ texts) =
     length-append (text_bytes text) (flat_map text_bytes texts)
     ∙ ap₂ (λ (m n : ℕ). m + n) (length-text_bytes text) (length-texts texts)
     ∙ sym (sum_by-cons (λ (t : List ℕ). text_len (length t)) text texts)
 
-pub length-texts_bytes : (texts : List (List ℕ)) → length (texts_bytes texts) ≡ 4 + sum_by (λ (text : List ℕ). text_len (length text)) texts
+pub length-texts_bytes : (texts : List (List ℕ)) → length (texts_bytes texts) ≡ 4 + texts_len texts
 unfolding texts_bytes
 length-texts_bytes texts =
     length-append (to_be_bytes w32 (length texts)) (flat_map text_bytes texts) ∙ ap (λ (n : ℕ). 4 + n) (length-texts texts)

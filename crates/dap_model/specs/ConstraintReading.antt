@@ -24,9 +24,9 @@ pub data State : Type 0 where
   in_number : Begun → List ℕ → ℕ → ℕ → State
   after_slab : Begun → State
 
--- nothing is read
-abbrev pub nothing : Begun
-nothing = record { clauses = []; path = []; slabs = [] }
+-- nothing is read yet
+abbrev pub fresh : Begun
+fresh = record { clauses = []; path = []; slabs = [] }
 
 -- one more name in the path
 abbrev pub with_name : Begun → List ℕ → Begun
@@ -70,7 +70,7 @@ step_number begun numbers count value byte = if is_ascii_digit byte && nat_lt co
 
 -- where reading stands after one more byte; `None` where no constraint begins so
 unfoldable pub step : State → ℕ → Option State
-step front byte = step_to_name nothing byte
+step front byte = step_to_name fresh byte
 step (before_name begun) byte = step_to_name begun byte
 step (in_name begun name) byte = step_name begun name byte
 step (before_number begun numbers) byte = if is_ascii_digit byte then Some (in_number begun numbers 1 (byte - 48)) else None

@@ -1,7 +1,7 @@
 -- Values as XDR (RFC 4506; ESE-RFC-004, the data of DAP 2.0).
 use Rattle.std.specs.Prelude.{ℕ, ◌+◌, ◌-◌, ◌*◌, ◌^◌, ◌<◌, List, [], ◌∷◌, ◌++◌, length, map, replicate}
 use Rattle.std.specs.Int.{w16, w32, w64, to_be_bytes, cast_signed, cast_unsigned}
-use Rattle.std.specs.List.{flat_map}
+use Rattle.std.specs.List.{flat_map, sum_by}
 use Rattle.fm_base.specs.Format.{padded_len}
 use Rattle.dap_model.specs.Box.{box_of}
 use Rattle.dap_model.specs.declared.declaration.DapKind.{DapKind}
@@ -45,35 +45,6 @@ text_bytes text = to_be_bytes w32 (length text) ++ text ++ zeros_after (length t
 -- an array of texts: how many there are, and each of them
 unfoldable pub texts_bytes : List (List ℕ) → List ℕ
 texts_bytes texts = to_be_bytes w32 (length texts) ++ flat_map text_bytes texts
-
--- what a part holds: one value or an array of them, numbers by their bits
-pub data Values : Type 0 where
-  number : ℕ → Values
-  numbers : List ℕ → Values
-  text : List ℕ → Values
-  texts : List (List ℕ) → Values
-
--- the values of a part: a number alone has no count, so a byte alone takes four bytes
-unfoldable pub xdr_of : DapKind → Values → List ℕ
-xdr_of kind (number bits) = number_bytes kind bits
-xdr_of kind (numbers bits) = array_bytes kind bits
-xdr_of kind (text bytes) = text_bytes bytes
-xdr_of kind (texts each) = texts_bytes each
-
--- the numbers at the places of slabs, or one where there is no dimension
-abbrev pub numbers_at : List Slab → (List ℕ → ℕ) → Values
-numbers_at [] bits = number (bits [])
-numbers_at slabs bits = numbers (map bits (box_of slabs))
-
--- the texts at the places of slabs, or one where there is no dimension
-abbrev pub texts_at : List Slab → (List ℕ → List ℕ) → Values
-texts_at [] words = text (words [])
-texts_at slabs words = texts (map words (box_of slabs))
-
--- the values of a part of this kind with these slabs, by what gives the bits or the text at an index
-abbrev pub values_at : DapKind → List Slab → (List ℕ → ℕ) → (List ℕ → List ℕ) → Values
-values_at Text slabs bits words = texts_at slabs words
-values_at kind slabs bits words = numbers_at slabs bits
 
 -- how many bits a number has
 unfoldable pub bits_in : DapKind → ℕ
@@ -122,3 +93,36 @@ elements_len kind n = padded_len (n * element_len kind)
 -- how many bytes a text of this length takes
 abbrev pub text_len : ℕ → ℕ
 text_len n = 4 + padded_len n
+
+-- how many bytes texts take, one after the other
+unfoldable pub texts_len : List (List ℕ) → ℕ
+texts_len texts = sum_by (λ (text : List ℕ). text_len (length text)) texts
+
+-- what a part holds: one value or an array of them, numbers by their bits
+pub data Values : Type 0 where
+  number : ℕ → Values
+  numbers : List ℕ → Values
+  text : List ℕ → Values
+  texts : List (List ℕ) → Values
+
+-- the values of a part: a number alone has no count, so a byte alone takes four bytes
+unfoldable pub xdr_of : DapKind → Values → List ℕ
+xdr_of kind (number bits) = number_bytes kind bits
+xdr_of kind (numbers bits) = array_bytes kind bits
+xdr_of kind (text bytes) = text_bytes bytes
+xdr_of kind (texts each) = texts_bytes each
+
+-- the numbers at the places of slabs, or one where there is no dimension
+abbrev pub numbers_at : List Slab → (List ℕ → ℕ) → Values
+numbers_at [] bits = number (bits [])
+numbers_at slabs bits = numbers (map bits (box_of slabs))
+
+-- the texts at the places of slabs, or one where there is no dimension
+abbrev pub texts_at : List Slab → (List ℕ → List ℕ) → Values
+texts_at [] words = text (words [])
+texts_at slabs words = texts (map words (box_of slabs))
+
+-- the values of a part of this kind with these slabs, by what gives the bits or the text at an index
+abbrev pub values_at : DapKind → List Slab → (List ℕ → ℕ) → (List ℕ → List ℕ) → Values
+values_at Text slabs bits words = texts_at slabs words
+values_at kind slabs bits words = numbers_at slabs bits

@@ -1,7 +1,7 @@
 //! Slabs pick the indices that lie whole strides from their start, and a box has the index lists that its slabs pick.
 ghost use Rattle.std.specs.Prelude.{◌≡◌, ℕ, ◌<◌, ◌↔◌, Some, length, map, slice_get, All, Contains};
 ghost use Rattle.std.specs.List.Sorted.{IsStrictlyIncreasing};
-ghost use Rattle.fm_base.specs.Layout.{indices_of};
+ghost use Rattle.fm_base.specs.Layout.{indices_of, product};
 ghost use Rattle.dap_model.specs.Box.{box_len, box_of, index_at, slab_count, slab_indices};
 ghost use Rattle.dap_model.specs.Box.{whole_slab, HasStride, Picks, EachPicks};
 
@@ -35,5 +35,6 @@ pub fn box_places(slabs: &[Slab])
 
 /// The box of whole dimensions is all index lists of the array.
 pub fn whole_box(shape: &[u64])
-    ensures { box_of (map whole_slab shape.now) ≡ indices_of shape.now }
+    ensures indices { box_of (map whole_slab shape.now) ≡ indices_of shape.now }
+    ensures count { box_len (map whole_slab shape.now) ≡ product shape.now }
 {}

@@ -1,18 +1,18 @@
 //! What is sent for a constraint is what it names, in order and in range.
-ghost use Rattle.std.specs.Prelude.{◌≡◌, ◌≢◌, ◌↔◌, [], Ok, Err, length, map, filter, IsOk, IsTrue};
+ghost use Rattle.std.specs.Prelude.{◌≡◌, ◌≢◌, ◌<◌, ◌↔◌, [], Ok, Err, length, map, filter, IsOk, IsTrue};
 ghost use Rattle.std.specs.Prelude.{All, AllPairs, Contains};
 ghost use Rattle.std.specs.List.{AllZip, flat_map};
-ghost use Rattle.dap_model.specs.Box.{slab_count};
+ghost use Rattle.dap_model.specs.Box.{slab_count, EachPicks};
 ghost use Rattle.dap_model.specs.Picking.{is_picked, name_of, parts_of, picked_by};
 ghost use Rattle.dap_model.specs.Projection.{cut_array, is_sent, projection_of};
-ghost use Rattle.dap_model.specs.ProjectionFacts.{lengths_of, AreNamedApart, FitsPart, HasNoFault};
-ghost use Rattle.dap_model.specs.ProjectionFacts.{IsAsked, IsCut, IsFirstFault, IsGridded, IsWhole};
+ghost use Rattle.dap_model.specs.ProjectionFacts.{lengths_of, AreNamedApart, FitsDim, FitsPart};
+ghost use Rattle.dap_model.specs.ProjectionFacts.{HasNoFault, IsAsked, IsCut, IsFirstFault, IsGridded, IsWhole};
 ghost use Rattle.dap_model.specs.ProjectionFacts.{Names, StandsBefore};
 
 use crate::declaration::{Array, Decl};
 use crate::fault::ProjectFault;
 use crate::projection::{Clause, Projected, Sent, Slab};
-use fm_base::Bytes;
+use fm_base::{Bytes, Dim};
 
 /// A path picks something of a declaration exactly where it names the declaration, or a part of one that isn't a plain
 /// array.
@@ -62,6 +62,12 @@ pub fn projection_fits(decls: &[Decl], clauses: &[Clause], projected: &Projected
     requires gridded { All IsGridded decls.now }
     ensures { projection_of decls.now clauses.now ≡ Ok projected.now
         → All (FitsPart decls.now) projected.now.sent }
+{}
+
+/// An index list that fitting slabs pick lies within the dimensions.
+pub fn fit_is_in_range(dims: &[Dim], slabs: &[Slab], index: &[u64])
+    ensures { AllZip FitsDim dims.now slabs.now → EachPicks slabs.now index.now
+        → AllZip (λ dim i. i < dim.size) dims.now index.now }
 {}
 
 /// The arrays of the declarations that are sent are the parts that are sent, each cut by its slabs.

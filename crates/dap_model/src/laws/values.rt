@@ -1,10 +1,10 @@
 //! How long values are as XDR, where they stand, and that they are told.
-ghost use Rattle.std.specs.Prelude.{◌≡◌, ◌≢◌, ℕ, ◌+◌, ◌*◌, ◌^◌, ◌<◌, List, [], length, sum_by};
-ghost use Rattle.std.specs.Prelude.{slice_get, slice_index, All};
-ghost use Rattle.dap_model.specs.Box.{box_len, index_at};
+ghost use Rattle.std.specs.Prelude.{◌≡◌, ◌≢◌, ℕ, ◌+◌, ◌*◌, ◌^◌, ◌<◌, List, [], length, map, take};
+ghost use Rattle.std.specs.Prelude.{slice_get, slice_index, slice_index_or, All};
+ghost use Rattle.dap_model.specs.Box.{box_len, box_of, index_at};
 ghost use Rattle.dap_model.specs.Xdr.{array_bytes, element_bytes, element_len, elements_len};
 ghost use Rattle.dap_model.specs.Xdr.{xdr_of, values_at, AreBitsOf, number_bytes, number_len};
-ghost use Rattle.dap_model.specs.Xdr.{text_bytes, text_len, texts_bytes};
+ghost use Rattle.dap_model.specs.Xdr.{text_bytes, text_len, texts_bytes, texts_len};
 
 use crate::declaration::DapKind;
 use crate::projection::Slab;
@@ -54,8 +54,19 @@ pub fn text_layout(text: &[u8])
     ensures { length (text_bytes text.now) ≡ text_len (length text.now) }
 {}
 
-/// An array of texts takes four bytes and those of its texts.
+/// An array of texts takes four bytes and those of its texts, each after those before it.
 pub fn texts_layout(texts: &[Bytes])
-    ensures { length (texts_bytes texts.now)
-        ≡ 4 + sum_by (λ text. text_len (length text)) texts.now }
+    ensures length { length (texts_bytes texts.now) ≡ 4 + texts_len texts.now }
+    ensures text { (place offset : ℕ) → place < length texts.now
+        → offset < text_len (length (slice_index_or texts.now place []))
+        → slice_get (texts_bytes texts.now) (4 + (texts_len (take place texts.now) + offset))
+        ≡ slice_get (text_bytes (slice_index_or texts.now place [])) offset }
+{}
+
+/// The texts of a part are an array of one for each index list that its slabs pick.
+pub fn texts_part_layout(slabs: &[Slab])
+    requires { slabs.now ≢ [] }
+    ensures { (bits : List ℕ → ℕ) (words : List ℕ → List ℕ)
+        → xdr_of DapKind.Text (values_at DapKind.Text slabs.now bits words)
+        ≡ texts_bytes (map words (box_of slabs.now)) }
 {}
