@@ -8,6 +8,7 @@ pub mod ConstraintNumbers
 pub mod ConstraintReads
 pub mod ConstraintRuns
 pub mod ConstraintStates
+pub mod GridLemmas
 pub mod ListLemmas
 pub mod NumberLemmas
 pub mod OrderLemmas

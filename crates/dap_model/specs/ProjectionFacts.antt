@@ -22,6 +22,17 @@ AreNamedApart decls = AllPairs (λ (decl other : Decl). name_of decl ≢ name_of
 abbrev pub Names : Decl → List (List ℕ) → Type 0
 Names decl path = (path ≡ name_of decl ∷ []) ⊎ ((part : Array) × Contains (named_parts decl) part × (path ≡ name_of decl ∷ part.name ∷ []))
 
+-- some clause names the declaration of this name alone, or there is no clause
+abbrev pub NamesAlone : List Clause → List ℕ → Type 0
+NamesAlone clauses name = (clauses ≡ []) ⊎ ((clause : Clause) × Contains clauses clause × (clause.path ≡ name ∷ []))
+
+-- a Grid with as many maps
+pub record IsGridOf (name : List ℕ) (maps : List Array) (sent : Decl) : Type 0 where
+  pub array : Array
+  pub others : List Array
+  pub count : length others ≡ length maps
+  pub sent_is : sent ≡ Grid name array others
+
 -- a Grid has one map for each dimension of its array, over that dimension alone
 abbrev pub IsGridded : Decl → Type 0
 IsGridded (Plain array) = Unit {0}

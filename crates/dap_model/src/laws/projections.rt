@@ -4,10 +4,11 @@ ghost use Rattle.std.specs.Prelude.{All, AllPairs, Contains};
 ghost use Rattle.std.specs.List.{AllZip, flat_map};
 ghost use Rattle.dap_model.specs.Box.{slab_count, EachPicks};
 ghost use Rattle.dap_model.specs.Picking.{is_picked, name_of, parts_of, picked_by};
-ghost use Rattle.dap_model.specs.Projection.{cut_array, is_sent, projection_of};
+ghost use Rattle.dap_model.specs.Projection.{cut_array, cut_parts, decl_sent, is_sent};
+ghost use Rattle.dap_model.specs.Projection.{projection_of};
 ghost use Rattle.dap_model.specs.ProjectionFacts.{lengths_of, AreNamedApart, FitsDim, FitsPart};
 ghost use Rattle.dap_model.specs.ProjectionFacts.{HasNoFault, IsAsked, IsCut, IsFirstFault, IsGridded, IsWhole};
-ghost use Rattle.dap_model.specs.ProjectionFacts.{Names, StandsBefore};
+ghost use Rattle.dap_model.specs.ProjectionFacts.{IsGridOf, Names, NamesAlone, StandsBefore};
 
 use crate::declaration::{Array, Decl};
 use crate::fault::ProjectFault;
@@ -68,6 +69,17 @@ pub fn projection_fits(decls: &[Decl], clauses: &[Clause], projected: &Projected
 pub fn fit_is_in_range(dims: &[Dim], slabs: &[Slab], index: &[u64])
     ensures { AllZip FitsDim dims.now slabs.now → EachPicks slabs.now index.now
         → AllZip (λ dim i. i < dim.size) dims.now index.now }
+{}
+
+/// A Grid is sent as one, with all its maps, where some clause names it alone or there is no clause, and else as a
+/// Structure of its parts that are sent.
+pub fn grid_is_kept(clauses: &[Clause], name: &[u8], array: &Array, maps: &[Array])
+    ensures kept { NamesAlone clauses.now name.now → IsGridOf name.now maps.now
+        (decl_sent clauses.now (Decl.Grid name.now array.now maps.now)) }
+    ensures cut { (NamesAlone clauses.now name.now → ⊥)
+        → decl_sent clauses.now (Decl.Grid name.now array.now maps.now)
+        ≡ Decl.Structure name.now
+        (cut_parts clauses.now (Decl.Grid name.now array.now maps.now)) }
 {}
 
 /// The arrays of the declarations that are sent are the parts that are sent, each cut by its slabs.
