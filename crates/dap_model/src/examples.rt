@@ -1,11 +1,12 @@
 //! Examples of the definitions, each as the contract of a call that does nothing.
-ghost use Rattle.std.specs.Prelude.{◌≡◌, [], ◌∷◌, ◌++◌, codes, Ok, Err};
+ghost use Rattle.std.specs.Prelude.{◌≡◌, [], ◌∷◌, ◌++◌, codes, slice_index, Ok, Err};
 ghost use Rattle.dap_model.specs.Box.{box_of, index_at, slab_indices, whole_slab};
 ghost use Rattle.dap_model.specs.ConstraintReading.{constraint_of};
 ghost use Rattle.dap_model.specs.Example.{array, at, coordinate, dim, example_decls};
 ghost use Rattle.dap_model.specs.Example.{example_sent, t_grid};
 ghost use Rattle.dap_model.specs.StructureText.{dds_of};
 ghost use Rattle.dap_model.specs.Xdr.{array_bytes, number_bytes, text_bytes, texts_bytes};
+ghost use Rattle.dap_model.specs.Xdr.{values_at, xdr_of};
 
 use crate::declaration::{DapKind, Decl};
 use crate::fault::{CeFault, ProjectFault};
@@ -51,6 +52,17 @@ pub fn texts()
     ensures two { texts_bytes (codes "ab" ∷ codes "cdef" ∷ [])
         ≡ 0 ∷ 0 ∷ 0 ∷ 2 ∷ 0 ∷ 0 ∷ 0 ∷ 2 ∷ 97 ∷ 98 ∷ 0 ∷ 0
         ∷ 0 ∷ 0 ∷ 0 ∷ 4 ∷ 99 ∷ 100 ∷ 101 ∷ 102 ∷ [] }
+{}
+
+/// Every second of three times, as the values of a part.
+pub fn part()
+    ensures { xdr_of DapKind.Int32 (values_at DapKind.Int32
+        (record { start = 0; stride = 2; stop = 2 } ∷ [])
+        (λ index. slice_index (0x07861f80 ∷ 0x078673e0 ∷ 0x0786c840 ∷ [])
+        (slice_index index 0))
+        (λ index. []))
+        ≡ 0 ∷ 0 ∷ 0 ∷ 2 ∷ 0 ∷ 0 ∷ 0 ∷ 2
+        ∷ 0x07 ∷ 0x86 ∷ 0x1f ∷ 0x80 ∷ 0x07 ∷ 0x86 ∷ 0xc8 ∷ 0x40 ∷ [] }
 {}
 
 /// Constraints, and what they ask for.
