@@ -1,2 +1,11 @@
+pub mod Box
+pub mod ClauseFaults
+pub mod Code
+pub mod Constraint
+pub mod ConstraintReading
+pub mod Example
+pub mod Picking
+pub mod Projection
+pub mod ProjectionFacts
 pub mod StructureText
 pub mod Xdr

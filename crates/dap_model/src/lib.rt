@@ -3,7 +3,11 @@
 #![tactic(auto)]
 
 mod declaration;
+pub mod examples;
+mod fault;
+pub mod laws;
 mod projection;
 
 pub use declaration::{Array, DapKind, Decl};
-pub use projection::{Clause, Projection, Sent, Slab};
+pub use fault::{CeFault, ProjectFault};
+pub use projection::{Clause, Projected, Projection, Sent, Slab};

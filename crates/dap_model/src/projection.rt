@@ -1,5 +1,6 @@
 //! What a constraint asks for, and what is sent for it (ESE-RFC-004, constraint expressions).
 
+use crate::declaration::Decl;
 use fm_base::{Bytes, List};
 
 /// Some of the places along one dimension: `start`, `start + stride` and so on, up to `stop`.
@@ -30,4 +31,12 @@ pub struct Sent {
     pub decl: u32,
     pub part: u32,
     pub slabs: List<Slab>,
+}
+
+/// What is sent for a projection: the declarations with the lengths that their slabs leave, and the parts whose values
+/// follow, in the dataset's order.
+#[derive(Debug, Drop)]
+pub struct Projected {
+    pub decls: List<Decl>,
+    pub sent: List<Sent>,
 }

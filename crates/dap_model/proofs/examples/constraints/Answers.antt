@@ -1,0 +1,14 @@
+-- The equations hold by computing.
+use Rattle.std.proofs.Common.{refl}
+use Rattle.dap_model.specs.Constraint.{is_name_byte, slab_of}
+use Rattle.dap_model.specs.ConstraintReading.{clauses_at, constraint_of, read_from, step, step_name, step_number, step_on, step_to_name}
+use Rattle.dap_model.proofs.examples.constraints.Goals as goal
+
+pub returns : goal.returns
+unfolding clauses_at constraint_of read_from step step_name step_number step_on step_to_name is_name_byte slab_of
+returns c = record {
+  empty = refl;
+  strided = refl;
+  three = refl;
+  member = refl;
+}

@@ -1,0 +1,6 @@
+-- A lemma on the definitions.
+use Rattle.dap_model.proofs.XdrLemmas.{length-number_bytes}
+use Rattle.dap_model.proofs.laws.values.number_layout.Goals as goal
+
+pub returns : goal.returns
+returns c = length-number_bytes c.args.kind c.args.bits

@@ -1,0 +1,6 @@
+-- A lemma on the definitions.
+use Rattle.dap_model.proofs.XdrLemmas.{length-text_bytes}
+use Rattle.dap_model.proofs.laws.values.text_layout.Goals as goal
+
+pub returns : goal.returns
+returns c = length-text_bytes c.args.text.now

@@ -1,0 +1,6 @@
+//! Laws of the definitions, each as the contract of a call that does nothing.
+
+pub mod boxes;
+pub mod constraints;
+pub mod projections;
+pub mod values;
