@@ -15,7 +15,7 @@ mod site;
 mod tests;
 
 pub use full::{Full, Tally, Which};
-pub use limit::{MAX_BYTES, MAX_FILES, MAX_INSTANT, MAX_ROWS, MAX_TIMES};
+pub use limit::{MAX_BYTES, MAX_FILE_BYTES, MAX_FILES, MAX_INSTANT, MAX_NAME, MAX_ROWS, MAX_TIMES};
 pub use loaded::{LoadFault, Loaded, Slot};
 pub use op::Op;
 pub use proto::{Proto, ProtoFault, ProtoVar};

@@ -5,7 +5,7 @@ ghost use Rattle.std.specs.Prelude.{◌≡◌, [], ◌∷◌, None, Some, Ok, Er
 ghost use Rattle.fm_base.specs.declared.kind.Kind.TheVariants.{Char, Float, Int};
 ghost use Rattle.fm_model.specs.declared.loaded.LoadFault.TheVariants.{GridDiffers, MissingVariable, VariableDiffers};
 ghost use Rattle.fm_model.specs.Attribute.{attr_text};
-ghost use Rattle.fm_model.specs.Example.{site, times_var, times_header, text_attr, header_with, number_var};
+ghost use Rattle.fm_model.specs.Example.{site, times_var, times_header, text_attr, header_of, header_with, number_var, valid_var};
 ghost use Rattle.fm_model.specs.Example.{run_var, flag_var, record_axis, field_var, field_header, proto_field, field_proto};
 ghost use Rattle.fm_model.specs.LoadVars.{file_slot, same_bytes};
 ghost use Rattle.fm_model.specs.Prototype.{kept_vars, proto_var, proto_with};
@@ -18,11 +18,14 @@ pub fn a_text_ends_before_its_last_zeros()
     ensures numbers { attr_text (record { name = codes "units"; kind = Int; values = [] }) ≡ None }
 {}
 
-/// A variable of times is the axis by its name, unless it is of characters. One that is also the reference time stays in
-/// the views.
+/// A variable of times is the axis by its name or by its standard name, unless it is of characters. One that is also the
+/// reference time stays in the views.
 pub fn an_axis_is_a_coordinate_variable_of_numbers()
     ensures numbers { axis_of (times_header 1 (times_var Int [])) ≡ Some (times_var Int []) }
     ensures characters { axis_of (times_header 1 (times_var Char [])) ≡ None }
+    ensures standard_name { axis_of (header_of (codes "valid") valid_var) ≡ Some valid_var }
+    ensures neither { axis_of (header_of (codes "valid") (number_var (codes "valid") (0 ∷ [])))
+        ≡ None }
     ensures analysis { let axis = times_var Int
         (text_attr (codes "standard_name") (codes "forecast_reference_time") ∷ []) in
         reference_of (times_header 1 axis) ≡ Some axis }
