@@ -1,5 +1,6 @@
-//! What a collection of forecast runs is: what a file is taken for, what is done to the files, and which rows the views
-//! of them have (THREDDS Data Server, Forecast Model Run Collections). The definitions stand in `specs/`, on plain lists.
+//! What a collection of forecast runs is: what a file is taken for, what is done to the files, and which rows the
+//! views of them have (THREDDS Data Server, Forecast Model Run Collections). The definitions stand in `specs/`, on
+//! plain lists.
 #![tactic(auto)]
 
 pub mod examples;

@@ -1,4 +1,4 @@
-//! Times of a file. The epoch is 2020-01-01T00:00:00Z, and so is the origin of the units.
+//! Times and runs of a file. The epoch is 2020-01-01T00:00:00Z.
 ghost use Rattle.std.specs.Prelude.{◌≡◌, [], ◌∷◌, Ok, Err, codes, pos, negsuc};
 ghost use Rattle.fm_base.specs.declared.kind.Kind.TheVariants.{Char, Double, Int};
 ghost use Rattle.fm_model.specs.declared.loaded.LoadFault.TheVariants.{NoRunTime, NoTimes, NotWhole, RunRange, TimeRange, TimeRepeated, TooManyTimes, Units};

@@ -1,5 +1,6 @@
 //! Files that are taken.
-ghost use Rattle.std.specs.Prelude.{None, Some, ◌≡◌, ◌≢◌, ◌+◌, ◌*◌, ◌<◌, ◌≤◌, ◌∷◌, ℕ, List, ℤ, Ok, All, AllPairs, IsTrue, drop, length, slice_get, true, false};
+ghost use Rattle.std.specs.Prelude.{◌≡◌, ◌≢◌, ◌+◌, ◌*◌, ◌<◌, ◌≤◌, ◌∷◌, ℕ, ℤ};
+ghost use Rattle.std.specs.Prelude.{None, Some, List, Ok, All, AllPairs, IsTrue, drop, length, slice_get, true, false};
 ghost use Rattle.std.specs.List.{AllZip};
 ghost use Rattle.std.specs.Result.{result_ok};
 ghost use Rattle.fm_base.specs.declared.header.Header.{Header as FileHeader};
@@ -77,7 +78,8 @@ pub fn a_fit_file_has_a_slot_for_each_variable()
         → AllZip (IsSlotOf proto header axis) (slotted_vars proto) file.slots }
 {}
 
-/// A file that fits lies on the prototype's grid: it has each coordinate variable but for the axis, with the same elements.
+/// A file that fits lies on the prototype's grid: it has each coordinate variable but for the axis, with the same
+/// elements.
 pub fn a_fit_file_has_the_same_grid()
     ensures { (file : Loaded) (proto : Proto) (header : FileHeader) → Fits file proto
         → file_header file.content ≡ Ok header
