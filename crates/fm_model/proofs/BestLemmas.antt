@@ -1,13 +1,13 @@
 -- The runs and the valid times of files, and the best run for a valid time.
 use Rattle.std.proofs.Common.{◌≡◌, ◌↔◌, false, List, [], ◌∷◌, ◌++◌, map, Option, Some, None, ℤ, ◌≤ℤ◌, ◌<ℤ◌, refl, sym, ap, subst, ◌∙◌, inl, inr, arith}
-use Rattle.std.specs.Prelude.{All, Contains, IsSome, is_some}
+use Rattle.std.specs.Prelude.{All, Any, Contains, IsSome, is_some}
 use Rattle.std.proofs.lemmas.Bool.{both_ways, false≢true}
 use Rattle.std.proofs.lemmas.Int.{ints}
 use Rattle.fm_model.specs.declared.loaded.Loaded.{Loaded}
-use Rattle.fm_model.specs.Cell.{runs_of, times_of, cell, best, IsBest}
+use Rattle.fm_model.specs.Cell.{runs_of, times_of, cell, best, IsBest, HasCell}
 use Rattle.fm_model.proofs.CellLemmas.{IsCell-from_cell, held-from_cell, cell-from_file, in_from_slice_get}
 use Rattle.fm_model.proofs.LastLemmas.{IsLast, is_last, none_passes}
-use Rattle.fm_model.proofs.Members.{In, EachPair, Contains-from_in, in_from_Contains, In-append_right, In-append_cases, In-map, In-flat_map, in_flat_map, Each-in, Each-from_in, All-from_each, each_from_All}
+use Rattle.fm_model.proofs.Members.{In, EachPair, Contains-from_in, in_from_Contains, In-append_right, In-append_cases, In-map, In-flat_map, in_flat_map, Each-in, Each-from_in, All-from_each, each_from_All, Any-from_in, in_from_Any}
 use Rattle.fm_model.proofs.RisingLemmas.{Above, in_rising, In-rising, rises_rising}
 
 -- the value that is there
@@ -43,6 +43,15 @@ cell_file files run valid h =
     let c = IsCell-from_cell files run valid found.0.0 found.0.1 found.1 in
     (found.0.0, held-from_cell files run valid found.0.0 found.0.1 c, c.run_is, in_from_slice_get found.0.0.times found.0.1 valid c.time_is)
 
+-- a cell is there exactly where some file of the run has the time
+pub Any-from_cell : (files : List Loaded) (run valid : ℤ) → IsSome (cell files run valid) → Any (HasCell run valid) files
+Any-from_cell files run valid h =
+    let found = cell_file files run valid h in
+    Any-from_in (HasCell run valid) found.0 files found.1 (record { run_is = found.2; time = Contains-from_in valid found.0.times found.3 })
+
+pub cell-from_Any : (files : List Loaded) (run valid : ℤ) → Any (HasCell run valid) files → IsSome (cell files run valid)
+cell-from_Any files run valid any = let found = in_from_Any (HasCell run valid) files any in cell-from_file files run valid found.0 found.1 found.2
+
 -- a run with a cell is among the runs, and a valid time with a cell among the times
 pub run_of_cell : (files : List Loaded) (run valid : ℤ) → IsSome (cell files run valid) → In run (runs_of files)
 run_of_cell files run valid h = let found = cell_file files run valid h in subst (λ r. In r (runs_of files)) found.2 (In-runs_of files found.0 found.1)
@@ -63,7 +72,10 @@ pub IsBest-from_best : (files : List Loaded) (valid run : ℤ) → best files va
 unfolding best
 IsBest-from_best files valid run e =
     let last = is_last (λ r. is_some (cell files r valid)) (runs_of files) run e in
-    record { has = last.passes; greatest = λ other has. bounded last other has (subst (In other) last.split (run_of_cell files other valid has)) }
+    record {
+      has = Any-from_cell files run valid last.passes;
+      greatest = λ other any. let has = cell-from_Any files other valid any in bounded last other has (subst (In other) last.split (run_of_cell files other valid has));
+    }
   where
     bounded : (last : IsLast (λ r. is_some (cell files r valid)) (runs_of files) run) (other : ℤ) → IsSome (cell files other valid) → In other (last.before ++ run ∷ last.after) → other ≤ℤ run
     bounded last other has h = elim (In-append_cases other last.before (run ∷ last.after) h) [
@@ -84,7 +96,7 @@ pub best-from_IsBest : (files : List Loaded) (valid run : ℤ) → IsBest files 
 best-from_IsBest files valid run b = by_best (best files valid) refl
   where
     by_best : (o : Option ℤ) → best files valid ≡ o → best files valid ≡ Some run
-    by_best None is = absurd (no_best files valid is run b.has)
+    by_best None is = absurd (no_best files valid is run (cell-from_Any files run valid b.has))
     by_best (Some other) is =
         let found = IsBest-from_best files valid other is in
         is ∙ ap Some (same_instant other run (b.greatest other found.has) (found.greatest run b.has))
@@ -112,5 +124,5 @@ no_best_both files valid = (there, back)
         by_best : (o : Option ℤ) → best files valid ≡ o → best files valid ≡ None
         by_best None is = is
         by_best (Some run) is =
-            let found = cell_file files run valid (IsBest-from_best files valid run is).has in
+            let found = cell_file files run valid (cell-from_Any files run valid (IsBest-from_best files valid run is).has) in
             absurd (Each-in (λ (file : Loaded). ¬ Contains file.times valid) found.0 files (each_from_All (λ file. ¬ Contains file.times valid) files all) found.1 (Contains-from_in valid found.0.times found.3))

@@ -5,6 +5,7 @@ pub mod CollectionLemmas
 pub mod FindLemmas
 pub mod FullLemmas
 pub mod GridLemmas
+pub mod HeaderLemmas
 pub mod LastLemmas
 pub mod LoadLemmas
 pub mod Members

@@ -10,7 +10,7 @@ use Rattle.fm_model.specs.declared.row.ViewName.TheVariants.{Best, Run, Offset, 
 use Rattle.fm_model.specs.Cell.{runs_of, times_of, cell, best, IsBest}
 use Rattle.fm_model.specs.Rising.{Rises}
 use Rattle.fm_model.specs.Rows.{row_at, best_row, rows, instant_in, Shows, TellsFile}
-use Rattle.fm_model.proofs.BestLemmas.{value-from_some, rises_runs_of, rises_times_of, in_times_of, In-times_of, run_of_cell, time_of_cell, IsBest-from_best, best-from_file}
+use Rattle.fm_model.proofs.BestLemmas.{value-from_some, cell-from_Any, rises_runs_of, rises_times_of, in_times_of, In-times_of, run_of_cell, time_of_cell, IsBest-from_best, best-from_file}
 use Rattle.fm_model.proofs.CellLemmas.{IsCell-from_cell, held-from_cell}
 use Rattle.fm_model.proofs.LastLemmas.{option_map-some}
 use Rattle.fm_model.proofs.Members.{In, Each, EachPair, Contains-from_in, in_from_Contains, in_map, In-filter_map, in_filter_map, Each-in, Each-from_in, AllPairs-from_each, Any-from_in, in_from_Any}
@@ -130,7 +130,7 @@ unfolding best_row row_at
 best_row-from_time files valid h =
     let found = in_times_of files valid h in
     let run = value-from_some (best files valid) (best-from_file files valid found.0 found.1 found.2) in
-    let found_cell = value-from_some (cell files run.0 valid) (IsBest-from_best files valid run.0 run.1).has in
+    let found_cell = value-from_some (cell files run.0 valid) (cell-from_Any files run.0 valid (IsBest-from_best files valid run.0 run.1).has) in
     rw (run.1, found_cell.1) refl
 
 pub map-valid-best : (files : List Loaded) → map (λ (row : Row). row.valid) (rows files Best) ≡ times_of files

@@ -1,5 +1,5 @@
 -- The slots of a file that was taken.
-use Rattle.std.proofs.Common.{◌≡◌, ℕ, suc, Bool, true, false, cond, not, ◌&&◌, ◌||◌, List, [], ◌∷◌, ◌++◌, drop, length, Result, Ok, refl, sym, ap, ap₂, subst, ◌∙◌}
+use Rattle.std.proofs.Common.{◌≡◌, ◌≢◌, ℕ, suc, Bool, true, false, cond, not, ◌&&◌, ◌||◌, List, [], ◌∷◌, ◌++◌, drop, length, Result, Ok, refl, sym, ap, ap₂, subst, ◌∙◌}
 use Rattle.std.specs.Prelude.{All, IsTrue, filter}
 use Rattle.std.specs.List.{AllZip}
 use Rattle.std.specs.Str.{bytes_eq}
@@ -160,13 +160,28 @@ slots_each file proto header axis fits e d =
     let a : t.axis ≡ axis = same_Ok {E = LoadFault} t.axis axis (sym t.axis_is ∙ ap (file_axis proto) h ∙ d) in
     subst (λ x. AllZip (IsSlotOf proto x axis) (slotted_vars proto) file.slots) h (subst (λ y. AllZip (IsSlotOf proto t.header y) (slotted_vars proto) file.slots) a (slots_taken file proto t))
 
+-- a coordinate variable but for the axis is compared
+compared : (proto : Proto) (wanted : ProtoVar) → wanted.name ≢ proto.axis → IsTrue (is_coordinate proto.dims wanted.name wanted.kind wanted.dims) → is_compared proto wanted ≡ true
+unfolding is_compared
+compared proto wanted other coordinate = by_name (bytes_eq wanted.name proto.axis) refl
+  where
+    or_true : (b : Bool) → (b || true) ≡ true
+    or_true true = refl
+    or_true false = refl
+
+    by_name : (b : Bool) → bytes_eq wanted.name proto.axis ≡ b → (not b && (wanted.timed || is_coordinate proto.dims wanted.name wanted.kind wanted.dims)) ≡ true
+    by_name true is = absurd (other ((bytes_eq-Decides wanted.name proto.axis).0 is))
+    by_name false is = rw coordinate (or_true wanted.timed)
+
 pub same_grids : (file : Loaded) (proto : Proto) (header : FileHeader) → Fits file proto → file_header file.content ≡ Ok header
-    → All (λ (wanted : ProtoVar). IsTrue (is_compared proto wanted) → wanted.timed ≡ false → IsSameGrid proto file.content header wanted) proto.vars
+    → All (λ (wanted : ProtoVar). wanted.name ≢ proto.axis → wanted.timed ≡ false → IsTrue (is_coordinate proto.dims wanted.name wanted.kind wanted.dims) → IsSameGrid proto file.content header wanted) proto.vars
 unfolding file_slots
 same_grids file proto header fits e =
     let t = IsTaken-load_of file.name file.content proto file fits in
     let h : t.header ≡ header = same_Ok {E = LoadFault} t.header header (sym t.header_is ∙ e) in
     let each = grids proto file.content t.header t.axis (filter (is_compared proto) proto.vars) [] file.slots t.slots_is in
-    let Same : ProtoVar → Type 0 = λ (w : ProtoVar). IsTrue (is_compared proto w) → w.timed ≡ false → IsSameGrid proto file.content header w in
-    All-from_each Same proto.vars (Each-from_in Same proto.vars (λ wanted held compared no.
-    subst (λ x. IsSameGrid proto file.content x wanted) h (Each-in (λ (w : ProtoVar). w.timed ≡ false → IsSameGrid proto file.content t.header w) wanted (filter (is_compared proto) proto.vars) each (In-filter (is_compared proto) wanted proto.vars held compared) no)))
+    let Same : ProtoVar → Type 0 = λ (w : ProtoVar). w.name ≢ proto.axis → w.timed ≡ false → IsTrue (is_coordinate proto.dims w.name w.kind w.dims) → IsSameGrid proto file.content header w in
+    All-from_each Same proto.vars (Each-from_in Same proto.vars (λ wanted held other untimed coordinate.
+    subst (λ x. IsSameGrid proto file.content x wanted) h
+    (Each-in (λ (w : ProtoVar). w.timed ≡ false → IsSameGrid proto file.content t.header w) wanted (filter (is_compared proto) proto.vars) each
+    (In-filter (is_compared proto) wanted proto.vars held (compared proto wanted other coordinate)) untimed)))

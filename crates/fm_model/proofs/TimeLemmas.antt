@@ -17,10 +17,9 @@ use Rattle.fm_model.specs.declared.loaded.LoadFault.{LoadFault}
 use Rattle.fm_model.specs.declared.loaded.LoadFault.TheVariants.{NotWhole, TimeRange}
 use Rattle.fm_model.specs.declared.proto.Proto.{Proto}
 use Rattle.fm_model.specs.declared.site.Site.{Site}
-use Rattle.fm_model.specs.Chain.{◌>>◌, refuse_if}
 use Rattle.fm_model.specs.Load.{Fits}
 use Rattle.fm_model.specs.LoadAxis.{file_header, file_axis}
-use Rattle.fm_model.specs.LoadTimes.{file_units, file_run, seconds_at, from_epoch, is_instant, time_count, time_at, times_from, file_times, IsInstant, run_by, run_by_variable, run_by_name}
+use Rattle.fm_model.specs.LoadTimes.{file_units, file_run, seconds_at, from_epoch, is_instant, time_count, time_at, times_from, file_times, IsInstant, run_by, run_by_variable, run_by_name, time_in_range}
 use Rattle.fm_model.specs.Variable.{dim_of_axis, reference_of}
 use Rattle.fm_model.proofs.CellLemmas.{in-has}
 use Rattle.fm_model.proofs.ChainLemmas.{step_ok, refuse_if_ok, same_Ok}
@@ -43,13 +42,17 @@ IsCount-time_count header axis count e =
     let apart : size_at header (dim_of_axis axis) ≡ 0 → ⊥ = eqb-false (size_at header (dim_of_axis axis)) 0 some.0 in
     record { is = sym is; some = subst (λ n. 0 < n) is (omega arith); few = subst (λ n. n ≤ MAX_TIMES) is (ltb-false MAX_TIMES (size_at header (dim_of_axis axis)) few.0) }
 
+IsInstant-time_in_range : (k : ℕ) (seconds t : ℤ) → time_in_range k seconds ≡ Ok t → IsInstant t
+unfolding time_in_range
+IsInstant-time_in_range k seconds t e =
+    let passed = refuse_if_ok (not (is_instant seconds)) (TimeRange k seconds) (Ok seconds) t e in
+    subst IsInstant (same_Ok {E = LoadFault} seconds t passed.1) (IsInstant-from_test seconds passed.0)
+
 IsInstant-time_at : (site : Site) (bytes : List ℕ) (header : FileHeader) (axis : NcVar) (units : TimeUnits) (k : ℕ) (t : ℤ) → time_at site bytes header axis units k ≡ Ok t → IsInstant t
 unfolding time_at
 IsInstant-time_at site bytes header axis units k t e =
-    let seconds = step_ok (ok_or (seconds_at bytes header axis units (k ∷ [])) (NotWhole k)) (λ s. refuse_if (not (is_instant (from_epoch site units s))) (TimeRange k (from_epoch site units s)) >> Ok (from_epoch site units s)) t e in
-    let instant : ℤ = from_epoch site units seconds.0 in
-    let passed = refuse_if_ok (not (is_instant instant)) (TimeRange k instant) (Ok instant) t seconds.2 in
-    subst IsInstant (same_Ok {E = LoadFault} instant t passed.1) (IsInstant-from_test instant passed.0)
+    let seconds = step_ok (ok_or (seconds_at bytes header axis units (k ∷ [])) (NotWhole k)) (λ s. time_in_range k (from_epoch site units s)) t e in
+    IsInstant-time_in_range k (from_epoch site units seconds.0) t seconds.2
 
 -- one more time was found
 pub record IsNextTime (time : ℕ → Result ℤ LoadFault) (n : ℕ) (found all : List ℤ) : Type 0 where

@@ -1,6 +1,6 @@
 -- Which file stands for a run and a valid time, and which run is the best for a valid time (THREDDS Data Server, Forecast
 -- Model Run Collections, best time series).
-use Rattle.std.specs.Prelude.{◌≡◌, ◌<◌, ◌++◌, ◌≤ℤ◌, slice_get, IsSome, All, Contains, ℕ, List, [], ◌∷◌, map, Bool, ◌&&◌, Option, Some, None, is_some, ℤ, if◌then◌else◌}
+use Rattle.std.specs.Prelude.{◌≡◌, ◌<◌, ◌++◌, ◌≤ℤ◌, slice_get, All, Any, Contains, ℕ, List, [], ◌∷◌, map, Bool, ◌&&◌, Option, Some, None, is_some, ℤ, if◌then◌else◌}
 use Rattle.std.specs.List.{flat_map, list_any, position_or_len}
 use Rattle.std.specs.Option.{option_map, option_or}
 use Rattle.std.specs.Ordering.{int_eq}
@@ -56,7 +56,7 @@ pub record IsCell (files : List Loaded) (run valid : ℤ) (file : Loaded) (place
   pub first : (k : ℕ) → k < place → slice_get file.times k ≡ Some valid → ⊥
   pub last : All (λ other. ¬ HasCell run valid other) after
 
--- a run has a cell at a valid time, and no greater run has one
+-- some file of a run has a valid time, and none of a greater run
 pub record IsBest (files : List Loaded) (valid run : ℤ) : Type 0 where
-  pub has : IsSome (cell files run valid)
-  pub greatest : (other : ℤ) → IsSome (cell files other valid) → other ≤ℤ run
+  pub has : Any (HasCell run valid) files
+  pub greatest : (other : ℤ) → Any (HasCell other valid) files → other ≤ℤ run

@@ -100,6 +100,14 @@ run_var dims = record (number_var (codes "run") dims) { attrs = text_attr (codes
 abbrev pub flag_var : List ℕ → NcVar
 flag_var dims = record (number_var (codes "flag") dims) { kind = Char }
 
+-- a variable over its own dimension with the standard name `time`
+abbrev pub valid_var : NcVar
+valid_var = record (number_var (codes "valid") (0 ∷ [])) { attrs = text_attr (codes "standard_name") (codes "time") ∷ [] }
+
+-- a header with a dimension of this name and length 2, and one variable
+abbrev pub header_of : List ℕ → NcVar → Header
+header_of name var = record { version = 1; numrecs = 0; dims = record { name = name; size = 2 } ∷ []; attrs = []; vars = var ∷ [] }
+
 -- a time axis over two times, a dimension of this name and length, and one more variable
 abbrev pub header_with : List ℕ → ℕ → NcVar → Header
 header_with name size var = record {

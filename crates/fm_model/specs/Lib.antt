@@ -11,4 +11,5 @@ pub mod LoadVars
 pub mod Prototype
 pub mod Rising
 pub mod Rows
+pub mod Site
 pub mod Variable

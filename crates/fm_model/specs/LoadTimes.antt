@@ -58,27 +58,37 @@ run_by_name site name = do
   moment ← ok_or (mark_of name site.mark) NoRunTime
   run_in_range (moment -ℤ site.epoch)
 
--- the run of a file: by the variable of the run's time where there is one, else by its name
+-- the run by the variable of the run's time where there is one, else by the name
 abbrev pub run_by : Site → List ℕ → List ℕ → FileHeader → Option NcVar → Result ℤ LoadFault
 run_by site name bytes header (Some var) = run_by_variable site bytes header var
 run_by site name bytes header None = run_by_name site name
 
+-- the run of a file
 unfoldable pub file_run : Site → List ℕ → List ℕ → FileHeader → Result ℤ LoadFault
 file_run site name bytes header = run_by site name bytes header (reference_of header)
 
--- the number of times: the length of the axis's dimension
+-- the length of an axis
+abbrev pub length_of_axis : FileHeader → NcVar → ℕ
+length_of_axis header axis = size_at header (dim_of_axis axis)
+
+-- the number of times: at least one, and not too many
 unfoldable pub time_count : FileHeader → NcVar → Result ℕ LoadFault
 time_count header axis = do
-  refuse_if (size_at header (dim_of_axis axis) == 0) NoTimes
-  refuse_if (nat_lt MAX_TIMES (size_at header (dim_of_axis axis))) (TooManyTimes (size_at header (dim_of_axis axis)))
-  Ok (size_at header (dim_of_axis axis))
+  refuse_if (length_of_axis header axis == 0) NoTimes
+  refuse_if (nat_lt MAX_TIMES (length_of_axis header axis)) (TooManyTimes (length_of_axis header axis))
+  Ok (length_of_axis header axis)
 
--- the instant of the time at a place
+-- a time at a place that is an instant
+unfoldable pub time_in_range : ℕ → ℤ → Result ℤ LoadFault
+time_in_range k seconds = do
+  refuse_if (not (is_instant seconds)) (TimeRange k seconds)
+  Ok seconds
+
+-- the time at a place
 unfoldable pub time_at : Site → List ℕ → FileHeader → NcVar → TimeUnits → ℕ → Result ℤ LoadFault
 time_at site bytes header axis units k = do
   seconds ← ok_or (seconds_at bytes header axis units (k ∷ [])) (NotWhole k)
-  refuse_if (not (is_instant (from_epoch site units seconds))) (TimeRange k (from_epoch site units seconds))
-  Ok (from_epoch site units seconds)
+  time_in_range k (from_epoch site units seconds)
 
 -- so many more times after those that were found, each told its place, and each unlike those before it
 unfoldable pub times_from : (ℕ → Result ℤ LoadFault) → ℕ → List ℤ → Result (List ℤ) LoadFault

@@ -37,6 +37,7 @@ time_stands_first header axis = refuse (option_map (λ (var : NcVar). TimeNotFir
 abbrev pub is_name_byte : ℕ → Bool
 is_name_byte byte = is_ascii_alphanumeric byte || byte == 95 || byte == 45
 
+-- whether a name is of such bytes alone
 unfoldable pub is_plain_name : List ℕ → Bool
 is_plain_name name = list_all is_name_byte name
 
@@ -57,10 +58,11 @@ is_char_per_time axis var = is_char var.kind && are_same var.dims (dim_of_axis a
 unfoldable pub kept_vars : FileHeader → NcVar → List NcVar
 kept_vars header axis = filter (λ (var : NcVar). bytes_eq var.name axis.name || not (is_reference header var || is_char_per_time axis var)) header.vars
 
--- the names under which the views show the run and the offset of each row
+-- the name under which the views show the run of each row
 unfoldable pub run_name : List ℕ → List ℕ
 run_name axis = axis ++ codes "_run"
 
+-- the name under which the views show the offset of each row
 unfoldable pub offset_name : List ℕ → List ℕ
 offset_name axis = axis ++ codes "_offset"
 

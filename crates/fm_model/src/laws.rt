@@ -3,6 +3,7 @@
 pub mod attribute;
 pub mod cell;
 pub mod collection;
+pub mod header;
 pub mod load;
 pub mod proto;
 pub mod rising;

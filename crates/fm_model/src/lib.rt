@@ -1,5 +1,6 @@
-//! What a collection of forecast runs is: what a file is taken for, what is done to the files, and which rows the views
-//! of them have (THREDDS Data Server, Forecast Model Run Collections). The definitions stand in `specs/`, on plain lists.
+//! What a collection of forecast runs is: what a file is taken for, what is done to the files, and which rows the
+//! views of them have (THREDDS Data Server, Forecast Model Run Collections). The definitions stand in `specs/`, on
+//! plain lists.
 #![tactic(auto)]
 
 pub mod examples;
@@ -15,7 +16,7 @@ mod site;
 mod tests;
 
 pub use full::{Full, Tally, Which};
-pub use limit::{MAX_BYTES, MAX_FILES, MAX_INSTANT, MAX_ROWS, MAX_TIMES};
+pub use limit::{MAX_BYTES, MAX_FILE_BYTES, MAX_FILES, MAX_INSTANT, MAX_NAME, MAX_ROWS, MAX_TIMES};
 pub use loaded::{LoadFault, Loaded, Slot};
 pub use op::Op;
 pub use proto::{Proto, ProtoFault, ProtoVar};

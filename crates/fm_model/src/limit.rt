@@ -1,4 +1,4 @@
-//! How much a collection may hold.
+//! How much a collection and a file may hold.
 
 /// The most files.
 pub const MAX_FILES: u32 = 4_096;
@@ -14,3 +14,9 @@ pub const MAX_TIMES: u32 = 4_096;
 
 /// The greatest distance of an instant from the collection's epoch, in seconds.
 pub const MAX_INSTANT: i64 = 1_073_741_823;
+
+/// The most bytes of one file.
+pub const MAX_FILE_BYTES: u64 = 536_870_912;
+
+/// The most bytes of a collection's name.
+pub const MAX_NAME: u32 = 64;

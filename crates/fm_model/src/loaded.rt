@@ -11,8 +11,9 @@ pub struct Slot {
     pub step: u64,
 }
 
-/// A file that was taken: its name, its run, its valid times in the file's order, its bytes, and a slot for each variable
-/// of the prototype that lies along the axis, but for the axis itself. Instants are seconds from the collection's epoch.
+/// A file that was taken: its name, its run, its valid times in the file's order, its bytes, and a slot for each
+/// variable of the prototype that lies along the axis, but for the axis itself. Instants are seconds from the
+/// collection's epoch.
 #[derive(Debug, Drop)]
 pub struct Loaded {
     pub name: Bytes,

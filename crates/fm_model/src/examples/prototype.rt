@@ -1,11 +1,11 @@
 //! Headers that are no prototypes. Each has the axis `time` over two times, and one more dimension and variable.
 #![tactic(auto, unfolding(crate::specs::Attribute::attr_text, crate::specs::Attribute::has_text, crate::specs::Attribute::text_of, crate::specs::Prototype::dims_have_lengths, crate::specs::Prototype::is_char_per_time, crate::specs::Prototype::is_plain_name, crate::specs::Prototype::is_reference, crate::specs::Prototype::kept_vars, crate::specs::Prototype::names_are_free, crate::specs::Prototype::names_are_plain, crate::specs::Prototype::offset_name, crate::specs::Prototype::run_name, crate::specs::Prototype::time_stands_first, crate::specs::Variable::has_standard_name, crate::specs::Variable::lies_along, crate::specs::Variable::reference_of))]
 
-ghost use Rattle.std.specs.Prelude.{◌≡◌, [], ◌∷◌, Err, codes};
+ghost use Rattle.std.specs.Prelude.{◌≡◌, [], ◌∷◌, Err, codes, true, false};
 ghost use Rattle.fm_base.specs.declared.kind.Kind.TheVariants.{Int};
 ghost use Rattle.fm_model.specs.declared.proto.ProtoFault.TheVariants.{BadProtoName, EmptyDimension, NameTaken, TimeNotFirst};
 ghost use Rattle.fm_model.specs.Example.{header_with, number_var, times_var};
-ghost use Rattle.fm_model.specs.Prototype.{dims_have_lengths, names_are_free, names_are_plain, time_stands_first};
+ghost use Rattle.fm_model.specs.Prototype.{dims_have_lengths, is_plain_name, names_are_free, names_are_plain, time_stands_first};
 
 /// A variable that has the axis's dimension second, or twice, is refused.
 pub fn time_has_to_stand_first()
@@ -17,9 +17,11 @@ pub fn time_has_to_stand_first()
         ≡ Err (TimeNotFirst (codes "t")) }
 {}
 
-/// The name of a dimension is refused before that of a variable.
+/// Names are of letters, digits, `_` and `-`. The name of a dimension is refused before that of a variable.
 pub fn names_have_to_be_plain()
-    ensures { names_are_plain
+    ensures plain { is_plain_name (codes "Wind_10-m") ≡ true }
+    ensures point { is_plain_name (codes "wind.10") ≡ false }
+    ensures dimension_first { names_are_plain
         (header_with (codes "a b") 3 (number_var (codes "c/d") (1 ∷ [])))
         ≡ Err (BadProtoName (codes "a b")) }
 {}

@@ -1,9 +1,10 @@
-//! Times of a file. The epoch is 2020-01-01T00:00:00Z, and so is the origin of the units.
-ghost use Rattle.std.specs.Prelude.{◌≡◌, [], ◌∷◌, Ok, Err, codes, pos};
-ghost use Rattle.fm_base.specs.declared.kind.Kind.TheVariants.{Double, Int};
-ghost use Rattle.fm_model.specs.declared.loaded.LoadFault.TheVariants.{NoRunTime, NoTimes, NotWhole, TimeRange, TimeRepeated, TooManyTimes};
-ghost use Rattle.fm_model.specs.Example.{site, since_1970, since_epoch, times_var, times_header};
-ghost use Rattle.fm_model.specs.LoadTimes.{file_times, run_by_name, time_at, time_count};
+//! Times and runs of a file. The epoch is 2020-01-01T00:00:00Z.
+ghost use Rattle.std.specs.Prelude.{◌≡◌, [], ◌∷◌, Ok, Err, codes, pos, negsuc};
+ghost use Rattle.fm_base.specs.declared.kind.Kind.TheVariants.{Char, Double, Int};
+ghost use Rattle.fm_model.specs.declared.loaded.LoadFault.TheVariants.{NoRunTime, NoTimes, NotWhole, RunRange, TimeRange, TimeRepeated, TooManyTimes, Units};
+ghost use Rattle.fm_base.specs.declared.units.UnitsFault.TheVariants.{BadUnits, Calendar};
+ghost use Rattle.fm_model.specs.Example.{site, text_attr, since_1970, since_epoch, times_var, times_header};
+ghost use Rattle.fm_model.specs.LoadTimes.{file_times, file_units, run_by_name, run_by_variable, run_in_range, time_at, time_count};
 
 /// A time is taken up to 2^30 - 1 seconds from the epoch, and not one second further.
 pub fn a_time_is_taken_up_to_the_range()
@@ -53,4 +54,23 @@ pub fn a_file_has_some_times_and_not_too_many()
         ≡ Ok 4096 }
     ensures more { time_count (times_header 4097 (times_var Int [])) (times_var Int [])
         ≡ Err (TooManyTimes 4097) }
+{}
+
+/// An axis without `units` has the empty text there, and the calendar has to be the Gregorian one.
+pub fn units_are_read_from_the_attributes()
+    ensures missing { file_units (times_var Int []) ≡ Err (Units (BadUnits 0)) }
+    ensures calendar { file_units (times_var Int (text_attr (codes "units") (codes "s since 2020-1-1")
+        ∷ text_attr (codes "calendar") (codes "noleap") ∷ []))
+        ≡ Err (Units Calendar) }
+{}
+
+/// The variable of the run's time is one number, and a run lies within the range.
+pub fn a_run_is_one_number_within_the_range()
+    ensures two { run_by_variable site [] (times_header 2 (times_var Int [])) (times_var Int [])
+        ≡ Err NoRunTime }
+    ensures characters { run_by_variable site [] (times_header 1 (times_var Char []))
+        (times_var Char [])
+        ≡ Err NoRunTime }
+    ensures last { run_in_range (negsuc 1073741822) ≡ Ok (negsuc 1073741822) }
+    ensures past { run_in_range (negsuc 1073741823) ≡ Err (RunRange (negsuc 1073741823)) }
 {}

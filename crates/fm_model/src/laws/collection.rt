@@ -1,5 +1,6 @@
 //! Collections after operations.
-ghost use Rattle.std.specs.Prelude.{◌≡◌, ◌≢◌, ◌≤◌, ◌+◌, ◌↔◌, [], ◌∷◌, ◌++◌, List, ℤ, ◌≤ℤ◌, None, Some, All, AllPairs, Any, Contains, filter, length};
+ghost use Rattle.std.specs.Prelude.{◌≡◌, ◌≢◌, ◌≤◌, ◌+◌, ◌↔◌, [], ◌∷◌, ◌++◌, ◌≤ℤ◌};
+ghost use Rattle.std.specs.Prelude.{List, ℤ, None, Some, All, AllPairs, Any, Contains, filter, length};
 ghost use Rattle.std.specs.List.{last_or};
 ghost use Rattle.std.specs.Str.{bytes_eq};
 ghost use Rattle.fm_model.specs.declared.full.Full.{Full as TooMany};

@@ -1,5 +1,6 @@
 //! Files that are taken.
-ghost use Rattle.std.specs.Prelude.{None, Some, ◌≡◌, ◌≢◌, ◌+◌, ◌*◌, ◌<◌, ◌≤◌, ◌∷◌, ℕ, List, ℤ, Ok, All, AllPairs, IsTrue, drop, length, slice_get, true, false};
+ghost use Rattle.std.specs.Prelude.{◌≡◌, ◌≢◌, ◌+◌, ◌*◌, ◌<◌, ◌≤◌, ◌∷◌, ℕ, ℤ};
+ghost use Rattle.std.specs.Prelude.{None, Some, List, Ok, All, AllPairs, IsTrue, drop, length, slice_get, true, false};
 ghost use Rattle.std.specs.List.{AllZip};
 ghost use Rattle.std.specs.Result.{result_ok};
 ghost use Rattle.fm_base.specs.declared.header.Header.{Header as FileHeader};
@@ -13,9 +14,9 @@ ghost use Rattle.fm_model.specs.declared.proto.ProtoVar.{ProtoVar};
 ghost use Rattle.fm_model.specs.Load.{load_of, Fits};
 ghost use Rattle.fm_model.specs.LoadAxis.{file_axis, file_header};
 ghost use Rattle.fm_model.specs.LoadTimes.{file_units, run_by_name, run_by_variable, time_at, IsInstant};
-ghost use Rattle.fm_model.specs.LoadVars.{is_compared, slot_in, slotted_vars};
+ghost use Rattle.fm_model.specs.LoadVars.{slot_in, slotted_vars};
 ghost use Rattle.fm_model.specs.LoadVars.{IsSameGrid, IsSlotOf};
-ghost use Rattle.fm_model.specs.Variable.{dim_of_axis, reference_of, stands_first_alone};
+ghost use Rattle.fm_model.specs.Variable.{dim_of_axis, is_coordinate, reference_of, stands_first_alone};
 
 use crate::limit::MAX_TIMES;
 
@@ -77,12 +78,14 @@ pub fn a_fit_file_has_a_slot_for_each_variable()
         → AllZip (IsSlotOf proto header axis) (slotted_vars proto) file.slots }
 {}
 
-/// A file that fits lies on the prototype's grid: it has each coordinate variable but for the axis, with the same elements.
+/// A file that fits lies on the prototype's grid: it has each coordinate variable but for the axis, with the same
+/// elements.
 pub fn a_fit_file_has_the_same_grid()
     ensures { (file : Loaded) (proto : Proto) (header : FileHeader) → Fits file proto
         → file_header file.content ≡ Ok header
-        → All (λ (wanted : ProtoVar). IsTrue (is_compared proto wanted)
-        → wanted.timed ≡ false → IsSameGrid proto file.content header wanted) proto.vars }
+        → All (λ (wanted : ProtoVar). wanted.name ≢ proto.axis → wanted.timed ≡ false
+        → IsTrue (is_coordinate proto.dims wanted.name wanted.kind wanted.dims)
+        → IsSameGrid proto file.content header wanted) proto.vars }
 {}
 
 /// A slot tells where each element of its variable lies: at the k-th time they begin at `begin + k * step`, and follow

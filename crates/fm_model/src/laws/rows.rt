@@ -23,8 +23,8 @@ pub fn rows_are_the_cells_shown()
         × Shows files view row.run row.valid) }
 {}
 
-/// Each valid time that any file has stands once in the best time series, in rising order, from the greatest run that has
-/// it.
+/// Each valid time that any file has stands once in the best time series, in rising order, from the greatest run that
+/// has it.
 pub fn best_has_each_time_once()
     ensures times { (files : List Loaded) →
         map (λ (row : Row). row.valid) (rows files Best) ≡ times_of files }
