@@ -13,7 +13,7 @@ rank_in-le-last : (shape index : List ℕ) → IsIndex shape index → rank_in s
 rank_in-le-last shape index is = let last = rank_in-last shape (lengths-index shape index is) in let below = rank_in-lt shape index is in omega arith
 
 -- the place of an element by the lengths of all dimensions
-abbrev place_by : Bool → ℕ → ℕ → ℕ → List ℕ → List ℕ → ℕ
+abbrev pub place_by : Bool → ℕ → ℕ → ℕ → List ℕ → List ℕ → ℕ
 place_by b begin record_size size shape index = cond b (begin + slice_index index 0 * record_size + size * rank_in (cond b (drop 1 shape) shape) (drop 1 index)) (begin + size * rank_in (cond b (drop 1 shape) shape) index)
 
 place_by-le : (b : Bool) (begin record_size size : ℕ) (shape index : List ℕ) → IsIndex shape index → place_by b begin record_size size shape index ≤ place_by b begin record_size size shape (map (λ n. n - 1) shape)

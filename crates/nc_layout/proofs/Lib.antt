@@ -1,3 +1,4 @@
+pub mod ApartLaws
 pub mod EndLaws
 pub mod EndLemmas
 pub mod ExampleLemmas

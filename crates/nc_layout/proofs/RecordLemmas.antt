@@ -89,11 +89,11 @@ number-with_records : (vars : List VarPlaces) → length (with_records vars) ≡
 number-with_records vars = sym (count_ones (with_records vars)) ∙ sum_by-with_records (λ _. 1) vars
 
 -- one variable with records
-record_size_in-one : (vars : List VarPlaces) → sum_of (λ _. 1) vars ≡ 1 → record_size_in (with_records vars) ≡ sum_of lone_slab vars
+pub record_size_in-one : (vars : List VarPlaces) → sum_of (λ _. 1) vars ≡ 1 → record_size_in (with_records vars) ≡ sum_of lone_slab vars
 record_size_in-one vars e = of_one (with_records vars) (number-with_records vars ∙ e) ∙ sum_by-with_records lone_slab vars
 
 -- none or several
-record_size_in-others : (vars : List VarPlaces) → (sum_of (λ _. 1) vars ≡ 1 → ⊥) → record_size_in (with_records vars) ≡ sum_of padded_slab vars
+pub record_size_in-others : (vars : List VarPlaces) → (sum_of (λ _. 1) vars ≡ 1 → ⊥) → record_size_in (with_records vars) ≡ sum_of padded_slab vars
 record_size_in-others vars e = of_others (with_records vars) (λ one. e (sym (number-with_records vars) ∙ one)) ∙ sum_by-with_records padded_slab vars
 
 -- what the sums over all variables say where there is one with records

@@ -1,5 +1,5 @@
 -- What a fault of a layout says of the header's variables.
-use Rattle.std.specs.Prelude.{◌≡◌, ℕ, ◌^◌, ◌<◌, ◌≤◌, take, All, true, Some, slice_get}
+use Rattle.std.specs.Prelude.{◌+◌, ◌⊎◌, ◌≡◌, ℕ, ◌^◌, ◌<◌, ◌≤◌, take, All, true, Some, slice_get}
 use Rattle.fm_base.specs.declared.fault.LayoutFault.{LayoutFault}
 use Rattle.fm_base.specs.declared.fault.LayoutFault.TheVariants.{TooLarge, DataOutside}
 use Rattle.fm_base.specs.declared.header.Header.{Header}
@@ -41,3 +41,7 @@ pub record IsInside (header : Header) (len : ℕ) : Type 0 where
 abbrev pub Says : Header → ℕ → LayoutFault → Type 0
 Says header len (TooLarge number) = IsFirstTooLarge header number
 Says header len (DataOutside number end length) = IsFirstOutside header len number end × (length ≡ len)
+
+-- two runs of so many bytes at these places share no byte
+abbrev pub AreApart : ℕ → ℕ → ℕ → Type 0
+AreApart size place other = (place + size ≤ other) ⊎ (other + size ≤ place)

@@ -1,5 +1,5 @@
 //! Laws of the definitions, each as the contract of a call that does nothing.
-ghost use Rattle.std.specs.Prelude.{◌≡◌, ◌+◌, ◌≤◌, All, Some, MatchOption, length, map, slice_get};
+ghost use Rattle.std.specs.Prelude.{◌≡◌, ◌≢◌, ◌+◌, ◌≤◌, All, Some, MatchOption, length, map, slice_get};
 ghost use Rattle.std.specs.List.{range_with_len};
 ghost use Rattle.fm_base.specs.Kind.{size_of};
 ghost use Rattle.fm_base.specs.Layout.{
@@ -11,7 +11,7 @@ ghost use Rattle.fm_base.specs.Layout.{
   end_of,
   layout_fault,
 };
-ghost use Rattle.nc_layout.specs.Meaning.{IsInside, Says};
+ghost use Rattle.nc_layout.specs.Meaning.{AreApart, IsInside, Says};
 ghost use Rattle.nc_layout.specs.Places.{IsIndex};
 
 use nc_model::{Header, NcVar};
@@ -39,6 +39,16 @@ pub fn last_element_ends_last(header: &Header, var: &NcVar, index: &[u64])
     requires { IsIndex (shape_of header.now var.now) index.now }
     ensures { place_of header.now var.now index.now + size_of var.now.kind
         ≤ end_of header.now var.now }
+{}
+
+/// No two elements of a variable share a byte.
+#[tactic(auto, using(crate::proofs::ApartLaws::aparts))]
+pub fn elements_lie_apart(header: &Header, number: u32, var: &NcVar, index: &[u64], other: &[u64])
+    requires there { slice_get header.now.vars number ≡ Some var.now }
+    requires first { IsIndex (shape_of header.now var.now) index.now }
+    requires second { IsIndex (shape_of header.now var.now) other.now }
+    ensures { index.now ≢ other.now → AreApart (size_of var.now.kind)
+        (place_of header.now var.now index.now) (place_of header.now var.now other.now) }
 {}
 
 /// What the first fault of a layout says: which variable is at fault, and that none before it is. Where there is no
