@@ -4,6 +4,7 @@ pub mod AskingLink
 pub mod ExchangeLemmas
 pub mod FieldLemmas
 pub mod Heads
+pub mod LeftHeads
 pub mod LoadLemmas
 pub mod LoadedLemmas
 pub mod PieceLemmas

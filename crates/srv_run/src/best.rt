@@ -39,7 +39,7 @@ fn best_rows(alloc: Global, loaded: &Loaded) -> Result<List<Row>, NoMemory>
     rising_rows(alloc, loaded.run, times.as_slice())
 }
 
-// The structure text over so many rows.
+// The structure text of the best view, which has these rows.
 #[tactic(auto, unfolding(crate::specs::Best::structure_of))]
 fn structure_of(
     alloc: Global,
@@ -58,12 +58,7 @@ fn structure_of(
 
 // The body of a reply.
 #[tactic(auto, using(crate::proofs::LoadedLemmas::loaded), unfolding(crate::specs::Best::body_of))]
-fn body_of(
-    alloc: Global,
-    name: &[u8],
-    content: Content,
-    loaded: &Loaded,
-) -> Result<Bytes, NoMemory>
+fn body_of(alloc: Global, name: &[u8], content: Content, loaded: &Loaded) -> Result<Bytes, NoMemory>
     requires { spec.IsLoaded loaded.now }
     ensures { IfOk result (λ body. body ≡ spec.body_of name.now content loaded.now) }
 {

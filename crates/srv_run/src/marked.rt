@@ -11,7 +11,8 @@ use fm_base::{Bytes, NoMemory};
 use std::alloc::Global;
 use tm_units::read_mark;
 
-/// 2020-01-01T00:00:00Z in Unix seconds, from which instants are counted.
+/// 2020-01-01T00:00:00Z in Unix seconds, from which instants are counted. It is so wide that no moment less the epoch is
+/// out of its range.
 const EPOCH: i128 = 1_577_836_800;
 
 // How many bytes of a path follow its last `/`.
@@ -19,10 +20,7 @@ fn name_len(path: &[u8]) -> usize
     ensures len { result ≡ suffix_len (λ byte. not (byte == 47)) path.now }
     ensures within { result ≤ length path.now }
 {
-    path.iter()
-        .rev()
-        .take_while(|byte| **byte != b'/')
-        .count()
+    path.iter().rev().take_while(|byte| **byte != b'/').count()
 }
 
 // The name of a file: what follows the last `/` of its path.

@@ -40,14 +40,17 @@ fn act<'w, F: Files, L: Link>(
 /// Does what the words ask for, reports how it ended, and answers the status of the program.
 ///
 /// The words are `once --name NAME --proto PROTO put:PATH ask:1`, without the program's own name: it reads the
-/// prototype PROTO and the file PATH, takes one request head for the structure text of the best view from the link,
-/// byte by byte and no byte after it, and sends the reply over the collection of that one file, its revision 1.
+/// prototype PROTO and the file PATH, takes one request head from the link, for the structure text or for the data of
+/// the best view, byte by byte and no byte after it, and sends the reply over the collection of that one file, its
+/// revision 1. The run of the file is the moment that follows NAME and `_` in its name.
 ///
 /// | Status | Line | Comes |
 /// |---|---|---|
 /// | 0 | none | the whole reply was sent |
 /// | 2 | `bad words` | exactly where the words aren't the command |
-/// | 3 | `refused PATH code 60`, `refused ask code 60` | exactly where the prototype isn't thin; where the file isn't or lies on another grid; at the first byte of the request that differs |
+/// | 3 | `refused PATH code 60` | exactly where the prototype isn't thin, or the file isn't or lies on another grid |
+/// | 3 | `refused PATH code 45`, `refused PATH code 55` | exactly where the name of such a file marks no run; where its run lies 2^30 seconds from 2020-01-01T00:00:00Z or more |
+/// | 3 | `refused ask code 60` | exactly at the first byte of the input at which it is the beginning of no request |
 /// | 4 | `no memory` | at any time |
 /// | 5 | `file fault PATH` | only where the files' count of faults rose |
 /// | 9 | `link fault` | only where the link's count of faults rose |

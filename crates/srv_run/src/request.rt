@@ -82,11 +82,7 @@ fn decided(structure: Option<&[u8]>, values: Option<&[u8]>) -> Option<Asked>
 
 // Takes a request byte by byte, up to the end of its head or the first byte that differs from both heads, and no byte
 // after it.
-fn take_request<L: Link>(
-    link: &mut L,
-    structure: &[u8],
-    values: &[u8],
-) -> Result<Asked, Failed>
+fn take_request<L: Link>(link: &mut L, structure: &[u8], values: &[u8]) -> Result<Asked, Failed>
     ensures asked { IfSome (L.told link.old) (λ wire. IfOk result (λ asked.
         asked ≡ taking.met_by (Some structure.now) (Some values.now) wire.left)) }
     ensures taken { IfSome (L.told link.old) (λ wire. OnOk result (L.told link.new
