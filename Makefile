@@ -12,8 +12,10 @@ demo:
 	@echo "The reply:"
 	@cd crates/fmrcd && $(TRY) < stdin
 	@echo "A request for the data:"; cat crates/fmrcd/data/dods.request
-	@echo "The reply, of which the last 200 bytes are the data:"
-	@cd crates/fmrcd && $(TRY) < data/dods.request | od -An -tx1
+	@echo "The reply:"
+	@mkdir -p crates/fmrcd/out; cd crates/fmrcd && $(TRY) < data/dods.request > out/dods.reply
+	@head -c 561 crates/fmrcd/out/dods.reply
+	@echo "and 200 bytes of data:"; tail -c 200 crates/fmrcd/out/dods.reply | od -An -v -tx1
 
 # Proves the program and links it as crates/fmrcd/out/fmrcd.
 build:
