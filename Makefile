@@ -2,12 +2,20 @@
 
 SAMPLE = gfs_20240101_0000.nc
 WORDS = once --name gfs --proto $(SAMPLE) put:$(SAMPLE) ask:1
+TRY = rt try --data $(SAMPLE)=data/$(SAMPLE) -- $(WORDS)
 
-# Runs the program on the sample data, compiled with checks and not proved, so that it answers within a minute.
+# Runs the program on the sample data, once for each of the two requests, compiled with checks and not proved, so that it
+# answers within a minute. Data is shown as bytes.
 demo:
-	@echo "The request:"; cat crates/fmrcd/stdin
-	@echo "The reply of the program (this run is compiled with checks and proves nothing; 'make build' proves it):"
-	@cd crates/fmrcd && rt try --data $(SAMPLE)=data/$(SAMPLE) -- $(WORDS) < stdin
+	@echo "These runs are compiled with checks and prove nothing; 'make build' proves the program."
+	@echo "A request for the structure text:"; cat crates/fmrcd/stdin
+	@echo "The reply:"
+	@cd crates/fmrcd && $(TRY) < stdin
+	@echo "A request for the data:"; cat crates/fmrcd/data/dods.request
+	@echo "The reply:"
+	@mkdir -p crates/fmrcd/out; cd crates/fmrcd && $(TRY) < data/dods.request > out/dods.reply
+	@head -c 561 crates/fmrcd/out/dods.reply
+	@echo "and 200 bytes of data:"; tail -c 200 crates/fmrcd/out/dods.reply | od -An -v -tx1
 
 # Proves the program and links it as crates/fmrcd/out/fmrcd.
 build:

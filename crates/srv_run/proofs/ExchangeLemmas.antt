@@ -34,4 +34,4 @@ pub Exchanged-link_fault : (name : List ℕ) (content : Content) (loaded : Loade
 Exchanged-link_fault name content loaded None now after took put = tt
 Exchanged-link_fault name content loaded (Some wire) now after took put =
     let sent = rw (replied name content loaded wire took.asked) at put in
-    (taken_by name wire.left, sent.0, omega arith, sent.1, sent.2 ∙ ap (after_put (take sent.0 (reply_to name (asked_by name wire.left) (Ok loaded)))) took.taken)
+    (taken_by name wire.left, sent.0, omega arith, sent.1, λ below. absurd (omega (arith, below)), sent.2 ∙ ap (after_put (take sent.0 (reply_to name (asked_by name wire.left) (Ok loaded)))) took.taken)

@@ -5,6 +5,7 @@ pub mod CheckLemmas
 pub mod ExchangeLemmas
 pub mod FieldLemmas
 pub mod Heads
+pub mod LeftHeads
 pub mod LoadLemmas
 pub mod LoadedLemmas
 pub mod PieceLemmas

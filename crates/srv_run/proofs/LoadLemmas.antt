@@ -12,8 +12,8 @@ use Rattle.srv_run.specs.Steps.{Gives, IsEndOfRead, IsEndOfTake, IsBeforeRequest
 abbrev Read : Type 0
 Read = Result ReadFile End
 
-abbrev Whole : Type 0
-Whole = Result Loaded End
+abbrev Load : Type 0
+Load = Result Loaded End
 
 abbrev pub same_file : ReadFile → ReadFile
 same_file file = file
@@ -21,11 +21,11 @@ same_file file = file
 abbrev pub same_loaded : Loaded → Loaded
 same_loaded loaded = loaded
 
-stops : (proto : Read) (rest : ReadFile → Whole) (end : End) → proto ≡ Err end → (proto >>= rest) ≡ Err end
+stops : (proto : Read) (rest : ReadFile → Load) (end : End) → proto ≡ Err end → (proto >>= rest) ≡ Err end
 stops proto rest end e = ap (λ (r : Read). r >>= rest) e
 
 -- the run ends where the prototype is read
-pub AccordsFiles-proto : (end : End) (proto : Read) (rest : ReadFile → Whole) → Gives same_file (Err end) proto → IsEndOfRead Prototype end → AccordsFiles end proto (proto >>= rest)
+pub AccordsFiles-proto : (end : End) (proto : Read) (rest : ReadFile → Load) → Gives same_file (Err end) proto → IsEndOfRead Prototype end → AccordsFiles end proto (proto >>= rest)
 AccordsFiles-proto NoMemory proto rest gives ends = tt
 AccordsFiles-proto (Refused Prototype code) proto rest gives ends = stops proto rest _ gives
 AccordsFiles-proto (Refused File code) proto rest gives ends = absurd cc
@@ -41,11 +41,11 @@ AccordsFiles-proto LinkFault proto rest gives ends = absurd ends
 AccordsFiles-proto SinkFault proto rest gives ends = absurd ends
 AccordsFiles-proto InputEnded proto rest gives ends = absurd ends
 
-second : (proto file : Read) (first : ReadFile) (rest : ReadFile → ReadFile → Whole) (end : End) → proto ≡ Ok first → file ≡ Err end → (proto >>= λ p. file >>= rest p) ≡ Err end
+second : (proto file : Read) (first : ReadFile) (rest : ReadFile → ReadFile → Load) (end : End) → proto ≡ Ok first → file ≡ Err end → (proto >>= λ p. file >>= rest p) ≡ Err end
 second proto file first rest end taken e = ap (λ (r : Read). r >>= λ p. file >>= rest p) taken ∙ ap (λ (r : Read). r >>= rest first) e
 
 -- the run ends where the file is read
-pub AccordsFiles-file : (end : End) (proto file : Read) (first : ReadFile) (rest : ReadFile → ReadFile → Whole) → proto ≡ Ok first → Gives same_file (Err end) file → IsEndOfRead File end → AccordsFiles end proto (proto >>= λ p. file >>= rest p)
+pub AccordsFiles-file : (end : End) (proto file : Read) (first : ReadFile) (rest : ReadFile → ReadFile → Load) → proto ≡ Ok first → Gives same_file (Err end) file → IsEndOfRead File end → AccordsFiles end proto (proto >>= λ p. file >>= rest p)
 AccordsFiles-file NoMemory proto file first rest taken gives ends = tt
 AccordsFiles-file (Refused File code) proto file first rest taken gives ends = second proto file first rest _ taken gives
 AccordsFiles-file (Refused Prototype code) proto file first rest taken gives ends = absurd cc
@@ -61,11 +61,11 @@ AccordsFiles-file LinkFault proto file first rest taken gives ends = absurd ends
 AccordsFiles-file SinkFault proto file first rest taken gives ends = absurd ends
 AccordsFiles-file InputEnded proto file first rest taken gives ends = absurd ends
 
-twice : (proto file : Read) (first next : ReadFile) (rest : ReadFile → ReadFile → Whole) (end : End) → proto ≡ Ok first → file ≡ Ok next → rest first next ≡ Err end → (proto >>= λ p. file >>= rest p) ≡ Err end
+twice : (proto file : Read) (first next : ReadFile) (rest : ReadFile → ReadFile → Load) (end : End) → proto ≡ Ok first → file ≡ Ok next → rest first next ≡ Err end → (proto >>= λ p. file >>= rest p) ≡ Err end
 twice proto file first next rest end taken read e = ap (λ (r : Read). r >>= λ p. file >>= rest p) taken ∙ ap (λ (r : Read). r >>= rest first) read ∙ e
 
 -- the run ends where the file is taken
-pub AccordsFiles-take : (end : End) (proto file : Read) (first next : ReadFile) (rest : ReadFile → ReadFile → Whole) → proto ≡ Ok first → file ≡ Ok next → Gives same_loaded (Err end) (rest first next) → IsEndOfTake end → AccordsFiles end proto (proto >>= λ p. file >>= rest p)
+pub AccordsFiles-take : (end : End) (proto file : Read) (first next : ReadFile) (rest : ReadFile → ReadFile → Load) → proto ≡ Ok first → file ≡ Ok next → Gives same_loaded (Err end) (rest first next) → IsEndOfTake end → AccordsFiles end proto (proto >>= λ p. file >>= rest p)
 AccordsFiles-take NoMemory proto file first next rest taken read gives ends = tt
 AccordsFiles-take (Refused File code) proto file first next rest taken read gives ends = twice proto file first next rest _ taken read gives
 AccordsFiles-take (Refused Prototype code) proto file first next rest taken read gives ends = absurd ends

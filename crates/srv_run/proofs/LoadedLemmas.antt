@@ -1,5 +1,5 @@
 -- What the files that were loaded tell of the rows of their best view.
-use Rattle.std.proofs.Common.{◌≡◌, ℕ, ◌<◌, ◌≤◌, true, nat_le, IsTrue, List, length, get_or, ℤ, ap, pos, refl, ◌∙◌, arith}
+use Rattle.std.proofs.Common.{◌≡◌, ℕ, ◌<◌, ◌≤◌, true, nat_le, leb-true, IsTrue, List, length, get_or, ℤ, ap, pos, refl, ◌∙◌, arith}
 use Rattle.std.specs.List.{list_all}
 use Rattle.std.specs.List.Sorted.{IsPermutation}
 use Rattle.std.proofs.lemmas.Bool.Decides.{nat_tests}
@@ -32,7 +32,7 @@ pub thin_len-loaded : (loaded : Loaded) → IsLoaded loaded → thin_len loaded.
 unfolding is_thin
 thin_len-loaded loaded facts =
     let long : nat_le (thin_len loaded.file.shape) (length loaded.file.bytes) ≡ true = (both _ _ (both _ _ (both _ _ facts.thin).0).0).1 in
-    grind (arith, nat_tests)
+    leb-true (thin_len loaded.file.shape) (length loaded.file.bytes) long
 
 -- each of its times is an instant
 pub all-times-loaded : (loaded : Loaded) → IsLoaded loaded → IsTrue (list_all is_instant (times_of loaded))

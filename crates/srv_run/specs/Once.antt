@@ -1,5 +1,5 @@
 -- What the command does: it reads a prototype and a file, and answers one request over the collection of that file.
-use Rattle.std.specs.Prelude.{◌≡◌, ⊤, ℕ, ◌≤◌, List, length, take, Option, Some, None, Result, Ok, Err, ℤ, ◌-ℤ◌, IsOk, if◌then◌else◌}
+use Rattle.std.specs.Prelude.{◌≡◌, ⊤, ℕ, ◌<◌, ◌≤◌, List, length, take, Option, Some, None, Result, Ok, Err, ℤ, ◌-ℤ◌, IsOk, if◌then◌else◌}
 use Rattle.fm_world.specs.declared.files.Found.{Found}
 use Rattle.fm_world.specs.declared.files.Found.TheVariants.{Content, Absent, TooLong as TooLongFound}
 use Rattle.fm_world.specs.Files.{found_of}
@@ -106,11 +106,12 @@ AccordsInput (Refused Request code) asked = asked ≡ Differs
 AccordsInput end asked = ⊤
 
 -- What was taken from the link and sent on it: the head and the whole reply; or the input up to where it ended or
--- differed, and nothing; or parts of both where the link failed; or a part of the head; or nothing.
+-- differed, and nothing; or a part of the head and nothing, or the head and a part of the reply, where the link failed;
+-- or a part of the head, or nothing.
 abbrev pub Exchanged : End → List ℕ → List ℕ → Wire → Option Wire → Type 0
 Exchanged Done name reply wire after = after ≡ after_put reply (after_take (taken_by name wire.left) (Some wire))
 Exchanged InputEnded name reply wire after = after ≡ after_take (taken_by name wire.left) (Some wire)
 Exchanged (Refused Request code) name reply wire after = after ≡ after_take (taken_by name wire.left) (Some wire)
-Exchanged LinkFault name reply wire after = (m n : ℕ) × (m ≤ taken_by name wire.left) × (n ≤ length reply) × (after ≡ after_put (take n reply) (after_take m (Some wire)))
+Exchanged LinkFault name reply wire after = (m n : ℕ) × (m ≤ taken_by name wire.left) × (n ≤ length reply) × (m < taken_by name wire.left → n ≡ 0) × (after ≡ after_put (take n reply) (after_take m (Some wire)))
 Exchanged NoMemory name reply wire after = (m : ℕ) × (m ≤ taken_by name wire.left) × (after ≡ after_take m (Some wire))
 Exchanged end name reply wire after = after ≡ Some wire

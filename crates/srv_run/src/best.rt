@@ -39,7 +39,7 @@ fn best_rows(alloc: Global, loaded: &Loaded) -> Result<List<Row>, NoMemory>
     rising_rows(alloc, loaded.run, times.as_slice())
 }
 
-// The structure text over so many rows.
+// The structure text of the best view, which has these rows.
 #[tactic(auto, unfolding(crate::specs::Best::structure_of))]
 fn structure_of(
     alloc: Global,

@@ -9,7 +9,6 @@ ghost use Rattle.srv_run.specs.Steps.{BlamesFiles, BlamesLink, IsFromRequest};
 use crate::best::reply_over;
 use crate::end::{End, NOT_YET_READ, Subject};
 use crate::file::{Loaded, load};
-use crate::reply::Content;
 use crate::request::{Asked, take_asked};
 use crate::words::Command;
 use fm_base::Fail;

@@ -22,16 +22,19 @@ const SAMPLE: [u32; 88] = [
     0x40c0_0000, 0x40e0_0000, 0x4100_0000, 0x6592_a940, 0x4110_0000, 0x4120_0000, 0x4130_0000, 0x4140_0000,
 ];
 
-/// The words of the command.
+/// The words of the command; the path of the file follows `put:`.
 const ONCE: [&[u8]; 7] = [
     b"once",
     b"--name",
     b"gfs",
     b"--proto",
     b"proto.nc",
-    b"put:in/gfs_20240101_0000.nc",
+    b"put:",
     b"ask:1",
 ];
+
+/// The path of the file.
+const PATH: &[u8] = b"in/gfs_20240101_0000.nc";
 
 /// The request for the structure text of the best view.
 const REQUEST: &[u8] = b"GET /thredds/dodsC/gfs/gfs_best.ncd.dds HTTP/1.1\r\n\r\n";
@@ -71,12 +74,20 @@ impl<'a> Given<'a> {
     fn sample() -> Given<'a> {
         Given {
             words: &ONCE,
-            path: b"in/gfs_20240101_0000.nc",
+            path: PATH,
             proto: &[],
             file: &[],
             input: REQUEST,
             failing_reads: &[],
             failing_link: &[],
+        }
+    }
+
+    /// The sample file at this path.
+    fn at(path: &'a [u8]) -> Given<'a> {
+        Given {
+            path,
+            ..Given::sample()
         }
     }
 }
@@ -98,16 +109,26 @@ pub(crate) fn numbers(alloc: Global, numbers: &[u64]) -> Result<List<u64>, NoMem
     Ok(list)
 }
 
+/// The words, with the path behind the word `put:`.
+fn words_of(alloc: Global, words: &[&[u8]], path: &[u8]) -> Result<List<Bytes>, NoMemory> {
+    let mut list = List::new(alloc);
+    for word in words {
+        let mut next = Bytes::copy_of(alloc, word)?;
+        if *word == b"put:".as_slice() {
+            next.append(path)?;
+        }
+        list.push(next)?;
+    }
+    Ok(list)
+}
+
 pub(crate) fn entry(alloc: Global, path: &[u8], content: Bytes) -> Result<Entry, NoMemory> {
     let path = Bytes::copy_of(alloc, path)?;
     Ok(Entry { path, content })
 }
 
 fn ran(alloc: Global, given: &Given<'_>) -> Result<Left, Fail> {
-    let mut words = List::new(alloc);
-    for word in given.words {
-        words.push(Bytes::copy_of(alloc, word)?)?;
-    }
+    let words = words_of(alloc, given.words, given.path)?;
     let mut entries = List::new(alloc);
     entries.push(entry(alloc, b"proto.nc", sample(alloc, given.proto)?)?)?;
     entries.push(entry(alloc, given.path, sample(alloc, given.file)?)?)?;
@@ -178,60 +199,47 @@ fn the_data_of_the_best_view_is_sent_whole(rt: HostRuntime) -> Result<(), Fail> 
     Ok(())
 }
 
-/// The words of the command with another file.
-fn putting<'a>(put: &'a [u8]) -> [&'a [u8]; 7] {
-    [
-        b"once",
-        b"--name",
-        b"gfs",
-        b"--proto",
-        b"proto.nc",
-        put,
-        b"ask:1",
-    ]
-}
-
 #[test]
 fn a_file_is_taken_by_the_mark_in_its_name(rt: HostRuntime) -> Result<(), Fail> {
-    let cases: [(&[u8], &[(usize, u32)], &[u8]); 8] = [
-        (b"put:x.nc", &[], b"refused x.nc code 45\n"),
+    let alloc = rt.alloc();
+    let at = Given::at;
+    let cases: [(Given<'_>, u8, &[u8]); 8] = [
+        (at(b"x.nc"), 3, b"refused x.nc code 45\n"),
         (
-            b"put:gfs_20240101_0000/x.nc",
-            &[],
+            at(b"gfs_20240101_0000/x.nc"),
+            3,
             b"refused gfs_20240101_0000/x.nc code 45\n",
         ),
         (
-            b"put:gfs_20230229_0000.nc",
-            &[],
+            at(b"gfs_20230229_0000.nc"),
+            3,
             b"refused gfs_20230229_0000.nc code 45\n",
         ),
         (
-            b"put:x.nc",
-            &[(276, 0x4020_0000)],
+            Given {
+                file: &[(276, 0x4020_0000)],
+                ..at(b"x.nc")
+            },
+            3,
             b"refused x.nc code 60\n",
         ),
         (
-            b"put:gfs_20540109_1338.nc",
-            &[],
+            at(b"gfs_20540109_1338.nc"),
+            3,
             b"refused gfs_20540109_1338.nc code 55\n",
         ),
         (
-            b"put:gfs_19851222_1022.nc",
-            &[],
+            at(b"gfs_19851222_1022.nc"),
+            3,
             b"refused gfs_19851222_1022.nc code 55\n",
         ),
-        (b"put:gfs_20540109_1337.nc", &[], b""),
-        (b"put:gfs_19851222_1023.nc", &[], b""),
+        (at(b"gfs_20540109_1337.nc"), 0, b""),
+        (at(b"gfs_19851222_1023.nc"), 0, b""),
     ];
-    for (put, file, line) in &cases {
-        let words = putting(put);
-        let mut given = Given::sample();
-        given.words = &words;
-        given.path = &put[4..];
-        given.file = file;
-        let left = ran(rt.alloc(), &given)?;
+    for (given, status, line) in &cases {
+        let left = ran(alloc, given)?;
+        assert_eq!(rt; left.status, *status);
         assert_eq!(rt; left.report.as_slice(), *line);
-        assert_eq!(rt; left.status, if line.is_empty() { 0 } else { 3 });
     }
     Ok(())
 }
@@ -251,13 +259,7 @@ fn each_end_has_its_status_and_its_line(rt: HostRuntime) -> Result<(), Fail> {
     let alloc = rt.alloc();
     let few: [&[u8]; 3] = [b"once", b"--name", b"gfs"];
     let absent: [&[u8]; 7] = [
-        b"once",
-        b"--name",
-        b"gfs",
-        b"--proto",
-        b"nofile",
-        b"put:in/gfs_20240101_0000.nc",
-        b"ask:1",
+        b"once", b"--name", b"gfs", b"--proto", b"nofile", b"put:", b"ask:1",
     ];
     let sample = Given::sample;
     let cases: [(Given<'_>, u8, &[u8]); 10] = [
@@ -354,10 +356,7 @@ fn each_end_has_its_status_and_its_line(rt: HostRuntime) -> Result<(), Fail> {
 #[test]
 fn a_reply_is_cut_where_the_link_fails(rt: HostRuntime) -> Result<(), Fail> {
     let alloc = rt.alloc();
-    let mut words = List::new(alloc);
-    for word in &ONCE {
-        words.push(Bytes::copy_of(alloc, word)?)?;
-    }
+    let words = words_of(alloc, &ONCE, PATH)?;
     let mut entries = List::new(alloc);
     entries.push(entry(alloc, b"proto.nc", sample(alloc, &[])?)?)?;
     entries.push(entry(alloc, b"in/gfs_20240101_0000.nc", sample(alloc, &[])?)?)?;

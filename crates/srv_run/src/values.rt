@@ -15,7 +15,7 @@ use nc_model::{ThinShape, field_of};
 
 // The axis.
 #[tactic(auto, using(crate::proofs::RowLemmas::counted), unfolding(dap_model::specs::Xdr::array_bytes))]
-pub(crate) fn put_axis(rows: &[Row], out: &mut Bytes) -> Result<(), NoMemory>
+fn put_axis(rows: &[Row], out: &mut Bytes) -> Result<(), NoMemory>
     requires { length rows.now < 2 ^ 32 }
     ensures { OnOk result (out.new
         ≡ out.old ++ xdr.array_bytes DapKind.Int32 (times.valid_numbers rows.now)) }
@@ -26,7 +26,7 @@ pub(crate) fn put_axis(rows: &[Row], out: &mut Bytes) -> Result<(), NoMemory>
 
 // The run and the offset of each row.
 #[tactic(auto, using(crate::proofs::RowLemmas::counted), unfolding(dap_model::specs::Xdr::array_bytes, crate::specs::Times::runs_data))]
-pub(crate) fn put_runs_and_offsets(rows: &[Row], out: &mut Bytes) -> Result<(), NoMemory>
+fn put_runs_and_offsets(rows: &[Row], out: &mut Bytes) -> Result<(), NoMemory>
     requires count { length rows.now < 2 ^ 32 }
     requires range { IsTrue (list_all times.is_in_range rows.now) }
     ensures { OnOk result (out.new ≡ out.old ++ times.runs_data rows.now) }
@@ -39,7 +39,7 @@ pub(crate) fn put_runs_and_offsets(rows: &[Row], out: &mut Bytes) -> Result<(), 
 
 // The field of the record at a place.
 #[tactic(auto, using(crate::proofs::WordLemmas::words_bytes))]
-pub(crate) fn field_at(bytes: &[u8], shape: ThinShape, place: u32) -> &[u8]
+fn field_at(bytes: &[u8], shape: ThinShape, place: u32) -> &[u8]
     requires shape { IsTrue (is_thin_shape shape) }
     requires long { thin_len shape ≤ length bytes.now }
     requires record { place < shape.times }
@@ -50,7 +50,7 @@ pub(crate) fn field_at(bytes: &[u8], shape: ThinShape, place: u32) -> &[u8]
 
 // The field of each row.
 #[tactic(auto, unfolding(dap_model::specs::Xdr::elements_bytes))]
-pub(crate) fn put_fields(file: &ReadFile, rows: &[Row], out: &mut Bytes) -> Result<(), NoMemory>
+fn put_fields(file: &ReadFile, rows: &[Row], out: &mut Bytes) -> Result<(), NoMemory>
     requires shape { IsTrue (is_thin_shape file.now.shape) }
     requires long { thin_len file.now.shape ≤ length file.now.bytes }
     requires records { IsTrue (list_all (spec.has_record file.now) rows.now) }
@@ -73,11 +73,7 @@ fn field_count(shape: ThinShape, rows: &[Row]) -> u32
 }
 
 // The field of the rows as an array.
-pub(crate) fn put_field_array(
-    file: &ReadFile,
-    rows: &[Row],
-    out: &mut Bytes,
-) -> Result<(), NoMemory>
+fn put_field_array(file: &ReadFile, rows: &[Row], out: &mut Bytes) -> Result<(), NoMemory>
     requires shape { IsTrue (is_thin_shape file.now.shape) }
     requires long { thin_len file.now.shape ≤ length file.now.bytes }
     requires rows { length rows.now ≤ 4096 }
@@ -90,7 +86,7 @@ pub(crate) fn put_field_array(
 }
 
 // The latitudes and longitudes of the prototype.
-pub(crate) fn put_places(proto: &ReadFile, out: &mut Bytes) -> Result<(), NoMemory>
+fn put_places(proto: &ReadFile, out: &mut Bytes) -> Result<(), NoMemory>
     requires { HoldsPlaces proto.now.bytes proto.now.shape }
     ensures { OnOk result (out.new ≡ out.old
         ++ xdr.array_bytes DapKind.Float32 (spec.lat_numbers proto.now)
@@ -111,7 +107,7 @@ fn put_coordinates(proto: &ReadFile, rows: &[Row], out: &mut Bytes) -> Result<()
     put_places(proto, out)
 }
 
-/// The values of the best view over these rows, in the order of its declarations.
+// The values of the best view over these rows, in the order of its declarations.
 #[tactic(auto, unfolding(crate::specs::Values::data_over))]
 pub(crate) fn put_data(
     proto: &ReadFile,

@@ -20,7 +20,7 @@ pub(crate) fn put_count(count: u32, out: &mut Bytes) -> Result<(), NoMemory>
 
 // A whole number of four bytes.
 #[tactic(auto, unfolding(dap_model::specs::Xdr::number_bytes))]
-pub(crate) fn put_number(number: i32, out: &mut Bytes) -> Result<(), NoMemory>
+fn put_number(number: i32, out: &mut Bytes) -> Result<(), NoMemory>
     ensures { OnOk result (out.new ≡ out.old ++ spec.number_bytes DapKind.Int32 (times.bits_of number)) }
 {
     out.append(&number.to_be_bytes())
@@ -51,7 +51,7 @@ pub(crate) fn put_runs(rows: &[Row], out: &mut Bytes) -> Result<(), NoMemory>
 }
 
 // How long after its run a row is valid.
-pub(crate) fn put_offset(row: &Row, out: &mut Bytes) -> Result<(), NoMemory>
+fn put_offset(row: &Row, out: &mut Bytes) -> Result<(), NoMemory>
     requires { IsTrue (times.is_in_range row.now) }
     ensures { OnOk result (out.new
         ≡ out.old ++ spec.number_bytes DapKind.Int32 (times.offset_of row.now)) }

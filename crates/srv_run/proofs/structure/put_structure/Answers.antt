@@ -1,11 +1,12 @@
-use Rattle.std.proofs.Common.{◌≡◌, ◌+◌, ◌++◌, ℕ, List, OnOk, codes, append_assoc, subst, refl}
+-- The line in front, the members and the line that closes are the text.
+use Rattle.std.proofs.Common.{◌≡◌, ◌+◌, ◌++◌, ℕ, List, OnOk, codes, append_assoc, subst}
 use Rattle.dap_model.specs.declared.declaration.Array.{Array}
 use Rattle.dap_model.specs.StructureText as text
 use Rattle.srv_run.proofs.structure.put_structure.Goals as goal
 
 joined : (depth : ℕ) (name : List ℕ) (members : List Array) (out x y : List ℕ) → x ≡ out ++ text.line_text depth (codes "Structure {") → y ≡ x ++ text.arrays_text (depth + 1) members → y ++ text.close_text depth name ≡ out ++ text.structure_text depth name members
 unfolding text.structure_text
-joined depth name members out x y first second = rw (second, first) (rw (append_assoc, append_assoc, append_assoc) refl)
+joined depth name members out x y first second = rw (second, first) (simp append_assoc)
 
 pub returns : goal.returns
 returns c =
