@@ -25,7 +25,7 @@ fn times_of(alloc: Global, loaded: &Loaded) -> Result<List<i64>, NoMemory>
     instants_of(alloc, loaded.file.bytes.as_slice(), loaded.file.shape)
 }
 
-// A row for each time of the file, in their order.
+// A row for each time of the file, in the order of the times.
 #[tactic(auto, using(crate::proofs::LoadedLemmas::loaded))]
 fn best_rows(alloc: Global, loaded: &Loaded) -> Result<List<Row>, NoMemory>
     requires { spec.IsLoaded loaded.now }
