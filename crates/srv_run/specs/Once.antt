@@ -54,11 +54,11 @@ thin_or_end subject bytes = shape_or_refusal subject (thin_shape bytes)
 unfoldable pub read_or_end : Matter → Option (List ℕ) → Result ReadFile End
 read_or_end subject held = file_or_end subject held >>= λ bytes. thin_or_end subject bytes >>= λ shape. Ok (record { bytes = bytes; shape = shape })
 
--- a run, where it is an instant
+-- a run, where it is an instant; else its refusal as out of range
 abbrev pub run_in_range : ℤ → Result ℤ End
 run_in_range run = if is_instant run then Ok run else Err (Refused File 55)
 
--- the run of a moment, in seconds from the epoch
+-- the run of a moment, in seconds from the epoch; without a moment the refusal of a file without a run
 abbrev pub run_of_moment : Option ℤ → Result ℤ End
 run_of_moment None = Err (Refused File 45)
 run_of_moment (Some moment) = run_in_range (moment -ℤ EPOCH_SECONDS)

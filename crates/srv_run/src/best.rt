@@ -20,12 +20,13 @@ use std::alloc::Global;
 #[tactic(auto, using(crate::proofs::LoadedLemmas::loaded))]
 fn times_of(alloc: Global, loaded: &Loaded) -> Result<List<i64>, NoMemory>
     requires { spec.IsLoaded loaded.now }
-    ensures { IfOk result (λ times. times ≡ instants_of loaded.now.file.bytes loaded.now.file.shape) }
+    ensures { IfOk result (λ times.
+        times ≡ instants_of loaded.now.file.bytes loaded.now.file.shape) }
 {
     instants_of(alloc, loaded.file.bytes.as_slice(), loaded.file.shape)
 }
 
-// A row for each time of the file, in their order.
+// A row for each time of the file, in the order of the times.
 #[tactic(auto, using(crate::proofs::LoadedLemmas::loaded))]
 fn best_rows(alloc: Global, loaded: &Loaded) -> Result<List<Row>, NoMemory>
     requires { spec.IsLoaded loaded.now }

@@ -92,7 +92,8 @@ fn take_file(
     requires proto { HoldsPlaces proto.bytes proto.shape }
     requires file { HoldsPlaces file.bytes file.shape }
     requires thin { is_thin file.bytes file.shape ≡ true }
-    ensures taken { Gives (λ loaded. loaded) result (spec.taken_or_end (seen command.now) proto file) }
+    ensures taken { Gives (λ loaded. loaded) result
+        (spec.taken_or_end (seen command.now) proto file) }
     ensures loaded { IfOk result IsLoaded }
     ensures end { IfErr result IsEndOfTake }
 {

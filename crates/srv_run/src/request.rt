@@ -59,7 +59,8 @@ pub(crate) fn data_head(alloc: Global, name: &[u8]) -> Result<Bytes, NoMemory>
 
 // What is left of a head after a byte, where it goes on with that byte.
 fn after_byte(byte: u8, head: Option<&[u8]>) -> Option<&[u8]>
-    ensures { option_map (λ h. h.now) result ≡ taking.after_byte byte (option_map (λ h. h.now) head.entry) }
+    ensures { option_map (λ h. h.now) result
+        ≡ taking.after_byte byte (option_map (λ h. h.now) head.entry) }
 {
     match head {
         Some([next, rest @ ..]) if *next == byte => Some(rest),
@@ -86,7 +87,8 @@ fn take_request<L: Link>(link: &mut L, structure: &[u8], values: &[u8]) -> Resul
     ensures asked { IfSome (L.told link.old) (λ wire. IfOk result (λ asked.
         asked ≡ taking.met_by (Some structure.now) (Some values.now) wire.left)) }
     ensures taken { IfSome (L.told link.old) (λ wire. OnOk result (L.told link.new
-        ≡ after_take (taking.met_len (Some structure.now) (Some values.now) wire.left) (L.told link.old))) }
+        ≡ after_take (taking.met_len (Some structure.now) (Some values.now) wire.left)
+        (L.told link.old))) }
     ensures err { IfSome (L.told link.old) (λ wire. OnErr result ((count : ℕ)
         × (count ≤ taking.met_len (Some structure.now) (Some values.now) wire.left)
         × (L.told link.new ≡ after_take count (L.told link.old)))) }

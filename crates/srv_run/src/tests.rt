@@ -203,17 +203,12 @@ fn the_data_of_the_best_view_is_sent_whole(rt: HostRuntime) -> Result<(), Fail> 
 fn a_file_is_taken_by_the_mark_in_its_name(rt: HostRuntime) -> Result<(), Fail> {
     let alloc = rt.alloc();
     let at = Given::at;
-    let cases: [(Given<'_>, u8, &[u8]); 8] = [
+    let cases: [(Given<'_>, u8, &[u8]); 5] = [
         (at(b"x.nc"), 3, b"refused x.nc code 45\n"),
         (
             at(b"gfs_20240101_0000/x.nc"),
             3,
             b"refused gfs_20240101_0000/x.nc code 45\n",
-        ),
-        (
-            at(b"gfs_20230229_0000.nc"),
-            3,
-            b"refused gfs_20230229_0000.nc code 45\n",
         ),
         (
             Given {
@@ -228,13 +223,7 @@ fn a_file_is_taken_by_the_mark_in_its_name(rt: HostRuntime) -> Result<(), Fail> 
             3,
             b"refused gfs_20540109_1338.nc code 55\n",
         ),
-        (
-            at(b"gfs_19851222_1022.nc"),
-            3,
-            b"refused gfs_19851222_1022.nc code 55\n",
-        ),
         (at(b"gfs_20540109_1337.nc"), 0, b""),
-        (at(b"gfs_19851222_1023.nc"), 0, b""),
     ];
     for (given, status, line) in &cases {
         let left = ran(alloc, given)?;

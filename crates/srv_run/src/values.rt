@@ -43,7 +43,8 @@ fn field_at(bytes: &[u8], shape: ThinShape, place: u32) -> &[u8]
     requires shape { IsTrue (is_thin_shape shape) }
     requires long { thin_len shape ≤ length bytes.now }
     requires record { place < shape.times }
-    ensures { result.now ≡ xdr.elements_bytes DapKind.Float32 (spec.field_at bytes.now shape place) }
+    ensures { result.now
+        ≡ xdr.elements_bytes DapKind.Float32 (spec.field_at bytes.now shape place) }
 {
     field_of(bytes, shape, place)
 }

@@ -21,7 +21,8 @@ pub(crate) fn put_count(count: u32, out: &mut Bytes) -> Result<(), NoMemory>
 // A whole number of four bytes.
 #[tactic(auto, unfolding(dap_model::specs::Xdr::number_bytes))]
 fn put_number(number: i32, out: &mut Bytes) -> Result<(), NoMemory>
-    ensures { OnOk result (out.new ≡ out.old ++ spec.number_bytes DapKind.Int32 (times.bits_of number)) }
+    ensures { OnOk result (out.new
+        ≡ out.old ++ spec.number_bytes DapKind.Int32 (times.bits_of number)) }
 {
     out.append(&number.to_be_bytes())
 }
@@ -77,7 +78,8 @@ pub(crate) fn put_offsets(rows: &[Row], out: &mut Bytes) -> Result<(), NoMemory>
 fn words_at(bytes: &[u8], place: u32, count: u32) -> &[u8]
     requires count { count < 2 ^ 30 }
     requires within { place + 4 * count ≤ length bytes.now }
-    ensures { result.now ≡ spec.elements_bytes DapKind.Float32 (words.words_at bytes.now place count) }
+    ensures { result.now
+        ≡ spec.elements_bytes DapKind.Float32 (words.words_at bytes.now place count) }
 {
     let (_, rest) = bytes.split_at(place as usize);
     let (words, _) = rest.split_at((4 * count) as usize);
