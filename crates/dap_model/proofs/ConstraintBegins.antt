@@ -4,7 +4,8 @@ use Rattle.std.specs.Option.{option_map, option_and_then}
 use Rattle.std.proofs.lemmas.Option.{none-some, same_Some}
 use Rattle.dap_model.specs.declared.projection.Clause.{Clause}
 use Rattle.dap_model.specs.declared.projection.Slab.{Slab}
-use Rattle.dap_model.specs.Constraint.{is_name_byte, slab_of, BeginsConstraint}
+use Rattle.fm_base.specs.Name.{is_name_byte}
+use Rattle.dap_model.specs.Constraint.{slab_of, BeginsConstraint}
 use Rattle.dap_model.specs.ConstraintReading.{Begun, State, front, before_name, in_name, before_number, in_number, after_slab, with_name, with_slab, clauses_of, step_to_name, step_number, step, clauses_at}
 use Rattle.dap_model.proofs.ConstraintDeath.{Dies, Leads-front}
 use Rattle.dap_model.proofs.ConstraintLeads.{Constrains-from_leads}

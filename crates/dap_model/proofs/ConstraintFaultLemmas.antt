@@ -7,7 +7,8 @@ use Rattle.std.proofs.lemmas.Option.{none-some}
 use Rattle.dap_model.specs.declared.fault.CeFault.{CeFault}
 use Rattle.dap_model.specs.declared.fault.CeFault.TheVariants.{BadConstraint, Selection}
 use Rattle.dap_model.specs.declared.projection.Clause.{Clause}
-use Rattle.dap_model.specs.Constraint.{is_name_byte, Constrains, BeginsConstraint, IsSelection, IsBadConstraint, HasFault}
+use Rattle.fm_base.specs.Name.{is_name_byte}
+use Rattle.dap_model.specs.Constraint.{Constrains, BeginsConstraint, IsSelection, IsBadConstraint, HasFault}
 use Rattle.dap_model.specs.ConstraintReading.{State, front, before_name, in_name, before_number, in_number, after_slab, step_on, step_to_name, step_name, step, clauses_at, may_end, fault_at, ended_at, constraint_of}
 use Rattle.dap_model.proofs.ConstraintBegins.{BeginsConstraint-run, dead_end}
 use Rattle.dap_model.proofs.ConstraintDeath.{Dies, goes-text, read_from-lives, read_from-dies, Leads-front}

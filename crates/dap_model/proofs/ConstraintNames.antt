@@ -6,7 +6,8 @@ use Rattle.std.proofs.lemmas.List.Folds.{list_all-append}
 use Rattle.std.proofs.lemmas.Option.{none-some}
 use Rattle.fm_base.specs.Spelling.{Spelled}
 use Rattle.dap_model.specs.declared.projection.Slab.{Slab}
-use Rattle.dap_model.specs.Constraint.{is_name_byte, SpellsName, SpellsSlab, SpellsClause}
+use Rattle.fm_base.specs.Name.{is_name_byte}
+use Rattle.dap_model.specs.Constraint.{SpellsName, SpellsSlab, SpellsClause}
 use Rattle.dap_model.specs.ConstraintReading.{Begun, State, in_name, with_name, last_clause, step_on, step_to_name, step_name}
 use Rattle.dap_model.proofs.SeparatedLemmas.{Followed-push, Separated-last}
 use Rattle.dap_model.proofs.ConstraintStates.{BeforeName, InName, AfterClause, Leads, choose, reached}

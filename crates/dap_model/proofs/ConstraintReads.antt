@@ -5,7 +5,8 @@ use Rattle.std.proofs.lemmas.Option.{none-some, same_Some}
 use Rattle.fm_base.specs.Spelling.{Spelled}
 use Rattle.dap_model.specs.declared.projection.Clause.{Clause}
 use Rattle.dap_model.specs.declared.projection.Slab.{Slab}
-use Rattle.dap_model.specs.Constraint.{is_name_byte, slab_of, Separated, SpellsSlab, SpellsClause, Constrains}
+use Rattle.fm_base.specs.Name.{is_name_byte}
+use Rattle.dap_model.specs.Constraint.{slab_of, Separated, SpellsSlab, SpellsClause, Constrains}
 use Rattle.dap_model.specs.ConstraintReading.{Begun, State, front, before_name, in_name, before_number, in_number, after_slab, fresh, with_name, with_slab, clauses_of, next_clause, step_on, step_name, step_number, step, clauses_at}
 use Rattle.dap_model.proofs.ConstraintRuns.{run, run-append, run-cons, run-path, run-numbers}
 

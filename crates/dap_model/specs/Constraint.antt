@@ -1,18 +1,15 @@
 -- Which texts are constraints, and what they ask for (ESE-RFC-004, constraint expressions, projections alone): paths of
 -- names with slabs, as `time[0:2:6],t.lat`.
-use Rattle.std.specs.Prelude.{◌≡◌, ◌⊎◌, ℕ, ◌<◌, ◌≤◌, List, [], ◌∷◌, ◌++◌, length, take, slice_get, Bool, ◌||◌, ◌==◌, IsTrue, Option, Some, None}
-use Rattle.std.specs.Char.{is_ascii_alphanumeric, is_ascii_digit}
+use Rattle.std.specs.Prelude.{◌≡◌, ◌⊎◌, ℕ, ◌<◌, ◌≤◌, List, [], ◌∷◌, ◌++◌, length, take, slice_get, IsTrue, Option, Some, None}
+use Rattle.std.specs.Char.{is_ascii_digit}
 use Rattle.std.specs.List.{list_all}
+use Rattle.fm_base.specs.Name.{is_name_byte}
 use Rattle.fm_base.specs.Spelling.{Spelled}
 use Rattle.fm_base.specs.Stamp.{number_of}
 use Rattle.dap_model.specs.declared.fault.CeFault.{CeFault}
 use Rattle.dap_model.specs.declared.fault.CeFault.TheVariants.{BadConstraint, Selection}
 use Rattle.dap_model.specs.declared.projection.Clause.{Clause}
 use Rattle.dap_model.specs.declared.projection.Slab.{Slab}
-
--- letters, digits, `_` and `-`
-unfoldable pub is_name_byte : ℕ → Bool
-is_name_byte byte = is_ascii_alphanumeric byte || byte == 95 || byte == 45
 
 -- one item or more, with this byte between each two
 abbrev pub Separated : {A : Type 0} → ℕ → (List ℕ → A → Type 0) → List ℕ → List A → Type 0

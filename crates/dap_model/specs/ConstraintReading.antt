@@ -2,7 +2,8 @@
 use Rattle.std.specs.Prelude.{ℕ, ◌+◌, ◌-◌, ◌*◌, List, [], ◌∷◌, ◌++◌, length, Bool, true, false, ◌&&◌, ◌==◌, nat_lt, if◌then◌else◌, Option, Some, None, Result, Ok, Err}
 use Rattle.std.specs.Char.{is_ascii_digit}
 use Rattle.std.specs.Option.{option_map, option_map_or}
-use Rattle.dap_model.specs.Constraint.{is_name_byte, slab_of}
+use Rattle.fm_base.specs.Name.{is_name_byte}
+use Rattle.dap_model.specs.Constraint.{slab_of}
 use Rattle.dap_model.specs.declared.fault.CeFault.{CeFault}
 use Rattle.dap_model.specs.declared.fault.CeFault.TheVariants.{BadConstraint, Selection}
 use Rattle.dap_model.specs.declared.projection.Clause.{Clause}

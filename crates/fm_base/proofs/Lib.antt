@@ -1,3 +1,4 @@
+pub mod ChainLemmas
 pub mod Distinct
 pub mod Exact
 pub mod Fields

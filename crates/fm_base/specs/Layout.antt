@@ -32,6 +32,7 @@ has_records header var = option_map_or (names_record header.dims) (slice_get var
 abbrev pub fixed_shape : Header → NcVar → List ℕ
 fixed_shape header var = if has_records header var then drop 1 (shape_of header var) else shape_of header var
 
+-- the product of some lengths
 unfoldable pub product : List ℕ → ℕ
 product [] = 1
 product (n ∷ ns) = n * product ns
@@ -107,10 +108,11 @@ unfoldable pub first_outside : Header → ℕ → ℕ → List NcVar → Option 
 first_outside header len n [] = None
 first_outside header len n (var ∷ vars) = if is_outside header len var then Some (DataOutside n (end_of header var) len) else first_outside header len (n + 1) vars
 
--- the first fault of the layout of a file of this length: a variable that is too large comes before one outside
+-- the first of two, if it is there, else the second
 abbrev pub or_else : {A : Type 0} → Option A → Option A → Option A
 or_else None second = second
 or_else (Some a) second = Some a
 
+-- the first fault of the layout of a file of this length: a variable that is too large comes before one outside
 unfoldable pub layout_fault : Header → ℕ → Option LayoutFault
 layout_fault header len = or_else (first_too_large header 0 header.vars) (first_outside header len 0 header.vars)

@@ -1,5 +1,6 @@
 pub mod Answer
 pub mod Calendar
+pub mod Chain
 pub mod Code
 pub mod Field
 pub mod Format
@@ -7,6 +8,7 @@ pub mod Input
 pub mod Instant
 pub mod Kind
 pub mod Layout
+pub mod Name
 pub mod Pattern
 pub mod Reading
 pub mod Spelling

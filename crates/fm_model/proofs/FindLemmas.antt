@@ -3,7 +3,7 @@ use Rattle.std.proofs.Common.{◌≡◌, Bool, true, false, cond, List, [], ◌�
 use Rattle.std.specs.Prelude.{find}
 use Rattle.std.specs.Option.{option_map}
 use Rattle.std.proofs.lemmas.Option.{none-some, same_Some}
-use Rattle.fm_model.specs.Chain.{refuse}
+use Rattle.fm_base.specs.Chain.{refuse}
 use Rattle.fm_model.proofs.LastLemmas.{option_map-none, no_value}
 use Rattle.fm_model.proofs.Members.{In, Each}
 

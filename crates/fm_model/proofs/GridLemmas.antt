@@ -14,11 +14,11 @@ use Rattle.fm_base.specs.Reading.{kind_of}
 use Rattle.fm_model.specs.declared.loaded.LoadFault.TheVariants.{VariableDiffers, GridDiffers}
 use Rattle.fm_model.specs.declared.proto.Proto.{Proto}
 use Rattle.fm_model.specs.declared.proto.ProtoVar.{ProtoVar}
-use Rattle.fm_model.specs.Chain.{◌>>◌, refuse_if}
+use Rattle.fm_base.specs.Chain.{◌>>◌, refuse_if}
 use Rattle.fm_model.specs.LoadAxis.{file_var}
 use Rattle.fm_model.specs.LoadVars.{lengths_of, is_like_fixed, same_bytes, same_grid, IsSameGrid}
 use Rattle.fm_model.specs.Variable.{are_same, is_same_kind}
-use Rattle.fm_model.proofs.ChainLemmas.{step_ok, refuse_if_ok, passed_if}
+use Rattle.fm_base.proofs.ChainLemmas.{step_ok, refuse_if_ok, passed_if}
 
 -- a kind is told by its number
 kind_of-code_of : (kind : Kind) → kind_of (code_of kind) ≡ Some kind

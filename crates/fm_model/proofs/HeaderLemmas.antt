@@ -15,11 +15,11 @@ use Rattle.fm_model.specs.declared.loaded.LoadFault.{LoadFault}
 use Rattle.fm_model.specs.declared.loaded.LoadFault.TheVariants as load
 use Rattle.fm_model.specs.declared.proto.Proto.{Proto}
 use Rattle.fm_model.specs.declared.proto.ProtoFault.TheVariants as proto_faults
-use Rattle.fm_model.specs.Chain.{◌>>=◌, ◌>>◌, refuse, refuse_if, fault_as}
+use Rattle.fm_base.specs.Chain.{◌>>=◌, ◌>>◌, refuse, refuse_if, fault_as}
 use Rattle.fm_model.specs.LoadAxis.{file_header, file_var, file_axis}
 use Rattle.fm_model.specs.Prototype.{sound_header}
 use Rattle.fm_model.specs.Variable.{is_coordinate, var_named}
-use Rattle.fm_model.proofs.ChainLemmas.{step_ok, refuse_ok, refuse_if_ok, ok_or_ok, same_Ok}
+use Rattle.fm_base.proofs.ChainLemmas.{step_ok, refuse_ok, refuse_if_ok, ok_or_ok, same_Ok}
 use Rattle.fm_model.proofs.FindLemmas.{in_find}
 use Rattle.fm_model.proofs.LastLemmas.{option_map-none}
 use Rattle.fm_model.proofs.Members.{Contains-from_in}

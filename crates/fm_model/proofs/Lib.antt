@@ -1,6 +1,5 @@
 pub mod BestLemmas
 pub mod CellLemmas
-pub mod ChainLemmas
 pub mod CollectionLemmas
 pub mod FindLemmas
 pub mod FullLemmas

@@ -7,12 +7,12 @@ use Rattle.fm_model.specs.declared.loaded.Loaded.{Loaded}
 use Rattle.fm_model.specs.declared.loaded.LoadFault.{LoadFault}
 use Rattle.fm_model.specs.declared.loaded.Slot.{Slot}
 use Rattle.fm_model.specs.declared.proto.Proto.{Proto}
-use Rattle.fm_model.specs.Chain.{◌>>=◌}
+use Rattle.fm_base.specs.Chain.{◌>>=◌}
 use Rattle.fm_model.specs.Load.{load_of, Fits}
 use Rattle.fm_model.specs.LoadAxis.{file_header, file_axis}
 use Rattle.fm_model.specs.LoadTimes.{file_units, file_run, time_count, file_times}
 use Rattle.fm_model.specs.LoadVars.{file_slots}
-use Rattle.fm_model.proofs.ChainLemmas.{step_ok, same_Ok}
+use Rattle.fm_base.proofs.ChainLemmas.{step_ok, same_Ok}
 
 -- the steps by which a file was taken
 pub record IsTaken (name bytes : List ℕ) (proto : Proto) (file : Loaded) : Type 0 where

@@ -19,7 +19,7 @@ use Rattle.fm_model.specs.Attribute.{is_char}
 use Rattle.fm_model.specs.Prototype.{sound_header, proto_axis, time_stands_first, is_plain_name, names_are_plain, kept_vars, run_name, offset_name, names_are_free, dims_have_lengths, proto_var, with_length, proto_with, proto_of, LiesFirst, HasFreeName, IsSound}
 use Rattle.fm_model.specs.Site.{IsPrototype}
 use Rattle.fm_model.specs.Variable.{is_named, is_coordinate, is_axis, axis_of, dim_of_axis, lies_along, stands_first_alone}
-use Rattle.fm_model.proofs.ChainLemmas.{step_ok, check_ok, ok_or_ok, same_Ok}
+use Rattle.fm_base.proofs.ChainLemmas.{step_ok, check_ok, ok_or_ok, same_Ok}
 use Rattle.fm_model.proofs.Members.{In, Each-in, Each-from_in, All-from_each, Any-from_in, In-append_left, In-append_right, In-filter, in_filter, In-map, in_map}
 use Rattle.fm_model.proofs.FindLemmas.{in_find, each_passes}
 

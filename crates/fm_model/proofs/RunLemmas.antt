@@ -13,7 +13,7 @@ use Rattle.fm_model.specs.declared.loaded.LoadFault.TheVariants.{NoRunTime, RunN
 use Rattle.fm_model.specs.declared.site.Site.{Site}
 use Rattle.fm_model.specs.LoadTimes.{file_units, seconds_at, from_epoch, is_instant, run_in_range, run_by, run_by_variable, run_by_name, file_run, IsInstant}
 use Rattle.fm_model.specs.Variable.{reference_of}
-use Rattle.fm_model.proofs.ChainLemmas.{step_ok, refuse_if_ok, same_Ok}
+use Rattle.fm_base.proofs.ChainLemmas.{step_ok, refuse_if_ok, same_Ok}
 
 at_most_from_test : (a b : ℤ) → int_le a b ≡ true → a ≤ℤ b
 at_most_from_test a b e = grind (arith, ints)

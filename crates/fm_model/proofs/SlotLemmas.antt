@@ -15,12 +15,12 @@ use Rattle.fm_model.specs.declared.loaded.LoadFault.TheVariants.{VariableDiffers
 use Rattle.fm_model.specs.declared.loaded.Slot.{Slot}
 use Rattle.fm_model.specs.declared.proto.Proto.{Proto}
 use Rattle.fm_model.specs.declared.proto.ProtoVar.{ProtoVar}
-use Rattle.fm_model.specs.Chain.{◌>>=◌, ◌>>◌, refuse_if}
+use Rattle.fm_base.specs.Chain.{◌>>=◌, ◌>>◌, refuse_if}
 use Rattle.fm_model.specs.Load.{Fits}
 use Rattle.fm_model.specs.LoadAxis.{file_header, file_axis, file_var}
 use Rattle.fm_model.specs.LoadVars.{lengths_of, is_like_timed, slot_in, file_slot, same_grid, is_compared, slots_after, steps_from, file_slots, slotted_vars, IsSlotOf, IsSameGrid}
 use Rattle.fm_model.specs.Variable.{are_same, dim_of_axis, is_coordinate, is_same_kind, stands_first_alone}
-use Rattle.fm_model.proofs.ChainLemmas.{step_ok, refuse_if_ok, check_ok, same_Ok}
+use Rattle.fm_base.proofs.ChainLemmas.{step_ok, refuse_if_ok, check_ok, same_Ok}
 use Rattle.fm_model.proofs.LoadLemmas.{IsTaken, IsTaken-load_of}
 use Rattle.fm_model.proofs.Members.{Each, Each-in, Each-from_in, All-from_each, In-filter}
 use Rattle.fm_model.proofs.GridLemmas.{IsSameGrid-same_grid, same_kind}

@@ -22,7 +22,7 @@ use Rattle.fm_model.specs.LoadAxis.{file_header, file_axis}
 use Rattle.fm_model.specs.LoadTimes.{file_units, file_run, seconds_at, from_epoch, is_instant, time_count, time_at, times_from, file_times, IsInstant, run_by, run_by_variable, run_by_name, time_in_range}
 use Rattle.fm_model.specs.Variable.{dim_of_axis, reference_of}
 use Rattle.fm_model.proofs.CellLemmas.{in-has}
-use Rattle.fm_model.proofs.ChainLemmas.{step_ok, refuse_if_ok, same_Ok}
+use Rattle.fm_base.proofs.ChainLemmas.{step_ok, refuse_if_ok, same_Ok}
 use Rattle.fm_model.proofs.LoadLemmas.{IsTaken, IsTaken-load_of}
 use Rattle.fm_model.proofs.Members.{In, Each, EachPair, Each-from_in, Each-push, EachPair-push, All-from_each, AllPairs-from_each}
 use Rattle.fm_model.proofs.RunLemmas.{IsInstant-from_test, IsInstant-file_run}

@@ -1,6 +1,6 @@
 pub mod Attribute
 pub mod Cell
-pub mod Chain
+pub use Rattle.fm_base.specs.Chain
 pub mod Code
 pub mod Collection
 pub mod Example

@@ -3,7 +3,7 @@ use Rattle.std.specs.Prelude.{◌≡◌, ℕ, List, Result, Ok}
 use Rattle.fm_model.specs.declared.loaded.Loaded.{Loaded}
 use Rattle.fm_model.specs.declared.loaded.LoadFault.{LoadFault}
 use Rattle.fm_model.specs.declared.proto.Proto.{Proto}
-use Rattle.fm_model.specs.Chain.{◌>>=◌}
+use Rattle.fm_base.specs.Chain.{◌>>=◌}
 use Rattle.fm_model.specs.LoadAxis.{file_header, file_axis}
 use Rattle.fm_model.specs.LoadTimes.{file_units, file_run, time_count, file_times}
 use Rattle.fm_model.specs.LoadVars.{file_slots}

@@ -8,7 +8,7 @@ use Rattle.fm_base.specs.Reading.{header_or_fault}
 use Rattle.fm_model.specs.declared.loaded.LoadFault.{LoadFault}
 use Rattle.fm_model.specs.declared.loaded.LoadFault.TheVariants.{Header, Layout, MissingVariable, VariableDiffers}
 use Rattle.fm_model.specs.declared.proto.Proto.{Proto}
-use Rattle.fm_model.specs.Chain.{◌>>=◌, ◌>>◌, refuse, refuse_if, fault_as}
+use Rattle.fm_base.specs.Chain.{◌>>=◌, ◌>>◌, refuse, refuse_if, fault_as}
 use Rattle.fm_model.specs.Variable.{is_coordinate, var_named}
 
 -- a sound header, with all data in the file

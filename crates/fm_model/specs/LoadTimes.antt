@@ -15,7 +15,7 @@ use Rattle.fm_model.specs.declared.loaded.LoadFault.{LoadFault}
 use Rattle.fm_model.specs.declared.loaded.LoadFault.TheVariants.{Units, NoRunTime, NotWhole, TimeRange, TimeRepeated, NoTimes, TooManyTimes, RunNotWhole, RunRange}
 use Rattle.fm_model.specs.declared.site.Site.{Site}
 use Rattle.fm_model.specs.Attribute.{is_char, text_of}
-use Rattle.fm_model.specs.Chain.{◌>>=◌, ◌>>◌, refuse_if, fault_as}
+use Rattle.fm_base.specs.Chain.{◌>>=◌, ◌>>◌, refuse_if, fault_as}
 use Rattle.fm_model.specs.Variable.{dim_of_axis, reference_of}
 
 -- the units of a variable of times, by its `units` and `calendar`; without `units` it has the empty text there

@@ -14,7 +14,7 @@ use Rattle.fm_model.specs.declared.loaded.LoadFault.TheVariants.{VariableDiffers
 use Rattle.fm_model.specs.declared.loaded.Slot.{Slot}
 use Rattle.fm_model.specs.declared.proto.Proto.{Proto}
 use Rattle.fm_model.specs.declared.proto.ProtoVar.{ProtoVar}
-use Rattle.fm_model.specs.Chain.{Check, ◌>>=◌, ◌>>◌, refuse_if}
+use Rattle.fm_base.specs.Chain.{Check, ◌>>=◌, ◌>>◌, refuse_if}
 use Rattle.fm_model.specs.Variable.{are_same, is_same_kind, is_coordinate, dim_of_axis, stands_first_alone}
 use Rattle.fm_model.specs.LoadAxis.{file_var}
 

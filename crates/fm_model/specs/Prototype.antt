@@ -1,6 +1,5 @@
 -- The prototype that some bytes are, or the first fault.
 use Rattle.std.specs.Prelude.{◌≡◌, ◌≢◌, ◌<◌, All, Any, IsTrue, true, false, ℕ, List, [], ◌∷◌, ◌++◌, codes, length, drop, map, filter, find, Bool, false, not, ◌&&◌, ◌||◌, ◌==◌, if◌then◌else◌, Result, Ok}
-use Rattle.std.specs.Char.{is_ascii_alphanumeric}
 use Rattle.std.specs.List.{list_all}
 use Rattle.std.specs.Option.{ok_or, option_map, option_map_or}
 use Rattle.std.specs.Str.{bytes_eq}
@@ -8,6 +7,7 @@ use Rattle.fm_base.specs.declared.header.Dim.{Dim}
 use Rattle.fm_base.specs.declared.header.Header.{Header as FileHeader}
 use Rattle.fm_base.specs.declared.header.NcVar.{NcVar}
 use Rattle.fm_base.specs.Layout.{size_in, elements_of, layout_fault}
+use Rattle.fm_base.specs.Name.{is_name_byte}
 use Rattle.fm_base.specs.Reading.{header_or_fault}
 use Rattle.fm_model.specs.declared.proto.Proto.{Proto}
 use Rattle.fm_model.specs.declared.proto.ProtoFault.{ProtoFault}
@@ -15,7 +15,7 @@ use Rattle.fm_model.specs.declared.proto.ProtoFault.TheVariants.{Header, Layout,
 use Rattle.fm_model.specs.declared.proto.ProtoVar.{ProtoVar}
 use Rattle.fm_model.specs.declared.site.Site.{Site}
 use Rattle.fm_model.specs.Attribute.{is_char}
-use Rattle.fm_model.specs.Chain.{Check, ◌>>=◌, ◌>>◌, refuse, fault_as}
+use Rattle.fm_base.specs.Chain.{Check, ◌>>=◌, ◌>>◌, refuse, fault_as}
 use Rattle.fm_model.specs.Variable.{are_same, is_named, stands_first_alone, axis_of, dim_of_axis, lies_along, reference_of}
 
 -- a sound header, with all data in the file
@@ -32,10 +32,6 @@ proto_axis header = ok_or (axis_of header) NoTimeAxis
 -- each variable that lies along the axis has the axis's dimension first, and once
 unfoldable pub time_stands_first : FileHeader → NcVar → Check ProtoFault
 time_stands_first header axis = refuse (option_map (λ (var : NcVar). TimeNotFirst var.name) (find (λ (var : NcVar). lies_along (dim_of_axis axis) (drop 1 var.dims)) header.vars))
-
--- whether a byte is a letter, a digit, `_` or `-`
-abbrev pub is_name_byte : ℕ → Bool
-is_name_byte byte = is_ascii_alphanumeric byte || byte == 95 || byte == 45
 
 -- whether a name is of such bytes alone
 unfoldable pub is_plain_name : List ℕ → Bool

@@ -1,10 +1,7 @@
 -- Where the content of a file ends a check, and where its layout does.
-use Rattle.std.proofs.Common.{◌≡◌, ℕ, ◌≤◌, refl, sym, ◌∙◌, Option, Some, None, Result, Ok, Err, IfErr}
-use Rattle.fm_base.specs.declared.fail.Fail.{Fail}
-use Rattle.fm_base.specs.declared.fail.Fail.TheVariants as fails
+use Rattle.std.proofs.Common.{◌≡◌, ℕ, ◌≤◌, refl, Option, Some, None, Result, Ok, Err, IfErr}
 use Rattle.fm_base.specs.declared.fault.LayoutFault.{LayoutFault}
 use Rattle.fm_base.specs.declared.header.Header.{Header}
-use Rattle.fm_base.specs.Answer.{Answers}
 use Rattle.fm_base.specs.Layout.{layout_fault}
 use Rattle.nc_layout.specs.Faults.{layout_or_fault}
 use Rattle.nc_layout.specs.Places.{Places}

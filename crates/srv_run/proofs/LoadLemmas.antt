@@ -5,7 +5,8 @@ use Rattle.srv_run.specs.declared.end.End.TheVariants.{Done, BadWords, Refused, 
 use Rattle.srv_run.specs.declared.end.Subject.TheVariants.{Prototype, File, Request}
 use Rattle.srv_run.specs.declared.file.Loaded.{Loaded}
 use Rattle.srv_run.specs.declared.file.ReadFile.{ReadFile}
-use Rattle.srv_run.specs.Once.{AccordsFiles, ◌>>=◌, read_or_end, taken_or_end, loaded_or_end}
+use Rattle.fm_base.specs.Chain.{◌>>=◌}
+use Rattle.srv_run.specs.Once.{AccordsFiles, read_or_end, taken_or_end, loaded_or_end}
 use Rattle.srv_run.specs.Words.{Command}
 use Rattle.srv_run.specs.Steps.{Gives, IsEndOfRead, IsEndOfTake, IsBeforeRequest}
 

@@ -1,5 +1,5 @@
 -- A report that was written whole or in part.
-use Rattle.std.proofs.Common.{◌≡◌, ℕ, List, length, take, Option, Result, Ok, Err, sym, ap, ◌∙◌, arith}
+use Rattle.std.proofs.Common.{◌≡◌, ℕ, List, length, take, Result, Ok, Err, sym, ap, ◌∙◌, arith}
 use Rattle.std.proofs.lemmas.List.{take_all}
 use Rattle.fm_world.specs.Cause.{HasCause}
 use Rattle.fm_world.specs.Sink.{after_append}

@@ -1,6 +1,6 @@
 -- What the command `check FILE` does: it reads the header of a file, sees that all the data lies in the file, and says
 -- how many dimensions, variables and records there are.
-use Rattle.std.specs.Prelude.{◌≡◌, ◌⊎◌, ⊤, ℕ, List, [], ◌∷◌, ◌++◌, length, codes, decimal, Option, Some, None, Result, Ok, Err, if◌then◌else◌}
+use Rattle.std.specs.Prelude.{◌≡◌, ◌⊎◌, ℕ, List, [], ◌∷◌, ◌++◌, length, codes, decimal, Option, Some, None, Result, Ok, Err, if◌then◌else◌}
 use Rattle.std.specs.Str.{bytes_eq}
 use Rattle.fm_base.specs.declared.fault.HeaderFault.{HeaderFault}
 use Rattle.fm_base.specs.declared.fault.LayoutFault.{LayoutFault}
@@ -11,7 +11,8 @@ use Rattle.fm_base.specs.Reading.{header_or_fault}
 use Rattle.srv_run.specs.declared.end.End.{End}
 use Rattle.srv_run.specs.declared.end.End.TheVariants.{Done, Refused, SinkFault}
 use Rattle.srv_run.specs.declared.end.Subject.TheVariants.{File}
-use Rattle.srv_run.specs.Once.{◌>>=◌, file_or_end}
+use Rattle.fm_base.specs.Chain.{◌>>=◌}
+use Rattle.srv_run.specs.Once.{file_or_end}
 use Rattle.srv_run.specs.Report.{line_of}
 use Rattle.srv_run.specs.Words.{naming}
 

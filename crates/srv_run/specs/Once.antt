@@ -1,5 +1,6 @@
 -- What the command does: it reads a prototype and a file, and answers one request over the collection of that file.
 use Rattle.std.specs.Prelude.{◌≡◌, ⊤, ℕ, ◌<◌, ◌≤◌, List, length, take, Option, Some, None, Result, Ok, Err, ℤ, ◌-ℤ◌, IsOk, if◌then◌else◌}
+use Rattle.fm_base.specs.Chain.{◌>>=◌}
 use Rattle.fm_world.specs.declared.files.Found.{Found}
 use Rattle.fm_world.specs.declared.files.Found.TheVariants.{Content, Absent, TooLong as TooLongFound}
 use Rattle.fm_world.specs.Files.{found_of}
@@ -26,11 +27,6 @@ FILE_BYTES = 536870912
 -- the refusal of what isn't read yet
 abbrev pub not_yet_read : Matter → End
 not_yet_read subject = Refused subject 60
-
-infixl 10 ◌>>=◌
-abbrev pub ◌>>=◌ : {A B : Type 0} → Result A End → (A → Result B End) → Result B End
-(Ok value) >>= f = f value
-(Err end) >>= f = Err end
 
 -- the bytes that were found, or the end of the run
 abbrev pub content_or_end : Matter → Found → Result (List ℕ) End

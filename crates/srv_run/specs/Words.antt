@@ -1,7 +1,8 @@
 -- The words of the command.
-use Rattle.std.specs.Prelude.{ℕ, List, [], ◌∷◌, length, drop, codes, Bool, ◌&&◌, ◌||◌, ◌==◌, nat_eq, nat_le, Option, Some, None, if◌then◌else◌}
+use Rattle.std.specs.Prelude.{ℕ, List, [], ◌∷◌, length, drop, codes, Bool, ◌&&◌, nat_eq, nat_le, Option, Some, None, if◌then◌else◌}
 use Rattle.std.specs.List.{list_all, starts_with}
 use Rattle.std.specs.Str.{bytes_eq}
+use Rattle.fm_base.specs.Name.{is_name_byte}
 
 -- the name of the collection, the path of the prototype and the path of the file
 pub record Command : Type 0 where
@@ -12,10 +13,6 @@ pub record Command : Type 0 where
 -- a command that names this file alone
 abbrev pub naming : List ℕ → Command
 naming path = record { name = []; proto = []; path = path }
-
--- a letter, a digit, `_` or `-`
-unfoldable pub is_name_byte : ℕ → Bool
-is_name_byte byte = (nat_le 48 byte && nat_le byte 57) || (nat_le 65 byte && nat_le byte 90) || (nat_le 97 byte && nat_le byte 122) || byte == 95 || byte == 45
 
 -- 1 to 64 such bytes
 unfoldable pub is_collection_name : List ℕ → Bool

@@ -1,6 +1,7 @@
 //! The words of the command.
 ghost use Rattle.std.specs.Prelude.{◌≡◌, ◌≤◌, length, MatchOption, None, Some, IsTrue};
 ghost use Rattle.std.specs.List.{list_all};
+ghost use Rattle.fm_base.specs.Name.{is_name_byte};
 ghost use Rattle.srv_run.specs.Words as spec;
 ghost use Rattle.srv_run.specs.Words.{naming};
 ghost use Rattle.srv_run.specs.Seen.{seen};
@@ -15,15 +16,15 @@ pub(crate) struct Command<'a> {
     pub(crate) path: &'a [u8],
 }
 
-#[tactic(auto, unfolding(crate::specs::Words::is_name_byte))]
+#[tactic(auto, unfolding(fm_base::specs::Name::is_name_byte))]
 fn is_name_byte(byte: u8) -> bool
-    ensures { result ≡ spec.is_name_byte byte }
+    ensures { result ≡ is_name_byte byte }
 {
     byte.is_ascii_alphanumeric() || byte == b'_' || byte == b'-'
 }
 
 fn are_name_bytes(bytes: &[u8]) -> bool
-    ensures { result ≡ list_all spec.is_name_byte bytes.now }
+    ensures { result ≡ list_all is_name_byte bytes.now }
 {
     bytes.iter().all(|byte| is_name_byte(*byte))
 }

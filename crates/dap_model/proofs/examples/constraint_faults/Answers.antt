@@ -1,6 +1,7 @@
 -- The equations hold by computing.
 use Rattle.std.proofs.Common.{refl}
-use Rattle.dap_model.specs.Constraint.{is_name_byte, slab_of}
+use Rattle.fm_base.specs.Name.{is_name_byte}
+use Rattle.dap_model.specs.Constraint.{slab_of}
 use Rattle.dap_model.specs.ConstraintReading.{clauses_at, constraint_of, read_from, step, step_name, step_number, step_on, step_to_name}
 use Rattle.dap_model.proofs.examples.constraint_faults.Goals as goal
 

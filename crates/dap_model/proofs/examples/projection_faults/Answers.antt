@@ -1,7 +1,8 @@
 -- The equations hold by computing.
 use Rattle.std.proofs.Common.{refl}
 use Rattle.dap_model.specs.Box.{slab_count, whole_slab}
-use Rattle.dap_model.specs.Constraint.{is_name_byte, slab_of}
+use Rattle.fm_base.specs.Name.{is_name_byte}
+use Rattle.dap_model.specs.Constraint.{slab_of}
 use Rattle.dap_model.specs.ConstraintReading.{clauses_at, constraint_of, read_from, step, step_name, step_number, step_on, step_to_name}
 use Rattle.dap_model.specs.ClauseFaults.{clause_fault, conflict_fault, decl_fault, first_fault, is_within, range_fault, rank_fault}
 use Rattle.dap_model.specs.Picking.{decl_named, given_by, picked_by, picked_part, whole_slabs}

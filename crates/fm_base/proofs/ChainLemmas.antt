@@ -1,7 +1,7 @@
 -- What a chain of steps that gives a value says of each step.
 use Rattle.std.proofs.Common.{◌≡◌, Bool, true, false, Option, Some, None, Result, Ok, Err, refl}
 use Rattle.std.specs.Option.{ok_or}
-use Rattle.fm_model.specs.Chain.{Check, ◌>>=◌, ◌>>◌, refuse, refuse_if}
+use Rattle.fm_base.specs.Chain.{Check, ◌>>=◌, ◌>>◌, refuse, refuse_if}
 
 -- the value of a step that had no fault
 pub step_ok : {A B E : Type 0} (r : Result A E) (next : A → Result B E) (b : B) → (r >>= next) ≡ Ok b → (a : A) × (r ≡ Ok a) × (next a ≡ Ok b)
