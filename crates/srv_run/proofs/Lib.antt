@@ -2,6 +2,7 @@ pub mod ArrayLemmas
 pub mod Asking
 pub mod AskingLink
 pub mod CheckLemmas
+pub mod DataLemmas
 pub mod ExchangeLemmas
 pub mod FieldLemmas
 pub mod Heads

@@ -1,11 +1,11 @@
 -- Where the reading of a file ends a run.
 use Rattle.std.proofs.Common.{◌≡◌, Result, Ok, Err, Option, Some, None, IfSome, ℕ, List, subst, ap, ◌∙◌, rules}
+use Rattle.fm_base.specs.Chain.{◌>>=◌}
 use Rattle.srv_run.specs.declared.end.End.{End}
 use Rattle.srv_run.specs.declared.end.End.TheVariants.{Done, BadWords, Refused, NoMemory, FileFault, SinkFault, LinkFault, NoFile, TooLong, InputEnded}
 use Rattle.srv_run.specs.declared.end.Subject.TheVariants.{Prototype, File, Request}
 use Rattle.srv_run.specs.declared.file.Loaded.{Loaded}
 use Rattle.srv_run.specs.declared.file.ReadFile.{ReadFile}
-use Rattle.fm_base.specs.Chain.{◌>>=◌}
 use Rattle.srv_run.specs.Once.{AccordsFiles, read_or_end, taken_or_end, loaded_or_end}
 use Rattle.srv_run.specs.Words.{Command}
 use Rattle.srv_run.specs.Steps.{Gives, IsEndOfRead, IsEndOfTake, IsBeforeRequest}

@@ -6,8 +6,8 @@ use Rattle.std.proofs.lemmas.List.{drop-drop, get_or-take, get_or-drop, get_or_p
 use Rattle.std.proofs.lemmas.Nat.{be_bytes_4}
 use Rattle.std.proofs.lemmas.Bool.Decides.{nat_tests}
 use Rattle.dap_model.specs.declared.declaration.DapKind.TheVariants.{Float32}
-use Rattle.srv_run.specs.Values.{words_at}
 use Rattle.dap_model.specs.Xdr.{number_bytes, elements_bytes, count_twice, array_bytes}
+use Rattle.srv_run.specs.Values.{words_at}
 
 -- bytes of a part of a file are bytes
 small : (bytes : List ℕ) (place : ℕ) → ((i : ℕ) → get_or bytes i 0 < 256) → (i : ℕ) → get_or (take 4 (drop place bytes)) i 0 < 256

@@ -8,10 +8,10 @@ use Rattle.fm_base.specs.declared.header.Header.{Header}
 use Rattle.fm_base.specs.Code.{header_code, layout_code}
 use Rattle.fm_base.specs.Layout.{layout_fault}
 use Rattle.fm_base.specs.Reading.{header_or_fault}
+use Rattle.fm_base.specs.Chain.{◌>>=◌}
 use Rattle.srv_run.specs.declared.end.End.{End}
 use Rattle.srv_run.specs.declared.end.End.TheVariants.{Done, Refused, SinkFault}
 use Rattle.srv_run.specs.declared.end.Subject.TheVariants.{File}
-use Rattle.fm_base.specs.Chain.{◌>>=◌}
 use Rattle.srv_run.specs.Once.{file_or_end}
 use Rattle.srv_run.specs.Report.{line_of}
 use Rattle.srv_run.specs.Words.{naming}

@@ -1,3 +1,4 @@
+pub mod Arrays
 pub mod Best
 pub mod Check
 pub mod Collection

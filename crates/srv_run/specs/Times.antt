@@ -3,8 +3,8 @@ use Rattle.std.specs.Prelude.{ℕ, List, ◌++◌, map, ℤ, ◌-ℤ◌, Bool, �
 use Rattle.std.specs.Int.{w32, cast_unsigned}
 use Rattle.nc_model.specs.Thin.{is_instant}
 use Rattle.dap_model.specs.declared.declaration.DapKind.TheVariants.{Int32}
-use Rattle.srv_run.specs.declared.rows.Row.{Row}
 use Rattle.dap_model.specs.Xdr.{array_bytes}
+use Rattle.srv_run.specs.declared.rows.Row.{Row}
 
 -- the bits of a whole number in two's complement
 abbrev pub bits_of : ℤ → ℕ

@@ -5,10 +5,10 @@ use Rattle.std.specs.List.{flat_map}
 use Rattle.nc_model.specs.declared.shape.ThinShape.{ThinShape}
 use Rattle.nc_model.specs.Thin.{field_begin}
 use Rattle.dap_model.specs.declared.declaration.DapKind.TheVariants.{Int32, Float32}
+use Rattle.dap_model.specs.Xdr.{array_bytes}
 use Rattle.srv_run.specs.declared.file.ReadFile.{ReadFile}
 use Rattle.srv_run.specs.declared.rows.Row.{Row}
 use Rattle.srv_run.specs.Times.{valid_numbers, runs_data}
-use Rattle.dap_model.specs.Xdr.{array_bytes}
 
 -- so many numbers of four bytes from a place on
 unfoldable pub words_at : List ℕ → ℕ → ℕ → List ℕ

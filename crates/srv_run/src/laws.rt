@@ -1,5 +1,11 @@
 //! Laws of the definitions, each as the contract of a call that does nothing.
-ghost use Rattle.std.specs.Prelude.{◌≡◌, ◌<◌, ◌≤◌, ◌+◌, ◌++◌, length};
+ghost use Rattle.std.specs.Prelude.{◌≡◌, ◌<◌, ◌≤◌, ◌+◌, ◌++◌, length, true};
+ghost use Rattle.std.specs.List.{AllZip};
+ghost use Rattle.srv_run.specs.declared.file.Loaded.{Loaded};
+ghost use Rattle.srv_run.specs.Best.{best_rows};
+ghost use Rattle.srv_run.specs.Collection.{is_same_grid};
+ghost use Rattle.srv_run.specs.Arrays.{arrays_bytes, best_numbers, declared_arrays, IsFilledBy};
+ghost use Rattle.srv_run.specs.Values.{data_over};
 ghost use Rattle.srv_run.specs.Request.{asked_by, data_head, structure_head, taken_by};
 
 use crate::reply::Content;
@@ -16,4 +22,15 @@ pub fn heads_are_told(name: &[u8], rest: &[u8])
         ≡ Asked.Whole Content.Data }
     ensures values_len { taken_by name.now (data_head name.now ++ rest.now)
         ≡ length (data_head name.now) }
+{}
+
+/// The data is the arrays that the structure text declares, in its order. Where the file lies on the prototype's grid,
+/// each has as many numbers as its dimensions say.
+#[tactic(auto, using(crate::proofs::DataLemmas::declared))]
+pub fn data_is_as_declared()
+    ensures arrays { (loaded : Loaded) → data_over loaded.proto loaded.file (best_rows loaded)
+        ≡ arrays_bytes (declared_arrays loaded) (best_numbers loaded) }
+    ensures counts { (loaded : Loaded) → is_same_grid loaded.proto.bytes loaded.proto.shape
+        loaded.file.bytes loaded.file.shape ≡ true
+        → AllZip IsFilledBy (declared_arrays loaded) (best_numbers loaded) }
 {}

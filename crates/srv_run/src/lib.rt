@@ -20,7 +20,7 @@ mod words;
 mod xdr;
 
 pub use end::{End, Subject};
-pub use laws::heads_are_told;
+pub use laws::{data_is_as_declared, heads_are_told};
 pub use program::{run, run_check, run_once};
 pub use reply::Content;
 pub use request::Asked;

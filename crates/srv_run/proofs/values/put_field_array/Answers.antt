@@ -1,7 +1,7 @@
 use Rattle.std.proofs.Common.{◌≡◌, ℕ, List, ◌++◌, OnOk, subst, ◌∙◌, ap}
 use Rattle.dap_model.specs.declared.declaration.DapKind.TheVariants.{Float32}
-use Rattle.srv_run.specs.Values.{field_numbers}
 use Rattle.dap_model.specs.Xdr.{count_twice}
+use Rattle.srv_run.specs.Values.{field_numbers}
 use Rattle.srv_run.proofs.ArrayLemmas.{counted_array}
 use Rattle.srv_run.proofs.FieldLemmas.{length-field_numbers}
 use Rattle.srv_run.proofs.values.put_field_array.Goals as goal

@@ -1,7 +1,7 @@
 use Rattle.std.proofs.Common.{◌≡◌, ◌++◌, take}
 use Rattle.dap_model.specs.declared.declaration.DapKind.TheVariants.{Float32}
-use Rattle.srv_run.specs.Values.{field_numbers}
 use Rattle.dap_model.specs.Xdr.{elements_bytes}
+use Rattle.srv_run.specs.Values.{field_numbers}
 use Rattle.srv_run.proofs.values.put_fields.Given as goal
 
 abbrev pub invariant-loop-row : goal.invariant-loop-row

@@ -1,7 +1,7 @@
 use Rattle.std.proofs.Common.{◌≡◌, ◌++◌, take}
 use Rattle.dap_model.specs.declared.declaration.DapKind.TheVariants.{Int32}
-use Rattle.srv_run.specs.Times.{offset_numbers}
 use Rattle.dap_model.specs.Xdr.{elements_bytes}
+use Rattle.srv_run.specs.Times.{offset_numbers}
 use Rattle.srv_run.proofs.xdr.put_offsets.Given as goal
 
 abbrev pub invariant-loop-row : goal.invariant-loop-row
