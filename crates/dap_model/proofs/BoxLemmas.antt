@@ -44,11 +44,6 @@ length-box_of [] = refl
 length-box_of (slab ∷ slabs) =
     length-rows (slab_indices slab) (box_of slabs) ∙ ap₂ (λ (m n : ℕ). m * n) (length-slab_indices slab) (length-box_of slabs)
 
--- the number of index lists, slab by slab
-pub box_len-cons : (slab : Slab) (slabs : List Slab) → box_len (slab ∷ slabs) ≡ slab_count slab * box_len slabs
-unfolding box_len product
-box_len-cons slab slabs = refl
-
 -- the index list at a place, by a place of the first slab and a place in the box of the others
 pub index_at-cons : (slab : Slab) (slabs : List Slab) (q r : ℕ) → r < box_len slabs
     → index_at (slab ∷ slabs) (q * box_len slabs + r) ≡ slab_index slab q ∷ index_at slabs r

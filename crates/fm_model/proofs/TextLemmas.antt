@@ -15,10 +15,6 @@ zeros bytes = suffix_len (λ byte. byte == 0) bytes
 abbrev kept : List ℕ → ℕ
 kept bytes = length bytes - zeros bytes
 
-length-trimmed : (bytes : List ℕ) → length (trimmed bytes) ≡ kept bytes
-unfolding trimmed
-length-trimmed bytes = length-take-le (kept bytes) bytes (omega arith)
-
 -- each byte after those that are left is a zero
 zero_after : (bytes : List ℕ) (k : ℕ) (d : ℕ) → k < zeros bytes → get_or (drop (kept bytes) bytes) k d ≡ 0
 zero_after bytes k d lt =

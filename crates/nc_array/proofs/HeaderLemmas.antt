@@ -11,13 +11,6 @@ use Rattle.nc_layout.proofs.HeaderLemmas.{slice_get-layout, shape_in-layout}
 pub kept-is : {places : Places} {number : ℕ} {header : Header} {var : NcVar} (kept : VarPlaces) → IsLayoutOf places number header var → slice_get places.vars number ≡ Some kept → kept ≡ var_places header var
 kept-is kept is found = let e = slice_get-layout is in cc
 
--- the bytes of an element
-pub element_in-layout : {places : Places} {number : ℕ} {header : Header} {var : NcVar} (bytes : List ℕ) (kept : VarPlaces) (index : List ℕ) → IsLayoutOf places number header var → slice_get places.vars number ≡ Some kept → element_in bytes places.record_size kept index ≡ element bytes header var index
-unfolding element place_of
-element_in-layout {places} {number} {header} {var} bytes kept index is found =
-    ap (λ k. element_in bytes places.record_size k index) (kept-is kept is found)
-    ∙ ap (λ (p : Places). element_in bytes p.record_size (var_places header var) index) is.layout
-
 -- the bytes of all elements
 pub elements_in-layout : {places : Places} {number : ℕ} {header : Header} {var : NcVar} (bytes : List ℕ) (kept : VarPlaces) → IsLayoutOf places number header var → slice_get places.vars number ≡ Some kept → elements_in bytes places kept ≡ elements_of bytes header var
 unfolding element place_of elements_of

@@ -1,5 +1,5 @@
 -- The elements of a slab are a run of bytes, and the elements of a variable are those of its slabs.
-use Rattle.std.proofs.Common.{◌≡◌, ℕ, zero, suc, ◌+◌, ◌*◌, Bool, true, false, cond, List, [], ◌∷◌, ◌++◌, map, take, drop, refl, sym, ap, ap₂, ◌∙◌, arith, append-nil}
+use Rattle.std.proofs.Common.{◌≡◌, ℕ, zero, suc, ◌+◌, ◌*◌, Bool, true, false, cond, List, [], ◌∷◌, ◌++◌, map, take, drop, refl, sym, ap, ◌∙◌, arith, append-nil}
 use Rattle.std.specs.List.{flat_map, range_with_len, slice_index}
 use Rattle.std.proofs.Math.Seq.{take-add}
 use Rattle.std.proofs.lemmas.List.{drop-drop}
@@ -9,16 +9,12 @@ use Rattle.fm_base.specs.Kind.{size_of}
 use Rattle.fm_base.specs.Layout.{product, rank_in, indices_of}
 use Rattle.nc_layout.specs.declared.places.VarPlaces.{VarPlaces}
 use Rattle.nc_layout.specs.Places.{Places, slab_in, slab_count_in, elements_in}
-use Rattle.nc_layout.proofs.OrderLemmas.{map-rank_in, range-append}
+use Rattle.nc_layout.proofs.OrderLemmas.{flat_map_all, map-rank_in, range-append}
 use Rattle.nc_array.specs.Slabs.{slab_bytes}
 
 flat_map-flat_map : {A B C : Type 0} (f : B → List C) (g : A → List B) (xs : List A) → flat_map f (flat_map g xs) ≡ flat_map (λ x. flat_map f (g x)) xs
 flat_map-flat_map f g [] = refl
 flat_map-flat_map f g (x ∷ xs) = flat_map-append f (g x) (flat_map g xs) ∙ ap (λ ys. flat_map f (g x) ++ ys) (flat_map-flat_map f g xs)
-
-flat_map_all : {A B : Type 0} (f g : A → List B) → ((x : A) → f x ≡ g x) → (xs : List A) → flat_map f xs ≡ flat_map g xs
-flat_map_all f g same [] = refl
-flat_map_all f g same (x ∷ xs) = ap₂ (λ ys zs. ys ++ zs) (same x) (flat_map_all f g same xs)
 
 -- pieces of one size, one after another
 pieces : (bytes : List ℕ) (begin size a n : ℕ) → flat_map (λ r. take size (drop (begin + size * r) bytes)) (range_with_len a n) ≡ take (size * n) (drop (begin + size * a) bytes)

@@ -21,10 +21,6 @@ range-append a (suc n) m =
     let len : suc (n + m) ≡ suc n + m = omega arith in
     ap (λ b. a ∷ (range_with_len (a + 1) n ++ range_with_len b m)) from ∙ ap (λ ys. a ∷ ys) (range-append (a + 1) n m) ∙ ap (range_with_len a) len
 
-map_all : {A B : Type 0} (f g : A → B) → ((x : A) → f x ≡ g x) → (xs : List A) → map f xs ≡ map g xs
-map_all f g same [] = refl
-map_all f g same (x ∷ xs) = ap₂ (λ y ys. y ∷ ys) (same x) (map_all f g same xs)
-
 map-map : {A B C : Type 0} (f : B → C) (g : A → B) (xs : List A) → map f (map g xs) ≡ map (λ x. f (g x)) xs
 map-map f g [] = refl
 map-map f g (x ∷ xs) = ap (λ ys. f (g x) ∷ ys) (map-map f g xs)
@@ -33,7 +29,7 @@ map-flat_map : {A B C : Type 0} (f : B → C) (g : A → List B) (xs : List A) �
 map-flat_map f g [] = refl
 map-flat_map f g (x ∷ xs) = map-append f (g x) (flat_map g xs) ∙ ap (λ ys. map f (g x) ++ ys) (map-flat_map f g xs)
 
-flat_map_all : {A B : Type 0} (f g : A → List B) → ((x : A) → f x ≡ g x) → (xs : List A) → flat_map f xs ≡ flat_map g xs
+pub flat_map_all : {A B : Type 0} (f g : A → List B) → ((x : A) → f x ≡ g x) → (xs : List A) → flat_map f xs ≡ flat_map g xs
 flat_map_all f g same [] = refl
 flat_map_all f g same (x ∷ xs) = ap₂ (λ ys zs. ys ++ zs) (same x) (flat_map_all f g same xs)
 

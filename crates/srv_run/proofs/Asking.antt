@@ -1,5 +1,5 @@
 -- The heads are met byte by byte.
-use Rattle.std.proofs.Common.{◌≡◌, ℕ, ◌+◌, ◌<◌, ◌≤◌, List, [], ◌∷◌, ◌++◌, length, get_or, take, drop, Option, Some, None, refl, sym, ap, ◌∙◌, append_assoc, add-one, drop-cons, length-drop, ◌==◌, Bool, true, false, if◌then◌else◌, arith}
+use Rattle.std.proofs.Common.{◌≡◌, ℕ, ◌+◌, ◌<◌, ◌≤◌, List, [], ◌∷◌, ◌++◌, length, get_or, take, drop, Option, Some, None, refl, sym, ap, ◌∙◌, append_assoc, add-one, drop-cons, length-drop, arith}
 use Rattle.std.proofs.Math.Seq.{take-add}
 use Rattle.std.proofs.lemmas.List.{drop-drop}
 use Rattle.fm_world.specs.Link.{Wire, after_take}
@@ -48,20 +48,6 @@ Met-decided structure values s v input i asked is met =
 abbrev pub left_len : Option (List ℕ) → ℕ
 left_len None = 0
 left_len (Some head) = length head
-
-left_where : (same : Bool) (head : List ℕ) → left_len (if same then Some head else None) ≤ length head
-left_where true head = omega arith
-left_where false head = omega arith
-
--- while nothing is decided, each byte leaves less of the heads
-pub left_after : (byte : ℕ) (s v : Option (List ℕ)) → decided s v ≡ None → left_len (after_byte byte s) + left_len (after_byte byte v) < left_len s + left_len v
-left_after byte None None is = grind (arith, is)
-left_after byte None (Some []) is = grind (arith, is)
-left_after byte None (Some (next ∷ other)) is = omega (arith, left_where (next == byte) other)
-left_after byte (Some []) v is = grind (arith, is)
-left_after byte (Some (first ∷ head)) None is = omega (arith, left_where (first == byte) head)
-left_after byte (Some (first ∷ head)) (Some []) is = grind (arith, is)
-left_after byte (Some (first ∷ head)) (Some (next ∷ other)) is = omega (arith, left_where (first == byte) head, left_where (next == byte) other)
 
 -- the link after i of its bytes were taken, and then one more
 pub after_take-add : (i n : ℕ) (told : Option Wire) → after_take n (after_take i told) ≡ after_take (i + n) told

@@ -1,5 +1,5 @@
 -- The heads are met byte by byte on a link, where it tells.
-use Rattle.std.proofs.Common.{◌≡◌, ℕ, ◌+◌, ◌<◌, ◌≤◌, List, ◌++◌, length, get_or, take, drop, Option, Some, None, IfSome, refl, sym, ap, subst, ◌∙◌, append-nil, arith}
+use Rattle.std.proofs.Common.{◌≡◌, ℕ, ◌+◌, ◌<◌, List, ◌++◌, length, get_or, take, drop, Option, Some, None, IfSome, refl, sym, ap, subst, ◌∙◌, append-nil, arith}
 use Rattle.fm_world.specs.Link.{Wire, GivesNext, after_take}
 use Rattle.srv_run.specs.declared.request.Asked.{Asked}
 use Rattle.srv_run.specs.declared.request.Asked.TheVariants.{Ended}
@@ -66,8 +66,3 @@ asks_decided structure values s v asked (Some wire) now i is met told =
 
 pub Meets-decided : (structure values s v : Option (List ℕ)) (asked : Asked) (told now : Option Wire) → decided s v ≡ Some asked → Meets structure values s v told now → Asks structure values told now asked
 Meets-decided structure values s v asked told now is meets = asks_decided structure values s v asked told now meets.count is meets.met meets.told
-
--- a link that fails has taken no more than is to be taken
-pub Meets-failed : (structure values s v : Option (List ℕ)) (told now next : Option Wire) → Meets structure values s v told now → next ≡ now → IfSome told (λ wire. (count : ℕ) × (count ≤ met_len structure values wire.left) × (next ≡ after_take count told))
-Meets-failed structure values s v None now next meets same = tt
-Meets-failed structure values s v (Some wire) now next meets same = (meets.count, omega (arith, meets.met.taken), same ∙ meets.told)

@@ -1,12 +1,11 @@
 -- The data of the best view is the declared arrays, and each has as many numbers as it declares.
-use Rattle.std.proofs.Common.{◌≡◌, ℕ, ◌*◌, List, [], ◌∷◌, ◌++◌, length, map, true, refl, sym, ap, ◌∙◌, append_assoc, append-nil, arith, ◌+◌}
+use Rattle.std.proofs.Common.{◌≡◌, ℕ, ◌*◌, List, length, true, ◌∙◌, append_assoc, append-nil, arith, ◌+◌}
 use Rattle.std.specs.List.{AllZip, flat_map}
 use Rattle.std.proofs.lemmas.Bool.Decides.{nat_tests}
 use Rattle.std.proofs.lemmas.List.{length-map}
 use Rattle.nc_model.specs.declared.shape.ThinShape.{ThinShape}
 use Rattle.fm_base.specs.Layout.{product}
 use Rattle.dap_model.specs.Picking.{parts_of}
-use Rattle.dap_model.specs.Xdr.{array_bytes}
 use Rattle.srv_run.specs.declared.file.ReadFile.{ReadFile}
 use Rattle.srv_run.specs.declared.rows.Row.{Row}
 use Rattle.srv_run.specs.Collection.{decls_of, coordinates, field_array, is_same_grid}

@@ -2,7 +2,8 @@
 use Rattle.std.proofs.Common.{◌≡◌, Result, Ok, Err, Option, Some, None, IfSome, ℕ, List, subst, ap, ◌∙◌, rules}
 use Rattle.fm_base.specs.Chain.{◌>>=◌}
 use Rattle.srv_run.specs.declared.end.End.{End}
-use Rattle.srv_run.specs.declared.end.End.TheVariants.{Done, BadWords, Refused, NoMemory, FileFault, SinkFault, LinkFault, NoFile, TooLong, InputEnded}
+use Rattle.srv_run.specs.declared.end.End.TheVariants.{Refused, NoMemory, FileFault, NoFile, TooLong}
+use Rattle.srv_run.specs.declared.end.Subject.{Subject as Matter}
 use Rattle.srv_run.specs.declared.end.Subject.TheVariants.{Prototype, File, Request}
 use Rattle.srv_run.specs.declared.file.Loaded.{Loaded}
 use Rattle.srv_run.specs.declared.file.ReadFile.{ReadFile}
@@ -36,11 +37,7 @@ AccordsFiles-proto (FileFault File) proto rest gives ends = absurd cc
 AccordsFiles-proto (FileFault Request) proto rest gives ends = absurd cc
 AccordsFiles-proto (NoFile subject) proto rest gives ends = stops proto rest _ gives
 AccordsFiles-proto (TooLong subject len) proto rest gives ends = stops proto rest _ gives
-AccordsFiles-proto Done proto rest gives ends = absurd ends
-AccordsFiles-proto BadWords proto rest gives ends = absurd ends
-AccordsFiles-proto LinkFault proto rest gives ends = absurd ends
-AccordsFiles-proto SinkFault proto rest gives ends = absurd ends
-AccordsFiles-proto InputEnded proto rest gives ends = absurd ends
+AccordsFiles-proto end proto rest gives ends = absurd ends
 
 second : (proto file : Read) (first : ReadFile) (rest : ReadFile → ReadFile → Load) (end : End) → proto ≡ Ok first → file ≡ Err end → (proto >>= λ p. file >>= rest p) ≡ Err end
 second proto file first rest end taken e = ap (λ (r : Read). r >>= λ p. file >>= rest p) taken ∙ ap (λ (r : Read). r >>= rest first) e
@@ -56,72 +53,29 @@ AccordsFiles-file (FileFault Prototype) proto file first rest taken gives ends =
 AccordsFiles-file (FileFault Request) proto file first rest taken gives ends = absurd cc
 AccordsFiles-file (NoFile subject) proto file first rest taken gives ends = second proto file first rest _ taken gives
 AccordsFiles-file (TooLong subject len) proto file first rest taken gives ends = second proto file first rest _ taken gives
-AccordsFiles-file Done proto file first rest taken gives ends = absurd ends
-AccordsFiles-file BadWords proto file first rest taken gives ends = absurd ends
-AccordsFiles-file LinkFault proto file first rest taken gives ends = absurd ends
-AccordsFiles-file SinkFault proto file first rest taken gives ends = absurd ends
-AccordsFiles-file InputEnded proto file first rest taken gives ends = absurd ends
-
-twice : (proto file : Read) (first next : ReadFile) (rest : ReadFile → ReadFile → Load) (end : End) → proto ≡ Ok first → file ≡ Ok next → rest first next ≡ Err end → (proto >>= λ p. file >>= rest p) ≡ Err end
-twice proto file first next rest end taken read e = ap (λ (r : Read). r >>= λ p. file >>= rest p) taken ∙ ap (λ (r : Read). r >>= rest first) read ∙ e
-
--- the run ends where the file is taken
-pub AccordsFiles-take : (end : End) (proto file : Read) (first next : ReadFile) (rest : ReadFile → ReadFile → Load) → proto ≡ Ok first → file ≡ Ok next → Gives same_loaded (Err end) (rest first next) → IsEndOfTake end → AccordsFiles end proto (proto >>= λ p. file >>= rest p)
-AccordsFiles-take NoMemory proto file first next rest taken read gives ends = tt
-AccordsFiles-take (Refused File code) proto file first next rest taken read gives ends = twice proto file first next rest _ taken read gives
-AccordsFiles-take (Refused Prototype code) proto file first next rest taken read gives ends = absurd ends
-AccordsFiles-take (Refused Request code) proto file first next rest taken read gives ends = absurd ends
-AccordsFiles-take (FileFault subject) proto file first next rest taken read gives ends = absurd ends
-AccordsFiles-take (NoFile subject) proto file first next rest taken read gives ends = absurd ends
-AccordsFiles-take (TooLong subject len) proto file first next rest taken read gives ends = absurd ends
-AccordsFiles-take Done proto file first next rest taken read gives ends = absurd ends
-AccordsFiles-take BadWords proto file first next rest taken read gives ends = absurd ends
-AccordsFiles-take LinkFault proto file first next rest taken read gives ends = absurd ends
-AccordsFiles-take SinkFault proto file first next rest taken read gives ends = absurd ends
-AccordsFiles-take InputEnded proto file first next rest taken read gives ends = absurd ends
+AccordsFiles-file end proto file first rest taken gives ends = absurd ends
 
 -- a run that ends where a file is read hasn't come to its request
+IsBeforeRequest-read : (subject : Matter) → (Request ≡ subject → ⊥) → (end : End) → IsEndOfRead subject end → IsBeforeRequest end
+IsBeforeRequest-read subject other NoMemory ends = tt
+IsBeforeRequest-read subject other (Refused Prototype code) ends = tt
+IsBeforeRequest-read subject other (Refused File code) ends = tt
+IsBeforeRequest-read subject other (Refused Request code) ends = absurd (other ends)
+IsBeforeRequest-read subject other (FileFault named) ends = tt
+IsBeforeRequest-read subject other (NoFile named) ends = tt
+IsBeforeRequest-read subject other (TooLong named len) ends = tt
+IsBeforeRequest-read subject other end ends = absurd ends
+
 pub IsBeforeRequest-proto : (end : End) → IsEndOfRead Prototype end → IsBeforeRequest end
-IsBeforeRequest-proto NoMemory ends = tt
-IsBeforeRequest-proto (Refused Prototype code) ends = tt
-IsBeforeRequest-proto (Refused File code) ends = tt
-IsBeforeRequest-proto (Refused Request code) ends = absurd cc
-IsBeforeRequest-proto (FileFault named) ends = tt
-IsBeforeRequest-proto (NoFile named) ends = tt
-IsBeforeRequest-proto (TooLong named len) ends = tt
-IsBeforeRequest-proto Done ends = absurd ends
-IsBeforeRequest-proto BadWords ends = absurd ends
-IsBeforeRequest-proto LinkFault ends = absurd ends
-IsBeforeRequest-proto SinkFault ends = absurd ends
-IsBeforeRequest-proto InputEnded ends = absurd ends
+IsBeforeRequest-proto end ends = IsBeforeRequest-read Prototype (λ is. cc) end ends
 
 pub IsBeforeRequest-file : (end : End) → IsEndOfRead File end → IsBeforeRequest end
-IsBeforeRequest-file NoMemory ends = tt
-IsBeforeRequest-file (Refused Prototype code) ends = tt
-IsBeforeRequest-file (Refused File code) ends = tt
-IsBeforeRequest-file (Refused Request code) ends = absurd cc
-IsBeforeRequest-file (FileFault named) ends = tt
-IsBeforeRequest-file (NoFile named) ends = tt
-IsBeforeRequest-file (TooLong named len) ends = tt
-IsBeforeRequest-file Done ends = absurd ends
-IsBeforeRequest-file BadWords ends = absurd ends
-IsBeforeRequest-file LinkFault ends = absurd ends
-IsBeforeRequest-file SinkFault ends = absurd ends
-IsBeforeRequest-file InputEnded ends = absurd ends
+IsBeforeRequest-file end ends = IsBeforeRequest-read File (λ is. cc) end ends
 
 pub IsBeforeRequest-take : (end : End) → IsEndOfTake end → IsBeforeRequest end
 IsBeforeRequest-take NoMemory ends = tt
 IsBeforeRequest-take (Refused File code) ends = tt
-IsBeforeRequest-take (Refused Prototype code) ends = absurd ends
-IsBeforeRequest-take (Refused Request code) ends = absurd ends
-IsBeforeRequest-take (FileFault named) ends = absurd ends
-IsBeforeRequest-take (NoFile named) ends = absurd ends
-IsBeforeRequest-take (TooLong named len) ends = absurd ends
-IsBeforeRequest-take Done ends = absurd ends
-IsBeforeRequest-take BadWords ends = absurd ends
-IsBeforeRequest-take LinkFault ends = absurd ends
-IsBeforeRequest-take SinkFault ends = absurd ends
-IsBeforeRequest-take InputEnded ends = absurd ends
+IsBeforeRequest-take end ends = absurd ends
 
 pub ruleset load_ends = (IsBeforeRequest-proto, IsBeforeRequest-file, IsBeforeRequest-take)
 

@@ -6,7 +6,7 @@ use Rattle.std.proofs.lemmas.List.{drop-drop, get_or-take, get_or-drop, get_or_p
 use Rattle.std.proofs.lemmas.Nat.{be_bytes_4}
 use Rattle.std.proofs.lemmas.Bool.Decides.{nat_tests}
 use Rattle.dap_model.specs.declared.declaration.DapKind.TheVariants.{Float32}
-use Rattle.dap_model.specs.Xdr.{number_bytes, elements_bytes, count_twice, array_bytes}
+use Rattle.dap_model.specs.Xdr.{number_bytes, elements_bytes}
 use Rattle.srv_run.specs.Values.{words_at}
 
 -- bytes of a part of a file are bytes
@@ -38,8 +38,3 @@ words_bytes bytes place (suc n) fits within =
     let split : take (4 + 4 * n) (drop place bytes) ≡ word ++ take (4 * n) (drop 4 (drop place bytes)) = take-add 4 (4 * n) (drop place bytes) in
     let size : 4 * suc n ≡ 4 + 4 * n = omega arith in
     both ∙ rw (size, split, drop-drop 4 place bytes) refl
-
--- the count of an array of words
-pub array_of_words : (bytes : List ℕ) (place n : ℕ) → array_bytes Float32 (words_at bytes place n) ≡ count_twice n ++ elements_bytes Float32 (words_at bytes place n)
-unfolding array_bytes
-array_of_words bytes place n = rw (length-words_at bytes place n) refl

@@ -2,9 +2,9 @@
 ghost use Rattle.std.specs.Prelude.{◌≡◌, ◌<◌, ◌≤◌, ◌^◌, ◌*◌, ◌++◌, OnOk, IsTrue, length};
 ghost use Rattle.std.specs.List.{list_all};
 ghost use Rattle.nc_model.specs.Thin.{HoldsPlaces, is_thin_shape, thin_len};
+ghost use Rattle.dap_model.specs.Xdr as xdr;
 ghost use Rattle.srv_run.specs.Times as times;
 ghost use Rattle.srv_run.specs.Values as spec;
-ghost use Rattle.dap_model.specs.Xdr as xdr;
 
 use crate::file::ReadFile;
 use crate::rows::Row;

@@ -1,9 +1,9 @@
 //! Numbers as XDR.
 ghost use Rattle.std.specs.Prelude.{◌≡◌, ◌<◌, ◌≤◌, ◌+◌, ◌*◌, ◌^◌, ◌++◌, OnOk, IsTrue, length};
 ghost use Rattle.std.specs.List.{list_all};
+ghost use Rattle.dap_model.specs.Xdr as spec;
 ghost use Rattle.srv_run.specs.Times as times;
 ghost use Rattle.srv_run.specs.Values as words;
-ghost use Rattle.dap_model.specs.Xdr as spec;
 
 use crate::rows::Row;
 use dap_model::DapKind;
