@@ -9,6 +9,7 @@ pub mod Instant
 pub mod Kind
 pub mod Layout
 pub mod Name
+pub mod Parser
 pub mod Pattern
 pub mod Reading
 pub mod Spelling
