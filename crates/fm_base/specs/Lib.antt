@@ -12,6 +12,7 @@ pub mod Name
 pub mod Parser
 pub mod Pattern
 pub mod Reading
+pub mod Sound
 pub mod Spelling
 pub mod Stamp
 pub mod Units
