@@ -13,7 +13,7 @@ use Rattle.fm_base.specs.Input.{Input}
 use Rattle.fm_base.specs.Reading.{word, list_at, dim_at, attr_at, var_at, version_at, numrecs_at, header_at}
 use Rattle.fm_base.specs.Spelling.{SpellsWord, SpellsCount, SpellsList, SpellsDim, SpellsAttr, SpellsVar, SpellsHeader, IsSoundVar, IsSound}
 use Rattle.fm_base.proofs.Distinct.{IsFresh, IsOnlyRecord, EachFrom-parts, EachFrom-both, AllByRecursion-from_each, EachFrom-from_all, AreDistinct-from_fresh, fresh-from_AreDistinct, one_record-from_only, only-from_one_record}
-use Rattle.fm_base.proofs.Exact.{onto, Then, Such, Exact-located, input, ok_pair}
+use Rattle.fm_base.proofs.Exact.{onto, Then, Such, Exact-located, input, ok_pair, ExactOn, Anything}
 use Rattle.fm_base.proofs.Fields.{SpellsCount-from_word, SpellsWord-from_count, Exact-word}
 use Rattle.fm_base.proofs.Lists.{EachFrom, Exact-list_at}
 use Rattle.fm_base.proofs.Parts.{DimAfter, name_of_dim, name_of_attr, Exact-dim_at, Exact-attrs_at}
@@ -22,15 +22,15 @@ use Rattle.fm_base.proofs.Vars.{VarAfter, name_of_var, Exact-var_at}
 use Rattle.fm_base.specs.Parser.{Outcome, known}
 
 -- `CDF` and a version
-record SpellsVersion (text : List ℕ) (version : ℕ) : Type 0 where
-  known : (version ≡ 1) ⊎ (version ≡ 2)
-  text_is : text ≡ codes "CDF" ++ version ∷ []
+pub record SpellsVersion (text : List ℕ) (version : ℕ) : Type 0 where
+  pub known : (version ≡ 1) ⊎ (version ≡ 2)
+  pub text_is : text ≡ codes "CDF" ++ version ∷ []
 
-passes_first : (b : Bool) (d : HeaderFault) (r : Outcome ℕ HeaderFault) (y : ℕ × Input) → cond b (Err d) r ≡ Ok y → (b ≡ false) × (r ≡ Ok y)
+pub passes_first : (b : Bool) (d : HeaderFault) (r : Outcome ℕ HeaderFault) (y : ℕ × Input) → cond b (Err d) r ≡ Ok y → (b ≡ false) × (r ≡ Ok y)
 passes_first true d r y e = absurd cc
 passes_first false d r y e = (refl, e)
 
-passes_then : (b : Bool) (d : HeaderFault) (r : Outcome ℕ HeaderFault) (y : ℕ × Input) → cond b r (Err d) ≡ Ok y → (b ≡ true) × (r ≡ Ok y)
+pub passes_then : (b : Bool) (d : HeaderFault) (r : Outcome ℕ HeaderFault) (y : ℕ × Input) → cond b r (Err d) ≡ Ok y → (b ≡ true) × (r ≡ Ok y)
 passes_then true d r y e = (refl, e)
 passes_then false d r y e = absurd cc
 
@@ -53,7 +53,7 @@ version_again : (at : ℕ) (rest : List ℕ) (n : ℕ) → (n ≡ 1) ⊎ (n ≡ 
 version_again at rest n (inl one) = subst (λ v. version_at (input at (codes "CDF" ++ v ∷ [] ++ rest)) ≡ Ok (v, input (at + 4) rest)) (sym one) (version_1 at rest)
 version_again at rest n (inr two) = subst (λ v. version_at (input at (codes "CDF" ++ v ∷ [] ++ rest)) ≡ Ok (v, input (at + 4) rest)) (sym two) (version_2 at rest)
 
-Exact-version_at : ExactBytes SpellsVersion version_at
+pub Exact-version_at : {Of : List ℕ → Type 0} → ExactOn Of SpellsVersion Anything version_at
 unfolding version_at
 Exact-version_at = record {
   takes = λ i n j fits e.

@@ -1,11 +1,15 @@
 pub mod ChainLemmas
 pub mod Distinct
 pub mod Exact
+pub mod FaultLaws
 pub mod Fields
 pub mod HeaderLaws
 pub mod HeaderParts
 pub mod Lists
 pub mod Parts
+pub mod Settled
+pub mod SettledParts
+pub mod SettledSteps
 pub mod SoundLaws
 pub mod Steps
 pub mod Vars

@@ -1,4 +1,4 @@
-use Rattle.fm_base.proofs.HeaderLaws.{HeaderOf-unique}
+use Rattle.fm_base.proofs.HeaderLaws.{HeaderOf-from_read, read-from_HeaderOf, HeaderOf-unique}
 use Rattle.nc_header.proofs.AnswerLemmas.{Answers-from_Reads, IsReadAs-from_HeaderOf, HasNoHeader-from_fault}
 use Rattle.nc_header.proofs.header.read_header.Goals as goal
 
@@ -12,3 +12,6 @@ returns-clause-refused c =
 
 pub returns-clause-one : goal.returns-clause-one
 returns-clause-one c = λ h other spelled also. HeaderOf-unique spelled also
+
+pub returns-clause-stands : goal.returns-clause-stands
+returns-clause-stands c = λ h. (read-from_HeaderOf c.args.bytes.now h, HeaderOf-from_read c.args.bytes.now h (λ i. (c.type_inv.bytes i).fits))
