@@ -19,7 +19,8 @@ use Rattle.fm_base.proofs.Settled.{Agree, after, IsCutAt, IsCutLater, Beyond, Ta
 use Rattle.fm_base.proofs.SettledParts.{after_version, Local-after_version}
 
 -- what is read exactly, whatever follows it, depends on what was taken
-Taken-exact : {A : Type 0} {S : List ℕ → A → Type 0} {p : HeaderParser A} → Exact S Anything p → (at : ℕ) (rest : List ℕ) (a : A) (j : Input)
+Taken-exact : {A : Type 0} {S : List ℕ → A → Type 0} {p : HeaderParser A} → Exact S Anything p
+    → (at : ℕ) (rest : List ℕ) (a : A) (j : Input)
     → p (input at rest) ≡ Ok (a, j) → Taken p at rest a j
 Taken-exact {A} {S} {p} ep at rest a j e =
     let t = ep.takes (input at rest) a j tt e in
@@ -31,23 +32,30 @@ Taken-exact {A} {S} {p} ep at rest a j e =
       input_is = ap₂ (λ (m : ℕ) (l : List ℕ). input m l) t.place (sym back);
       within = omega (arith, ap length t.split, length-append t.text j.rest);
       again = λ other same.
-          let split : t.text ++ drop n other ≡ other = ap (λ (l : List ℕ). l ++ drop n other) (sym front ∙ same) ∙ take-append-drop n other in
-          subst (λ (l : List ℕ). p (input at l) ≡ Ok (a, after n (input at other))) split (ep.again at t.text (drop n other) a t.spelled tt);
+          let split : t.text ++ drop n other ≡ other = ap (λ (l : List ℕ). l ++ drop n other) (sym front ∙ same)
+              ∙ take-append-drop n other in
+          subst (λ (l : List ℕ). p (input at l) ≡ Ok (a, after n (input at other))) split
+              (ep.again at t.text (drop n other) a t.spelled tt);
     }
 
 -- a header fails in its version, or after it
-header_fails : (bytes : List ℕ) (fault : HeaderFault) → header_at (whole bytes) ≡ Err fault → (version_at (whole bytes) ≡ Err fault) ⊎ Failed header_at 0 bytes fault
+header_fails : (bytes : List ℕ) (fault : HeaderFault) → header_at (whole bytes) ≡ Err fault
+    → (version_at (whole bytes) ≡ Err fault) ⊎ Failed header_at 0 bytes fault
 unfolding header_at
 header_fails bytes fault e = by_version (version_at (whole bytes)) refl e
   where
-    by_version : (r : Outcome ℕ HeaderFault) → version_at (whole bytes) ≡ r → and_then r after_version ≡ Err fault → (version_at (whole bytes) ≡ Err fault) ⊎ Failed header_at 0 bytes fault
-    by_version (Err first) is f = inl (is ∙ ap (λ (x : HeaderFault). failed {A = ℕ} x) (err_is {A = Header} first fault f))
+    by_version : (r : Outcome ℕ HeaderFault) → version_at (whole bytes) ≡ r → and_then r after_version ≡ Err fault
+        → (version_at (whole bytes) ≡ Err fault) ⊎ Failed header_at 0 bytes fault
+    by_version (Err first) is f =
+        inl (is ∙ ap (λ (x : HeaderFault). failed {A = ℕ} x) (err_is {A = Header} first fault f))
     by_version (Ok x) is f =
         let t = Taken-exact Exact-version_at 0 bytes x.0 x.1 is in
         inr (after_fails version_at after_version 0 bytes x.0 x.1 fault t
-        ((Local-after_version x.0).fails (0 + t.count) (drop t.count bytes) fault (subst (λ (i : Input). after_version x.0 i ≡ Err fault) t.input_is f)))
+        ((Local-after_version x.0).fails (0 + t.count) (drop t.count bytes) fault
+            (subst (λ (i : Input). after_version x.0 i ≡ Err fault) t.input_is f)))
 
-header_at-fault : (bytes : List ℕ) (fault : HeaderFault) → header_or_fault bytes ≡ Err fault → header_at (whole bytes) ≡ Err fault
+header_at-fault : (bytes : List ℕ) (fault : HeaderFault) → header_or_fault bytes ≡ Err fault
+    → header_at (whole bytes) ≡ Err fault
 unfolding header_or_fault
 header_at-fault bytes fault e = by_outcome (header_at (whole bytes)) e
   where
@@ -55,12 +63,14 @@ header_at-fault bytes fault e = by_outcome (header_at (whole bytes)) e
     by_outcome (Ok x) k = absurd cc
     by_outcome (Err first) k = cc
 
-fault-header_at : (bytes : List ℕ) (fault : HeaderFault) → header_at (whole bytes) ≡ Err fault → header_or_fault bytes ≡ Err fault
+fault-header_at : (bytes : List ℕ) (fault : HeaderFault) → header_at (whole bytes) ≡ Err fault
+    → header_or_fault bytes ≡ Err fault
 unfolding header_or_fault
 fault-header_at bytes fault e = ap value_of e
 
 -- a fault of another field than one that is cut short
-settled : (bytes : List ℕ) (fault : HeaderFault) → Failed header_at 0 bytes fault → ((n : ℕ) → IsCutAt n fault → ⊥) → IsSettled bytes fault
+settled : (bytes : List ℕ) (fault : HeaderFault) → Failed header_at 0 bytes fault → ((n : ℕ) → IsCutAt n fault → ⊥)
+    → IsSettled bytes fault
 settled bytes fault f uncut = elim f.why [
   | inl w ↦ record {
     place = 0 + f.count;
@@ -69,12 +79,14 @@ settled bytes fault f uncut = elim f.why [
     within = let within = w.within in omega arith;
     stands = w.stands;
     same = λ other agree. again w other agree;
-    none = λ other agree header spelled. let no = sym (again w other agree) ∙ read-from_HeaderOf other header spelled in absurd cc;
+    none = λ other agree header spelled. let no = sym (again w other agree) ∙ read-from_HeaderOf other header spelled in
+        absurd cc;
   }
   | inr c ↦ absurd (uncut (0 + f.count) c.fault_is)
 ]
   where
-    again : IsWhole header_at 0 bytes fault f.count f.size → (other : List ℕ) → take (0 + f.count + f.size) other ≡ take (0 + f.count + f.size) bytes → header_or_fault other ≡ Err fault
+    again : IsWhole header_at 0 bytes fault f.count f.size → (other : List ℕ)
+        → take (0 + f.count + f.size) other ≡ take (0 + f.count + f.size) bytes → header_or_fault other ≡ Err fault
     again w other agree =
         let sum : 0 + f.count + f.size ≡ f.count + f.size = omega arith in
         fault-header_at other fault (w.again other (sym (subst (λ (n : ℕ). take n other ≡ take n bytes) sum agree)))
@@ -90,10 +102,13 @@ past_end bytes place f = elim f.why [
         size = f.size;
         within = let within = c.within in omega arith;
         short = let short = c.short in omega arith;
-        same = λ other agree ends. fault-header_at other (Truncated place) (c.again other (sym (subst (λ (n : ℕ). take n other ≡ take n bytes) here agree)) (omega arith));
+        same = λ other agree ends. fault-header_at other (Truncated place)
+            (c.again other (sym (subst (λ (n : ℕ). take n other ≡ take n bytes) here agree)) (omega arith));
         long = λ other agree goes_on e.
             let beyond = c.long other (sym (subst (λ (n : ℕ). take n other ≡ take n bytes) here agree)) (omega arith) in
-            let later : 0 + (f.count + f.size) ≤ place = subst (λ (r : Outcome Header HeaderFault). Beyond (0 + (f.count + f.size)) r) (header_at-fault other (Truncated place) e) beyond in
+            let later : 0 + (f.count + f.size) ≤ place =
+                subst (λ (r : Outcome Header HeaderFault). Beyond (0 + (f.count + f.size)) r)
+                (header_at-fault other (Truncated place) e) beyond in
             absurd (omega arith);
       }
 ]
@@ -105,7 +120,8 @@ after_version_fault bytes (Truncated place) f = past_end bytes place f
 after_version_fault bytes fault f = settled bytes fault f (λ n cut. cut)
 
 -- a version that is none, or no magic
-magic_fault : (bytes : List ℕ) (fault : HeaderFault) → IsFaultOf bytes BadMagic → failed {A = ℕ} BadMagic ≡ Err fault → IsFaultOf bytes fault
+magic_fault : (bytes : List ℕ) (fault : HeaderFault) → IsFaultOf bytes BadMagic → failed {A = ℕ} BadMagic ≡ Err fault
+    → IsFaultOf bytes fault
 magic_fault bytes fault bad e = subst (IsFaultOf bytes) (err_is {A = ℕ} BadMagic fault e) bad
 
 version_fault : (bytes : List ℕ) (fault : HeaderFault) → version_at (whole bytes) ≡ Err fault → IsFaultOf bytes fault
@@ -115,13 +131,15 @@ version_fault (a ∷ []) fault e = magic_fault (a ∷ []) fault (inl (omega arit
 version_fault (a ∷ b ∷ []) fault e = magic_fault (a ∷ b ∷ []) fault (inl (omega arith)) e
 version_fault (a ∷ b ∷ c ∷ []) fault e = magic_fault (a ∷ b ∷ c ∷ []) fault (inl (omega arith)) e
 version_fault (a ∷ b ∷ c ∷ d ∷ rest) fault e =
-    by_magic (bytes_eq (a ∷ b ∷ c ∷ []) (codes "CDF")) refl (rw (le-ltb (length (a ∷ b ∷ c ∷ d ∷ rest)) 4 (omega arith)) at e)
+    by_magic (bytes_eq (a ∷ b ∷ c ∷ []) (codes "CDF")) refl
+        (rw (le-ltb (length (a ∷ b ∷ c ∷ d ∷ rest)) 4 (omega arith)) at e)
   where
     bytes : List ℕ
     bytes = a ∷ b ∷ c ∷ d ∷ rest
     read : Outcome ℕ HeaderFault
     read = Ok (d, input (0 + 4) rest)
-    by_version : a ∷ b ∷ c ∷ [] ≡ codes "CDF" → (known : Bool) → (d == 1 || d == 2) ≡ known → cond known read (Err (BadVersion d)) ≡ Err fault → IsFaultOf bytes fault
+    by_version : a ∷ b ∷ c ∷ [] ≡ codes "CDF" → (known : Bool) → (d == 1 || d == 2) ≡ known
+        → cond known read (Err (BadVersion d)) ≡ Err fault → IsFaultOf bytes fault
     by_version magic true is f = absurd cc
     by_version magic false is f =
         let others = or_parts (d == 1) (d == 2) is in
@@ -131,12 +149,15 @@ version_fault (a ∷ b ∷ c ∷ d ∷ rest) fault e =
           not_2 = eqb-false d 2 others.1;
         })
     by_magic : (same : Bool) → bytes_eq (a ∷ b ∷ c ∷ []) (codes "CDF") ≡ same
-        → cond (not same) (Err BadMagic) (cond (d == 1 || d == 2) read (Err (BadVersion d))) ≡ Err fault → IsFaultOf bytes fault
-    by_magic false is f = magic_fault bytes fault (inr (λ magic. let no = sym is ∙ ap (λ (l : List ℕ). bytes_eq l (codes "CDF")) magic in absurd cc)) f
+        → cond (not same) (Err BadMagic) (cond (d == 1 || d == 2) read (Err (BadVersion d))) ≡ Err fault
+        → IsFaultOf bytes fault
+    by_magic false is f = magic_fault bytes fault
+        (inr (λ magic. let no = sym is ∙ ap (λ (l : List ℕ). bytes_eq l (codes "CDF")) magic in absurd cc)) f
     by_magic true is f = by_version (same_text (a ∷ b ∷ c ∷ []) (codes "CDF") (sym is)) (d == 1 || d == 2) refl f
 
 -- what settles the first fault of a header
-pub fault_is_settled : (bytes : List ℕ) (fault : HeaderFault) → header_or_fault bytes ≡ Err fault → IsFaultOf bytes fault
+pub fault_is_settled : (bytes : List ℕ) (fault : HeaderFault) → header_or_fault bytes ≡ Err fault
+    → IsFaultOf bytes fault
 fault_is_settled bytes fault e = elim (header_fails bytes fault (header_at-fault bytes fault e)) [
   | inl version ↦ version_fault bytes fault version
   | inr later ↦ after_version_fault bytes fault later

@@ -58,19 +58,22 @@ pub record Taken {A : Type 0} (p : HeaderParser A) (at : ℕ) (rest : List ℕ) 
   pub again : (other : List ℕ) → Agree count rest other → p (input at other) ≡ Ok (a, after count (input at other))
 
 -- the field at fault lies whole in the bytes, and all bytes with the same up to its end have the fault
-pub record IsWhole {A : Type 0} (p : HeaderParser A) (at : ℕ) (rest : List ℕ) (fault : HeaderFault) (count size : ℕ) : Type 0 where
+pub record IsWhole {A : Type 0} (p : HeaderParser A) (at : ℕ) (rest : List ℕ) (fault : HeaderFault)
+    (count size : ℕ) : Type 0 where
   pub within : count + size ≤ length rest
   pub stands : StandsAt fault (at + count)
   pub uncut : (n : ℕ) → IsCutLater n fault
   pub again : (other : List ℕ) → Agree (count + size) rest other → p (input at other) ≡ Err fault
 
--- the field at fault is cut short, as in all bytes with the same before it that end as early, and in none that end later
-pub record IsCut {A : Type 0} (p : HeaderParser A) (at : ℕ) (rest : List ℕ) (fault : HeaderFault) (count size : ℕ) : Type 0 where
+-- the field at fault is cut short, as in all bytes with the same before it that end as early, and in no longer ones
+pub record IsCut {A : Type 0} (p : HeaderParser A) (at : ℕ) (rest : List ℕ) (fault : HeaderFault)
+    (count size : ℕ) : Type 0 where
   pub within : count ≤ length rest
   pub short : length rest < count + size
   pub fault_is : IsCutAt (at + count) fault
   pub again : (other : List ℕ) → Agree count rest other → length other < count + size → p (input at other) ≡ Err fault
-  pub long : (other : List ℕ) → Agree count rest other → count + size ≤ length other → Beyond (at + (count + size)) (p (input at other))
+  pub long : (other : List ℕ) → Agree count rest other → count + size ≤ length other
+      → Beyond (at + (count + size)) (p (input at other))
 
 -- how reading failed: the bytes before the field at fault, and those of the field
 pub record Failed {A : Type 0} (p : HeaderParser A) (at : ℕ) (rest : List ℕ) (fault : HeaderFault) : Type 0 where
@@ -85,13 +88,15 @@ pub record Local {A : Type 0} (p : HeaderParser A) : Type 0 where
   pub forward : (at : ℕ) (rest : List ℕ) → Beyond at (p (input at rest))
 
 -- how a step after which others come went
-record Stepped {A B : Type 0} (r : Outcome A HeaderFault) (f : A → HeaderParser B) (y : Outcome B HeaderFault) : Type 0 where
+record Stepped {A B : Type 0} (r : Outcome A HeaderFault) (f : A → HeaderParser B)
+    (y : Outcome B HeaderFault) : Type 0 where
   a : A
   j : Input
   first : r ≡ Ok (a, j)
   second : f a j ≡ y
 
-stepped : {A B : Type 0} (r : Outcome A HeaderFault) (f : A → HeaderParser B) (y : Outcome B HeaderFault) → and_then r f ≡ y
+stepped : {A B : Type 0} (r : Outcome A HeaderFault) (f : A → HeaderParser B) (y : Outcome B HeaderFault)
+    → and_then r f ≡ y
     → ((fault : HeaderFault) × (r ≡ Err fault) × (y ≡ Err fault)) ⊎ Stepped r f y
 stepped (Ok x) f y e = inr (record { a = x.0; j = x.1; first = refl; second = e })
 stepped (Err fault) f y e = inl (fault, refl, sym e)
@@ -103,32 +108,37 @@ pub err_is : {A : Type 0} (x y : HeaderFault) → failed {A = A} x ≡ failed y 
 err_is x y e = cc
 
 -- what comes after a step is as far on as the step
-beyond_then : {A B : Type 0} (n : ℕ) (r : Outcome A HeaderFault) (q : A → HeaderParser B) → ((a : A) (at : ℕ) (rest : List ℕ) → Beyond at (q a (input at rest)))
+beyond_then : {A B : Type 0} (n : ℕ) (r : Outcome A HeaderFault) (q : A → HeaderParser B)
+    → ((a : A) (at : ℕ) (rest : List ℕ) → Beyond at (q a (input at rest)))
     → Beyond n r → Beyond n (and_then r q)
 beyond_then n (Ok x) q fq h = beyond_less n x.1.at (q x.0 x.1) h (fq x.0 x.1.at x.1.rest)
 beyond_then n (Err fault) q fq h = h
 
 -- a step that failed, in front of others
-pub then_fails : {A B : Type 0} (p : HeaderParser A) (q : A → HeaderParser B) → ((a : A) (at : ℕ) (rest : List ℕ) → Beyond at (q a (input at rest)))
+pub then_fails : {A B : Type 0} (p : HeaderParser A) (q : A → HeaderParser B)
+    → ((a : A) (at : ℕ) (rest : List ℕ) → Beyond at (q a (input at rest)))
     → (at : ℕ) (rest : List ℕ) (fault : HeaderFault) → Failed p at rest fault → Failed (p >>= q) at rest fault
 then_fails p q fq at rest fault f = record {
   count = f.count;
   size = f.size;
   some = f.some;
   why = elim f.why [
-    | inl w ↦ inl (record { within = w.within; stands = w.stands; uncut = w.uncut; again = λ other same. ap (λ r. and_then r q) (w.again other same) })
+    | inl w ↦ inl (record { within = w.within; stands = w.stands; uncut = w.uncut; again =
+        λ other same. ap (λ r. and_then r q) (w.again other same) })
     | inr c ↦ inr (record {
       within = c.within;
       short = c.short;
       fault_is = c.fault_is;
       again = λ other same ends. ap (λ r. and_then r q) (c.again other same ends);
-      long = λ other same goes_on. beyond_then (at + (f.count + f.size)) (p (input at other)) q fq (c.long other same goes_on);
+      long = λ other same goes_on. beyond_then (at + (f.count + f.size)) (p (input at other)) q fq
+          (c.long other same goes_on);
     })
   ];
 }
 
 -- a step after one that was taken
-after_takes : {A B : Type 0} (p : HeaderParser A) (q : A → HeaderParser B) (at : ℕ) (rest : List ℕ) (a : A) (j : Input) (b : B) (k : Input)
+after_takes : {A B : Type 0} (p : HeaderParser A) (q : A → HeaderParser B) (at : ℕ) (rest : List ℕ) (a : A) (j : Input)
+    (b : B) (k : Input)
     (t : Taken p at rest a j) → Taken (q a) (at + t.count) (drop t.count rest) b k → Taken (p >>= q) at rest b k
 after_takes {B = B} p q at rest a j b k t u = record {
   count = t.count + u.count;
@@ -137,10 +147,12 @@ after_takes {B = B} p q at rest a j b k t u = record {
   again = λ other same.
       let first = t.again other (agree_less t.count (t.count + u.count) rest other (omega arith) same) in
       let second = u.again (drop t.count other) (agree_drop t.count u.count rest other same) in
-      ap (λ r. and_then r q) first ∙ second ∙ ap (λ (i : Input). done {A = B × Input} (b, i)) (after_after t.count u.count at other);
+      ap (λ r. and_then r q) first ∙ second
+          ∙ ap (λ (i : Input). done {A = B × Input} (b, i)) (after_after t.count u.count at other);
 }
 
-pub after_fails : {A B : Type 0} (p : HeaderParser A) (q : A → HeaderParser B) (at : ℕ) (rest : List ℕ) (a : A) (j : Input) (fault : HeaderFault)
+pub after_fails : {A B : Type 0} (p : HeaderParser A) (q : A → HeaderParser B) (at : ℕ) (rest : List ℕ) (a : A)
+    (j : Input) (fault : HeaderFault)
     (t : Taken p at rest a j) → Failed (q a) (at + t.count) (drop t.count rest) fault → Failed (p >>= q) at rest fault
 after_fails p q at rest a j fault t f =
     let place : at + t.count + f.count ≡ at + (t.count + f.count) = omega arith in
@@ -155,8 +167,11 @@ after_fails p q at rest a j fault t f =
           stands = subst (λ (n : ℕ). StandsAt fault n) place w.stands;
           uncut = w.uncut;
           again = λ other same.
-              let first = t.again other (agree_less t.count (t.count + f.count + f.size) rest other (omega arith) same) in
-              let second = w.again (drop t.count other) (agree_drop t.count (f.count + f.size) rest other (subst (λ (n : ℕ). Agree n rest other) (sym sum) same)) in
+              let first = t.again other (agree_less t.count (t.count + f.count + f.size) rest other
+                  (omega arith) same) in
+              let second = w.again (drop t.count other)
+                  (agree_drop t.count (f.count + f.size) rest other
+                  (subst (λ (n : ℕ). Agree n rest other) (sym sum) same)) in
               ap (λ r. and_then r q) first ∙ second;
         })
         | inr c ↦ inr (record {
@@ -167,30 +182,38 @@ after_fails p q at rest a j fault t f =
               let first = t.again other (agree_less t.count (t.count + f.count) rest other (omega arith) same) in
               let some = f.some in
               let left : length (drop t.count other) < f.count + f.size = omega (arith, length-drop t.count other) in
-              ap (λ r. and_then r q) first ∙ c.again (drop t.count other) (agree_drop t.count f.count rest other same) left;
+              ap (λ r. and_then r q) first ∙ c.again (drop t.count other)
+                  (agree_drop t.count f.count rest other same) left;
           long = λ other same goes_on.
               let first = t.again other (agree_less t.count (t.count + f.count) rest other (omega arith) same) in
               let left : f.count + f.size ≤ length (drop t.count other) = omega (arith, length-drop t.count other) in
               let second = c.long (drop t.count other) (agree_drop t.count f.count rest other same) left in
               let end : at + t.count + (f.count + f.size) ≡ at + (t.count + f.count + f.size) = omega arith in
-              subst (λ r. Beyond (at + (t.count + f.count + f.size)) r) (sym (ap (λ r. and_then r q) first)) (subst (λ (n : ℕ). Beyond n (q a (input (at + t.count) (drop t.count other)))) end second);
+              subst (λ r. Beyond (at + (t.count + f.count + f.size)) r) (sym (ap (λ r. and_then r q) first))
+                  (subst (λ (n : ℕ). Beyond n (q a (input (at + t.count) (drop t.count other)))) end second);
         })
       ];
     }
 
-pub Local-then : {A B : Type 0} {p : HeaderParser A} {q : A → HeaderParser B} → Local p → ((a : A) → Local (q a)) → Local (p >>= q)
+pub Local-then : {A B : Type 0} {p : HeaderParser A} {q : A → HeaderParser B} → Local p → ((a : A) → Local (q a))
+    → Local (p >>= q)
 Local-then {A} {B} {p} {q} lp lq = record {
   takes = λ at rest b k e. elim (stepped (p (input at rest)) q (Ok (b, k)) e) [
     | inl bad ↦ let no = bad.2 in absurd cc
     | inr s ↦
         let t = lp.takes at rest s.a s.j s.first in
-        after_takes p q at rest s.a s.j b k t ((lq s.a).takes (at + t.count) (drop t.count rest) b k (subst (λ (i : Input). q s.a i ≡ Ok (b, k)) t.input_is s.second))
+        after_takes p q at rest s.a s.j b k t
+            ((lq s.a).takes (at + t.count) (drop t.count rest) b k
+            (subst (λ (i : Input). q s.a i ≡ Ok (b, k)) t.input_is s.second))
   ];
   fails = λ at rest fault e. elim (stepped (p (input at rest)) q (Err fault) e) [
-    | inl wrong ↦ subst (λ (x : HeaderFault). Failed (p >>= q) at rest x) (sym (err_is {A = B} fault wrong.0 wrong.2)) (then_fails p q forwards at rest wrong.0 (lp.fails at rest wrong.0 wrong.1))
+    | inl wrong ↦ subst (λ (x : HeaderFault). Failed (p >>= q) at rest x) (sym (err_is {A = B} fault wrong.0 wrong.2))
+        (then_fails p q forwards at rest wrong.0 (lp.fails at rest wrong.0 wrong.1))
     | inr s ↦
         let t = lp.takes at rest s.a s.j s.first in
-        after_fails p q at rest s.a s.j fault t ((lq s.a).fails (at + t.count) (drop t.count rest) fault (subst (λ (i : Input). q s.a i ≡ Err fault) t.input_is s.second))
+        after_fails p q at rest s.a s.j fault t
+            ((lq s.a).fails (at + t.count) (drop t.count rest) fault
+            (subst (λ (i : Input). q s.a i ≡ Err fault) t.input_is s.second))
   ];
   forward = λ at rest. beyond_then at (p (input at rest)) q forwards (lp.forward at rest);
 }

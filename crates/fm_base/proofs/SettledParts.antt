@@ -23,7 +23,8 @@ Local-word = Local-then (Local-field 4) (λ bytes. Local-pure _)
 
 Advances-word : Advances word
 unfolding word
-Advances-word = Advances-then (field 4) (λ bytes. pure (from_be_bytes w32 bytes)) (Advances-field 4 (omega arith)) (λ bytes. Local-pure (from_be_bytes w32 bytes))
+Advances-word = Advances-then (field 4) (λ bytes. pure (from_be_bytes w32 bytes)) (Advances-field 4 (omega arith))
+    (λ bytes. Local-pure (from_be_bytes w32 bytes))
 
 Local-long_word : Local long_word
 unfolding long_word
@@ -46,18 +47,22 @@ Local-padded len = Local-then (Local-field (padded_len len)) (λ bytes. Local-pu
 
 -- the tests of a name
 abbrev tested_name : List (List ℕ) → ℕ → List ℕ → HeaderParser (List ℕ)
-tested_name found at name = unless (not (is_name_text name)) (BadName at) name >>= λ text. unless (has_name found text) (RepeatedName at) text
+tested_name found at name = unless (not (is_name_text name)) (BadName at) name
+    >>= λ text. unless (has_name found text) (RepeatedName at) text
 
 Decides-name : (found : List (List ℕ)) (at : ℕ) (name : List ℕ) → Decides at (tested_name found at name)
-Decides-name found at name = Decides-then at _ _ (Decides-unless at (not (is_name_text name)) (BadName at) name (record { stands = refl; uncut = λ k. tt }))
+Decides-name found at name = Decides-then at _ _
+    (Decides-unless at (not (is_name_text name)) (BadName at) name (record { stands = refl; uncut = λ k. tt }))
     (λ text. Decides-unless at (has_name found text) (RepeatedName at) text (record { stands = refl; uncut = λ k. tt }))
 
 Local-name_at : (found : List (List ℕ)) → Local (name_at found)
 unfolding name_at
 Local-name_at found = Local-refit (λ at rest. joined (count (input at rest)) (tested_name found at))
-    (Local-tested {p = count >>= λ len. padded len} (tested_name found) (Local-then Local-count Local-padded) (Advances-then count padded Advances-count Local-padded) (Decides-name found))
+    (Local-tested {p = count >>= λ len. padded len} (tested_name found) (Local-then Local-count Local-padded)
+        (Advances-then count padded Advances-count Local-padded) (Decides-name found))
   where
-    joined : (r : Outcome ℕ HeaderFault) (f : List ℕ → HeaderParser (List ℕ)) → and_then (and_then r (λ len. padded len)) f ≡ and_then r (λ len. padded len >>= f)
+    joined : (r : Outcome ℕ HeaderFault) (f : List ℕ → HeaderParser (List ℕ))
+        → and_then (and_then r (λ len. padded len)) f ≡ and_then r (λ len. padded len >>= f)
     joined (Ok x) f = refl
     joined (Err fault) f = refl
 
@@ -66,28 +71,34 @@ unfolding kind_at
 Local-kind_at = Local-tested (λ at code. known (BadType at) (kind_of code)) Local-word Advances-word
     (λ at code. Decides-known at (BadType at) (kind_of code) (record { stands = refl; uncut = λ k. tt }))
 
-Local-items_from : {A : Type 0} (item : List A → HeaderParser A) → ((found : List A) → Local (item found)) → (n : ℕ) (found : List A) → Local (items_from item n found)
+Local-items_from : {A : Type 0} (item : List A → HeaderParser A) → ((found : List A) → Local (item found))
+    → (n : ℕ) (found : List A) → Local (items_from item n found)
 unfolding items_from
 Local-items_from item li zero found = Local-pure found
 Local-items_from item li (suc n) found = Local-then (li found) (λ next. Local-items_from item li n (found ++ next ∷ []))
 
 Local-tag_at : (tag : ℕ) → Local (tag_at tag)
 unfolding tag_at
-Local-tag_at tag = Local-tested (λ at found. unless (not (found == tag || found == 0)) (BadTag at) found) Local-word Advances-word
+Local-tag_at tag = Local-tested
+    (λ at found. unless (not (found == tag || found == 0)) (BadTag at) found) Local-word Advances-word
     (λ at found. Decides-unless at _ (BadTag at) found (record { stands = refl; uncut = λ k. tt }))
 
 Local-list_count : (tag : ℕ) → Local (list_count tag)
 unfolding list_count
-Local-list_count tag = Local-tested (λ at n. unless (nat_le (2 ^ 31) n || (tag == 0 && not (n == 0))) (BadCount at) n) Local-word Advances-word
+Local-list_count tag = Local-tested
+    (λ at n. unless (nat_le (2 ^ 31) n || (tag == 0 && not (n == 0))) (BadCount at) n) Local-word Advances-word
     (λ at n. Decides-unless at _ (BadCount at) n (record { stands = refl; uncut = λ k. tt }))
 
-Local-list_at : {A : Type 0} (tag : ℕ) (item : List A → HeaderParser A) → ((found : List A) → Local (item found)) → Local (list_at tag item)
+Local-list_at : {A : Type 0} (tag : ℕ) (item : List A → HeaderParser A) → ((found : List A) → Local (item found))
+    → Local (list_at tag item)
 unfolding list_at
-Local-list_at tag item li = Local-then (Local-tag_at tag) (λ found. Local-then (Local-list_count found) (λ n. Local-items_from item li n []))
+Local-list_at tag item li = Local-then (Local-tag_at tag)
+    (λ found. Local-then (Local-list_count found) (λ n. Local-items_from item li n []))
 
 Local-dim_size : (found : List Dim) → Local (dim_size found)
 unfolding dim_size
-Local-dim_size found = Local-tested (λ at size. unless (size == 0 && has_record found) (TwoRecordDims at) size) Local-count Advances-count
+Local-dim_size found = Local-tested
+    (λ at size. unless (size == 0 && has_record found) (TwoRecordDims at) size) Local-count Advances-count
     (λ at size. Decides-unless at _ (TwoRecordDims at) size (record { stands = refl; uncut = λ k. tt }))
 
 Local-dim_at : (found : List Dim) → Local (dim_at found)
@@ -96,7 +107,9 @@ Local-dim_at found = Local-then (Local-name_at _) (λ name. Local-then (Local-di
 
 Local-attr_at : (found : List Attr) → Local (attr_at found)
 unfolding attr_at
-Local-attr_at found = Local-then (Local-name_at _) (λ name. Local-then Local-kind_at (λ kind. Local-then Local-count (λ n. Local-then (Local-padded (n * size_of kind)) (λ values. Local-pure _))))
+Local-attr_at found = Local-then (Local-name_at _)
+    (λ name. Local-then Local-kind_at
+    (λ kind. Local-then Local-count (λ n. Local-then (Local-padded (n * size_of kind)) (λ values. Local-pure _))))
 
 Local-rank_at : Local rank_at
 unfolding rank_at
@@ -105,12 +118,14 @@ Local-rank_at = Local-tested (λ at rank. unless (nat_lt MAX_RANK rank) (BadCoun
 
 -- the tests of the number of a dimension
 abbrev tested_id : List Dim → List ℕ → ℕ → ℕ → HeaderParser ℕ
-tested_id dims found at id = unless (nat_le (length dims) id) (BadDimId at) id >>= λ id. unless (not (length found == 0) && names_record dims id) (RecordNotFirst at) id
+tested_id dims found at id = unless (nat_le (length dims) id) (BadDimId at) id
+    >>= λ id. unless (not (length found == 0) && names_record dims id) (RecordNotFirst at) id
 
 Local-dim_id_at : (dims : List Dim) (found : List ℕ) → Local (dim_id_at dims found)
 unfolding dim_id_at
 Local-dim_id_at dims found = Local-tested (tested_id dims found) Local-word Advances-word
-    (λ at id. Decides-then at _ _ (Decides-unless at (nat_le (length dims) id) (BadDimId at) id (record { stands = refl; uncut = λ k. tt }))
+    (λ at id. Decides-then at _ _
+        (Decides-unless at (nat_le (length dims) id) (BadDimId at) id (record { stands = refl; uncut = λ k. tt }))
     (λ id. Decides-unless at _ (RecordNotFirst at) id (record { stands = refl; uncut = λ k. tt })))
 
 Local-begin_at : (version : ℕ) → Local (begin_at version)
@@ -124,14 +139,19 @@ Local-begin_at version = by_version (version == 1)
 Local-var_at : (version : ℕ) (dims : List Dim) (found : List NcVar) → Local (var_at version dims found)
 unfolding var_at
 Local-var_at version dims found =
-    Local-then (Local-name_at _) (λ name. Local-then Local-rank_at (λ rank. Local-then (Local-items_from (dim_id_at dims) (Local-dim_id_at dims) rank [])
-    (λ ids. Local-then (Local-list_at ATTRIBUTE_TAG attr_at Local-attr_at) (λ attrs. Local-then Local-kind_at (λ kind. Local-then (Local-field 4)
+    Local-then (Local-name_at _) (λ name. Local-then Local-rank_at
+        (λ rank. Local-then (Local-items_from (dim_id_at dims) (Local-dim_id_at dims) rank [])
+    (λ ids. Local-then (Local-list_at ATTRIBUTE_TAG attr_at Local-attr_at)
+        (λ attrs. Local-then Local-kind_at (λ kind. Local-then (Local-field 4)
     (λ size. Local-then (Local-begin_at version) (λ begin. Local-pure _)))))))
 
 Local-numrecs_at : Local numrecs_at
 unfolding numrecs_at
-Local-numrecs_at = Local-tested (λ at n. unless (n == STREAMING_COUNT) Streaming n >>= λ n. unless (nat_le (2 ^ 31) n) (BadCount at) n) Local-word Advances-word
-    (λ at n. Decides-then at _ _ (Decides-unless at (n == STREAMING_COUNT) Streaming n (record { stands = tt; uncut = λ k. tt })) (Decides-count at))
+Local-numrecs_at = Local-tested
+    (λ at n. unless (n == STREAMING_COUNT) Streaming n
+    >>= λ n. unless (nat_le (2 ^ 31) n) (BadCount at) n) Local-word Advances-word
+    (λ at n. Decides-then at _ _ (Decides-unless at (n == STREAMING_COUNT) Streaming n
+        (record { stands = tt; uncut = λ k. tt })) (Decides-count at))
 
 -- the fields after the version
 abbrev pub after_version : ℕ → HeaderParser Header
@@ -144,5 +164,7 @@ after_version version = do
 
 pub Local-after_version : (version : ℕ) → Local (after_version version)
 Local-after_version version = Local-then Local-numrecs_at
-    (λ numrecs. Local-then (Local-list_at DIMENSION_TAG dim_at Local-dim_at) (λ dims. Local-then (Local-list_at ATTRIBUTE_TAG attr_at Local-attr_at)
-    (λ attrs. Local-then (Local-list_at VARIABLE_TAG (var_at version dims) (Local-var_at version dims)) (λ vars. Local-pure _))))
+    (λ numrecs. Local-then (Local-list_at DIMENSION_TAG dim_at Local-dim_at)
+        (λ dims. Local-then (Local-list_at ATTRIBUTE_TAG attr_at Local-attr_at)
+    (λ attrs. Local-then (Local-list_at VARIABLE_TAG (var_at version dims) (Local-var_at version dims))
+        (λ vars. Local-pure _))))

@@ -29,8 +29,10 @@ pub record IsSettled (bytes : List ℕ) (fault : HeaderFault) : Type 0 where
   pub some : 0 < size
   pub within : place + size ≤ length bytes
   pub stands : StandsAt fault place
-  pub same : (other : List ℕ) → take (place + size) other ≡ take (place + size) bytes → header_or_fault other ≡ Err fault
-  pub none : (other : List ℕ) → take (place + size) other ≡ take (place + size) bytes → (header : Header) → ¬ HeaderOf other header
+  pub same : (other : List ℕ) → take (place + size) other ≡ take (place + size) bytes
+      → header_or_fault other ≡ Err fault
+  pub none : (other : List ℕ) → take (place + size) other ≡ take (place + size) bytes → (header : Header)
+      → ¬ HeaderOf other header
 
 -- a field that begins at this place doesn't lie whole in the bytes: bytes with the same before it have this fault
 -- exactly where they end before the field does
@@ -38,8 +40,10 @@ pub record IsPastEnd (bytes : List ℕ) (place : ℕ) : Type 0 where
   pub size : ℕ
   pub within : place ≤ length bytes
   pub short : length bytes < place + size
-  pub same : (other : List ℕ) → take place other ≡ take place bytes → length other < place + size → header_or_fault other ≡ Err (Truncated place)
-  pub long : (other : List ℕ) → take place other ≡ take place bytes → place + size ≤ length other → header_or_fault other ≢ Err (Truncated place)
+  pub same : (other : List ℕ) → take place other ≡ take place bytes → length other < place + size
+      → header_or_fault other ≡ Err (Truncated place)
+  pub long : (other : List ℕ) → take place other ≡ take place bytes → place + size ≤ length other
+      → header_or_fault other ≢ Err (Truncated place)
 
 -- the bytes begin with `CDF` and this byte, which is no version
 pub record HasBadVersion (bytes : List ℕ) (version : ℕ) : Type 0 where
