@@ -1,17 +1,20 @@
--- The first fault of a header is settled by the bytes up to the end of its field.
+-- The first fault of a header is settled by the bytes up to the end of its field, and a header goes on up to there.
 use Rattle.std.proofs.Common.{◌≡◌, ◌≢◌, ◌⊎◌, inl, inr, ℕ, ◌+◌, ◌<◌, ◌≤◌, Bool, true, false, cond, not, ◌||◌, ◌==◌, nat_lt, List, [], ◌∷◌, ◌++◌, length, take, drop, get_or, codes, Result, Ok, Err, refl, sym, ap, ap₂, subst, ◌∙◌, length-append, take-append-drop, arith}
 use Rattle.std.specs.Str.{bytes_eq}
 use Rattle.std.specs.Cmp.Lexicographic.{same_text}
 use Rattle.std.proofs.lemmas.Bool.{le-ltb, or_parts, eqb-false}
 use Rattle.std.proofs.lemmas.List.{take_at, drop_at}
 use Rattle.fm_base.specs.declared.fault.HeaderFault.{HeaderFault}
-use Rattle.fm_base.specs.declared.fault.HeaderFault.TheVariants.{BadMagic, BadVersion, Truncated, Streaming}
+use Rattle.fm_base.specs.declared.fault.HeaderFault.TheVariants.{BadMagic, BadVersion, Truncated, BadTag, BadCount, BadName, BadType, BadDimId, TwoRecordDims, RecordNotFirst, RepeatedName, Streaming}
 use Rattle.fm_base.specs.declared.header.Header.{Header}
-use Rattle.fm_base.specs.FaultPlaces.{StandsAt, IsSettled, IsPastEnd, IsFaultOf}
+use Rattle.fm_base.specs.FaultPlaces.{StandsAt, IsSettled, IsPastEnd, Begins, IsFaultAt, IsFaultOf}
+use Rattle.fm_base.specs.Format.{IsBytes}
 use Rattle.fm_base.specs.Input.{Input, whole}
 use Rattle.fm_base.specs.Parser.{Outcome, and_then, value_of}
 use Rattle.fm_base.specs.Reading.{HeaderParser, version_at, header_at, header_or_fault}
-use Rattle.fm_base.specs.Spelling.{HeaderOf}
+use Rattle.fm_base.specs.Spelling.{SpellsHeader, HeaderOf}
+use Rattle.fm_base.proofs.Begun.{Begun}
+use Rattle.fm_base.proofs.BegunHeader.{header_begun}
 use Rattle.fm_base.proofs.Exact.{input, Exact, Anything}
 use Rattle.fm_base.proofs.HeaderLaws.{read-from_HeaderOf}
 use Rattle.fm_base.proofs.HeaderParts.{Exact-version_at}
@@ -113,11 +116,39 @@ past_end bytes place f = elim f.why [
       }
 ]
 
-after_version_fault : (bytes : List ℕ) (fault : HeaderFault) → Failed header_at 0 bytes fault → IsFaultOf bytes fault
-after_version_fault bytes BadMagic f = absurd (elim f.why [ | inl w ↦ w.stands | inr c ↦ c.fault_is ])
-after_version_fault bytes (BadVersion version) f = absurd (elim f.why [ | inl w ↦ w.stands | inr c ↦ c.fault_is ])
-after_version_fault bytes (Truncated place) f = past_end bytes place f
-after_version_fault bytes fault f = settled bytes fault f (λ n cut. cut)
+-- what stands before the field at fault begins a header
+begins_at : (bytes : List ℕ) (fault : HeaderFault) (place : ℕ) (b : Begun SpellsHeader 0 bytes fault)
+    → place ≡ 0 + b.count → Begins bytes place
+begins_at bytes fault place b here =
+    let same : place ≡ b.count = omega arith in
+    record {
+      text = b.some.text;
+      header = b.some.a;
+      spelled = b.some.spelled;
+      within = let within = b.within in omega arith;
+      same = subst (λ (n : ℕ). take n bytes ≡ take n b.some.text) (sym same) b.same;
+    }
+
+-- a field after the version that is at fault, at this place
+field_fault : (bytes : List ℕ) (fault : HeaderFault) (place : ℕ) (b : Begun SpellsHeader 0 bytes fault)
+    → place ≡ 0 + b.count
+    → Failed header_at 0 bytes fault → ((n : ℕ) → IsCutAt n fault → ⊥) → IsFaultAt bytes fault place
+field_fault bytes fault place b here f uncut = (begins_at bytes fault place b here, settled bytes fault f uncut)
+
+after_version_fault : (bytes : List ℕ) (fault : HeaderFault) → Begun SpellsHeader 0 bytes fault
+    → Failed header_at 0 bytes fault → IsFaultOf bytes fault
+after_version_fault bytes BadMagic b f = absurd b.stands
+after_version_fault bytes (BadVersion version) b f = absurd b.stands
+after_version_fault bytes (Truncated at) b f = (begins_at bytes (Truncated at) at b b.stands, past_end bytes at f)
+after_version_fault bytes (BadTag at) b f = field_fault bytes (BadTag at) at b b.stands f (λ n cut. cut)
+after_version_fault bytes (BadCount at) b f = field_fault bytes (BadCount at) at b b.stands f (λ n cut. cut)
+after_version_fault bytes (BadName at) b f = field_fault bytes (BadName at) at b b.stands f (λ n cut. cut)
+after_version_fault bytes (BadType at) b f = field_fault bytes (BadType at) at b b.stands f (λ n cut. cut)
+after_version_fault bytes (BadDimId at) b f = field_fault bytes (BadDimId at) at b b.stands f (λ n cut. cut)
+after_version_fault bytes (TwoRecordDims at) b f = field_fault bytes (TwoRecordDims at) at b b.stands f (λ n cut. cut)
+after_version_fault bytes (RecordNotFirst at) b f = field_fault bytes (RecordNotFirst at) at b b.stands f (λ n cut. cut)
+after_version_fault bytes (RepeatedName at) b f = field_fault bytes (RepeatedName at) at b b.stands f (λ n cut. cut)
+after_version_fault bytes Streaming b f = settled bytes Streaming f (λ n cut. cut)
 
 -- a version that is none, or no magic
 magic_fault : (bytes : List ℕ) (fault : HeaderFault) → IsFaultOf bytes BadMagic → failed {A = ℕ} BadMagic ≡ Err fault
@@ -156,11 +187,14 @@ version_fault (a ∷ b ∷ c ∷ d ∷ rest) fault e =
     by_magic true is f = by_version (same_text (a ∷ b ∷ c ∷ []) (codes "CDF") (sym is)) (d == 1 || d == 2) refl f
 
 -- what settles the first fault of a header
-pub fault_is_settled : (bytes : List ℕ) (fault : HeaderFault) → header_or_fault bytes ≡ Err fault
+pub fault_is_settled : (bytes : List ℕ) (fault : HeaderFault) → IsBytes bytes → header_or_fault bytes ≡ Err fault
     → IsFaultOf bytes fault
-fault_is_settled bytes fault e = elim (header_fails bytes fault (header_at-fault bytes fault e)) [
+fault_is_settled bytes fault fits e = let read = header_at-fault bytes fault e in elim (header_fails bytes fault read) [
   | inl version ↦ version_fault bytes fault version
-  | inr later ↦ after_version_fault bytes fault later
+  | inr later ↦ elim (header_begun bytes fault fits read) [
+    | inl version ↦ version_fault bytes fault version
+    | inr begun ↦ after_version_fault bytes fault begun later
+  ]
 ]
 
 pub ruleset fault_laws = (fault_is_settled)

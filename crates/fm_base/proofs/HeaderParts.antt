@@ -88,7 +88,7 @@ Exact-version_at = record {
       (version_again at rest n s.known);
 }
 
-Exact-numrecs_at : ExactBytes SpellsCount numrecs_at
+pub Exact-numrecs_at : ExactBytes SpellsCount numrecs_at
 unfolding numrecs_at
 Exact-numrecs_at = ExactBytes-as
     (Such SpellsWord (λ n. ((n == STREAMING_COUNT) ≡ false) × (nat_le (2 ^ 31) n ≡ false))) SpellsCount numrecs_at
@@ -98,7 +98,7 @@ Exact-numrecs_at = ExactBytes-as
     (Exact-located (λ at. ExactBytes-unless_both SpellsWord (λ n. n == STREAMING_COUNT)
         (λ n. nat_le (2 ^ 31) n) Streaming (BadCount at) word Exact-word))
 
-abbrev header_of : ℕ → ℕ → List Dim → List Attr → List NcVar → Header
+abbrev pub header_of : ℕ → ℕ → List Dim → List Attr → List NcVar → Header
 header_of version numrecs dims attrs vars =
     record { version = version; numrecs = numrecs; dims = dims; attrs = attrs; vars = vars }
 
@@ -186,11 +186,11 @@ header_read text header s =
       text_is = simp append_assoc at t.text_is;
     }
 
-Exact-dims_at : ExactBytes (Such (SpellsList DIMENSION_TAG SpellsDim) (EachFrom DimAfter []))
+pub Exact-dims_at : ExactBytes (Such (SpellsList DIMENSION_TAG SpellsDim) (EachFrom DimAfter []))
     (list_at DIMENSION_TAG dim_at)
 Exact-dims_at = Exact-list_at DIMENSION_TAG SpellsDim DimAfter dim_at (omega arith) (omega arith) Exact-dim_at
 
-Exact-vars_at : (version : ℕ) → (version ≡ 1) ⊎ (version ≡ 2) → (dims : List Dim)
+pub Exact-vars_at : (version : ℕ) → (version ≡ 1) ⊎ (version ≡ 2) → (dims : List Dim)
     → ExactBytes (Such (SpellsList VARIABLE_TAG (SpellsVar version)) (EachFrom (VarAfter dims) []))
     (list_at VARIABLE_TAG (var_at version dims))
 Exact-vars_at version known dims =

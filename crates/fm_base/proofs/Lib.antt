@@ -1,3 +1,7 @@
+pub mod Begun
+pub mod BegunFields
+pub mod BegunHeader
+pub mod BegunParts
 pub mod ChainLemmas
 pub mod Distinct
 pub mod Exact

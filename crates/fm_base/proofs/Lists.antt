@@ -123,10 +123,10 @@ Exact-list_count tag = ExactBytes-as (Such SpellsWord (λ n. is_no_list_count ta
     (Exact-tested (is_no_list_count tag) BadCount)
 
 -- a list as it is read: the tag that was found, a count, and the items
-abbrev ListAsRead : {A : Type 0} → ℕ → (List ℕ → A → Type 0) → (List A → A → Type 0) → List ℕ → List A → Type 0
+abbrev pub ListAsRead : {A : Type 0} → ℕ → (List ℕ → A → Type 0) → (List A → A → Type 0) → List ℕ → List A → Type 0
 ListAsRead tag S P = Then (SpellsTag tag) (λ found. Then (SpellsListCount found) (λ n. Adds S P [] n))
 
-list_spelled : {A : Type 0} (tag : ℕ) (S : List ℕ → A → Type 0) (P : List A → A → Type 0) (text : List ℕ)
+pub list_spelled : {A : Type 0} (tag : ℕ) (S : List ℕ → A → Type 0) (P : List A → A → Type 0) (text : List ℕ)
     (items : List A)
     → ListAsRead tag S P text items → SpellsList tag S text items
 list_spelled {A} tag S P text items s =

@@ -29,7 +29,7 @@ name_of_dim dim = dim.name
 abbrev pub DimAfter : List Dim → Dim → Type 0
 DimAfter found dim = IsFresh name_of_dim found dim × IsOnlyRecord found dim
 
-abbrev dim_of : List ℕ → ℕ → Dim
+abbrev pub dim_of : List ℕ → ℕ → Dim
 dim_of name size = record { name = name; size = size }
 
 abbrev DimAsRead : List Dim → List ℕ → Dim → Type 0
@@ -63,7 +63,7 @@ Exact-dim_at found = ExactBytes-as (DimAsRead found) (Such SpellsDim (DimAfter f
 abbrev pub name_of_attr : Attr → List ℕ
 name_of_attr attr = attr.name
 
-abbrev attr_of : List ℕ → Kind → List ℕ → Attr
+abbrev pub attr_of : List ℕ → Kind → List ℕ → Attr
 attr_of name kind values = record { name = name; kind = kind; values = values }
 
 abbrev AttrAsRead : List Attr → List ℕ → Attr → Type 0
@@ -142,10 +142,10 @@ Exact-rank_at = ExactBytes-as (Such SpellsWord (λ n. nat_lt MAX_RANK n ≡ fals
     (Exact-tested (λ n. nat_lt MAX_RANK n) BadCount)
 
 -- the number of a dimension that is there, and not that of the record dimension where others stand before it
-abbrev IdAfter : List Dim → List ℕ → ℕ → Type 0
+abbrev pub IdAfter : List Dim → List ℕ → ℕ → Type 0
 IdAfter dims found id = (id < length dims) × IsRecordFirst dims found id
 
-Exact-dim_id_at : (dims : List Dim) (found : List ℕ)
+pub Exact-dim_id_at : (dims : List Dim) (found : List ℕ)
     → ExactBytes (Such SpellsWord (IdAfter dims found)) (dim_id_at dims found)
 unfolding dim_id_at
 Exact-dim_id_at dims found = ExactBytes-as

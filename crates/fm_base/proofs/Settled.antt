@@ -88,14 +88,14 @@ pub record Local {A : Type 0} (p : HeaderParser A) : Type 0 where
   pub forward : (at : ℕ) (rest : List ℕ) → Beyond at (p (input at rest))
 
 -- how a step after which others come went
-record Stepped {A B : Type 0} (r : Outcome A HeaderFault) (f : A → HeaderParser B)
+pub record Stepped {A B : Type 0} (r : Outcome A HeaderFault) (f : A → HeaderParser B)
     (y : Outcome B HeaderFault) : Type 0 where
-  a : A
-  j : Input
-  first : r ≡ Ok (a, j)
-  second : f a j ≡ y
+  pub a : A
+  pub j : Input
+  pub first : r ≡ Ok (a, j)
+  pub second : f a j ≡ y
 
-stepped : {A B : Type 0} (r : Outcome A HeaderFault) (f : A → HeaderParser B) (y : Outcome B HeaderFault)
+pub stepped : {A B : Type 0} (r : Outcome A HeaderFault) (f : A → HeaderParser B) (y : Outcome B HeaderFault)
     → and_then r f ≡ y
     → ((fault : HeaderFault) × (r ≡ Err fault) × (y ≡ Err fault)) ⊎ Stepped r f y
 stepped (Ok x) f y e = inr (record { a = x.0; j = x.1; first = refl; second = e })

@@ -30,7 +30,7 @@ Local-long_word : Local long_word
 unfolding long_word
 Local-long_word = Local-then (Local-field 8) (λ bytes. Local-pure _)
 
-Decides-count : (at n : ℕ) → Decides at (unless (nat_le (2 ^ 31) n) (BadCount at) n)
+pub Decides-count : (at n : ℕ) → Decides at (unless (nat_le (2 ^ 31) n) (BadCount at) n)
 Decides-count at n = Decides-unless at (nat_le (2 ^ 31) n) (BadCount at) n (record { stands = refl; uncut = λ k. tt })
 
 Local-count : Local count
@@ -46,11 +46,11 @@ unfolding padded
 Local-padded len = Local-then (Local-field (padded_len len)) (λ bytes. Local-pure _)
 
 -- the tests of a name
-abbrev tested_name : List (List ℕ) → ℕ → List ℕ → HeaderParser (List ℕ)
+abbrev pub tested_name : List (List ℕ) → ℕ → List ℕ → HeaderParser (List ℕ)
 tested_name found at name = unless (not (is_name_text name)) (BadName at) name
     >>= λ text. unless (has_name found text) (RepeatedName at) text
 
-Decides-name : (found : List (List ℕ)) (at : ℕ) (name : List ℕ) → Decides at (tested_name found at name)
+pub Decides-name : (found : List (List ℕ)) (at : ℕ) (name : List ℕ) → Decides at (tested_name found at name)
 Decides-name found at name = Decides-then at _ _
     (Decides-unless at (not (is_name_text name)) (BadName at) name (record { stands = refl; uncut = λ k. tt }))
     (λ text. Decides-unless at (has_name found text) (RepeatedName at) text (record { stands = refl; uncut = λ k. tt }))
@@ -66,10 +66,12 @@ Local-name_at found = Local-refit (λ at rest. joined (count (input at rest)) (t
     joined (Ok x) f = refl
     joined (Err fault) f = refl
 
+pub Decides-kind : (at code : ℕ) → Decides at (known (BadType at) (kind_of code))
+Decides-kind at code = Decides-known at (BadType at) (kind_of code) (record { stands = refl; uncut = λ k. tt })
+
 Local-kind_at : Local kind_at
 unfolding kind_at
-Local-kind_at = Local-tested (λ at code. known (BadType at) (kind_of code)) Local-word Advances-word
-    (λ at code. Decides-known at (BadType at) (kind_of code) (record { stands = refl; uncut = λ k. tt }))
+Local-kind_at = Local-tested (λ at code. known (BadType at) (kind_of code)) Local-word Advances-word Decides-kind
 
 Local-items_from : {A : Type 0} (item : List A → HeaderParser A) → ((found : List A) → Local (item found))
     → (n : ℕ) (found : List A) → Local (items_from item n found)
@@ -77,17 +79,27 @@ unfolding items_from
 Local-items_from item li zero found = Local-pure found
 Local-items_from item li (suc n) found = Local-then (li found) (λ next. Local-items_from item li n (found ++ next ∷ []))
 
+pub Decides-tag : (tag at found : ℕ) → Decides at (unless (not (found == tag || found == 0)) (BadTag at) found)
+Decides-tag tag at found =
+    Decides-unless at (not (found == tag || found == 0)) (BadTag at) found (record { stands = refl; uncut = λ k. tt })
+
 Local-tag_at : (tag : ℕ) → Local (tag_at tag)
 unfolding tag_at
 Local-tag_at tag = Local-tested
     (λ at found. unless (not (found == tag || found == 0)) (BadTag at) found) Local-word Advances-word
-    (λ at found. Decides-unless at _ (BadTag at) found (record { stands = refl; uncut = λ k. tt }))
+    (Decides-tag tag)
+
+pub Decides-list_count : (tag at n : ℕ)
+    → Decides at (unless (nat_le (2 ^ 31) n || (tag == 0 && not (n == 0))) (BadCount at) n)
+Decides-list_count tag at n =
+    Decides-unless at (nat_le (2 ^ 31) n || (tag == 0 && not (n == 0))) (BadCount at) n
+      (record { stands = refl; uncut = λ k. tt })
 
 Local-list_count : (tag : ℕ) → Local (list_count tag)
 unfolding list_count
 Local-list_count tag = Local-tested
     (λ at n. unless (nat_le (2 ^ 31) n || (tag == 0 && not (n == 0))) (BadCount at) n) Local-word Advances-word
-    (λ at n. Decides-unless at _ (BadCount at) n (record { stands = refl; uncut = λ k. tt }))
+    (Decides-list_count tag)
 
 Local-list_at : {A : Type 0} (tag : ℕ) (item : List A → HeaderParser A) → ((found : List A) → Local (item found))
     → Local (list_at tag item)
@@ -95,11 +107,16 @@ unfolding list_at
 Local-list_at tag item li = Local-then (Local-tag_at tag)
     (λ found. Local-then (Local-list_count found) (λ n. Local-items_from item li n []))
 
+pub Decides-size : (found : List Dim) (at size : ℕ)
+    → Decides at (unless (size == 0 && has_record found) (TwoRecordDims at) size)
+Decides-size found at size = Decides-unless at (size == 0 && has_record found) (TwoRecordDims at) size
+    (record { stands = refl; uncut = λ k. tt })
+
 Local-dim_size : (found : List Dim) → Local (dim_size found)
 unfolding dim_size
 Local-dim_size found = Local-tested
     (λ at size. unless (size == 0 && has_record found) (TwoRecordDims at) size) Local-count Advances-count
-    (λ at size. Decides-unless at _ (TwoRecordDims at) size (record { stands = refl; uncut = λ k. tt }))
+    (Decides-size found)
 
 Local-dim_at : (found : List Dim) → Local (dim_at found)
 unfolding dim_at
@@ -111,22 +128,28 @@ Local-attr_at found = Local-then (Local-name_at _)
     (λ name. Local-then Local-kind_at
     (λ kind. Local-then Local-count (λ n. Local-then (Local-padded (n * size_of kind)) (λ values. Local-pure _))))
 
+pub Decides-rank : (at rank : ℕ) → Decides at (unless (nat_lt MAX_RANK rank) (BadCount at) rank)
+Decides-rank at rank = Decides-unless at (nat_lt MAX_RANK rank) (BadCount at) rank
+    (record { stands = refl; uncut = λ k. tt })
+
 Local-rank_at : Local rank_at
 unfolding rank_at
 Local-rank_at = Local-tested (λ at rank. unless (nat_lt MAX_RANK rank) (BadCount at) rank) Local-word Advances-word
-    (λ at rank. Decides-unless at _ (BadCount at) rank (record { stands = refl; uncut = λ k. tt }))
+    Decides-rank
 
 -- the tests of the number of a dimension
-abbrev tested_id : List Dim → List ℕ → ℕ → ℕ → HeaderParser ℕ
+abbrev pub tested_id : List Dim → List ℕ → ℕ → ℕ → HeaderParser ℕ
 tested_id dims found at id = unless (nat_le (length dims) id) (BadDimId at) id
     >>= λ id. unless (not (length found == 0) && names_record dims id) (RecordNotFirst at) id
 
+pub Decides-id : (dims : List Dim) (found : List ℕ) (at id : ℕ) → Decides at (tested_id dims found at id)
+Decides-id dims found at id =
+    Decides-then at _ _ (Decides-unless at (nat_le (length dims) id) (BadDimId at) id (record { stands = refl; uncut = λ k. tt }))
+    (λ id. Decides-unless at _ (RecordNotFirst at) id (record { stands = refl; uncut = λ k. tt }))
+
 Local-dim_id_at : (dims : List Dim) (found : List ℕ) → Local (dim_id_at dims found)
 unfolding dim_id_at
-Local-dim_id_at dims found = Local-tested (tested_id dims found) Local-word Advances-word
-    (λ at id. Decides-then at _ _
-        (Decides-unless at (nat_le (length dims) id) (BadDimId at) id (record { stands = refl; uncut = λ k. tt }))
-    (λ id. Decides-unless at _ (RecordNotFirst at) id (record { stands = refl; uncut = λ k. tt })))
+Local-dim_id_at dims found = Local-tested (tested_id dims found) Local-word Advances-word (Decides-id dims found)
 
 Local-begin_at : (version : ℕ) → Local (begin_at version)
 unfolding begin_at
@@ -145,13 +168,18 @@ Local-var_at version dims found =
         (λ attrs. Local-then Local-kind_at (λ kind. Local-then (Local-field 4)
     (λ size. Local-then (Local-begin_at version) (λ begin. Local-pure _)))))))
 
+-- the tests of the number of records
+abbrev pub tested_numrecs : ℕ → ℕ → HeaderParser ℕ
+tested_numrecs at n = unless (n == STREAMING_COUNT) Streaming n >>= λ n. unless (nat_le (2 ^ 31) n) (BadCount at) n
+
+pub Decides-numrecs : (at n : ℕ) → Decides at (tested_numrecs at n)
+Decides-numrecs at n =
+    Decides-then at _ _ (Decides-unless at (n == STREAMING_COUNT) Streaming n (record { stands = tt; uncut = λ k. tt }))
+      (Decides-count at)
+
 Local-numrecs_at : Local numrecs_at
 unfolding numrecs_at
-Local-numrecs_at = Local-tested
-    (λ at n. unless (n == STREAMING_COUNT) Streaming n
-    >>= λ n. unless (nat_le (2 ^ 31) n) (BadCount at) n) Local-word Advances-word
-    (λ at n. Decides-then at _ _ (Decides-unless at (n == STREAMING_COUNT) Streaming n
-        (record { stands = tt; uncut = λ k. tt })) (Decides-count at))
+Local-numrecs_at = Local-tested tested_numrecs Local-word Advances-word Decides-numrecs
 
 -- the fields after the version
 abbrev pub after_version : ℕ → HeaderParser Header

@@ -26,7 +26,7 @@ IsBytes-front xs ys h i =
       | inr le ↦ rw (get_or_past xs i 0 le) (omega arith)
     ]
 
-IsOfParts-bytes : IsOfParts IsBytes
+pub IsOfParts-bytes : IsOfParts IsBytes
 IsOfParts-bytes = record {
   front = IsBytes-front;
   back = λ xs ys h. subst IsBytes (drop_at xs ys (length xs) refl) (IsBytes-drop (length xs) (xs ++ ys) h);

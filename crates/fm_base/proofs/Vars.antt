@@ -22,7 +22,7 @@ name_of_var var = var.name
 abbrev pub VarAfter : List Dim → List NcVar → NcVar → Type 0
 VarAfter dims found var = IsFresh name_of_var found var × IsSoundVar dims var
 
-abbrev var_of : List ℕ → List ℕ → List Attr → Kind → ℕ → NcVar
+abbrev pub var_of : List ℕ → List ℕ → List Attr → Kind → ℕ → NcVar
 var_of name ids attrs kind begin = record { name = name; dims = ids; attrs = attrs; kind = kind; begin = begin }
 
 abbrev VarAsRead : ℕ → List Dim → List NcVar → List ℕ → NcVar → Type 0
