@@ -40,7 +40,8 @@ Takes {A} S p = (i : Input) (a : A) (j : Input) → IsBytes i.rest → p i ≡ O
 
 pub takes_as : {A : Type 0} {S T : List ℕ → A → Type 0} {p : HeaderParser A}
     → ((text : List ℕ) (a : A) → S text a → T text a) → ExactBytes S p → Takes T p
-takes_as to ep i a j fits e = let t = ep.takes i a j fits e in record { text = t.text; spelled = to t.text a t.spelled; split = t.split; place = t.place }
+takes_as to ep i a j fits e = let t = ep.takes i a j fits e in
+    record { text = t.text; spelled = to t.text a t.spelled; split = t.split; place = t.place }
 
 pub such : {A : Type 0} {S : List ℕ → A → Type 0} {P : A → Type 0} (text : List ℕ) (a : A) → Such S P text a → S text a
 such text a s = s.spelled
@@ -114,7 +115,8 @@ first_begun S T at rest fault b more =
       some = record {
         text = b.some.text ++ more.text;
         a = more.a;
-        spelled = record { a = b.some.a; front = b.some.text; back = more.text; first = b.some.spelled; second = more.spelled; text_is = refl };
+        spelled = record { a = b.some.a; front = b.some.text; back = more.text; first = b.some.spelled; second =
+            more.spelled; text_is = refl };
       };
       same = b.same ∙ sym (take-append-le b.count b.some.text more.text long);
     }
@@ -134,7 +136,8 @@ second_begun S T at rest a j fault t b =
       some = record {
         text = t.text ++ b.some.text;
         a = b.some.a;
-        spelled = record { a = a; front = t.text; back = b.some.text; first = t.spelled; second = b.some.spelled; text_is = refl };
+        spelled = record { a = a; front = t.text; back = b.some.text; first = t.spelled; second = b.some.spelled;
+            text_is = refl };
       };
       same = ap (λ (l : List ℕ). take (n + b.count) l) t.split ∙ take-append-add t.text j.rest b.count
           ∙ ap (λ (l : List ℕ). t.text ++ l) b.same ∙ sym (take-append-add t.text b.some.text b.count);
@@ -179,7 +182,8 @@ free_each found (item ∷ items) = (tt, free_each (found ++ item ∷ []) items)
 
 pub free_adds : {A : Type 0} {S : List ℕ → A → Type 0} {P : List A → A → Type 0} (found : List A) (n : ℕ)
     (text : List ℕ) (all : List A) → Adds S P found n text all → Adds S Free found n text all
-free_adds found n text all s = record { more = s.more; all_is = s.all_is; count = s.count; spelled = s.spelled; each = free_each found s.more }
+free_adds found n text all s =
+    record { more = s.more; all_is = s.all_is; count = s.count; spelled = s.spelled; each = free_each found s.more }
 
 -- one item and then others
 adds_one : {A : Type 0} {S : List ℕ → A → Type 0} (found : List A) (n : ℕ) (text : List ℕ) (all : List A)
@@ -195,14 +199,17 @@ adds_one found n text all s = record {
 
 pub example_items : {A : Type 0} {S : List ℕ → A → Type 0} → Example S → (n : ℕ) (found : List A)
     → Example (Adds S Free found n)
-example_items {A} {S} one zero found = record { text = []; a = found; spelled = record { more = []; all_is = sym (append-nil found); count = refl; spelled = refl; each = tt } }
+example_items {A} {S} one zero found =
+    record { text = []; a = found; spelled =
+    record { more = []; all_is = sym (append-nil found); count = refl; spelled = refl; each = tt } }
 example_items {A} {S} one (suc n) found =
     let others = example_items one n (found ++ one.a ∷ []) in
     record {
       text = one.text ++ others.text;
       a = others.a;
       spelled = adds_one found n (one.text ++ others.text) others.a
-          (record { a = one.a; front = one.text; back = others.text; first = one.spelled; second = others.spelled; text_is = refl });
+          (record { a = one.a; front = one.text; back = others.text; first = one.spelled; second = others.spelled;
+              text_is = refl });
     }
 
 pub viable_items : {A : Type 0} {S : List ℕ → A → Type 0} (item : List A → HeaderParser A)

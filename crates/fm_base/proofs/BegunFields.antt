@@ -28,14 +28,16 @@ abbrev pub Made : {A B : Type 0} → (List ℕ → A → Type 0) → (A → B) �
 Made S g = Through S (λ x y. g x ≡ y)
 
 pub example_made : {A B : Type 0} {S : List ℕ → A → Type 0} (g : A → B) → Example S → Example (Made S g)
-example_made g some = record { text = some.text; a = g some.a; spelled = record { x = some.a; spelled = some.spelled; related = refl } }
+example_made g some = record { text = some.text; a = g some.a; spelled =
+    record { x = some.a; spelled = some.spelled; related = refl } }
 
 pub example_then : {A B : Type 0} {S : List ℕ → A → Type 0} {T : A → List ℕ → B → Type 0} (first : Example S)
     → Example (T first.a) → Example (Then S T)
 example_then first second = record {
   text = first.text ++ second.text;
   a = second.a;
-  spelled = record { a = first.a; front = first.text; back = second.text; first = first.spelled; second = second.spelled; text_is = refl };
+  spelled = record { a = first.a; front = first.text; back = second.text; first = first.spelled; second =
+      second.spelled; text_is = refl };
 }
 
 -- a dimension
@@ -113,8 +115,12 @@ example_attr = let some : Example AttrText = example_then example_name (example_
 viable_attr : (found : List Attr) → Viable SpellsAttr (attr_at found)
 unfolding attr_at
 viable_attr found = viable_as (attr_at found) attr_text
-    (viable_then {T = λ name. Then SpellsKind (λ kind. Then SpellsCount (λ n. Made (ValuesText (n * size_of kind)) (attr_of name kind)))} (name_at (map (λ (a : Attr). a.name) found)) _ (takes_as such (Exact-name_at _)) (viable_name _)
-    (λ name text s. viable_then {T = λ kind. Then SpellsCount (λ n. Made (ValuesText (n * size_of kind)) (attr_of name kind))} kind_at _ (takes_as (λ text a s. s) Exact-kind_at) viable_kind
+    (viable_then {T = λ name. Then SpellsKind
+        (λ kind. Then SpellsCount (λ n. Made (ValuesText (n * size_of kind)) (attr_of name kind)))}
+        (name_at (map (λ (a : Attr). a.name) found)) _ (takes_as such (Exact-name_at _)) (viable_name _)
+    (λ name text s. viable_then {T =
+        λ kind. Then SpellsCount (λ n. Made (ValuesText (n * size_of kind)) (attr_of name kind))} kind_at _
+        (takes_as (λ text a s. s) Exact-kind_at) viable_kind
     (λ kind text s. viable_then {T = λ n. Made (ValuesText (n * size_of kind)) (attr_of name kind)} count _
       (takes_as (λ text a s. s) Exact-count) viable_count
     (λ n text s. viable_last (padded (n * size_of kind)) (attr_of name kind) (viable_padded (n * size_of kind)))

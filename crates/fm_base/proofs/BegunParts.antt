@@ -64,7 +64,8 @@ example_padded len bytes size =
     (padding, record {
       padding = padding;
       text_is = refl;
-      length_is = omega (arith, length-append bytes padding, length-replicate {A = ℕ} (padded_len (length bytes) - length bytes) 0);
+      length_is = omega (arith, length-append bytes padding,
+          length-replicate {A = ℕ} (padded_len (length bytes) - length bytes) 0);
     })
 
 leaf_padded : (len : ℕ) → IsLeaf (padded len)
@@ -159,7 +160,8 @@ example_name_text n =
     record {
       text = letters (suc n) ++ some.0;
       a = letters (suc n);
-      spelled = record { spelled = record { spelled = some.1; holds = letters_length (suc n) }; holds = letters_named n };
+      spelled = record { spelled = record { spelled = some.1; holds = letters_length (suc n) }; holds =
+          letters_named n };
     }
 
 name_text : (text name : List ℕ) → Then SpellsCount NameText text name → SpellsName text name
@@ -179,7 +181,8 @@ example_name =
       text = to_be_bytes w32 1 ++ some.text;
       a = some.a;
       spelled = name_text _ _
-        (record { a = 1; front = to_be_bytes w32 1; back = some.text; first = record { small = omega arith; text_is = refl }; second = some.spelled; text_is = refl });
+        (record { a = 1; front = to_be_bytes w32 1; back = some.text; first =
+            record { small = omega arith; text_is = refl }; second = some.spelled; text_is = refl });
     }
 
 empty_fits : (i : Input) (fault : HeaderFault) → padded 0 i ≡ Err fault → ⊥
@@ -187,7 +190,9 @@ unfolding padded
 empty_fits i fault e = by_length (ltb (length i.rest) (padded_len 0)) refl e
   where
     by_length : (b : Bool) → ltb (length i.rest) (padded_len 0) ≡ b
-        → and_then (cond b (failed {A = List ℕ} (Truncated i.at)) (Ok (take (padded_len 0) i.rest, record { at = i.at + padded_len 0; rest = drop (padded_len 0) i.rest }))) (λ bytes. pure (take 0 bytes)) ≡ Err fault → ⊥
+        → and_then (cond b (failed {A = List ℕ} (Truncated i.at))
+        (Ok (take (padded_len 0) i.rest, record { at = i.at + padded_len 0; rest = drop (padded_len 0) i.rest })))
+        (λ bytes. pure (take 0 bytes)) ≡ Err fault → ⊥
     by_length true is f = let short = ltb-true _ _ is in omega arith
     by_length false is f = absurd cc
 
@@ -252,11 +257,14 @@ viable_list {A} {S} {P} tag item ei vi one = viable_as (list_at tag item)
     (viable_then {T = λ found. Then (SpellsListCount found) (λ n. Adds S Free [] n)} (tag_at tag)
       (λ found. list_count found >>= λ n. items_from item n []) (takes_as (λ text a s. s) (Exact-tag_at tag))
     (viable_leaf (tag_at tag)
-      (record { text = to_be_bytes w32 0; a = 0; spelled = record { own = inr refl; spelled = record { small = omega arith; text_is = refl } } }) (leaf_tag tag))
+      (record { text = to_be_bytes w32 0; a = 0; spelled =
+          record { own = inr refl; spelled = record { small = omega arith; text_is = refl } } }) (leaf_tag tag))
     (λ found front first. viable_then {T = λ n. Adds S Free [] n} (list_count found) (λ n. items_from item n [])
       (takes_as (λ text a s. s) (Exact-list_count found))
     (viable_leaf (list_count found)
-      (record { text = to_be_bytes w32 0; a = 0; spelled = record { none = λ absent. refl; counted = record { small = omega arith; text_is = refl } } }) (leaf_list_count found))
+      (record { text = to_be_bytes w32 0; a = 0; spelled =
+          record { none = λ absent. refl; counted = record { small = omega arith; text_is = refl } } })
+          (leaf_list_count found))
     (λ n front first. viable_items item (λ found. takes_as (λ text a s. s.spelled) (ei found)) vi one n [])
     (λ n front first. example_items one n []))
     (λ found front first. example_counted found))

@@ -144,7 +144,8 @@ tested_id dims found at id = unless (nat_le (length dims) id) (BadDimId at) id
 
 pub Decides-id : (dims : List Dim) (found : List ℕ) (at id : ℕ) → Decides at (tested_id dims found at id)
 Decides-id dims found at id =
-    Decides-then at _ _ (Decides-unless at (nat_le (length dims) id) (BadDimId at) id (record { stands = refl; uncut = λ k. tt }))
+    Decides-then at _ _ (Decides-unless at (nat_le (length dims) id) (BadDimId at) id
+        (record { stands = refl; uncut = λ k. tt }))
     (λ id. Decides-unless at _ (RecordNotFirst at) id (record { stands = refl; uncut = λ k. tt }))
 
 Local-dim_id_at : (dims : List Dim) (found : List ℕ) → Local (dim_id_at dims found)

@@ -50,7 +50,8 @@ header_words shape =
     0 ∷ 0 ∷
     11 ∷ 4 ∷
     4 ∷ 0x7469_6d65 ∷ 1 ∷ 0 ∷ 12 ∷ 1 ∷ 5 ∷ 0x756e_6974 ∷ 0x7300_0000 ∷ 2 ∷ 33 ∷
-    0x7365_636f ∷ 0x6e64_7320 ∷ 0x7369_6e63 ∷ 0x6520_3139 ∷ 0x3730_2d30 ∷ 0x312d_3031 ∷ 0x2030_303a ∷ 0x3030_3a30 ∷ 0x3000_0000 ∷
+    0x7365_636f ∷ 0x6e64_7320 ∷ 0x7369_6e63 ∷ 0x6520_3139 ∷ 0x3730_2d30 ∷ 0x312d_3031 ∷
+    0x2030_303a ∷ 0x3030_3a30 ∷ 0x3000_0000 ∷
     4 ∷ 4 ∷ data_begin shape ∷
     3 ∷ 0x6c61_7400 ∷ 1 ∷ 1 ∷ 0 ∷ 0 ∷ 5 ∷ (4 * shape.lats) ∷ 276 ∷
     3 ∷ 0x6c6f_6e00 ∷ 1 ∷ 2 ∷ 0 ∷ 0 ∷ 5 ∷ (4 * shape.lons) ∷ (276 + 4 * shape.lats) ∷
@@ -115,7 +116,8 @@ float_var name dims begin = record { name = name; dims = dims; attrs = []; kind 
 
 abbrev pub vars_of : ThinShape → List NcVar
 vars_of shape = time_var shape ∷ float_var (codes "lat") (1 ∷ []) 276
-    ∷ float_var (codes "lon") (2 ∷ []) (276 + 4 * shape.lats) ∷ float_var (codes "t") (0 ∷ 1 ∷ 2 ∷ []) (data_begin shape + 4) ∷ []
+    ∷ float_var (codes "lon") (2 ∷ []) (276 + 4 * shape.lats)
+    ∷ float_var (codes "t") (0 ∷ 1 ∷ 2 ∷ []) (data_begin shape + 4) ∷ []
 
 -- the header that a thin file stands for
 abbrev pub header_of : ThinShape → Header
