@@ -1,5 +1,5 @@
 -- What stands before the field at fault begins some text that is spelled, and how this is put together.
-use Rattle.std.proofs.Common.{◌≡◌, ◌⊎◌, inl, inr, ℕ, zero, suc, ◌+◌, ◌≤◌, Bool, true, false, cond, List, [], ◌∷◌, ◌++◌, length, take, Ok, Err, refl, sym, ap, subst, ◌∙◌, append_assoc, append-nil, arith, length-append}
+use Rattle.std.proofs.Common.{◌≡◌, inl, inr, ℕ, zero, suc, ◌+◌, ◌≤◌, List, [], ◌∷◌, ◌++◌, length, take, Ok, Err, refl, sym, ap, subst, ◌∙◌, append_assoc, append-nil, arith, length-append}
 use Rattle.std.proofs.lemmas.List.{length-take, take-append-le}
 use Rattle.std.proofs.Math.Seq.{take-append-add}
 use Rattle.fm_base.specs.declared.fault.HeaderFault.{HeaderFault}
@@ -7,11 +7,10 @@ use Rattle.fm_base.specs.FaultPlaces.{StandsAt}
 use Rattle.fm_base.specs.Format.{IsBytes}
 use Rattle.fm_base.specs.Input.{Input}
 use Rattle.fm_base.specs.Parser.{Outcome, and_then, ◌>>=◌, pure, located}
-use Rattle.fm_base.specs.Reading.{HeaderParser, field, items_from}
-use Rattle.fm_base.specs.Spelling.{Spelled}
+use Rattle.fm_base.specs.Reading.{HeaderParser, items_from}
 use Rattle.fm_base.proofs.Exact.{input, Took, Then, Such}
 use Rattle.fm_base.proofs.Lists.{EachFrom, Adds}
-use Rattle.fm_base.proofs.Settled.{Stepped, stepped, failed, err_is}
+use Rattle.fm_base.proofs.Settled.{stepped, failed, err_is}
 use Rattle.fm_base.proofs.SettledSteps.{Decides}
 use Rattle.fm_base.proofs.Steps.{ExactBytes, IsOfParts-bytes, Through}
 
@@ -82,10 +81,10 @@ pub leaf_map : {A B : Type 0} (p : HeaderParser A) (g : A → B) → IsLeaf p �
 leaf_map {A} {B} p g lp at rest fault e = by_outcome (p (input at rest)) refl e
   where
     by_outcome : (r : Outcome A HeaderFault) → p (input at rest) ≡ r → and_then r (λ x. pure (g x)) ≡ Err fault
-      → StandsAt fault at
+        → StandsAt fault at
     by_outcome (Ok x) is f = absurd cc
     by_outcome (Err first) is f = subst (λ (y : HeaderFault). StandsAt y at) (err_is {A = B} first fault f)
-      (lp at rest first is)
+        (lp at rest first is)
 
 pub leaf_tested : {A B : Type 0} (p : HeaderParser A) (f : ℕ → A → HeaderParser B) → IsLeaf p
     → ((at : ℕ) (a : A) → Decides at (f at a)) → IsLeaf (located (λ at. p >>= f at))
@@ -95,10 +94,10 @@ leaf_tested {A} {B} p f lp df at rest fault e = by_outcome (p (input at rest)) r
     by_outcome (Ok x) is e = elim (df at x.0) [
       | inl good ↦ let no = sym (good.1 x.1) ∙ e in absurd cc
       | inr bad ↦ subst (λ (y : HeaderFault). StandsAt y at)
-        (err_is {A = B} bad.0 fault (sym (bad.2 x.1) ∙ e)) bad.1.stands
+          (err_is {A = B} bad.0 fault (sym (bad.2 x.1) ∙ e)) bad.1.stands
     ]
     by_outcome (Err first) is e = subst (λ (y : HeaderFault). StandsAt y at) (err_is {A = B} first fault e)
-      (lp at rest first is)
+        (lp at rest first is)
 
 -- the first part fails
 first_begun : {A B : Type 0} (S : List ℕ → A → Type 0) (T : A → List ℕ → B → Type 0) (at : ℕ) (rest : List ℕ)
@@ -107,7 +106,7 @@ first_begun : {A B : Type 0} (S : List ℕ → A → Type 0) (T : A → List ℕ
 first_begun S T at rest fault b more =
     let fits = b.within in
     let long : b.count ≤ length b.some.text = omega
-      (arith, length-take b.count rest, length-take b.count b.some.text, ap length b.same) in
+    (arith, length-take b.count rest, length-take b.count b.some.text, ap length b.same) in
     record {
       count = b.count;
       stands = b.stands;
@@ -115,8 +114,15 @@ first_begun S T at rest fault b more =
       some = record {
         text = b.some.text ++ more.text;
         a = more.a;
-        spelled = record { a = b.some.a; front = b.some.text; back = more.text; first = b.some.spelled; second =
-            more.spelled; text_is = refl };
+        spelled = record {
+          a = b.some.a;
+          front = b.some.text;
+          back = more.text;
+          first = b.some.spelled;
+          second =
+              more.spelled;
+          text_is = refl;
+        };
       };
       same = b.same ∙ sym (take-append-le b.count b.some.text more.text long);
     }
@@ -125,7 +131,7 @@ first_begun S T at rest fault b more =
 pub second_begun : {A B : Type 0} (S : List ℕ → A → Type 0) (T : A → List ℕ → B → Type 0) (at : ℕ) (rest : List ℕ)
     (a : A) (j : Input)
     (fault : HeaderFault) (t : Took S (input at rest) a j) → Begun (T a) j.at j.rest fault
-      → Begun (Then S T) at rest fault
+    → Begun (Then S T) at rest fault
 second_begun S T at rest a j fault t b =
     let n : ℕ = length t.text in
     let place : j.at + b.count ≡ at + (n + b.count) = omega (arith, t.place) in
@@ -136,8 +142,14 @@ second_begun S T at rest a j fault t b =
       some = record {
         text = t.text ++ b.some.text;
         a = b.some.a;
-        spelled = record { a = a; front = t.text; back = b.some.text; first = t.spelled; second = b.some.spelled;
-            text_is = refl };
+        spelled = record {
+          a = a;
+          front = t.text;
+          back = b.some.text;
+          first = t.spelled;
+          second = b.some.spelled;
+          text_is = refl;
+        };
       };
       same = ap (λ (l : List ℕ). take (n + b.count) l) t.split ∙ take-append-add t.text j.rest b.count
           ∙ ap (λ (l : List ℕ). t.text ++ l) b.same ∙ sym (take-append-add t.text b.some.text b.count);
@@ -146,18 +158,18 @@ second_begun S T at rest a j fault t b =
 pub viable_then : {A B : Type 0} {S : List ℕ → A → Type 0} {T : A → List ℕ → B → Type 0} (p : HeaderParser A)
     (q : A → HeaderParser B) → Takes S p → Viable S p
     → ((a : A) (text : List ℕ) → S text a → Viable (T a) (q a)) → ((a : A) (text : List ℕ) → S text a → Example (T a))
-      → Viable (Then S T) (p >>= q)
+    → Viable (Then S T) (p >>= q)
 viable_then {A} {B} {S} {T} p q tp vp vq some at rest fault fits e = elim (stepped (p (input at rest)) q
     (Err fault) e) [
-  | inl wrong ↦
-      let b = vp at rest wrong.0 fits wrong.1 in
-      subst (λ (x : HeaderFault). Begun (Then S T) at rest x) (sym (err_is {A = B} fault wrong.0 wrong.2))
-        (first_begun S T at rest wrong.0 b (some b.some.a b.some.text b.some.spelled))
-  | inr s ↦
-      let t = tp (input at rest) s.a s.j fits s.first in
-      let left = IsOfParts-bytes.back t.text s.j.rest (subst IsBytes t.split fits) in
-      second_begun S T at rest s.a s.j fault t (vq s.a t.text t.spelled s.j.at s.j.rest fault left s.second)
-]
+      | inl wrong ↦
+          let b = vp at rest wrong.0 fits wrong.1 in
+          subst (λ (x : HeaderFault). Begun (Then S T) at rest x) (sym (err_is {A = B} fault wrong.0 wrong.2))
+          (first_begun S T at rest wrong.0 b (some b.some.a b.some.text b.some.spelled))
+      | inr s ↦
+          let t = tp (input at rest) s.a s.j fits s.first in
+          let left = IsOfParts-bytes.back t.text s.j.rest (subst IsBytes t.split fits) in
+          second_begun S T at rest s.a s.j fault t (vq s.a t.text t.spelled s.j.at s.j.rest fault left s.second)
+    ]
 
 -- the last part, with a value that is made of its value
 pub viable_last : {A B : Type 0} {S : List ℕ → A → Type 0} (p : HeaderParser A) (g : A → B) → Viable S p
@@ -165,12 +177,12 @@ pub viable_last : {A B : Type 0} {S : List ℕ → A → Type 0} (p : HeaderPars
 viable_last {A} {B} {S} p g vp at rest fault fits e = by_outcome (p (input at rest)) refl e
   where
     by_outcome : (r : Outcome A HeaderFault) → p (input at rest) ≡ r → and_then r (λ x. pure (g x)) ≡ Err fault
-      → Begun (Through S (λ x y. g x ≡ y)) at rest fault
+        → Begun (Through S (λ x y. g x ≡ y)) at rest fault
     by_outcome (Ok x) is f = absurd cc
     by_outcome (Err first) is f =
         let same : first ≡ fault = err_is {A = B} first fault f in
         begun_as g at rest fault (λ text a s. record { x = a; spelled = s; related = refl })
-          (vp at rest fault fits (is ∙ ap (λ (y : HeaderFault). failed {A = A} y) same))
+        (vp at rest fault fits (is ∙ ap (λ (y : HeaderFault). failed {A = A} y) same))
 
 -- anything holds of an item after others
 abbrev pub Free : {A : Type 0} → List A → A → Type 0
@@ -200,16 +212,26 @@ adds_one found n text all s = record {
 pub example_items : {A : Type 0} {S : List ℕ → A → Type 0} → Example S → (n : ℕ) (found : List A)
     → Example (Adds S Free found n)
 example_items {A} {S} one zero found =
-    record { text = []; a = found; spelled =
-    record { more = []; all_is = sym (append-nil found); count = refl; spelled = refl; each = tt } }
+    record {
+      text = [];
+      a = found;
+      spelled =
+          record { more = []; all_is = sym (append-nil found); count = refl; spelled = refl; each = tt };
+    }
 example_items {A} {S} one (suc n) found =
     let others = example_items one n (found ++ one.a ∷ []) in
     record {
       text = one.text ++ others.text;
       a = others.a;
       spelled = adds_one found n (one.text ++ others.text) others.a
-          (record { a = one.a; front = one.text; back = others.text; first = one.spelled; second = others.spelled;
-              text_is = refl });
+          (record {
+            a = one.a;
+            front = one.text;
+            back = others.text;
+            first = one.spelled;
+            second = others.spelled;
+            text_is = refl;
+          });
     }
 
 pub viable_items : {A : Type 0} {S : List ℕ → A → Type 0} (item : List A → HeaderParser A)
@@ -219,5 +241,5 @@ unfolding items_from
 viable_items item ti vi one zero found = λ at rest fault fits e. absurd cc
 viable_items {A} {S} item ti vi one (suc n) found = viable_as (items_from item (suc n) found) (adds_one found n)
     (viable_then {T = λ x. Adds S Free (found ++ x ∷ []) n} (item found)
-      (λ next. items_from item n (found ++ next ∷ [])) (ti found) (vi found)
+    (λ next. items_from item n (found ++ next ∷ [])) (ti found) (vi found)
     (λ x text s. viable_items item ti vi one n (found ++ x ∷ [])) (λ x text s. example_items one n (found ++ x ∷ [])))

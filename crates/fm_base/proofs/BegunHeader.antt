@@ -1,5 +1,5 @@
 -- Where a variable or the whole header fails, what stands before the field at fault begins a spelling of one.
-use Rattle.std.proofs.Common.{◌≡◌, ◌⊎◌, inl, inr, ℕ, ◌+◌, List, [], ◌∷◌, ◌++◌, length, replicate, map, codes, Ok, Err, refl, sym, ap, ap₂, subst, ◌∙◌, append_assoc, arith}
+use Rattle.std.proofs.Common.{◌≡◌, ◌⊎◌, inl, inr, ℕ, List, [], ◌++◌, length, replicate, map, Ok, Err, refl, sym, ap, ap₂, subst, ◌∙◌, append_assoc, arith}
 use Rattle.std.specs.Int.{w32, w64, to_be_bytes}
 use Rattle.fm_base.specs.declared.fault.HeaderFault.{HeaderFault}
 use Rattle.fm_base.specs.declared.header.Attr.{Attr}
@@ -8,14 +8,14 @@ use Rattle.fm_base.specs.declared.header.Header.{Header}
 use Rattle.fm_base.specs.declared.header.NcVar.{NcVar}
 use Rattle.fm_base.specs.declared.kind.Kind.{Kind}
 use Rattle.fm_base.specs.Format.{IsBytes, DIMENSION_TAG, VARIABLE_TAG, ATTRIBUTE_TAG}
-use Rattle.fm_base.specs.Input.{Input, whole}
-use Rattle.fm_base.specs.Parser.{Outcome, and_then, ◌>>=◌, pure}
-use Rattle.fm_base.specs.Reading.{HeaderParser, field, name_at, kind_at, items_from, list_at, dim_at, attr_at, rank_at, dim_id_at, begin_at, var_at, numrecs_at, version_at, header_at}
+use Rattle.fm_base.specs.Input.{whole}
+use Rattle.fm_base.specs.Parser.{Outcome, and_then}
+use Rattle.fm_base.specs.Reading.{field, name_at, kind_at, items_from, list_at, dim_at, attr_at, rank_at, dim_id_at, begin_at, var_at, numrecs_at, version_at, header_at}
 use Rattle.fm_base.specs.Spelling.{SpellsWord, SpellsCount, SpellsName, SpellsKind, SpellsList, SpellsDim, SpellsAttr, SpellsBegin, SpellsVar, SpellsHeader, Spelled}
 use Rattle.fm_base.proofs.Begun.{Example, Begun, Viable, takes_as, such, begun_as, viable_as, viable_leaf, viable_then, viable_last, second_begun, Free, free_adds, example_items, viable_items}
 use Rattle.fm_base.proofs.BegunFields.{Made, example_made, example_then, viable_attrs, viable_dims}
 use Rattle.fm_base.proofs.BegunParts.{example_count, example_kind, viable_kind, leaf_field, leaf_rank, leaf_id, leaf_numrecs, leaf_begin, example_name, viable_name, example_list, viable_list}
-use Rattle.fm_base.proofs.Exact.{onto, input, Then, Such}
+use Rattle.fm_base.proofs.Exact.{onto, Then}
 use Rattle.fm_base.proofs.Fields.{Exact-name_at, Exact-kind_at}
 use Rattle.fm_base.proofs.HeaderParts.{SpellsVersion, header_of, Exact-version_at, Exact-numrecs_at, Exact-dims_at}
 use Rattle.fm_base.proofs.Lists.{Adds, Exact-items_from}
@@ -118,7 +118,7 @@ after_name version known name = example_then example_count (after_rank version k
 example_var : (version : ℕ) → IsKnown version → Example (SpellsVar version)
 example_var version known =
     let some : Example (Then SpellsName (AfterName version)) = example_then example_name
-      (after_name version known example_name.a) in
+    (after_name version known example_name.a) in
     record { text = some.text; a = some.a; spelled = var_text version some.text some.a some.spelled }
 
 viable_var : (version : ℕ) → IsKnown version → (dims : List Dim) (found : List NcVar)
@@ -126,22 +126,22 @@ viable_var : (version : ℕ) → IsKnown version → (dims : List Dim) (found : 
 unfolding var_at
 viable_var version known dims found = viable_as (var_at version dims found) (var_text version)
     (viable_then {T = AfterName version} (name_at (map (λ (v : NcVar). v.name) found)) _
-      (takes_as such (Exact-name_at _)) (viable_name _)
+    (takes_as such (Exact-name_at _)) (viable_name _)
     (λ name text s. viable_then {T = AfterRank version name} rank_at _ (takes_as such Exact-rank_at)
-      (viable_leaf rank_at example_count leaf_rank)
+    (viable_leaf rank_at example_count leaf_rank)
     (λ rank text s. viable_then {T = AfterIds version name} (items_from (dim_id_at dims) rank []) _
-        (takes_as (free_adds [] rank)
-          (Exact-items_from SpellsWord (IdAfter dims) (dim_id_at dims) (Exact-dim_id_at dims) rank []))
-        (viable_items (dim_id_at dims) (λ others. takes_as such (Exact-dim_id_at dims others))
-          (λ others. viable_leaf (dim_id_at dims others) example_word (leaf_id dims others)) example_word rank [])
+    (takes_as (free_adds [] rank)
+    (Exact-items_from SpellsWord (IdAfter dims) (dim_id_at dims) (Exact-dim_id_at dims) rank []))
+    (viable_items (dim_id_at dims) (λ others. takes_as such (Exact-dim_id_at dims others))
+    (λ others. viable_leaf (dim_id_at dims others) example_word (leaf_id dims others)) example_word rank [])
     (λ ids text s. viable_then {T = AfterAttrs version name ids} (list_at ATTRIBUTE_TAG attr_at) _
-      (takes_as such Exact-attrs_at) viable_attrs
+    (takes_as such Exact-attrs_at) viable_attrs
     (λ attrs text s. viable_then {T = AfterKind version name ids attrs} kind_at _
-      (takes_as (λ text a s. s) Exact-kind_at) viable_kind
+    (takes_as (λ text a s. s) Exact-kind_at) viable_kind
     (λ kind text s. viable_then {T = AfterSize version name ids attrs kind} (field 4) _
-      (takes_as (λ text a s. s) (Exact-field 4)) (viable_leaf (field 4) example_size (leaf_field 4))
+    (takes_as (λ text a s. s) (Exact-field 4)) (viable_leaf (field 4) example_size (leaf_field 4))
     (λ size text s. viable_last (begin_at version) (var_of name ids attrs kind)
-      (viable_leaf (begin_at version) (example_begin version known) (leaf_begin version)))
+    (viable_leaf (begin_at version) (example_begin version known) (leaf_begin version)))
     (λ size text s. after_size version known name ids attrs kind size))
     (λ kind text s. after_kind version known name ids attrs kind))
     (λ attrs text s. after_attrs version known name ids attrs))
@@ -202,14 +202,14 @@ after_numrecs version numrecs = example_then example_dims (after_dims version nu
 viable_after_version : (version : ℕ) → IsKnown version → Viable (AfterVersion version) (after_version version)
 viable_after_version version known =
     viable_then {T = AfterNumrecs version} numrecs_at _ (takes_as (λ text a s. s) Exact-numrecs_at)
-      (viable_leaf numrecs_at example_count leaf_numrecs)
+    (viable_leaf numrecs_at example_count leaf_numrecs)
     (λ numrecs text s. viable_then {T = AfterDims version numrecs} (list_at DIMENSION_TAG dim_at) _
-      (takes_as such Exact-dims_at) viable_dims
+    (takes_as such Exact-dims_at) viable_dims
     (λ dims text s. viable_then {T = AfterFileAttrs version numrecs dims} (list_at ATTRIBUTE_TAG attr_at) _
-      (takes_as such Exact-attrs_at) viable_attrs
+    (takes_as such Exact-attrs_at) viable_attrs
     (λ attrs text s. viable_last (list_at VARIABLE_TAG (var_at version dims)) (header_of version numrecs dims attrs)
-        (viable_list VARIABLE_TAG (var_at version dims) (Exact-var_at version known dims)
-          (viable_var version known dims) (example_var version known)))
+    (viable_list VARIABLE_TAG (var_at version dims) (Exact-var_at version known dims)
+    (viable_var version known dims) (example_var version known)))
     (λ attrs text s. after_file_attrs version numrecs dims attrs))
     (λ dims text s. after_dims version numrecs dims))
     (λ numrecs text s. after_numrecs version numrecs)
@@ -223,11 +223,11 @@ header_begun bytes fault fits e = by_version (version_at (whole bytes)) refl e
     by_version : (r : Outcome ℕ HeaderFault) → version_at (whole bytes) ≡ r → and_then r after_version ≡ Err fault
         → (version_at (whole bytes) ≡ Err fault) ⊎ Begun SpellsHeader 0 bytes fault
     by_version (Err first) is f = inl
-      (is ∙ ap (λ (x : HeaderFault). failed {A = ℕ} x) (err_is {A = Header} first fault f))
+        (is ∙ ap (λ (x : HeaderFault). failed {A = ℕ} x) (err_is {A = Header} first fault f))
     by_version (Ok x) is f =
         let exact : ExactBytes SpellsVersion version_at = Exact-version_at in
         let t = exact.takes (whole bytes) x.0 x.1 fits is in
         let left = IsOfParts-bytes.back t.text x.1.rest (subst IsBytes t.split fits) in
         inr (begun_as (λ header. header) 0 bytes fault header_text
-          (second_begun SpellsVersion AfterVersion 0 bytes x.0 x.1 fault t
+        (second_begun SpellsVersion AfterVersion 0 bytes x.0 x.1 fault t
         (viable_after_version x.0 t.spelled.known x.1.at x.1.rest fault left f)))

@@ -85,9 +85,11 @@ fresh_from_distinct : {A : Type 0} (name : A → List ℕ) (found items : List A
     → AreDistinct (map name items) → EachFrom (IsFresh name) found items
 unfolding IsDistinct
 fresh_from_distinct name found [] others apart = tt
-fresh_from_distinct name found (x ∷ items) others apart =
-    (others.0, fresh_from_distinct name (found ++ x ∷ []) items
-    (AreOther-both name found x (map name items) others.1 apart.0) apart.1)
+fresh_from_distinct name found (x ∷ items) others apart = (
+  others.0,
+  fresh_from_distinct name (found ++ x ∷ []) items
+      (AreOther-both name found x (map name items) others.1 apart.0) apart.1,
+)
 
 -- names that are each fresh differ, and the converse
 pub AreDistinct-from_fresh : {A : Type 0} (name : A → List ℕ) (items : List A) → EachFrom (IsFresh name) [] items
@@ -136,15 +138,15 @@ records_after found [] each = at_most_one (has_record found)
 records_after found (dim ∷ dims) each =
     let more = records_after (found ++ dim ∷ []) dims each.1 in
     rw (sum_by-cons (λ d. cond (is_record d) 1 0) dim dims)
-        (one_more (has_record found) (is_record dim) (count_by is_record dims) each.0
-        (rw (has_record-last found dim) at more))
+    (one_more (has_record found) (is_record dim) (count_by is_record dims) each.0
+    (rw (has_record-last found dim) at more))
 
 only_records : (found dims : List Dim) → cond (has_record found) 1 0 + count_by is_record dims ≤ 1
     → EachFrom IsOnlyRecord found dims
 only_records found [] h = tt
 only_records found (dim ∷ dims) h =
     let less = one_less (has_record found) (is_record dim) (count_by is_record dims)
-        (rw (sum_by-cons (λ d. cond (is_record d) 1 0) dim dims) at h) in
+    (rw (sum_by-cons (λ d. cond (is_record d) 1 0) dim dims) at h) in
     (less.0, only_records (found ++ dim ∷ []) dims (rw (has_record-last found dim) less.1))
 
 -- dimensions of which none is a second record dimension have at most one, and the converse
@@ -182,16 +184,19 @@ later_test b n = ap (λ t. not t && b) (ne_eqb (suc n) 0 (λ e. omega arith))
 no_record_after : (dims : List Dim) (first : ℕ) (found ids : List ℕ) → EachFrom (IsRecordFirst dims) (first ∷ found) ids
     → AllByRecursion (NamesNoRecord dims) ids
 no_record_after dims first found [] each = tt
-no_record_after dims first found (id ∷ ids) each =
-    (NamesNoRecord-from_test dims id (sym (later_test (names_record dims id) (length found)) ∙ each.0),
-    no_record_after dims first (found ++ id ∷ []) ids each.1)
+no_record_after dims first found (id ∷ ids) each = (
+  NamesNoRecord-from_test dims id (sym (later_test (names_record dims id) (length found)) ∙ each.0),
+  no_record_after dims first (found ++ id ∷ []) ids each.1,
+)
 
 record_first_after : (dims : List Dim) (first : ℕ) (found ids : List ℕ) → AllByRecursion (NamesNoRecord dims) ids
     → EachFrom (IsRecordFirst dims) (first ∷ found) ids
 record_first_after dims first found [] all = tt
-record_first_after dims first found (id ∷ ids) all =
-    (later_test (names_record dims id) (length found)
-    ∙ test-from_NamesNoRecord dims id all.0, record_first_after dims first (found ++ id ∷ []) ids all.1)
+record_first_after dims first found (id ∷ ids) all = (
+  later_test (names_record dims id) (length found)
+      ∙ test-from_NamesNoRecord dims id all.0,
+  record_first_after dims first (found ++ id ∷ []) ids all.1,
+)
 
 -- the record dimension stands first or not at all, and the converse
 pub no_record-from_first : (dims : List Dim) (ids : List ℕ) → EachFrom (IsRecordFirst dims) [] ids

@@ -82,18 +82,25 @@ ExactOn-then {A} {B} {E} {Of} {S} {T} {P} {Q} {p} {q} parts ep eq follows = reco
       let second = (eq x.0.0 first.text first.spelled).takes x.0.1 b k left x.2 in
       record {
         text = first.text ++ second.text;
-        spelled = record { a = x.0.0; front = first.text; back = second.text; first = first.spelled; second =
-            second.spelled; text_is = refl };
+        spelled = record {
+          a = x.0.0;
+          front = first.text;
+          back = second.text;
+          first = first.spelled;
+          second =
+              second.spelled;
+          text_is = refl;
+        };
         split = first.split ∙ onto first.text second.split ∙ sym (append_assoc first.text second.text k.rest);
         place = omega (arith, first.place, second.place, length-append first.text second.text);
       };
   again = λ at text rest b s may.
       let whole : text ++ rest ≡ s.front ++ (s.back ++ rest) = ap (λ (l : List ℕ). l ++ rest) s.text_is
-          ∙ append_assoc s.front s.back rest in
+      ∙ append_assoc s.front s.back rest in
       let first = ep.again at s.front (s.back ++ rest) s.a s.first (follows s.a b s.back rest s.second may) in
       let second = (eq s.a s.front s.first).again (at + length s.front) s.back rest b s.second may in
       let len : at + length s.front + length s.back ≡ at + length text =
-          omega (arith, ap length s.text_is, length-append s.front s.back) in
+      omega (arith, ap length s.text_is, length-append s.front s.back) in
       ap (λ (l : List ℕ). and_then (p (input at l)) q) whole
       ∙ ap (λ (r : Outcome A E). and_then r q) first
       ∙ second
@@ -119,8 +126,13 @@ pub ExactOn-as : {A E : Type 0} {Of : List ℕ → Type 0} {S T : List ℕ → A
 ExactOn-as {Of = Of} parts to from ep = record {
   takes = λ i a j of e.
       let t = ep.takes i a j of e in
-      record { text = t.text; spelled = to t.text a (parts.front t.text j.rest (subst Of t.split of)) t.spelled; split =
-          t.split; place = t.place };
+      record {
+        text = t.text;
+        spelled = to t.text a (parts.front t.text j.rest (subst Of t.split of)) t.spelled;
+        split =
+            t.split;
+        place = t.place;
+      };
   again = λ at text rest a s may. ep.again at text rest a (from text a s) may;
 }
 
@@ -189,7 +201,7 @@ none_again {A = A} x a at text rest value none =
     let whole : text ++ rest ≡ rest = ap (λ (l : List ℕ). l ++ rest) none in
     let len : at ≡ at + length text = omega (arith, ap length none) in
     ap (λ (l : List ℕ). Ok (x, input at l)) whole ∙ ap (λ (y : A). Ok (y, input at rest)) value
-        ∙ ap (λ (n : ℕ). Ok (a, input n rest)) len
+    ∙ ap (λ (n : ℕ). Ok (a, input n rest)) len
 
 pub Exact-unless : {A E : Type 0} {Of : List ℕ → Type 0} (bad : Bool) (fault : E) (x : A)
     → ExactOn Of (Passes bad x) Anything (unless bad fault x)

@@ -1,5 +1,5 @@
 -- The first fault of a header is settled by the bytes up to the end of its field, and a header goes on up to there.
-use Rattle.std.proofs.Common.{◌≡◌, ◌≢◌, ◌⊎◌, inl, inr, ℕ, ◌+◌, ◌<◌, ◌≤◌, Bool, true, false, cond, not, ◌||◌, ◌==◌, nat_lt, List, [], ◌∷◌, ◌++◌, length, take, drop, get_or, codes, Result, Ok, Err, refl, sym, ap, ap₂, subst, ◌∙◌, length-append, take-append-drop, arith}
+use Rattle.std.proofs.Common.{◌≡◌, ◌⊎◌, inl, inr, ℕ, ◌+◌, ◌≤◌, Bool, true, false, cond, not, ◌||◌, ◌==◌, List, [], ◌∷◌, ◌++◌, length, take, drop, codes, Ok, Err, refl, sym, ap, ap₂, subst, ◌∙◌, length-append, take-append-drop, arith}
 use Rattle.std.specs.Str.{bytes_eq}
 use Rattle.std.specs.Cmp.Lexicographic.{same_text}
 use Rattle.std.proofs.lemmas.Bool.{le-ltb, or_parts, eqb-false}
@@ -7,18 +7,18 @@ use Rattle.std.proofs.lemmas.List.{take_at, drop_at}
 use Rattle.fm_base.specs.declared.fault.HeaderFault.{HeaderFault}
 use Rattle.fm_base.specs.declared.fault.HeaderFault.TheVariants.{BadMagic, BadVersion, Truncated, BadTag, BadCount, BadName, BadType, BadDimId, TwoRecordDims, RecordNotFirst, RepeatedName, Streaming}
 use Rattle.fm_base.specs.declared.header.Header.{Header}
-use Rattle.fm_base.specs.FaultPlaces.{StandsAt, IsSettled, IsPastEnd, Begins, IsFaultAt, IsFaultOf}
+use Rattle.fm_base.specs.FaultPlaces.{IsSettled, IsPastEnd, Begins, IsFaultAt, IsFaultOf}
 use Rattle.fm_base.specs.Format.{IsBytes}
 use Rattle.fm_base.specs.Input.{Input, whole}
 use Rattle.fm_base.specs.Parser.{Outcome, and_then, value_of}
 use Rattle.fm_base.specs.Reading.{HeaderParser, version_at, header_at, header_or_fault}
-use Rattle.fm_base.specs.Spelling.{SpellsHeader, HeaderOf}
+use Rattle.fm_base.specs.Spelling.{SpellsHeader}
 use Rattle.fm_base.proofs.Begun.{Begun}
 use Rattle.fm_base.proofs.BegunHeader.{header_begun}
 use Rattle.fm_base.proofs.Exact.{input, Exact, Anything}
 use Rattle.fm_base.proofs.HeaderLaws.{read-from_HeaderOf}
 use Rattle.fm_base.proofs.HeaderParts.{Exact-version_at}
-use Rattle.fm_base.proofs.Settled.{Agree, after, IsCutAt, IsCutLater, Beyond, Taken, IsWhole, IsCut, Failed, Local, after_fails, failed, err_is}
+use Rattle.fm_base.proofs.Settled.{after, IsCutAt, Beyond, Taken, IsWhole, Failed, after_fails, failed, err_is}
 use Rattle.fm_base.proofs.SettledParts.{after_version, Local-after_version}
 
 -- what is read exactly, whatever follows it, depends on what was taken
@@ -36,9 +36,9 @@ Taken-exact {A} {S} {p} ep at rest a j e =
       within = omega (arith, ap length t.split, length-append t.text j.rest);
       again = λ other same.
           let split : t.text ++ drop n other ≡ other = ap (λ (l : List ℕ). l ++ drop n other) (sym front ∙ same)
-              ∙ take-append-drop n other in
+          ∙ take-append-drop n other in
           subst (λ (l : List ℕ). p (input at l) ≡ Ok (a, after n (input at other))) split
-              (ep.again at t.text (drop n other) a t.spelled tt);
+          (ep.again at t.text (drop n other) a t.spelled tt);
     }
 
 -- a header fails in its version, or after it
@@ -55,7 +55,7 @@ header_fails bytes fault e = by_version (version_at (whole bytes)) refl e
         let t = Taken-exact Exact-version_at 0 bytes x.0 x.1 is in
         inr (after_fails version_at after_version 0 bytes x.0 x.1 fault t
         ((Local-after_version x.0).fails (0 + t.count) (drop t.count bytes) fault
-            (subst (λ (i : Input). after_version x.0 i ≡ Err fault) t.input_is f)))
+        (subst (λ (i : Input). after_version x.0 i ≡ Err fault) t.input_is f)))
 
 header_at-fault : (bytes : List ℕ) (fault : HeaderFault) → header_or_fault bytes ≡ Err fault
     → header_at (whole bytes) ≡ Err fault
@@ -110,8 +110,8 @@ past_end bytes place f = elim f.why [
         long = λ other agree goes_on e.
             let beyond = c.long other (sym (subst (λ (n : ℕ). take n other ≡ take n bytes) here agree)) (omega arith) in
             let later : 0 + (f.count + f.size) ≤ place =
-                subst (λ (r : Outcome Header HeaderFault). Beyond (0 + (f.count + f.size)) r)
-                (header_at-fault other (Truncated place) e) beyond in
+            subst (λ (r : Outcome Header HeaderFault). Beyond (0 + (f.count + f.size)) r)
+            (header_at-fault other (Truncated place) e) beyond in
             absurd (omega arith);
       }
 ]
@@ -163,12 +163,14 @@ version_fault (a ∷ b ∷ []) fault e = magic_fault (a ∷ b ∷ []) fault (inl
 version_fault (a ∷ b ∷ c ∷ []) fault e = magic_fault (a ∷ b ∷ c ∷ []) fault (inl (omega arith)) e
 version_fault (a ∷ b ∷ c ∷ d ∷ rest) fault e =
     by_magic (bytes_eq (a ∷ b ∷ c ∷ []) (codes "CDF")) refl
-        (rw (le-ltb (length (a ∷ b ∷ c ∷ d ∷ rest)) 4 (omega arith)) at e)
+    (rw (le-ltb (length (a ∷ b ∷ c ∷ d ∷ rest)) 4 (omega arith)) at e)
   where
     bytes : List ℕ
     bytes = a ∷ b ∷ c ∷ d ∷ rest
+
     read : Outcome ℕ HeaderFault
     read = Ok (d, input (0 + 4) rest)
+
     by_version : a ∷ b ∷ c ∷ [] ≡ codes "CDF" → (known : Bool) → (d == 1 || d == 2) ≡ known
         → cond known read (Err (BadVersion d)) ≡ Err fault → IsFaultOf bytes fault
     by_version magic true is f = absurd cc
@@ -179,6 +181,7 @@ version_fault (a ∷ b ∷ c ∷ d ∷ rest) fault e =
           not_1 = eqb-false d 1 others.0;
           not_2 = eqb-false d 2 others.1;
         })
+
     by_magic : (same : Bool) → bytes_eq (a ∷ b ∷ c ∷ []) (codes "CDF") ≡ same
         → cond (not same) (Err BadMagic) (cond (d == 1 || d == 2) read (Err (BadVersion d))) ≡ Err fault
         → IsFaultOf bytes fault

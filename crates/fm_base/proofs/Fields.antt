@@ -28,12 +28,19 @@ Exact-word = ExactBytes-as (Decoded 4 (from_be_bytes w32)) SpellsWord word
     let four : length text ≡ 4 = ap length s.spelled.text_is ∙ s.spelled.size in
     let value : from_be_bytes w32 text ≡ n = ap (from_be_bytes w32) s.spelled.text_is ∙ s.related in
     let below : from_be_bytes w32 text < 2 ^ 32 = omega (arith, fits 0, fits 1, fits 2, fits 3) in
-    record { small = subst (λ (k : ℕ). k < 2 ^ 32) value below; text_is = sym (be_bytes_4 text _ four fits refl)
-        ∙ ap (to_be_bytes w32) value })
-    (λ text n s. record { x = to_be_bytes w32 n; spelled = record { size = refl; text_is = s.text_is }; related =
-        from_be_bytes-to_be_bytes_4 n s.small })
+    record {
+      small = subst (λ (k : ℕ). k < 2 ^ 32) value below;
+      text_is = sym (be_bytes_4 text _ four fits refl)
+          ∙ ap (to_be_bytes w32) value;
+    })
+    (λ text n s. record {
+      x = to_be_bytes w32 n;
+      spelled = record { size = refl; text_is = s.text_is };
+      related =
+          from_be_bytes-to_be_bytes_4 n s.small;
+    })
     (ExactBytes-test _ (λ bytes n. from_be_bytes w32 bytes ≡ n) (field 4) _ (Exact-field 4)
-        (Tests-pure (from_be_bytes w32)))
+    (Tests-pure (from_be_bytes w32)))
 
 -- a number of eight bytes
 pub record SpellsLong (text : List ℕ) (n : ℕ) : Type 0 where
@@ -47,13 +54,20 @@ Exact-long_word = ExactBytes-as (Decoded 8 (from_be_bytes w64)) SpellsLong long_
     let eight : length text ≡ 8 = ap length s.spelled.text_is ∙ s.spelled.size in
     let value : from_be_bytes w64 text ≡ n = ap (from_be_bytes w64) s.spelled.text_is ∙ s.related in
     let below : from_be_bytes w64 text < 2 ^ 64 =
-        omega (arith, fits 0, fits 1, fits 2, fits 3, fits 4, fits 5, fits 6, fits 7) in
-    record { small = subst (λ (k : ℕ). k < 2 ^ 64) value below; text_is = sym (be_bytes_8 text _ eight fits refl)
-        ∙ ap (to_be_bytes w64) value })
-    (λ text n s. record { x = to_be_bytes w64 n; spelled = record { size = refl; text_is = s.text_is }; related =
-        from_be_bytes-to_be_bytes_8 n s.small })
+    omega (arith, fits 0, fits 1, fits 2, fits 3, fits 4, fits 5, fits 6, fits 7) in
+    record {
+      small = subst (λ (k : ℕ). k < 2 ^ 64) value below;
+      text_is = sym (be_bytes_8 text _ eight fits refl)
+          ∙ ap (to_be_bytes w64) value;
+    })
+    (λ text n s. record {
+      x = to_be_bytes w64 n;
+      spelled = record { size = refl; text_is = s.text_is };
+      related =
+          from_be_bytes-to_be_bytes_8 n s.small;
+    })
     (ExactBytes-test _ (λ bytes n. from_be_bytes w64 bytes ≡ n) (field 8) _ (Exact-field 8)
-        (Tests-pure (from_be_bytes w64)))
+    (Tests-pure (from_be_bytes w64)))
 
 -- a word that is tested, with a fault at its place
 pub Exact-tested : (bad : ℕ → Bool) (fault : ℕ → HeaderFault)
@@ -95,7 +109,7 @@ Exact-padded len = ExactBytes-as (Through (IsField (padded_len len)) (λ text by
       related = ap (take len) s.spelled.text_is ∙ take_at bytes s.spelled.padding len s.holds;
     })
     (ExactBytes-test _ (λ text bytes. take len text ≡ bytes) (field (padded_len len)) _ (Exact-field (padded_len len))
-        (Tests-pure (take len)))
+    (Tests-pure (take len)))
 
 abbrev is_no_name : List ℕ → Bool
 is_no_name name = not (is_name_text name)
@@ -128,8 +142,11 @@ name_read found text name s = record {
   front = s.spelled.count_text;
   back = s.spelled.name_text;
   first = s.spelled.count;
-  second = record { spelled = record { spelled = s.spelled.bytes; holds = refl }; holds =
-      (not_from_true (is_name_text name) s.spelled.named, s.holds) };
+  second = record {
+    spelled = record { spelled = s.spelled.bytes; holds = refl };
+    holds =
+        (not_from_true (is_name_text name) s.spelled.named, s.holds);
+  };
   text_is = s.spelled.text_is;
 }
 
@@ -142,7 +159,7 @@ Exact-name_at found = ExactBytes-as (NameAsRead found) (Such SpellsName (λ name
     (name_read found)
     (Exact-located (λ at. ExactBytes-then SpellsCount _ count _ Exact-count
     (λ len front first. ExactBytes-unless_both _ is_no_name (has_name found) (BadName at) (RepeatedName at) (padded len)
-        (Exact-padded len))))
+    (Exact-padded len))))
 
 -- one of the tests by which a number is looked up among the kinds
 kind_turn : (code : ℕ) (this kind : Kind) (others : Option Kind)
@@ -158,7 +175,7 @@ kind_of-code : (code : ℕ) (kind : Kind) → kind_of code ≡ Some kind → cod
 kind_of-code code kind e =
     kind_turn code Byte kind _ e (λ e. kind_turn code Char kind _ e (λ e. kind_turn code Short kind _ e (λ e.
     kind_turn code Int kind _ e (λ e. kind_turn code Float kind _ e
-        (λ e. kind_turn code Double kind _ e (λ e. absurd cc))))))
+    (λ e. kind_turn code Double kind _ e (λ e. absurd cc))))))
 
 kind_of-code_of : (kind : Kind) → kind_of (code_of kind) ≡ Some kind
 kind_of-code_of Byte = refl
@@ -191,7 +208,11 @@ pub Exact-kind_at : ExactBytes SpellsKind kind_at
 unfolding kind_at
 Exact-kind_at = ExactBytes-as (Through SpellsWord (λ code kind. kind_of code ≡ Some kind)) SpellsKind kind_at
     (λ text kind fits s. s.spelled.text_is ∙ ap (to_be_bytes w32) (kind_of-code s.x kind s.related))
-    (λ text kind s. record { x = code_of kind; spelled = record { small = code_of-small kind; text_is = s }; related =
-        kind_of-code_of kind })
+    (λ text kind s. record {
+      x = code_of kind;
+      spelled = record { small = code_of-small kind; text_is = s };
+      related =
+          kind_of-code_of kind;
+    })
     (Exact-located (λ at. ExactBytes-test SpellsWord _ word (λ code. known (BadType at) (kind_of code)) Exact-word
-        (Tests-known_kind at)))
+    (Tests-known_kind at)))

@@ -68,18 +68,21 @@ Exact-version_at = record {
       let bytes = i.rest in
       let fourth = get_or bytes 3 0 in
       let magic = passes_first (nat_lt (length bytes) 4 || not (bytes_eq (take 3 bytes) (codes "CDF"))) BadMagic _
-          (n, j) e in
+      (n, j) e in
       let known = passes_then (fourth == 1 || fourth == 2) (BadVersion fourth) _ (n, j) magic.1 in
       let clear = or_parts _ _ magic.0 in
       let long : 4 ≤ length bytes = ltb-false _ _ clear.0 in
       let begins : take 3 bytes ≡ codes "CDF" = same_text (take 3 bytes) (codes "CDF") (sym (not-false _ clear.1)) in
       let read = ok_pair fourth n (input (i.at + 4) (drop 4 bytes)) j known.1 in
       let text : take 4 bytes ≡ codes "CDF" ++ n ∷ [] = take-suc bytes 3 0 long
-          ∙ ap₂ (λ (front : List ℕ) (last : ℕ). front ++ last ∷ []) begins read.0 in
+      ∙ ap₂ (λ (front : List ℕ) (last : ℕ). front ++ last ∷ []) begins read.0 in
       record {
         text = take 4 bytes;
-        spelled = record { known = subst (λ v. (v ≡ 1) ⊎ (v ≡ 2)) read.0 (version_known fourth known.0); text_is =
-            text };
+        spelled = record {
+          known = subst (λ v. (v ≡ 1) ⊎ (v ≡ 2)) read.0 (version_known fourth known.0);
+          text_is =
+              text;
+        };
         split = sym (take-append-drop 4 bytes) ∙ ap (λ (k : Input). take 4 bytes ++ k.rest) read.1;
         place = omega (arith, ap (λ (k : Input). k.at) read.1, ap length text);
       };
@@ -93,10 +96,13 @@ unfolding numrecs_at
 Exact-numrecs_at = ExactBytes-as
     (Such SpellsWord (λ n. ((n == STREAMING_COUNT) ≡ false) × (nat_le (2 ^ 31) n ≡ false))) SpellsCount numrecs_at
     (λ text n fits s. SpellsCount-from_word text n s.spelled s.holds.1)
-    (λ text n s. record { spelled = SpellsWord-from_count text n s; holds =
-        (ne_eqb n STREAMING_COUNT (λ e. let h = s.small in omega arith), lt-leb (2 ^ 31) n s.small) })
+    (λ text n s. record {
+      spelled = SpellsWord-from_count text n s;
+      holds =
+          (ne_eqb n STREAMING_COUNT (λ e. let h = s.small in omega arith), lt-leb (2 ^ 31) n s.small);
+    })
     (Exact-located (λ at. ExactBytes-unless_both SpellsWord (λ n. n == STREAMING_COUNT)
-        (λ n. nat_le (2 ^ 31) n) Streaming (BadCount at) word Exact-word))
+    (λ n. nat_le (2 ^ 31) n) Streaming (BadCount at) word Exact-word))
 
 abbrev pub header_of : ℕ → ℕ → List Dim → List Attr → List NcVar → Header
 header_of version numrecs dims attrs vars =
@@ -119,7 +125,7 @@ header_spelled text header s =
     let listed = noted.second in
     let dims = EachFrom-parts (IsFresh name_of_dim) IsOnlyRecord [] sized.a sized.first.holds in
     let vars = EachFrom-parts (IsFresh name_of_var)
-        (λ found var. IsSoundVar sized.a var) [] listed.x listed.spelled.holds in
+    (λ found var. IsSoundVar sized.a var) [] listed.x listed.spelled.holds in
     subst (Such SpellsHeader IsSound text) listed.related (record {
       spelled = record {
         numrecs_text = counted.front;
@@ -163,8 +169,11 @@ header_read text header s =
           a = header.dims;
           front = t.dims_text;
           back = t.attrs_text ++ t.vars_text;
-          first = record { spelled = t.dims; holds =
-              EachFrom-both _ _ [] header.dims fresh_dims (only-from_one_record header.dims sound.one_record) };
+          first = record {
+            spelled = t.dims;
+            holds =
+                EachFrom-both _ _ [] header.dims fresh_dims (only-from_one_record header.dims sound.one_record);
+          };
           second = record {
             a = header.attrs;
             front = t.attrs_text;
@@ -172,9 +181,12 @@ header_read text header s =
             first = record { spelled = t.attrs; holds = fresh-from_AreDistinct name_of_attr header.attrs sound.attrs };
             second = record {
               x = header.vars;
-              spelled = record { spelled = t.vars; holds =
-                  EachFrom-both _ _ [] header.vars fresh_vars
-                  (EachFrom-from_all (IsSoundVar header.dims) [] header.vars sound.each) };
+              spelled = record {
+                spelled = t.vars;
+                holds =
+                    EachFrom-both _ _ [] header.vars fresh_vars
+                    (EachFrom-from_all (IsSoundVar header.dims) [] header.vars sound.each);
+              };
               related = refl;
             };
             text_is = refl;
@@ -206,4 +218,4 @@ Exact-header_at = ExactBytes-as HeaderAsRead (Such SpellsHeader IsSound) header_
     (λ numrecs front second. ExactBytes-then _ _ (list_at DIMENSION_TAG dim_at) _ Exact-dims_at
     (λ dims front third. ExactBytes-then _ _ (list_at ATTRIBUTE_TAG attr_at) _ Exact-attrs_at
     (λ attrs front fourth. ExactBytes-test _ _ (list_at VARIABLE_TAG (var_at version dims)) _
-        (Exact-vars_at version first.known dims) (Tests-pure (header_of version numrecs dims attrs)))))))
+    (Exact-vars_at version first.known dims) (Tests-pure (header_of version numrecs dims attrs)))))))

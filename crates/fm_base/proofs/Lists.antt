@@ -35,8 +35,14 @@ adds_first S P found n text all (x ∷ more) is count s e = record {
   front = s.0;
   back = s.1;
   first = record { spelled = s.2; holds = e.0 };
-  second = record { more = more; all_is = is ∙ sym (append_assoc found (x ∷ []) more); count = omega arith; spelled =
-      s.3; each = e.1 };
+  second = record {
+    more = more;
+    all_is = is ∙ sym (append_assoc found (x ∷ []) more);
+    count = omega arith;
+    spelled =
+        s.3;
+    each = e.1;
+  };
   text_is = s.4;
 }
 
@@ -46,12 +52,21 @@ pub Exact-items_from : {A : Type 0} (S : List ℕ → A → Type 0) (P : List A 
     → ExactBytes (Adds S P found n) (items_from item n found)
 unfolding items_from
 Exact-items_from {A} S P item ei zero found = ExactBytes-as (Is found) (Adds S P found 0) (items_from item zero found)
-    (λ text all fits s. record { more = []; all_is = sym s.value ∙ sym (append-nil found); count = refl; spelled =
-        s.text_is; each = tt })
+    (λ text all fits s. record {
+      more = [];
+      all_is = sym s.value ∙ sym (append-nil found);
+      count = refl;
+      spelled =
+          s.text_is;
+      each = tt;
+    })
     (λ text all s.
     let none : s.more ≡ [] = nil_from_length s.more s.count in
-    record { value = sym (s.all_is ∙ ap (λ (l : List A). found ++ l) none ∙ append-nil found); text_is =
-        subst (λ (l : List A). Spelled S text l) none s.spelled })
+    record {
+      value = sym (s.all_is ∙ ap (λ (l : List A). found ++ l) none ∙ append-nil found);
+      text_is =
+          subst (λ (l : List A). Spelled S text l) none s.spelled;
+    })
     (Exact-pure found)
 Exact-items_from {A} S P item ei (suc n) found =
     ExactBytes-as (Then (Such S (P found)) (λ x. Adds S P (found ++ x ∷ []) n)) (Adds S P found (suc n))
@@ -118,8 +133,11 @@ Exact-list_count tag = ExactBytes-as (Such SpellsWord (λ n. is_no_list_count ta
     (λ text n fits s.
     let good = or_parts _ _ s.holds in
     record { none = none_absent tag n good.1; counted = SpellsCount-from_word text n s.spelled good.0 })
-    (λ text n s. record { spelled = SpellsWord-from_count text n s.counted; holds =
-        or_from _ _ (lt-leb (2 ^ 31) n s.counted.small) (absent_none tag n s.none) })
+    (λ text n s. record {
+      spelled = SpellsWord-from_count text n s.counted;
+      holds =
+          or_from _ _ (lt-leb (2 ^ 31) n s.counted.small) (absent_none tag n s.none);
+    })
     (Exact-tested (is_no_list_count tag) BadCount)
 
 -- a list as it is read: the tag that was found, a count, and the items
@@ -195,8 +213,11 @@ pub Exact-list_at : {A : Type 0} (tag : ℕ) (S : List ℕ → A → Type 0) (P 
 unfolding list_at
 Exact-list_at tag S P item some small ei =
     ExactBytes-as (ListAsRead tag S P) (Such (SpellsList tag S) (EachFrom P [])) (list_at tag item)
-    (λ text items fits s. record { spelled = list_spelled tag S P text items s; holds =
-        subst (EachFrom P []) (sym s.second.second.all_is) s.second.second.each })
+    (λ text items fits s. record {
+      spelled = list_spelled tag S P text items s;
+      holds =
+          subst (EachFrom P []) (sym s.second.second.all_is) s.second.second.each;
+    })
     (λ text items s. list_read tag S P text items some small s.holds s.spelled)
     (ExactBytes-then (SpellsTag tag) _ (tag_at tag) _ (Exact-tag_at tag)
     (λ found front first. ExactBytes-then (SpellsListCount found) _ (list_count found) _ (Exact-list_count found)

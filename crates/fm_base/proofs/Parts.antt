@@ -36,14 +36,20 @@ abbrev DimAsRead : List Dim → List ℕ → Dim → Type 0
 DimAsRead found =
     Then (Such SpellsName (λ name. has_name (map name_of_dim found) name ≡ false))
     (λ name. Through (Such SpellsCount (λ size. (size == 0 && has_record found) ≡ false))
-        (λ size dim. dim_of name size ≡ dim))
+    (λ size dim. dim_of name size ≡ dim))
 
 pub Exact-dim_at : (found : List Dim) → ExactBytes (Such SpellsDim (DimAfter found)) (dim_at found)
 unfolding dim_at
 Exact-dim_at found = ExactBytes-as (DimAsRead found) (Such SpellsDim (DimAfter found)) (dim_at found)
     (λ text dim fits s. subst (Such SpellsDim (DimAfter found) text) s.second.related (record {
-      spelled = record { name_text = s.front; size_text = s.back; name = s.first.spelled; size =
-          s.second.spelled.spelled; text_is = s.text_is };
+      spelled = record {
+        name_text = s.front;
+        size_text = s.back;
+        name = s.first.spelled;
+        size =
+            s.second.spelled.spelled;
+        text_is = s.text_is;
+      };
       holds = (s.first.holds, s.second.spelled.holds);
     }))
     (λ text dim s. record {
@@ -51,14 +57,18 @@ Exact-dim_at found = ExactBytes-as (DimAsRead found) (Such SpellsDim (DimAfter f
       front = s.spelled.name_text;
       back = s.spelled.size_text;
       first = record { spelled = s.spelled.name; holds = s.holds.0 };
-      second = record { x = dim.size; spelled = record { spelled = s.spelled.size; holds = s.holds.1 }; related =
-          refl };
+      second = record {
+        x = dim.size;
+        spelled = record { spelled = s.spelled.size; holds = s.holds.1 };
+        related =
+            refl;
+      };
       text_is = s.spelled.text_is;
     })
     (ExactBytes-then (Such SpellsName (λ name. has_name (map name_of_dim found) name ≡ false)) _
-        (name_at (map name_of_dim found)) _ (Exact-name_at (map name_of_dim found))
+    (name_at (map name_of_dim found)) _ (Exact-name_at (map name_of_dim found))
     (λ name front first. ExactBytes-test _ (λ size dim. dim_of name size ≡ dim) (dim_size found) _
-        (Exact-dim_size found) (Tests-pure (dim_of name))))
+    (Exact-dim_size found) (Tests-pure (dim_of name))))
 
 abbrev pub name_of_attr : Attr → List ℕ
 name_of_attr attr = attr.name
@@ -72,13 +82,13 @@ AttrAsRead found =
     (λ name. Then SpellsKind
     (λ kind. Then SpellsCount
     (λ n. Through (Such SpellsPadded (λ values. length values ≡ n * size_of kind))
-        (λ values attr. attr_of name kind values ≡ attr))))
+    (λ values attr. attr_of name kind values ≡ attr))))
 
 pub Exact-attr_at : (found : List Attr) → ExactBytes (Such SpellsAttr (IsFresh name_of_attr found)) (attr_at found)
 unfolding attr_at
 Exact-attr_at found = ExactBytes-as (AttrAsRead found) (Such SpellsAttr (IsFresh name_of_attr found)) (attr_at found)
     (λ text attr fits s. subst (Such SpellsAttr (IsFresh name_of_attr found) text) s.second.second.second.related
-        (record {
+    (record {
       spelled = record {
         name_text = s.front;
         kind_text = s.second.front;
@@ -110,8 +120,12 @@ Exact-attr_at found = ExactBytes-as (AttrAsRead found) (Such SpellsAttr (IsFresh
           front = t.count_text;
           back = t.values_text;
           first = t.counted;
-          second = record { x = attr.values; spelled = record { spelled = t.values; holds = t.length_is }; related =
-              refl };
+          second = record {
+            x = attr.values;
+            spelled = record { spelled = t.values; holds = t.length_is };
+            related =
+                refl;
+          };
           text_is = refl;
         };
         text_is = refl;
@@ -119,11 +133,11 @@ Exact-attr_at found = ExactBytes-as (AttrAsRead found) (Such SpellsAttr (IsFresh
       text_is = simp append_assoc at t.text_is;
     })
     (ExactBytes-then (Such SpellsName (λ name. has_name (map name_of_attr found) name ≡ false)) _
-        (name_at (map name_of_attr found)) _ (Exact-name_at (map name_of_attr found))
+    (name_at (map name_of_attr found)) _ (Exact-name_at (map name_of_attr found))
     (λ name front first. ExactBytes-then SpellsKind _ kind_at _ Exact-kind_at
     (λ kind front first. ExactBytes-then SpellsCount _ count _ Exact-count
     (λ n front first. ExactBytes-test _ (λ values attr. attr_of name kind values ≡ attr) (padded (n * size_of kind)) _
-        (Exact-padded (n * size_of kind)) (Tests-pure (attr_of name kind))))))
+    (Exact-padded (n * size_of kind)) (Tests-pure (attr_of name kind))))))
 
 -- the attributes of a header or of a variable
 pub Exact-attrs_at : ExactBytes (Such (SpellsList ATTRIBUTE_TAG SpellsAttr) (EachFrom (IsFresh name_of_attr) []))
@@ -154,7 +168,7 @@ Exact-dim_id_at dims found = ExactBytes-as
     (λ text id fits s. record { spelled = s.spelled; holds = (leb-false (length dims) id s.holds.0, s.holds.1) })
     (λ text id s. record { spelled = s.spelled; holds = (lt-leb (length dims) id s.holds.0, s.holds.1) })
     (Exact-located (λ at. ExactBytes-unless_both _ (λ id. nat_le (length dims) id)
-        (λ id. not (length found == 0) && names_record dims id) (BadDimId at) (RecordNotFirst at) word Exact-word))
+    (λ id. not (length found == 0) && names_record dims id) (BadDimId at) (RecordNotFirst at) word Exact-word))
 
 -- the numbers of `rank` dimensions that are there, with the record dimension first or not at all
 abbrev pub AreIds : List Dim → ℕ → List ℕ → Type 0
@@ -169,8 +183,11 @@ Exact-dim_ids dims rank = ExactBytes-as (Adds SpellsWord (IdAfter dims) [] rank)
     let parts = EachFrom-parts (λ found id. id < length dims) (IsRecordFirst dims) [] s.more s.each in
     subst (Such (Spelled SpellsWord) (AreIds dims rank) text) (sym s.all_is) (record {
       spelled = s.spelled;
-      holds = (s.count, AllByRecursion-from_each (λ id. id < length dims) [] s.more parts.0,
-          no_record-from_first dims s.more parts.1);
+      holds = (
+        s.count,
+        AllByRecursion-from_each (λ id. id < length dims) [] s.more parts.0,
+        no_record-from_first dims s.more parts.1,
+      );
     }))
     (λ text ids s. record {
       more = ids;

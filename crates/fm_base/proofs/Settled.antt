@@ -1,14 +1,14 @@
 -- Which bytes a header's parser depends on: those that it takes, and where it fails those up to the end of the field at
 -- fault; where that field is cut short, those before it and how many follow.
-use Rattle.std.proofs.Common.{◌≡◌, ◌⊎◌, inl, inr, ℕ, ◌+◌, ◌<◌, ◌≤◌, Bool, true, false, List, length, take, drop, Option, Some, None, Result, Ok, Err, refl, sym, ap, subst, ◌∙◌, arith}
+use Rattle.std.proofs.Common.{◌≡◌, ◌⊎◌, inl, inr, ℕ, ◌+◌, ◌<◌, ◌≤◌, List, length, take, drop, Ok, Err, refl, sym, ap, subst, ◌∙◌, arith}
 use Rattle.std.proofs.lemmas.List.{take-take, drop-take, drop-drop, length-drop}
 use Rattle.fm_base.specs.declared.fault.HeaderFault.{HeaderFault}
-use Rattle.fm_base.specs.declared.fault.HeaderFault.TheVariants.{BadMagic, BadVersion, Truncated, BadTag, BadCount, BadName, BadType, BadDimId, TwoRecordDims, RecordNotFirst, RepeatedName, Streaming}
+use Rattle.fm_base.specs.declared.fault.HeaderFault.TheVariants.{Truncated}
 use Rattle.fm_base.specs.FaultPlaces.{StandsAt}
 use Rattle.fm_base.specs.Input.{Input}
-use Rattle.fm_base.specs.Parser.{Outcome, and_then, ◌>>=◌, pure, located, unless, known}
+use Rattle.fm_base.specs.Parser.{Outcome, and_then, ◌>>=◌}
 use Rattle.fm_base.specs.Reading.{HeaderParser}
-use Rattle.fm_base.proofs.Exact.{input, done, ok_pair}
+use Rattle.fm_base.proofs.Exact.{input, done}
 
 -- two texts begin with the same n bytes
 abbrev pub Agree : ℕ → List ℕ → List ℕ → Type 0
@@ -123,8 +123,13 @@ then_fails p q fq at rest fault f = record {
   size = f.size;
   some = f.some;
   why = elim f.why [
-    | inl w ↦ inl (record { within = w.within; stands = w.stands; uncut = w.uncut; again =
-        λ other same. ap (λ r. and_then r q) (w.again other same) })
+    | inl w ↦ inl (record {
+      within = w.within;
+      stands = w.stands;
+      uncut = w.uncut;
+      again =
+          λ other same. ap (λ r. and_then r q) (w.again other same);
+    })
     | inr c ↦ inr (record {
       within = c.within;
       short = c.short;
@@ -148,7 +153,7 @@ after_takes {B = B} p q at rest a j b k t u = record {
       let first = t.again other (agree_less t.count (t.count + u.count) rest other (omega arith) same) in
       let second = u.again (drop t.count other) (agree_drop t.count u.count rest other same) in
       ap (λ r. and_then r q) first ∙ second
-          ∙ ap (λ (i : Input). done {A = B × Input} (b, i)) (after_after t.count u.count at other);
+      ∙ ap (λ (i : Input). done {A = B × Input} (b, i)) (after_after t.count u.count at other);
 }
 
 pub after_fails : {A B : Type 0} (p : HeaderParser A) (q : A → HeaderParser B) (at : ℕ) (rest : List ℕ) (a : A)
@@ -168,10 +173,10 @@ after_fails p q at rest a j fault t f =
           uncut = w.uncut;
           again = λ other same.
               let first = t.again other (agree_less t.count (t.count + f.count + f.size) rest other
-                  (omega arith) same) in
+              (omega arith) same) in
               let second = w.again (drop t.count other)
-                  (agree_drop t.count (f.count + f.size) rest other
-                  (subst (λ (n : ℕ). Agree n rest other) (sym sum) same)) in
+              (agree_drop t.count (f.count + f.size) rest other
+              (subst (λ (n : ℕ). Agree n rest other) (sym sum) same)) in
               ap (λ r. and_then r q) first ∙ second;
         })
         | inr c ↦ inr (record {
@@ -183,14 +188,14 @@ after_fails p q at rest a j fault t f =
               let some = f.some in
               let left : length (drop t.count other) < f.count + f.size = omega (arith, length-drop t.count other) in
               ap (λ r. and_then r q) first ∙ c.again (drop t.count other)
-                  (agree_drop t.count f.count rest other same) left;
+              (agree_drop t.count f.count rest other same) left;
           long = λ other same goes_on.
               let first = t.again other (agree_less t.count (t.count + f.count) rest other (omega arith) same) in
               let left : f.count + f.size ≤ length (drop t.count other) = omega (arith, length-drop t.count other) in
               let second = c.long (drop t.count other) (agree_drop t.count f.count rest other same) left in
               let end : at + t.count + (f.count + f.size) ≡ at + (t.count + f.count + f.size) = omega arith in
               subst (λ r. Beyond (at + (t.count + f.count + f.size)) r) (sym (ap (λ r. and_then r q) first))
-                  (subst (λ (n : ℕ). Beyond n (q a (input (at + t.count) (drop t.count other)))) end second);
+              (subst (λ (n : ℕ). Beyond n (q a (input (at + t.count) (drop t.count other)))) end second);
         })
       ];
     }
@@ -203,8 +208,8 @@ Local-then {A} {B} {p} {q} lp lq = record {
     | inr s ↦
         let t = lp.takes at rest s.a s.j s.first in
         after_takes p q at rest s.a s.j b k t
-            ((lq s.a).takes (at + t.count) (drop t.count rest) b k
-            (subst (λ (i : Input). q s.a i ≡ Ok (b, k)) t.input_is s.second))
+        ((lq s.a).takes (at + t.count) (drop t.count rest) b k
+        (subst (λ (i : Input). q s.a i ≡ Ok (b, k)) t.input_is s.second))
   ];
   fails = λ at rest fault e. elim (stepped (p (input at rest)) q (Err fault) e) [
     | inl wrong ↦ subst (λ (x : HeaderFault). Failed (p >>= q) at rest x) (sym (err_is {A = B} fault wrong.0 wrong.2))
@@ -212,8 +217,8 @@ Local-then {A} {B} {p} {q} lp lq = record {
     | inr s ↦
         let t = lp.takes at rest s.a s.j s.first in
         after_fails p q at rest s.a s.j fault t
-            ((lq s.a).fails (at + t.count) (drop t.count rest) fault
-            (subst (λ (i : Input). q s.a i ≡ Err fault) t.input_is s.second))
+        ((lq s.a).fails (at + t.count) (drop t.count rest) fault
+        (subst (λ (i : Input). q s.a i ≡ Err fault) t.input_is s.second))
   ];
   forward = λ at rest. beyond_then at (p (input at rest)) q forwards (lp.forward at rest);
 }

@@ -1,21 +1,19 @@
 -- Each part of a header depends on its own bytes, and fails as its field at fault does.
-use Rattle.std.proofs.Common.{◌≡◌, ℕ, zero, suc, ◌+◌, ◌*◌, ◌^◌, ◌<◌, Bool, true, false, cond, not, ◌&&◌, ◌||◌, ◌==◌, nat_le, nat_lt, List, [], ◌∷◌, ◌++◌, length, take, get_or, map, codes, Ok, Err, refl, inl, inr, arith}
+use Rattle.std.proofs.Common.{◌≡◌, ℕ, zero, suc, ◌*◌, ◌^◌, Bool, true, false, cond, not, ◌&&◌, ◌||◌, ◌==◌, nat_le, nat_lt, List, [], ◌∷◌, ◌++◌, length, Ok, Err, refl, arith}
 use Rattle.std.specs.Int.{w32, from_be_bytes}
-use Rattle.std.specs.Str.{bytes_eq}
-use Rattle.std.proofs.lemmas.Bool.{le-ltb}
 use Rattle.fm_base.specs.declared.fault.HeaderFault.{HeaderFault}
-use Rattle.fm_base.specs.declared.fault.HeaderFault.TheVariants.{BadMagic, BadVersion, Truncated, BadTag, BadCount, BadName, BadType, BadDimId, TwoRecordDims, RecordNotFirst, RepeatedName, Streaming}
+use Rattle.fm_base.specs.declared.fault.HeaderFault.TheVariants.{BadTag, BadCount, BadName, BadType, BadDimId, TwoRecordDims, RecordNotFirst, RepeatedName, Streaming}
 use Rattle.fm_base.specs.declared.header.Attr.{Attr}
 use Rattle.fm_base.specs.declared.header.Dim.{Dim}
 use Rattle.fm_base.specs.declared.header.Header.{Header}
 use Rattle.fm_base.specs.declared.header.NcVar.{NcVar}
 use Rattle.fm_base.specs.Format.{padded_len, DIMENSION_TAG, VARIABLE_TAG, ATTRIBUTE_TAG, STREAMING as STREAMING_COUNT, MAX_RANK, is_name_text, has_name, has_record}
 use Rattle.fm_base.specs.Kind.{size_of}
-use Rattle.fm_base.specs.Parser.{Outcome, and_then, ◌>>=◌, pure, located, unless, known}
-use Rattle.fm_base.specs.Reading.{HeaderParser, field, word, long_word, count, padded, name_at, kind_of, kind_at, items_from, tag_at, list_count, list_at, dim_size, dim_at, attr_at, rank_at, names_record, dim_id_at, begin_at, var_at, version_at, numrecs_at, header_at}
+use Rattle.fm_base.specs.Parser.{Outcome, and_then, ◌>>=◌, pure, unless, known}
+use Rattle.fm_base.specs.Reading.{HeaderParser, field, word, long_word, count, padded, name_at, kind_of, kind_at, items_from, tag_at, list_count, list_at, dim_size, dim_at, attr_at, rank_at, names_record, dim_id_at, begin_at, var_at, numrecs_at}
 use Rattle.fm_base.proofs.Exact.{input}
-use Rattle.fm_base.proofs.Settled.{after, Local, Local-then}
-use Rattle.fm_base.proofs.SettledSteps.{Local-pure, Local-located, Local-field, IsAt, Decides, Decides-unless, Decides-known, Decides-then, Advances, Advances-field, Advances-then, Advances-tested, Local-tested, Local-refit}
+use Rattle.fm_base.proofs.Settled.{Local, Local-then}
+use Rattle.fm_base.proofs.SettledSteps.{Local-pure, Local-field, Decides, Decides-unless, Decides-known, Decides-then, Advances, Advances-field, Advances-then, Advances-tested, Local-tested, Local-refit}
 
 Local-word : Local word
 unfolding word
@@ -59,7 +57,7 @@ Local-name_at : (found : List (List ℕ)) → Local (name_at found)
 unfolding name_at
 Local-name_at found = Local-refit (λ at rest. joined (count (input at rest)) (tested_name found at))
     (Local-tested {p = count >>= λ len. padded len} (tested_name found) (Local-then Local-count Local-padded)
-        (Advances-then count padded Advances-count Local-padded) (Decides-name found))
+    (Advances-then count padded Advances-count Local-padded) (Decides-name found))
   where
     joined : (r : Outcome ℕ HeaderFault) (f : List ℕ → HeaderParser (List ℕ))
         → and_then (and_then r (λ len. padded len)) f ≡ and_then r (λ len. padded len >>= f)
@@ -93,7 +91,7 @@ pub Decides-list_count : (tag at n : ℕ)
     → Decides at (unless (nat_le (2 ^ 31) n || (tag == 0 && not (n == 0))) (BadCount at) n)
 Decides-list_count tag at n =
     Decides-unless at (nat_le (2 ^ 31) n || (tag == 0 && not (n == 0))) (BadCount at) n
-      (record { stands = refl; uncut = λ k. tt })
+    (record { stands = refl; uncut = λ k. tt })
 
 Local-list_count : (tag : ℕ) → Local (list_count tag)
 unfolding list_count
@@ -145,7 +143,7 @@ tested_id dims found at id = unless (nat_le (length dims) id) (BadDimId at) id
 pub Decides-id : (dims : List Dim) (found : List ℕ) (at id : ℕ) → Decides at (tested_id dims found at id)
 Decides-id dims found at id =
     Decides-then at _ _ (Decides-unless at (nat_le (length dims) id) (BadDimId at) id
-        (record { stands = refl; uncut = λ k. tt }))
+    (record { stands = refl; uncut = λ k. tt }))
     (λ id. Decides-unless at _ (RecordNotFirst at) id (record { stands = refl; uncut = λ k. tt }))
 
 Local-dim_id_at : (dims : List Dim) (found : List ℕ) → Local (dim_id_at dims found)
@@ -164,9 +162,9 @@ Local-var_at : (version : ℕ) (dims : List Dim) (found : List NcVar) → Local 
 unfolding var_at
 Local-var_at version dims found =
     Local-then (Local-name_at _) (λ name. Local-then Local-rank_at
-        (λ rank. Local-then (Local-items_from (dim_id_at dims) (Local-dim_id_at dims) rank [])
+    (λ rank. Local-then (Local-items_from (dim_id_at dims) (Local-dim_id_at dims) rank [])
     (λ ids. Local-then (Local-list_at ATTRIBUTE_TAG attr_at Local-attr_at)
-        (λ attrs. Local-then Local-kind_at (λ kind. Local-then (Local-field 4)
+    (λ attrs. Local-then Local-kind_at (λ kind. Local-then (Local-field 4)
     (λ size. Local-then (Local-begin_at version) (λ begin. Local-pure _)))))))
 
 -- the tests of the number of records
@@ -176,7 +174,7 @@ tested_numrecs at n = unless (n == STREAMING_COUNT) Streaming n >>= λ n. unless
 pub Decides-numrecs : (at n : ℕ) → Decides at (tested_numrecs at n)
 Decides-numrecs at n =
     Decides-then at _ _ (Decides-unless at (n == STREAMING_COUNT) Streaming n (record { stands = tt; uncut = λ k. tt }))
-      (Decides-count at)
+    (Decides-count at)
 
 Local-numrecs_at : Local numrecs_at
 unfolding numrecs_at
@@ -194,6 +192,6 @@ after_version version = do
 pub Local-after_version : (version : ℕ) → Local (after_version version)
 Local-after_version version = Local-then Local-numrecs_at
     (λ numrecs. Local-then (Local-list_at DIMENSION_TAG dim_at Local-dim_at)
-        (λ dims. Local-then (Local-list_at ATTRIBUTE_TAG attr_at Local-attr_at)
+    (λ dims. Local-then (Local-list_at ATTRIBUTE_TAG attr_at Local-attr_at)
     (λ attrs. Local-then (Local-list_at VARIABLE_TAG (var_at version dims) (Local-var_at version dims))
-        (λ vars. Local-pure _))))
+    (λ vars. Local-pure _))))

@@ -1,5 +1,5 @@
 -- One field depends on its own bytes, a step that reads nothing on none, and a test of what was read on what was read.
-use Rattle.std.proofs.Common.{◌≡◌, ◌⊎◌, inl, inr, ℕ, ◌+◌, ◌<◌, ◌≤◌, Bool, true, false, cond, ltb, List, length, take, drop, Option, Some, None, Result, Ok, Err, refl, sym, ap, subst, ◌∙◌, length-take, arith}
+use Rattle.std.proofs.Common.{◌≡◌, ◌⊎◌, inl, inr, ℕ, ◌+◌, ◌<◌, ◌≤◌, Bool, true, false, cond, ltb, List, length, take, Option, Some, None, Ok, Err, refl, sym, ap, subst, ◌∙◌, length-take, arith}
 use Rattle.std.proofs.lemmas.Bool.{ltb-false, le-ltb, ltb-true, lt-ltb}
 use Rattle.fm_base.specs.declared.fault.HeaderFault.{HeaderFault}
 use Rattle.fm_base.specs.declared.fault.HeaderFault.TheVariants.{Truncated}
@@ -7,8 +7,8 @@ use Rattle.fm_base.specs.FaultPlaces.{StandsAt}
 use Rattle.fm_base.specs.Input.{Input}
 use Rattle.fm_base.specs.Parser.{Outcome, and_then, ◌>>=◌, pure, located, unless, known}
 use Rattle.fm_base.specs.Reading.{HeaderParser, field}
-use Rattle.fm_base.proofs.Exact.{input, done, ok_pair}
-use Rattle.fm_base.proofs.Settled.{Agree, IsCutLater, IsCutAt, agree_less, after, Beyond, beyond_less, Taken, IsWhole, IsCut, Failed, Local, failed, err_is}
+use Rattle.fm_base.proofs.Exact.{input, ok_pair}
+use Rattle.fm_base.proofs.Settled.{Agree, IsCutLater, IsCutAt, agree_less, after, Beyond, Taken, Failed, Local, failed, err_is}
 
 pub Local-pure : {A : Type 0} (x : A) → Local (pure x)
 Local-pure {A = A} x = record {
@@ -36,8 +36,14 @@ Local-located lf = record {
     some = f.some;
     why = elim f.why [
       | inl w ↦ inl (record { within = w.within; stands = w.stands; uncut = w.uncut; again = w.again })
-      | inr c ↦ inr (record { within = c.within; short = c.short; fault_is = c.fault_is; again = c.again; long =
-          c.long })
+      | inr c ↦ inr (record {
+        within = c.within;
+        short = c.short;
+        fault_is = c.fault_is;
+        again = c.again;
+        long =
+            c.long;
+      })
     ];
   };
   forward = λ at rest. (lf at).forward at rest;
@@ -144,7 +150,7 @@ Advances-then {A} {B} p q ap_ lq at rest b k e = by_first (p (input at rest)) re
     by_first (Ok x) is f =
         let first = ap_ at rest x.0 x.1 is in
         let later : x.1.at ≤ k.at = subst (λ (r : Outcome B HeaderFault). Beyond x.1.at r) f
-            ((lq x.0).forward x.1.at x.1.rest) in
+        ((lq x.0).forward x.1.at x.1.rest) in
         omega arith
 
 pub Advances-tested : {A B : Type 0} (p : HeaderParser A) (f : ℕ → A → HeaderParser B) → Advances p
@@ -178,8 +184,10 @@ Local-tested {A} {B} {p} f lp some df = record {
       | inl good ↦ rw (good.1 x.1) h
       | inr bad ↦ rw (bad.2 x.1) (bad.1.uncut n)
     ]
+
     whole : HeaderParser B
     whole = located (λ at. p >>= f at)
+
     takes_by : (at : ℕ) (rest : List ℕ) (b : B) (k : Input) (r : Outcome A HeaderFault) → p (input at rest) ≡ r
         → and_then r (f at) ≡ Ok (b, k) → Taken whole at rest b k
     takes_by at rest b k (Err fault) is e = absurd cc
@@ -197,6 +205,7 @@ Local-tested {A} {B} {p} f lp some df = record {
           }
       | inr bad ↦ let no = sym (bad.2 x.1) ∙ e in absurd cc
     ]
+
     fails_by : (at : ℕ) (rest : List ℕ) (fault : HeaderFault) (r : Outcome A HeaderFault) → p (input at rest) ≡ r
         → and_then r (f at) ≡ Err fault → Failed whole at rest fault
     fails_by at rest fault (Err first) is e =
@@ -207,8 +216,13 @@ Local-tested {A} {B} {p} f lp some df = record {
           size = t.size;
           some = t.some;
           why = elim t.why [
-            | inl w ↦ inl (record { within = w.within; stands = w.stands; uncut = w.uncut; again =
-                λ other agree. ap (λ r. and_then r (f at)) (w.again other agree) })
+            | inl w ↦ inl (record {
+              within = w.within;
+              stands = w.stands;
+              uncut = w.uncut;
+              again =
+                  λ other agree. ap (λ r. and_then r (f at)) (w.again other agree);
+            })
             | inr c ↦ inr (record {
               within = c.within;
               short = c.short;
@@ -249,8 +263,13 @@ pub Local-refit : {A : Type 0} {p q : HeaderParser A}
 Local-refit {A} {p} {q} same lp = record {
   takes = λ at rest a j e.
       let t = lp.takes at rest a j (same at rest ∙ e) in
-      record { count = t.count; input_is = t.input_is; within = t.within; again = λ other agree. sym (same at other)
-          ∙ t.again other agree };
+      record {
+        count = t.count;
+        input_is = t.input_is;
+        within = t.within;
+        again = λ other agree. sym (same at other)
+            ∙ t.again other agree;
+      };
   fails = λ at rest fault e.
       let f = lp.fails at rest fault (same at rest ∙ e) in
       record {
@@ -258,8 +277,13 @@ Local-refit {A} {p} {q} same lp = record {
         size = f.size;
         some = f.some;
         why = elim f.why [
-          | inl w ↦ inl (record { within = w.within; stands = w.stands; uncut = w.uncut; again =
-              λ other agree. sym (same at other) ∙ w.again other agree })
+          | inl w ↦ inl (record {
+            within = w.within;
+            stands = w.stands;
+            uncut = w.uncut;
+            again =
+                λ other agree. sym (same at other) ∙ w.again other agree;
+          })
           | inr c ↦ inr (record {
             within = c.within;
             short = c.short;

@@ -56,7 +56,7 @@ pub Exact-field : (n : ℕ) → ExactBytes (IsField n) (field n)
 Exact-field n = record {
   takes = λ i a j fits e.
       let g = guard (ltb (length i.rest) n) (Truncated i.at)
-          (take n i.rest, record { at = i.at + n; rest = drop n i.rest }) (a, j) e in
+      (take n i.rest, record { at = i.at + n; rest = drop n i.rest }) (a, j) e in
       let long : n ≤ length i.rest = ltb-false _ _ g.0 in
       let value : take n i.rest ≡ a = ap (λ (p : List ℕ × Input). p.0) g.1 in
       let left : record { at = i.at + n; rest = drop n i.rest } ≡ j = ap (λ (p : List ℕ × Input). p.1) g.1 in
@@ -134,8 +134,11 @@ pub ExactBytes-unless : {A : Type 0} (S : List ℕ → A → Type 0) (bad : A �
     (p : HeaderParser A) → ExactBytes S p
     → ExactBytes (Such S (λ x. bad x ≡ false)) (p >>= λ x. unless (bad x) fault x)
 ExactBytes-unless S bad fault p ep = ExactBytes-as (Through S (Tested bad)) _ _
-    (λ text y fits s. record { spelled = subst (S text) s.related.1 s.spelled; holds = ap bad (sym s.related.1)
-        ∙ s.related.0 })
+    (λ text y fits s. record {
+      spelled = subst (S text) s.related.1 s.spelled;
+      holds = ap bad (sym s.related.1)
+          ∙ s.related.0;
+    })
     (λ text y s. record { x = y; spelled = s.spelled; related = (s.holds, refl) })
     (ExactBytes-test S (Tested bad) p _ ep (Tests-unless bad fault))
 
@@ -162,7 +165,10 @@ pub ExactBytes-unless_both : {A : Type 0} (S : List ℕ → A → Type 0) (bad w
     (p >>= λ x. unless (bad x) fault x >>= λ y. unless (worse y) second y)
 ExactBytes-unless_both {A} S bad worse fault second p ep = ExactBytes-as (Through S (TestedBoth bad worse)) _ _
     (λ text y fits s. let same = s.related.2 in
-        record { spelled = subst (S text) same s.spelled; holds =
-        (ap bad (sym same) ∙ s.related.0, ap worse (sym same) ∙ s.related.1) })
+    record {
+      spelled = subst (S text) same s.spelled;
+      holds =
+          (ap bad (sym same) ∙ s.related.0, ap worse (sym same) ∙ s.related.1);
+    })
     (λ text y s. record { x = y; spelled = s.spelled; related = (s.holds.0, s.holds.1, refl) })
     (ExactBytes-test S (TestedBoth bad worse) p _ ep (Tests-unless_both bad worse fault second))

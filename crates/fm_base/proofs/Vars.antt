@@ -131,11 +131,11 @@ Exact-var_at version known dims found =
     (λ text var fits s. var_spelled version dims found text var s)
     (var_read version dims found)
     (ExactBytes-then (Such SpellsName (λ name. has_name (map name_of_var found) name ≡ false)) _
-        (name_at (map name_of_var found)) _ (Exact-name_at (map name_of_var found))
+    (name_at (map name_of_var found)) _ (Exact-name_at (map name_of_var found))
     (λ name front first. ExactBytes-then _ _ rank_at _ Exact-rank_at
     (λ rank front first. ExactBytes-then _ _ (items_from (dim_id_at dims) rank []) _ (Exact-dim_ids dims rank)
     (λ ids front first. ExactBytes-then _ _ (list_at ATTRIBUTE_TAG attr_at) _ Exact-attrs_at
     (λ attrs front first. ExactBytes-then SpellsKind _ kind_at _ Exact-kind_at
     (λ kind front first. ExactBytes-then (IsField 4) _ (field 4) _ (Exact-field 4)
     (λ size front first. ExactBytes-test _ _ (begin_at version) _ (Exact-begin_at version known)
-        (Tests-pure (var_of name ids attrs kind)))))))))
+    (Tests-pure (var_of name ids attrs kind)))))))))

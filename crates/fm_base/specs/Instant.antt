@@ -13,7 +13,7 @@ instant_form = codes "0000-00-00T00:00:00Z"
 unfoldable pub instant_of : List ℕ → Option ℤ
 instant_of text = if begins_in_form instant_form text && length text == 20
     then moment_of (number_at text 0 4) (number_at text 5 2) (number_at text 8 2)
-        (number_at text 11 2) (number_at text 14 2) (number_at text 17 2)
+    (number_at text 11 2) (number_at text 14 2) (number_at text 17 2)
     else None
 
 -- the instants of the years 0 to 9999

@@ -28,7 +28,7 @@ abbrev pub pattern_of_bytes : Kind → List ℕ → Option Pattern
 pattern_of_bytes kinds.Char bytes = None
 pattern_of_bytes kind bytes =
     if length bytes == size_of kind then Some (record { kind = kind; bits = from_be_bytes (width_of kind) bytes })
-        else None
+    else None
 
 -- n * 2^e with a sign, written with an odd number, or with 0 and the exponent 0
 unfoldable pub finite : Bool → ℕ → ℤ → Value

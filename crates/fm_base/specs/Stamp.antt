@@ -35,7 +35,7 @@ stamp_form = codes "00000000_0000"
 unfoldable pub stamp_of : List ℕ → Option ℤ
 stamp_of text = if begins_in_form stamp_form text
     then moment_of (number_at text 0 4) (number_at text 4 2) (number_at text 6 2)
-        (number_at text 9 2) (number_at text 11 2) 0
+    (number_at text 9 2) (number_at text 11 2) 0
     else None
 
 -- the Unix seconds of the moment whose `yyyyMMdd_HHmm` follows this prefix of a name

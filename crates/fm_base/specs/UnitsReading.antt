@@ -59,8 +59,10 @@ letters_at (letter ∷ letters) = letter_at letter >>= λ done. letters_at lette
 
 -- the longest run of bytes that pass, up to `most` of them
 abbrev pub run_at : (ℕ → Bool) → ℕ → UnitsParser (List ℕ)
-run_at test most = λ i. Ok (take (prefix_len test (take most i.rest)) i.rest,
-    past (prefix_len test (take most i.rest)) i)
+run_at test most = λ i. Ok (
+  take (prefix_len test (take most i.rest)) i.rest,
+  past (prefix_len test (take most i.rest)) i,
+)
 
 -- how many times this byte stands there
 unfoldable pub many_at : ℕ → UnitsParser ℕ

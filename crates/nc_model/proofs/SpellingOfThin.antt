@@ -83,9 +83,19 @@ SpellsDims-thin shape small = inr (record {
       ++ ((name_with (codes "lat") (0 ∷ []) ++ word shape.lats)
       ++ ((name_with (codes "lon") (0 ∷ []) ++ word shape.lons) ++ []));
   count = count_of 3 (omega arith);
-  each = (_, _, dim_with _ (codes "time") 0 time_name (omega arith),
-      (_, _, dim_with _ (codes "lat") shape.lats lat_name (omega arith),
-      (_, _, dim_with _ (codes "lon") shape.lons lon_name (omega arith), refl, refl), refl), refl);
+  each = (
+    _,
+    _,
+    dim_with _ (codes "time") 0 time_name (omega arith),
+    (
+      _,
+      _,
+      dim_with _ (codes "lat") shape.lats lat_name (omega arith),
+      (_, _, dim_with _ (codes "lon") shape.lons lon_name (omega arith), refl, refl),
+      refl,
+    ),
+    refl,
+  );
   text_is = refl;
 })
 
@@ -118,8 +128,13 @@ ids_text (id ∷ ids) = word id ++ ids_text ids
 SpellsIds : (ids : List ℕ) → AllByRecursion (λ id. id < 2 ^ 32) ids → Spelled SpellsWord (ids_text ids) ids
 unfolding ids_text
 SpellsIds [] small = refl
-SpellsIds (id ∷ ids) small = (word id, ids_text ids, record { small = small.0; text_is = refl }, SpellsIds ids small.1,
-    refl)
+SpellsIds (id ∷ ids) small = (
+  word id,
+  ids_text ids,
+  record { small = small.0; text_is = refl },
+  SpellsIds ids small.1,
+  refl,
+)
 
 -- a variable with these attributes; its vsize isn't looked at
 var_text : List ℕ → List ℕ → List ℕ → ℕ → ℕ → ℕ → List ℕ
@@ -171,8 +186,14 @@ vars_text shape = word 11 ++ word 4
 SpellsTime : (shape : ThinShape) → IsSmall shape → SpellsVar 1 (time_text shape) (time_var shape)
 unfolding time_text
 SpellsTime shape small = SpellsVar-with (time_var shape) _ _ 4 time_name (omega arith) (omega arith, tt)
-    (inr (record { count_text = word 1; items_text = units_text ++ []; count = count_of 1 (omega arith); each =
-    (units_text, [], SpellsUnits, refl, refl); text_is = refl }))
+    (inr (record {
+      count_text = word 1;
+      items_text = units_text ++ [];
+      count = count_of 1 (omega arith);
+      each =
+          (units_text, [], SpellsUnits, refl, refl);
+      text_is = refl;
+    }))
     (let lats = small.lats in let lons = small.lons in omega arith)
 
 SpellsVars-thin : (shape : ThinShape) → IsSmall shape → SpellsList 11 (SpellsVar 1) (vars_text shape) (vars_of shape)
@@ -181,12 +202,12 @@ SpellsVars-thin shape small =
     let lats = small.lats in
     let lons = small.lons in
     let lat = SpellsVar-with (float_var (codes "lat") (1 ∷ []) 276) _ _ (4 * shape.lats) lat_name (omega arith)
-        (omega arith, tt) no_attrs (omega arith) in
+    (omega arith, tt) no_attrs (omega arith) in
     let lon = SpellsVar-with (float_var (codes "lon") (2 ∷ []) (276 + 4 * shape.lats)) _ _ (4 * shape.lons) lon_name
-        (omega arith) (omega arith, tt) no_attrs (omega arith) in
+    (omega arith) (omega arith, tt) no_attrs (omega arith) in
     let t = SpellsVar-with (float_var (codes "t") (0 ∷ 1 ∷ 2 ∷ []) (data_begin shape + 4)) _ _
-        (4 * shape.lats * shape.lons) t_name (omega arith) (omega arith, (omega arith, (omega arith, tt))) no_attrs
-        (omega arith) in
+    (4 * shape.lats * shape.lons) t_name (omega arith) (omega arith, (omega arith, (omega arith, tt))) no_attrs
+    (omega arith) in
     inr (record {
       count_text = word 4;
       items_text = _;

@@ -51,10 +51,10 @@ number_at-append : (front rest : List ℕ) (n at : ℕ) → n < 2 ^ 32 → lengt
 number_at-append front rest n at small len =
     let word = to_be_bytes w32 n in
     let far : length (front ++ (word ++ rest)) ≡ at + 4 + length rest =
-        omega (arith, length-append front (word ++ rest), length-append word rest) in
+    omega (arith, length-append front (word ++ rest), length-append word rest) in
     let long : nat_lt (length (front ++ (word ++ rest))) (at + 4) ≡ false = grind (arith, nat_tests) in
     let read : take 4 (drop at (front ++ (word ++ rest))) ≡ word =
-        rw (drop_at front (word ++ rest) at len, take_at word rest 4 refl) refl in
+    rw (drop_at front (word ++ rest) at len, take_at word rest 4 refl) refl in
     rw (long, read, from_be_bytes-to_be_bytes_4 n small) refl
 
 -- the numbers of a thin file stand at their places
@@ -70,17 +70,17 @@ shape_in-thin bytes shape e =
     let rest = drop (length (header_text shape)) bytes in
     let part : ℕ → List ℕ = λ k. flat_map (to_be_bytes w32) (take k words) in
     let times : number_at bytes 4 ≡ shape.times =
-        subst (λ b. number_at b 4 ≡ shape.times) (sym whole)
-        (number_at-append (part 1) (flat_map (to_be_bytes w32) (drop 2 words) ++ rest) shape.times 4
-        (omega arith) refl) in
+    subst (λ b. number_at b 4 ≡ shape.times) (sym whole)
+    (number_at-append (part 1) (flat_map (to_be_bytes w32) (drop 2 words) ++ rest) shape.times 4
+    (omega arith) refl) in
     let lats : number_at bytes 36 ≡ shape.lats =
-        subst (λ b. number_at b 36 ≡ shape.lats) (sym whole)
-        (number_at-append (part 9) (flat_map (to_be_bytes w32) (drop 10 words) ++ rest) shape.lats 36
-        (omega arith) refl) in
+    subst (λ b. number_at b 36 ≡ shape.lats) (sym whole)
+    (number_at-append (part 9) (flat_map (to_be_bytes w32) (drop 10 words) ++ rest) shape.lats 36
+    (omega arith) refl) in
     let lons : number_at bytes 48 ≡ shape.lons =
-        subst (λ b. number_at b 48 ≡ shape.lons) (sym whole)
-        (number_at-append (part 12) (flat_map (to_be_bytes w32) (drop 13 words) ++ rest) shape.lons 48
-        (omega arith) refl) in
+    subst (λ b. number_at b 48 ≡ shape.lons) (sym whole)
+    (number_at-append (part 12) (flat_map (to_be_bytes w32) (drop 13 words) ++ rest) shape.lons 48
+    (omega arith) refl) in
     rw (times, lats, lons) refl
 
 -- bytes that aren't thin with the numbers at their places aren't thin with any

@@ -107,8 +107,13 @@ abbrev pub units_attr : Attr
 units_attr = record { name = codes "units"; kind = Char; values = codes "seconds since 1970-01-01 00:00:00" }
 
 abbrev pub time_var : ThinShape → NcVar
-time_var shape = record { name = codes "time"; dims = 0 ∷ []; attrs = units_attr ∷ []; kind = Int;
-    begin = data_begin shape }
+time_var shape = record {
+  name = codes "time";
+  dims = 0 ∷ [];
+  attrs = units_attr ∷ [];
+  kind = Int;
+  begin = data_begin shape;
+}
 
 -- a variable of 32-bit floats without attributes
 abbrev pub float_var : List ℕ → List ℕ → ℕ → NcVar
