@@ -19,7 +19,7 @@ pub fault_or-none : {A : Type 0} (o : Option LayoutFault) (value found : A) → 
 fault_or-none None value found is = refl
 fault_or-none (Some fault) value found is = absurd cc
 
-fault_or-some : {A : Type 0} (o : Option LayoutFault) (value : A) (fault : LayoutFault) → fault_or o value ≡ Err fault → o ≡ Some fault
+pub fault_or-some : {A : Type 0} (o : Option LayoutFault) (value : A) (fault : LayoutFault) → fault_or o value ≡ Err fault → o ≡ Some fault
 fault_or-some None value fault is = absurd cc
 fault_or-some (Some other) value fault is = cc
 

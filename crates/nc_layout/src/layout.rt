@@ -1,7 +1,7 @@
 //! A layout, and what it returns.
-ghost use Rattle.std.specs.Prelude.{◌≡◌, ◌+◌, ◌<◌, ◌≤◌, length, slice_index};
+ghost use Rattle.std.specs.Prelude.{◌≡◌, ◌+◌, ◌<◌, ◌≤◌, None, length, slice_index};
 ghost use Rattle.fm_base.specs.Kind.{size_of};
-ghost use Rattle.fm_base.specs.Layout.{shape_of, vsize, record_size, place_of};
+ghost use Rattle.fm_base.specs.Layout.{shape_of, vsize, record_size, place_of, layout_fault};
 
 use crate::dims::{is_record_var, size_at};
 use crate::elements::{part_begin_of, place_of};
@@ -30,6 +30,7 @@ impl Model for Layout {
 }
 
 impl Layout {
+    ghost use Rattle.nc_layout.specs.Faults.{CanLayOut};
     ghost use Rattle.nc_layout.specs.Places.{
       HasDim,
       HasElement,
@@ -39,9 +40,11 @@ impl Layout {
       part_count,
     };
 
-    /// The header.
+    /// The header, which has no fault of its layout.
     pub fn header(&self) -> &Header
-        ensures { result.now ≡ self.now.header }
+        ensures exact { result.now ≡ self.now.header }
+        ensures sound { CanLayOut self.now.header }
+        ensures faultless { layout_fault self.now.header self.now.len ≡ None }
     {
         &self.header
     }
