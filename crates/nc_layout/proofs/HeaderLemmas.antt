@@ -1,5 +1,5 @@
 -- The shapes of a header's variables, and that no fixed dimension of a sound header has the length 0.
-use Rattle.std.proofs.Common.{◌≡◌, ℕ, ◌+◌, ◌*◌, ◌<◌, ◌≤◌, length, All, arith, inl, inr, Bool, true, false, List, [], ◌∷◌, map, Option, Some, None, refl, sym, ap, ◌∙◌, cond, drop}
+use Rattle.std.proofs.Common.{◌≡◌, ℕ, ◌+◌, ◌*◌, ◌<◌, ◌≤◌, length, All, arith, inl, inr, Bool, true, false, List, [], ◌∷◌, map, Option, Some, None, refl, sym, ap, ap₂, subst, ◌∙◌, cond, drop}
 use Rattle.std.specs.List.{slice_get, slice_index, AllByRecursion}
 use Rattle.std.specs.Option.{option_map_or, IfSome}
 use Rattle.std.proofs.lemmas.Option.{slice_get_cases}
@@ -11,12 +11,12 @@ use Rattle.fm_base.specs.declared.header.Header.{Header}
 use Rattle.fm_base.specs.declared.header.NcVar.{NcVar}
 use Rattle.fm_base.specs.Format.{is_record}
 use Rattle.fm_base.specs.Kind.{size_of}
-use Rattle.fm_base.specs.Layout.{size_in, size_at, is_record_var, shape_of, fixed_shape, rank_in, place_of}
+use Rattle.fm_base.specs.Layout.{size_in, size_at, is_record_var, shape_of, fixed_shape, record_size, rank_in, place_of}
 use Rattle.fm_base.specs.Reading.{names_record}
 use Rattle.fm_base.specs.Spelling.{IsSoundVar, NamesNoRecord}
 use Rattle.nc_layout.specs.Faults.{CanLayOut}
-use Rattle.nc_layout.specs.Kept.{HasLengths}
-use Rattle.nc_layout.specs.Places.{part_begin}
+use Rattle.nc_layout.specs.Kept.{HasLengths, part_of, index_in_part}
+use Rattle.nc_layout.specs.Places.{IsIndex, part_begin, part_count}
 
 -- the record dimension has as many places as there are records
 size_at-record : (header : Header) (id : ℕ) → names_record header.dims id ≡ true → size_at header id ≡ header.numrecs
@@ -41,17 +41,45 @@ shape_of-record header var is = at var.dims refl
         let named : names_record header.dims id ≡ true = rw some at is in
         rw is (rw some (ap (λ n. n ∷ map (size_at header) ids) (size_at-record header id named)))
 
--- the place of an element without records, and with records
-pub place_of-fixed : (header : Header) (var : NcVar) (index : List ℕ) → is_record_var header var ≡ false
-    → place_of header var index ≡ var.begin + size_of var.kind * rank_in (fixed_shape header var) index
+-- an element lies in its part, at the number of its index list there
+pub place_of-part : (header : Header) (var : NcVar) (index : List ℕ) → place_of header var index
+    ≡ part_begin header var (part_of header var index) + size_of var.kind * rank_in (fixed_shape header var) (index_in_part header var index)
 unfolding place_of
-place_of-fixed header var index is = ap (λ b. cond b (part_begin header var (slice_index index 0) + size_of var.kind * rank_in (fixed_shape header var) (drop 1 index)) (var.begin + size_of var.kind * rank_in (fixed_shape header var) index)) is
+place_of-part header var index = by_case (is_record_var header var)
+  where
+    begin : ℕ
+    begin = var.begin
 
-pub place_of-record : (header : Header) (var : NcVar) (index : List ℕ) → is_record_var header var ≡ true
-    → place_of header var index ≡ part_begin header var (slice_index index 0) + size_of var.kind * rank_in (fixed_shape header var) (drop 1 index)
-unfolding place_of
-place_of-record header var index is =
-    ap (λ b. cond b (part_begin header var (slice_index index 0) + size_of var.kind * rank_in (fixed_shape header var) (drop 1 index)) (var.begin + size_of var.kind * rank_in (fixed_shape header var) index)) is
+    offset : List ℕ → ℕ
+    offset rest = size_of var.kind * rank_in (fixed_shape header var) rest
+
+    by_case : (b : Bool) → cond b (begin + slice_index index 0 * record_size header + offset (drop 1 index)) (begin + offset index)
+        ≡ begin + cond b (slice_index index 0) 0 * record_size header + offset (cond b (drop 1 index) index)
+    by_case true = refl
+    by_case false = omega arith
+
+-- an index list of a variable names a part of it, and an element of that part
+pub index-part : (header : Header) (var : NcVar) (index : List ℕ) → IsIndex (shape_of header var) index
+    → (part_of header var index < part_count header var) × IsIndex (fixed_shape header var) (index_in_part header var index)
+index-part header var index is = by_case (is_record_var header var) refl index is
+  where
+    by_case : (b : Bool) → is_record_var header var ≡ b → (index : List ℕ) → IsIndex (shape_of header var) index
+        → (cond b (slice_index index 0) 0 < cond b header.numrecs 1) × IsIndex (fixed_shape header var) (cond b (drop 1 index) index)
+    by_case false none index is = (omega arith, subst (λ shape. IsIndex shape index) (shape_of-fixed header var none) is)
+    by_case true some [] is = absurd (subst (λ shape. IsIndex shape []) (shape_of-record header var some) is)
+    by_case true some (i ∷ index) is = subst (λ shape. IsIndex shape (i ∷ index)) (shape_of-record header var some) is
+
+-- and no other index list does
+pub same_part : (header : Header) (var : NcVar) (index other : List ℕ) → IsIndex (shape_of header var) index → IsIndex (shape_of header var) other
+    → part_of header var index ≡ part_of header var other → index_in_part header var index ≡ index_in_part header var other → index ≡ other
+same_part header var index other is also = by_case (is_record_var header var) refl index other is also
+  where
+    by_case : (b : Bool) → is_record_var header var ≡ b → (index other : List ℕ) → IsIndex (shape_of header var) index → IsIndex (shape_of header var) other
+        → cond b (slice_index index 0) 0 ≡ cond b (slice_index other 0) 0 → cond b (drop 1 index) index ≡ cond b (drop 1 other) other → index ≡ other
+    by_case false none index other is also part rest = rest
+    by_case true some [] other is also part rest = absurd (subst (λ shape. IsIndex shape []) (shape_of-record header var some) is)
+    by_case true some (i ∷ index) [] is also part rest = absurd (subst (λ shape. IsIndex shape []) (shape_of-record header var some) also)
+    by_case true some (i ∷ index) (j ∷ other) is also part rest = ap₂ (λ k ks. k ∷ ks) part rest
 
 -- the lengths of the dimensions but for the record dimension
 pub fixed_shape-record : (header : Header) (var : NcVar) → is_record_var header var ≡ true → map (size_at header) (drop 1 var.dims) ≡ fixed_shape header var

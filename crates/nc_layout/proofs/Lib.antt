@@ -1,5 +1,4 @@
 pub mod ApartLaws
-pub mod EndLaws
 pub mod EndLemmas
 pub mod ExampleLemmas
 pub mod HeaderLemmas

@@ -1,10 +1,10 @@
 //! Where the last elements of variables end, and the first variable that has an element past the file's end.
 ghost use Rattle.std.specs.Prelude.{◌≡◌, ◌<◌, ◌^◌, All};
-ghost use Rattle.fm_base.specs.Layout.{vsize, record_size, first_outside};
+ghost use Rattle.fm_base.specs.Layout.{vsize, record_size, outside_at, first_fault};
 ghost use Rattle.nc_layout.specs.Kept.{HasLengths, vsizes_of, end_if_any};
 ghost use Rattle.nc_layout.specs.Meaning.{IsSmall};
 
-use crate::dims::is_record_var;
+use crate::dims::part_count_of;
 use fm_base::{Header, LayoutFault, NcVar};
 
 // Where the last element of a variable ends, if it has one.
@@ -17,26 +17,22 @@ fn end_of(header: &Header, recsize: u128, var: &NcVar, size: u64) -> Option<u128
     requires small { IsSmall header.now var.now }
     ensures { result ≡ end_if_any header.now var.now }
 {
-    let begin = u128::from(var.begin);
-    let size = u128::from(size);
-    if !is_record_var(header, var) {
-        return Some(begin + size);
-    }
-    if header.numrecs == 0 {
+    let count = part_count_of(header, var);
+    if count == 0 {
         return None;
     }
-    Some(begin + u128::from(header.numrecs - 1) * recsize + size)
+    Some(u128::from(var.begin) + u128::from(count - 1) * recsize + u128::from(size))
 }
 
 /// The first variable that has an element past this length.
-#[tactic(auto, unfolding(fm_base::specs::Layout::first_outside))]
+#[tactic(auto, unfolding(fm_base::specs::Layout::first_fault))]
 pub fn first_outside(header: &Header, len: u64, recsize: u128, vsizes: &[u64]) -> Option<LayoutFault>
     requires recsize { recsize ≡ record_size header.now }
     requires small_recsize { recsize < 2 ^ 73 }
     requires sizes { vsizes.now ≡ vsizes_of header.now }
     requires lengths { All (HasLengths header.now) header.now.vars }
     requires small { All (IsSmall header.now) header.now.vars }
-    ensures { result ≡ first_outside header.now len 0 header.now.vars }
+    ensures { result ≡ first_fault (outside_at header.now len) 0 header.now.vars }
 {
     for (number, var) in header.vars.as_slice().iter().enumerate() {
         if let Some(end) = end_of(header, recsize, var, vsizes[number]) {

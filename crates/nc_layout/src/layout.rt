@@ -3,7 +3,7 @@ ghost use Rattle.std.specs.Prelude.{◌≡◌, ◌+◌, ◌<◌, ◌≤◌, None
 ghost use Rattle.fm_base.specs.Kind.{size_of};
 ghost use Rattle.fm_base.specs.Layout.{shape_of, vsize, record_size, place_of, layout_fault};
 
-use crate::dims::{is_record_var, size_at};
+use crate::dims::{part_count_of, size_at};
 use crate::elements::{part_begin_of, place_of};
 use fm_base::{Header, List, NcVar};
 use std::marker::Model;
@@ -100,11 +100,7 @@ impl Layout {
         requires { var < length self.now.header.vars }
         ensures { (v : _) → IsVar self.now var v → result ≡ part_count self.now.header v }
     {
-        if is_record_var(&self.header, self.var(var)) {
-            self.header.numrecs
-        } else {
-            1
-        }
+        part_count_of(&self.header, self.var(var))
     }
 
     /// How many bytes a part takes, without padding.
