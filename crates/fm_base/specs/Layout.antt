@@ -2,7 +2,7 @@
 -- Specification, "Computing File Offsets").
 use Rattle.std.specs.Prelude.{ℕ, ◌+◌, ◌-◌, ◌*◌, ◌^◌, List, [], ◌∷◌, take, drop, map, filter, sum_by, Option, Some, None, slice_get, slice_index, Bool, false, nat_lt, not, ◌==◌, if◌then◌else◌}
 use Rattle.std.specs.List.{flat_map, range_with_len}
-use Rattle.std.specs.Option.{option_map_or, option_or}
+use Rattle.std.specs.Option.{option_map_or}
 use Rattle.fm_base.specs.declared.fault.LayoutFault.{LayoutFault}
 use Rattle.fm_base.specs.declared.fault.LayoutFault.TheVariants.{TooLarge, DataOutside}
 use Rattle.fm_base.specs.declared.header.Dim.{Dim}
@@ -104,20 +104,25 @@ is_too_large header var = nat_lt (2 ^ 40) (vsize header var)
 abbrev pub is_outside : Header → ℕ → NcVar → Bool
 is_outside header len var = if has_elements header var then nat_lt len (end_of header var) else false
 
--- the fault of the variable of this number, if it is too large
-abbrev pub too_large_at : Header → ℕ → NcVar → Option LayoutFault
-too_large_at header n var = if is_too_large header var then Some (TooLarge n) else None
+-- the first of the variables from this number on that is too large
+unfoldable pub first_too_large : Header → ℕ → List NcVar → Option LayoutFault
+first_too_large header n [] = None
+first_too_large header n (var ∷ vars) =
+    if is_too_large header var then Some (TooLarge n) else first_too_large header (n + 1) vars
 
--- the fault of the variable of this number, if it lies outside of a file of this length
-abbrev pub outside_at : Header → ℕ → ℕ → NcVar → Option LayoutFault
-outside_at header len n var = if is_outside header len var then Some (DataOutside n (end_of header var) len) else None
+-- the first of the variables from this number on that lies outside
+unfoldable pub first_outside : Header → ℕ → ℕ → List NcVar → Option LayoutFault
+first_outside header len n [] = None
+first_outside header len n (var ∷ vars) =
+    if is_outside header len var
+    then Some (DataOutside n (end_of header var) len)
+    else first_outside header len (n + 1) vars
 
--- the first fault of the variables from this number on
-unfoldable pub first_fault : (ℕ → NcVar → Option LayoutFault) → ℕ → List NcVar → Option LayoutFault
-first_fault fault_at n [] = None
-first_fault fault_at n (var ∷ vars) = option_or (fault_at n var) (first_fault fault_at (n + 1) vars)
+-- the first of two, if it is there, else the second
+abbrev pub or_else : {A : Type 0} → Option A → Option A → Option A
+or_else None second = second
+or_else (Some a) second = Some a
 
 -- the first fault of the layout of a file of this length: a variable that is too large comes before one outside
 unfoldable pub layout_fault : Header → ℕ → Option LayoutFault
-layout_fault header len =
-    option_or (first_fault (too_large_at header) 0 header.vars) (first_fault (outside_at header len) 0 header.vars)
+layout_fault header len = or_else (first_too_large header 0 header.vars) (first_outside header len 0 header.vars)

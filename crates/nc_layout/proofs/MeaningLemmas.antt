@@ -1,28 +1,54 @@
 -- The first fault of a list of variables says that one is at fault, and none before it.
 use Rattle.std.proofs.Common.{◌≡◌, ℕ, suc, ◌+◌, ◌^◌, ◌<◌, ◌≤◌, Bool, true, false, cond, ltb, List, [], ◌∷◌, take, All, Option, None, Some, refl, sym, ap, subst, ◌∙◌, arith}
 use Rattle.std.specs.List.{slice_get}
-use Rattle.std.specs.Option.{MatchOption, option_or}
+use Rattle.std.specs.Option.{MatchOption}
 use Rattle.std.proofs.lemmas.Bool.{ltb-true, ltb-false, false≢true}
 use Rattle.std.proofs.lemmas.List.Elements.{All-nil, All-cons}
-use Rattle.std.proofs.lemmas.Option.{cond_some}
+use Rattle.std.proofs.lemmas.Option.{cond_some, MatchOption-at_none}
 use Rattle.fm_base.specs.declared.fault.LayoutFault.{LayoutFault}
 use Rattle.fm_base.specs.declared.fault.LayoutFault.TheVariants.{TooLarge, DataOutside}
 use Rattle.fm_base.specs.declared.header.Header.{Header}
 use Rattle.fm_base.specs.declared.header.NcVar.{NcVar}
-use Rattle.fm_base.specs.Layout.{vsize, has_elements, end_of, is_outside, too_large_at, outside_at, first_fault, layout_fault}
+use Rattle.fm_base.specs.Layout.{vsize, has_elements, end_of, is_outside, or_else, first_too_large, first_outside, layout_fault}
 use Rattle.nc_layout.specs.Meaning.{IsSmall, EndsWithin, IsInside, Says}
 
+-- the fault of a variable of this number, and the first fault of the variables from this number on
+abbrev too_large_at : Header → ℕ → NcVar → Option LayoutFault
+too_large_at header n var = cond (ltb (2 ^ 40) (vsize header var)) (Some (TooLarge n)) None
+
+abbrev outside_at : Header → ℕ → ℕ → NcVar → Option LayoutFault
+outside_at header len n var = cond (is_outside header len var) (Some (DataOutside n (end_of header var) len)) None
+
+first_fault : (ℕ → NcVar → Option LayoutFault) → ℕ → List NcVar → Option LayoutFault
+first_fault fault_at n [] = None
+first_fault fault_at n (var ∷ vars) = or_else (fault_at n var) (first_fault fault_at (n + 1) vars)
+
+or_none : (b : Bool) (fault : LayoutFault) (rest later : Option LayoutFault) → rest ≡ later → cond b (Some fault) rest ≡ or_else (cond b (Some fault) None) later
+or_none true fault rest later same = refl
+or_none false fault rest later same = same
+
+first_too_large-is : (header : Header) (n : ℕ) (vars : List NcVar) → first_too_large header n vars ≡ first_fault (too_large_at header) n vars
+unfolding first_too_large first_fault
+first_too_large-is header n [] = refl
+first_too_large-is header n (var ∷ vars) = or_none (ltb (2 ^ 40) (vsize header var)) (TooLarge n) _ _ (first_too_large-is header (n + 1) vars)
+
+first_outside-is : (header : Header) (len n : ℕ) (vars : List NcVar) → first_outside header len n vars ≡ first_fault (outside_at header len) n vars
+unfolding first_outside first_fault
+first_outside-is header len n [] = refl
+first_outside-is header len n (var ∷ vars) =
+    or_none (is_outside header len var) (DataOutside n (end_of header var) len) _ _ (first_outside-is header len (n + 1) vars)
+
 -- the first variable with a fault, among those from a number on, and none before it
-pub record IsFirst (Good : NcVar → Type 0) (fault_at : ℕ → NcVar → Option LayoutFault) (from : ℕ) (vars : List NcVar)
+record IsFirst (Good : NcVar → Type 0) (fault_at : ℕ → NcVar → Option LayoutFault) (from : ℕ) (vars : List NcVar)
     (fault : LayoutFault) : Type 0 where
-  pub place : ℕ
-  pub var : NcVar
-  pub there : slice_get vars place ≡ Some var
-  pub bad : fault_at (from + place) var ≡ Some fault
-  pub before : All Good (take place vars)
+  place : ℕ
+  var : NcVar
+  there : slice_get vars place ≡ Some var
+  bad : fault_at (from + place) var ≡ Some fault
+  before : All Good (take place vars)
 
 -- all variables are good, or one is the first with a fault
-pub first_fault-says : (Good : NcVar → Type 0) (fault_at : ℕ → NcVar → Option LayoutFault)
+first_fault-says : (Good : NcVar → Type 0) (fault_at : ℕ → NcVar → Option LayoutFault)
     → ((n : ℕ) (var : NcVar) → fault_at n var ≡ None → Good var) → (from : ℕ) (vars : List NcVar)
     → MatchOption (first_fault fault_at from vars) (All Good vars) (IsFirst Good fault_at from vars)
 unfolding first_fault
@@ -32,7 +58,7 @@ first_fault-says Good fault_at good from (var ∷ vars) =
   where
     at : (here : Option LayoutFault) → fault_at from var ≡ here → (later : Option LayoutFault)
         → MatchOption later (All Good vars) (IsFirst Good fault_at (from + 1) vars)
-        → MatchOption (option_or here later) (All Good (var ∷ vars)) (IsFirst Good fault_at from (var ∷ vars))
+        → MatchOption (or_else here later) (All Good (var ∷ vars)) (IsFirst Good fault_at from (var ∷ vars))
     at (Some fault) is later more =
         let same : from ≡ from + 0 = omega arith in
         record { place = 0; var = var; there = refl; bad = rw (← same) is; before = All-nil Good }
@@ -52,7 +78,7 @@ cond_none true fault is = absurd cc
 cond_none false fault is = refl
 
 -- a variable without one of the faults
-pub small : (header : Header) (n : ℕ) (var : NcVar) → too_large_at header n var ≡ None → IsSmall header var
+small : (header : Header) (n : ℕ) (var : NcVar) → too_large_at header n var ≡ None → IsSmall header var
 small header n var is = ltb-false (2 ^ 40) (vsize header var) (cond_none (ltb (2 ^ 40) (vsize header var)) (TooLarge n) is)
 
 inside : (header : Header) (len n : ℕ) (var : NcVar) → outside_at header len n var ≡ None → EndsWithin header len var
@@ -99,18 +125,26 @@ outside_says header len fault small first =
       before = first.before;
     }, refl)
 
+-- where no variable is too large
+pub All-small : (header : Header) → first_too_large header 0 header.vars ≡ None → All (IsSmall header) header.vars
+All-small header none =
+    MatchOption-at_none (All (IsSmall header) header.vars) (IsFirst (IsSmall header) (too_large_at header) 0 header.vars)
+      (sym (first_too_large-is header 0 header.vars) ∙ none)
+      (first_fault-says (IsSmall header) (too_large_at header) (small header) 0 header.vars)
+
 -- what the first fault of a layout says, or that there is none
 pub layout_fault-says : (header : Header) (len : ℕ) → MatchOption (layout_fault header len) (IsInside header len) (Says header len)
 unfolding layout_fault
 layout_fault-says header len =
-    at (first_fault (too_large_at header) 0 header.vars) (first_fault-says (IsSmall header) (too_large_at header) (small header) 0 header.vars)
-      (first_fault (outside_at header len) 0 header.vars) (first_fault-says (EndsWithin header len) (outside_at header len) (inside header len) 0 header.vars)
+    rw (first_too_large-is header 0 header.vars, first_outside-is header len 0 header.vars)
+    (at (first_fault (too_large_at header) 0 header.vars) (first_fault-says (IsSmall header) (too_large_at header) (small header) 0 header.vars)
+      (first_fault (outside_at header len) 0 header.vars) (first_fault-says (EndsWithin header len) (outside_at header len) (inside header len) 0 header.vars))
   where
     at : (first : Option LayoutFault)
         → MatchOption first (All (IsSmall header) header.vars) (IsFirst (IsSmall header) (too_large_at header) 0 header.vars)
         → (second : Option LayoutFault)
         → MatchOption second (All (EndsWithin header len) header.vars) (IsFirst (EndsWithin header len) (outside_at header len) 0 header.vars)
-        → MatchOption (option_or first second) (IsInside header len) (Says header len)
+        → MatchOption (or_else first second) (IsInside header len) (Says header len)
     at (Some fault) large second outside = large_says header len fault large
     at None small (Some fault) outside = outside_says header len fault small outside
     at None small None ends = record { small = small; ends = ends }

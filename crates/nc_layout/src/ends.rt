@@ -1,6 +1,6 @@
 //! Where the last elements of variables end, and the first variable that has an element past the file's end.
 ghost use Rattle.std.specs.Prelude.{◌≡◌, ◌<◌, ◌^◌, All};
-ghost use Rattle.fm_base.specs.Layout.{vsize, record_size, outside_at, first_fault};
+ghost use Rattle.fm_base.specs.Layout.{vsize, record_size, first_outside};
 ghost use Rattle.nc_layout.specs.Kept.{HasLengths, vsizes_of, end_if_any};
 ghost use Rattle.nc_layout.specs.Meaning.{IsSmall};
 
@@ -25,14 +25,14 @@ fn end_of(header: &Header, recsize: u128, var: &NcVar, size: u64) -> Option<u128
 }
 
 /// The first variable that has an element past this length.
-#[tactic(auto, unfolding(fm_base::specs::Layout::first_fault))]
+#[tactic(auto, unfolding(fm_base::specs::Layout::first_outside))]
 pub fn first_outside(header: &Header, len: u64, recsize: u128, vsizes: &[u64]) -> Option<LayoutFault>
     requires recsize { recsize ≡ record_size header.now }
     requires small_recsize { recsize < 2 ^ 73 }
     requires sizes { vsizes.now ≡ vsizes_of header.now }
     requires lengths { All (HasLengths header.now) header.now.vars }
     requires small { All (IsSmall header.now) header.now.vars }
-    ensures { result ≡ first_fault (outside_at header.now len) 0 header.now.vars }
+    ensures { result ≡ first_outside header.now len 0 header.now.vars }
 {
     for (number, var) in header.vars.as_slice().iter().enumerate() {
         if let Some(end) = end_of(header, recsize, var, vsizes[number]) {

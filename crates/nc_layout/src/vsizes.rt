@@ -1,7 +1,7 @@
 //! How many bytes variables take, and the first that takes too many.
 ghost use Rattle.std.specs.Prelude.{◌≡◌, All, None, Some, if◌then◌else◌};
 ghost use Rattle.fm_base.specs.Answer.{Answers};
-ghost use Rattle.fm_base.specs.Layout.{is_too_large, too_large_at, vsize, first_fault};
+ghost use Rattle.fm_base.specs.Layout.{is_too_large, vsize, first_too_large};
 ghost use Rattle.nc_layout.specs.Faults.{fault_or};
 ghost use Rattle.nc_layout.specs.Kept.{HasLengths, vsizes_of};
 
@@ -30,10 +30,10 @@ fn checked_vsize(header: &Header, var: &NcVar) -> Option<u64>
 }
 
 /// How many bytes each variable takes in one record, or the first variable that takes too many.
-#[tactic(auto, unfolding(fm_base::specs::Layout::first_fault))]
+#[tactic(auto, unfolding(fm_base::specs::Layout::first_too_large))]
 pub fn vsizes(alloc: Global, header: &Header) -> Result<List<u64>, Fail<LayoutFault>>
     requires { All (HasLengths header.now) header.now.vars }
-    ensures { Answers (fault_or (first_fault (too_large_at header.now) 0 header.now.vars)
+    ensures { Answers (fault_or (first_too_large header.now 0 header.now.vars)
         (vsizes_of header.now)) result }
 {
     let mut vsizes = List::new(alloc);
