@@ -1,6 +1,5 @@
 pub mod ApartLaws
 pub mod EndLemmas
-pub mod ExampleLemmas
 pub mod HeaderLemmas
 pub mod LayingLemmas
 pub mod MeaningLemmas
