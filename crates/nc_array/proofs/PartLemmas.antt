@@ -32,7 +32,7 @@ pieces bytes begin size a (suc n) =
     let len : size + size * n ≡ size * suc n = omega arith in
     ap (λ ys. take size (drop (begin + size * a) bytes) ++ ys)
     (pieces bytes begin size (a + 1) n ∙ ap (λ at. take (size * n) (drop at bytes)) from ∙ ap (take (size * n))
-        (sym (drop-drop size (begin + size * a) bytes)))
+    (sym (drop-drop size (begin + size * a) bytes)))
     ∙ sym (take-add size (size * n) (drop (begin + size * a) bytes))
     ∙ ap (λ k. take k (drop (begin + size * a) bytes)) len
 
@@ -63,11 +63,11 @@ elements_of-parts bytes header var = by_case (is_record_var header var) refl
         let fixed = fixed_shape header var in
         ap (λ shape. flat_map (element bytes header var) (indices_of shape)) (shape_of-record header var is)
         ∙ flat_map-flat_map _ (λ (i : ℕ). map (λ (index : List ℕ). i ∷ index) (indices_of fixed))
-            (range_with_len 0 header.numrecs)
+        (range_with_len 0 header.numrecs)
         ∙ flat_map_all _ _ (λ i.
-            flat_map-map (element bytes header var) (λ (index : List ℕ). i ∷ index) (indices_of fixed)
-            ∙ flat_map_all _ _ (λ index. moved (place_of-part header var (i ∷ index) ∙ rw is refl)) (indices_of fixed)
-            ∙ elements_at bytes (part_begin header var i) (size_of var.kind) fixed) (range_with_len 0 header.numrecs)
+        flat_map-map (element bytes header var) (λ (index : List ℕ). i ∷ index) (indices_of fixed)
+        ∙ flat_map_all _ _ (λ index. moved (place_of-part header var (i ∷ index) ∙ rw is refl)) (indices_of fixed)
+        ∙ elements_at bytes (part_begin header var i) (size_of var.kind) fixed) (range_with_len 0 header.numrecs)
     by_case false is =
         let fixed = fixed_shape header var in
         ap (λ shape. flat_map (element bytes header var) (indices_of shape)) (shape_of-fixed header var is)

@@ -36,7 +36,7 @@ vsize-le-padded n = omega arith
 vsize-le-lone : (header : Header) (var : NcVar) → vsize header var ≤ lone_vsize header var
 vsize-le-lone header var =
     cond_both (ltb (size_of var.kind) 4) (vsize header var) (padded_vsize header var) (λ n. vsize header var ≤ n)
-        (λ _. omega arith) (λ _. vsize-le-padded (vsize header var))
+    (λ _. omega arith) (λ _. vsize-le-padded (vsize header var))
 
 -- one record of a variable is at most one of all
 vsize-le-record_size : (header : Header) (i : ℕ) (var : NcVar) → slice_get header.vars i ≡ Some var
@@ -91,18 +91,18 @@ pub place_of-apart : (header : Header) (number : ℕ) (var : NcVar) (index other
 place_of-apart header number var index other there is also ne =
     rw (place_of-part header var index, place_of-part header var other)
     (elim (cases_order (part_of header var index) (part_of header var other)) [
-  | inl same ↦
-      rw same (moved _ _ _ _
-      (offsets_apart (size_of var.kind) (fixed_shape header var) (index_in_part header var index)
-      (index_in_part header var other) parts.1 others.1
-      (λ rest. ne (same_part header var index other is also same rest))))
-  | inr (inl before) ↦
-      inl (let next = next-part header number var _ _ there before others.0 in
-      let last = element-within header var _ parts.1 in omega arith)
-  | inr (inr after) ↦
-      inr (let next = next-part header number var _ _ there after parts.0 in
-      let last = element-within header var _ others.1 in omega arith)
-])
+      | inl same ↦
+          rw same (moved _ _ _ _
+          (offsets_apart (size_of var.kind) (fixed_shape header var) (index_in_part header var index)
+          (index_in_part header var other) parts.1 others.1
+          (λ rest. ne (same_part header var index other is also same rest))))
+      | inr (inl before) ↦
+          inl (let next = next-part header number var _ _ there before others.0 in
+          let last = element-within header var _ parts.1 in omega arith)
+      | inr (inr after) ↦
+          inr (let next = next-part header number var _ _ there after parts.0 in
+          let last = element-within header var _ others.1 in omega arith)
+    ])
   where
     parts : (part_of header var index < part_count header var)
         × IsIndex (fixed_shape header var) (index_in_part header var index)

@@ -26,9 +26,11 @@ last-index header var = by_case (is_record_var header var) refl
         → (cond b (slice_index (last_index header var) 0) 0 ≡ cond b header.numrecs 1 - 1)
         × (cond b (drop 1 (last_index header var)) (last_index header var) ≡ map (λ n. n - 1) (fixed_shape header var))
     by_case true some =
-        let shape = shape_of-record header var some in
-        (ap (λ (s : List ℕ). slice_index (map (λ n. n - 1) s) 0) shape, ap
-            (λ (s : List ℕ). drop 1 (map (λ n. n - 1) s)) shape)
+        let shape = shape_of-record header var some in (
+          ap (λ (s : List ℕ). slice_index (map (λ n. n - 1) s) 0) shape,
+          ap
+              (λ (s : List ℕ). drop 1 (map (λ n. n - 1) s)) shape,
+        )
     by_case false none = (refl, ap (map (λ n. n - 1)) (shape_of-fixed header var none))
 
 -- so its end is that of the last part
@@ -66,7 +68,7 @@ pub end_if_any-some : (header : Header) (var : NcVar) → HasLengths header var 
     → end_if_any header var ≡ Some (part_begin header var (part_count header var - 1) + vsize header var)
 end_if_any-some header var all some =
     ap (λ b. cond b (Some (end_of header var)) None) (has-elements header var all some)
-        ∙ ap Some (last-part header var all)
+    ∙ ap Some (last-part header var all)
 
 pub end_if_any-none : (header : Header) (var : NcVar) → part_count header var ≡ 0 → end_if_any header var ≡ None
 end_if_any-none header var none =
@@ -79,7 +81,7 @@ pub part-le-end : (header : Header) (var : NcVar) (k : ℕ) → HasLengths heade
 part-le-end header var k all below =
     let last = last-part header var all in
     let before =
-      mul-le k (record_size header) (part_count header var - 1) (record_size header) (omega arith) (omega arith) in
+    mul-le k (record_size header) (part_count header var - 1) (record_size header) (omega arith) (omega arith) in
     omega arith
 
 pub element-within : (header : Header) (var : NcVar) (index : List ℕ) → IsIndex (fixed_shape header var) index
@@ -88,7 +90,7 @@ unfolding vsize
 element-within header var index is =
     let below = rank_in-lt (fixed_shape header var) index is in
     let most = mul-le (size_of var.kind) (rank_in (fixed_shape header var) index + 1) (size_of var.kind)
-        (product (fixed_shape header var)) (omega arith) (omega arith) in
+    (product (fixed_shape header var)) (omega arith) (omega arith) in
     omega arith
 
 pub place_of-le-end_of : (header : Header) (var : NcVar) (index : List ℕ) → IsIndex (shape_of header var) index
@@ -98,7 +100,7 @@ place_of-le-end_of header var index is =
     let place = place_of-part header var index in
     let element = element-within header var (index_in_part header var index) parts.1 in
     let part = part-le-end header var (part_of header var index)
-        (lengths-index (fixed_shape header var) (index_in_part header var index) parts.1) parts.0 in
+    (lengths-index (fixed_shape header var) (index_in_part header var index) parts.1) parts.0 in
     omega arith
 
 pub ruleset ends = (end_if_any-some, end_if_any-none, place_of-le-end_of)

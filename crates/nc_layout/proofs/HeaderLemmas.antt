@@ -46,7 +46,7 @@ shape_of-record header var is = at var.dims refl
 -- an element lies in its part, at the number of its index list there
 pub place_of-part : (header : Header) (var : NcVar) (index : List ℕ) → place_of header var index
     ≡ part_begin header var (part_of header var index)
-        + size_of var.kind * rank_in (fixed_shape header var) (index_in_part header var index)
+    + size_of var.kind * rank_in (fixed_shape header var) (index_in_part header var index)
 unfolding place_of
 place_of-part header var index = by_case (is_record_var header var)
   where
@@ -65,12 +65,12 @@ place_of-part header var index = by_case (is_record_var header var)
 -- an index list of a variable names a part of it, and an element of that part
 pub index-part : (header : Header) (var : NcVar) (index : List ℕ) → IsIndex (shape_of header var) index
     → (part_of header var index < part_count header var)
-        × IsIndex (fixed_shape header var) (index_in_part header var index)
+    × IsIndex (fixed_shape header var) (index_in_part header var index)
 index-part header var index is = by_case (is_record_var header var) refl index is
   where
     by_case : (b : Bool) → is_record_var header var ≡ b → (index : List ℕ) → IsIndex (shape_of header var) index
         → (cond b (slice_index index 0) 0 < cond b header.numrecs 1)
-            × IsIndex (fixed_shape header var) (cond b (drop 1 index) index)
+        × IsIndex (fixed_shape header var) (cond b (drop 1 index) index)
     by_case false none index is =
         (omega arith, subst (λ shape. IsIndex shape index) (shape_of-fixed header var none) is)
     by_case true some [] is = absurd (subst (λ shape. IsIndex shape []) (shape_of-record header var some) is)
@@ -80,13 +80,13 @@ index-part header var index is = by_case (is_record_var header var) refl index i
 pub same_part : (header : Header) (var : NcVar) (index other : List ℕ) → IsIndex (shape_of header var) index
     → IsIndex (shape_of header var) other
     → part_of header var index ≡ part_of header var other
-        → index_in_part header var index ≡ index_in_part header var other → index ≡ other
+    → index_in_part header var index ≡ index_in_part header var other → index ≡ other
 same_part header var index other is also = by_case (is_record_var header var) refl index other is also
   where
     by_case : (b : Bool) → is_record_var header var ≡ b → (index other : List ℕ) → IsIndex (shape_of header var) index
         → IsIndex (shape_of header var) other
         → cond b (slice_index index 0) 0 ≡ cond b (slice_index other 0) 0
-            → cond b (drop 1 index) index ≡ cond b (drop 1 other) other → index ≡ other
+        → cond b (drop 1 index) index ≡ cond b (drop 1 other) other → index ≡ other
     by_case false none index other is also part rest = rest
     by_case true some [] other is also part rest =
         absurd (subst (λ shape. IsIndex shape []) (shape_of-record header var some) is)

@@ -23,7 +23,7 @@ fault_or-some (Some other) value fault is = cc
 -- a variable is too large, or memory ran out
 pub ends-large : (header : Header) (len : ℕ) (fail : Fail LayoutFault)
     → Answers {A = List ℕ} (fault_or (first_too_large header 0 header.vars) (vsizes_of header)) (Err fail)
-        → Answers {A = LaidOut} (layout_or_fault header len) (Err fail)
+    → Answers {A = LaidOut} (layout_or_fault header len) (Err fail)
 unfolding layout_or_fault layout_fault
 ends-large header len fails.NoMemory is = tt
 ends-large header len (fails.Fault fault) is =

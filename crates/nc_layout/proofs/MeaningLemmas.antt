@@ -41,7 +41,7 @@ unfolding first_outside first_fault
 first_outside-is header len n [] = refl
 first_outside-is header len n (var ∷ vars) =
     or_none (is_outside header len var) (DataOutside n (end_of header var) len) _ _
-        (first_outside-is header len (n + 1) vars)
+    (first_outside-is header len (n + 1) vars)
 
 -- the first variable with a fault, among those from a number on, and none before it
 record IsFirst (Good : NcVar → Type 0) (fault_at : ℕ → NcVar → Option LayoutFault) (from : ℕ) (vars : List NcVar)
@@ -60,7 +60,7 @@ unfolding first_fault
 first_fault-says Good fault_at good from [] = All-nil Good
 first_fault-says Good fault_at good from (var ∷ vars) =
     at (fault_at from var) refl (first_fault fault_at (from + 1) vars)
-        (first_fault-says Good fault_at good (from + 1) vars)
+    (first_fault-says Good fault_at good (from + 1) vars)
   where
     at : (here : Option LayoutFault) → fault_at from var ≡ here → (later : Option LayoutFault)
         → MatchOption later (All Good vars) (IsFirst Good fault_at (from + 1) vars)
@@ -122,25 +122,28 @@ outside_says : (header : Header) (len : ℕ) (fault : LayoutFault) → All (IsSm
 outside_says header len fault small first =
     let same : 0 + first.place ≡ first.place = omega arith in
     let bad = cond_some (is_outside header len first.var) (DataOutside first.place (end_of header first.var) len) fault
-        (rw same at first.bad) in
+    (rw same at first.bad) in
     let past = outside header len first.var bad.0 in
-    subst (Says header len) bad.1 (record {
-      small = small;
-      var = first.var;
-      numbered = first.there;
-      some = past.0;
-      end_is = refl;
-      outside = past.1;
-      before = first.before;
-    }, refl)
+    subst (Says header len) bad.1 (
+      record {
+        small = small;
+        var = first.var;
+        numbered = first.there;
+        some = past.0;
+        end_is = refl;
+        outside = past.1;
+        before = first.before;
+      },
+      refl,
+    )
 
 -- where no variable is too large
 pub All-small : (header : Header) → first_too_large header 0 header.vars ≡ None → All (IsSmall header) header.vars
 All-small header none =
     MatchOption-at_none (All (IsSmall header) header.vars)
-        (IsFirst (IsSmall header) (too_large_at header) 0 header.vars)
-      (sym (first_too_large-is header 0 header.vars) ∙ none)
-      (first_fault-says (IsSmall header) (too_large_at header) (small header) 0 header.vars)
+    (IsFirst (IsSmall header) (too_large_at header) 0 header.vars)
+    (sym (first_too_large-is header 0 header.vars) ∙ none)
+    (first_fault-says (IsSmall header) (too_large_at header) (small header) 0 header.vars)
 
 -- what the first fault of a layout says, or that there is none
 pub layout_fault-says : (header : Header) (len : ℕ)
@@ -149,16 +152,16 @@ unfolding layout_fault
 layout_fault-says header len =
     rw (first_too_large-is header 0 header.vars, first_outside-is header len 0 header.vars)
     (at (first_fault (too_large_at header) 0 header.vars)
-        (first_fault-says (IsSmall header) (too_large_at header) (small header) 0 header.vars)
-      (first_fault (outside_at header len) 0 header.vars)
-          (first_fault-says (EndsWithin header len) (outside_at header len) (inside header len) 0 header.vars))
+    (first_fault-says (IsSmall header) (too_large_at header) (small header) 0 header.vars)
+    (first_fault (outside_at header len) 0 header.vars)
+    (first_fault-says (EndsWithin header len) (outside_at header len) (inside header len) 0 header.vars))
   where
     at : (first : Option LayoutFault)
         → MatchOption first (All (IsSmall header) header.vars)
-            (IsFirst (IsSmall header) (too_large_at header) 0 header.vars)
+        (IsFirst (IsSmall header) (too_large_at header) 0 header.vars)
         → (second : Option LayoutFault)
         → MatchOption second (All (EndsWithin header len) header.vars)
-            (IsFirst (EndsWithin header len) (outside_at header len) 0 header.vars)
+        (IsFirst (EndsWithin header len) (outside_at header len) 0 header.vars)
         → MatchOption (or_else first second) (IsInside header len) (Says header len)
     at (Some fault) large second outside = large_says header len fault large
     at None small (Some fault) outside = outside_says header len fault small outside

@@ -21,7 +21,7 @@ range-append a (suc n) m =
     let from : a + suc n ≡ a + 1 + n = omega arith in
     let len : suc (n + m) ≡ suc n + m = omega arith in
     ap (λ b. a ∷ (range_with_len (a + 1) n ++ range_with_len b m)) from ∙ ap (λ ys. a ∷ ys) (range-append (a + 1) n m)
-        ∙ ap (range_with_len a) len
+    ∙ ap (range_with_len a) len
 
 map-map : {A B C : Type 0} (f : B → C) (g : A → B) (xs : List A) → map f (map g xs) ≡ map (λ x. f (g x)) xs
 map-map f g [] = refl
@@ -54,7 +54,7 @@ rows whole a (suc n) =
     let from : (a + 1) * whole ≡ a * whole + whole = omega arith in
     let len : whole + n * whole ≡ suc n * whole = omega arith in
     ap (λ ys. range_with_len (a * whole) whole ++ ys)
-        (rows whole (a + 1) n ∙ ap (λ b. range_with_len b (n * whole)) from)
+    (rows whole (a + 1) n ∙ ap (λ b. range_with_len b (n * whole)) from)
     ∙ range-append (a * whole) whole (n * whole)
     ∙ ap (range_with_len (a * whole)) len
 
@@ -108,8 +108,8 @@ All-indices_of [] = All-cons (IsIndex []) [] [] tt (All-nil (IsIndex []))
 All-indices_of (n ∷ shape) =
     All-flat_map (IsIndex (n ∷ shape)) (λ i. map (λ (rest : List ℕ). i ∷ rest) (indices_of shape)) (λ i. i < 0 + n)
     (λ i below. All-map (IsIndex (n ∷ shape)) (λ (rest : List ℕ). i ∷ rest) (indices_of shape)
-        (All-weaker (IsIndex shape) (λ rest. IsIndex (n ∷ shape) (i ∷ rest)) (λ rest is. (omega arith, is))
-        (indices_of shape) (All-indices_of shape)))
+    (All-weaker (IsIndex shape) (λ rest. IsIndex (n ∷ shape) (i ∷ rest)) (λ rest is. (omega arith, is))
+    (indices_of shape) (All-indices_of shape)))
     (range_with_len 0 n) (All-range 0 n)
 
 -- no two index lists have one number
@@ -144,11 +144,11 @@ slice_get-indices_of shape index is =
     let there : at < length (indices_of shape) = rw (length-indices_of shape) below in
     let other = get_or (indices_of shape) at index in
     let rank = sym (get_or-map (rank_in shape) (indices_of shape) at index 0 there)
-      ∙ ap (λ ranks. get_or ranks at 0) (map-rank_in shape) ∙ get_or-range_with_len 0 (product shape) at 0 below in
+    ∙ ap (λ ranks. get_or ranks at 0) (map-rank_in shape) ∙ get_or-range_with_len 0 (product shape) at 0 below in
     let same : 0 + at ≡ at = omega arith in
     slice_get-get_or (indices_of shape) at index there
     ∙ ap Some
-        (same_rank shape other index
-        (All-get_or (IsIndex shape) (indices_of shape) at index there (All-indices_of shape)) is (rank ∙ same))
+    (same_rank shape other index
+    (All-get_or (IsIndex shape) (indices_of shape) at index there (All-indices_of shape)) is (rank ∙ same))
 
 pub ruleset orders = (map-rank_in, length-indices_of, slice_get-indices_of, All-indices_of)

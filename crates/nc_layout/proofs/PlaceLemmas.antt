@@ -21,7 +21,7 @@ pub within : {header : Header} {len size : ℕ} {vsizes : List ℕ} (number : �
     → slice_get header.vars number ≡ Some var → IsWithin header len var
 within {header} {len} number var laid there =
     let inside : IsInside header len =
-      MatchOption-at_none (IsInside header len) (Says header len) laid.faultless (layout_fault-says header len) in
+    MatchOption-at_none (IsInside header len) (Says header len) laid.faultless (layout_fault-says header len) in
     let below = slice_get_within header.vars number var there in
     let is = get_or_from_slice_get header.vars number var var there in
     record {

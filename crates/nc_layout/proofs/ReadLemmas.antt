@@ -45,6 +45,11 @@ layout_fault-some header len fault is =
     fault_or-some (layout_fault header len) (record { header = header; len = len }) fault is
 
 -- to be named in the attribute of a function that reads a header and lays it out, or asks a layout
-pub ruleset headers_read =
-    (CanLayOut-from_HeaderOf, HasElement-from_var, HasDim-from_var, HasPart-from_var, layout_fault-none,
-    layout_fault-some)
+pub ruleset headers_read = (
+  CanLayOut-from_HeaderOf,
+  HasElement-from_var,
+  HasDim-from_var,
+  HasPart-from_var,
+  layout_fault-none,
+  layout_fault-some,
+)

@@ -47,20 +47,20 @@ pub KeepsSums-more_yes : (header : Header) (i count padded lone : ℕ) (var : Nc
     → KeepsSums header (first_records header i) i count padded lone
     → i < length header.vars → var ≡ get_or header.vars i var → is_record_var header var ≡ true → IsSmall header var
     → KeepsSums header (first_records header (i + 1)) (i + 1) (count + 1) (padded + padded_vsize header var)
-        (lone + lone_vsize header var)
+    (lone + lone_vsize header var)
 KeepsSums-more_yes header i count padded lone var kept below read is small =
     rw (first_records-more header i var true below read is) (record {
-  count_is = let more = length-append (first_records header i) (var ∷ []) in let was = kept.count_is in omega arith;
-  padded_is =
-      let more = sum_by-append (padded_vsize header) (first_records header i) (var ∷ []) in
-      let was = kept.padded_is in omega arith;
-  lone_is =
-      let more = sum_by-append (lone_vsize header) (first_records header i) (var ∷ []) in
-      let was = kept.lone_is in omega arith;
-  few = omega arith;
-  padded_small = omega arith;
-  lone_small = let less = lone-le-padded header var in omega arith;
-})
+      count_is = let more = length-append (first_records header i) (var ∷ []) in let was = kept.count_is in omega arith;
+      padded_is =
+          let more = sum_by-append (padded_vsize header) (first_records header i) (var ∷ []) in
+          let was = kept.padded_is in omega arith;
+      lone_is =
+          let more = sum_by-append (lone_vsize header) (first_records header i) (var ∷ []) in
+          let was = kept.lone_is in omega arith;
+      few = omega arith;
+      padded_small = omega arith;
+      lone_small = let less = lone-le-padded header var in omega arith;
+    })
 
 -- one variable without records more
 pub KeepsSums-more_no : (header : Header) (i count padded lone : ℕ) (var : NcVar)
@@ -69,13 +69,13 @@ pub KeepsSums-more_no : (header : Header) (i count padded lone : ℕ) (var : NcV
     → KeepsSums header (first_records header (i + 1)) (i + 1) count padded lone
 KeepsSums-more_no header i count padded lone var kept below read is =
     rw (first_records-more header i var false below read is, append-nil (first_records header i)) (record {
-  count_is = kept.count_is;
-  padded_is = kept.padded_is;
-  lone_is = kept.lone_is;
-  few = omega arith;
-  padded_small = omega arith;
-  lone_small = omega arith;
-})
+      count_is = kept.count_is;
+      padded_is = kept.padded_is;
+      lone_is = kept.lone_is;
+      few = omega arith;
+      padded_small = omega arith;
+      lone_small = omega arith;
+    })
 
 pub of_one : (header : Header) (vars : List NcVar) → length vars ≡ 1
     → record_size_of header vars ≡ sum_by (lone_vsize header) vars
@@ -94,7 +94,7 @@ all_kept : (header : Header) (i count padded lone : ℕ) → KeepsSums header (f
     → KeepsSums header (record_vars header) i count padded lone
 all_kept header i count padded lone kept all =
     subst (λ (vars : List NcVar). KeepsSums header (filter (is_record_var header) vars) i count padded lone)
-        (take_all i header.vars all) kept
+    (take_all i header.vars all) kept
 
 -- what the sums over all variables say where there is one record variable
 pub lone-from_sums : (header : Header) (i count padded lone : ℕ)

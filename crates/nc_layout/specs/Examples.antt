@@ -37,8 +37,10 @@ sample = header_of (record { times = 3; lats = 2; lons = 2 })
 -- the same, with the field at the end of the first 4 GiB
 abbrev pub field_far_away : Header
 field_far_away =
-    record sample { vars = time_var (record { times = 3; lats = 2; lons = 2 }) ∷ float_var (codes "lat")
-    (1 ∷ []) 276 ∷ float_var (codes "lon") (2 ∷ []) 284 ∷ float_var (codes "t") (0 ∷ 1 ∷ 2 ∷ []) 0xffff_ffff ∷ [] }
+    record sample {
+      vars = time_var (record { times = 3; lats = 2; lons = 2 }) ∷ float_var (codes "lat")
+          (1 ∷ []) 276 ∷ float_var (codes "lon") (2 ∷ []) 284 ∷ float_var (codes "t") (0 ∷ 1 ∷ 2 ∷ []) 0xffff_ffff ∷ [];
+    }
 
 -- the same, with the longest dimension that a file can have
 abbrev pub longest : Header

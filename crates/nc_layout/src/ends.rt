@@ -26,7 +26,12 @@ fn end_of(header: &Header, recsize: u128, var: &NcVar, size: u64) -> Option<u128
 
 /// The first variable that has an element past this length.
 #[tactic(auto, unfolding(fm_base::specs::Layout::first_outside))]
-pub fn first_outside(header: &Header, len: u64, recsize: u128, vsizes: &[u64]) -> Option<LayoutFault>
+pub fn first_outside(
+    header: &Header,
+    len: u64,
+    recsize: u128,
+    vsizes: &[u64],
+) -> Option<LayoutFault>
     requires recsize { recsize ≡ record_size header.now }
     requires small_recsize { recsize < 2 ^ 73 }
     requires sizes { vsizes.now ≡ vsizes_of header.now }

@@ -71,10 +71,7 @@ impl Layout {
         ensures { (v : _) → IsVar self.now var v
             → result ≡ slice_index (shape_of self.now.header v) dim }
     {
-        size_at(
-            &self.header,
-            self.var(var).dims.as_slice()[dim as usize],
-        )
+        size_at(&self.header, self.var(var).dims.as_slice()[dim as usize])
     }
 
     /// The place in the file of the first byte of an element. All of its bytes lie in the file.
