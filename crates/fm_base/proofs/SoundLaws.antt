@@ -5,7 +5,9 @@ use Rattle.fm_base.specs.declared.header.Header.{Header}
 use Rattle.fm_base.specs.Chain.{◌>>=◌, ◌>>◌, refuse, fault_as}
 use Rattle.fm_base.specs.Layout.{layout_fault}
 use Rattle.fm_base.specs.Reading.{header_or_fault}
-use Rattle.fm_base.specs.Sound.{FormatFault, OfHeader, OfLayout, sound_header}
+use Rattle.fm_base.specs.declared.fault.FormatFault.{FormatFault}
+use Rattle.fm_base.specs.declared.fault.FormatFault.TheVariants.{OfHeader, OfLayout}
+use Rattle.fm_base.specs.Sound.{sound_header}
 use Rattle.fm_base.proofs.ChainLemmas.{step_ok, refuse_ok, same_Ok}
 
 -- a step that has a value has it in other words

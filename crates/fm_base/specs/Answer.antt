@@ -9,6 +9,12 @@ Answers outcome (Ok value) = outcome ≡ Ok value
 Answers outcome (Err fails.NoMemory) = Unit {0}
 Answers outcome (Err (fails.Fault fault)) = outcome ≡ Err fault
 
+-- the result's value, seen so, or its fault, is that of this outcome, unless memory ran out
+abbrev pub AnswersAs : {X A E : Type 0} → (X → A) → Result A E → Result X (Fail E) → Type 0
+AnswersAs view outcome (Ok value) = outcome ≡ Ok (view value)
+AnswersAs view outcome (Err fails.NoMemory) = Unit {0}
+AnswersAs view outcome (Err (fails.Fault fault)) = outcome ≡ Err fault
+
 -- the result is this value, unless memory ran out
 abbrev pub IsReadAs : {A E : Type 0} → A → Result A (Fail E) → Type 0
 IsReadAs value (Ok found) = found ≡ value

@@ -15,7 +15,7 @@ mod units;
 
 pub use decimal::put_decimal;
 pub use fail::{Fail, NoMemory};
-pub use fault::{HeaderFault, LayoutFault};
+pub use fault::{FormatFault, HeaderFault, LayoutFault};
 pub use field::{be16, be32, be64};
 pub use header::{Attr, Dim, Header, NcVar};
 pub use kind::Kind;

@@ -8,7 +8,9 @@ use Rattle.fm_base.specs.declared.header.Header.{Header as FileHeader}
 use Rattle.fm_base.specs.declared.header.NcVar.{NcVar}
 use Rattle.fm_base.specs.Layout.{size_in, elements_of}
 use Rattle.fm_base.specs.Name.{is_name_byte}
-use Rattle.fm_base.specs.Sound.{FormatFault, OfHeader, OfLayout, sound_header}
+use Rattle.fm_base.specs.declared.fault.FormatFault.{FormatFault}
+use Rattle.fm_base.specs.declared.fault.FormatFault.TheVariants.{OfHeader, OfLayout}
+use Rattle.fm_base.specs.Sound.{sound_header}
 use Rattle.fm_model.specs.declared.proto.Proto.{Proto}
 use Rattle.fm_model.specs.declared.proto.ProtoFault.{ProtoFault}
 use Rattle.fm_model.specs.declared.proto.ProtoFault.TheVariants.{Header, Layout, NoTimeAxis, TimeNotFirst, BadProtoName, NameTaken, EmptyDimension}
