@@ -32,11 +32,11 @@ exponent_tells (negsuc a) (negsuc b) p q h =
     ap negsuc (omega (arith, decimal_tells (suc a) (suc b) (omega arith) (omega arith) digits))
 
 -- a fraction in hexadecimal tells the number that it is the fraction of
-hex_fraction-none : (a : ℕ) → high_place a ≡ 0 → hex_fraction a ≡ []
+pub hex_fraction-none : (a : ℕ) → high_place a ≡ 0 → hex_fraction a ≡ []
 unfolding hex_fraction
 hex_fraction-none a e = cond-true _ _ _ (eq-eqb _ _ e)
 
-hex_fraction-some : (a : ℕ) → high_place a ≢ 0
+pub hex_fraction-some : (a : ℕ) → high_place a ≢ 0
     → hex_fraction a ≡ 46 ∷ fixed_digits 16 (hex_len (high_place a)) (a * 2 ^ (4 * hex_len (high_place a) - high_place a))
 unfolding hex_fraction
 hex_fraction-some a e = cond-false _ _ _ (ne_eqb _ _ e)
@@ -56,7 +56,7 @@ hex_fraction_within a =
     ]
 
 -- a number without such a fraction is 1
-one_alone : (a : ℕ) → a % 2 ≡ 1 → a < 2 ^ 64 → high_place a ≡ 0 → a ≡ 1
+pub one_alone : (a : ℕ) → a % 2 ≡ 1 → a < 2 ^ 64 → high_place a ≡ 0 → a ≡ 1
 one_alone a p r z = let place = high_place_is a (omega arith) r in let unit : 2 ^ high_place a ≡ 1 = ap (λ x. 2 ^ x) z in omega arith
 
 -- as many digits, and the same, are those of one number

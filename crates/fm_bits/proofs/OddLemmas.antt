@@ -55,7 +55,7 @@ odd_times_five a (suc k) p =
     let less = odd_times_five a k p in
     let five : a * 5 ^ suc k ≡ 5 * (a * 5 ^ k) = ap (λ x. a * x) (pow-suc 5 k) ∙ omega arith in omega arith
 
-two_pow-mul_four : (h : ℕ) → 2 ^ (4 * h) ≡ 16 ^ h
+pub two_pow-mul_four : (h : ℕ) → 2 ^ (4 * h) ≡ 16 ^ h
 two_pow-mul_four zero = refl
 two_pow-mul_four (suc h) =
     let split : 4 * suc h ≡ 4 * h + 4 = omega arith in

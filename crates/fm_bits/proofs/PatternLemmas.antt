@@ -43,17 +43,17 @@ fields_small w f negative b x p q =
     (λ z. finite_small negative x (lowest_exponent w f 1) (omega arith) (low 1 (omega arith)))
     (λ n. finite_small negative (2 ^ f + x) (lowest_exponent w f b) p (low b (omega arith))))
 
-float_small : (n : ℕ) → IsSmallValue (float_value 8 23 n)
+pub float_small : (n : ℕ) → IsSmallValue (float_value 8 23 n)
 float_small n = fields_small 8 23 (nat_le (2 ^ 31) n) (n / 2 ^ 23 % 2 ^ 8) (n % 2 ^ 23) (omega arith) (omega arith)
 
-double_small : (n : ℕ) → IsSmallValue (float_value 11 52 n)
+pub double_small : (n : ℕ) → IsSmallValue (float_value 11 52 n)
 double_small n = fields_small 11 52 (nat_le (2 ^ 63) n) (n / 2 ^ 52 % 2 ^ 11) (n % 2 ^ 52) (omega arith) (omega arith)
 
 -- two's complement of 16 and of 32 bits
-short_mag : (n : ℕ) → n < 2 ^ 16 → mag (cast_signed w16 n) < 2 ^ 63
+pub short_mag : (n : ℕ) → n < 2 ^ 16 → mag (cast_signed w16 n) < 2 ^ 63
 short_mag n p = cond_both (nat_lt n (2 ^ 15)) _ _ (λ z. mag z < 2 ^ 63) (λ t. omega arith) (λ f. omega arith)
 
-int_mag : (n : ℕ) → n < 2 ^ 32 → mag (cast_signed w32 n) < 2 ^ 63
+pub int_mag : (n : ℕ) → n < 2 ^ 32 → mag (cast_signed w32 n) < 2 ^ 63
 int_mag n p = cond_both (nat_lt n (2 ^ 31)) _ _ (λ z. mag z < 2 ^ 63) (λ t. omega arith) (λ f. omega arith)
 
 -- the same for the bits of one kind
