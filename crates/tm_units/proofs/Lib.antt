@@ -20,6 +20,7 @@ pub mod UnitsLocalRuns
 pub mod UnitsLocalNumbers
 pub mod UnitsLocalFound
 pub mod UnitsPlaces
+pub mod UnitsWrong
 pub mod UnitsBegun
 pub mod UnitsBegunParts
 pub mod UnitsBegunTimes

@@ -1,4 +1,4 @@
--- What stands before a bad place of a zone, or of the end of a text, begins some text that is spelled so.
+-- Some text that is spelled so goes on from what stands before a bad place of a zone, or of the end of a text.
 use Rattle.std.proofs.Common.{◌≡◌, inl, inr, ℕ, Bool, true, false, cond, ◌==◌, List, [], ◌∷◌, ◌++◌, codes, Err, refl, sym, ℤ, pos, neg_ℤ, ◌-ℤ◌}
 use Rattle.std.specs.Char.{eq_ignore_ascii_case}
 use Rattle.fm_base.specs.Input.{Input}

@@ -1,4 +1,4 @@
--- What stands before a bad place of a date or a time begins some text that is spelled so.
+-- Some text that is spelled so goes on from what stands before a bad place of a date or a time.
 use Rattle.std.proofs.Common.{◌≡◌, inl, inr, ℕ, ◌≤◌, true, ◌==◌, List, [], ◌∷◌, ◌++◌, Some, Err, refl, arith, pos}
 use Rattle.std.proofs.lemmas.Bool.{le-leb}
 use Rattle.jiff_core.specs.Calendar.{days_from_civil, days_in_month}
@@ -45,7 +45,7 @@ Spelled-is x = record { text = []; a = x; spelled = record { value = refl; text_
 day_place : (year month at : ℕ) (rest : List ℕ) (bad : ℕ) → and_then (number_at 1 2 0 99 (input at rest)) (λ day. known at (day_number year month day)) ≡ Err bad → bad ≡ at
 day_place year month = found_place (number_at 1 2 0 99) (λ day. day_number year month day) (λ at rest bad e. elim (number_place 1 2 0 99 at rest bad e) [
   | inl here ↦ here
-  | inr few ↦ let place = few.0 in let below = few.1 in omega arith
+  | inr few ↦ let place = few.place_is in let below = few.below in omega arith
 ])
 
 a_month : (year : ℕ) → year ≤ 9999 → Spelled (TheMonth year)
@@ -62,9 +62,9 @@ pub Viable-date : Viable SpellsDate date_at
 unfolding date_at
 Viable-date =
     Viable-as to_date
-    (Viable-then {T = λ year. After 45 (TheMonth year)} (Exact-number 1 4 0 9999) (Viable-number 1 4 0 9999 (one_digit 4 0 9999 48 refl (omega arith) (omega arith) (omega arith)))
+    (Viable-then {T = λ year. After 45 (TheMonth year)} (Exact-number 1 4 0 9999) (Viable-number 1 4 0 9999 (omega arith) (one_digit 4 0 9999 48 refl (omega arith) (omega arith) (omega arith)))
     (λ text year s. Viable-after {S = TheMonth year} 45 (a_month year s.high_is)
-    (Viable-then {T = λ month. After 45 (TheDay year month)} (Exact-number 1 2 1 12) (Viable-number 1 2 1 12 (one_digit 2 1 12 49 refl (omega arith) (omega arith) (omega arith)))
+    (Viable-then {T = λ month. After 45 (TheDay year month)} (Exact-number 1 2 1 12) (Viable-number 1 2 1 12 (omega arith) (one_digit 2 1 12 49 refl (omega arith) (omega arith) (omega arith)))
     (λ text month m. Viable-after {S = TheDay year month} 45 (a_day year month s.high_is m.low_is m.high_is) (Viable-at_once (a_day year month s.high_is m.low_is m.high_is) (day_place year month)))
     (λ text month m. Spelled-after {S = TheDay year month} 45 (a_day year month s.high_is m.low_is m.high_is))))
     (λ text year s. Spelled-after {S = TheMonth year} 45 (a_month year s.high_is)))
@@ -89,7 +89,7 @@ Viable-second =
     Viable-as to_second
     (Viable-optional {S = After 58 TheSecond} (next_passes (λ other. other == 58)) 0
     (Viable-after {S = TheSecond} 58 a_second
-    (Viable-then {T = λ second. Then Zeros (λ zeros. Is second)} (Exact-number 1 2 0 59) (Viable-number 1 2 0 59 a_minute)
+    (Viable-then {T = λ second. Then Zeros (λ zeros. Is second)} (Exact-number 1 2 0 59) (Viable-number 1 2 0 59 (omega arith) a_minute)
     (λ text second s. Viable-then {T = λ zeros. Is second} Exact-fraction Viable-fraction (λ text zeros z. Viable-pure second) (λ text zeros z. Spelled-is second))
     (λ text second s. Spelled-then {T = λ zeros. Is second} no_zeros (Spelled-is second)))))
 
@@ -106,9 +106,9 @@ pub Viable-time : Viable SpellsTime time_at
 unfolding time_at
 Viable-time =
     Viable-as to_time
-    (Viable-then {T = λ hour. After 58 (TheMinute hour)} (Exact-number 1 2 0 23) (Viable-number 1 2 0 23 an_hour)
+    (Viable-then {T = λ hour. After 58 (TheMinute hour)} (Exact-number 1 2 0 23) (Viable-number 1 2 0 23 (omega arith) an_hour)
     (λ text hour s. Viable-after {S = TheMinute hour} 58 (to_the_minute hour)
-    (Viable-then {T = λ minute. Then SpellsSecond (λ second. Is (time_seconds hour minute second))} (Exact-number 1 2 0 59) (Viable-number 1 2 0 59 a_minute)
+    (Viable-then {T = λ minute. Then SpellsSecond (λ second. Is (time_seconds hour minute second))} (Exact-number 1 2 0 59) (Viable-number 1 2 0 59 (omega arith) a_minute)
     (λ text minute m. Viable-then {T = λ second. Is (time_seconds hour minute second)} Exact-second Viable-second (λ text second n. Viable-pure (time_seconds hour minute second)) (λ text second n. Spelled-is (time_seconds hour minute second)))
     (λ text minute m. Spelled-then {T = λ second. Is (time_seconds hour minute second)} no_second (Spelled-is (time_seconds hour minute no_second.a)))))
     (λ text hour s. Spelled-after {S = TheMinute hour} 58 (to_the_minute hour)))
@@ -117,7 +117,7 @@ Viable-zone_minute : Viable SpellsZoneMinute zone_minute_at
 unfolding zone_minute_at
 Viable-zone_minute =
     Viable-as to_zone_minute
-    (Viable-optional {S = After 58 (SpellsNumber 2 2 0 59)} (next_passes (λ other. other == 58)) 0 (Viable-after 58 two_zeros (Viable-number 2 2 0 59 two_zeros)))
+    (Viable-optional {S = After 58 (SpellsNumber 2 2 0 59)} (next_passes (λ other. other == 58)) 0 (Viable-after 58 two_zeros (Viable-number 2 2 0 59 (omega arith) two_zeros)))
 
 no_zone_minute : Spelled SpellsZoneMinute
 no_zone_minute = record { text = []; a = 0; spelled = inl (refl, refl) }
@@ -129,6 +129,6 @@ pub Viable-distance : Viable SpellsDistance distance_at
 unfolding distance_at
 Viable-distance =
     Viable-as to_distance
-    (Viable-then {T = λ hour. Then SpellsZoneMinute (λ minute. Is (time_seconds hour minute 0))} (Exact-number 1 2 0 23) (Viable-number 1 2 0 23 an_hour)
+    (Viable-then {T = λ hour. Then SpellsZoneMinute (λ minute. Is (time_seconds hour minute 0))} (Exact-number 1 2 0 23) (Viable-number 1 2 0 23 (omega arith) an_hour)
     (λ text hour s. Viable-then {T = λ minute. Is (time_seconds hour minute 0)} Exact-zone_minute Viable-zone_minute (λ text minute m. Viable-pure (time_seconds hour minute 0)) (λ text minute m. Spelled-is (time_seconds hour minute 0)))
     (λ text hour s. Spelled-then {T = λ minute. Is (time_seconds hour minute 0)} no_zone_minute (Spelled-is (time_seconds hour no_zone_minute.a 0))))

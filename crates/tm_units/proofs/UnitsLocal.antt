@@ -1,12 +1,12 @@
--- What a reader gives depends on the bytes that it takes and the next one alone. Where it goes wrong, on the bytes up to
--- that place, or on the word or number that stands there.
+-- What a reader returns depends on the bytes that it takes and the next one alone. Where it goes wrong, it depends on the
+-- bytes up to that place, or on the number that stands there.
 use Rattle.std.proofs.Common.{◌≡◌, ◌⊎◌, inl, inr, ℕ, suc, ◌+◌, ◌<◌, ◌≤◌, Bool, true, false, cond, List, [], ◌∷◌, length, take, drop, Result, Ok, Err, refl, sym, ap, subst, ◌∙◌, arith}
 use Rattle.std.proofs.lemmas.List.{take-take, drop-take, drop-drop, length-drop}
 use Rattle.std.proofs.Math.Dec.{eqb-suc-zero}
 use Rattle.std.specs.List.{list_all}
 use Rattle.fm_base.specs.Input.{Input}
 use Rattle.fm_base.specs.UnitsReading.{UnitsOutcome as Outcome, UnitsParser as Parser, past, next_passes, has_ended}
-use Rattle.fm_base.specs.UnitsFaults.{is_of_run}
+use Rattle.std.specs.Char.{is_ascii_digit}
 use Rattle.fm_base.proofs.Exact.{input, Stops, done, ok_pair}
 use Rattle.fm_base.specs.Parser.{and_then, ◌>>=◌, pure, located}
 
@@ -39,14 +39,18 @@ pub record Taken {A : Type 0} (p : Parser A) (at : ℕ) (rest : List ℕ) (a : A
   pub within : count ≤ length rest
   pub again : (other : List ℕ) → Agree (suc count) rest other → p (input at other) ≡ Ok (a, past count (input at other))
 
--- a word or a number that is wrong whatever follows it
+-- digits after these bytes end in the second text where they do in the first
+abbrev pub EndToo : ℕ → List ℕ → List ℕ → Type 0
+EndToo n xs ys = Stops is_ascii_digit (drop n xs) → Stops is_ascii_digit (drop n ys)
+
+-- a number that is wrong whatever follows it
 pub record WrongRun {A : Type 0} (p : Parser A) (at : ℕ) (rest : List ℕ) (count : ℕ) : Type 0 where
-  pub is_word : Bool
   pub size : ℕ
   pub some : 0 < size
   pub within : count + size ≤ length rest
-  pub run : list_all (is_of_run is_word) (take size (drop count rest)) ≡ true
-  pub again : (other : List ℕ) → Agree (count + size) rest other → Stops (is_of_run is_word) (drop (count + size) other) → p (input at other) ≡ Err (at + count)
+  pub run : list_all is_ascii_digit (take size (drop count rest)) ≡ true
+  pub again : (other : List ℕ) → Agree (count + size) rest other → EndToo (count + size) rest other
+      → p (input at other) ≡ Err (at + count)
 
 -- how reading went wrong
 pub record Failed {A : Type 0} (p : Parser A) (at : ℕ) (rest : List ℕ) (bad : ℕ) : Type 0 where
@@ -87,7 +91,7 @@ then_fails p q at rest bad f = record {
   within = f.within;
   why = elim f.why [
     | inl told ↦ inl (λ other same. ap (λ r. and_then r q) (told other same))
-    | inr w ↦ inr (record { is_word = w.is_word; size = w.size; some = w.some; within = w.within; run = w.run; again = λ other same ends. ap (λ r. and_then r q) (w.again other same ends) })
+    | inr w ↦ inr (record { size = w.size; some = w.some; within = w.within; run = w.run; again = λ other same ends. ap (λ r. and_then r q) (w.again other same ends) })
   ];
 }
 
@@ -104,7 +108,7 @@ after_takes {B = B} p q at rest a j b k t u = record {
       ap (λ r. and_then r q) first ∙ second ∙ ap (λ (i : Input). done {A = B × Input} (b, i)) (past_past t.count u.count at other);
 }
 
-after_fails : {A B : Type 0} (p : Parser A) (q : A → Parser B) (at : ℕ) (rest : List ℕ) (a : A) (j : Input) (bad : ℕ) (t : Taken p at rest a j) → Failed (q a) (at + t.count) (drop t.count rest) bad → Failed (p >>= q) at rest bad
+pub after_fails : {A B : Type 0} (p : Parser A) (q : A → Parser B) (at : ℕ) (rest : List ℕ) (a : A) (j : Input) (bad : ℕ) (t : Taken p at rest a j) → Failed (q a) (at + t.count) (drop t.count rest) bad → Failed (p >>= q) at rest bad
 after_fails {B = B} p q at rest a j bad t f =
     let place : at + t.count + f.count ≡ at + (t.count + f.count) = omega arith in
     record {
@@ -118,16 +122,17 @@ after_fails {B = B} p q at rest a j bad t f =
             let second = told (drop t.count other) (agree_drop t.count (suc f.count) rest other (subst (λ (n : ℕ). Agree n rest other) longer same)) in
             ap (λ r. and_then r q) first ∙ second ∙ ap (λ (n : ℕ). failed {A = B × Input} n) place)
         | inr w ↦ inr (record {
-          is_word = w.is_word;
           size = w.size;
           some = w.some;
           within = let first = t.within in let second = w.within in let size = w.some in omega (arith, length-drop t.count rest);
-          run = subst (λ (l : List ℕ). list_all (is_of_run w.is_word) (take w.size l) ≡ true) (drop-drop f.count t.count rest) w.run;
+          run = subst (λ (l : List ℕ). list_all is_ascii_digit (take w.size l) ≡ true) (drop-drop f.count t.count rest) w.run;
           again = λ other same ends.
               let size = w.some in
               let longer : t.count + f.count + w.size ≡ t.count + (f.count + w.size) = omega arith in
               let first = t.again other (agree_less (suc t.count) (t.count + f.count + w.size) rest other (omega arith) same) in
-              let second = w.again (drop t.count other) (agree_drop t.count (f.count + w.size) rest other (subst (λ (n : ℕ). Agree n rest other) longer same)) (subst (λ (l : List ℕ). Stops (is_of_run w.is_word) l) (ap (λ (n : ℕ). drop n other) longer ∙ sym (drop-drop (f.count + w.size) t.count other)) ends) in
+              let second = w.again (drop t.count other) (agree_drop t.count (f.count + w.size) rest other (subst (λ (n : ℕ). Agree n rest other) longer same)) (λ stops.
+                  subst (λ (l : List ℕ). Stops is_ascii_digit l) (ap (λ (n : ℕ). drop n other) longer ∙ sym (drop-drop (f.count + w.size) t.count other))
+                  (ends (subst (λ (l : List ℕ). Stops is_ascii_digit l) (drop-drop (f.count + w.size) t.count rest ∙ sym (ap (λ (n : ℕ). drop n rest) longer)) stops))) in
               ap (λ r. and_then r q) first ∙ second ∙ ap (λ (n : ℕ). failed {A = B × Input} n) place;
         })
       ];
@@ -157,7 +162,7 @@ refit p q at rest bad same f = record {
   within = f.within;
   why = elim f.why [
     | inl told ↦ inl (λ other agree. sym (same other) ∙ told other agree)
-    | inr w ↦ inr (record { is_word = w.is_word; size = w.size; some = w.some; within = w.within; run = w.run; again = λ other agree ends. sym (same other) ∙ w.again other agree ends })
+    | inr w ↦ inr (record { size = w.size; some = w.some; within = w.within; run = w.run; again = λ other agree ends. sym (same other) ∙ w.again other agree ends })
   ];
 }
 
@@ -201,7 +206,6 @@ chosen_fails test first p q b at rest bad is same f = record {
   why = elim f.why [
     | inl told ↦ inl (λ other agree. same other (sym (first f.count at rest other agree) ∙ is) ∙ told other agree)
     | inr w ↦ inr (record {
-      is_word = w.is_word;
       size = w.size;
       some = w.some;
       within = w.within;

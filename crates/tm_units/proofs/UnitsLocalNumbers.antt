@@ -1,7 +1,7 @@
--- Numbers and words depend on the bytes that they take and the next one alone, and a wrong number on itself alone.
-use Rattle.std.proofs.Common.{◌≡◌, inl, inr, ℕ, suc, ◌+◌, ◌≤◌, Bool, true, false, cond, ◌||◌, ltb, List, ◌++◌, length, take, drop, Ok, Err, refl, sym, ap, subst, ◌∙◌, arith, take-append-drop}
+-- What is read as a number or a word depends on its bytes and the next one alone, and a wrong number on its digits alone.
+use Rattle.std.proofs.Common.{◌≡◌, ◌⊎◌, inl, inr, ℕ, zero, suc, ◌+◌, ◌≤◌, Bool, true, false, cond, ◌||◌, ltb, List, [], ◌∷◌, ◌++◌, length, take, drop, Ok, Err, refl, sym, ap, subst, ◌∙◌, arith, take-append-drop}
 use Rattle.std.proofs.lemmas.Bool.{cases_lt}
-use Rattle.std.proofs.lemmas.List.{length-take}
+use Rattle.std.proofs.lemmas.List.{append-nil, length-take}
 use Rattle.std.proofs.lemmas.List.Sums.{prefix_len-le-length}
 use Rattle.std.proofs.Math.Seq.{take-length}
 use Rattle.std.specs.Char.{is_ascii_digit, is_ascii_alphabetic}
@@ -9,21 +9,20 @@ use Rattle.std.specs.List.{prefix_len, list_all}
 use Rattle.fm_base.specs.Input.{Input}
 use Rattle.fm_base.specs.Stamp.{number_of}
 use Rattle.fm_base.specs.UnitsReading.{UnitsOutcome as Outcome, UnitsParser as Parser, past, run_at, number_at}
-use Rattle.fm_base.specs.UnitsFaults.{is_of_run}
 use Rattle.fm_base.proofs.Exact.{input, Stops, done, ok_pair}
 use Rattle.tm_units.proofs.UnitsRuns.{run_within, run_passes, run_is}
-use Rattle.tm_units.proofs.UnitsLocal.{Agree, agree_less, Failed, Local, failed, err_is}
+use Rattle.tm_units.proofs.UnitsLocal.{Agree, EndToo, agree_less, Taken, Failed, Local, failed, err_is}
 use Rattle.tm_units.proofs.UnitsLocalRuns.{prefix_agree, prefix_agree_within, short}
 use Rattle.fm_base.specs.Parser.{and_then}
 
--- a run of this class that was taken, which each text that begins with it and ends it gives too
-pub record Lexed {A : Type 0} (is_word : Bool) (p : Parser A) (at : ℕ) (rest : List ℕ) (a : A) (j : Input) : Type 0 where
+-- digits that were taken, which are taken too from each text that begins with them and ends them
+pub record Lexed {A : Type 0} (p : Parser A) (at : ℕ) (rest : List ℕ) (a : A) (j : Input) : Type 0 where
   pub count : ℕ
   pub input_is : j ≡ past count (input at rest)
   pub within : count ≤ length rest
-  pub run : list_all (is_of_run is_word) (take count rest) ≡ true
+  pub run : list_all is_ascii_digit (take count rest) ≡ true
   pub again : (other : List ℕ) → Agree (suc count) rest other → p (input at other) ≡ Ok (a, past count (input at other))
-  pub alone : (other : List ℕ) → Agree count rest other → Stops (is_of_run is_word) (drop count other) → p (input at other) ≡ Ok (a, past count (input at other))
+  pub alone : (other : List ℕ) → Agree count rest other → EndToo count rest other → p (input at other) ≡ Ok (a, past count (input at other))
 
 abbrev pub is_out : ℕ → ℕ → List ℕ → Bool
 is_out low high digits = ltb (number_of digits) low || ltb high (number_of digits)
@@ -52,8 +51,24 @@ number_same fewest most low high at count rest other size same =
     ∙ ap (λ (n : ℕ). checked fewest low high at (take n other) (past n (input at other))) size
     ∙ ap (λ (l : List ℕ). checked fewest low high at l (past count (input at other))) (sym same)
 
--- the digits of a text that begins with the same ones and ends them
-same_digits : (most : ℕ) (rest other : List ℕ) → Agree (digits_of most rest) rest other → Stops is_ascii_digit (drop (digits_of most rest) other) → digits_of most other ≡ digits_of most rest
+-- as many digits as there may be, or a byte after them that is none
+pub full_or_ends : (test : ℕ → Bool) (most : ℕ) (rest : List ℕ)
+    → (prefix_len test (take most rest) ≡ most) ⊎ Stops test (drop (prefix_len test (take most rest)) rest)
+full_or_ends test zero rest = inl refl
+full_or_ends test (suc most) [] = inr refl
+full_or_ends test (suc most) (x ∷ rest) = by_first (test x) refl (full_or_ends test most rest)
+  where
+    by_first : (b : Bool) → test x ≡ b → (prefix_len test (take most rest) ≡ most) ⊎ Stops test (drop (prefix_len test (take most rest)) rest)
+        → (cond b (1 + prefix_len test (take most rest)) 0 ≡ suc most) ⊎ Stops test (drop (cond b (1 + prefix_len test (take most rest)) 0) (x ∷ rest))
+    by_first true is (inl full) = inl (omega arith)
+    by_first true is (inr ends) =
+        let longer : 1 + prefix_len test (take most rest) ≡ suc (prefix_len test (take most rest)) = omega arith in
+        inr (subst (λ (n : ℕ). Stops test (drop n (x ∷ rest))) (sym longer) ends)
+    by_first false is h = inr is
+
+-- the digits of a text that begins with the same ones and ends them where the other does
+same_digits : (most : ℕ) (rest other : List ℕ) → Agree (digits_of most rest) rest other → EndToo (digits_of most rest) rest other
+    → digits_of most other ≡ digits_of most rest
 same_digits most rest other same ends =
     let count = digits_of most rest in
     let all : list_all is_ascii_digit (take count other) ≡ true = subst (λ (l : List ℕ). list_all is_ascii_digit l ≡ true) same (run_passes is_ascii_digit rest most) in
@@ -61,12 +76,19 @@ same_digits most rest other same ends =
     let length_is : length (take count other) ≡ count = ap length (sym same) ∙ size in
     let few : length (take count other) ≤ most = let within = prefix_len-le-length is_ascii_digit (take most rest) in omega (arith, length-take most rest) in
     let whole : take count other ++ drop count other ≡ other = take-append-drop count other in
-    subst (λ (l : List ℕ). prefix_len is_ascii_digit (take most l) ≡ count) whole (run_within is_ascii_digit (take count other) (drop count other) most all few ends ∙ length_is)
+    elim (full_or_ends is_ascii_digit most rest) [
+      | inl full ↦
+          let front : take most other ≡ take count other = ap (λ (n : ℕ). take n other) (sym full) in
+          ap (λ (l : List ℕ). prefix_len is_ascii_digit l) front
+          ∙ ap (λ (l : List ℕ). prefix_len is_ascii_digit l) (sym (append-nil (take count other)))
+          ∙ run_is is_ascii_digit (take count other) [] all refl ∙ length_is
+      | inr stops ↦ subst (λ (l : List ℕ). prefix_len is_ascii_digit (take most l) ≡ count) whole (run_within is_ascii_digit (take count other) (drop count other) most all few (ends stops) ∙ length_is)
+    ]
 
-pub Lexed-number : (fewest most low high at : ℕ) (rest : List ℕ) (n : ℕ) (j : Input) → number_at fewest most low high (input at rest) ≡ Ok (n, j) → Lexed false (number_at fewest most low high) at rest n j
+pub Lexed-number : (fewest most low high at : ℕ) (rest : List ℕ) (n : ℕ) (j : Input) → number_at fewest most low high (input at rest) ≡ Ok (n, j) → Lexed (number_at fewest most low high) at rest n j
 Lexed-number fewest most low high at rest n j e = by_tests (is_out low high (take (digits_of most rest) rest)) (ltb (length (take (digits_of most rest) rest)) fewest) refl refl
   where
-    by_tests : (out few : Bool) → is_out low high (take (digits_of most rest) rest) ≡ out → ltb (length (take (digits_of most rest) rest)) fewest ≡ few → Lexed false (number_at fewest most low high) at rest n j
+    by_tests : (out few : Bool) → is_out low high (take (digits_of most rest) rest) ≡ out → ltb (length (take (digits_of most rest) rest)) fewest ≡ few → Lexed (number_at fewest most low high) at rest n j
     by_tests true few eo ef =
         let no = sym e ∙ number_is fewest most low high at rest ∙ checked-out fewest low high at (take (digits_of most rest) rest) (past (digits_of most rest) (input at rest)) eo in
         absurd cc
@@ -107,7 +129,6 @@ range_fails fewest most low high at rest out =
             let one : Agree (suc count) rest other = subst (λ (n : ℕ). Agree (suc n) rest other) (sym zero_is) same in
             number_same fewest most low high at count rest other (prefix_agree_within is_ascii_digit most rest other one) (agree_less count (suc count) rest other (omega arith) one) ∙ out_of (past count (input at other)))
         | inl some ↦ inr (record {
-          is_word = false;
           size = count;
           some = some;
           within = let fits = short is_ascii_digit most rest in omega arith;
@@ -115,8 +136,8 @@ range_fails fewest most low high at rest out =
           again = λ other same ends.
               let whole : 0 + count ≡ count = omega arith in
               let begins : Agree count rest other = subst (λ (n : ℕ). Agree n rest other) whole same in
-              let stops : Stops is_ascii_digit (drop count other) = subst (λ (n : ℕ). Stops is_ascii_digit (drop n other)) whole ends in
-              number_same fewest most low high at count rest other (same_digits most rest other begins stops) begins ∙ out_of (past count (input at other));
+              let too : EndToo count rest other = subst (λ (n : ℕ). EndToo n rest other) whole ends in
+              number_same fewest most low high at count rest other (same_digits most rest other begins too) begins ∙ out_of (past count (input at other));
         })
       ];
     }
@@ -161,26 +182,25 @@ Local-number fewest most low high = record {
 abbrev pub word_at : Parser (List ℕ)
 word_at = λ i. run_at is_ascii_alphabetic (length i.rest) i
 
-all_of : (rest : List ℕ) → prefix_len is_ascii_alphabetic (take (length rest) rest) ≡ prefix_len is_ascii_alphabetic rest
+pub all_of : (rest : List ℕ) → prefix_len is_ascii_alphabetic (take (length rest) rest) ≡ prefix_len is_ascii_alphabetic rest
 all_of rest = ap (λ (l : List ℕ). prefix_len is_ascii_alphabetic l) (take-length rest)
 
-pub Lexed-word : (at : ℕ) (rest word : List ℕ) (j : Input) → word_at (input at rest) ≡ Ok (word, j) → Lexed true word_at at rest word j
-Lexed-word at rest word j e =
+-- each text that begins with the same letters and the same next byte has that word
+pub word_again : (at : ℕ) (rest other : List ℕ) → Agree (suc (prefix_len is_ascii_alphabetic rest)) rest other
+    → word_at (input at other) ≡ Ok (take (prefix_len is_ascii_alphabetic rest) rest, past (prefix_len is_ascii_alphabetic rest) (input at other))
+word_again at rest other same =
     let count = prefix_len is_ascii_alphabetic rest in
-    let told = λ (other : List ℕ). ap (λ (n : ℕ). done {A = List ℕ × Input} (take n other, past n (input at other))) (all_of other) in
-    let k = ok_pair (take count rest) word (past count (input at rest)) j (sym (told rest) ∙ e) in
-    let all : list_all is_ascii_alphabetic (take count rest) ≡ true = subst (λ (n : ℕ). list_all is_ascii_alphabetic (take n rest) ≡ true) (all_of rest) (run_passes is_ascii_alphabetic rest (length rest)) in
-    let fits = prefix_len-le-length is_ascii_alphabetic rest in
-    let given = λ (other : List ℕ) (size : prefix_len is_ascii_alphabetic other ≡ count) (same : Agree count rest other).
-    told other ∙ ap (λ (n : ℕ). done {A = List ℕ × Input} (take n other, past n (input at other))) size ∙ ap (λ (l : List ℕ). done {A = List ℕ × Input} (l, past count (input at other))) (sym same ∙ k.0) in
+    let front : Agree count rest other = agree_less count (suc count) rest other (omega arith) same in
+    ap (λ (n : ℕ). done {A = List ℕ × Input} (take n other, past n (input at other))) (all_of other ∙ prefix_agree is_ascii_alphabetic rest other same)
+    ∙ ap (λ (l : List ℕ). done {A = List ℕ × Input} (l, past count (input at other))) (sym front)
+
+pub Taken-word : (at : ℕ) (rest word : List ℕ) (j : Input) → word_at (input at rest) ≡ Ok (word, j) → Taken word_at at rest word j
+Taken-word at rest word j e =
+    let count = prefix_len is_ascii_alphabetic rest in
+    let k = ok_pair (take count rest) word (past count (input at rest)) j (sym (word_again at rest rest refl) ∙ e) in
     record {
       count = count;
       input_is = sym k.1;
-      within = fits;
-      run = all;
-      again = λ other same. given other (prefix_agree is_ascii_alphabetic rest other same) (agree_less count (suc count) rest other (omega arith) same);
-      alone = λ other same ends.
-          let front : list_all is_ascii_alphabetic (take count other) ≡ true = subst (λ (l : List ℕ). list_all is_ascii_alphabetic l ≡ true) same all in
-          let size : length (take count other) ≡ count = ap length (sym same) ∙ (let length_is : length (take count rest) ≡ count = omega (arith, length-take count rest) in length_is) in
-          given other (subst (λ (l : List ℕ). prefix_len is_ascii_alphabetic l ≡ count) (take-append-drop count other) (run_is is_ascii_alphabetic (take count other) (drop count other) front ends ∙ size)) same;
+      within = prefix_len-le-length is_ascii_alphabetic rest;
+      again = λ other same. word_again at rest other same ∙ ap (λ (l : List ℕ). done {A = List ℕ × Input} (l, past count (input at other))) k.0;
     }

@@ -2,11 +2,12 @@
 use Rattle.std.proofs.Common.{ℕ, ◌==◌, Bool, cond, codes, Err, refl, pos, neg_ℤ, ◌-ℤ◌}
 use Rattle.std.specs.Char.{eq_ignore_ascii_case}
 use Rattle.fm_base.specs.Calendar.{time_seconds}
-use Rattle.fm_base.specs.UnitsReading.{UnitsParser as Parser, next_passes, has_ended, date_at, fraction_at, second_at, time_at, zone_minute_at, distance_at, zone_at, last_zone_at, clock_at, after_date_at, units_at}
+use Rattle.fm_base.specs.UnitsReading.{UnitsParser as Parser, next_passes, has_ended, date_at, fraction_at, second_at, time_at, zone_minute_at, distance_at, zone_at, last_zone_at, clock_at, after_date_at, gap_at, letters_at, Written}
+use Rattle.fm_base.specs.Parser.{◌>>=◌, pure}
 use Rattle.tm_units.proofs.UnitsLocal.{Local, Local-then, Local-pure, Local-here, Local-cond, agree_first, agree_ended}
 use Rattle.tm_units.proofs.UnitsLocalRuns.{Local-many, Local-some, Local-byte, Local-letter, Local-letters, Local-end}
 use Rattle.tm_units.proofs.UnitsLocalNumbers.{Local-number}
-use Rattle.tm_units.proofs.UnitsLocalFound.{Local-unit, Local-the_day}
+use Rattle.tm_units.proofs.UnitsLocalFound.{Local-the_day}
 
 -- one reader or the other, by the next byte
 Local-next : {A : Type 0} {p q : Parser A} (test : ℕ → Bool) → Local p → Local q → Local (λ i. cond (next_passes test i) (p i) (q i))
@@ -65,8 +66,13 @@ Local-after_date =
     Local-next (λ other. eq_ignore_ascii_case other 116) (Local-then (Local-letter 116) (λ t. Local-clock))
     (Local-then (Local-many 32) (λ gap. Local-ended (Local-pure (pos 0)) (Local-allowed (gap == 0) Local-clock)))
 
-pub Local-units : Local units_at
-unfolding units_at
-Local-units =
-    Local-then (Local-many 32) (λ front. Local-then Local-unit (λ per. Local-then (Local-some 32) (λ gap. Local-then (Local-letters (codes "since")) (λ since. Local-then (Local-some 32) (λ gap. Local-then Local-date (λ day.
-    Local-then Local-after_date (λ seconds. Local-pure (record { per = per; day = day; seconds = seconds }))))))))
+-- what follows the unit
+abbrev pub after_unit : ℕ → Parser Written
+after_unit per =
+    gap_at >>= λ gap. letters_at (codes "since") >>= λ since. gap_at >>= λ gap. date_at >>= λ day. after_date_at >>= λ seconds.
+    pure (record { per = per; day = day; seconds = seconds })
+
+pub Local-after_unit : (per : ℕ) → Local (after_unit per)
+Local-after_unit per =
+    Local-then (Local-some 32) (λ gap. Local-then (Local-letters (codes "since")) (λ since. Local-then (Local-some 32) (λ gap. Local-then Local-date (λ day.
+    Local-then Local-after_date (λ seconds. Local-pure (record { per = per; day = day; seconds = seconds }))))))

@@ -48,7 +48,7 @@ no_unit : (per : ℕ) → ¬ (seconds_per [] ≡ Some per)
 unfolding seconds_per is_second is_minute is_hour is_day is_same_word
 no_unit per h = absurd cc
 
-letter_no_space : (byte : ℕ) → is_ascii_alphabetic byte ≡ true → Space byte ≡ false
+pub letter_no_space : (byte : ℕ) → is_ascii_alphabetic byte ≡ true → Space byte ≡ false
 letter_no_space byte h = by_space (Space byte) refl
   where
     by_space : (b : Bool) → Space byte ≡ b → Space byte ≡ false
