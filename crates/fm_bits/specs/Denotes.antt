@@ -21,8 +21,8 @@ pub record DenotesWhole (text : List ℕ) (odd : ℕ) (exponent : ℤ) : Type 0 
   pub digits : IsNumeral 10 text
   pub number : IsSameNumber (digits_value 10 text) (pos 0) odd exponent
 
--- decimal digits on both sides of a point: all of them, read as one number, over 10 to the power of how many stand after
--- the point
+-- decimal digits on both sides of a point: all of them, read as one number, over 10 to the power of how many stand
+-- after the point
 pub record DenotesDecimal (text : List ℕ) (odd : ℕ) (exponent : ℤ) : Type 0 where
   pub front : List ℕ
   pub back : List ℕ
@@ -43,8 +43,10 @@ pub record DenotesHexadecimal (text : List ℕ) (odd : ℕ) (exponent : ℤ) : T
   pub power : List ℕ
   pub back_digits : AllDigits 16 back
   pub power_digits : IsNumeral 10 power
-  pub text_is : text ≡ codes "0x1" ++ after_point back ++ codes "p" ++ (if is_below then codes "-" else codes "+") ++ power
-  pub number : IsSameNumber (16 ^ length back + digits_value 16 back) (with_sign is_below (digits_value 10 power)) (odd * 16 ^ length back) exponent
+  pub text_is : text
+      ≡ codes "0x1" ++ after_point back ++ codes "p" ++ (if is_below then codes "-" else codes "+") ++ power
+  pub number : IsSameNumber (16 ^ length back + digits_value 16 back) (with_sign is_below (digits_value 10 power))
+      (odd * 16 ^ length back) exponent
 
 -- a number without its sign
 abbrev pub DenotesMagnitude : List ℕ → ℕ → ℤ → Type 0

@@ -10,7 +10,8 @@ use Rattle.tm_units.proofs.UnitsLocalNumbers.{Local-number}
 use Rattle.tm_units.proofs.UnitsLocalFound.{Local-the_day}
 
 -- one reader or the other, by the next byte
-Local-next : {A : Type 0} {p q : Parser A} (test : ℕ → Bool) → Local p → Local q → Local (λ i. cond (next_passes test i) (p i) (q i))
+Local-next : {A : Type 0} {p q : Parser A} (test : ℕ → Bool) → Local p → Local q
+    → Local (λ i. cond (next_passes test i) (p i) (q i))
 Local-next test lp lq = Local-cond (next_passes test) (λ n at xs ys same. agree_first n test at xs ys same) lp lq
 
 -- one reader at the end of the text, or else the other
@@ -22,7 +23,11 @@ Local-allowed {p = p} bad lp = Local-cond (λ i. bad) (λ n at xs ys same. refl)
 
 Local-date : Local date_at
 unfolding date_at
-Local-date = Local-then (Local-number 1 4 0 9999) (λ year. Local-then (Local-byte 45) (λ dash. Local-then (Local-number 1 2 1 12) (λ month. Local-then (Local-byte 45) (λ dash. Local-the_day year month))))
+Local-date =
+    Local-then (Local-number 1 4 0 9999)
+    (λ year. Local-then (Local-byte 45)
+    (λ dash. Local-then (Local-number 1 2 1 12)
+    (λ month. Local-then (Local-byte 45) (λ dash. Local-the_day year month))))
 
 Local-fraction : Local fraction_at
 unfolding fraction_at
@@ -30,31 +35,48 @@ Local-fraction = Local-next (λ other. other == 46) (Local-then (Local-byte 46) 
 
 Local-second : Local second_at
 unfolding second_at
-Local-second = Local-next (λ other. other == 58) (Local-then (Local-byte 58) (λ colon. Local-then (Local-number 1 2 0 59) (λ second. Local-then Local-fraction (λ zeros. Local-pure second)))) (Local-pure 0)
+Local-second =
+    Local-next (λ other. other == 58)
+    (Local-then (Local-byte 58)
+    (λ colon. Local-then (Local-number 1 2 0 59) (λ second. Local-then Local-fraction (λ zeros. Local-pure second))))
+    (Local-pure 0)
 
 Local-time : Local time_at
 unfolding time_at
-Local-time = Local-then (Local-number 1 2 0 23) (λ hour. Local-then (Local-byte 58) (λ colon. Local-then (Local-number 1 2 0 59) (λ minute. Local-then Local-second (λ second. Local-pure (time_seconds hour minute second)))))
+Local-time =
+    Local-then (Local-number 1 2 0 23)
+    (λ hour. Local-then (Local-byte 58)
+    (λ colon. Local-then (Local-number 1 2 0 59)
+    (λ minute. Local-then Local-second (λ second. Local-pure (time_seconds hour minute second)))))
 
 Local-zone_minute : Local zone_minute_at
 unfolding zone_minute_at
-Local-zone_minute = Local-next (λ other. other == 58) (Local-then (Local-byte 58) (λ colon. Local-number 2 2 0 59)) (Local-pure 0)
+Local-zone_minute = Local-next (λ other. other == 58) (Local-then (Local-byte 58) (λ colon. Local-number 2 2 0 59))
+    (Local-pure 0)
 
 Local-distance : Local distance_at
 unfolding distance_at
-Local-distance = Local-then (Local-number 1 2 0 23) (λ hour. Local-then Local-zone_minute (λ minute. Local-pure (time_seconds hour minute 0)))
+Local-distance =
+    Local-then (Local-number 1 2 0 23)
+    (λ hour. Local-then Local-zone_minute (λ minute. Local-pure (time_seconds hour minute 0)))
 
 Local-zone : Local zone_at
 unfolding zone_at
 Local-zone =
-    Local-next (λ other. other == 43) (Local-then (Local-byte 43) (λ plus. Local-then Local-distance (λ distance. Local-pure (pos distance))))
-    (Local-next (λ other. other == 45) (Local-then (Local-byte 45) (λ minus. Local-then Local-distance (λ distance. Local-pure (neg_ℤ (pos distance)))))
+    Local-next (λ other. other == 43)
+    (Local-then (Local-byte 43) (λ plus. Local-then Local-distance (λ distance. Local-pure (pos distance))))
+    (Local-next (λ other. other == 45)
+    (Local-then (Local-byte 45)
+    (λ minus. Local-then Local-distance (λ distance. Local-pure (neg_ℤ (pos distance)))))
     (Local-next (λ other. eq_ignore_ascii_case other 122) (Local-then (Local-letter 122) (λ zulu. Local-pure (pos 0)))
     (Local-then (Local-letters (codes "utc")) (λ utc. Local-pure (pos 0)))))
 
 Local-last_zone : Local last_zone_at
 unfolding last_zone_at
-Local-last_zone = Local-then (Local-many 32) (λ gap. Local-ended (Local-pure (pos 0)) (Local-then Local-zone (λ zone. Local-then (Local-many 32) (λ gap. Local-then Local-end (λ end. Local-pure zone)))))
+Local-last_zone =
+    Local-then (Local-many 32)
+    (λ gap. Local-ended (Local-pure (pos 0))
+    (Local-then Local-zone (λ zone. Local-then (Local-many 32) (λ gap. Local-then Local-end (λ end. Local-pure zone)))))
 
 Local-clock : Local clock_at
 unfolding clock_at
@@ -69,10 +91,13 @@ Local-after_date =
 -- what follows the unit
 abbrev pub after_unit : ℕ → Parser Written
 after_unit per =
-    gap_at >>= λ gap. letters_at (codes "since") >>= λ since. gap_at >>= λ gap. date_at >>= λ day. after_date_at >>= λ seconds.
+    gap_at >>= λ gap. letters_at (codes "since") >>= λ since. gap_at >>= λ gap. date_at >>= λ day.
+    after_date_at >>= λ seconds.
     pure (record { per = per; day = day; seconds = seconds })
 
 pub Local-after_unit : (per : ℕ) → Local (after_unit per)
 Local-after_unit per =
-    Local-then (Local-some 32) (λ gap. Local-then (Local-letters (codes "since")) (λ since. Local-then (Local-some 32) (λ gap. Local-then Local-date (λ day.
+    Local-then (Local-some 32)
+    (λ gap. Local-then (Local-letters (codes "since"))
+    (λ since. Local-then (Local-some 32) (λ gap. Local-then Local-date (λ day.
     Local-then Local-after_date (λ seconds. Local-pure (record { per = per; day = day; seconds = seconds }))))))

@@ -49,7 +49,7 @@ pub fn date_places()
     ensures april_31 { units_of (codes "days since 2024-4-31") None ≡ Err (UnitsFault.BadUnits 18) }
     ensures day_of_three_digits { units_of (codes "days since 2020-1-111") None
         ≡ Err (UnitsFault.BadUnits 20) }
-    ensures byte_after_the_day { units_of (codes "days since 2020-1-1x") None
+    ensures byte_after_a_day { units_of (codes "days since 2020-1-1x") None
         ≡ Err (UnitsFault.BadUnits 19) }
 {}
 

@@ -1,4 +1,4 @@
-//! Spellings of units, with the origins that Python's `datetime` gives for them.
+//! Spellings of units, with their origins by Python's `datetime`.
 
 use crate::{Units, UnitsFault, read_units};
 
