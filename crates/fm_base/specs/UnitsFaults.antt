@@ -31,7 +31,8 @@ pub record IsBegun (count : ℕ) (text : List ℕ) : Type 0 where
 
 -- no text of units begins with the first `count` bytes of this text; where it has fewer, it isn't one itself
 abbrev pub GoesNowhere : ℕ → List ℕ → Type 0
-GoesNowhere count text = (other : List ℕ) (units : Written) → SpellsUnits other units → take count other ≡ take count text → ⊥
+GoesNowhere count text =
+    (other : List ℕ) (units : Written) → SpellsUnits other units → take count other ≡ take count text → ⊥
 
 -- Only spaces stand before this place, and a word from there on. The word is whole, and names no unit.
 pub record IsWrongUnit (place : ℕ) (text : List ℕ) : Type 0 where
@@ -43,8 +44,8 @@ pub record IsWrongUnit (place : ℕ) (text : List ℕ) : Type 0 where
   pub unknown : seconds_per word ≡ None
   pub text_is : text ≡ replicate place 32 ++ (word ++ more)
 
--- `count` digits stand at this place, and no text of units has them there: none begins with the same bytes up to the last
--- of them and has another byte than a digit after it, or any byte where this text has a digit there.
+-- Digits stand at this place that no text of units has there, whatever follows them. Where they end in this text, only
+-- texts count in which they end too.
 pub record IsWrongNumber (place : ℕ) (text : List ℕ) : Type 0 where
   pub count : ℕ
   pub some : 0 < count
@@ -54,9 +55,9 @@ pub record IsWrongNumber (place : ℕ) (text : List ℕ) : Type 0 where
       → take (place + count) other ≡ take (place + count) text
       → (EndsRun is_ascii_digit (drop (place + count) text) → EndsRun is_ascii_digit (drop (place + count) other)) → ⊥
 
--- A text goes wrong at this place. Some text of units goes on from what stands before it. From there on, the byte or the
--- end of the text is one that no text of units has there, or a word is no unit, or a number is out of its range. No word
--- before it was an unknown unit.
+-- A text goes wrong at this place. Some text of units goes on from what stands before it. From there on, no text of
+-- units has the byte, or the end, that this text has; or a word is no unit, or a number is out of its range. No word
+-- before the place is an unknown unit.
 pub record GoesWrong (place : ℕ) (text : List ℕ) : Type 0 where
   pub begun : IsBegun place text
   pub wrong : GoesNowhere (suc place) text ⊎ (IsWrongUnit place text ⊎ IsWrongNumber place text)
