@@ -1,9 +1,9 @@
 -- The texts of magnitudes denote them: digits, decimals, and the hexadecimal form.
-use Rattle.std.proofs.Common.{◌≡◌, ◌≢◌, inl, inr, ◌⊎◌, ℕ, zero, suc, ◌+◌, ◌-◌, ◌*◌, ◌/◌, ◌%◌, ◌^◌, ◌<◌, ◌≤◌, Bool, true, false, List, [], ◌∷◌, ◌++◌, codes, cond, length, sym, ap, subst, ◌∙◌, arith, refl, append_assoc, append-nil, ℤ, pos, negsuc, neg_ℤ, ◌+ℤ◌, unsigned_abs}
+use Rattle.std.proofs.Common.{◌≡◌, inl, inr, ℕ, zero, suc, ◌+◌, ◌-◌, ◌*◌, ◌/◌, ◌%◌, ◌^◌, ◌<◌, ◌≤◌, false, List, [], ◌∷◌, ◌++◌, codes, cond, length, sym, ap, subst, ◌∙◌, arith, refl, append_assoc, append-nil, ℤ, pos, negsuc, neg_ℤ, ◌+ℤ◌, unsigned_abs}
 use Rattle.std.specs.Int.{is_negative}
 use Rattle.std.specs.Char.{digit_value}
 use Rattle.std.specs.Fmt.{decimal, digit_glyph}
-use Rattle.std.specs.Str.Parse.{AllDigits, IsNumeral, digits_value}
+use Rattle.std.specs.Str.Parse.{AllDigits, digits_value}
 use Rattle.std.proofs.Math.Arith.{mod-mul}
 use Rattle.std.proofs.Math.Nat.{div-le_self, pow-zero, pow-suc, mod-lt, one-le-pow, mod-one, mul-div-mul_right, mod-eq-sub-mod, mod-eq_of_lt}
 use Rattle.std.proofs.lemmas.Bool.{cases_eq, cond-false, le-ltb}
@@ -13,7 +13,7 @@ use Rattle.std.proofs.lemmas.Int.{ints}
 use Rattle.std.proofs.lemmas.Int.Digits.{digits_push, digits_value_push}
 use Rattle.std.proofs.lemmas.Nat.{mul-pow, pow-add, div-add-mod'}
 use Rattle.fm_base.specs.Pattern.{with_sign}
-use Rattle.fm_bits.specs.Denotes.{IsSameNumber, DenotesWhole, DenotesDecimal, DenotesHexadecimal, DenotesMagnitude, after_point}
+use Rattle.fm_bits.specs.Denotes.{DenotesDecimal, DenotesHexadecimal, DenotesMagnitude, after_point}
 use Rattle.fm_bits.specs.Digits.{fixed_digits}
 use Rattle.fm_bits.specs.Text.{whole_text, decimals_text, hex_text, hex_fraction, hex_len, exponent_text, high_place, magnitude_text}
 use Rattle.fm_bits.proofs.DigitLemmas.{length-fixed_digits}

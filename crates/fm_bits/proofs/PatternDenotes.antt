@@ -1,5 +1,5 @@
 -- The text of a pattern denotes the value that it shows.
-use Rattle.std.proofs.Common.{◌≡◌, ◌≢◌, inl, inr, ℕ, ◌+◌, ◌*◌, ◌/◌, ◌%◌, ◌^◌, ◌<◌, ◌≤◌, ◌==◌, Bool, List, ◌++◌, nat_lt, sym, ap, subst, ◌∙◌, arith, refl, ℤ, pos, negsuc, ◌+ℤ◌, unsigned_abs, w16, w32, w64}
+use Rattle.std.proofs.Common.{◌≡◌, ◌≢◌, inl, ℕ, ◌/◌, ◌^◌, ◌<◌, ◌==◌, Bool, List, ◌++◌, sym, ap, arith, refl, ℤ, pos, negsuc, ◌+ℤ◌, unsigned_abs, w16, w32, w64}
 use Rattle.std.specs.Fmt.{decimal, sign_text, signed_decimal}
 use Rattle.std.specs.Int.{cast_signed, is_negative, trailing_zeros}
 use Rattle.std.proofs.lemmas.Bool.{cond_both, cond-false, le-ltb, eqb-true}

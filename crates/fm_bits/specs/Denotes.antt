@@ -4,7 +4,6 @@ use Rattle.std.specs.Fmt.{sign_text}
 use Rattle.std.specs.Str.Parse.{AllDigits, IsNumeral, digits_value}
 use Rattle.fm_base.specs.declared.kind.Kind.{Kind}
 use Rattle.fm_base.specs.declared.kind.Kind.TheVariants as kinds
-use Rattle.fm_base.specs.declared.pattern.Pattern.{Pattern}
 use Rattle.fm_base.specs.declared.pattern.Value.{Value}
 use Rattle.fm_base.specs.declared.pattern.Value.TheVariants.{Finite, Infinite, NotANumber}
 use Rattle.fm_base.specs.Pattern.{value_of_bits, whole_value, with_sign}

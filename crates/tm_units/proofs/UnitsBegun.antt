@@ -67,7 +67,7 @@ pub record Begun {A : Type 0} (S : List ℕ → A → Type 0) (at : ℕ) (rest :
 pub record Viable {A : Type 0} (S : List ℕ → A → Type 0) (p : Parser A) : Type 0 where
   pub fails : (at : ℕ) (rest : List ℕ) (bad : ℕ) → p (input at rest) ≡ Err bad → Begun S at rest bad
 
--- a reader that goes wrong at its own place alone
+-- a parser that goes wrong at its own place alone
 pub Viable-at_once : {A : Type 0} {S : List ℕ → A → Type 0} {p : Parser A} → Spelled S
     → ((at : ℕ) (rest : List ℕ) (bad : ℕ) → p (input at rest) ≡ Err bad → bad ≡ at) → Viable S p
 Viable-at_once some here = record {

@@ -9,7 +9,8 @@ use Rattle.tm_units.proofs.UnitsChoices.{Optional, Allowed}
 use Rattle.tm_units.proofs.UnitsRuns.{Repeats, RepeatsSome, Exact-letter, Exact-letters, Exact-many, Exact-some}
 use Rattle.tm_units.proofs.UnitsNumbers.{Exact-unit}
 use Rattle.tm_units.proofs.UnitsDates.{After, Exact-date, to_date}
-use Rattle.tm_units.proofs.UnitsTimes.{Exact-time, Exact-distance, to_time, to_distance}
+use Rattle.tm_units.proofs.UnitsTimes.{Exact-time, to_time}
+use Rattle.tm_units.proofs.UnitsDistances.{Exact-distance, to_distance}
 use Rattle.tm_units.proofs.UnitsZones.{IsEnd, Ahead, Behind, Zulu, Utc, Named, Western, Exact-end}
 use Rattle.tm_units.proofs.UnitsZoneTexts.{Exact-zone, to_zone}
 use Rattle.tm_units.proofs.UnitsEnds.{ToEnd, Exact-last_zone, to_last, to_clock}

@@ -10,7 +10,8 @@ use Rattle.fm_base.proofs.Exact.{input, Then, Is}
 use Rattle.tm_units.proofs.UnitsRuns.{RepeatsSome, Exact-byte}
 use Rattle.tm_units.proofs.UnitsNumbers.{Exact-number}
 use Rattle.tm_units.proofs.UnitsDates.{After, TheDay, TheMonth, TheDate, to_date}
-use Rattle.tm_units.proofs.UnitsTimes.{Zeros, TheSecond, TheMinute, TheTime, TheDistance, Exact-fraction, Exact-second, Exact-zone_minute, to_second, to_time, to_zone_minute, to_distance}
+use Rattle.tm_units.proofs.UnitsTimes.{Zeros, TheSecond, TheMinute, TheTime, Exact-fraction, Exact-second, to_second, to_time}
+use Rattle.tm_units.proofs.UnitsDistances.{TheDistance, Exact-zone_minute, to_zone_minute, to_distance}
 use Rattle.tm_units.proofs.UnitsBegun.{Spelled, Viable, Viable-at_once, Viable-as, Viable-then, Viable-optional}
 use Rattle.tm_units.proofs.UnitsBegunParts.{Viable-pure, Viable-byte, Viable-some, number_place, Viable-number, one_digit, a_minute, an_hour, two_zeros, found_place}
 use Rattle.fm_base.specs.Parser.{and_then, ◌>>=◌, known}

@@ -7,7 +7,7 @@ use Rattle.fm_base.specs.declared.units.UnitsFault.TheVariants.{BadUnits}
 use Rattle.fm_base.specs.Chain.{◌>>=◌, fault_as}
 use Rattle.fm_base.specs.Input.{Input, whole}
 use Rattle.fm_base.specs.Units.{Settles, in_calendar, is_gregorian, is_proleptic, is_before_gregorian, units_of}
-use Rattle.fm_base.specs.UnitsFaults.{GoesOn, GoesNowhere, IsWrongNumber, GoesWrong}
+use Rattle.fm_base.specs.UnitsFaults.{GoesOn, GoesNowhere, IsWrongUnit, IsWrongNumber, GoesWrong}
 use Rattle.fm_base.specs.UnitsReading.{UnitsOutcome as Outcome, units_at, Written, written_or_fault}
 use Rattle.fm_base.specs.UnitsSpelling.{SpellsUnits}
 use Rattle.fm_base.proofs.Exact.{input}
@@ -120,5 +120,12 @@ pub units_of-spelled : (text : List ℕ) (calendar : Option (List ℕ)) (w : Wri
 unfolding units_of
 units_of-spelled text calendar w s =
     ap (λ (r : Result Written UnitsFault). r >>= in_calendar calendar) (written_or_fault-spelled text w s)
+
+-- an unknown unit is refused at its first letter
+pub units_of-wrong_unit : (text : List ℕ) (calendar : Option (List ℕ)) (place : ℕ) → IsWrongUnit place text
+    → units_of text calendar ≡ Err (BadUnits place)
+unfolding units_of written_or_fault
+units_of-wrong_unit text calendar place w =
+    ap (λ (r : Outcome Written). fault_as BadUnits (value_of r) >>= in_calendar calendar) (wrong_unit_fails text place w)
 
 pub ruleset units_laws = (units_settle, units_of-spelled)

@@ -9,7 +9,8 @@ use Rattle.fm_base.specs.Input.{Input}
 use Rattle.fm_base.specs.UnitsReading.{past, next_passes, has_ended, end_at, byte_at, letter_at, letters_at, run_at, many_at, some_at}
 use Rattle.fm_base.proofs.Exact.{input, done, ok_pair}
 use Rattle.tm_units.proofs.UnitsRuns.{one_at}
-use Rattle.tm_units.proofs.UnitsLocal.{Agree, agree_less, agree_first, agree_ended, Taken, Failed, Local, Local-then, Local-pure, Local-here, Local-cond}
+use Rattle.tm_units.proofs.UnitsLocal.{Agree, agree_less, agree_first, agree_ended, Taken, Failed, Local, Local-then, Local-pure, Local-here}
+use Rattle.tm_units.proofs.UnitsLocalChoices.{Local-cond}
 use Rattle.fm_base.specs.Parser.{located, unless}
 
 -- a run is as long in each text that begins with it and the same next byte

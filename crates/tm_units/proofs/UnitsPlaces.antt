@@ -1,20 +1,21 @@
--- The reading of units depends on the bytes that it takes and the next one alone.
+-- What is read of units depends on the bytes that are taken and the next one alone.
 use Rattle.std.proofs.Common.{ℕ, ◌==◌, Bool, cond, codes, Err, refl, pos, neg_ℤ, ◌-ℤ◌}
 use Rattle.std.specs.Char.{eq_ignore_ascii_case}
 use Rattle.fm_base.specs.Calendar.{time_seconds}
 use Rattle.fm_base.specs.UnitsReading.{UnitsParser as Parser, next_passes, has_ended, date_at, fraction_at, second_at, time_at, zone_minute_at, distance_at, zone_at, last_zone_at, clock_at, after_date_at, gap_at, letters_at, Written}
 use Rattle.fm_base.specs.Parser.{◌>>=◌, pure}
-use Rattle.tm_units.proofs.UnitsLocal.{Local, Local-then, Local-pure, Local-here, Local-cond, agree_first, agree_ended}
+use Rattle.tm_units.proofs.UnitsLocal.{Local, Local-then, Local-pure, Local-here, agree_first, agree_ended}
+use Rattle.tm_units.proofs.UnitsLocalChoices.{Local-cond}
 use Rattle.tm_units.proofs.UnitsLocalRuns.{Local-many, Local-some, Local-byte, Local-letter, Local-letters, Local-end}
 use Rattle.tm_units.proofs.UnitsLocalNumbers.{Local-number}
 use Rattle.tm_units.proofs.UnitsLocalFound.{Local-the_day}
 
--- one reader or the other, by the next byte
+-- one parser or the other, by the next byte
 Local-next : {A : Type 0} {p q : Parser A} (test : ℕ → Bool) → Local p → Local q
     → Local (λ i. cond (next_passes test i) (p i) (q i))
 Local-next test lp lq = Local-cond (next_passes test) (λ n at xs ys same. agree_first n test at xs ys same) lp lq
 
--- one reader at the end of the text, or else the other
+-- one parser at the end of the text, or else the other
 Local-ended : {A : Type 0} {p q : Parser A} → Local p → Local q → Local (λ i. cond (has_ended i) (p i) (q i))
 Local-ended lp lq = Local-cond has_ended (λ n at xs ys same. agree_ended n at xs ys same) lp lq
 

@@ -13,7 +13,7 @@ use Rattle.fm_base.proofs.Exact.{input, done, bind_ok, ok_pair}
 use Rattle.tm_units.proofs.UnitsReadings.{Exact-units}
 use Rattle.fm_base.specs.Parser.{◌>>=◌, pure, value_of}
 
--- a reader that reads to the end of the text
+-- a parser that reads to the end of the text
 record Ends {A : Type 0} (p : Parser A) : Type 0 where
   ends : (i : Input) (a : A) (j : Input) → p i ≡ Ok (a, j) → j.rest ≡ []
 

@@ -9,7 +9,8 @@ use Rattle.fm_base.proofs.Exact.{input, Exact, Anything, AtEnd, Then, Is, done, 
 use Rattle.tm_units.proofs.UnitsChoices.{Exact-either}
 use Rattle.tm_units.proofs.UnitsRuns.{IsLetter, AreLetters, Exact-letter, Exact-letters, after_nothing, same_letters}
 use Rattle.tm_units.proofs.UnitsDates.{After, Exact-after}
-use Rattle.tm_units.proofs.UnitsTimes.{EndsTime, Exact-distance}
+use Rattle.tm_units.proofs.UnitsTimes.{EndsTime}
+use Rattle.tm_units.proofs.UnitsDistances.{Exact-distance}
 use Rattle.fm_base.specs.Parser.{◌>>=◌, pure}
 
 -- a byte that no time goes on with
