@@ -121,7 +121,8 @@ hex_injective a b d e p q r s t u h =
     sym (hex_cut a d) ∙ h ∙ hex_cut b e in
     let after : hex_fraction a ++ 112 ∷ x ≡ hex_fraction b ++ 112 ∷ y = cc in
     let above : (112 < 46) ⊎ (102 < 112) = inr (omega arith) in
-    let parts = cut_injective 46 102 _ _ 112 112 x y (hex_fraction_within a) (hex_fraction_within b) above above after in
+    let parts =
+    cut_injective 46 102 _ _ 112 112 x y (hex_fraction_within a) (hex_fraction_within b) above above after in
     let number : a ≡ b = hex_fraction_injective a b p q r s parts.0 in
     let place = high_place_is a (omega arith) r in
     let place' = high_place_is b (omega arith) s in

@@ -82,7 +82,8 @@ text_of_bits_injective kinds.Float m n p q e =
 text_of_bits_injective kinds.Double m n p q e =
     value_text_injective (float_value 11 52 m) (float_value 11 52 n) (double_small m) (double_small n) e
 
-pub pattern_text_injective : (p q : Pattern) → IsPattern p → IsPattern q → p.kind ≡ q.kind → pattern_text p ≡ pattern_text q
+pub pattern_text_injective : (p q : Pattern) → IsPattern p → IsPattern q → p.kind ≡ q.kind
+    → pattern_text p ≡ pattern_text q
     → pattern_value p ≡ pattern_value q
 pattern_text_injective p q h i k e =
     let Fits : Kind → Type 0 = λ x. q.bits < 256 ^ size_of x in

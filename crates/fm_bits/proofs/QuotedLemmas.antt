@@ -52,7 +52,8 @@ octal_injective b c us vs p q e =
     ap (λ (d : List ℕ). 92 ∷ (d ++ us)) (sym (three_digits b)) ∙ e
     ∙ ap (λ (d : List ℕ). 92 ∷ (d ++ vs)) (three_digits c) in
     let digits : x ∷ y ∷ z ∷ [] ≡ x' ∷ y' ∷ z' ∷ [] = cc in
-    let low = fixed_digits_injective 8 3 b c (omega arith) (omega arith) (three_digits b ∙ digits ∙ sym (three_digits c)) in
+    let low = fixed_digits_injective 8 3 b c (omega arith) (omega arith) (three_digits b ∙ digits
+    ∙ sym (three_digits c)) in
     let same : b ≡ c = omega arith in
     (same, cc)
 

@@ -51,7 +51,8 @@ same_decimals a b k p q e f =
     ∙ div-add-mod' (b * 5 ^ k) (10 ^ k) in
     eq_of_mul-eq-mul_right (5 ^ k) some a b same
 
-pub decimals_injective : (a b j k : ℕ) → a < 2 ^ 64 → b < 2 ^ 64 → decimals_text a j ≡ decimals_text b k → (a ≡ b) × (j ≡ k)
+pub decimals_injective : (a b j k : ℕ) → a < 2 ^ 64 → b < 2 ^ 64 → decimals_text a j ≡ decimals_text b k
+    → (a ≡ b) × (j ≡ k)
 decimals_injective a b j k p q e =
     let cut = λ (x y : ℕ) (h : decimals_text a x ≡ decimals_text b y).
     point_injective (a / 2 ^ x) (b / 2 ^ y) _ _ (sym (decimals_cut a x) ∙ h ∙ decimals_cut b y) in

@@ -124,16 +124,19 @@ sign_injective : (m n : Bool) (xs ys : List ℕ) → IsUnsigned xs → IsUnsigne
     → (m ≡ n) × (xs ≡ ys)
 sign_injective true true xs ys h i e = (refl, cc)
 sign_injective true false xs ys h i e = absurd (i.unsigned (sym (first_injective 45 i.first xs i.others (e ∙ i.is))))
-sign_injective false true xs ys h i e = absurd (h.unsigned (sym (first_injective 45 h.first ys h.others (sym e ∙ h.is))))
+sign_injective false true xs ys h i e =
+    absurd (h.unsigned (sym (first_injective 45 h.first ys h.others (sym e ∙ h.is))))
 sign_injective false false xs ys h i e = (refl, e)
 
 -- a number's text isn't a word
 digital_or_word : (text : List ℕ) → IsDigital text → (c : ℕ) (cs : List ℕ) → 57 < c → c < 120 → text ≡ c ∷ cs → ⊥
 digital_or_word text d c cs p q e =
     elim d.mark_is [
-      | inl m ↦ let same = mark_injective d.front [] d.mark c d.rest cs d.within tt (inl (omega arith)) (inr p) (sym d.is
+      | inl m ↦ let same =
+          mark_injective d.front [] d.mark c d.rest cs d.within tt (inl (omega arith)) (inr p) (sym d.is
           ∙ e) in absurd (omega arith)
-      | inr m ↦ let same = mark_injective d.front [] d.mark c d.rest cs d.within tt (inr (omega arith)) (inr p) (sym d.is
+      | inr m ↦ let same =
+          mark_injective d.front [] d.mark c d.rest cs d.within tt (inr (omega arith)) (inr p) (sym d.is
           ∙ e) in absurd (omega arith)
     ]
 

@@ -126,6 +126,7 @@ pub units_of-wrong_unit : (text : List ℕ) (calendar : Option (List ℕ)) (plac
     → units_of text calendar ≡ Err (BadUnits place)
 unfolding units_of written_or_fault
 units_of-wrong_unit text calendar place w =
-    ap (λ (r : Outcome Written). fault_as BadUnits (value_of r) >>= in_calendar calendar) (wrong_unit_fails text place w)
+    ap (λ (r : Outcome Written). fault_as BadUnits (value_of r) >>= in_calendar calendar)
+    (wrong_unit_fails text place w)
 
 pub ruleset units_laws = (units_settle, units_of-spelled)

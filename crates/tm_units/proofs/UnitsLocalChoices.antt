@@ -1,14 +1,9 @@
 -- A choice between two parsers by what begins the text depends on the bytes that are taken and the next one alone.
-use Rattle.std.proofs.Common.{◌≡◌, ◌⊎◌, inl, inr, ℕ, suc, ◌+◌, ◌<◌, ◌≤◌, Bool, true, false, cond, List, [], ◌∷◌, length, take, drop, Result, Ok, Err, refl, sym, ap, subst, ◌∙◌, arith}
-use Rattle.std.proofs.lemmas.List.{take-take, drop-take, drop-drop, length-drop}
-use Rattle.std.proofs.Math.Dec.{eqb-suc-zero}
-use Rattle.std.specs.List.{list_all}
+use Rattle.std.proofs.Common.{◌≡◌, inl, inr, ℕ, suc, ◌+◌, Bool, true, false, cond, List, Ok, Err, refl, sym, ap, ◌∙◌, arith}
 use Rattle.fm_base.specs.Input.{Input}
-use Rattle.fm_base.specs.UnitsReading.{UnitsOutcome as Outcome, UnitsParser as Parser, past, next_passes, has_ended}
-use Rattle.std.specs.Char.{is_ascii_digit}
-use Rattle.fm_base.proofs.Exact.{input, Stops, done, ok_pair}
-use Rattle.fm_base.specs.Parser.{and_then, ◌>>=◌, pure, located}
-use Rattle.tm_units.proofs.UnitsLocal.{Agree, EndToo, agree_less, Taken, WrongRun, Failed, Local}
+use Rattle.fm_base.specs.UnitsReading.{UnitsParser as Parser}
+use Rattle.fm_base.proofs.Exact.{input}
+use Rattle.tm_units.proofs.UnitsLocal.{Agree, agree_less, Taken, Failed, Local}
 
 -- the parser that was chosen went wrong
 chosen_fails : {A : Type 0} (test : Input → Bool)

@@ -1,5 +1,5 @@
 -- Where a text of units goes wrong: at the word of its unit, or where what follows the unit does.
-use Rattle.std.proofs.Common.{◌≡◌, ◌⊎◌, inl, inr, ℕ, zero, suc, ◌+◌, ◌<◌, ◌≤◌, ◌==◌, Bool, true, false, List, [], ◌∷◌, ◌++◌, length, take, drop, replicate, Option, Some, None, Ok, Err, refl, sym, ap, subst, ◌∙◌, take-append-drop, arith}
+use Rattle.std.proofs.Common.{◌≡◌, ◌⊎◌, inl, inr, ℕ, suc, ◌+◌, ◌<◌, ◌==◌, true, List, [], ◌∷◌, ◌++◌, length, take, drop, replicate, Option, None, Ok, Err, refl, sym, ap, subst, ◌∙◌, take-append-drop, arith}
 use Rattle.std.proofs.lemmas.Bool.{cases_lt}
 use Rattle.std.proofs.lemmas.List.{length-take, length-replicate}
 use Rattle.std.proofs.lemmas.List.Sums.{prefix_len-le-length}
@@ -8,12 +8,12 @@ use Rattle.std.specs.Char.{is_ascii_alphabetic}
 use Rattle.std.specs.List.{prefix_len, list_all}
 use Rattle.fm_base.specs.Input.{Input, whole}
 use Rattle.fm_base.specs.Parser.{and_then, ◌>>=◌, known}
-use Rattle.fm_base.specs.UnitsReading.{UnitsOutcome as Outcome, UnitsParser as Parser, Written, past, many_at, unit_at, units_at, seconds_per}
+use Rattle.fm_base.specs.UnitsReading.{UnitsOutcome as Outcome, Written, past, many_at, unit_at, units_at, seconds_per}
 use Rattle.fm_base.specs.UnitsFaults.{IsWrongUnit}
 use Rattle.fm_base.proofs.Exact.{input, Stops, done}
 use Rattle.tm_units.proofs.InstantLemmas.{and_parts}
 use Rattle.tm_units.proofs.UnitsLocal.{Agree, Taken, Failed, stepped, then_fails, after_fails, failed, err_is}
-use Rattle.tm_units.proofs.UnitsLocalRuns.{Local-many, short}
+use Rattle.tm_units.proofs.UnitsLocalRuns.{Local-many}
 use Rattle.tm_units.proofs.UnitsLocalNumbers.{all_of, word_at, word_again, full_or_ends}
 use Rattle.tm_units.proofs.UnitsLocalFound.{found_err, none_or, Taken-unit}
 use Rattle.tm_units.proofs.UnitsNumbers.{Exact-whole}
