@@ -8,6 +8,7 @@ pub mod UnitsRuns
 pub mod UnitsNumbers
 pub mod UnitsDates
 pub mod UnitsTimes
+pub mod UnitsDistances
 pub mod UnitsZones
 pub mod UnitsZoneTexts
 pub mod UnitsEnds
@@ -16,10 +17,12 @@ pub mod UnitsLaws
 pub mod UnitsReadings
 pub mod UnitsSpelled
 pub mod UnitsLocal
+pub mod UnitsLocalChoices
 pub mod UnitsLocalRuns
 pub mod UnitsLocalNumbers
 pub mod UnitsLocalFound
 pub mod UnitsPlaces
+pub mod UnitsWrong
 pub mod UnitsBegun
 pub mod UnitsBegunParts
 pub mod UnitsBegunTimes
