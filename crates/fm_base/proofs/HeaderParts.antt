@@ -8,28 +8,29 @@ use Rattle.fm_base.specs.declared.header.Attr.{Attr}
 use Rattle.fm_base.specs.declared.header.Dim.{Dim}
 use Rattle.fm_base.specs.declared.header.Header.{Header}
 use Rattle.fm_base.specs.declared.header.NcVar.{NcVar}
-use Rattle.fm_base.specs.Format.{IsBytes, DIMENSION_TAG, VARIABLE_TAG, ATTRIBUTE_TAG, STREAMING as STREAMING_COUNT}
+use Rattle.fm_base.specs.Format.{DIMENSION_TAG, VARIABLE_TAG, ATTRIBUTE_TAG, STREAMING as STREAMING_COUNT}
 use Rattle.fm_base.specs.Input.{Input}
-use Rattle.fm_base.specs.Reading.{Outcome, word, list_at, dim_at, attr_at, var_at, version_at, numrecs_at, header_at}
+use Rattle.fm_base.specs.Reading.{word, list_at, dim_at, attr_at, var_at, version_at, numrecs_at, header_at}
 use Rattle.fm_base.specs.Spelling.{SpellsWord, SpellsCount, SpellsList, SpellsDim, SpellsAttr, SpellsVar, SpellsHeader, IsSoundVar, IsSound}
 use Rattle.fm_base.proofs.Distinct.{IsFresh, IsOnlyRecord, EachFrom-parts, EachFrom-both, AllByRecursion-from_each, EachFrom-from_all, AreDistinct-from_fresh, fresh-from_AreDistinct, one_record-from_only, only-from_one_record}
-use Rattle.fm_base.proofs.Exact.{onto, Exact, Then, Such, Exact-then, Exact-as, Exact-located, input}
+use Rattle.fm_base.proofs.Exact.{onto, Then, Such, Exact-located, input, ok_pair}
 use Rattle.fm_base.proofs.Fields.{SpellsCount-from_word, SpellsWord-from_count, Exact-word}
 use Rattle.fm_base.proofs.Lists.{EachFrom, Exact-list_at}
 use Rattle.fm_base.proofs.Parts.{DimAfter, name_of_dim, name_of_attr, Exact-dim_at, Exact-attrs_at}
-use Rattle.fm_base.proofs.Steps.{Through, IsBytes-drop, Exact-test, Exact-unless_both, ok_pair, Tests-pure}
+use Rattle.fm_base.proofs.Steps.{Through, Tests-pure, ExactBytes, ExactBytes-then, ExactBytes-as, ExactBytes-test, ExactBytes-unless_both}
 use Rattle.fm_base.proofs.Vars.{VarAfter, name_of_var, Exact-var_at}
+use Rattle.fm_base.specs.Parser.{Outcome, known}
 
 -- `CDF` and a version
 record SpellsVersion (text : List ℕ) (version : ℕ) : Type 0 where
   known : (version ≡ 1) ⊎ (version ≡ 2)
   text_is : text ≡ codes "CDF" ++ version ∷ []
 
-passes_first : (b : Bool) (d : HeaderFault) (r : Outcome ℕ) (y : ℕ × Input) → cond b (Err d) r ≡ Ok y → (b ≡ false) × (r ≡ Ok y)
+passes_first : (b : Bool) (d : HeaderFault) (r : Outcome ℕ HeaderFault) (y : ℕ × Input) → cond b (Err d) r ≡ Ok y → (b ≡ false) × (r ≡ Ok y)
 passes_first true d r y e = absurd cc
 passes_first false d r y e = (refl, e)
 
-passes_then : (b : Bool) (d : HeaderFault) (r : Outcome ℕ) (y : ℕ × Input) → cond b r (Err d) ≡ Ok y → (b ≡ true) × (r ≡ Ok y)
+passes_then : (b : Bool) (d : HeaderFault) (r : Outcome ℕ HeaderFault) (y : ℕ × Input) → cond b r (Err d) ≡ Ok y → (b ≡ true) × (r ≡ Ok y)
 passes_then true d r y e = (refl, e)
 passes_then false d r y e = absurd cc
 
@@ -52,7 +53,7 @@ version_again : (at : ℕ) (rest : List ℕ) (n : ℕ) → (n ≡ 1) ⊎ (n ≡ 
 version_again at rest n (inl one) = subst (λ v. version_at (input at (codes "CDF" ++ v ∷ [] ++ rest)) ≡ Ok (v, input (at + 4) rest)) (sym one) (version_1 at rest)
 version_again at rest n (inr two) = subst (λ v. version_at (input at (codes "CDF" ++ v ∷ [] ++ rest)) ≡ Ok (v, input (at + 4) rest)) (sym two) (version_2 at rest)
 
-Exact-version_at : Exact SpellsVersion version_at
+Exact-version_at : ExactBytes SpellsVersion version_at
 unfolding version_at
 Exact-version_at = record {
   takes = λ i n j fits e.
@@ -70,17 +71,16 @@ Exact-version_at = record {
         spelled = record { known = subst (λ v. (v ≡ 1) ⊎ (v ≡ 2)) read.0 (version_known fourth known.0); text_is = text };
         split = sym (take-append-drop 4 bytes) ∙ ap (λ (k : Input). take 4 bytes ++ k.rest) read.1;
         place = omega (arith, ap (λ (k : Input). k.at) read.1, ap length text);
-        bytes = subst (λ (k : Input). IsBytes k.rest) read.1 (IsBytes-drop 4 bytes fits);
       };
-  again = λ at text rest n s. subst (λ (l : List ℕ). version_at (input at (l ++ rest)) ≡ Ok (n, input (at + length l) rest)) (sym s.text_is) (version_again at rest n s.known);
+  again = λ at text rest n s any. subst (λ (l : List ℕ). version_at (input at (l ++ rest)) ≡ Ok (n, input (at + length l) rest)) (sym s.text_is) (version_again at rest n s.known);
 }
 
-Exact-numrecs_at : Exact SpellsCount numrecs_at
+Exact-numrecs_at : ExactBytes SpellsCount numrecs_at
 unfolding numrecs_at
-Exact-numrecs_at = Exact-as (Such SpellsWord (λ n. ((n == STREAMING_COUNT) ≡ false) × (nat_le (2 ^ 31) n ≡ false))) SpellsCount numrecs_at
+Exact-numrecs_at = ExactBytes-as (Such SpellsWord (λ n. ((n == STREAMING_COUNT) ≡ false) × (nat_le (2 ^ 31) n ≡ false))) SpellsCount numrecs_at
     (λ text n fits s. SpellsCount-from_word text n s.spelled s.holds.1)
     (λ text n s. record { spelled = SpellsWord-from_count text n s; holds = (ne_eqb n STREAMING_COUNT (λ e. let h = s.small in omega arith), lt-leb (2 ^ 31) n s.small) })
-    (Exact-located _ _ (λ at. Exact-unless_both SpellsWord (λ n. n == STREAMING_COUNT) (λ n. nat_le (2 ^ 31) n) Streaming (BadCount at) word Exact-word))
+    (Exact-located (λ at. ExactBytes-unless_both SpellsWord (λ n. n == STREAMING_COUNT) (λ n. nat_le (2 ^ 31) n) Streaming (BadCount at) word Exact-word))
 
 abbrev header_of : ℕ → ℕ → List Dim → List Attr → List NcVar → Header
 header_of version numrecs dims attrs vars = record { version = version; numrecs = numrecs; dims = dims; attrs = attrs; vars = vars }
@@ -165,18 +165,18 @@ header_read text header s =
       text_is = simp append_assoc at t.text_is;
     }
 
-Exact-dims_at : Exact (Such (SpellsList DIMENSION_TAG SpellsDim) (EachFrom DimAfter [])) (list_at DIMENSION_TAG dim_at)
+Exact-dims_at : ExactBytes (Such (SpellsList DIMENSION_TAG SpellsDim) (EachFrom DimAfter [])) (list_at DIMENSION_TAG dim_at)
 Exact-dims_at = Exact-list_at DIMENSION_TAG SpellsDim DimAfter dim_at (omega arith) (omega arith) Exact-dim_at
 
 Exact-vars_at : (version : ℕ) → (version ≡ 1) ⊎ (version ≡ 2) → (dims : List Dim)
-    → Exact (Such (SpellsList VARIABLE_TAG (SpellsVar version)) (EachFrom (VarAfter dims) [])) (list_at VARIABLE_TAG (var_at version dims))
+    → ExactBytes (Such (SpellsList VARIABLE_TAG (SpellsVar version)) (EachFrom (VarAfter dims) [])) (list_at VARIABLE_TAG (var_at version dims))
 Exact-vars_at version known dims = Exact-list_at VARIABLE_TAG _ (VarAfter dims) (var_at version dims) (omega arith) (omega arith) (Exact-var_at version known dims)
 
-pub Exact-header_at : Exact (Such SpellsHeader IsSound) header_at
+pub Exact-header_at : ExactBytes (Such SpellsHeader IsSound) header_at
 unfolding header_at
-Exact-header_at = Exact-as HeaderAsRead (Such SpellsHeader IsSound) header_at (λ text header fits s. header_spelled text header s) header_read
-    (Exact-then SpellsVersion _ version_at _ Exact-version_at
-    (λ version front first. Exact-then SpellsCount _ numrecs_at _ Exact-numrecs_at
-    (λ numrecs front second. Exact-then _ _ (list_at DIMENSION_TAG dim_at) _ Exact-dims_at
-    (λ dims front third. Exact-then _ _ (list_at ATTRIBUTE_TAG attr_at) _ Exact-attrs_at
-    (λ attrs front fourth. Exact-test _ _ (list_at VARIABLE_TAG (var_at version dims)) _ (Exact-vars_at version first.known dims) (Tests-pure (header_of version numrecs dims attrs)))))))
+Exact-header_at = ExactBytes-as HeaderAsRead (Such SpellsHeader IsSound) header_at (λ text header fits s. header_spelled text header s) header_read
+    (ExactBytes-then SpellsVersion _ version_at _ Exact-version_at
+    (λ version front first. ExactBytes-then SpellsCount _ numrecs_at _ Exact-numrecs_at
+    (λ numrecs front second. ExactBytes-then _ _ (list_at DIMENSION_TAG dim_at) _ Exact-dims_at
+    (λ dims front third. ExactBytes-then _ _ (list_at ATTRIBUTE_TAG attr_at) _ Exact-attrs_at
+    (λ attrs front fourth. ExactBytes-test _ _ (list_at VARIABLE_TAG (var_at version dims)) _ (Exact-vars_at version first.known dims) (Tests-pure (header_of version numrecs dims attrs)))))))

@@ -6,5 +6,6 @@ pub mod HeaderLaws
 pub mod HeaderParts
 pub mod Lists
 pub mod Parts
+pub mod SoundLaws
 pub mod Steps
 pub mod Vars

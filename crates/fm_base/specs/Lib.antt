@@ -9,8 +9,10 @@ pub mod Instant
 pub mod Kind
 pub mod Layout
 pub mod Name
+pub mod Parser
 pub mod Pattern
 pub mod Reading
+pub mod Sound
 pub mod Spelling
 pub mod Stamp
 pub mod Units

@@ -1,53 +1,31 @@
 -- The header and the axis of a file that is taken.
-use Rattle.std.proofs.Common.{◌≡◌, ℕ, List, length, None, Result, Ok, Err, not, subst}
+use Rattle.std.proofs.Common.{◌≡◌, ℕ, List, Ok, not, subst}
 use Rattle.std.specs.Prelude.{Contains, IsTrue}
-use Rattle.std.specs.Option.{option_map}
 use Rattle.std.specs.Str.{bytes_eq}
 use Rattle.std.proofs.lemmas.Bool.{not-false}
 use Rattle.std.proofs.lemmas.Slice.Eq.{bytes_eq-Decides}
-use Rattle.fm_base.specs.declared.fault.HeaderFault.{HeaderFault}
-use Rattle.fm_base.specs.declared.fault.LayoutFault.{LayoutFault}
 use Rattle.fm_base.specs.declared.header.Header.{Header as FileHeader}
 use Rattle.fm_base.specs.declared.header.NcVar.{NcVar}
-use Rattle.fm_base.specs.Layout.{layout_fault}
-use Rattle.fm_base.specs.Reading.{header_or_fault}
+use Rattle.fm_base.specs.Sound.{sound_header}
 use Rattle.fm_model.specs.declared.loaded.LoadFault.{LoadFault}
 use Rattle.fm_model.specs.declared.loaded.LoadFault.TheVariants as load
 use Rattle.fm_model.specs.declared.proto.Proto.{Proto}
-use Rattle.fm_model.specs.declared.proto.ProtoFault.TheVariants as proto_faults
-use Rattle.fm_base.specs.Chain.{◌>>=◌, ◌>>◌, refuse, refuse_if, fault_as}
-use Rattle.fm_model.specs.LoadAxis.{file_header, file_var, file_axis}
-use Rattle.fm_model.specs.Prototype.{sound_header}
+use Rattle.fm_base.specs.Chain.{◌>>◌, refuse_if}
+use Rattle.fm_model.specs.LoadAxis.{fault_of_load, file_header, file_var, file_axis}
+use Rattle.fm_model.specs.Prototype.{fault_of_proto, proto_header}
 use Rattle.fm_model.specs.Variable.{is_coordinate, var_named}
-use Rattle.fm_base.proofs.ChainLemmas.{step_ok, refuse_ok, refuse_if_ok, ok_or_ok, same_Ok}
+use Rattle.fm_base.proofs.ChainLemmas.{step_ok, refuse_if_ok, ok_or_ok, same_Ok}
+use Rattle.fm_base.proofs.SoundLaws.{HasData, ok-fault_as, sound_header-ok}
 use Rattle.fm_model.proofs.FindLemmas.{in_find}
-use Rattle.fm_model.proofs.LastLemmas.{option_map-none}
 use Rattle.fm_model.proofs.Members.{Contains-from_in}
 
--- a fault in other words is a fault
-ok-fault_as : {A D E : Type 0} (name : D → E) (r : Result A D) (a : A) → fault_as name r ≡ Ok a → r ≡ Ok a
-ok-fault_as name (Ok b) a e = cc
-ok-fault_as name (Err fault) a e = absurd cc
-
--- the header of some bytes with all data in them
-abbrev HasData : List ℕ → FileHeader → Type 0
-HasData bytes header = (header_or_fault bytes ≡ Ok header) × (layout_fault header (length bytes) ≡ None)
-
-has_data : {E : Type 0} (header_fault : HeaderFault → E) (data_fault : LayoutFault → E) (bytes : List ℕ) (header : FileHeader)
-    → (fault_as header_fault (header_or_fault bytes) >>= λ h. refuse (option_map data_fault (layout_fault h (length bytes))) >> Ok h) ≡ Ok header → HasData bytes header
-has_data {E} header_fault data_fault bytes header e =
-    let found = step_ok (fault_as header_fault (header_or_fault bytes)) (λ h. refuse (option_map data_fault (layout_fault h (length bytes))) >> Ok h) header e in
-    let passed = refuse_ok (option_map data_fault (layout_fault found.0 (length bytes))) (Ok found.0) header found.2 in
-    subst (HasData bytes) (same_Ok {E = E} found.0 header passed.1)
-    ((ok-fault_as header_fault (header_or_fault bytes) found.0 found.1, option_map-none data_fault (layout_fault found.0 (length bytes)) passed.0))
-
-pub proto_has_data : (bytes : List ℕ) (header : FileHeader) → sound_header bytes ≡ Ok header → HasData bytes header
-unfolding sound_header
-proto_has_data bytes header e = has_data proto_faults.Header proto_faults.Layout bytes header e
+pub proto_has_data : (bytes : List ℕ) (header : FileHeader) → proto_header bytes ≡ Ok header → HasData bytes header
+unfolding proto_header
+proto_has_data bytes header e = sound_header-ok bytes header (ok-fault_as fault_of_proto (sound_header bytes) header e)
 
 pub file_has_data : (bytes : List ℕ) (header : FileHeader) → file_header bytes ≡ Ok header → HasData bytes header
 unfolding file_header
-file_has_data bytes header e = has_data load.Header load.Layout bytes header e
+file_has_data bytes header e = sound_header-ok bytes header (ok-fault_as fault_of_load (sound_header bytes) header e)
 
 -- what is known of the axis of a file
 pub record IsFileAxis (proto : Proto) (header : FileHeader) (axis : NcVar) : Type 0 where

@@ -16,7 +16,7 @@ use Rattle.fm_model.specs.declared.proto.ProtoFault.TheVariants.{NoTimeAxis, Tim
 use Rattle.fm_model.specs.declared.proto.ProtoVar.{ProtoVar}
 use Rattle.fm_model.specs.declared.site.Site.{Site}
 use Rattle.fm_model.specs.Attribute.{is_char}
-use Rattle.fm_model.specs.Prototype.{sound_header, proto_axis, time_stands_first, is_plain_name, names_are_plain, kept_vars, run_name, offset_name, names_are_free, dims_have_lengths, proto_var, with_length, proto_with, proto_of, LiesFirst, HasFreeName, IsSound}
+use Rattle.fm_model.specs.Prototype.{proto_header, proto_axis, time_stands_first, is_plain_name, names_are_plain, kept_vars, run_name, offset_name, names_are_free, dims_have_lengths, proto_var, with_length, proto_with, proto_of, LiesFirst, HasFreeName, IsSound}
 use Rattle.fm_model.specs.Site.{IsPrototype}
 use Rattle.fm_model.specs.Variable.{is_named, is_coordinate, is_axis, axis_of, dim_of_axis, lies_along, stands_first_alone}
 use Rattle.fm_base.proofs.ChainLemmas.{step_ok, check_ok, ok_or_ok, same_Ok}
@@ -27,7 +27,7 @@ use Rattle.fm_model.proofs.FindLemmas.{in_find, each_passes}
 pub record IsProto (bytes : List ℕ) (site : Site) (proto : Proto) : Type 0 where
   pub header : FileHeader
   pub axis : NcVar
-  pub header_is : sound_header bytes ≡ Ok header
+  pub header_is : proto_header bytes ≡ Ok header
   pub axis_is : axis_of header ≡ Some axis
   pub time : time_stands_first header axis ≡ Ok tt
   pub plain : names_are_plain header ≡ Ok tt
@@ -38,7 +38,7 @@ pub record IsProto (bytes : List ℕ) (site : Site) (proto : Proto) : Type 0 whe
 pub IsProto-proto_of : (bytes : List ℕ) (site : Site) (proto : Proto) → proto_of bytes site ≡ Ok proto → IsProto bytes site proto
 unfolding proto_of proto_axis
 IsProto-proto_of bytes site proto e =
-    let header = step_ok (sound_header bytes) _ proto e in
+    let header = step_ok (proto_header bytes) _ proto e in
     let axis = step_ok (proto_axis header.0) _ proto header.2 in
     let time = check_ok (time_stands_first header.0 axis.0) _ proto axis.2 in
     let plain = check_ok (names_are_plain header.0) _ proto time.1 in

@@ -6,9 +6,9 @@ use Rattle.std.specs.Str.{bytes_eq}
 use Rattle.fm_base.specs.declared.header.Dim.{Dim}
 use Rattle.fm_base.specs.declared.header.Header.{Header as FileHeader}
 use Rattle.fm_base.specs.declared.header.NcVar.{NcVar}
-use Rattle.fm_base.specs.Layout.{size_in, elements_of, layout_fault}
+use Rattle.fm_base.specs.Layout.{size_in, elements_of}
 use Rattle.fm_base.specs.Name.{is_name_byte}
-use Rattle.fm_base.specs.Reading.{header_or_fault}
+use Rattle.fm_base.specs.Sound.{FormatFault, OfHeader, OfLayout, sound_header}
 use Rattle.fm_model.specs.declared.proto.Proto.{Proto}
 use Rattle.fm_model.specs.declared.proto.ProtoFault.{ProtoFault}
 use Rattle.fm_model.specs.declared.proto.ProtoFault.TheVariants.{Header, Layout, NoTimeAxis, TimeNotFirst, BadProtoName, NameTaken, EmptyDimension}
@@ -18,12 +18,14 @@ use Rattle.fm_model.specs.Attribute.{is_char}
 use Rattle.fm_base.specs.Chain.{Check, ◌>>=◌, ◌>>◌, refuse, fault_as}
 use Rattle.fm_model.specs.Variable.{are_same, is_named, stands_first_alone, axis_of, dim_of_axis, lies_along, reference_of}
 
--- a sound header, with all data in the file
-unfoldable pub sound_header : List ℕ → Result FileHeader ProtoFault
-sound_header bytes = do
-  header ← fault_as Header (header_or_fault bytes)
-  refuse (option_map Layout (layout_fault header (length bytes)))
-  Ok header
+-- a fault of a file as one of a prototype
+abbrev pub fault_of_proto : FormatFault → ProtoFault
+fault_of_proto (OfHeader fault) = Header fault
+fault_of_proto (OfLayout fault) = Layout fault
+
+-- the header of a file that has no fault
+unfoldable pub proto_header : List ℕ → Result FileHeader ProtoFault
+proto_header bytes = fault_as fault_of_proto (sound_header bytes)
 
 -- there is a time axis
 unfoldable pub proto_axis : FileHeader → Result NcVar ProtoFault
@@ -87,7 +89,7 @@ proto_with bytes site header axis = record { site = site; axis = axis.name; dims
 -- the prototype that some bytes are at a site, or its first fault
 unfoldable pub proto_of : List ℕ → Site → Result Proto ProtoFault
 proto_of bytes site = do
-  header ← sound_header bytes
+  header ← proto_header bytes
   axis ← proto_axis header
   time_stands_first header axis
   names_are_plain header

@@ -2,13 +2,9 @@
 -- how many dimensions, variables and records there are.
 use Rattle.std.specs.Prelude.{◌≡◌, ◌⊎◌, ℕ, List, [], ◌∷◌, ◌++◌, length, codes, decimal, Option, Some, None, Result, Ok, Err, if◌then◌else◌}
 use Rattle.std.specs.Str.{bytes_eq}
-use Rattle.fm_base.specs.declared.fault.HeaderFault.{HeaderFault}
-use Rattle.fm_base.specs.declared.fault.LayoutFault.{LayoutFault}
 use Rattle.fm_base.specs.declared.header.Header.{Header}
-use Rattle.fm_base.specs.Code.{header_code, layout_code}
-use Rattle.fm_base.specs.Layout.{layout_fault}
-use Rattle.fm_base.specs.Reading.{header_or_fault}
-use Rattle.fm_base.specs.Chain.{◌>>=◌}
+use Rattle.fm_base.specs.Chain.{◌>>=◌, fault_as}
+use Rattle.fm_base.specs.Sound.{format_code, sound_header}
 use Rattle.srv_run.specs.declared.end.End.{End}
 use Rattle.srv_run.specs.declared.end.End.TheVariants.{Done, Refused, SinkFault}
 use Rattle.srv_run.specs.declared.end.Subject.TheVariants.{File}
@@ -21,19 +17,9 @@ unfoldable pub checked_path : List (List ℕ) → Option (List ℕ)
 checked_path (first ∷ path ∷ []) = if bytes_eq first (codes "check") then Some path else None
 checked_path words = None
 
--- a header, or the refusal by the number of its first fault
-abbrev pub header_or_refusal : Result Header HeaderFault → Result Header End
-header_or_refusal (Ok header) = Ok header
-header_or_refusal (Err fault) = Err (Refused File (header_code fault))
-
--- the same header where its layout has no fault, else the refusal by the fault's number
-abbrev pub laid_or_refusal : Header → Option LayoutFault → Result Header End
-laid_or_refusal header None = Ok header
-laid_or_refusal header (Some fault) = Err (Refused File (layout_code fault))
-
 -- the header of a file that has no fault, else the refusal by its first fault
 unfoldable pub sound_or_refusal : List ℕ → Result Header End
-sound_or_refusal bytes = header_or_refusal (header_or_fault bytes) >>= λ header. laid_or_refusal header (layout_fault header (length bytes))
+sound_or_refusal bytes = fault_as (λ fault. Refused File (format_code fault)) (sound_header bytes)
 
 -- what a path holds is read whole and has no fault, or the check ends
 unfoldable pub checked_or_end : Option (List ℕ) → Result Header End

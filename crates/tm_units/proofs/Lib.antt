@@ -3,7 +3,6 @@ pub mod FormLemmas
 pub mod InstantLemmas
 pub mod DayExists
 pub mod InstantLaws
-pub mod UnitsExact
 pub mod UnitsChoices
 pub mod UnitsRuns
 pub mod UnitsNumbers

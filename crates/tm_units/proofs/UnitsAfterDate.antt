@@ -8,7 +8,7 @@ use Rattle.std.specs.List.{list_all}
 use Rattle.fm_base.specs.UnitsReading.{next_passes, after_date_at, is_same_word}
 use Rattle.fm_base.specs.UnitsSpelling.{SpellsNumber, SpellsClock, SpellsAfterDate}
 use Rattle.tm_units.proofs.InstantLemmas.{and_parts}
-use Rattle.tm_units.proofs.UnitsExact.{input, Exact, Stops, AtEnd, Then, Exact-then, Exact-as, Exact-before}
+use Rattle.fm_base.proofs.Exact.{input, Exact, Stops, AtEnd, Then, Exact-then, Exact-as, Exact-before}
 use Rattle.tm_units.proofs.UnitsChoices.{GoesOn, Optional, Allowed, Exact-either, Exact-allowed, Exact-unless_ended}
 use Rattle.tm_units.proofs.UnitsRuns.{IsLetter, Repeats, Exact-letter, Exact-many, after_nothing, same_letters, letters_same, no_word, no_letters}
 use Rattle.tm_units.proofs.UnitsTimes.{EndsTime}

@@ -5,12 +5,13 @@ use Rattle.std.proofs.Math.Seq.{take-append-add}
 use Rattle.std.specs.Char.{is_ascii_digit}
 use Rattle.std.specs.List.{list_all}
 use Rattle.fm_base.specs.Input.{Input}
-use Rattle.fm_base.specs.UnitsReading.{Parser, ◌>>=◌, located, has_ended}
+use Rattle.fm_base.specs.UnitsReading.{UnitsParser as Parser, has_ended}
 use Rattle.fm_base.specs.UnitsFaults.{AreAlike}
 use Rattle.tm_units.proofs.InstantLemmas.{and_parts}
-use Rattle.tm_units.proofs.UnitsExact.{input, Took, Exact, Then}
+use Rattle.fm_base.proofs.Exact.{input, Took, Exact, Then}
 use Rattle.tm_units.proofs.UnitsChoices.{Optional}
 use Rattle.tm_units.proofs.UnitsLocal.{stepped, err_is}
+use Rattle.fm_base.specs.Parser.{◌>>=◌, located}
 
 pub alike_same : (xs : List ℕ) → AreAlike xs xs
 alike_same [] = tt
@@ -101,7 +102,7 @@ Viable-then {A} {B} {S} {T} {P} {p} {q} ep vp vq some = record {
         let b = vp.fails at rest wrong.0 wrong.1 in
         subst (λ (n : ℕ). Begun (Then S T) at rest n) (sym (err_is {A = B × Input} bad wrong.0 wrong.2)) (first_begun S T at rest wrong.0 b (some b.some.text b.some.a b.some.spelled))
     | inr s ↦
-        let t = ep.takes (input at rest) s.a s.j s.first in
+        let t = ep.takes (input at rest) s.a s.j tt s.first in
         second_begun S T at rest s.a s.j bad t ((vq t.text s.a t.spelled).fails s.j.at s.j.rest bad s.second)
   ];
 }

@@ -2,9 +2,9 @@
 use Rattle.std.proofs.Common.{◌≡◌, inl, inr, ℕ, Bool, true, false, cond, ◌==◌, List, [], ◌∷◌, ◌++◌, codes, Err, refl, sym, ℤ, pos, neg_ℤ, ◌-ℤ◌}
 use Rattle.std.specs.Char.{eq_ignore_ascii_case}
 use Rattle.fm_base.specs.Input.{Input}
-use Rattle.fm_base.specs.UnitsReading.{Parser, ◌>>=◌, pure, next_passes, has_ended, end_at, byte_at, distance_at, zone_at, last_zone_at, clock_at, after_date_at, units_at}
+use Rattle.fm_base.specs.UnitsReading.{UnitsParser as Parser, next_passes, has_ended, end_at, byte_at, distance_at, zone_at, last_zone_at, clock_at, after_date_at, units_at}
 use Rattle.fm_base.specs.UnitsSpelling.{SpellsDate, SpellsTime, SpellsDistance, SpellsZone, SpellsLastZone, SpellsClock, SpellsAfterDate, SpellsUnits}
-use Rattle.tm_units.proofs.UnitsExact.{input, Then, Is, done}
+use Rattle.fm_base.proofs.Exact.{input, Then, Is, done}
 use Rattle.tm_units.proofs.UnitsChoices.{Optional, Allowed}
 use Rattle.tm_units.proofs.UnitsRuns.{Repeats, RepeatsSome, Exact-letter, Exact-letters, Exact-many, Exact-some}
 use Rattle.tm_units.proofs.UnitsNumbers.{Exact-unit}
@@ -19,6 +19,7 @@ use Rattle.tm_units.proofs.UnitsReadings.{TheEnd, FromDate, FromSince, FromUnit,
 use Rattle.tm_units.proofs.UnitsBegun.{Spelled, Viable, Viable-at_once, Viable-as, Viable-then, Viable-cond, Viable-unless_ended}
 use Rattle.tm_units.proofs.UnitsBegunParts.{Viable-pure, Viable-letter, Viable-letters, Viable-many, Viable-some, Viable-unit, Spelled-letters, a_unit}
 use Rattle.tm_units.proofs.UnitsBegunTimes.{Viable-date, Viable-time, Viable-distance, Viable-after, Spelled-then, Spelled-is, a_date, a_time, a_distance}
+use Rattle.fm_base.specs.Parser.{◌>>=◌, pure}
 
 distance : Spelled SpellsDistance
 distance = record { text = a_distance.text; a = a_distance.a; spelled = to_distance a_distance.text a_distance.a a_distance.spelled }

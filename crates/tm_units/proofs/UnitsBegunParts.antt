@@ -6,16 +6,17 @@ use Rattle.std.specs.Char.{is_ascii_digit, eq_ignore_ascii_case}
 use Rattle.std.specs.List.{prefix_len, list_all}
 use Rattle.fm_base.specs.Input.{Input}
 use Rattle.fm_base.specs.Stamp.{number_of}
-use Rattle.fm_base.specs.UnitsReading.{Parser, and_then, pure, known, past, next_passes, byte_at, letter_at, letters_at, many_at, some_at, number_at, unit_at, seconds_per, is_same_word, is_second}
+use Rattle.fm_base.specs.UnitsReading.{UnitsParser as Parser, past, next_passes, byte_at, letter_at, letters_at, many_at, some_at, number_at, unit_at, seconds_per, is_same_word, is_second}
 use Rattle.fm_base.specs.UnitsSpelling.{SpellsNumber, SpellsUnit}
 use Rattle.tm_units.proofs.InstantLemmas.{and_parts}
-use Rattle.tm_units.proofs.UnitsExact.{input, done}
+use Rattle.fm_base.proofs.Exact.{input, done}
 use Rattle.tm_units.proofs.UnitsRuns.{one_at, IsByte, IsLetter, AreLetters, Repeats, RepeatsSome, run_passes, letters_same, no_letters, Exact-letter}
 use Rattle.tm_units.proofs.UnitsLocal.{stepped, err_is}
 use Rattle.tm_units.proofs.UnitsLocalRuns.{short}
 use Rattle.tm_units.proofs.UnitsLocalNumbers.{is_out, checked-out, checked-in, digits_of, number_is, word_at}
 use Rattle.tm_units.proofs.UnitsLocalFound.{none_or}
 use Rattle.tm_units.proofs.UnitsBegun.{alike_digits, Spelled, Viable, Viable-at_once, Viable-as, Viable-then}
+use Rattle.fm_base.specs.Parser.{and_then, pure, known}
 
 -- nothing goes wrong where nothing is read
 pub Viable-pure : {A : Type 0} {S : List ℕ → A → Type 0} (x : A) → Viable S (pure x)

@@ -4,15 +4,16 @@ use Rattle.std.proofs.lemmas.Bool.{le-leb}
 use Rattle.jiff_core.specs.Calendar.{days_from_civil, days_in_month}
 use Rattle.jiff_core.proofs.CalendarLemmas.{days_in_month_bounds}
 use Rattle.fm_base.specs.Calendar.{day_number, is_date, time_seconds}
-use Rattle.fm_base.specs.UnitsReading.{Parser, and_then, ◌>>=◌, known, next_passes, byte_at, number_at, date_at, fraction_at, second_at, time_at, zone_minute_at, distance_at}
+use Rattle.fm_base.specs.UnitsReading.{UnitsParser as Parser, next_passes, byte_at, number_at, date_at, fraction_at, second_at, time_at, zone_minute_at, distance_at}
 use Rattle.fm_base.specs.UnitsSpelling.{SpellsNumber, SpellsDate, SpellsSecond, SpellsTime, SpellsZoneMinute, SpellsDistance}
-use Rattle.tm_units.proofs.UnitsExact.{input, Then, Is}
+use Rattle.fm_base.proofs.Exact.{input, Then, Is}
 use Rattle.tm_units.proofs.UnitsRuns.{RepeatsSome, Exact-byte}
 use Rattle.tm_units.proofs.UnitsNumbers.{Exact-number}
 use Rattle.tm_units.proofs.UnitsDates.{After, TheDay, TheMonth, TheDate, to_date}
 use Rattle.tm_units.proofs.UnitsTimes.{Zeros, TheSecond, TheMinute, TheTime, TheDistance, Exact-fraction, Exact-second, Exact-zone_minute, to_second, to_time, to_zone_minute, to_distance}
 use Rattle.tm_units.proofs.UnitsBegun.{Spelled, Viable, Viable-at_once, Viable-as, Viable-then, Viable-optional}
 use Rattle.tm_units.proofs.UnitsBegunParts.{Viable-pure, Viable-byte, Viable-some, number_place, Viable-number, one_digit, a_minute, an_hour, two_zeros, found_place}
+use Rattle.fm_base.specs.Parser.{and_then, ◌>>=◌, known}
 
 -- each month has a first day
 first_of_month : (year month : ℕ) → year ≤ 9999 → 1 ≤ month → month ≤ 12 → day_number year month 1 ≡ Some (days_from_civil (pos year) month 1)

@@ -3,11 +3,12 @@ use Rattle.std.proofs.Common.{◌≡◌, ℕ, Bool, false, List, [], ◌∷◌, 
 use Rattle.std.proofs.lemmas.List.{append-nil}
 use Rattle.std.specs.Char.{is_ascii_digit}
 use Rattle.fm_base.specs.Calendar.{day_number}
-use Rattle.fm_base.specs.UnitsReading.{Parser, ◌>>=◌, located, known, byte_at, number_at, date_at}
+use Rattle.fm_base.specs.UnitsReading.{UnitsParser as Parser, byte_at, number_at, date_at}
 use Rattle.fm_base.specs.UnitsSpelling.{SpellsNumber, SpellsDate}
-use Rattle.tm_units.proofs.UnitsExact.{Exact, Stops, Then, Finds, Exact-then, Exact-as, Exact-before, Exact-known, Exact-located}
+use Rattle.fm_base.proofs.Exact.{Exact, Stops, Then, Finds, Exact-then, Exact-as, Exact-before, Exact-known, Exact-located}
 use Rattle.tm_units.proofs.UnitsRuns.{IsByte, Exact-byte, after_nothing}
 use Rattle.tm_units.proofs.UnitsNumbers.{Exact-number}
+use Rattle.fm_base.specs.Parser.{◌>>=◌, located, known}
 
 -- what begins with a byte that doesn't pass stops a run
 pub stops_at : (test : ℕ → Bool) (byte : ℕ) (back more rest : List ℕ) → back ≡ byte ∷ more → test byte ≡ false → Stops test (back ++ rest)

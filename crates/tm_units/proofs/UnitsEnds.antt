@@ -2,14 +2,15 @@
 use Rattle.std.proofs.Common.{◌≡◌, inl, inr, ℕ, zero, suc, false, ◌==◌, List, [], ◌∷◌, ◌++◌, length, replicate, refl, sym, ap, subst, ◌∙◌, append_assoc, ℤ, pos, ◌-ℤ◌}
 use Rattle.std.proofs.lemmas.List.{append-nil}
 use Rattle.std.proofs.Math.Dec.{eqb-suc-zero}
-use Rattle.fm_base.specs.UnitsReading.{◌>>=◌, pure, end_at, spaces_at, zone_at, last_zone_at, clock_at}
+use Rattle.fm_base.specs.UnitsReading.{end_at, spaces_at, zone_at, last_zone_at, clock_at}
 use Rattle.fm_base.specs.UnitsSpelling.{SpellsTime, SpellsZone, SpellsLastZone, SpellsClock}
-use Rattle.tm_units.proofs.UnitsExact.{Exact, Stops, AtEnd, Then, Is, Exact-then, Exact-as, Exact-before, Exact-pure}
+use Rattle.fm_base.proofs.Exact.{Exact, Stops, AtEnd, Then, Is, Exact-then, Exact-as, Exact-before, Exact-pure}
 use Rattle.tm_units.proofs.UnitsChoices.{GoesOn, Optional, Exact-unless_ended}
 use Rattle.tm_units.proofs.UnitsRuns.{Repeats, Exact-many, after_nothing}
 use Rattle.tm_units.proofs.UnitsTimes.{EndsTime, Exact-time}
 use Rattle.tm_units.proofs.UnitsZones.{IsEnd, Exact-end, begins_test, plain_ends, nothing_ends}
 use Rattle.tm_units.proofs.UnitsZoneTexts.{Exact-zone, Starts, zone_starts, from_zone}
+use Rattle.fm_base.specs.Parser.{◌>>=◌, pure}
 
 -- so many spaces and what follows them
 pub spaces_end : (count : ℕ) (text rest : List ℕ) → EndsTime rest → text ≡ replicate count 32 → EndsTime (text ++ rest)

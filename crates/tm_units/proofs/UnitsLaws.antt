@@ -3,16 +3,18 @@ use Rattle.std.proofs.Common.{◌≡◌, inl, inr, ℕ, suc, ◌+◌, ◌≤◌,
 use Rattle.std.specs.List.{list_all}
 use Rattle.fm_base.specs.declared.units.UnitsFault.{UnitsFault}
 use Rattle.fm_base.specs.declared.units.UnitsFault.TheVariants.{BadUnits}
+use Rattle.fm_base.specs.Chain.{◌>>=◌, fault_as}
 use Rattle.fm_base.specs.Input.{whole}
-use Rattle.fm_base.specs.Units.{Settles, in_calendar, is_gregorian, is_proleptic, is_before_gregorian, result_and_then, units_of}
+use Rattle.fm_base.specs.Units.{Settles, in_calendar, is_gregorian, is_proleptic, is_before_gregorian, units_of}
 use Rattle.fm_base.specs.UnitsFaults.{IsWrongRun, GoesWrong, is_of_run, EndsRun, AreAlike}
-use Rattle.fm_base.specs.UnitsReading.{Outcome, units_at, Written, value_of, written_or_fault}
+use Rattle.fm_base.specs.UnitsReading.{UnitsOutcome as Outcome, units_at, Written, written_or_fault}
 use Rattle.fm_base.specs.UnitsSpelling.{SpellsUnits}
-use Rattle.tm_units.proofs.UnitsExact.{input}
+use Rattle.fm_base.proofs.Exact.{input}
 use Rattle.tm_units.proofs.UnitsLocal.{WrongRun}
 use Rattle.tm_units.proofs.UnitsSpelled.{SpellsUnits-written_or_fault, written_or_fault-spelled}
 use Rattle.tm_units.proofs.UnitsPlaces.{Local-units}
 use Rattle.tm_units.proofs.UnitsBegunEnds.{Viable-units}
+use Rattle.fm_base.specs.Parser.{value_of}
 
 -- what a calendar makes of a reading
 calendar_settles : (text : List ℕ) (calendar : Option (List ℕ)) (w : Written) → SpellsUnits text w → Settles text calendar (in_calendar calendar w)
@@ -28,7 +30,7 @@ calendar_settles text calendar w s = by_tests (is_gregorian calendar) (is_prolep
 -- a text that is spelled doesn't go wrong
 not_wrong : (other : List ℕ) (units : Written) (place : ℕ) → SpellsUnits other units → units_at (input 0 other) ≡ Err place → ⊥
 unfolding written_or_fault
-not_wrong other units place s e = let no = sym (written_or_fault-spelled other units s) ∙ ap value_of e in absurd cc
+not_wrong other units place s e = let no = sym (written_or_fault-spelled other units s) ∙ ap (λ (r : Outcome Written). fault_as BadUnits (value_of r)) e in absurd cc
 
 -- where reading goes wrong, the text does
 goes_wrong : (text : List ℕ) (place : ℕ) → units_at (whole text) ≡ Err place → GoesWrong place text
@@ -68,7 +70,7 @@ place_of : (text : List ℕ) (fault : UnitsFault) → written_or_fault text ≡ 
 unfolding written_or_fault
 place_of text fault e = by_reading (units_at (whole text)) refl e
   where
-    by_reading : (r : Outcome Written) → units_at (whole text) ≡ r → value_of r ≡ Err fault → (place : ℕ) × (fault ≡ BadUnits place) × (units_at (whole text) ≡ Err place)
+    by_reading : (r : Outcome Written) → units_at (whole text) ≡ r → fault_as BadUnits (value_of r) ≡ Err fault → (place : ℕ) × (fault ≡ BadUnits place) × (units_at (whole text) ≡ Err place)
     by_reading (Ok p) is k = absurd cc
     by_reading (Err at) is k = (at, cc, is)
 
@@ -84,13 +86,13 @@ pub units_settle : (text : List ℕ) (calendar : Option (List ℕ)) → Settles 
 unfolding units_of
 units_settle text calendar = by_reading (written_or_fault text) refl
   where
-    by_reading : (r : Result Written UnitsFault) → written_or_fault text ≡ r → Settles text calendar (result_and_then r (in_calendar calendar))
+    by_reading : (r : Result Written UnitsFault) → written_or_fault text ≡ r → Settles text calendar (r >>= in_calendar calendar)
     by_reading (Ok w) e = calendar_settles text calendar w (SpellsUnits-written_or_fault text w e)
     by_reading (Err fault) e = none_spelled text calendar fault e
 
 -- what is spelled is read
 pub units_of-spelled : (text : List ℕ) (calendar : Option (List ℕ)) (w : Written) → SpellsUnits text w → units_of text calendar ≡ in_calendar calendar w
 unfolding units_of
-units_of-spelled text calendar w s = ap (λ (r : Result Written UnitsFault). result_and_then r (in_calendar calendar)) (written_or_fault-spelled text w s)
+units_of-spelled text calendar w s = ap (λ (r : Result Written UnitsFault). r >>= in_calendar calendar) (written_or_fault-spelled text w s)
 
 pub ruleset units_laws = (units_settle, units_of-spelled)

@@ -5,9 +5,10 @@ use Rattle.std.proofs.lemmas.List.{take-take, drop-take, drop-drop, length-drop}
 use Rattle.std.proofs.Math.Dec.{eqb-suc-zero}
 use Rattle.std.specs.List.{list_all}
 use Rattle.fm_base.specs.Input.{Input}
-use Rattle.fm_base.specs.UnitsReading.{Outcome, Parser, and_then, ◌>>=◌, pure, located, past, next_passes, has_ended}
+use Rattle.fm_base.specs.UnitsReading.{UnitsOutcome as Outcome, UnitsParser as Parser, past, next_passes, has_ended}
 use Rattle.fm_base.specs.UnitsFaults.{is_of_run}
-use Rattle.tm_units.proofs.UnitsExact.{input, Stops, done, ok_pair}
+use Rattle.fm_base.proofs.Exact.{input, Stops, done, ok_pair}
+use Rattle.fm_base.specs.Parser.{and_then, ◌>>=◌, pure, located}
 
 -- two texts begin with the same bytes
 abbrev pub Agree : ℕ → List ℕ → List ℕ → Type 0

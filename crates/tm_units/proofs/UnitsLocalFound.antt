@@ -3,11 +3,12 @@ use Rattle.std.proofs.Common.{◌≡◌, ◌⊎◌, inl, inr, ℕ, suc, ◌+◌,
 use Rattle.std.proofs.lemmas.Bool.{cases_lt}
 use Rattle.fm_base.specs.Calendar.{day_number}
 use Rattle.fm_base.specs.Input.{Input}
-use Rattle.fm_base.specs.UnitsReading.{Outcome, Parser, and_then, ◌>>=◌, located, known, past, number_at, unit_at, seconds_per}
+use Rattle.fm_base.specs.UnitsReading.{UnitsOutcome as Outcome, UnitsParser as Parser, past, number_at, unit_at, seconds_per}
 use Rattle.fm_base.specs.UnitsFaults.{is_of_run}
-use Rattle.tm_units.proofs.UnitsExact.{input, Stops, ok_pair}
+use Rattle.fm_base.proofs.Exact.{input, Stops, ok_pair}
 use Rattle.tm_units.proofs.UnitsLocal.{Agree, Taken, Failed, Local, stepped, then_fails, refit, failed, err_is}
 use Rattle.tm_units.proofs.UnitsLocalNumbers.{Lexed, Lexed-number, number_fails, word_at, Lexed-word}
+use Rattle.fm_base.specs.Parser.{and_then, ◌>>=◌, located, known}
 
 -- a word or a number, and what it stands for
 abbrev found_at : {A B : Type 0} → Parser A → (A → Option B) → Parser B

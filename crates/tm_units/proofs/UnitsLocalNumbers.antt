@@ -8,12 +8,13 @@ use Rattle.std.specs.Char.{is_ascii_digit, is_ascii_alphabetic}
 use Rattle.std.specs.List.{prefix_len, list_all}
 use Rattle.fm_base.specs.Input.{Input}
 use Rattle.fm_base.specs.Stamp.{number_of}
-use Rattle.fm_base.specs.UnitsReading.{Outcome, Parser, and_then, past, run_at, number_at}
+use Rattle.fm_base.specs.UnitsReading.{UnitsOutcome as Outcome, UnitsParser as Parser, past, run_at, number_at}
 use Rattle.fm_base.specs.UnitsFaults.{is_of_run}
-use Rattle.tm_units.proofs.UnitsExact.{input, Stops, done, ok_pair}
+use Rattle.fm_base.proofs.Exact.{input, Stops, done, ok_pair}
 use Rattle.tm_units.proofs.UnitsRuns.{run_within, run_passes, run_is}
 use Rattle.tm_units.proofs.UnitsLocal.{Agree, agree_less, Failed, Local, failed, err_is}
 use Rattle.tm_units.proofs.UnitsLocalRuns.{prefix_agree, prefix_agree_within, short}
+use Rattle.fm_base.specs.Parser.{and_then}
 
 -- a run of this class that was taken, which each text that begins with it and ends it gives too
 pub record Lexed {A : Type 0} (is_word : Bool) (p : Parser A) (at : ℕ) (rest : List ℕ) (a : A) (j : Input) : Type 0 where

@@ -6,10 +6,11 @@ use Rattle.std.proofs.lemmas.List.Sums.{prefix_len-le-length}
 use Rattle.std.specs.Char.{eq_ignore_ascii_case}
 use Rattle.std.specs.List.{prefix_len}
 use Rattle.fm_base.specs.Input.{Input}
-use Rattle.fm_base.specs.UnitsReading.{located, unless, past, next_passes, has_ended, end_at, byte_at, letter_at, letters_at, run_at, many_at, some_at}
-use Rattle.tm_units.proofs.UnitsExact.{input, done, ok_pair}
+use Rattle.fm_base.specs.UnitsReading.{past, next_passes, has_ended, end_at, byte_at, letter_at, letters_at, run_at, many_at, some_at}
+use Rattle.fm_base.proofs.Exact.{input, done, ok_pair}
 use Rattle.tm_units.proofs.UnitsRuns.{one_at}
 use Rattle.tm_units.proofs.UnitsLocal.{Agree, agree_less, agree_first, agree_ended, Taken, Failed, Local, Local-then, Local-pure, Local-here, Local-cond}
+use Rattle.fm_base.specs.Parser.{located, unless}
 
 -- a run is as long in each text that begins with it and the same next byte
 pub prefix_agree : (test : ℕ → Bool) (xs ys : List ℕ) → Agree (suc (prefix_len test xs)) xs ys → prefix_len test ys ≡ prefix_len test xs

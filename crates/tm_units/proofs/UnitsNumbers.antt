@@ -10,7 +10,7 @@ use Rattle.fm_base.specs.Input.{Input}
 use Rattle.fm_base.specs.Stamp.{number_of}
 use Rattle.fm_base.specs.UnitsReading.{past, run_at, number_at, unit_at, seconds_per}
 use Rattle.fm_base.specs.UnitsSpelling.{SpellsNumber, SpellsUnit}
-use Rattle.tm_units.proofs.UnitsExact.{input, Took, Exact, Stops, Then, Passes, Finds, done, ok_pair, Exact-then, Exact-as, Exact-before, Exact-unless, Exact-known, Exact-located}
+use Rattle.fm_base.proofs.Exact.{input, Took, Exact, Stops, Then, Passes, Finds, done, ok_pair, Exact-then, Exact-as, Exact-before, Exact-unless, Exact-known, Exact-located}
 use Rattle.tm_units.proofs.UnitsRuns.{run_within, run_passes, after_nothing}
 
 -- a run of bytes that pass, of at most so many
@@ -49,7 +49,7 @@ run_again test most at text rest run s may =
 
 pub Exact-run : (test : ℕ → Bool) (most : ℕ) → Exact (Run test most) (Stops test) (run_at test most)
 Exact-run test most = record {
-  takes = λ i run j e. run_takes test most i.at i.rest run j e;
+  takes = λ i run j any e. run_takes test most i.at i.rest run j e;
   again = λ at text rest run s may. run_again test most at text rest run s may;
 }
 
@@ -122,7 +122,7 @@ pub record Whole (test : ℕ → Bool) (text run : List ℕ) : Type 0 where
 
 pub Exact-whole : (test : ℕ → Bool) → Exact (Whole test) (Stops test) (λ i. run_at test (length i.rest) i)
 Exact-whole test = record {
-  takes = λ i run j e.
+  takes = λ i run j any e.
       let t = run_takes test (length i.rest) i.at i.rest run j e in
       record { text = t.text; spelled = record { text_is = t.spelled.text_is; all = t.spelled.all }; split = t.split; place = t.place };
   again = λ at text rest run s may.

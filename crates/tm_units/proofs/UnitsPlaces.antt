@@ -2,7 +2,7 @@
 use Rattle.std.proofs.Common.{ℕ, ◌==◌, Bool, cond, codes, Err, refl, pos, neg_ℤ, ◌-ℤ◌}
 use Rattle.std.specs.Char.{eq_ignore_ascii_case}
 use Rattle.fm_base.specs.Calendar.{time_seconds}
-use Rattle.fm_base.specs.UnitsReading.{Parser, next_passes, has_ended, date_at, fraction_at, second_at, time_at, zone_minute_at, distance_at, zone_at, last_zone_at, clock_at, after_date_at, units_at}
+use Rattle.fm_base.specs.UnitsReading.{UnitsParser as Parser, next_passes, has_ended, date_at, fraction_at, second_at, time_at, zone_minute_at, distance_at, zone_at, last_zone_at, clock_at, after_date_at, units_at}
 use Rattle.tm_units.proofs.UnitsLocal.{Local, Local-then, Local-pure, Local-here, Local-cond, agree_first, agree_ended}
 use Rattle.tm_units.proofs.UnitsLocalRuns.{Local-many, Local-some, Local-byte, Local-letter, Local-letters, Local-end}
 use Rattle.tm_units.proofs.UnitsLocalNumbers.{Local-number}

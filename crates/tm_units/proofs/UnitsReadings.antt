@@ -5,15 +5,16 @@ use Rattle.std.proofs.lemmas.List.{append-nil}
 use Rattle.std.proofs.Math.Dec.{eqb-suc-zero}
 use Rattle.std.specs.Char.{is_ascii_digit, is_ascii_alphabetic}
 use Rattle.std.specs.List.{list_all}
-use Rattle.fm_base.specs.UnitsReading.{◌>>=◌, pure, letters_at, gap_at, unit_at, date_at, after_date_at, units_at, Written, seconds_per, is_same_word, is_second, is_minute, is_hour, is_day}
+use Rattle.fm_base.specs.UnitsReading.{letters_at, gap_at, unit_at, date_at, after_date_at, units_at, Written, seconds_per, is_same_word, is_second, is_minute, is_hour, is_day}
 use Rattle.fm_base.specs.UnitsSpelling.{SpellsUnit, SpellsDate, SpellsAfterDate, SpellsUnits}
 use Rattle.tm_units.proofs.InstantLemmas.{and_parts}
-use Rattle.tm_units.proofs.UnitsExact.{Exact, Stops, AtEnd, Then, Is, Exact-then, Exact-as, Exact-before, Exact-pure}
+use Rattle.fm_base.proofs.Exact.{Exact, Stops, AtEnd, Then, Is, Exact-then, Exact-as, Exact-before, Exact-pure}
 use Rattle.tm_units.proofs.UnitsRuns.{Repeats, RepeatsSome, AreLetters, Exact-many, Exact-some, Exact-letters, after_nothing, same_letters}
 use Rattle.tm_units.proofs.UnitsNumbers.{Exact-unit}
 use Rattle.tm_units.proofs.UnitsDates.{Exact-date}
 use Rattle.tm_units.proofs.UnitsZones.{Begins, begins_test, letter_above}
 use Rattle.tm_units.proofs.UnitsAfterDate.{Exact-after_date, after_date_stops, BeginsWithDigit, number_begins, digit_before, digit_no_space}
+use Rattle.fm_base.specs.Parser.{◌>>=◌, pure}
 
 -- the parts of units after the date
 abbrev pub TheEnd : ℕ → ℤ → List ℕ → Written → Type 0

@@ -8,9 +8,9 @@ use Rattle.std.specs.Char.{eq_ignore_ascii_case}
 use Rattle.std.specs.List.{prefix_len, list_all}
 use Rattle.std.specs.Str.{str_eq_ignore_ascii_case}
 use Rattle.fm_base.specs.Input.{Input}
-use Rattle.fm_base.specs.UnitsReading.{Parser, past, next_passes, byte_at, letter_at, letters_at, many_at, some_at, is_same_word}
+use Rattle.fm_base.specs.UnitsReading.{UnitsParser as Parser, past, next_passes, byte_at, letter_at, letters_at, many_at, some_at, is_same_word}
 use Rattle.tm_units.proofs.InstantLemmas.{and_parts}
-use Rattle.tm_units.proofs.UnitsExact.{input, Took, Exact, Stops, Anything, Passes, done, ok_pair, Exact-then, Exact-pure, Exact-as, Exact-before, Exact-unless, Exact-located}
+use Rattle.fm_base.proofs.Exact.{input, Took, Exact, Stops, Anything, Passes, done, ok_pair, Exact-then, Exact-pure, Exact-as, Exact-before, Exact-unless, Exact-located}
 
 -- a run is as long as it can be
 pub run_is : (test : ℕ → Bool) (run rest : List ℕ) → list_all test run ≡ true → Stops test rest → prefix_len test (run ++ rest) ≡ length run
@@ -57,7 +57,7 @@ repeated_passes byte (suc n) = rw (eq-eqb byte byte refl, repeated_passes byte n
 pub Exact-many : (byte : ℕ) → Exact (Repeats byte) (Stops (λ other. other == byte)) (many_at byte)
 unfolding many_at
 Exact-many byte = record {
-  takes = λ i n j e.
+  takes = λ i n j any e.
       let test : ℕ → Bool = λ other. other == byte in
       let count = prefix_len test i.rest in
       let k = ok_pair count n (past count i) j e in
@@ -130,7 +130,7 @@ one_takes test at (x ∷ rest) unit j e =
 
 pub Exact-one : (test : ℕ → Bool) → Exact (One test) Anything (one_at test)
 Exact-one test = record {
-  takes = λ i unit j e. one_takes test i.at i.rest unit j e;
+  takes = λ i unit j any e. one_takes test i.at i.rest unit j e;
   again = λ at text rest unit s may.
       subst (λ (l : List ℕ). one_at test (input at (l ++ rest)) ≡ Ok (unit, input (at + length l) rest)) (sym s.text_is) (rw (s.passes) refl);
 }

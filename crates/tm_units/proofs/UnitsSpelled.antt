@@ -3,11 +3,15 @@ use Rattle.std.proofs.Common.{◌≡◌, ℕ, ◌+◌, Bool, true, false, cond, 
 use Rattle.std.proofs.lemmas.Bool.{eqb-true}
 use Rattle.std.proofs.lemmas.List.{append-nil, nil_from_length}
 use Rattle.std.specs.Char.{eq_ignore_ascii_case}
+use Rattle.fm_base.specs.declared.units.UnitsFault.{UnitsFault}
+use Rattle.fm_base.specs.declared.units.UnitsFault.TheVariants.{BadUnits}
+use Rattle.fm_base.specs.Chain.{fault_as}
 use Rattle.fm_base.specs.Input.{Input, whole}
-use Rattle.fm_base.specs.UnitsReading.{Outcome, Parser, ◌>>=◌, pure, has_ended, next_passes, end_at, letters_at, spaces_at, gap_at, unit_at, date_at, zone_at, time_at, letter_at, last_zone_at, clock_at, after_date_at, units_at, Written, value_of, written_or_fault}
+use Rattle.fm_base.specs.UnitsReading.{UnitsOutcome as Outcome, UnitsParser as Parser, has_ended, next_passes, end_at, letters_at, spaces_at, gap_at, unit_at, date_at, zone_at, time_at, letter_at, last_zone_at, clock_at, after_date_at, units_at, Written, written_or_fault}
 use Rattle.fm_base.specs.UnitsSpelling.{SpellsUnits}
-use Rattle.tm_units.proofs.UnitsExact.{input, done, bind_ok, ok_pair}
+use Rattle.fm_base.proofs.Exact.{input, done, bind_ok, ok_pair}
 use Rattle.tm_units.proofs.UnitsReadings.{Exact-units}
+use Rattle.fm_base.specs.Parser.{◌>>=◌, pure, value_of}
 
 -- a reader that reads to the end of the text
 record Ends {A : Type 0} (p : Parser A) : Type 0 where
@@ -81,12 +85,12 @@ unfolding written_or_fault
 written_or_fault-spelled text w s =
     let again = Exact-units.again 0 text [] w s refl in
     let read : units_at (whole text) ≡ Ok (w, input (0 + length text) []) = subst (λ (l : List ℕ). units_at (input 0 l) ≡ Ok (w, input (0 + length text) [])) (append-nil text) again in
-    ap value_of read
+    ap (λ (r : Outcome Written). fault_as BadUnits (value_of r)) read
 
-value_some : {A : Type 0} (r : Outcome A) (a : A) → value_of r ≡ Ok a → (j : Input) × (r ≡ Ok (a, j))
+value_some : {A : Type 0} (r : Outcome A) (a : A) → fault_as BadUnits (value_of r) ≡ Ok a → (j : Input) × (r ≡ Ok (a, j))
 value_some (Ok p) a e = (p.1, ap (λ (x : _). Ok (x, p.1)) (ok_value p.0 a e))
   where
-    ok_value : {A : Type 0} (x y : A) → value_of (Ok (x, p.1)) ≡ Ok y → x ≡ y
+    ok_value : {A : Type 0} (x y : A) → done {E = UnitsFault} x ≡ Ok y → x ≡ y
     ok_value x y e = cc
 value_some (Err at) a e = absurd cc
 
@@ -95,7 +99,7 @@ pub SpellsUnits-written_or_fault : (text : List ℕ) (w : Written) → written_o
 unfolding written_or_fault
 SpellsUnits-written_or_fault text w e =
     let read = value_some (units_at (whole text)) w e in
-    let took = Exact-units.takes (whole text) w read.0 read.1 in
+    let took = Exact-units.takes (whole text) w read.0 tt read.1 in
     let none = Ends-units.ends (whole text) w read.0 read.1 in
     let all : text ≡ took.text = took.split ∙ ap (λ (l : List ℕ). took.text ++ l) none ∙ append-nil took.text in
     subst (λ (l : List ℕ). SpellsUnits l w) (sym all) took.spelled

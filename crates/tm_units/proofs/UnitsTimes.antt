@@ -6,7 +6,7 @@ use Rattle.std.specs.Char.{is_ascii_digit}
 use Rattle.fm_base.specs.Calendar.{time_seconds}
 use Rattle.fm_base.specs.UnitsReading.{next_passes, fraction_at, second_at, time_at, zone_minute_at, distance_at}
 use Rattle.fm_base.specs.UnitsSpelling.{SpellsNumber, SpellsFraction, SpellsSecond, SpellsTime, SpellsZoneMinute, SpellsDistance}
-use Rattle.tm_units.proofs.UnitsExact.{input, Exact, Stops, Then, Is, Exact-then, Exact-as, Exact-before, Exact-pure}
+use Rattle.fm_base.proofs.Exact.{input, Exact, Stops, Then, Is, Exact-then, Exact-as, Exact-before, Exact-pure}
 use Rattle.tm_units.proofs.UnitsChoices.{Optional, Exact-optional}
 use Rattle.tm_units.proofs.UnitsRuns.{RepeatsSome, Exact-some, after_nothing}
 use Rattle.tm_units.proofs.UnitsNumbers.{Exact-number}

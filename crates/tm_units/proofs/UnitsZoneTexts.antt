@@ -3,7 +3,7 @@ use Rattle.std.proofs.Common.{◌≡◌, inl, inr, ℕ, ◌≤◌, false, ◌==�
 use Rattle.std.proofs.lemmas.List.{append-nil}
 use Rattle.fm_base.specs.UnitsReading.{zone_at, is_same_word}
 use Rattle.fm_base.specs.UnitsSpelling.{SpellsDistance, SpellsSigned, SpellsZone}
-use Rattle.tm_units.proofs.UnitsExact.{Exact, Then, Is, Exact-as}
+use Rattle.fm_base.proofs.Exact.{Exact, Then, Is, Exact-as}
 use Rattle.tm_units.proofs.UnitsRuns.{same_letters, letters_same, no_word, no_letters}
 use Rattle.tm_units.proofs.UnitsDates.{After}
 use Rattle.tm_units.proofs.UnitsTimes.{EndsTime}

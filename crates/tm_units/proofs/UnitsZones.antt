@@ -3,13 +3,14 @@ use Rattle.std.proofs.Common.{◌≡◌, ◌⊎◌, inl, inr, ℕ, ◌<◌, ◌�
 use Rattle.std.proofs.lemmas.Bool.{cases_lt, ne_eqb, eqb-true, lt-ltb}
 use Rattle.std.specs.Char.{is_ascii_digit, eq_ignore_ascii_case, to_ascii_lowercase}
 use Rattle.fm_base.specs.Input.{Input}
-use Rattle.fm_base.specs.UnitsReading.{◌>>=◌, pure, next_passes, has_ended, byte_at, end_at, letter_at, letters_at, distance_at, zone_at}
+use Rattle.fm_base.specs.UnitsReading.{next_passes, has_ended, byte_at, end_at, letter_at, letters_at, distance_at, zone_at}
 use Rattle.fm_base.specs.UnitsSpelling.{SpellsDistance}
-use Rattle.tm_units.proofs.UnitsExact.{input, Exact, Anything, AtEnd, Then, Is, done, took_none, none_again, Exact-then, Exact-before, Exact-pure}
+use Rattle.fm_base.proofs.Exact.{input, Exact, Anything, AtEnd, Then, Is, done, took_none, none_again, Exact-then, Exact-before, Exact-pure}
 use Rattle.tm_units.proofs.UnitsChoices.{Exact-either}
 use Rattle.tm_units.proofs.UnitsRuns.{IsLetter, AreLetters, Exact-letter, Exact-letters, after_nothing, same_letters}
 use Rattle.tm_units.proofs.UnitsDates.{After, Exact-after}
 use Rattle.tm_units.proofs.UnitsTimes.{EndsTime, Exact-distance}
+use Rattle.fm_base.specs.Parser.{◌>>=◌, pure}
 
 -- a byte that no time goes on with
 pub record IsPlain (byte : ℕ) : Type 0 where
@@ -53,7 +54,7 @@ end_guard false d x y e = absurd cc
 pub Exact-end : Exact IsEnd AtEnd end_at
 unfolding end_at
 Exact-end = record {
-  takes = λ i unit j e. took_none i unit j refl (ap (λ (p : Unit {0} × Input). p.1) (end_guard (has_ended i) i.at (tt, i) (unit, j) e));
+  takes = λ i unit j any e. took_none i unit j refl (ap (λ (p : Unit {0} × Input). p.1) (end_guard (has_ended i) i.at (tt, i) (unit, j) e));
   again = λ at text rest unit s may.
       let ended : has_ended (input at (text ++ rest)) ≡ true = rw (s, may) refl in
       ap (λ (b : Bool). cond b (done {A = Unit {0} × Input} (tt, input at (text ++ rest))) (Err at)) ended
