@@ -138,6 +138,19 @@ fixed() {
     head -c $((4 * $2)) /dev/zero >> "$1"
 }
 
+# ranked FILE RECORDS RANK: one variable of one byte in each record, with this rank; all its other dimensions have the
+# length 1.
+ranked() {
+    {
+        printf '43444601 %s 0000000a 00000002' "$(word "$2")"
+        printf '00000004 74696d65 00000000 00000001 78000000 00000001'
+        printf '00000000 00000000 0000000b 00000001 00000001 61000000 %s 00000000' "$(word "$3")"
+        for _ in $(seq 2 "$3"); do printf '00000001'; done
+        printf '00000000 00000000 00000001 00000004 %s' "$(word $((88 + 4 * $3)))"
+    } | tr -d ' ' | xxd -r -p > "$1"
+    head -c "$2" /dev/zero >> "$1"
+}
+
 # copied WHAT FILE: the least time of each kind of copy, and their ratio.
 copied() {
     "$program" copy "$2" | awk -v what="$1" '
@@ -154,6 +167,8 @@ records "$folder/case.nc" "$size" 262144
 copied 'records of 1 MiB' "$folder/case.nc"
 records "$folder/case.nc" $((size * 1024)) 256
 copied 'records of 1 KiB' "$folder/case.nc"
+ranked "$folder/ranked.nc" 16777216 1000
+copied 'records of 1 byte, rank 1,000' "$folder/ranked.nc"
 
 # A library that stands before the C library, and tells at the end how many bytes were asked for.
 cat > "$folder/count.c" <<'C'

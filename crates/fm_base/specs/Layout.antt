@@ -25,32 +25,33 @@ abbrev pub shape_of : Header → NcVar → List ℕ
 shape_of header var = map (size_at header) var.dims
 
 -- whether the first dimension of a variable is the record dimension
-abbrev pub has_records : Header → NcVar → Bool
-has_records header var = option_map_or (names_record header.dims) (slice_get var.dims 0) false
+abbrev pub is_record_var : Header → NcVar → Bool
+is_record_var header var = option_map_or (names_record header.dims) (slice_get var.dims 0) false
 
 -- the lengths of a variable's dimensions but for the record dimension
 abbrev pub fixed_shape : Header → NcVar → List ℕ
-fixed_shape header var = if has_records header var then drop 1 (shape_of header var) else shape_of header var
+fixed_shape header var = if is_record_var header var then drop 1 (shape_of header var) else shape_of header var
 
 -- the product of some lengths
 unfoldable pub product : List ℕ → ℕ
 product [] = 1
 product (n ∷ ns) = n * product ns
 
--- how many bytes one record of a variable takes, or all of it where it has no records
-unfoldable pub slab_size : Header → NcVar → ℕ
-slab_size header var = size_of var.kind * product (fixed_shape header var)
+-- how many bytes a variable takes in one record, or in all where it has no records, without padding
+unfoldable pub vsize : Header → NcVar → ℕ
+vsize header var = size_of var.kind * product (fixed_shape header var)
 
--- the variables with records
+-- the record variables
 abbrev pub record_vars : Header → List NcVar
-record_vars header = filter (has_records header) header.vars
+record_vars header = filter (is_record_var header) header.vars
 
 -- how many bytes one record of these variables takes: each is padded to a multiple of four, but for a lone variable
 -- of a kind smaller than four bytes
 abbrev pub record_size_of : Header → List NcVar → ℕ
 record_size_of header [] = 0
-record_size_of header (var ∷ []) = if nat_lt (size_of var.kind) 4 then slab_size header var else padded_len (slab_size header var)
-record_size_of header (var ∷ other ∷ more) = sum_by (λ v. padded_len (slab_size header v)) (var ∷ other ∷ more)
+record_size_of header (var ∷ []) =
+    if nat_lt (size_of var.kind) 4 then vsize header var else padded_len (vsize header var)
+record_size_of header (var ∷ other ∷ more) = sum_by (λ v. padded_len (vsize header v)) (var ∷ other ∷ more)
 
 unfoldable pub record_size : Header → ℕ
 record_size header = record_size_of header (record_vars header)
@@ -63,7 +64,11 @@ rank_in (n ∷ shape) (i ∷ index) = i * product shape + rank_in shape index
 
 -- the place in the file of the first byte of an element
 unfoldable pub place_of : Header → NcVar → List ℕ → ℕ
-place_of header var index = if has_records header var then var.begin + slice_index index 0 * record_size header + size_of var.kind * rank_in (fixed_shape header var) (drop 1 index) else var.begin + size_of var.kind * rank_in (fixed_shape header var) index
+place_of header var index =
+    if is_record_var header var
+    then var.begin + slice_index index 0 * record_size header
+      + size_of var.kind * rank_in (fixed_shape header var) (drop 1 index)
+    else var.begin + size_of var.kind * rank_in (fixed_shape header var) index
 
 -- the bytes of an element
 unfoldable pub element : List ℕ → Header → NcVar → List ℕ → List ℕ
@@ -72,7 +77,8 @@ element bytes header var index = take (size_of var.kind) (drop (place_of header 
 -- all index lists of an array of this shape, in row-major order
 unfoldable pub indices_of : List ℕ → List (List ℕ)
 indices_of [] = [] ∷ []
-indices_of (n ∷ shape) = flat_map (λ (i : ℕ). map (λ (index : List ℕ). i ∷ index) (indices_of shape)) (range_with_len 0 n)
+indices_of (n ∷ shape) =
+    flat_map (λ (i : ℕ). map (λ (index : List ℕ). i ∷ index) (indices_of shape)) (range_with_len 0 n)
 
 -- the bytes of all elements of a variable, in row-major order
 unfoldable pub elements_of : List ℕ → Header → NcVar → List ℕ
@@ -90,9 +96,9 @@ end_of header var = place_of header var (last_index header var) + size_of var.ki
 abbrev pub has_elements : Header → NcVar → Bool
 has_elements header var = not (product (shape_of header var) == 0)
 
--- whether one record of a variable takes more than 2^40 bytes
+-- whether a variable takes more than 2^40 bytes in one record, or in all where it has no records
 abbrev pub is_too_large : Header → NcVar → Bool
-is_too_large header var = nat_lt (2 ^ 40) (slab_size header var)
+is_too_large header var = nat_lt (2 ^ 40) (vsize header var)
 
 -- whether a variable has an element that ends past this length
 abbrev pub is_outside : Header → ℕ → NcVar → Bool
@@ -101,12 +107,16 @@ is_outside header len var = if has_elements header var then nat_lt len (end_of h
 -- the first of the variables from this number on that is too large
 unfoldable pub first_too_large : Header → ℕ → List NcVar → Option LayoutFault
 first_too_large header n [] = None
-first_too_large header n (var ∷ vars) = if is_too_large header var then Some (TooLarge n) else first_too_large header (n + 1) vars
+first_too_large header n (var ∷ vars) =
+    if is_too_large header var then Some (TooLarge n) else first_too_large header (n + 1) vars
 
 -- the first of the variables from this number on that lies outside
 unfoldable pub first_outside : Header → ℕ → ℕ → List NcVar → Option LayoutFault
 first_outside header len n [] = None
-first_outside header len n (var ∷ vars) = if is_outside header len var then Some (DataOutside n (end_of header var) len) else first_outside header len (n + 1) vars
+first_outside header len n (var ∷ vars) =
+    if is_outside header len var
+    then Some (DataOutside n (end_of header var) len)
+    else first_outside header len (n + 1) vars
 
 -- the first of two, if it is there, else the second
 abbrev pub or_else : {A : Type 0} → Option A → Option A → Option A

@@ -1,59 +1,59 @@
 -- No two elements of a variable share a byte.
 use Rattle.std.proofs.Common.{◌≡◌, ◌≢◌, ℕ, ◌+◌, ◌*◌, ◌/◌, ◌<◌, ◌≤◌, Bool, true, false, cond, ltb, List, [], ◌∷◌, map, drop, get_or, Some, inl, inr, refl, sym, ap, ap₂, subst, ◌∙◌, arith}
 use Rattle.std.specs.List.{slice_get}
-use Rattle.std.specs.Option.{option_map}
 use Rattle.std.proofs.lemmas.Bool.{cases_eq, cases_order, cond_both}
 use Rattle.std.proofs.lemmas.List.Sums.{get_or-le-sum_by}
 use Rattle.std.proofs.lemmas.Nat.{mul-le}
-use Rattle.std.proofs.lemmas.Option.{slice_get-map, slice_get_within, get_or_from_slice_get}
+use Rattle.std.proofs.lemmas.Option.{slice_get_within, get_or_from_slice_get}
 use Rattle.fm_base.specs.declared.header.Header.{Header}
 use Rattle.fm_base.specs.declared.header.NcVar.{NcVar}
 use Rattle.fm_base.specs.Kind.{size_of}
-use Rattle.fm_base.specs.Layout.{product, rank_in, indices_of, has_records, shape_of, fixed_shape, record_size, place_of}
-use Rattle.nc_layout.specs.declared.places.VarPlaces.{VarPlaces}
-use Rattle.nc_layout.specs.Faults.{padded_slab, lone_slab, record_size_in, with_records}
+use Rattle.fm_base.specs.Layout.{product, rank_in, indices_of, is_record_var, shape_of, vsize, record_size, place_of}
 use Rattle.nc_layout.specs.Meaning.{AreApart}
-use Rattle.nc_layout.specs.Places.{IsIndex, var_places, slab_in}
+use Rattle.nc_layout.specs.Places.{IsIndex}
 use Rattle.nc_layout.proofs.EndLaws.{place_by}
-use Rattle.nc_layout.proofs.FaultLemmas.{record_size-is}
 use Rattle.nc_layout.proofs.OrderLemmas.{slice_get-indices_of}
 use Rattle.nc_layout.proofs.RankLemmas.{rank_in-lt}
-use Rattle.nc_layout.proofs.RecordLemmas.{if_records, sum_of, record_size_in-one, record_size_in-others}
+use Rattle.nc_layout.proofs.RecordLemmas.{if_record, sum_of, padded_vsize, lone_vsize, record_size-one, record_size-others}
 
--- one number tells one index list
+-- no two index lists have one number
 pub same_rank : (shape index other : List ℕ) → IsIndex shape index → IsIndex shape other → rank_in shape index ≡ rank_in shape other → index ≡ other
 same_rank shape index other is also same =
     let both = sym (slice_get-indices_of shape index is) ∙ ap (slice_get (indices_of shape)) same ∙ slice_get-indices_of shape other also in cc
 
--- what a variable with records adds to a sum over those with records is at most the sum
-term-le-sum : (f : VarPlaces → ℕ) (vars : List VarPlaces) (i : ℕ) (var : VarPlaces) → slice_get vars i ≡ Some var → var.has_records ≡ true → f var ≤ sum_of f vars
-term-le-sum f vars i var there is =
-    let some = get_or-le-sum_by (if_records f) vars i var (slice_get_within vars i var there) in
-    let here : if_records f (get_or vars i var) ≡ f var = ap (if_records f) (get_or_from_slice_get vars i var var there) ∙ ap (λ b. cond b (f var) 0) is in
+-- what a record variable adds to a sum over the record variables is at most the sum
+term-le-sum : (header : Header) (f : NcVar → ℕ) (i : ℕ) (var : NcVar) → slice_get header.vars i ≡ Some var → is_record_var header var ≡ true
+    → f var ≤ sum_of header f header.vars
+term-le-sum header f i var there is =
+    let some = get_or-le-sum_by (if_record header f) header.vars i var (slice_get_within header.vars i var there) in
+    let here : if_record header f (get_or header.vars i var) ≡ f var =
+      ap (if_record header f) (get_or_from_slice_get header.vars i var var there) ∙ ap (λ b. cond b (f var) 0) is in
     omega arith
 
-slab-le-padded : (n : ℕ) → n ≤ (n + 3) / 4 * 4
-slab-le-padded n = omega arith
+vsize-le-padded : (n : ℕ) → n ≤ (n + 3) / 4 * 4
+vsize-le-padded n = omega arith
 
-slab-le-lone : (var : VarPlaces) → slab_in var ≤ lone_slab var
-slab-le-lone var = cond_both (ltb (size_of var.kind) 4) (slab_in var) (padded_slab var) (λ n. slab_in var ≤ n) (λ _. omega arith) (λ _. slab-le-padded (slab_in var))
+vsize-le-lone : (header : Header) (var : NcVar) → vsize header var ≤ lone_vsize header var
+vsize-le-lone header var =
+    cond_both (ltb (size_of var.kind) 4) (vsize header var) (padded_vsize header var) (λ n. vsize header var ≤ n) (λ _. omega arith) (λ _. vsize-le-padded (vsize header var))
 
 -- one record of a variable is at most one of all
-slab-le-record_size : (vars : List VarPlaces) (i : ℕ) (var : VarPlaces) → slice_get vars i ≡ Some var → var.has_records ≡ true → slab_in var ≤ record_size_in (with_records vars)
-slab-le-record_size vars i var there is = elim (cases_eq (sum_of (λ _. 1) vars) 1) [
+vsize-le-record_size : (header : Header) (i : ℕ) (var : NcVar) → slice_get header.vars i ≡ Some var → is_record_var header var ≡ true
+    → vsize header var ≤ record_size header
+vsize-le-record_size header i var there is = elim (cases_eq (sum_of header (λ _. 1) header.vars) 1) [
   | inl one ↦
-      let some = term-le-sum lone_slab vars i var there is in
-      let least = slab-le-lone var in
-      let whole = record_size_in-one vars one in
+      let some = term-le-sum header (lone_vsize header) i var there is in
+      let least = vsize-le-lone header var in
+      let whole = record_size-one header one in
       omega arith
   | inr others ↦
-      let some = term-le-sum padded_slab vars i var there is in
-      let least = slab-le-padded (slab_in var) in
-      let whole = record_size_in-others vars others in
+      let some = term-le-sum header (padded_vsize header) i var there is in
+      let least = vsize-le-padded (vsize header var) in
+      let whole = record_size-others header others in
       omega arith
 ]
 
--- two elements of one slab
+-- two elements of one part
 offsets_apart : (size : ℕ) (shape index other : List ℕ) → IsIndex shape index → IsIndex shape other → index ≢ other → AreApart size (size * rank_in shape index) (size * rank_in shape other)
 offsets_apart size shape index other is also ne = elim (cases_order (rank_in shape index) (rank_in shape other)) [
   | inl same ↦ absurd (ne (same_rank shape index other is also same))
@@ -88,18 +88,14 @@ places_apart true begin record_size size (n ∷ shape) (i ∷ index) (j ∷ othe
 ]
 
 -- no two elements of a variable of a header share a byte
-pub place_of-apart : (header : Header) (number : ℕ) (var : NcVar) (index other : List ℕ) → slice_get header.vars number ≡ Some var → IsIndex (shape_of header var) index → IsIndex (shape_of header var) other → index ≢ other → AreApart (size_of var.kind) (place_of header var index) (place_of header var other)
-unfolding place_of
+pub place_of-apart : (header : Header) (number : ℕ) (var : NcVar) (index other : List ℕ) → slice_get header.vars number ≡ Some var
+    → IsIndex (shape_of header var) index → IsIndex (shape_of header var) other → index ≢ other
+    → AreApart (size_of var.kind) (place_of header var index) (place_of header var other)
+unfolding place_of vsize
 place_of-apart header number var index other there is also ne =
-    places_apart (has_records header var) var.begin (record_size header) (size_of var.kind) (shape_of header var) index other slab is also ne
+    places_apart (is_record_var header var) var.begin (record_size header) (size_of var.kind) (shape_of header var) index other least is also ne
   where
-    slab : has_records header var ≡ true → size_of var.kind * product (drop 1 (shape_of header var)) ≤ record_size header
-    slab some =
-        let kept : slice_get (map (var_places header) header.vars) number ≡ Some (var_places header var) = slice_get-map (var_places header) header.vars number ∙ ap (option_map (var_places header)) there in
-        let least = slab-le-record_size (map (var_places header) header.vars) number (var_places header var) kept some in
-        let whole = record_size-is header in
-        let lengths : fixed_shape header var ≡ drop 1 (shape_of header var) = ap (λ b. cond b (drop 1 (shape_of header var)) (shape_of header var)) some in
-        let product_is = ap product lengths in
-        rw (← lengths) (omega arith)
+    least : is_record_var header var ≡ true → size_of var.kind * product (drop 1 (shape_of header var)) ≤ record_size header
+    least some = rw some at (vsize-le-record_size header number var there some)
 
 pub ruleset aparts = (place_of-apart)

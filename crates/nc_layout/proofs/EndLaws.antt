@@ -5,7 +5,7 @@ use Rattle.std.proofs.lemmas.Nat.{mul-le}
 use Rattle.fm_base.specs.declared.header.Header.{Header}
 use Rattle.fm_base.specs.declared.header.NcVar.{NcVar}
 use Rattle.fm_base.specs.Kind.{size_of}
-use Rattle.fm_base.specs.Layout.{rank_in, has_records, shape_of, record_size, place_of, end_of}
+use Rattle.fm_base.specs.Layout.{rank_in, is_record_var, shape_of, record_size, place_of, end_of}
 use Rattle.nc_layout.specs.Places.{IsIndex}
 use Rattle.nc_layout.proofs.RankLemmas.{rank_in-last, rank_in-lt, lengths-index}
 
@@ -32,7 +32,7 @@ place_by-le false begin record_size size (n ∷ shape) (i ∷ index) is =
 pub place_of-le-end_of : (header : Header) (var : NcVar) (index : List ℕ) → IsIndex (shape_of header var) index → place_of header var index + size_of var.kind ≤ end_of header var
 unfolding place_of
 place_of-le-end_of header var index is =
-    let last = place_by-le (has_records header var) var.begin (record_size header) (size_of var.kind) (shape_of header var) index is in
+    let last = place_by-le (is_record_var header var) var.begin (record_size header) (size_of var.kind) (shape_of header var) index is in
     omega arith
 
 pub ruleset ends = (place_of-le-end_of)

@@ -1,51 +1,55 @@
--- Where the last element of a variable ends.
-use Rattle.std.proofs.Common.{◌≡◌, ℕ, ◌+◌, ◌-◌, ◌*◌, ◌<◌, ◌≤◌, Bool, true, false, cond, eqb, ◌∷◌, map, Option, None, Some, refl, ap, ◌∙◌, arith}
+-- Where the last element of a variable ends, from its size in one record.
+use Rattle.std.proofs.Common.{◌≡◌, ℕ, ◌+◌, ◌-◌, ◌*◌, ◌<◌, ◌≤◌, Bool, true, false, cond, not, eqb, List, ◌∷◌, map, Option, None, Some, refl, ap, ◌∙◌, arith}
 use Rattle.std.proofs.Math.Nat.{le-mul_of_pos_right}
 use Rattle.std.proofs.lemmas.Bool.{ne_eqb}
+use Rattle.fm_base.specs.declared.header.Header.{Header}
+use Rattle.fm_base.specs.declared.header.NcVar.{NcVar}
 use Rattle.fm_base.specs.Kind.{size_of}
-use Rattle.fm_base.specs.Layout.{product, rank_in}
-use Rattle.nc_layout.specs.declared.places.VarPlaces.{VarPlaces}
-use Rattle.nc_layout.specs.Places.{slab_in}
-use Rattle.nc_layout.specs.Faults.{HasLengths, end_in}
+use Rattle.fm_base.specs.Layout.{product, rank_in, is_record_var, shape_of, fixed_shape, vsize, record_size, place_of, has_elements, end_of}
+use Rattle.nc_layout.specs.Kept.{HasLengths, end_if_any}
+use Rattle.nc_layout.proofs.HeaderLemmas.{place_of-fixed, place_of-record, shape_of-fixed, shape_of-record}
 use Rattle.nc_layout.proofs.ProductLemmas.{product-pos}
 use Rattle.nc_layout.proofs.RankLemmas.{rank_in-last}
 
-some_unless_none : (n end : ℕ) → 1 ≤ n → cond (eqb n 0) None (Some end) ≡ Some end
-some_unless_none n end some = ap (λ b. cond b None (Some end)) (ne_eqb n 0 (λ e. absurd (omega arith)))
+last_part : (size rank whole : ℕ) → rank + 1 ≡ whole → size * rank + size ≡ size * whole
+last_part size rank whole e = rw (← e) (omega arith)
 
-none_where_none : (n end : ℕ) → n ≡ 0 → cond (eqb n 0) None (Some end) ≡ None
-none_where_none n end none = ap (λ m. cond (eqb m 0) None (Some end)) none
+-- the end of the last element over these lengths
+abbrev end_over : Header → NcVar → List ℕ → Option ℕ
+end_over header var shape = cond (not (eqb (product shape) 0)) (Some (place_of header var (map (λ n. n - 1) shape) + size_of var.kind)) None
 
--- the end of a variable, by whether it has records
-abbrev end_with : Bool → ℕ → ℕ → VarPlaces → Option ℕ
-end_with true records record_size var = cond (eqb (product (records ∷ var.fixed)) 0) None (Some (var.begin + (records - 1) * record_size + size_of var.kind * rank_in var.fixed (map (λ n. n - 1) var.fixed) + size_of var.kind))
-end_with false records record_size var = cond (eqb (product var.fixed) 0) None (Some (var.begin + size_of var.kind * rank_in var.fixed (map (λ n. n - 1) var.fixed) + size_of var.kind))
+some_end : (n end : ℕ) → 1 ≤ n → cond (not (eqb n 0)) (Some end) None ≡ Some end
+some_end n end some = ap (λ b. cond (not b) (Some end) None) (ne_eqb n 0 (λ e. absurd (omega arith)))
 
-end_in-with : (records record_size : ℕ) (var : VarPlaces) (b : Bool) → var.has_records ≡ b → end_in records record_size var ≡ end_with b records record_size var
-end_in-with records record_size var true is = rw is refl
-end_in-with records record_size var false is = rw is refl
+no_end : (n end : ℕ) → n ≡ 0 → cond (not (eqb n 0)) (Some end) None ≡ None
+no_end n end none = ap (λ m. cond (not (eqb m 0)) (Some end) None) none
 
-last_slab : (size rank whole : ℕ) → rank + 1 ≡ whole → size * rank + size ≡ size * whole
-last_slab size rank whole e = rw (← e) (omega arith)
+-- the last element of a variable without records ends the variable
+pub end_if_any-fixed : (header : Header) (var : NcVar) → HasLengths header var → is_record_var header var ≡ false
+    → end_if_any header var ≡ Some (var.begin + vsize header var)
+unfolding vsize
+end_if_any-fixed header var all is =
+    let last = last_part (size_of var.kind) _ _ (rank_in-last (fixed_shape header var) all) in
+    ap (end_over header var) (shape_of-fixed header var is)
+    ∙ some_end (product (fixed_shape header var)) _ (product-pos (fixed_shape header var) all)
+    ∙ ap Some (let at = place_of-fixed header var (map (λ n. n - 1) (fixed_shape header var)) is in omega arith)
 
--- the last element of a variable without records ends the slab
-pub end_in-fixed : (records record_size : ℕ) (var : VarPlaces) → HasLengths var → var.has_records ≡ false → end_in records record_size var ≡ Some (var.begin + slab_in var)
-end_in-fixed records record_size var all is =
-    let slab = last_slab (size_of var.kind) _ _ (rank_in-last var.fixed all) in
-    end_in-with records record_size var false is ∙ some_unless_none (product var.fixed) _ (product-pos var.fixed all) ∙ ap Some (omega arith)
-
--- a variable has no element where there are no records
-pub end_in-none : (records record_size : ℕ) (var : VarPlaces) → var.has_records ≡ true → records ≡ 0 → end_in records record_size var ≡ None
+-- a record variable has no element where there are no records
+pub end_if_any-none : (header : Header) (var : NcVar) → is_record_var header var ≡ true → header.numrecs ≡ 0 → end_if_any header var ≡ None
 unfolding product
-end_in-none records record_size var is none =
-    end_in-with records record_size var true is ∙ ap (λ n. end_with true n record_size var) none ∙ none_where_none (0 * product var.fixed) _ (omega arith)
+end_if_any-none header var is none =
+    ap (end_over header var) (shape_of-record header var is)
+    ∙ no_end (header.numrecs * product (fixed_shape header var)) _ (rw none (omega arith))
 
--- the last element of a variable with records ends the slab of the last record
-pub end_in-records : (records record_size : ℕ) (var : VarPlaces) → HasLengths var → var.has_records ≡ true → 0 < records → end_in records record_size var ≡ Some (var.begin + (records - 1) * record_size + slab_in var)
-unfolding product
-end_in-records records record_size var all is some =
-    let slab = last_slab (size_of var.kind) _ _ (rank_in-last var.fixed all) in
-    let whole : records ≤ records * product var.fixed = le-mul_of_pos_right records (product-pos var.fixed all) in
-    end_in-with records record_size var true is ∙ some_unless_none (records * product var.fixed) _ (omega arith) ∙ ap Some (omega arith)
+-- the last element of a record variable ends its part of the last record
+pub end_if_any-record : (header : Header) (var : NcVar) → HasLengths header var → is_record_var header var ≡ true → 0 < header.numrecs
+    → end_if_any header var ≡ Some (var.begin + (header.numrecs - 1) * record_size header + vsize header var)
+unfolding product vsize
+end_if_any-record header var all is some =
+    let last = last_part (size_of var.kind) _ _ (rank_in-last (fixed_shape header var) all) in
+    let whole : header.numrecs ≤ header.numrecs * product (fixed_shape header var) = le-mul_of_pos_right header.numrecs (product-pos (fixed_shape header var) all) in
+    ap (end_over header var) (shape_of-record header var is)
+    ∙ some_end (header.numrecs * product (fixed_shape header var)) _ (omega arith)
+    ∙ ap Some (let at = place_of-record header var (map (λ n. n - 1) (header.numrecs ∷ fixed_shape header var)) is in omega arith)
 
-pub ruleset ends = (end_in-fixed, end_in-none, end_in-records)
+pub ruleset ends = (end_if_any-fixed, end_if_any-none, end_if_any-record)

@@ -2,8 +2,8 @@ pub mod ApartLaws
 pub mod EndLaws
 pub mod EndLemmas
 pub mod ExampleLemmas
-pub mod FaultLemmas
 pub mod HeaderLemmas
+pub mod LayingLemmas
 pub mod MeaningLemmas
 pub mod OrderLemmas
 pub mod PlaceLemmas

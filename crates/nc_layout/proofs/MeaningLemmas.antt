@@ -8,11 +8,11 @@ use Rattle.fm_base.specs.declared.fault.LayoutFault.{LayoutFault}
 use Rattle.fm_base.specs.declared.fault.LayoutFault.TheVariants.{TooLarge, DataOutside}
 use Rattle.fm_base.specs.declared.header.Header.{Header}
 use Rattle.fm_base.specs.declared.header.NcVar.{NcVar}
-use Rattle.fm_base.specs.Layout.{slab_size, has_elements, end_of, is_outside, or_else, first_too_large, first_outside, layout_fault}
+use Rattle.fm_base.specs.Layout.{vsize, has_elements, end_of, is_outside, or_else, first_too_large, first_outside, layout_fault}
 use Rattle.nc_layout.specs.Meaning.{IsSmall, EndsWithin, IsInside, Says}
 
 -- the first variable that fails a test, among those from a number on, and none before it
-record IsFirst (Good Bad : NcVar → Type 0) (fault_of : ℕ → NcVar → LayoutFault) (from : ℕ) (vars : List NcVar) (fault : LayoutFault) : Type 0 where
+pub record IsFirst (Good Bad : NcVar → Type 0) (fault_of : ℕ → NcVar → LayoutFault) (from : ℕ) (vars : List NcVar) (fault : LayoutFault) : Type 0 where
   place : ℕ
   var : NcVar
   there : slice_get vars place ≡ Some var
@@ -40,19 +40,19 @@ first_later Good Bad fault_of from var vars fault good first = record {
   before = All-cons Good var (take first.place vars) good first.before;
 }
 
-abbrev IsLarge : Header → NcVar → Type 0
-IsLarge header var = 2 ^ 40 < slab_size header var
+abbrev pub IsLarge : Header → NcVar → Type 0
+IsLarge header var = 2 ^ 40 < vsize header var
 
 -- where the first variable that is too large stands, or that there is none
-first_large : (header : Header) (from : ℕ) (vars : List NcVar) → MatchOption (first_too_large header from vars) (All (IsSmall header) vars) (IsFirst (IsSmall header) (IsLarge header) (λ n _. TooLarge n) from vars)
+pub first_large : (header : Header) (from : ℕ) (vars : List NcVar) → MatchOption (first_too_large header from vars) (All (IsSmall header) vars) (IsFirst (IsSmall header) (IsLarge header) (λ n _. TooLarge n) from vars)
 unfolding first_too_large
 first_large header from [] = All-nil (IsSmall header)
-first_large header from (var ∷ vars) = at (ltb (2 ^ 40) (slab_size header var)) refl (first_too_large header (from + 1) vars) (first_large header (from + 1) vars)
+first_large header from (var ∷ vars) = at (ltb (2 ^ 40) (vsize header var)) refl (first_too_large header (from + 1) vars) (first_large header (from + 1) vars)
   where
-    at : (b : Bool) → ltb (2 ^ 40) (slab_size header var) ≡ b → (o : Option LayoutFault) → MatchOption o (All (IsSmall header) vars) (IsFirst (IsSmall header) (IsLarge header) (λ n _. TooLarge n) (from + 1) vars) → MatchOption (cond b (Some (TooLarge from)) o) (All (IsSmall header) (var ∷ vars)) (IsFirst (IsSmall header) (IsLarge header) (λ n _. TooLarge n) from (var ∷ vars))
-    at true is o more = first_here _ _ _ from var vars _ (ltb-true (2 ^ 40) (slab_size header var) is) refl
-    at false is None more = All-cons (IsSmall header) var vars (ltb-false (2 ^ 40) (slab_size header var) is) more
-    at false is (Some fault) more = first_later _ _ _ from var vars fault (ltb-false (2 ^ 40) (slab_size header var) is) more
+    at : (b : Bool) → ltb (2 ^ 40) (vsize header var) ≡ b → (o : Option LayoutFault) → MatchOption o (All (IsSmall header) vars) (IsFirst (IsSmall header) (IsLarge header) (λ n _. TooLarge n) (from + 1) vars) → MatchOption (cond b (Some (TooLarge from)) o) (All (IsSmall header) (var ∷ vars)) (IsFirst (IsSmall header) (IsLarge header) (λ n _. TooLarge n) from (var ∷ vars))
+    at true is o more = first_here _ _ _ from var vars _ (ltb-true (2 ^ 40) (vsize header var) is) refl
+    at false is None more = All-cons (IsSmall header) var vars (ltb-false (2 ^ 40) (vsize header var) is) more
+    at false is (Some fault) more = first_later _ _ _ from var vars fault (ltb-false (2 ^ 40) (vsize header var) is) more
 
 record IsPast (header : Header) (len : ℕ) (var : NcVar) : Type 0 where
   some : has_elements header var ≡ true

@@ -36,7 +36,7 @@ fn a_file_that_was_read_is_laid_out(rt: HostRuntime) -> Result<(), TestFail> {
     let alloc = rt.alloc();
     let bytes = sample(alloc)?;
     let header = thin_header(alloc, bytes.as_slice())?.ok_or("thin")?;
-    let layout = lay_out(alloc, &header, 352)?;
+    let layout = lay_out(alloc, header, 352)?;
     assert_eq!(rt; layout.recsize(), 20);
     assert!(rt; header.vars.len() == 4);
     assert_eq!(rt; layout.slab_count(3), 3);
