@@ -17,3 +17,4 @@ pub mod RunLemmas
 pub mod SlotLemmas
 pub mod TextLemmas
 pub mod TimeLemmas
+mod WithinLemmas

@@ -1,26 +1,33 @@
 -- What is known of a prototype.
-use Rattle.std.proofs.Common.{◌≡◌, ◌≢◌, ℕ, ◌<◌, Bool, true, false, not, ◌&&◌, ◌||◌, List, [], ◌∷◌, ◌++◌, drop, map, Option, Some, None, Ok, refl, sym, ap, subst, ◌∙◌, inl, inr, arith}
-use Rattle.std.specs.Prelude.{All, IsTrue, slice_get, slice_index, ◌==◌}
+use Rattle.std.proofs.Common.{◌≡◌, ◌≢◌, ℕ, ◌<◌, ◌*◌, Bool, true, false, not, ◌&&◌, ◌||◌, List, [], ◌∷◌, ◌++◌, drop, map, Option, Some, None, Ok, cond, length, refl, sym, ap, ap₂, subst, ◌∙◌, inl, inr, arith}
+use Rattle.std.specs.Prelude.{All, IsTrue, filter, slice_get, slice_index, ◌==◌}
+use Rattle.std.specs.List.{AllByRecursion, IsDistinct}
 use Rattle.std.specs.Option.{option_map, option_map_or}
 use Rattle.std.specs.Str.{bytes_eq}
-use Rattle.std.proofs.lemmas.Bool.{and_cases, and_parts, both_ways, eq-eqb, eqb-false, false≢true, not-false, or_parts}
+use Rattle.std.proofs.lemmas.Bool.{and_cases, and_parts, both_ways, eq-eqb, eqb-false, false≢true, not-false, not-true, or_parts}
+use Rattle.std.proofs.lemmas.List.{length-map}
 use Rattle.std.proofs.lemmas.Option.{slice_get-map}
 use Rattle.std.proofs.lemmas.Slice.Eq.{bytes_eq-Decides}
 use Rattle.fm_base.specs.declared.header.Dim.{Dim}
 use Rattle.fm_base.specs.declared.header.Header.{Header as FileHeader}
 use Rattle.fm_base.specs.declared.header.NcVar.{NcVar}
-use Rattle.fm_base.specs.Layout.{size_in}
+use Rattle.fm_base.specs.Kind.{size_of}
+use Rattle.fm_base.specs.Layout.{product, size_at, size_in}
+use Rattle.fm_base.specs.Spelling.{AreDistinct}
 use Rattle.fm_model.specs.declared.proto.Proto.{Proto}
 use Rattle.fm_model.specs.declared.proto.ProtoFault.{ProtoFault}
 use Rattle.fm_model.specs.declared.proto.ProtoFault.TheVariants.{NoTimeAxis, TimeNotFirst, BadProtoName, NameTaken, EmptyDimension}
 use Rattle.fm_model.specs.declared.proto.ProtoVar.{ProtoVar}
 use Rattle.fm_model.specs.declared.site.Site.{Site}
 use Rattle.fm_model.specs.Attribute.{is_char}
-use Rattle.fm_model.specs.Prototype.{proto_header, proto_axis, time_stands_first, is_plain_name, names_are_plain, kept_vars, run_name, offset_name, names_are_free, dims_have_lengths, proto_var, with_length, proto_with, proto_of, LiesFirst, HasFreeName, IsSound}
+use Rattle.fm_model.specs.Prototype.{proto_header, proto_axis, time_stands_first, is_plain_name, names_are_plain, kept_vars, run_name, offset_name, names_are_free, dims_have_lengths, proto_var, with_length, proto_with, proto_of, lengths_of, LiesFirst, HasFreeName, HasElements, HasDims, IsSound}
 use Rattle.fm_model.specs.Site.{IsPrototype}
 use Rattle.fm_model.specs.Variable.{is_named, is_coordinate, is_axis, axis_of, dim_of_axis, lies_along, stands_first_alone}
+use Rattle.fm_base.proofs.EndLaws.{EndsWithin, ends_within, length-elements_of}
+use Rattle.fm_base.proofs.ReadFacts.{IsNamed-from_read}
+use Rattle.fm_model.proofs.HeaderLemmas.{proto_has_data}
 use Rattle.fm_base.proofs.ChainLemmas.{step_ok, check_ok, ok_or_ok, same_Ok}
-use Rattle.fm_model.proofs.Members.{In, Each-in, Each-from_in, All-from_each, Any-from_in, In-append_left, In-append_right, In-filter, in_filter, In-map, in_map}
+use Rattle.fm_model.proofs.Members.{In, Each-in, Each-from_in, All-from_each, each_from_All, Any-from_in, In-append_left, In-append_right, In-filter, in_filter, In-map, in_map}
 use Rattle.fm_model.proofs.FindLemmas.{in_find, each_passes}
 
 -- the steps by which a prototype was taken
@@ -67,6 +74,7 @@ site-proto_of bytes site proto e = let p = IsProto-proto_of bytes site proto e i
 record AxisDim (header : FileHeader) (axis : NcVar) : Type 0 where
   named : IsTrue (is_named header.dims axis.name (dim_of_axis axis))
   dims_are : axis.dims ≡ dim_of_axis axis ∷ []
+  number : is_char axis.kind ≡ false
 
 AxisDim-is_axis : (header : FileHeader) (axis : NcVar) → is_axis header axis ≡ true → AxisDim header axis
 unfolding is_axis is_coordinate
@@ -77,6 +85,7 @@ AxisDim-is_axis header axis e = by_dims axis.dims refl (and_parts _ _ e).0
     by_dims (id ∷ []) is e = record {
       named = subst (λ (ids : List ℕ). IsTrue (is_named header.dims axis.name (slice_index ids 0))) (sym is) (and_parts (is_named header.dims axis.name id) (not (is_char axis.kind)) e).0;
       dims_are = is ∙ ap (λ (ids : List ℕ). slice_index ids 0 ∷ []) (sym is);
+      number = not-true (is_char axis.kind) (and_parts (is_named header.dims axis.name id) (not (is_char axis.kind)) e).1;
     }
     by_dims (id ∷ other ∷ ids) is e = absurd (false≢true e)
 
@@ -146,6 +155,74 @@ module _ (bytes : List ℕ) (site : Site) (header : FileHeader) (axis : NcVar) w
 differs : (name other : List ℕ) → bytes_eq name other ≡ false → name ≢ other
 differs name other e same = both_ways (bytes_eq name other) e ((bytes_eq-Decides name other).1 same)
 
+-- lengths change no name
+dim_names : (header : FileHeader) (dims : List Dim) → map (λ (d : Dim). d.name) (map (with_length header) dims) ≡ map (λ (d : Dim). d.name) dims
+dim_names header [] = refl
+dim_names header (dim ∷ dims) = ap (λ l. dim.name ∷ l) (dim_names header dims)
+
+var_names : (bytes : List ℕ) (header : FileHeader) (axis : NcVar) (vars : List NcVar)
+    → map (λ (v : ProtoVar). v.name) (map (proto_var bytes header axis) vars) ≡ map (λ (v : NcVar). v.name) vars
+unfolding proto_var
+var_names bytes header axis [] = refl
+var_names bytes header axis (var ∷ vars) = ap (λ l. var.name ∷ l) (var_names bytes header axis vars)
+
+-- names of variables that are kept differ where all do
+all_kept : (P : List ℕ → Type 0) (keep : NcVar → Bool) (vars : List NcVar) → AllByRecursion P (map (λ (v : NcVar). v.name) vars)
+    → AllByRecursion P (map (λ (v : NcVar). v.name) (filter keep vars))
+all_kept P keep [] all = tt
+all_kept P keep (var ∷ vars) all = by_test (keep var) (all_kept P keep vars all.1)
+  where
+    by_test : (b : Bool) → AllByRecursion P (map (λ (v : NcVar). v.name) (filter keep vars))
+        → AllByRecursion P (map (λ (v : NcVar). v.name) (cond b (var ∷ filter keep vars) (filter keep vars)))
+    by_test true more = (all.0, more)
+    by_test false more = more
+
+distinct_kept : (keep : NcVar → Bool) (vars : List NcVar) → AreDistinct (map (λ (v : NcVar). v.name) vars)
+    → AreDistinct (map (λ (v : NcVar). v.name) (filter keep vars))
+unfolding IsDistinct
+distinct_kept keep [] apart = tt
+distinct_kept keep (var ∷ vars) apart = by_test (keep var) (all_kept _ keep vars apart.0) (distinct_kept keep vars apart.1)
+  where
+    by_test : (b : Bool) → AllByRecursion (λ n. bytes_eq var.name n ≡ false) (map (λ (v : NcVar). v.name) (filter keep vars))
+        → AreDistinct (map (λ (v : NcVar). v.name) (filter keep vars))
+        → AreDistinct (map (λ (v : NcVar). v.name) (cond b (var ∷ filter keep vars) (filter keep vars)))
+    by_test true all more = (all, more)
+    by_test false all more = more
+
+kept_names : (header : FileHeader) (axis : NcVar) → AreDistinct (map (λ (v : NcVar). v.name) header.vars)
+    → AreDistinct (map (λ (v : NcVar). v.name) (kept_vars header axis))
+unfolding kept_vars
+kept_names header axis apart = distinct_kept _ header.vars apart
+
+each_by_recursion : {A : Type 0} (P : A → Type 0) (items : List A) → AllByRecursion P items → (item : A) → In item items → P item
+each_by_recursion P [] all item h = absurd h
+each_by_recursion P (first ∷ items) all item (inl same) = subst P same all.0
+each_by_recursion P (first ∷ items) all item (inr later) = each_by_recursion P items all.1 item later
+
+dims_in : (header : FileHeader) (dims : List Dim) → length dims ≡ length header.dims → (var : NcVar) → AllByRecursion (λ id. id < length header.dims) var.dims
+    → All (λ id. id < length dims) var.dims
+dims_in header dims same var all = All-from_each (λ id. id < length dims) var.dims (Each-from_in _ var.dims (λ id h.
+    subst (λ n. id < n) (sym same) (each_by_recursion (λ i. i < length header.dims) var.dims all id h)))
+
+-- the lengths that a prototype keeps are those of the header
+lengths_kept : (bytes : List ℕ) (site : Site) (header : FileHeader) (axis : NcVar) (ids : List ℕ)
+    → lengths_of (proto_with bytes site header axis) ids ≡ map (size_at header) ids
+unfolding proto_with
+lengths_kept bytes site header axis [] = refl
+lengths_kept bytes site header axis (id ∷ ids) = ap₂ (λ (n : ℕ) (l : List ℕ). n ∷ l)
+    (ap (λ (o : Option Dim). option_map_or (λ (dim : Dim). dim.size) o 0) (slice_get-map (with_length header) header.dims id) ∙ same (slice_get header.dims id))
+    (lengths_kept bytes site header axis ids)
+  where
+    same : (o : Option Dim) → option_map_or (λ (dim : Dim). dim.size) (option_map (with_length header) o) 0 ≡ option_map_or (size_in header) o 0
+    same None = refl
+    same (Some dim) = refl
+
+has_elements : (bytes : List ℕ) (site : Site) (header : FileHeader) (axis : NcVar) (var : NcVar) → EndsWithin header (length bytes) var
+    → HasElements (proto_with bytes site header axis) (proto_var bytes header axis var)
+unfolding proto_var
+has_elements bytes site header axis var ends untimed = rw untimed (length-elements_of bytes header var ends
+    ∙ ap (λ (l : List ℕ). size_of var.kind * product l) (sym (lengths_kept bytes site header axis var.dims)))
+
 sound : (bytes : List ℕ) (site : Site) (proto : Proto) (p : IsProto bytes site proto) → IsSound (proto_with bytes site p.header p.axis)
 unfolding proto_with proto_var axis_of lies_along
 sound bytes site proto p =
@@ -153,16 +230,26 @@ sound bytes site proto p =
     let axis = p.axis in
     let dim : AxisDim header axis = AxisDim-is_axis header axis (in_find (is_axis header) header.vars axis p.axis_is).1 in
     let axis_var : ProtoVar = proto_var bytes header axis axis in
+    let has = proto_has_data bytes header p.header_is in
+    let read = IsNamed-from_read bytes header has.0 in
     let along : axis_var.timed ≡ true = subst (λ (ids : List ℕ). lies_along (dim_of_axis axis) ids ≡ true) (sym dim.dims_are) (rw (eq-eqb (dim_of_axis axis) (dim_of_axis axis) refl) refl) in
     record {
       id = dim_of_axis axis;
       named = is_named-with_length header header.dims axis.name (dim_of_axis axis) ∙ dim.named;
-      axis = Any-from_in _ axis_var _ (In-map (proto_var bytes header axis) axis (kept_vars header axis) (axis_is_shown bytes site header axis p.axis_is)) (record { name_is = refl; dims_are = dim.dims_are; timed = along });
+      axis = Any-from_in _ axis_var _ (In-map (proto_var bytes header axis) axis (kept_vars header axis) (axis_is_shown bytes site header axis p.axis_is)) (record { name_is = refl; dims_are = dim.dims_are; timed = along; number = dim.number });
       timed = all_vars bytes site header axis (LiesFirst (dim_of_axis axis)) (lies_first bytes site header axis p.time);
       plain_dims = all_dims bytes site header axis (λ (d : Dim). IsTrue (is_plain_name d.name)) (λ d h. plain_name bytes site header axis p.plain d.name (In-append_left d.name _ _ (In-map (λ (x : Dim). x.name) d header.dims h)));
       plain_vars = all_vars bytes site header axis (λ (v : ProtoVar). IsTrue (is_plain_name v.name)) (λ v h. plain_name bytes site header axis p.plain v.name (In-append_right v.name (map (λ (x : Dim). x.name) header.dims) _ (In-map (λ (x : NcVar). x.name) v header.vars (kept_is_held bytes site header axis v h))));
       free = all_vars bytes site header axis (HasFreeName (proto_with bytes site header axis)) (λ v h. let free = free_name bytes site header axis p.free v h in record { run = differs v.name (run_name axis.name) free.0; offset = differs v.name (offset_name axis.name) free.1 });
       lengths = all_dims bytes site header axis (λ (d : Dim). d.name ≢ axis.name → 0 < d.size) (has_length bytes site header axis p.lengths);
+      dim_names = rw (dim_names header header.dims) read.dims;
+      var_names = rw (var_names bytes header axis (kept_vars header axis)) (kept_names header axis read.vars);
+      in_range = all_vars bytes site header axis (HasDims (proto_with bytes site header axis)) (λ v h.
+          dims_in header (map (with_length header) header.dims) (length-map header.dims (with_length header)) v
+          (each_by_recursion (λ (x : NcVar). AllByRecursion (λ id. id < length header.dims) x.dims) header.vars read.in_range v (kept_is_held bytes site header axis v h)));
+      fixed = all_vars bytes site header axis (HasElements (proto_with bytes site header axis)) (λ v h.
+          has_elements bytes site header axis v (Each-in (EndsWithin header (length bytes)) v header.vars
+          (each_from_All (EndsWithin header (length bytes)) header.vars (ends_within header (length bytes) has.1)) (kept_is_held bytes site header axis v h)));
     }
 
 pub IsSound-proto_of : (bytes : List ℕ) (site : Site) (proto : Proto) → proto_of bytes site ≡ Ok proto → IsSound proto

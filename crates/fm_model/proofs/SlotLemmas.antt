@@ -18,12 +18,12 @@ use Rattle.fm_model.specs.declared.proto.ProtoVar.{ProtoVar}
 use Rattle.fm_base.specs.Chain.{◌>>=◌, ◌>>◌, refuse_if}
 use Rattle.fm_model.specs.Load.{Fits}
 use Rattle.fm_model.specs.LoadAxis.{file_header, file_axis, file_var}
-use Rattle.fm_model.specs.LoadVars.{lengths_of, is_like_timed, slot_in, file_slot, same_grid, is_compared, slots_after, steps_from, file_slots, slotted_vars, IsSlotOf, IsSameGrid}
+use Rattle.fm_model.specs.LoadVars.{lengths_of, is_like_timed, slot_in, file_slot, same_grid, is_compared, slots_after, steps_from, file_slots, slotted_vars, IsSlotOf}
 use Rattle.fm_model.specs.Variable.{are_same, dim_of_axis, is_coordinate, is_same_kind, stands_first_alone}
 use Rattle.fm_base.proofs.ChainLemmas.{step_ok, refuse_if_ok, check_ok, same_Ok}
 use Rattle.fm_model.proofs.LoadLemmas.{IsTaken, IsTaken-load_of}
 use Rattle.fm_model.proofs.Members.{Each, Each-in, Each-from_in, All-from_each, In-filter}
-use Rattle.fm_model.proofs.GridLemmas.{IsSameGrid-same_grid, same_kind}
+use Rattle.fm_model.proofs.GridLemmas.{IsGridBegun, IsGridBegun-same_grid, same_kind}
 
 -- a slot that was found is that of its variable
 IsSlotOf-file_slot : (proto : Proto) (header : FileHeader) (axis : NcVar) (wanted : ProtoVar) (slot : Slot) → file_slot proto header axis wanted ≡ Ok slot → IsSlotOf proto header axis wanted slot
@@ -53,7 +53,7 @@ length-AllZip R (x ∷ as') (y ∷ bs) zip = ap suc (length-AllZip R as' bs zip.
 -- what one more variable adds
 pub record IsNextVar (proto : Proto) (bytes : List ℕ) (header : FileHeader) (axis : NcVar) (found : List Slot) (wanted : ProtoVar) (next : List Slot) : Type 0 where
   pub slot : wanted.timed ≡ true → (s : Slot) × IsSlotOf proto header axis wanted s × (next ≡ found ++ s ∷ [])
-  pub grid : wanted.timed ≡ false → IsSameGrid proto bytes header wanted × (next ≡ found)
+  pub grid : wanted.timed ≡ false → IsGridBegun proto bytes header wanted × (next ≡ found)
 
 IsNextVar-slots_after : (proto : Proto) (bytes : List ℕ) (header : FileHeader) (axis : NcVar) (found : List Slot) (wanted : ProtoVar) (next : List Slot) → slots_after proto bytes header axis found wanted ≡ Ok next
     → IsNextVar proto bytes header axis found wanted next
@@ -72,7 +72,7 @@ IsNextVar-slots_after proto bytes header axis found wanted next e = by_kind want
         let checked = check_ok (same_grid proto bytes header wanted) (Ok found) next e in
         record {
           slot = λ yes'. absurd (false≢true (sym is ∙ yes'));
-          grid = λ _. (IsSameGrid-same_grid proto bytes header wanted checked.0, sym (same_Ok {E = LoadFault} found next checked.1));
+          grid = λ _. (IsGridBegun-same_grid proto bytes header wanted checked.0, sym (same_Ok {E = LoadFault} found next checked.1));
         }
 
 -- one step and the others
@@ -110,9 +110,9 @@ slots_zip proto bytes header axis done (wanted ∷ wanteds) found all zip e =
     by_kind false is next var e with_slot without_slot =
         without_slot (subst (AllZip (IsSlotOf proto header axis) done) (sym (var.grid is).1) zip) e
 
--- each variable that doesn't lie along the axis is on the same grid
+-- each variable that doesn't lie along the axis has elements that begin with the prototype's
 grids : (proto : Proto) (bytes : List ℕ) (header : FileHeader) (axis : NcVar) (wanteds : List ProtoVar) (found all : List Slot) → steps_from (slots_after proto bytes header axis) wanteds found ≡ Ok all
-    → Each (λ (wanted : ProtoVar). wanted.timed ≡ false → IsSameGrid proto bytes header wanted) wanteds
+    → Each (λ (wanted : ProtoVar). wanted.timed ≡ false → IsGridBegun proto bytes header wanted) wanteds
 grids proto bytes header axis [] found all e = tt
 grids proto bytes header axis (wanted ∷ wanteds) found all e =
     let next = steps_more (slots_after proto bytes header axis) wanted wanteds found all e in
@@ -173,15 +173,15 @@ compared proto wanted other coordinate = by_name (bytes_eq wanted.name proto.axi
     by_name true is = absurd (other ((bytes_eq-Decides wanted.name proto.axis).0 is))
     by_name false is = rw coordinate (or_true wanted.timed)
 
-pub same_grids : (file : Loaded) (proto : Proto) (header : FileHeader) → Fits file proto → file_header file.content ≡ Ok header
-    → All (λ (wanted : ProtoVar). wanted.name ≢ proto.axis → wanted.timed ≡ false → IsTrue (is_coordinate proto.dims wanted.name wanted.kind wanted.dims) → IsSameGrid proto file.content header wanted) proto.vars
+pub begun_grids : (file : Loaded) (proto : Proto) (header : FileHeader) → Fits file proto → file_header file.content ≡ Ok header
+    → All (λ (wanted : ProtoVar). wanted.name ≢ proto.axis → wanted.timed ≡ false → IsTrue (is_coordinate proto.dims wanted.name wanted.kind wanted.dims) → IsGridBegun proto file.content header wanted) proto.vars
 unfolding file_slots
-same_grids file proto header fits e =
+begun_grids file proto header fits e =
     let t = IsTaken-load_of file.name file.content proto file fits in
     let h : t.header ≡ header = same_Ok {E = LoadFault} t.header header (sym t.header_is ∙ e) in
     let each = grids proto file.content t.header t.axis (filter (is_compared proto) proto.vars) [] file.slots t.slots_is in
-    let Same : ProtoVar → Type 0 = λ (w : ProtoVar). w.name ≢ proto.axis → w.timed ≡ false → IsTrue (is_coordinate proto.dims w.name w.kind w.dims) → IsSameGrid proto file.content header w in
+    let Same : ProtoVar → Type 0 = λ (w : ProtoVar). w.name ≢ proto.axis → w.timed ≡ false → IsTrue (is_coordinate proto.dims w.name w.kind w.dims) → IsGridBegun proto file.content header w in
     All-from_each Same proto.vars (Each-from_in Same proto.vars (λ wanted held other untimed coordinate.
-    subst (λ x. IsSameGrid proto file.content x wanted) h
-    (Each-in (λ (w : ProtoVar). w.timed ≡ false → IsSameGrid proto file.content t.header w) wanted (filter (is_compared proto) proto.vars) each
+    subst (λ x. IsGridBegun proto file.content x wanted) h
+    (Each-in (λ (w : ProtoVar). w.timed ≡ false → IsGridBegun proto file.content t.header w) wanted (filter (is_compared proto) proto.vars) each
     (In-filter (is_compared proto) wanted proto.vars held (compared proto wanted other coordinate)) untimed)))

@@ -1,9 +1,7 @@
 -- The variables of a file beside those of the prototype, and where their data lies.
-use Rattle.std.specs.Prelude.{◌≡◌, IsTrue, take, ℕ, ◌*◌, List, [], ◌∷◌, ◌++◌, length, drop, map, filter, slice_get, slice_index, Bool, not, ◌&&◌, ◌||◌, nat_eq, nat_lt, if◌then◌else◌, Result, Ok}
+use Rattle.std.specs.Prelude.{◌≡◌, ◌<◌, ◌≤◌, IsTrue, ℕ, ◌+◌, ◌*◌, List, [], ◌∷◌, ◌++◌, length, drop, map, filter, slice_index, Bool, not, ◌&&◌, ◌||◌, nat_eq, nat_lt, if◌then◌else◌, Result, Ok}
 use Rattle.std.specs.List.{common_prefix_len}
-use Rattle.std.specs.Option.{option_map_or}
 use Rattle.std.specs.Str.{bytes_eq}
-use Rattle.fm_base.specs.declared.header.Dim.{Dim}
 use Rattle.fm_base.specs.declared.header.Header.{Header as FileHeader}
 use Rattle.fm_base.specs.declared.header.NcVar.{NcVar}
 use Rattle.fm_base.specs.Kind.{size_of}
@@ -17,10 +15,7 @@ use Rattle.fm_model.specs.declared.proto.ProtoVar.{ProtoVar}
 use Rattle.fm_base.specs.Chain.{Check, ◌>>=◌, ◌>>◌, refuse_if}
 use Rattle.fm_model.specs.Variable.{are_same, is_same_kind, is_coordinate, dim_of_axis, stands_first_alone}
 use Rattle.fm_model.specs.LoadAxis.{file_var}
-
--- the lengths of a prototype's dimensions of these numbers
-abbrev pub lengths_of : Proto → List ℕ → List ℕ
-lengths_of proto ids = map (λ id. option_map_or (λ (dim : Dim). dim.size) (slice_get proto.dims id) 0) ids
+pub use Rattle.fm_model.specs.Prototype.{lengths_of}
 
 -- whether a variable along the axis is like the prototype's: the same kind, the file's axis first, the same other lengths
 unfoldable pub is_like_timed : Proto → FileHeader → NcVar → ProtoVar → NcVar → Bool
@@ -86,11 +81,19 @@ pub record IsSlotOf (proto : Proto) (header : FileHeader) (axis : NcVar) (wanted
   pub lengths : drop 1 (shape_of header var) ≡ drop 1 (lengths_of proto wanted.dims)
   pub slot_is : slot ≡ slot_in header axis var
 
--- the file's variable of the name of a prototype's coordinate variable is of the same kind and length, and its elements
--- begin with the prototype's
+-- how many bytes a variable along the axis takes at one time
+abbrev pub bytes_per_time : Proto → ProtoVar → ℕ
+bytes_per_time proto wanted = size_of wanted.kind * product (drop 1 (lengths_of proto wanted.dims))
+
+-- what a slot says of a variable lies within a length, at each of n times
+abbrev pub LiesWithin : Proto → ℕ → ℕ → ProtoVar → Slot → Type 0
+LiesWithin proto n len wanted slot = (k : ℕ) → k < n → slot.begin + k * slot.step + bytes_per_time proto wanted ≤ len
+
+-- the file's variable of the name of a prototype's coordinate variable is of the same kind and length, and has the same
+-- elements
 pub record IsSameGrid (proto : Proto) (bytes : List ℕ) (header : FileHeader) (wanted : ProtoVar) : Type 0 where
   pub var : NcVar
   pub named : file_var header wanted.name ≡ Ok var
   pub kind_is : var.kind ≡ wanted.kind
   pub lengths : shape_of header var ≡ lengths_of proto wanted.dims
-  pub elements : take (length wanted.fixed) (elements_of bytes header var) ≡ wanted.fixed
+  pub elements : elements_of bytes header var ≡ wanted.fixed

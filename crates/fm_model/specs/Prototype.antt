@@ -1,13 +1,15 @@
 -- The prototype that some bytes are, or the first fault.
-use Rattle.std.specs.Prelude.{◌≡◌, ◌≢◌, ◌<◌, All, Any, IsTrue, true, false, ℕ, List, [], ◌∷◌, ◌++◌, codes, length, drop, map, filter, find, Bool, false, not, ◌&&◌, ◌||◌, ◌==◌, if◌then◌else◌, Result, Ok}
+use Rattle.std.specs.Prelude.{◌≡◌, ◌≢◌, ◌<◌, ◌*◌, All, Any, IsTrue, true, false, ℕ, List, [], ◌∷◌, ◌++◌, codes, length, slice_get, drop, map, filter, find, Bool, false, not, ◌&&◌, ◌||◌, ◌==◌, if◌then◌else◌, Result, Ok}
 use Rattle.std.specs.List.{list_all}
 use Rattle.std.specs.Option.{ok_or, option_map, option_map_or}
 use Rattle.std.specs.Str.{bytes_eq}
 use Rattle.fm_base.specs.declared.header.Dim.{Dim}
 use Rattle.fm_base.specs.declared.header.Header.{Header as FileHeader}
 use Rattle.fm_base.specs.declared.header.NcVar.{NcVar}
-use Rattle.fm_base.specs.Layout.{size_in, elements_of}
+use Rattle.fm_base.specs.Kind.{size_of}
+use Rattle.fm_base.specs.Layout.{size_in, product, elements_of}
 use Rattle.fm_base.specs.Name.{is_name_byte}
+use Rattle.fm_base.specs.Spelling.{AreDistinct}
 use Rattle.fm_base.specs.Sound.{FormatFault, OfHeader, OfLayout, sound_header}
 use Rattle.fm_model.specs.declared.proto.Proto.{Proto}
 use Rattle.fm_model.specs.declared.proto.ProtoFault.{ProtoFault}
@@ -97,6 +99,10 @@ proto_of bytes site = do
   dims_have_lengths header axis
   Ok (proto_with bytes site header axis)
 
+-- the lengths of a prototype's dimensions of these numbers
+abbrev pub lengths_of : Proto → List ℕ → List ℕ
+lengths_of proto ids = map (λ id. option_map_or (λ (dim : Dim). dim.size) (slice_get proto.dims id) 0) ids
+
 -- a variable of a prototype lies along the axis with that dimension first and only there, and has no fixed elements; or
 -- it has not that dimension
 abbrev pub LiesFirst : ℕ → ProtoVar → Type 0
@@ -107,15 +113,25 @@ pub record IsAxis (proto : Proto) (id : ℕ) (var : ProtoVar) : Type 0 where
   pub name_is : var.name ≡ proto.axis
   pub dims_are : var.dims ≡ id ∷ []
   pub timed : var.timed ≡ true
+  pub number : is_char var.kind ≡ false
 
 -- a variable has neither of the names under which the views show the run and the offset of each row
 pub record HasFreeName (proto : Proto) (var : ProtoVar) : Type 0 where
   pub run : var.name ≢ run_name proto.axis
   pub offset : var.name ≢ offset_name proto.axis
 
--- What a prototype keeps: its axis is among its variables, over the dimension of its name; a variable along the axis has
--- that dimension first and only there; names are plain, and those of the views are free; and all other dimensions have
--- a length.
+-- a variable without time has all its elements: as many bytes as its kind and its lengths say
+abbrev pub HasElements : Proto → ProtoVar → Type 0
+HasElements proto var = var.timed ≡ false → length var.fixed ≡ size_of var.kind * product (lengths_of proto var.dims)
+
+-- the dimensions of a variable are there
+abbrev pub HasDims : Proto → ProtoVar → Type 0
+HasDims proto var = All (λ id. id < length proto.dims) var.dims
+
+-- What a prototype keeps: its axis is among its variables, over the dimension of its name, and isn't of characters; a
+-- variable along the axis has that dimension first and only there, and any other has all its elements; names differ and
+-- are plain, and those of the views are free; the dimensions of variables are there, and all but the axis's have a
+-- length.
 pub record IsSound (proto : Proto) : Type 0 where
   pub id : ℕ
   pub named : IsTrue (is_named proto.dims proto.axis id)
@@ -125,3 +141,7 @@ pub record IsSound (proto : Proto) : Type 0 where
   pub plain_vars : All (λ (var : ProtoVar). IsTrue (is_plain_name var.name)) proto.vars
   pub free : All (HasFreeName proto) proto.vars
   pub lengths : All (λ (dim : Dim). dim.name ≢ proto.axis → 0 < dim.size) proto.dims
+  pub dim_names : AreDistinct (map (λ (dim : Dim). dim.name) proto.dims)
+  pub var_names : AreDistinct (map (λ (var : ProtoVar). var.name) proto.vars)
+  pub in_range : All (HasDims proto) proto.vars
+  pub fixed : All (HasElements proto) proto.vars

@@ -15,7 +15,8 @@ ghost use Rattle.fm_model.specs.Load.{load_of, Fits};
 ghost use Rattle.fm_model.specs.LoadAxis.{file_axis, file_header};
 ghost use Rattle.fm_model.specs.LoadTimes.{file_units, run_by_name, run_by_variable, time_at, IsInstant};
 ghost use Rattle.fm_model.specs.LoadVars.{slot_in, slotted_vars};
-ghost use Rattle.fm_model.specs.LoadVars.{IsSameGrid, IsSlotOf};
+ghost use Rattle.fm_model.specs.LoadVars.{IsSameGrid, IsSlotOf, LiesWithin};
+ghost use Rattle.fm_model.specs.Prototype.{IsSound};
 ghost use Rattle.fm_model.specs.Variable.{dim_of_axis, is_coordinate, reference_of, stands_first_alone};
 
 use crate::limit::MAX_TIMES;
@@ -78,10 +79,18 @@ pub fn a_fit_file_has_a_slot_for_each_variable()
         → AllZip (IsSlotOf proto header axis) (slotted_vars proto) file.slots }
 {}
 
+/// The data of each slot lies in the content, at each of the file's times.
+pub fn the_data_of_slots_lies_in_the_content()
+    ensures { (file : Loaded) (proto : Proto) → IsSound proto → Fits file proto
+        → AllZip (LiesWithin proto (length file.times) (length file.content))
+        (slotted_vars proto) file.slots }
+{}
+
 /// A file that fits lies on the prototype's grid: it has each coordinate variable but for the axis, with the same
 /// elements.
 pub fn a_fit_file_has_the_same_grid()
-    ensures { (file : Loaded) (proto : Proto) (header : FileHeader) → Fits file proto
+    ensures { (file : Loaded) (proto : Proto) (header : FileHeader) → IsSound proto
+        → Fits file proto
         → file_header file.content ≡ Ok header
         → All (λ (wanted : ProtoVar). wanted.name ≢ proto.axis → wanted.timed ≡ false
         → IsTrue (is_coordinate proto.dims wanted.name wanted.kind wanted.dims)
