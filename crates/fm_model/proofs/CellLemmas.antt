@@ -136,7 +136,7 @@ no_cell_both files run valid = (
 pub held-from_cell : (files : List Loaded) (run valid : ℤ) (file : Loaded) (place : ℕ) → IsCell files run valid file place → In file files
 held-from_cell files run valid file place c = subst (In file) (sym c.split) (In-append_right file c.before (file ∷ c.after) (inl refl))
 
--- a file of a run with a time gives the run a cell there
+-- a run has a cell where a file of it has the time
 pub cell-from_file : (files : List Loaded) (run valid : ℤ) (file : Loaded) → In file files → HasCell run valid file → IsSome (cell files run valid)
 cell-from_file files run valid file held has = by_cell (cell files run valid) refl
   where

@@ -21,7 +21,7 @@ use Rattle.fm_model.specs.LoadVars.{lengths_of, is_like_fixed, same_bytes, same_
 use Rattle.fm_model.specs.Variable.{are_same, is_same_kind}
 use Rattle.fm_base.proofs.ChainLemmas.{step_ok, refuse_if_ok, passed_if}
 
--- a kind is told by its number
+-- two kinds of one number are the same
 kind_of-code_of : (kind : Kind) → kind_of (code_of kind) ≡ Some kind
 kind_of-code_of Byte = refl
 kind_of-code_of Char = refl

@@ -14,6 +14,7 @@ pub mod RetractLemmas
 mod RisingLemmas
 pub mod RowLemmas
 pub mod RunLemmas
+mod SiteLemmas
 pub mod SlotLemmas
 pub mod TextLemmas
 pub mod TimeLemmas

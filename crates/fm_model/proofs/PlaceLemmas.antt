@@ -34,10 +34,10 @@ place_by_slot header axis var first others k index dims same = by_record (names_
         let along : names_record header.dims (dim_of_axis axis) ≡ false = ap (names_record header.dims) (sym same) ∙ is in
         rw (has, along, shape_is) (omega arith)
 
-pub slots_tell : (header : FileHeader) (axis var : NcVar) (k : ℕ) (index : List ℕ) → IsTrue (stands_first_alone (dim_of_axis axis) var.dims)
+pub place_of-slot : (header : FileHeader) (axis var : NcVar) (k : ℕ) (index : List ℕ) → IsTrue (stands_first_alone (dim_of_axis axis) var.dims)
     → place_of header var (k ∷ index) ≡ (slot_in header axis var).begin + k * (slot_in header axis var).step + size_of var.kind * rank_in (drop 1 (shape_of header var)) index
 unfolding stands_first_alone
-slots_tell header axis var k index alone = by_dims var.dims refl alone
+place_of-slot header axis var k index alone = by_dims var.dims refl alone
   where
     by_dims : (dims : List ℕ) → var.dims ≡ dims → IsTrue (stands_first_alone (dim_of_axis axis) dims)
         → place_of header var (k ∷ index) ≡ (slot_in header axis var).begin + k * (slot_in header axis var).step + size_of var.kind * rank_in (drop 1 (shape_of header var)) index

@@ -9,7 +9,7 @@ use Rattle.fm_model.specs.declared.row.ViewName.{ViewName}
 use Rattle.fm_model.specs.declared.row.ViewName.TheVariants.{Best, BestFrom, Run, Offset, Forecast}
 use Rattle.fm_model.specs.Cell.{runs_of, times_of, times_of_run, cell, best, HasCell, HasTimeFrom, IsBest}
 use Rattle.fm_model.specs.Rising.{Rises}
-use Rattle.fm_model.specs.Rows.{row_at, best_row, rows, instant_in, Shows, TellsFile}
+use Rattle.fm_model.specs.Rows.{row_at, best_row, rows, instant_in, Shows, HasHeldFile}
 use Rattle.fm_model.proofs.BestLemmas.{value-from_some, cell-from_Any, rises_runs_of, rises_times_of, rises_times_of_run, in_times_of_run, time_of_run_of_cell, best_file, best-least, in_times_of, In-times_of, run_of_cell, time_of_cell, IsBest-from_best, best-from_file}
 use Rattle.fm_model.proofs.CellLemmas.{IsCell-from_cell, held-from_cell, cell-from_file}
 use Rattle.fm_model.proofs.LastLemmas.{option_map-some}
@@ -45,11 +45,11 @@ IsBestRow-from_best_row files least valid row e = option_and_then_some {P = IsBe
     let found = IsRowAt-from_row_at files run valid row row_is in
     record { best_is = best_is ∙ ap Some (sym found.run_is); row_is = record { run_is = refl; valid_is = found.valid_is; cell_is = found.cell_is } })
 
--- what is made of a list that rises rises, where each item tells what it is made of
+-- rows made of rising instants rise, where the key of each row is the instant that it is made of
 rises_filter_map : (key : Row → ℤ) (make : ℤ → Option Row) (instants : List ℤ) → ((t : ℤ) (row : Row) → make t ≡ Some row → key row ≡ t) → EachPair Above instants
     → EachPair Above (map key (filter_map make instants))
-rises_filter_map key make [] tells rises = tt
-rises_filter_map key make (t ∷ more) tells rises = by_first (make t) refl (rises_filter_map key make more tells rises.1)
+rises_filter_map key make [] keyed rises = tt
+rises_filter_map key make (t ∷ more) keyed rises = by_first (make t) refl (rises_filter_map key make more keyed rises.1)
   where
     by_first : (o : Option Row) → make t ≡ o → EachPair Above (map key (filter_map make more)) → EachPair Above (map key (cons_option o (filter_map make more)))
     by_first None is others = others
@@ -57,8 +57,8 @@ rises_filter_map key make (t ∷ more) tells rises = by_first (make t) refl (ris
       Each-from_in _ _ (λ x h.
           let mapped = in_map key x (filter_map make more) h in
           let made = in_filter_map make mapped.0 more mapped.1 in
-          let same : x ≡ made.0 = sym mapped.2 ∙ tells made.0 mapped.0 made.2 in
-          subst (λ a. Above a x) (sym (tells t row is)) (subst (Above t) (sym same) (Each-in (Above t) made.0 more rises.0 made.1))),
+          let same : x ≡ made.0 = sym mapped.2 ∙ keyed made.0 mapped.0 made.2 in
+          subst (λ a. Above a x) (sym (keyed t row is)) (subst (Above t) (sym same) (Each-in (Above t) made.0 more rises.0 made.1))),
       others,
     )
 
@@ -135,14 +135,14 @@ Contains-rows files view row = (
   λ shown. Contains-from_in row (rows files view) (in_from_shown files view row shown),
 )
 
--- where each item makes one that tells it, those that are made tell the list
+-- where each instant makes a row whose key it is, the keys of the rows are the instants
 map-filter_map : (key : Row → ℤ) (make : ℤ → Option Row) (instants : List ℤ) → Each (λ t. IsSome (make t)) instants → ((t : ℤ) (row : Row) → make t ≡ Some row → key row ≡ t)
     → map key (filter_map make instants) ≡ instants
-map-filter_map key make [] each tells = refl
-map-filter_map key make (t ∷ more) each tells =
+map-filter_map key make [] each keyed = refl
+map-filter_map key make (t ∷ more) each keyed =
     let made = value-from_some (make t) each.0 in
-    let first : key made.0 ≡ t = tells t made.0 made.1 in
-    let others : map key (filter_map make more) ≡ more = map-filter_map key make more each.1 tells in
+    let first : key made.0 ≡ t = keyed t made.0 made.1 in
+    let others : map key (filter_map make more) ≡ more = map-filter_map key make more each.1 keyed in
     rw made.1 (cc (first, others))
 
 -- a best run has a row
@@ -178,8 +178,8 @@ Contains-best files valid = (there, back)
         let found = in_from_Any (λ (file : Loaded). Contains file.times valid) files any in
         subst (λ l. Contains l valid) (sym (map-valid-best files)) (Contains-from_in valid (times_of files) (In-times_of files found.0 valid found.1 (in_from_Contains valid found.0.times found.2)))
 
-pub TellsFile-rows : (files : List Loaded) (view : ViewName) (row : Row) → Contains (rows files view) row → TellsFile files row
-TellsFile-rows files view row c =
+pub HasHeldFile-rows : (files : List Loaded) (view : ViewName) (row : Row) → Contains (rows files view) row → HasHeldFile files row
+HasHeldFile-rows files view row c =
     let shown = (Contains-rows files view row).0 c in
     let is = IsCell-from_cell files row.run row.valid row.file row.place shown.0 in
     record { held = Contains-from_in row.file files (held-from_cell files row.run row.valid row.file row.place is); run_is = is.run_is; time_is = is.time_is }

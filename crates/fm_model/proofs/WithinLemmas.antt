@@ -33,7 +33,7 @@ use Rattle.fm_model.proofs.GridLemmas.{IsGridBegun}
 use Rattle.fm_model.proofs.HeaderLemmas.{file_has_data}
 use Rattle.fm_model.proofs.LoadLemmas.{IsTaken, IsTaken-load_of}
 use Rattle.fm_model.proofs.Members.{In, Each, Each-in, Each-from_in, All-from_each, each_from_All, in_filter}
-use Rattle.fm_model.proofs.PlaceLemmas.{slots_tell}
+use Rattle.fm_model.proofs.PlaceLemmas.{place_of-slot}
 use Rattle.fm_model.proofs.SlotLemmas.{begun_grids, slots_each}
 use Rattle.fm_model.proofs.TimeLemmas.{times_count}
 
@@ -70,11 +70,11 @@ unfolding product
 within_slot bytes header axis var first others k ends dims alone below some =
     let shape : shape_of header var ≡ size_at header first ∷ map (size_at header) others = ap (map (size_at header)) dims in
     let elements : 0 < product (shape_of header var) =
-      subst (λ (l : List ℕ). 0 < product l) (sym shape) (positive_product (size_at header first) (product (map (size_at header) others)) (omega arith) some) in
+    subst (λ (l : List ℕ). 0 < product l) (sym shape) (positive_product (size_at header first) (product (map (size_at header) others)) (omega arith) some) in
     let last : List ℕ = map (λ n. n - 1) (map (size_at header) others) in
-    let place = slots_tell header axis var (size_at header first - 1) last alone in
+    let place = place_of-slot header axis var (size_at header first - 1) last alone in
     let end : end_of header var ≡ place_of header var ((size_at header first - 1) ∷ last) + size_of var.kind =
-      ap (λ (l : List ℕ). place_of header var (map (λ n. n - 1) l) + size_of var.kind) shape in
+    ap (λ (l : List ℕ). place_of header var (map (λ n. n - 1) l) + size_of var.kind) shape in
     let begin : ℕ = (slot_in header axis var).begin in
     let step : ℕ = (slot_in header axis var).step in
     let rank = ap (λ (l : List ℕ). begin + (size_at header first - 1) * step + size_of var.kind * rank_in (drop 1 l) last) shape in
@@ -127,7 +127,7 @@ positive_length proto sound id below other =
     let axis = dim_named proto.dims proto.axis sound.id sound.named in
     let differs : found.0.name ≢ proto.axis = λ e. other (one_place proto.dims sound.id id axis.0 found.0 sound.dim_names axis.1 found.1 (axis.2 ∙ sym e)) in
     let some = Each-in (λ (dim : Dim). dim.name ≢ proto.axis → 0 < dim.size) found.0 proto.dims
-      (each_from_All (λ (dim : Dim). dim.name ≢ proto.axis → 0 < dim.size) proto.dims sound.lengths) (in_from_slice_get proto.dims id found.0 found.1) differs in
+    (each_from_All (λ (dim : Dim). dim.name ≢ proto.axis → 0 < dim.size) proto.dims sound.lengths) (in_from_slice_get proto.dims id found.0 found.1) differs in
     rw found.1 some
 
 not_along : (id : ℕ) (ids : List ℕ) → lies_along id ids ≡ false → Each (λ other. id ≡ other → ⊥) ids
@@ -173,9 +173,9 @@ slot_within proto bytes header axis wanted slot e some is k below = by_dims is.v
         let lengths : map (size_at header) others ≡ drop 1 (lengths_of proto wanted.dims) = ap (λ (l : List ℕ). drop 1 (map (size_at header) l)) (sym are) ∙ is.lengths in
         let ends = ends_in_content bytes header is.var e (held_var header wanted.name is.var is.named) in
         let inside = within_slot bytes header axis is.var first others k ends are is.along (subst (λ id. k < size_at header id) (sym along) below)
-          (subst (λ (l : List ℕ). 0 < product l) (sym lengths) some) in
+        (subst (λ (l : List ℕ). 0 < product l) (sym lengths) some) in
         let bytes_are : size_of is.var.kind * product (map (size_at header) others) ≡ bytes_per_time proto wanted =
-          ap₂ (λ (s p : ℕ). s * p) (ap size_of is.kind_is) (ap product lengths) in
+        ap₂ (λ (s p : ℕ). s * p) (ap size_of is.kind_is) (ap product lengths) in
         let begin = ap (λ (s : Slot). s.begin) is.slot_is in
         let step = ap (λ (s : Slot). k * s.step) is.slot_is in
         omega (arith, inside, bytes_are, begin, step)
@@ -207,7 +207,7 @@ same_elements proto bytes header wanted e has untimed begun =
     let ends = ends_in_content bytes header begun.var e (held_var header wanted.name begun.var begun.named) in
     let file_len = length-elements_of bytes header begun.var ends in
     let sizes : size_of begun.var.kind * product (shape_of header begun.var) ≡ size_of wanted.kind * product (lengths_of proto wanted.dims) =
-      ap₂ (λ (s p : ℕ). s * p) (ap size_of begun.kind_is) (ap product begun.lengths) in
+    ap₂ (λ (s p : ℕ). s * p) (ap size_of begun.kind_is) (ap product begun.lengths) in
     let as_many = has untimed in
     record {
       var = begun.var;
@@ -222,9 +222,9 @@ pub same_grids : (file : Loaded) (proto : Proto) (header : FileHeader) → IsSou
     → IsSameGrid proto file.content header wanted) proto.vars
 same_grids file proto header sound fits e =
     let Begun : ProtoVar → Type 0 = λ (w : ProtoVar). w.name ≢ proto.axis → w.timed ≡ false → IsTrue (is_coordinate proto.dims w.name w.kind w.dims)
-      → IsGridBegun proto file.content header w in
+    → IsGridBegun proto file.content header w in
     let Same : ProtoVar → Type 0 = λ (w : ProtoVar). w.name ≢ proto.axis → w.timed ≡ false → IsTrue (is_coordinate proto.dims w.name w.kind w.dims)
-      → IsSameGrid proto file.content header w in
+    → IsSameGrid proto file.content header w in
     let each = each_from_All Begun proto.vars (begun_grids file proto header fits e) in
     let fixed = each_from_All (HasElements proto) proto.vars sound.fixed in
     All-from_each Same proto.vars (Each-from_in Same proto.vars (λ wanted held other untimed coordinate.

@@ -44,7 +44,7 @@ site = record { name = codes "gfs"; epoch = pos 1577836800; mark = codes "gfs_" 
 abbrev pub since_1970 : Units
 since_1970 = record { per = 1; origin = pos 0 }
 
--- so many seconds since the epoch of that site
+-- units of n seconds, counted from the epoch of that site
 abbrev pub since_epoch : ℕ → Units
 since_epoch per = record { per = per; origin = pos 1577836800 }
 
@@ -52,7 +52,7 @@ since_epoch per = record { per = per; origin = pos 1577836800 }
 abbrev pub times_var : Kind → List Attr → NcVar
 times_var kind attrs = record { name = codes "time"; dims = 0 ∷ []; attrs = attrs; kind = kind; begin = 0 }
 
--- a header with that variable alone, over so many times
+-- a header with that variable alone, over n times
 abbrev pub times_header : ℕ → NcVar → Header
 times_header count var = record { version = 1; numrecs = 0; dims = record { name = codes "time"; size = count } ∷ []; attrs = []; vars = var ∷ [] }
 

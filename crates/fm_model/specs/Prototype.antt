@@ -33,19 +33,29 @@ proto_header bytes = fault_as fault_of_proto (sound_header bytes)
 unfoldable pub proto_axis : FileHeader → Result NcVar ProtoFault
 proto_axis header = ok_or (axis_of header) NoTimeAxis
 
+-- whether a variable has the axis's dimension after its first
+abbrev pub has_time_later : NcVar → NcVar → Bool
+has_time_later axis var = lies_along (dim_of_axis axis) (drop 1 var.dims)
+
 -- each variable that lies along the axis has the axis's dimension first, and once
 unfoldable pub time_stands_first : FileHeader → NcVar → Check ProtoFault
-time_stands_first header axis = refuse (option_map (λ (var : NcVar). TimeNotFirst var.name) (find (λ (var : NcVar). lies_along (dim_of_axis axis) (drop 1 var.dims)) header.vars))
+time_stands_first header axis =
+    refuse (option_map (λ (var : NcVar). TimeNotFirst var.name) (find (has_time_later axis) header.vars))
 
 -- whether a name is of such bytes alone
 unfoldable pub is_plain_name : List ℕ → Bool
 is_plain_name name = list_all is_name_byte name
 
--- all names of dimensions, and then of variables, are of letters, digits, `_` and `-`
-unfoldable pub names_are_plain : FileHeader → Check ProtoFault
-names_are_plain header = refuse (option_map BadProtoName (find (λ name. not (is_plain_name name)) (map (λ (dim : Dim). dim.name) header.dims ++ map (λ (var : NcVar). var.name) header.vars)))
+-- the names of dimensions, and then those of variables
+abbrev pub names_of : FileHeader → List (List ℕ)
+names_of header = map (λ (dim : Dim). dim.name) header.dims ++ map (λ (var : NcVar). var.name) header.vars
 
--- whether a variable is the one of the run's time
+-- all names are of letters, digits, `_` and `-`
+unfoldable pub names_are_plain : FileHeader → Check ProtoFault
+names_are_plain header =
+    refuse (option_map BadProtoName (find (λ name. not (is_plain_name name)) (names_of header)))
+
+-- whether a variable is that of the run's time
 unfoldable pub is_reference : FileHeader → NcVar → Bool
 is_reference header var = option_map_or (λ (reference : NcVar). bytes_eq reference.name var.name) (reference_of header) false
 
@@ -53,10 +63,15 @@ is_reference header var = option_map_or (λ (reference : NcVar). bytes_eq refere
 unfoldable pub is_char_per_time : NcVar → NcVar → Bool
 is_char_per_time axis var = is_char var.kind && are_same var.dims (dim_of_axis axis ∷ [])
 
--- the variables that the views show: the axis, and all others but for the one of the run's time and those of one
--- character for each time
+-- whether the views show a variable: the axis, and each that is neither that of the run's time nor one of a character
+-- for each time
+abbrev pub is_kept : FileHeader → NcVar → NcVar → Bool
+is_kept header axis var =
+    bytes_eq var.name axis.name || not (is_reference header var || is_char_per_time axis var)
+
+-- the variables that the views show
 unfoldable pub kept_vars : FileHeader → NcVar → List NcVar
-kept_vars header axis = filter (λ (var : NcVar). bytes_eq var.name axis.name || not (is_reference header var || is_char_per_time axis var)) header.vars
+kept_vars header axis = filter (is_kept header axis) header.vars
 
 -- the name under which the views show the run of each row
 unfoldable pub run_name : List ℕ → List ℕ
@@ -66,19 +81,36 @@ run_name axis = axis ++ codes "_run"
 unfoldable pub offset_name : List ℕ → List ℕ
 offset_name axis = axis ++ codes "_offset"
 
+-- whether a variable has one of these names
+abbrev pub has_taken_name : NcVar → NcVar → Bool
+has_taken_name axis var = bytes_eq var.name (run_name axis.name) || bytes_eq var.name (offset_name axis.name)
+
 -- no variable that the views show has one of these names
 unfoldable pub names_are_free : FileHeader → NcVar → Check ProtoFault
-names_are_free header axis = refuse (option_map (λ (var : NcVar). NameTaken var.name) (find (λ (var : NcVar). bytes_eq var.name (run_name axis.name) || bytes_eq var.name (offset_name axis.name)) (kept_vars header axis)))
+names_are_free header axis =
+    refuse (option_map (λ (var : NcVar). NameTaken var.name) (find (has_taken_name axis) (kept_vars header axis)))
+
+-- whether a dimension other than the axis's has no length
+abbrev pub is_empty : FileHeader → NcVar → Dim → Bool
+is_empty header axis dim = size_in header dim == 0 && not (bytes_eq dim.name axis.name)
 
 -- each dimension other than the axis's has a length
 unfoldable pub dims_have_lengths : FileHeader → NcVar → Check ProtoFault
-dims_have_lengths header axis = refuse (option_map (λ (dim : Dim). EmptyDimension dim.name) (find (λ (dim : Dim). size_in header dim == 0 && not (bytes_eq dim.name axis.name)) header.dims))
+dims_have_lengths header axis =
+    refuse (option_map (λ (dim : Dim). EmptyDimension dim.name) (find (is_empty header axis) header.dims))
 
 -- a variable as the views show it
 unfoldable pub proto_var : List ℕ → FileHeader → NcVar → NcVar → ProtoVar
 proto_var bytes header axis var =
     let timed : Bool = lies_along (dim_of_axis axis) var.dims in
-    record { name = var.name; kind = var.kind; dims = var.dims; attrs = var.attrs; timed = timed; fixed = if timed then [] else elements_of bytes header var }
+    record {
+      name = var.name;
+      kind = var.kind;
+      dims = var.dims;
+      attrs = var.attrs;
+      timed = timed;
+      fixed = if timed then [] else elements_of bytes header var;
+    }
 
 -- a dimension with its length
 abbrev pub with_length : FileHeader → Dim → Dim
@@ -86,7 +118,13 @@ with_length header dim = record { name = dim.name; size = size_in header dim }
 
 -- what a prototype keeps of its file
 unfoldable pub proto_with : List ℕ → Site → FileHeader → NcVar → Proto
-proto_with bytes site header axis = record { site = site; axis = axis.name; dims = map (with_length header) header.dims; attrs = header.attrs; vars = map (proto_var bytes header axis) (kept_vars header axis) }
+proto_with bytes site header axis = record {
+  site = site;
+  axis = axis.name;
+  dims = map (with_length header) header.dims;
+  attrs = header.attrs;
+  vars = map (proto_var bytes header axis) (kept_vars header axis);
+}
 
 -- the prototype that some bytes are at a site, or its first fault
 unfoldable pub proto_of : List ℕ → Site → Result Proto ProtoFault

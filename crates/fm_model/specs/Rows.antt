@@ -44,7 +44,7 @@ Shows files (Offset seconds) run valid = valid ≡ run +ℤ seconds
 Shows files (Forecast only) run valid = valid ≡ only
 
 -- a row's file is held, and has the row's run and valid time
-pub record TellsFile (files : List Loaded) (row : Row) : Type 0 where
+pub record HasHeldFile (files : List Loaded) (row : Row) : Type 0 where
   pub held : Contains files row.file
   pub run_is : row.file.run ≡ row.run
   pub time_is : slice_get row.file.times row.place ≡ Some row.valid

@@ -97,9 +97,9 @@ pub fn a_fit_file_has_the_same_grid()
         → IsSameGrid proto file.content header wanted) proto.vars }
 {}
 
-/// A slot tells where each element of its variable lies: at the k-th time they begin at `begin + k * step`, and follow
+/// A slot says where each element of its variable lies: at the k-th time they begin at `begin + k * step`, and follow
 /// each other in row-major order.
-pub fn slots_tell_places()
+pub fn slots_say_where_elements_lie()
     ensures { (header : FileHeader) (axis var : NcVar) (k : ℕ) (index : List ℕ) →
         IsTrue (stands_first_alone (dim_of_axis axis) var.dims)
         → place_of header var (k ∷ index)

@@ -6,7 +6,7 @@ ghost use Rattle.fm_model.specs.declared.row.ViewName.{ViewName};
 ghost use Rattle.fm_model.specs.declared.row.ViewName.TheVariants.{Best, BestFrom, Run};
 ghost use Rattle.fm_model.specs.Cell.{cell, times_of, times_of_run, HasTimeFrom, IsBest};
 ghost use Rattle.fm_model.specs.Rising.{Rises};
-ghost use Rattle.fm_model.specs.Rows.{rows, instant_in, Shows, TellsFile};
+ghost use Rattle.fm_model.specs.Rows.{rows, instant_in, Shows, HasHeldFile};
 
 /// The rows of a view rise: by valid time in a best time series and in the dataset of a run, by run at an offset and for
 /// a forecast time. So no instant stands there twice.
@@ -61,7 +61,7 @@ pub fn a_run_has_each_of_its_times_once()
 {}
 
 /// The file of a row is held, is of the row's run, and has the row's valid time at the row's place.
-pub fn rows_tell_their_files()
+pub fn rows_have_held_files()
     ensures { (files : List Loaded) (view : ViewName) (row : Row) →
-        Contains (rows files view) row → TellsFile files row }
+        Contains (rows files view) row → HasHeldFile files row }
 {}
