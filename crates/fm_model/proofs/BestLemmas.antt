@@ -21,14 +21,18 @@ value-from_some (Some x) h = (x, refl)
 
 pub In-runs_of : (files : List Loaded) (file : Loaded) → In file files → In file.run (runs_of files)
 unfolding runs_of
-In-runs_of files file held = In-rising file.run (map (λ (f : Loaded). f.run) files) (In-map (λ (f : Loaded). f.run) file files held)
+In-runs_of files file held = In-rising file.run (map (λ (f : Loaded). f.run) files)
+    (In-map (λ (f : Loaded). f.run) file files held)
 
-pub In-times_of : (files : List Loaded) (file : Loaded) (valid : ℤ) → In file files → In valid file.times → In valid (times_of files)
+pub In-times_of : (files : List Loaded) (file : Loaded) (valid : ℤ) → In file files → In valid file.times
+    → In valid (times_of files)
 unfolding times_of
-In-times_of files file valid held time = In-rising valid _ (In-flat_map (λ (f : Loaded). f.times) valid file files held time)
+In-times_of files file valid held time = In-rising valid _
+    (In-flat_map (λ (f : Loaded). f.times) valid file files held time)
 
 -- a time of some files is that of one of them
-pub in_times_of : (files : List Loaded) (valid : ℤ) → In valid (times_of files) → (file : Loaded) × In file files × In valid file.times
+pub in_times_of : (files : List Loaded) (valid : ℤ) → In valid (times_of files)
+    → (file : Loaded) × In file files × In valid file.times
 unfolding times_of
 in_times_of files valid h = in_flat_map (λ (f : Loaded). f.times) valid files (in_rising valid _ h)
 
@@ -51,7 +55,8 @@ Rises-times_of_run files run = AllPairs-from_each Above (times_of_run files run)
 pub Rises-runs_of : (files : List Loaded) → Rises (runs_of files)
 Rises-runs_of files = AllPairs-from_each Above (runs_of files) (rises_runs_of files)
 
-pub Contains-runs_of : (files : List Loaded) (run : ℤ) → Contains (runs_of files) run ↔ Any (λ (file : Loaded). file.run ≡ run) files
+pub Contains-runs_of : (files : List Loaded) (run : ℤ)
+    → Contains (runs_of files) run ↔ Any (λ (file : Loaded). file.run ≡ run) files
 unfolding runs_of
 Contains-runs_of files run = (
   λ c.
@@ -59,7 +64,8 @@ Contains-runs_of files run = (
       Any-from_in (λ (file : Loaded). file.run ≡ run) found.0 files found.1 found.2,
   λ any.
       let found = in_from_Any (λ (file : Loaded). file.run ≡ run) files any in
-      Contains-from_in run (runs_of files) (subst (λ r. In r (runs_of files)) found.2 (In-runs_of files found.0 found.1)),
+      Contains-from_in run (runs_of files)
+      (subst (λ r. In r (runs_of files)) found.2 (In-runs_of files found.0 found.1)),
 )
 
 pub In-times_of_run : (files : List Loaded) (run valid : ℤ) (file : Loaded) → In file files → HasCell run valid file
@@ -97,7 +103,8 @@ Contains-times_of_run files run valid = (
 -- the valid times of all files are those of their runs
 pub times_of-runs : (files : List Loaded) → times_of files ≡ rising (flat_map (times_of_run files) (runs_of files))
 times_of-runs files = Rises-members (times_of files) (rising (flat_map (times_of_run files) (runs_of files)))
-    (AllPairs-from_each Above (times_of files) (rises_times_of files)) (Rises-rising (flat_map (times_of_run files) (runs_of files)))
+    (AllPairs-from_each Above (times_of files) (rises_times_of files))
+    (Rises-rising (flat_map (times_of_run files) (runs_of files)))
     (λ valid. (
       λ c.
           let found = in_times_of files valid (in_from_Contains valid (times_of files) c) in
@@ -106,57 +113,72 @@ times_of-runs files = Rises-members (times_of files) (rising (flat_map (times_of
           Contains-from_in valid _ (In-rising valid (flat_map (times_of_run files) (runs_of files))
           (In-flat_map (times_of_run files) valid found.0.run (runs_of files) (In-runs_of files found.0 found.1) own)),
       λ c.
-          let run = in_flat_map (times_of_run files) valid (runs_of files) (in_rising valid _ (in_from_Contains valid _ c)) in
+          let run = in_flat_map (times_of_run files) valid (runs_of files)
+          (in_rising valid _ (in_from_Contains valid _ c)) in
           let found = in_times_of_run files run.0 valid run.2 in
           Contains-from_in valid (times_of files)
           (In-times_of files found.0 valid found.1 (in_from_Contains valid found.0.times found.2.time)),
     ))
 
 -- a file that stands for a run and a valid time
-pub cell_file : (files : List Loaded) (run valid : ℤ) → IsSome (cell files run valid) → (file : Loaded) × In file files × (file.run ≡ run) × In valid file.times
+pub cell_file : (files : List Loaded) (run valid : ℤ) → IsSome (cell files run valid)
+    → (file : Loaded) × In file files × (file.run ≡ run) × In valid file.times
 cell_file files run valid h =
     let found = value-from_some (cell files run valid) h in
     let c = IsCell-from_cell files run valid found.0.0 found.0.1 found.1 in
     (found.0.0, held-from_cell files run valid found.0.0 found.0.1 c, c.run_is, in_from_slice_get found.0.0.times found.0.1 valid c.time_is)
 
 -- a run with a cell has the time among its own
-pub time_of_run_of_cell : (files : List Loaded) (run valid : ℤ) → IsSome (cell files run valid) → In valid (times_of_run files run)
+pub time_of_run_of_cell : (files : List Loaded) (run valid : ℤ) → IsSome (cell files run valid)
+    → In valid (times_of_run files run)
 time_of_run_of_cell files run valid h =
     let found = cell_file files run valid h in
-    In-times_of_run files run valid found.0 found.1 (record { run_is = found.2; time = Contains-from_in valid found.0.times found.3 })
+    In-times_of_run files run valid found.0 found.1
+    (record { run_is = found.2; time = Contains-from_in valid found.0.times found.3 })
 
 -- a cell is there exactly where some file of the run has the time
-pub Any-from_cell : (files : List Loaded) (run valid : ℤ) → IsSome (cell files run valid) → Any (HasCell run valid) files
+pub Any-from_cell : (files : List Loaded) (run valid : ℤ) → IsSome (cell files run valid)
+    → Any (HasCell run valid) files
 Any-from_cell files run valid h =
     let found = cell_file files run valid h in
-    Any-from_in (HasCell run valid) found.0 files found.1 (record { run_is = found.2; time = Contains-from_in valid found.0.times found.3 })
+    Any-from_in (HasCell run valid) found.0 files found.1
+    (record { run_is = found.2; time = Contains-from_in valid found.0.times found.3 })
 
-pub cell-from_Any : (files : List Loaded) (run valid : ℤ) → Any (HasCell run valid) files → IsSome (cell files run valid)
-cell-from_Any files run valid any = let found = in_from_Any (HasCell run valid) files any in cell-from_file files run valid found.0 found.1 found.2
+pub cell-from_Any : (files : List Loaded) (run valid : ℤ) → Any (HasCell run valid) files
+    → IsSome (cell files run valid)
+cell-from_Any files run valid any = let found = in_from_Any
+    (HasCell run valid) files any in cell-from_file files run valid found.0 found.1 found.2
 
 -- a run with a cell is among the runs, and a valid time with a cell among the times
 pub run_of_cell : (files : List Loaded) (run valid : ℤ) → IsSome (cell files run valid) → In run (runs_of files)
-run_of_cell files run valid h = let found = cell_file files run valid h in subst (λ r. In r (runs_of files)) found.2 (In-runs_of files found.0 found.1)
+run_of_cell files run valid h = let found = cell_file files run valid h in subst (λ r. In r (runs_of files)) found.2
+    (In-runs_of files found.0 found.1)
 
 pub time_of_cell : (files : List Loaded) (run valid : ℤ) → IsSome (cell files run valid) → In valid (times_of files)
 time_of_cell files run valid h = let found = cell_file files run valid h in In-times_of files found.0 valid found.1 found.3
 
 -- what stands before an instant of a rising list lies before it
-below_later : (before : List ℤ) (instant : ℤ) (after : List ℤ) (earlier : ℤ) → EachPair Above (before ++ instant ∷ after) → In earlier before → earlier <ℤ instant
+below_later : (before : List ℤ) (instant : ℤ) (after : List ℤ) (earlier : ℤ)
+    → EachPair Above (before ++ instant ∷ after) → In earlier before → earlier <ℤ instant
 below_later [] instant after earlier rises h = absurd h
-below_later (first ∷ before) instant after earlier rises (inl same) = subst (λ e. e <ℤ instant) same (Each-in (Above first) instant (before ++ instant ∷ after) rises.0 (In-append_right instant before (instant ∷ after) (inl refl)))
-below_later (first ∷ before) instant after earlier rises (inr later) = below_later before instant after earlier rises.1 later
+below_later (first ∷ before) instant after earlier rises (inl same) = subst (λ e. e <ℤ instant) same
+    (Each-in (Above first) instant (before ++ instant ∷ after) rises.0
+    (In-append_right instant before (instant ∷ after) (inl refl)))
+below_later (first ∷ before) instant after earlier rises
+    (inr later) = below_later before instant after earlier rises.1 later
 
 at_most : (a b : ℤ) → a ≡ b → a ≤ℤ b
 at_most a b e = omega (arith, ints)
 
 -- the test of a least offset
-offset_test : (least : Option ℤ) (run valid : ℤ) → HasLeastOffset least run valid → has_least_offset least run valid ≡ true
+offset_test : (least : Option ℤ) (run valid : ℤ) → HasLeastOffset least run valid
+    → has_least_offset least run valid ≡ true
 unfolding has_least_offset
 offset_test None run valid late = refl
 offset_test (Some least) run valid late = grind (arith, ints)
 
-offset_from_test : (least : Option ℤ) (run valid : ℤ) → has_least_offset least run valid ≡ true → HasLeastOffset least run valid
+offset_from_test : (least : Option ℤ) (run valid : ℤ) → has_least_offset least run valid ≡ true
+    → HasLeastOffset least run valid
 unfolding has_least_offset
 offset_from_test None run valid e = tt
 offset_from_test (Some least) run valid e = grind (arith, ints)
@@ -174,7 +196,8 @@ unfolding is_usable
 usable_from files valid least run has late =
     and_from (is_some (cell files run valid)) (has_least_offset least run valid) has (offset_test least run valid late)
 
-pub IsBest-from_best : (files : List Loaded) (valid : ℤ) (least : Option ℤ) (run : ℤ) → best files valid least ≡ Some run
+pub IsBest-from_best : (files : List Loaded) (valid : ℤ) (least : Option ℤ) (run : ℤ)
+    → best files valid least ≡ Some run
     → IsBest files valid least run
 unfolding best
 IsBest-from_best files valid least run e =
@@ -193,7 +216,8 @@ IsBest-from_best files valid least run e =
         → is_usable files valid least other ≡ true → In other (last.before ++ run ∷ last.after) → other ≤ℤ run
     bounded last other usable h = elim (In-append_cases other last.before (run ∷ last.after) h) [
       | inl earlier ↦
-          let below = below_later last.before run last.after other (subst (EachPair Above) last.split (rises_runs_of files)) earlier in
+          let below = below_later last.before run last.after other
+          (subst (EachPair Above) last.split (rises_runs_of files)) earlier in
           omega (arith, ints)
       | inr (inl same) ↦ at_most other run (sym same)
       | inr (inr later) ↦ absurd (both_ways (is_usable files valid least other)
@@ -227,7 +251,8 @@ pub best_both : (files : List Loaded) (valid : ℤ) (least : Option ℤ) (run : 
 best_both files valid least run = (IsBest-from_best files valid least run, best-from_IsBest files valid least run)
 
 -- a file with a valid time, early enough, leaves it a best run
-pub best-from_file : (files : List Loaded) (valid : ℤ) (least : Option ℤ) (file : Loaded) → In file files → In valid file.times
+pub best-from_file : (files : List Loaded) (valid : ℤ) (least : Option ℤ) (file : Loaded) → In file files
+    → In valid file.times
     → HasLeastOffset least file.run valid → IsSome (best files valid least)
 best-from_file files valid least file held time late = by_best (best files valid least) refl
   where
@@ -239,7 +264,8 @@ best-from_file files valid least file held time late = by_best (best files valid
 -- the file of a best run
 pub best_file : (files : List Loaded) (valid : ℤ) (least : Option ℤ) (run : ℤ) → best files valid least ≡ Some run
     → (file : Loaded) × In file files × (file.run ≡ run) × In valid file.times
-best_file files valid least run e = cell_file files run valid (cell-from_Any files run valid (IsBest-from_best files valid least run e).has)
+best_file files valid least run e = cell_file files run valid
+    (cell-from_Any files run valid (IsBest-from_best files valid least run e).has)
 
 pub no_best_both : (files : List Loaded) (valid : ℤ) (least : Option ℤ)
     → (best files valid least ≡ None) ↔ All (λ file. ¬ HasTimeFrom valid least file) files
@@ -259,8 +285,11 @@ no_best_both files valid least = (there, back)
             let found = best_file files valid least run is in
             let late = (IsBest-from_best files valid least run is).late in
             absurd (Each-in (λ file. ¬ HasTimeFrom valid least file) found.0 files
-            (each_from_All (λ file. ¬ HasTimeFrom valid least file) files all) found.1
-            (Contains-from_in valid found.0.times found.3, subst (λ r. HasLeastOffset least r valid) (sym found.2) late))
+            (each_from_All (λ file. ¬ HasTimeFrom valid least file) files all) found.1 (
+              Contains-from_in valid found.0.times found.3,
+              subst (λ r. HasLeastOffset least r valid)
+                  (sym found.2) late,
+            ))
 
 -- a file has no such time
 abbrev Lacks : ℤ → Loaded → Type 0
@@ -282,8 +311,10 @@ pub best-least : (files : List Loaded) (valid least : ℤ)
 best-least files valid least above = by_best (best files valid None) refl
   where
     by_best : (o : Option ℤ) → best files valid None ≡ o → best files valid (Some least) ≡ best files valid None
-    by_best None is = (no_best_both files valid (Some least)).1 (All-from_each (λ file. ¬ HasTimeFrom valid (Some least) file) files
-        (Each-weaker _ _ (λ file none has. none has.0) files (each_from_All (Lacks valid) files ((no_best_at_all files valid).0 is)))) ∙ sym is
+    by_best None is = (no_best_both files valid (Some least)).1
+        (All-from_each (λ file. ¬ HasTimeFrom valid (Some least) file) files
+        (Each-weaker _ _ (λ file none has. none has.0) files
+        (each_from_All (Lacks valid) files ((no_best_at_all files valid).0 is)))) ∙ sym is
     by_best (Some run) is =
         let found = IsBest-from_best files valid None run is in
         let file = best_file files valid None run is in

@@ -29,12 +29,14 @@ within held files rows size Size = size
 none_before_files : (held : Tally) (which : Which) → order_of which < 0 → number_of which held ≤ limit_of which
 none_before_files held which lt = absurd (omega arith)
 
-before_rows : (held : Tally) → held.files ≤ MAX_FILES → (which : Which) → order_of which < 1 → number_of which held ≤ limit_of which
+before_rows : (held : Tally) → held.files ≤ MAX_FILES → (which : Which) → order_of which < 1
+    → number_of which held ≤ limit_of which
 before_rows held files Files lt = files
 before_rows held files Rows lt = absurd (omega arith)
 before_rows held files Size lt = absurd (omega arith)
 
-before_size : (held : Tally) → held.files ≤ MAX_FILES → held.rows ≤ MAX_ROWS → (which : Which) → order_of which < 2 → number_of which held ≤ limit_of which
+before_size : (held : Tally) → held.files ≤ MAX_FILES → held.rows ≤ MAX_ROWS → (which : Which) → order_of which < 2
+    → number_of which held ≤ limit_of which
 before_size held files rows Files lt = files
 before_size held files rows Rows lt = rows
 before_size held files rows Size lt = absurd (omega arith)
@@ -46,14 +48,21 @@ data Answer (held : Tally) : Option TooMany → Type 0 where
 
 answer_of : (held : Tally) → Answer held (full_of held)
 unfolding full_of
-answer_of held = by_tests (nat_lt MAX_FILES held.files) refl (nat_lt MAX_ROWS held.rows) refl (nat_lt MAX_BYTES held.size) refl
+answer_of held = by_tests (nat_lt MAX_FILES held.files) refl (nat_lt MAX_ROWS held.rows) refl
+    (nat_lt MAX_BYTES held.size) refl
   where
-    by_tests : (f : Bool) → nat_lt MAX_FILES held.files ≡ f → (r : Bool) → nat_lt MAX_ROWS held.rows ≡ r → (s : Bool) → nat_lt MAX_BYTES held.size ≡ s
+    by_tests : (f : Bool) → nat_lt MAX_FILES held.files ≡ f → (r : Bool) → nat_lt MAX_ROWS held.rows ≡ r → (s : Bool)
+        → nat_lt MAX_BYTES held.size ≡ s
         → Answer held (cond f (Some (passed Files held)) (cond r (Some (passed Rows held)) (cond s (Some (passed Size held)) None)))
-    by_tests true f r _ s _ = some Files (record { held_is = refl; limit_is = refl; passed = ltb-true MAX_FILES held.files f; first = none_before_files held })
-    by_tests false f true r s _ = some Rows (record { held_is = refl; limit_is = refl; passed = ltb-true MAX_ROWS held.rows r; first = before_rows held (ltb-false MAX_FILES held.files f) })
-    by_tests false f false r true s = some Size (record { held_is = refl; limit_is = refl; passed = ltb-true MAX_BYTES held.size s; first = before_size held (ltb-false MAX_FILES held.files f) (ltb-false MAX_ROWS held.rows r) })
-    by_tests false f false r false s = none (within held (ltb-false MAX_FILES held.files f) (ltb-false MAX_ROWS held.rows r) (ltb-false MAX_BYTES held.size s))
+    by_tests true f r _ s _ = some Files
+        (record { held_is = refl; limit_is = refl; passed = ltb-true MAX_FILES held.files f; first = none_before_files held })
+    by_tests false f true r s _ = some Rows
+        (record { held_is = refl; limit_is = refl; passed = ltb-true MAX_ROWS held.rows r; first = before_rows held (ltb-false MAX_FILES held.files f) })
+    by_tests false f false r true s = some Size
+        (record { held_is = refl; limit_is = refl; passed = ltb-true MAX_BYTES held.size s; first = before_size held (ltb-false MAX_FILES held.files f) (ltb-false MAX_ROWS held.rows r) })
+    by_tests false f false r false s = none
+        (within held (ltb-false MAX_FILES held.files f) (ltb-false MAX_ROWS held.rows r)
+        (ltb-false MAX_BYTES held.size s))
 
 full_none : (held : Tally) → (full_of held ≡ None) ↔ IsWithin held
 full_none held = (there (full_of held) (answer_of held), back (full_of held) (answer_of held))
@@ -85,34 +94,41 @@ full_some held full = (there (full_of held) (answer_of held), back (full_of held
     there (Some other) (some which first) e = subst (IsFirstPassed held) (same_Some other full e) first
 
     as_passed : (which : Which) → which ≡ full.which → IsFirstPassed held full → passed which held ≡ full
-    as_passed which same first = ap (λ (w : Which). passed w held) same ∙ ap₂ (λ (h l : ℕ). record { which = full.which; held = h; limit = l }) (sym first.held_is) (sym first.limit_is)
+    as_passed which same first = ap (λ (w : Which). passed w held) same
+        ∙ ap₂ (λ (h l : ℕ). record { which = full.which; held = h; limit = l }) (sym first.held_is) (sym first.limit_is)
 
     back : (o : Option TooMany) → Answer held o → IsFirstPassed held full → o ≡ Some full
-    back None (none within) first = let fits = within full.which in absurd (omega (arith, first.passed, first.held_is, first.limit_is, fits))
+    back None (none within) first = let fits = within full.which in absurd
+        (omega (arith, first.passed, first.held_is, first.limit_is, fits))
     back (Some other) (some which mine) first = elim (cases_order (order_of which) (order_of full.which)) [
       | inl same ↦ ap Some (as_passed which (same_which which full.which same) first)
       | inr (inl before) ↦ let fits = first.first which before in absurd (omega (arith, mine.passed, fits))
-      | inr (inr after) ↦ let fits = mine.first full.which after in absurd (omega (arith, first.passed, first.held_is, first.limit_is, fits))
+      | inr (inr after) ↦ let fits = mine.first full.which after in absurd
+          (omega (arith, first.passed, first.held_is, first.limit_is, fits))
     ]
 
 pub full_at-none : (files : List Loaded) (op : Op) → (full_at files op ≡ None) ↔ IsWithin (tally (after_op files op))
 unfolding full_at
 full_at-none files op = full_none (tally (after_op files op))
 
-pub full_at-some : (files : List Loaded) (op : Op) (full : TooMany) → (full_at files op ≡ Some full) ↔ IsFirstPassed (tally (after_op files op)) full
+pub full_at-some : (files : List Loaded) (op : Op) (full : TooMany)
+    → (full_at files op ≡ Some full) ↔ IsFirstPassed (tally (after_op files op)) full
 unfolding full_at
 full_at-some files op full = full_some (tally (after_op files op)) full
 
-expire-kept : (files : List Loaded) (cutoff : ℤ) → after_op files (Expire cutoff) ≡ filter (λ (f : Loaded). int_le cutoff f.run) files
+expire-kept : (files : List Loaded) (cutoff : ℤ)
+    → after_op files (Expire cutoff) ≡ filter (λ (f : Loaded). int_le cutoff f.run) files
 unfolding after_op kept_from
 expire-kept files cutoff = refl
 
-retract-kept : (files : List Loaded) (name : List ℕ) → after_op files (Retract name) ≡ filter (λ (f : Loaded). not (bytes_eq f.name name)) files
+retract-kept : (files : List Loaded) (name : List ℕ)
+    → after_op files (Retract name) ≡ filter (λ (f : Loaded). not (bytes_eq f.name name)) files
 unfolding after_op without
 retract-kept files name = refl
 
 -- what is kept of some files is no more than all of them
-kept_within : (keep : Loaded → Bool) (files : List Loaded) → IsWithin (tally files) → IsWithin (tally (filter keep files))
+kept_within : (keep : Loaded → Bool) (files : List Loaded) → IsWithin (tally files)
+    → IsWithin (tally (filter keep files))
 unfolding tally
 kept_within keep files within Files =
     let most : length files ≤ MAX_FILES = within Files in
@@ -129,25 +145,31 @@ kept_within keep files within Size =
 
 pub full-expire : (files : List Loaded) (cutoff : ℤ) → IsWithin (tally files) → full_at files (Expire cutoff) ≡ None
 full-expire files cutoff within = (full_at-none files (Expire cutoff)).1
-    (subst (λ l. IsWithin (tally l)) (sym (expire-kept files cutoff)) (kept_within (λ (f : Loaded). int_le cutoff f.run) files within))
+    (subst (λ l. IsWithin (tally l)) (sym (expire-kept files cutoff))
+    (kept_within (λ (f : Loaded). int_le cutoff f.run) files within))
 
 pub full-retract : (files : List Loaded) (name : List ℕ) → IsWithin (tally files) → full_at files (Retract name) ≡ None
 full-retract files name within = (full_at-none files (Retract name)).1
-    (subst (λ l. IsWithin (tally l)) (sym (retract-kept files name)) (kept_within (λ (f : Loaded). not (bytes_eq f.name name)) files within))
+    (subst (λ l. IsWithin (tally l)) (sym (retract-kept files name))
+    (kept_within (λ (f : Loaded). not (bytes_eq f.name name)) files within))
 
 pub full-new : (files : List Loaded) (file : Loaded) → length files ≡ MAX_FILES → All (DifferInName file) files
     → full_at files (Put file) ≡ Some (record { which = Files; held = MAX_FILES + 1; limit = MAX_FILES })
 unfolding tally
 full-new files file most new =
-    let more : length (after_op files (Put file)) ≡ MAX_FILES + 1 = length-put_new files file new ∙ ap (λ n. n + 1) most in
-    (full_at-some files (Put file) (record { which = Files; held = MAX_FILES + 1; limit = MAX_FILES })).1 (record { held_is = sym more; limit_is = refl; passed = omega arith; first = λ which lt. absurd (omega arith) })
+    let more : length (after_op files (Put file)) ≡ MAX_FILES + 1 = length-put_new files file new
+    ∙ ap (λ n. n + 1) most in
+    (full_at-some files (Put file) (record { which = Files; held = MAX_FILES + 1; limit = MAX_FILES })).1
+    (record { held_is = sym more; limit_is = refl; passed = omega arith; first = λ which lt. absurd (omega arith) })
 
-pub full-held : (files : List Loaded) (file : Loaded) (full : TooMany) → length files ≤ MAX_FILES → AllPairs DifferInName files → Any (λ (other : Loaded). other.name ≡ file.name) files
+pub full-held : (files : List Loaded) (file : Loaded) (full : TooMany) → length files ≤ MAX_FILES
+    → AllPairs DifferInName files → Any (λ (other : Loaded). other.name ≡ file.name) files
     → full_at files (Put file) ≡ Some full → full.which ≢ Files
 unfolding tally
 full-held files file full most differ held e same =
     let first = (full_at-some files (Put file) full).0 e in
-    let count : full.held ≡ length (after_op files (Put file)) = first.held_is ∙ ap (λ w. number_of w (tally (after_op files (Put file)))) same in
+    let count : full.held ≡ length (after_op files (Put file)) = first.held_is
+    ∙ ap (λ w. number_of w (tally (after_op files (Put file)))) same in
     let limit : full.limit ≡ MAX_FILES = first.limit_is ∙ ap limit_of same in
     let as_many = length-put_held files file differ held in
     omega (arith, first.passed, count, limit, as_many)

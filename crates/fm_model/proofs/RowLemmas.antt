@@ -22,13 +22,16 @@ pub record IsRowAt (files : List Loaded) (run valid : ℤ) (row : Row) : Type 0 
   pub valid_is : row.valid ≡ valid
   pub cell_is : cell files row.run row.valid ≡ Some (row.file, row.place)
 
-pub IsRowAt-from_row_at : (files : List Loaded) (run valid : ℤ) (row : Row) → row_at files run valid ≡ Some row → IsRowAt files run valid row
+pub IsRowAt-from_row_at : (files : List Loaded) (run valid : ℤ) (row : Row) → row_at files run valid ≡ Some row
+    → IsRowAt files run valid row
 unfolding row_at
 IsRowAt-from_row_at files run valid row e =
-    let found = option_map-some (λ (c : Loaded × ℕ). record { valid = valid; run = run; file = c.0; place = c.1 }) (cell files run valid) row e in
+    let found = option_map-some (λ (c : Loaded × ℕ). record { valid = valid; run = run; file = c.0; place = c.1 })
+    (cell files run valid) row e in
     subst (IsRowAt files run valid) found.2 (record { run_is = refl; valid_is = refl; cell_is = found.1 })
 
-pub row_at-from_cell : (files : List Loaded) (row : Row) → cell files row.run row.valid ≡ Some (row.file, row.place) → row_at files row.run row.valid ≡ Some row
+pub row_at-from_cell : (files : List Loaded) (row : Row) → cell files row.run row.valid ≡ Some (row.file, row.place)
+    → row_at files row.run row.valid ≡ Some row
 unfolding row_at
 row_at-from_cell files row e = rw e refl
 
@@ -37,32 +40,42 @@ pub record IsBestRow (files : List Loaded) (least : Option ℤ) (valid : ℤ) (r
   pub best_is : best files valid least ≡ Some row.run
   pub row_is : IsRowAt files row.run valid row
 
-pub IsBestRow-from_best_row : (files : List Loaded) (least : Option ℤ) (valid : ℤ) (row : Row) → best_row files least valid ≡ Some row
+pub IsBestRow-from_best_row : (files : List Loaded) (least : Option ℤ) (valid : ℤ) (row : Row)
+    → best_row files least valid ≡ Some row
     → IsBestRow files least valid row
 unfolding best_row
-IsBestRow-from_best_row files least valid row e = option_and_then_some {P = IsBestRow files least valid row} (λ run. row_at files run valid) (best files valid least) row e
+IsBestRow-from_best_row files least valid row e = option_and_then_some {P = IsBestRow files least valid row}
+    (λ run. row_at files run valid) (best files valid least) row e
     (λ run best_is row_is.
     let found = IsRowAt-from_row_at files run valid row row_is in
-    record { best_is = best_is ∙ ap Some (sym found.run_is); row_is = record { run_is = refl; valid_is = found.valid_is; cell_is = found.cell_is } })
+    record {
+      best_is = best_is ∙ ap Some
+          (sym found.run_is);
+      row_is = record { run_is = refl; valid_is = found.valid_is; cell_is = found.cell_is };
+    })
 
 -- rows made of rising instants rise, where the key of each row is the instant that it is made of
-rises_filter_map : (key : Row → ℤ) (make : ℤ → Option Row) (instants : List ℤ) → ((t : ℤ) (row : Row) → make t ≡ Some row → key row ≡ t) → EachPair Above instants
+rises_filter_map : (key : Row → ℤ) (make : ℤ → Option Row) (instants : List ℤ)
+    → ((t : ℤ) (row : Row) → make t ≡ Some row → key row ≡ t) → EachPair Above instants
     → EachPair Above (map key (filter_map make instants))
 rises_filter_map key make [] keyed rises = tt
 rises_filter_map key make (t ∷ more) keyed rises = by_first (make t) refl (rises_filter_map key make more keyed rises.1)
   where
-    by_first : (o : Option Row) → make t ≡ o → EachPair Above (map key (filter_map make more)) → EachPair Above (map key (cons_option o (filter_map make more)))
+    by_first : (o : Option Row) → make t ≡ o → EachPair Above (map key (filter_map make more))
+        → EachPair Above (map key (cons_option o (filter_map make more)))
     by_first None is others = others
     by_first (Some row) is others = (
       Each-from_in _ _ (λ x h.
           let mapped = in_map key x (filter_map make more) h in
           let made = in_filter_map make mapped.0 more mapped.1 in
           let same : x ≡ made.0 = sym mapped.2 ∙ keyed made.0 mapped.0 made.2 in
-          subst (λ a. Above a x) (sym (keyed t row is)) (subst (Above t) (sym same) (Each-in (Above t) made.0 more rises.0 made.1))),
+          subst (λ a. Above a x) (sym (keyed t row is))
+          (subst (Above t) (sym same) (Each-in (Above t) made.0 more rises.0 made.1))),
       others,
     )
 
-best_rows_rise : (files : List Loaded) (least : Option ℤ) → EachPair Above (map (λ (row : Row). row.valid) (filter_map (best_row files least) (times_of files)))
+best_rows_rise : (files : List Loaded) (least : Option ℤ)
+    → EachPair Above (map (λ (row : Row). row.valid) (filter_map (best_row files least) (times_of files)))
 best_rows_rise files least = rises_filter_map (λ (row : Row). row.valid) (best_row files least) (times_of files)
     (λ t row e. (IsBestRow-from_best_row files least t row e).row_is.valid_is) (rises_times_of files)
 
@@ -72,18 +85,22 @@ rows_rise files Best = best_rows_rise files None
 rows_rise files (BestFrom least) = best_rows_rise files (Some least)
 rows_rise files (Run run) = rises_filter_map (λ (row : Row). row.valid) (row_at files run) (times_of_run files run)
     (λ t row e. (IsRowAt-from_row_at files run t row e).valid_is) (rises_times_of_run files run)
-rows_rise files (Offset seconds) = rises_filter_map (λ (row : Row). row.run) (λ run. row_at files run (run +ℤ seconds)) (runs_of files) (λ t row e. (IsRowAt-from_row_at files t (t +ℤ seconds) row e).run_is) (rises_runs_of files)
-rows_rise files (Forecast valid) = rises_filter_map (λ (row : Row). row.run) (λ run. row_at files run valid) (runs_of files) (λ t row e. (IsRowAt-from_row_at files t valid row e).run_is) (rises_runs_of files)
+rows_rise files (Offset seconds) = rises_filter_map (λ (row : Row). row.run) (λ run. row_at files run (run +ℤ seconds))
+    (runs_of files) (λ t row e. (IsRowAt-from_row_at files t (t +ℤ seconds) row e).run_is) (rises_runs_of files)
+rows_rise files (Forecast valid) = rises_filter_map (λ (row : Row). row.run) (λ run. row_at files run valid)
+    (runs_of files) (λ t row e. (IsRowAt-from_row_at files t valid row e).run_is) (rises_runs_of files)
 
 pub Rises-rows : (files : List Loaded) (view : ViewName) → Rises (map (instant_in view) (rows files view))
 Rises-rows files view = AllPairs-from_each Above (map (instant_in view) (rows files view)) (rows_rise files view)
 
 -- a row stands for its cell, and the view shows it
 abbrev pub IsShown : List Loaded → ViewName → Row → Type 0
-IsShown files view row = (cell files row.run row.valid ≡ Some (row.file, row.place)) × Shows files view row.run row.valid
+IsShown files view row = (cell files row.run row.valid ≡ Some
+    (row.file, row.place)) × Shows files view row.run row.valid
 
 -- a row of a best time series stands for its cell, and is from the best run
-shown_from_best : (files : List Loaded) (least : Option ℤ) (row : Row) → In row (filter_map (best_row files least) (times_of files))
+shown_from_best : (files : List Loaded) (least : Option ℤ) (row : Row)
+    → In row (filter_map (best_row files least) (times_of files))
     → (cell files row.run row.valid ≡ Some (row.file, row.place)) × (best files row.valid least ≡ Some row.run)
 shown_from_best files least row h =
     let found = in_filter_map (best_row files least) row (times_of files) h in
@@ -107,12 +124,14 @@ shown_from_in files (Forecast valid) row h =
     let is = IsRowAt-from_row_at files found.0 valid row found.2 in
     (is.cell_is, is.valid_is)
 
-best_from_shown : (files : List Loaded) (least : Option ℤ) (row : Row) → cell files row.run row.valid ≡ Some (row.file, row.place)
+best_from_shown : (files : List Loaded) (least : Option ℤ) (row : Row)
+    → cell files row.run row.valid ≡ Some (row.file, row.place)
     → best files row.valid least ≡ Some row.run → In row (filter_map (best_row files least) (times_of files))
 unfolding best_row
 best_from_shown files least row e is =
     let has : IsSome (cell files row.run row.valid) = ap is_some e in
-    In-filter_map (best_row files least) row row.valid (times_of files) (time_of_cell files row.run row.valid has) (rw is (row_at-from_cell files row e))
+    In-filter_map (best_row files least) row row.valid (times_of files) (time_of_cell files row.run row.valid has)
+    (rw is (row_at-from_cell files row e))
 
 in_from_shown : (files : List Loaded) (view : ViewName) (row : Row) → IsShown files view row → In row (rows files view)
 unfolding rows
@@ -120,23 +139,30 @@ in_from_shown files Best row shown = best_from_shown files None row shown.0 show
 in_from_shown files (BestFrom least) row shown = best_from_shown files (Some least) row shown.0 shown.1
 in_from_shown files (Run run) row shown =
     let has : IsSome (cell files row.run row.valid) = ap is_some shown.0 in
-    let time : In row.valid (times_of_run files run) = subst (λ r. In row.valid (times_of_run files r)) shown.1 (time_of_run_of_cell files row.run row.valid has) in
-    In-filter_map (row_at files run) row row.valid (times_of_run files run) time (ap (λ r. row_at files r row.valid) (sym shown.1) ∙ row_at-from_cell files row shown.0)
+    let time : In row.valid (times_of_run files run) = subst (λ r. In row.valid (times_of_run files r)) shown.1
+    (time_of_run_of_cell files row.run row.valid has) in
+    In-filter_map (row_at files run) row row.valid (times_of_run files run) time
+    (ap (λ r. row_at files r row.valid) (sym shown.1) ∙ row_at-from_cell files row shown.0)
 in_from_shown files (Offset seconds) row shown =
     let has : IsSome (cell files row.run row.valid) = ap is_some shown.0 in
-    In-filter_map (λ run. row_at files run (run +ℤ seconds)) row row.run (runs_of files) (run_of_cell files row.run row.valid has) (ap (row_at files row.run) (sym shown.1) ∙ row_at-from_cell files row shown.0)
+    In-filter_map (λ run. row_at files run (run +ℤ seconds)) row row.run (runs_of files)
+    (run_of_cell files row.run row.valid has)
+    (ap (row_at files row.run) (sym shown.1) ∙ row_at-from_cell files row shown.0)
 in_from_shown files (Forecast valid) row shown =
     let has : IsSome (cell files row.run row.valid) = ap is_some shown.0 in
-    In-filter_map (λ run. row_at files run valid) row row.run (runs_of files) (run_of_cell files row.run row.valid has) (ap (row_at files row.run) (sym shown.1) ∙ row_at-from_cell files row shown.0)
+    In-filter_map (λ run. row_at files run valid) row row.run (runs_of files) (run_of_cell files row.run row.valid has)
+    (ap (row_at files row.run) (sym shown.1) ∙ row_at-from_cell files row shown.0)
 
-pub Contains-rows : (files : List Loaded) (view : ViewName) (row : Row) → Contains (rows files view) row ↔ IsShown files view row
+pub Contains-rows : (files : List Loaded) (view : ViewName) (row : Row)
+    → Contains (rows files view) row ↔ IsShown files view row
 Contains-rows files view row = (
   λ c. shown_from_in files view row (in_from_Contains row (rows files view) c),
   λ shown. Contains-from_in row (rows files view) (in_from_shown files view row shown),
 )
 
 -- where each instant makes a row whose key it is, the keys of the rows are the instants
-map-filter_map : (key : Row → ℤ) (make : ℤ → Option Row) (instants : List ℤ) → Each (λ t. IsSome (make t)) instants → ((t : ℤ) (row : Row) → make t ≡ Some row → key row ≡ t)
+map-filter_map : (key : Row → ℤ) (make : ℤ → Option Row) (instants : List ℤ) → Each (λ t. IsSome (make t)) instants
+    → ((t : ℤ) (row : Row) → make t ≡ Some row → key row ≡ t)
     → map key (filter_map make instants) ≡ instants
 map-filter_map key make [] each keyed = refl
 map-filter_map key make (t ∷ more) each keyed =
@@ -146,11 +172,13 @@ map-filter_map key make (t ∷ more) each keyed =
     rw made.1 (cc (first, others))
 
 -- a best run has a row
-best_row-from_best : (files : List Loaded) (least : Option ℤ) (valid : ℤ) → IsSome (best files valid least) → IsSome (best_row files least valid)
+best_row-from_best : (files : List Loaded) (least : Option ℤ) (valid : ℤ) → IsSome (best files valid least)
+    → IsSome (best_row files least valid)
 unfolding best_row row_at
 best_row-from_best files least valid has =
     let run = value-from_some (best files valid least) has in
-    let found = value-from_some (cell files run.0 valid) (cell-from_Any files run.0 valid (IsBest-from_best files valid least run.0 run.1).has) in
+    let found = value-from_some (cell files run.0 valid)
+    (cell-from_Any files run.0 valid (IsBest-from_best files valid least run.0 run.1).has) in
     rw (run.1, found.1) refl
 
 best_row-from_time : (files : List Loaded) (valid : ℤ) → In valid (times_of files) → IsSome (best_row files None valid)
@@ -165,27 +193,41 @@ map-valid-best files = map-filter_map (λ (row : Row). row.valid) (best_row file
     (λ t row e. (IsBestRow-from_best_row files None t row e).row_is.valid_is)
 
 -- the valid times of the best time series are those of all files
-pub Contains-best : (files : List Loaded) (valid : ℤ) → Contains (map (λ (row : Row). row.valid) (rows files Best)) valid ↔ Any (λ file. Contains file.times valid) files
+pub Contains-best : (files : List Loaded) (valid : ℤ)
+    → Contains (map (λ (row : Row). row.valid) (rows files Best)) valid ↔ Any (λ file. Contains file.times valid) files
 Contains-best files valid = (there, back)
   where
-    there : Contains (map (λ (row : Row). row.valid) (rows files Best)) valid → Any (λ file. Contains file.times valid) files
+    there : Contains (map (λ (row : Row). row.valid) (rows files Best)) valid
+        → Any (λ file. Contains file.times valid) files
     there c =
-        let found = in_times_of files valid (in_from_Contains valid (times_of files) (subst (λ l. Contains l valid) (map-valid-best files) c)) in
-        Any-from_in (λ (file : Loaded). Contains file.times valid) found.0 files found.1 (Contains-from_in valid found.0.times found.2)
+        let found = in_times_of files valid
+        (in_from_Contains valid (times_of files) (subst (λ l. Contains l valid) (map-valid-best files) c)) in
+        Any-from_in (λ (file : Loaded). Contains file.times valid) found.0 files found.1
+        (Contains-from_in valid found.0.times found.2)
 
-    back : Any (λ file. Contains file.times valid) files → Contains (map (λ (row : Row). row.valid) (rows files Best)) valid
+    back : Any (λ file. Contains file.times valid) files
+        → Contains (map (λ (row : Row). row.valid) (rows files Best)) valid
     back any =
         let found = in_from_Any (λ (file : Loaded). Contains file.times valid) files any in
-        subst (λ l. Contains l valid) (sym (map-valid-best files)) (Contains-from_in valid (times_of files) (In-times_of files found.0 valid found.1 (in_from_Contains valid found.0.times found.2)))
+        subst (λ l. Contains l valid) (sym (map-valid-best files))
+        (Contains-from_in valid (times_of files)
+        (In-times_of files found.0 valid found.1 (in_from_Contains valid found.0.times found.2)))
 
-pub HasHeldFile-rows : (files : List Loaded) (view : ViewName) (row : Row) → Contains (rows files view) row → HasHeldFile files row
+pub HasHeldFile-rows : (files : List Loaded) (view : ViewName) (row : Row) → Contains (rows files view) row
+    → HasHeldFile files row
 HasHeldFile-rows files view row c =
     let shown = (Contains-rows files view row).0 c in
     let is = IsCell-from_cell files row.run row.valid row.file row.place shown.0 in
-    record { held = Contains-from_in row.file files (held-from_cell files row.run row.valid row.file row.place is); run_is = is.run_is; time_is = is.time_is }
+    record {
+      held = Contains-from_in row.file files
+          (held-from_cell files row.run row.valid row.file row.place is);
+      run_is = is.run_is;
+      time_is = is.time_is;
+    }
 
 -- a row of the best time series is from the greatest run
-pub IsBest-row : (files : List Loaded) (row : Row) → Contains (rows files Best) row → IsBest files row.valid None row.run
+pub IsBest-row : (files : List Loaded) (row : Row) → Contains (rows files Best) row
+    → IsBest files row.valid None row.run
 IsBest-row files row c = IsBest-from_best files row.valid None row.run ((Contains-rows files Best row).0 c).1
 
 pub IsBest-row_from : (files : List Loaded) (least : ℤ) (row : Row) → Contains (rows files (BestFrom least)) row
@@ -195,31 +237,38 @@ IsBest-row_from files least row c =
 
 -- with a least offset those valid times stay that some run has early enough
 pub Contains-best_from : (files : List Loaded) (least valid : ℤ)
-    → Contains (map (λ (row : Row). row.valid) (rows files (BestFrom least))) valid ↔ Any (HasTimeFrom valid (Some least)) files
+    → Contains (map (λ (row : Row). row.valid) (rows files (BestFrom least))) valid ↔ Any
+    (HasTimeFrom valid (Some least)) files
 unfolding rows
 Contains-best_from files least valid = (there, back)
   where
-    there : Contains (map (λ (row : Row). row.valid) (rows files (BestFrom least))) valid → Any (HasTimeFrom valid (Some least)) files
+    there : Contains (map (λ (row : Row). row.valid) (rows files (BestFrom least))) valid
+        → Any (HasTimeFrom valid (Some least)) files
     there c =
         let row = in_map (λ (row : Row). row.valid) valid (rows files (BestFrom least)) (in_from_Contains valid _ c) in
         let made = in_filter_map (best_row files (Some least)) row.0 (times_of files) row.1 in
         let is = IsBestRow-from_best_row files (Some least) made.0 row.0 made.2 in
         let time : made.0 ≡ valid = sym is.row_is.valid_is ∙ row.2 in
-        let best_is : best files valid (Some least) ≡ Some row.0.run = ap (λ t. best files t (Some least)) (sym time) ∙ is.best_is in
+        let best_is : best files valid (Some least) ≡ Some row.0.run = ap (λ t. best files t (Some least)) (sym time)
+        ∙ is.best_is in
         let file = best_file files valid (Some least) row.0.run best_is in
         let late : least ≤ℤ (valid -ℤ row.0.run) = (IsBest-from_best files valid (Some least) row.0.run best_is).late in
         Any-from_in (HasTimeFrom valid (Some least)) file.0 files file.1
         (Contains-from_in valid file.0.times file.3, subst (λ r. least ≤ℤ (valid -ℤ r)) (sym file.2) late)
 
-    back : Any (HasTimeFrom valid (Some least)) files → Contains (map (λ (row : Row). row.valid) (rows files (BestFrom least))) valid
+    back : Any (HasTimeFrom valid (Some least)) files
+        → Contains (map (λ (row : Row). row.valid) (rows files (BestFrom least))) valid
     back any =
         let found = in_from_Any (HasTimeFrom valid (Some least)) files any in
         let time = in_from_Contains valid found.0.times found.2.0 in
         let row = value-from_some (best_row files (Some least) valid)
-        (best_row-from_best files (Some least) valid (best-from_file files valid (Some least) found.0 found.1 time found.2.1)) in
+        (best_row-from_best files (Some least) valid
+        (best-from_file files valid (Some least) found.0 found.1 time found.2.1)) in
         let held : In row.0 (rows files (BestFrom least)) =
-        In-filter_map (best_row files (Some least)) row.0 valid (times_of files) (In-times_of files found.0 valid found.1 time) row.1 in
-        let valid_is : row.0.valid ≡ valid = (IsBestRow-from_best_row files (Some least) valid row.0 row.1).row_is.valid_is in
+        In-filter_map (best_row files (Some least)) row.0 valid (times_of files)
+        (In-times_of files found.0 valid found.1 time) row.1 in
+        let valid_is : row.0.valid
+        ≡ valid = (IsBestRow-from_best_row files (Some least) valid row.0 row.1).row_is.valid_is in
         Contains-from_in valid _ (subst (λ t. In t (map (λ (r : Row). r.valid) (rows files (BestFrom least)))) valid_is
         (In-map (λ (r : Row). r.valid) row.0 (rows files (BestFrom least)) held))
 
@@ -233,15 +282,18 @@ filter_map-same make other (t ∷ more) each = ap₂ cons_option each.0 (filter_
 abbrev pub LiesFrom : ℤ → Loaded → Type 0
 LiesFrom least file = All (λ time. least ≤ℤ (time -ℤ file.run)) file.times
 
-pub best_from-least : (files : List Loaded) (least : ℤ) → All (LiesFrom least) files → rows files (BestFrom least) ≡ rows files Best
+pub best_from-least : (files : List Loaded) (least : ℤ) → All (LiesFrom least) files
+    → rows files (BestFrom least) ≡ rows files Best
 unfolding rows best_row
 best_from-least files least all = filter_map-same (best_row files (Some least)) (best_row files None) (times_of files)
     (Each-from_in _ (times_of files) (λ valid h. ap (option_and_then (λ run. row_at files run valid))
     (best-least files valid least (λ file held time. Each-in (λ t. least ≤ℤ (t -ℤ file.run)) valid file.times
-    (each_from_All (λ t. least ≤ℤ (t -ℤ file.run)) file.times (Each-in (LiesFrom least) file files (each_from_All (LiesFrom least) files all) held)) time))))
+    (each_from_All (λ t. least ≤ℤ (t -ℤ file.run)) file.times
+    (Each-in (LiesFrom least) file files (each_from_All (LiesFrom least) files all) held)) time))))
 
 -- each of a run's valid times has a row
-pub map-valid-run : (files : List Loaded) (run : ℤ) → map (λ (row : Row). row.valid) (rows files (Run run)) ≡ times_of_run files run
+pub map-valid-run : (files : List Loaded) (run : ℤ)
+    → map (λ (row : Row). row.valid) (rows files (Run run)) ≡ times_of_run files run
 unfolding rows row_at
 map-valid-run files run = map-filter_map (λ (row : Row). row.valid) (row_at files run) (times_of_run files run)
     (Each-from_in (λ t. IsSome (row_at files run t)) (times_of_run files run) (λ valid h.

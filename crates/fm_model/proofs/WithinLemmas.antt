@@ -41,10 +41,12 @@ use Rattle.fm_model.proofs.TimeLemmas.{times_count}
 held_var : (header : FileHeader) (name : List ℕ) (var : NcVar) → file_var header name ≡ Ok var → In var header.vars
 unfolding file_var var_named
 held_var header name var e =
-    (in_find (λ (v : NcVar). bytes_eq v.name name) header.vars var (ok_or_ok (var_named header name) (MissingVariable name) var e)).0
+    (in_find (λ (v : NcVar). bytes_eq v.name name) header.vars var
+    (ok_or_ok (var_named header name) (MissingVariable name) var e)).0
 
 -- in a file that was taken, each variable with an element ends within the content
-ends_in_content : (bytes : List ℕ) (header : FileHeader) (var : NcVar) → file_header bytes ≡ Ok header → In var header.vars
+ends_in_content : (bytes : List ℕ) (header : FileHeader) (var : NcVar) → file_header bytes ≡ Ok header
+    → In var header.vars
     → EndsWithin header (length bytes) var
 ends_in_content bytes header var e held =
     let has = file_has_data bytes header e in
@@ -52,7 +54,8 @@ ends_in_content bytes header var e held =
     (each_from_All (EndsWithin header (length bytes)) header.vars (ends_within header (length bytes) has.1)) held
 
 -- the arithmetic of a slot: what lies at the k-th of n times ends where the last ends, or before
-slot_end : (begin step size whole rank k n end len : ℕ) → k < n → begin + (n - 1) * step + size * rank + size ≡ end → rank + 1 ≡ whole → end ≤ len
+slot_end : (begin step size whole rank k n end len : ℕ) → k < n → begin + (n - 1) * step + size * rank + size ≡ end
+    → rank + 1 ≡ whole → end ≤ len
     → begin + k * step + size * whole ≤ len
 slot_end begin step size whole rank k n end len below is last within =
     let earlier : k * step ≤ (n - 1) * step = mul-le k step (n - 1) step (omega arith) (omega arith) in
@@ -63,33 +66,43 @@ positive_product : (m n : ℕ) → 0 < m → 0 < n → 0 < m * n
 positive_product m n some other = let least = mul-le 1 1 m n some other in omega (arith, least)
 
 -- what lies at one time of a variable along the axis
-within_slot : (bytes : List ℕ) (header : FileHeader) (axis var : NcVar) (first : ℕ) (others : List ℕ) (k : ℕ) → EndsWithin header (length bytes) var
-    → var.dims ≡ first ∷ others → IsTrue (stands_first_alone (dim_of_axis axis) var.dims) → k < size_at header first → 0 < product (map (size_at header) others)
-    → (slot_in header axis var).begin + k * (slot_in header axis var).step + size_of var.kind * product (map (size_at header) others) ≤ length bytes
+within_slot : (bytes : List ℕ) (header : FileHeader) (axis var : NcVar) (first : ℕ) (others : List ℕ) (k : ℕ)
+    → EndsWithin header (length bytes) var
+    → var.dims ≡ first ∷ others → IsTrue (stands_first_alone (dim_of_axis axis) var.dims) → k < size_at header first
+    → 0 < product (map (size_at header) others)
+    → (slot_in header axis var).begin + k * (slot_in header axis var).step + size_of var.kind * product
+    (map (size_at header) others) ≤ length bytes
 unfolding product
 within_slot bytes header axis var first others k ends dims alone below some =
-    let shape : shape_of header var ≡ size_at header first ∷ map (size_at header) others = ap (map (size_at header)) dims in
+    let shape : shape_of header var ≡ size_at header first ∷ map
+    (size_at header) others = ap (map (size_at header)) dims in
     let elements : 0 < product (shape_of header var) =
-    subst (λ (l : List ℕ). 0 < product l) (sym shape) (positive_product (size_at header first) (product (map (size_at header) others)) (omega arith) some) in
+    subst (λ (l : List ℕ). 0 < product l) (sym shape)
+    (positive_product (size_at header first) (product (map (size_at header) others)) (omega arith) some) in
     let last : List ℕ = map (λ n. n - 1) (map (size_at header) others) in
     let place = place_of-slot header axis var (size_at header first - 1) last alone in
     let end : end_of header var ≡ place_of header var ((size_at header first - 1) ∷ last) + size_of var.kind =
     ap (λ (l : List ℕ). place_of header var (map (λ n. n - 1) l) + size_of var.kind) shape in
     let begin : ℕ = (slot_in header axis var).begin in
     let step : ℕ = (slot_in header axis var).step in
-    let rank = ap (λ (l : List ℕ). begin + (size_at header first - 1) * step + size_of var.kind * rank_in (drop 1 l) last) shape in
-    slot_end begin step (size_of var.kind) (product (map (size_at header) others)) (rank_in (map (size_at header) others) last) k
-    (size_at header first) (end_of header var) (length bytes) below (sym (end ∙ ap (λ n. n + size_of var.kind) (place ∙ rank)))
+    let rank = ap (λ (l : List ℕ). begin + (size_at header first - 1) * step + size_of var.kind * rank_in
+    (drop 1 l) last) shape in
+    slot_end begin step (size_of var.kind) (product (map (size_at header) others))
+    (rank_in (map (size_at header) others) last) k
+    (size_at header first) (end_of header var) (length bytes) below
+    (sym (end ∙ ap (λ n. n + size_of var.kind) (place ∙ rank)))
     (rank_in-last (map (size_at header) others) some) (ends elements)
 
-each_name : (P : List ℕ → Type 0) (dims : List Dim) (place : ℕ) (dim : Dim) → AllByRecursion P (map (λ (d : Dim). d.name) dims)
+each_name : (P : List ℕ → Type 0) (dims : List Dim) (place : ℕ) (dim : Dim)
+    → AllByRecursion P (map (λ (d : Dim). d.name) dims)
     → slice_get dims place ≡ Some dim → P dim.name
 each_name P [] place dim all e = absurd (none-some dim e)
 each_name P (first ∷ dims) zero dim all e = subst (λ (d : Dim). P d.name) (same_Some first dim e) all.0
 each_name P (first ∷ dims) (suc place) dim all e = each_name P dims place dim all.1 e
 
 -- where names differ, one name is at one place
-one_place : (dims : List Dim) (i j : ℕ) (a b : Dim) → AreDistinct (map (λ (d : Dim). d.name) dims) → slice_get dims i ≡ Some a → slice_get dims j ≡ Some b
+one_place : (dims : List Dim) (i j : ℕ) (a b : Dim) → AreDistinct (map (λ (d : Dim). d.name) dims)
+    → slice_get dims i ≡ Some a → slice_get dims j ≡ Some b
     → a.name ≡ b.name → i ≡ j
 unfolding IsDistinct
 one_place [] i j a b apart e d same = absurd (none-some a e)
@@ -110,11 +123,13 @@ dim_there (dim ∷ dims) zero below = (dim, refl)
 dim_there (dim ∷ dims) (suc place) below = dim_there dims place (omega arith)
 
 -- the dimension of this name
-dim_named : (dims : List Dim) (name : List ℕ) (id : ℕ) → IsTrue (is_named dims name id) → (dim : Dim) × (slice_get dims id ≡ Some dim) × (dim.name ≡ name)
+dim_named : (dims : List Dim) (name : List ℕ) (id : ℕ) → IsTrue (is_named dims name id)
+    → (dim : Dim) × (slice_get dims id ≡ Some dim) × (dim.name ≡ name)
 unfolding is_named
 dim_named dims name id e = by_dim (slice_get dims id) refl e
   where
-    by_dim : (o : Option Dim) → slice_get dims id ≡ o → option_map_or (λ (dim : Dim). bytes_eq dim.name name) o false ≡ true
+    by_dim : (o : Option Dim) → slice_get dims id ≡ o
+        → option_map_or (λ (dim : Dim). bytes_eq dim.name name) o false ≡ true
         → (dim : Dim) × (slice_get dims id ≡ Some dim) × (dim.name ≡ name)
     by_dim None is e = absurd (false≢true e)
     by_dim (Some dim) is e = (dim, is, (bytes_eq-Decides dim.name name).0 e)
@@ -125,9 +140,11 @@ positive_length : (proto : Proto) (sound : IsSound proto) (id : ℕ) → id < le
 positive_length proto sound id below other =
     let found = dim_there proto.dims id below in
     let axis = dim_named proto.dims proto.axis sound.id sound.named in
-    let differs : found.0.name ≢ proto.axis = λ e. other (one_place proto.dims sound.id id axis.0 found.0 sound.dim_names axis.1 found.1 (axis.2 ∙ sym e)) in
+    let differs : found.0.name ≢ proto.axis = λ e. other
+    (one_place proto.dims sound.id id axis.0 found.0 sound.dim_names axis.1 found.1 (axis.2 ∙ sym e)) in
     let some = Each-in (λ (dim : Dim). dim.name ≢ proto.axis → 0 < dim.size) found.0 proto.dims
-    (each_from_All (λ (dim : Dim). dim.name ≢ proto.axis → 0 < dim.size) proto.dims sound.lengths) (in_from_slice_get proto.dims id found.0 found.1) differs in
+    (each_from_All (λ (dim : Dim). dim.name ≢ proto.axis → 0 < dim.size) proto.dims sound.lengths)
+    (in_from_slice_get proto.dims id found.0 found.1) differs in
     rw found.1 some
 
 not_along : (id : ℕ) (ids : List ℕ) → lies_along id ids ≡ false → Each (λ other. id ≡ other → ⊥) ids
@@ -147,19 +164,27 @@ some_per_time : (proto : Proto) → IsSound proto → (wanted : ProtoVar) → In
     → 0 < product (drop 1 (lengths_of proto wanted.dims))
 unfolding stands_first_alone
 some_per_time proto sound wanted held timed =
-    let lies = (Each-in (LiesFirst sound.id) wanted proto.vars (each_from_All (LiesFirst sound.id) proto.vars sound.timed) held).0 timed in
-    let in_range = each_from_All (λ id. id < length proto.dims) wanted.dims (Each-in (HasDims proto) wanted proto.vars (each_from_All (HasDims proto) proto.vars sound.in_range) held) in
+    let lies = (Each-in (LiesFirst sound.id) wanted proto.vars
+    (each_from_All (LiesFirst sound.id) proto.vars sound.timed) held).0 timed in
+    let in_range = each_from_All (λ id. id < length proto.dims) wanted.dims
+    (Each-in (HasDims proto) wanted proto.vars (each_from_All (HasDims proto) proto.vars sound.in_range) held) in
     by_dims wanted.dims in_range lies.0
   where
-    by_dims : (dims : List ℕ) → Each (λ id. id < length proto.dims) dims → IsTrue (stands_first_alone sound.id dims) → 0 < product (drop 1 (lengths_of proto dims))
+    by_dims : (dims : List ℕ) → Each (λ id. id < length proto.dims) dims → IsTrue (stands_first_alone sound.id dims)
+        → 0 < product (drop 1 (lengths_of proto dims))
     by_dims [] in_range alone = absurd (false≢true alone)
     by_dims (first ∷ others) in_range alone =
-        let apart = not_along sound.id others (not-true (lies_along sound.id others) (and_parts (first == sound.id) (not (lies_along sound.id others)) alone).1) in
+        let apart = not_along sound.id others
+        (not-true (lies_along sound.id others)
+        (and_parts (first == sound.id) (not (lies_along sound.id others)) alone).1) in
         positive_all (λ id. option_map_or (λ (dim : Dim). dim.size) (slice_get proto.dims id) 0) others
-        (Each-from_in _ others (λ id h. positive_length proto sound id (Each-in (λ n. n < length proto.dims) id others in_range.1 h) (Each-in (λ o. sound.id ≡ o → ⊥) id others apart h)))
+        (Each-from_in _ others
+        (λ id h. positive_length proto sound id (Each-in (λ n. n < length proto.dims) id others in_range.1 h)
+        (Each-in (λ o. sound.id ≡ o → ⊥) id others apart h)))
 
 -- what a slot says lies in the content, at each time
-slot_within : (proto : Proto) (bytes : List ℕ) (header : FileHeader) (axis : NcVar) (wanted : ProtoVar) (slot : Slot) → file_header bytes ≡ Ok header
+slot_within : (proto : Proto) (bytes : List ℕ) (header : FileHeader) (axis : NcVar) (wanted : ProtoVar) (slot : Slot)
+    → file_header bytes ≡ Ok header
     → 0 < product (drop 1 (lengths_of proto wanted.dims)) → IsSlotOf proto header axis wanted slot
     → LiesWithin proto (size_at header (dim_of_axis axis)) (length bytes) wanted slot
 unfolding stands_first_alone
@@ -169,10 +194,14 @@ slot_within proto bytes header axis wanted slot e some is k below = by_dims is.v
         → slot.begin + k * slot.step + bytes_per_time proto wanted ≤ length bytes
     by_dims [] are alone = absurd (false≢true alone)
     by_dims (first ∷ others) are alone =
-        let along : first ≡ dim_of_axis axis = eqb-true first (dim_of_axis axis) (and_parts (first == dim_of_axis axis) (not (lies_along (dim_of_axis axis) others)) alone).0 in
-        let lengths : map (size_at header) others ≡ drop 1 (lengths_of proto wanted.dims) = ap (λ (l : List ℕ). drop 1 (map (size_at header) l)) (sym are) ∙ is.lengths in
+        let along : first ≡ dim_of_axis axis = eqb-true first (dim_of_axis axis)
+        (and_parts (first == dim_of_axis axis) (not (lies_along (dim_of_axis axis) others)) alone).0 in
+        let lengths : map (size_at header) others ≡ drop 1
+        (lengths_of proto wanted.dims) = ap (λ (l : List ℕ). drop 1 (map (size_at header) l)) (sym are)
+        ∙ is.lengths in
         let ends = ends_in_content bytes header is.var e (held_var header wanted.name is.var is.named) in
-        let inside = within_slot bytes header axis is.var first others k ends are is.along (subst (λ id. k < size_at header id) (sym along) below)
+        let inside = within_slot bytes header axis is.var first others k ends are is.along
+        (subst (λ id. k < size_at header id) (sym along) below)
         (subst (λ (l : List ℕ). 0 < product l) (sym lengths) some) in
         let bytes_are : size_of is.var.kind * product (map (size_at header) others) ≡ bytes_per_time proto wanted =
         ap₂ (λ (s p : ℕ). s * p) (ap size_of is.kind_is) (ap product lengths) in
@@ -180,11 +209,13 @@ slot_within proto bytes header axis wanted slot e some is k below = by_dims is.v
         let step = ap (λ (s : Slot). k * s.step) is.slot_is in
         omega (arith, inside, bytes_are, begin, step)
 
-AllZip-each : {A B : Type 0} (R S : A → B → Type 0) (as' : List A) (bs : List B) → ((a : A) (b : B) → In a as' → R a b → S a b) → AllZip R as' bs → AllZip S as' bs
+AllZip-each : {A B : Type 0} (R S : A → B → Type 0) (as' : List A) (bs : List B)
+    → ((a : A) (b : B) → In a as' → R a b → S a b) → AllZip R as' bs → AllZip S as' bs
 AllZip-each R S [] [] weaker zip = tt
 AllZip-each R S [] (b ∷ bs) weaker zip = absurd zip
 AllZip-each R S (a ∷ as') [] weaker zip = absurd zip
-AllZip-each R S (a ∷ as') (b ∷ bs) weaker zip = (weaker a b (inl refl) zip.0, AllZip-each R S as' bs (λ x y h. weaker x y (inr h)) zip.1)
+AllZip-each R S (a ∷ as')
+    (b ∷ bs) weaker zip = (weaker a b (inl refl) zip.0, AllZip-each R S as' bs (λ x y h. weaker x y (inr h)) zip.1)
 
 pub slots_within : (file : Loaded) (proto : Proto) → IsSound proto → Fits file proto
     → AllZip (LiesWithin proto (length file.times) (length file.content)) (slotted_vars proto) file.slots
@@ -193,20 +224,24 @@ slots_within file proto sound fits =
     let t = IsTaken-load_of file.name file.content proto file fits in
     let count = times_count file proto t.header t.axis fits t.header_is t.axis_is in
     subst (λ n. AllZip (LiesWithin proto n (length file.content)) (slotted_vars proto) file.slots) (sym count)
-    (AllZip-each (IsSlotOf proto t.header t.axis) (LiesWithin proto (size_at t.header (dim_of_axis t.axis)) (length file.content)) (slotted_vars proto) file.slots
+    (AllZip-each (IsSlotOf proto t.header t.axis)
+    (LiesWithin proto (size_at t.header (dim_of_axis t.axis)) (length file.content)) (slotted_vars proto) file.slots
     (λ wanted slot h is.
     let held = in_filter (λ (w : ProtoVar). w.timed && not (bytes_eq w.name proto.axis)) wanted proto.vars h in
     slot_within proto file.content t.header t.axis wanted slot t.header_is
-    (some_per_time proto sound wanted held.0 (and_parts wanted.timed (not (bytes_eq wanted.name proto.axis)) held.1).0) is)
+    (some_per_time proto sound wanted held.0
+    (and_parts wanted.timed (not (bytes_eq wanted.name proto.axis)) held.1).0) is)
     (slots_each file proto t.header t.axis fits t.header_is t.axis_is))
 
 -- elements that begin with those of a sound prototype are those
-same_elements : (proto : Proto) (bytes : List ℕ) (header : FileHeader) (wanted : ProtoVar) → file_header bytes ≡ Ok header → HasElements proto wanted → wanted.timed ≡ false
+same_elements : (proto : Proto) (bytes : List ℕ) (header : FileHeader) (wanted : ProtoVar)
+    → file_header bytes ≡ Ok header → HasElements proto wanted → wanted.timed ≡ false
     → IsGridBegun proto bytes header wanted → IsSameGrid proto bytes header wanted
 same_elements proto bytes header wanted e has untimed begun =
     let ends = ends_in_content bytes header begun.var e (held_var header wanted.name begun.var begun.named) in
     let file_len = length-elements_of bytes header begun.var ends in
-    let sizes : size_of begun.var.kind * product (shape_of header begun.var) ≡ size_of wanted.kind * product (lengths_of proto wanted.dims) =
+    let sizes : size_of begun.var.kind * product (shape_of header begun.var) ≡ size_of wanted.kind * product
+    (lengths_of proto wanted.dims) =
     ap₂ (λ (s p : ℕ). s * p) (ap size_of begun.kind_is) (ap product begun.lengths) in
     let as_many = has untimed in
     record {
@@ -214,16 +249,21 @@ same_elements proto bytes header wanted e has untimed begun =
       named = begun.named;
       kind_is = begun.kind_is;
       lengths = begun.lengths;
-      elements = sym (take_all (length wanted.fixed) (elements_of bytes header begun.var) (omega (arith, file_len, sizes, as_many))) ∙ begun.elements;
+      elements = sym (take_all (length wanted.fixed) (elements_of bytes header begun.var)
+          (omega (arith, file_len, sizes, as_many))) ∙ begun.elements;
     }
 
-pub same_grids : (file : Loaded) (proto : Proto) (header : FileHeader) → IsSound proto → Fits file proto → file_header file.content ≡ Ok header
-    → All (λ (wanted : ProtoVar). wanted.name ≢ proto.axis → wanted.timed ≡ false → IsTrue (is_coordinate proto.dims wanted.name wanted.kind wanted.dims)
+pub same_grids : (file : Loaded) (proto : Proto) (header : FileHeader) → IsSound proto → Fits file proto
+    → file_header file.content ≡ Ok header
+    → All (λ (wanted : ProtoVar). wanted.name ≢ proto.axis → wanted.timed ≡ false → IsTrue
+    (is_coordinate proto.dims wanted.name wanted.kind wanted.dims)
     → IsSameGrid proto file.content header wanted) proto.vars
 same_grids file proto header sound fits e =
-    let Begun : ProtoVar → Type 0 = λ (w : ProtoVar). w.name ≢ proto.axis → w.timed ≡ false → IsTrue (is_coordinate proto.dims w.name w.kind w.dims)
+    let Begun : ProtoVar → Type 0 = λ (w : ProtoVar). w.name ≢ proto.axis → w.timed ≡ false
+    → IsTrue (is_coordinate proto.dims w.name w.kind w.dims)
     → IsGridBegun proto file.content header w in
-    let Same : ProtoVar → Type 0 = λ (w : ProtoVar). w.name ≢ proto.axis → w.timed ≡ false → IsTrue (is_coordinate proto.dims w.name w.kind w.dims)
+    let Same : ProtoVar → Type 0 = λ (w : ProtoVar). w.name ≢ proto.axis → w.timed ≡ false
+    → IsTrue (is_coordinate proto.dims w.name w.kind w.dims)
     → IsSameGrid proto file.content header w in
     let each = each_from_All Begun proto.vars (begun_grids file proto header fits e) in
     let fixed = each_from_All (HasElements proto) proto.vars sound.fixed in

@@ -41,7 +41,12 @@ holds_older files cutoff = list_any (λ (f : Loaded). int_lt f.run cutoff) files
 
 -- the number of files, of times of all files, and of bytes of all files
 unfoldable pub tally : List Loaded → Tally
-tally files = record { files = length files; rows = sum_by (λ (f : Loaded). length f.times) files; size = sum_by (λ (f : Loaded). length f.content) files }
+tally files = record {
+  files = length files;
+  rows = sum_by (λ (f : Loaded). length f.times) files;
+  size = sum_by
+      (λ (f : Loaded). length f.content) files;
+}
 
 -- what passes its limit first, in the order files, rows, bytes
 unfoldable pub full_of : Tally → Option TooMany

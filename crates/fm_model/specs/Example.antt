@@ -54,7 +54,14 @@ times_var kind attrs = record { name = codes "time"; dims = 0 ∷ []; attrs = at
 
 -- a header with that variable alone, over n times
 abbrev pub times_header : ℕ → NcVar → Header
-times_header count var = record { version = 1; numrecs = 0; dims = record { name = codes "time"; size = count } ∷ []; attrs = []; vars = var ∷ [] }
+times_header count var = record {
+  version = 1;
+  numrecs = 0;
+  dims = record { name = codes "time"; size = count }
+      ∷ [];
+  attrs = [];
+  vars = var ∷ [];
+}
 
 -- an attribute of characters
 abbrev pub text_attr : List ℕ → List ℕ → Attr
@@ -73,7 +80,8 @@ abbrev pub field_header : List NcVar → Header
 field_header vars = record {
   version = 1;
   numrecs = 3;
-  dims = record { name = codes "time"; size = 0 } ∷ record { name = codes "lat"; size = 2 } ∷ record { name = codes "lon"; size = 2 } ∷ [];
+  dims = record { name = codes "time"; size = 0 } ∷ record { name = codes "lat"; size = 2 }
+      ∷ record { name = codes "lon"; size = 2 } ∷ [];
   attrs = [];
   vars = record_axis ∷ vars;
 }
@@ -87,9 +95,11 @@ abbrev pub field_proto : Proto
 field_proto = record {
   site = site;
   axis = codes "time";
-  dims = record { name = codes "time"; size = 3 } ∷ record { name = codes "lat"; size = 2 } ∷ record { name = codes "lon"; size = 2 } ∷ [];
+  dims = record { name = codes "time"; size = 3 } ∷ record { name = codes "lat"; size = 2 }
+      ∷ record { name = codes "lon"; size = 2 } ∷ [];
   attrs = [];
-  vars = record { name = codes "time"; kind = Int; dims = 0 ∷ []; attrs = []; timed = true; fixed = [] } ∷ proto_field ∷ [];
+  vars = record { name = codes "time"; kind = Int; dims = 0 ∷ []; attrs = []; timed = true; fixed = [] } ∷ proto_field
+      ∷ [];
 }
 
 -- a variable of whole numbers over dimensions of these numbers
@@ -98,7 +108,10 @@ number_var name dims = record { name = name; dims = dims; attrs = []; kind = Int
 
 -- a variable with the standard name of a reference time
 abbrev pub run_var : List ℕ → NcVar
-run_var dims = record (number_var (codes "run") dims) { attrs = text_attr (codes "standard_name") (codes "forecast_reference_time") ∷ [] }
+run_var dims = record (number_var (codes "run") dims) {
+  attrs = text_attr (codes "standard_name")
+      (codes "forecast_reference_time") ∷ [];
+}
 
 -- a variable of characters
 abbrev pub flag_var : List ℕ → NcVar
@@ -106,11 +119,21 @@ flag_var dims = record (number_var (codes "flag") dims) { kind = Char }
 
 -- a variable over its own dimension with the standard name `time`
 abbrev pub valid_var : NcVar
-valid_var = record (number_var (codes "valid") (0 ∷ [])) { attrs = text_attr (codes "standard_name") (codes "time") ∷ [] }
+valid_var = record (number_var (codes "valid") (0 ∷ [])) {
+  attrs = text_attr (codes "standard_name") (codes "time")
+      ∷ [];
+}
 
 -- a header with a dimension of this name and length 2, and one variable
 abbrev pub header_of : List ℕ → NcVar → Header
-header_of name var = record { version = 1; numrecs = 0; dims = record { name = name; size = 2 } ∷ []; attrs = []; vars = var ∷ [] }
+header_of name var = record {
+  version = 1;
+  numrecs = 0;
+  dims = record { name = name; size = 2 }
+      ∷ [];
+  attrs = [];
+  vars = var ∷ [];
+}
 
 -- a time axis over two times, a dimension of this name and length, and one more variable
 abbrev pub header_with : List ℕ → ℕ → NcVar → Header

@@ -63,7 +63,8 @@ abbrev pub proto_a : Proto
 proto_a = record {
   site = site;
   axis = codes "time";
-  dims = record { name = codes "time"; size = 3 } ∷ record { name = codes "lat"; size = 2 } ∷ record { name = codes "lon"; size = 2 } ∷ [];
+  dims = record { name = codes "time"; size = 3 } ∷ record { name = codes "lat"; size = 2 }
+      ∷ record { name = codes "lon"; size = 2 } ∷ [];
   attrs = [];
   vars = record {
     name = codes "time";
@@ -72,8 +73,24 @@ proto_a = record {
     attrs = text_attr (codes "units") (codes "seconds since 1970-01-01 00:00:00") ∷ [];
     timed = true;
     fixed = [];
-  } ∷ record { name = codes "lat"; kind = Float; dims = 1 ∷ []; attrs = []; timed = false; fixed = hex (codes "41200000 41a00000") }
-      ∷ record { name = codes "lon"; kind = Float; dims = 2 ∷ []; attrs = []; timed = false; fixed = hex (codes "41f00000 42200000") }
+  } ∷ record {
+    name = codes "lat";
+    kind = Float;
+    dims = 1 ∷ [];
+    attrs = [];
+    timed = false;
+    fixed = hex
+        (codes "41200000 41a00000");
+  }
+      ∷ record {
+        name = codes "lon";
+        kind = Float;
+        dims = 2 ∷ [];
+        attrs = [];
+        timed = false;
+        fixed = hex
+            (codes "41f00000 42200000");
+      }
       ∷ record { name = codes "t"; kind = Float; dims = 0 ∷ 1 ∷ 2 ∷ []; attrs = []; timed = true; fixed = [] }
       ∷ [];
 }
@@ -137,7 +154,8 @@ abbrev pub proto_c : Proto
 proto_c = record {
   site = site;
   axis = codes "time";
-  dims = record { name = codes "time"; size = 2 } ∷ record { name = codes "station"; size = 2 } ∷ record { name = codes "lat"; size = 2 }
+  dims = record { name = codes "time"; size = 2 } ∷ record { name = codes "station"; size = 2 }
+      ∷ record { name = codes "lat"; size = 2 }
       ∷ record { name = codes "len"; size = 3 } ∷ [];
   attrs = text_attr (codes "title") (codes "GFS" ++ 0 ∷ []) ∷ [];
   vars = record {

@@ -20,11 +20,13 @@ use Rattle.fm_model.specs.Variable.{dim_of_axis, reference_of}
 
 -- the units of a variable of times, by its `units` and `calendar`; without `units` it has the empty text there
 unfoldable pub file_units : NcVar → Result TimeUnits LoadFault
-file_units var = fault_as Units (units_of (unwrap_or (text_of var.attrs (codes "units")) []) (text_of var.attrs (codes "calendar")))
+file_units var = fault_as Units
+    (units_of (unwrap_or (text_of var.attrs (codes "units")) []) (text_of var.attrs (codes "calendar")))
 
 -- the whole seconds of an element, where it is a number and they are whole
 unfoldable pub seconds_at : List ℕ → FileHeader → NcVar → TimeUnits → List ℕ → Option ℤ
-seconds_at bytes header var units index = option_and_then (λ pattern. whole_seconds_of pattern units.per) (pattern_of_bytes var.kind (element bytes header var index))
+seconds_at bytes header var units index = option_and_then (λ pattern. whole_seconds_of pattern units.per)
+    (pattern_of_bytes var.kind (element bytes header var index))
 
 -- the instant n seconds after the origin of units, in seconds from the collection's epoch
 abbrev pub from_epoch : Site → TimeUnits → ℤ → ℤ

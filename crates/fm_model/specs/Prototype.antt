@@ -57,7 +57,8 @@ names_are_plain header =
 
 -- whether a variable is that of the run's time
 unfoldable pub is_reference : FileHeader → NcVar → Bool
-is_reference header var = option_map_or (λ (reference : NcVar). bytes_eq reference.name var.name) (reference_of header) false
+is_reference header var = option_map_or (λ (reference : NcVar). bytes_eq reference.name var.name)
+    (reference_of header) false
 
 -- whether a variable has one character for each time
 unfoldable pub is_char_per_time : NcVar → NcVar → Bool
@@ -144,7 +145,8 @@ lengths_of proto ids = map (λ id. option_map_or (λ (dim : Dim). dim.size) (sli
 -- a variable of a prototype lies along the axis with that dimension first and only there, and has no fixed elements; or
 -- it has not that dimension
 abbrev pub LiesFirst : ℕ → ProtoVar → Type 0
-LiesFirst id var = (var.timed ≡ true → IsTrue (stands_first_alone id var.dims) × (var.fixed ≡ [])) × (var.timed ≡ false → lies_along id var.dims ≡ false)
+LiesFirst id var = (var.timed ≡ true → IsTrue (stands_first_alone id var.dims) × (var.fixed ≡ [])) × (var.timed
+    ≡ false → lies_along id var.dims ≡ false)
 
 -- a variable is a prototype's axis, over the dimension of this number
 pub record IsAxis (proto : Proto) (id : ℕ) (var : ProtoVar) : Type 0 where

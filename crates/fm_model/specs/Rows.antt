@@ -11,7 +11,8 @@ use Rattle.fm_model.specs.Cell.{runs_of, times_of, times_of_run, cell, best}
 
 -- the row of a run and a valid time, where they have a cell
 unfoldable pub row_at : List Loaded → ℤ → ℤ → Option Row
-row_at files run valid = option_map (λ found. record { valid = valid; run = run; file = found.0; place = found.1 }) (cell files run valid)
+row_at files run valid = option_map (λ found. record { valid = valid; run = run; file = found.0; place = found.1 })
+    (cell files run valid)
 
 -- the row of a valid time in a best time series, from the best run
 unfoldable pub best_row : List Loaded → Option ℤ → ℤ → Option Row

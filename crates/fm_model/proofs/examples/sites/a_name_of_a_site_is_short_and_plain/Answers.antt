@@ -12,7 +12,14 @@ returns-clause-site c = IsSite-site
 
 pub returns-clause-longest : goal.returns-clause-longest
 unfolding is_plain_name is_name_byte
-returns-clause-longest c = record { plain = refl; some = omega arith; few = omega arith; from_year_100 = omega (arith, ints); to_year_9900 = omega (arith, ints) }
+returns-clause-longest c = record {
+  plain = refl;
+  some = omega arith;
+  few = omega arith;
+  from_year_100 = omega
+      (arith, ints);
+  to_year_9900 = omega (arith, ints);
+}
 
 pub returns-clause-longer : goal.returns-clause-longer
 returns-clause-longer c = λ s. absurd (let few = s.few in omega (arith, few))
