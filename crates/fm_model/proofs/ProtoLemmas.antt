@@ -1,7 +1,7 @@
 -- What is known of a prototype.
-use Rattle.std.proofs.Common.{◌≡◌, ◌≢◌, ℕ, ◌<◌, ◌*◌, Bool, true, false, not, ◌&&◌, ◌||◌, List, [], ◌∷◌, ◌++◌, drop, map, Option, Some, None, Ok, cond, length, refl, sym, ap, ap₂, subst, ◌∙◌, inl, inr, arith}
-use Rattle.std.specs.Prelude.{All, IsTrue, filter, slice_get, slice_index, ◌==◌}
-use Rattle.std.specs.List.{AllByRecursion, IsDistinct}
+use Rattle.std.proofs.Common.{◌≡◌, ◌≢◌, ℕ, ◌<◌, Bool, true, false, not, ◌&&◌, ◌||◌, List, [], ◌∷◌, ◌++◌, drop, map, Option, Some, None, Ok, length, refl, sym, ap, subst, ◌∙◌, inl, inr, arith}
+use Rattle.std.specs.Prelude.{All, IsTrue, slice_get, slice_index, ◌==◌}
+use Rattle.std.specs.List.{AllByRecursion}
 use Rattle.std.specs.Option.{option_map, option_map_or}
 use Rattle.std.specs.Str.{bytes_eq}
 use Rattle.std.proofs.lemmas.Bool.{and_cases, and_parts, both_ways, eq-eqb, eqb-false, false≢true, not-false, not-true, or_parts}
@@ -11,24 +11,23 @@ use Rattle.std.proofs.lemmas.Slice.Eq.{bytes_eq-Decides}
 use Rattle.fm_base.specs.declared.header.Dim.{Dim}
 use Rattle.fm_base.specs.declared.header.Header.{Header as FileHeader}
 use Rattle.fm_base.specs.declared.header.NcVar.{NcVar}
-use Rattle.fm_base.specs.Kind.{size_of}
-use Rattle.fm_base.specs.Layout.{product, size_at, size_in}
-use Rattle.fm_base.specs.Spelling.{AreDistinct}
+use Rattle.fm_base.specs.Layout.{size_in}
 use Rattle.fm_model.specs.declared.proto.Proto.{Proto}
 use Rattle.fm_model.specs.declared.proto.ProtoFault.{ProtoFault}
 use Rattle.fm_model.specs.declared.proto.ProtoFault.TheVariants.{NoTimeAxis, TimeNotFirst, BadProtoName, NameTaken, EmptyDimension}
 use Rattle.fm_model.specs.declared.proto.ProtoVar.{ProtoVar}
 use Rattle.fm_model.specs.declared.site.Site.{Site}
 use Rattle.fm_model.specs.Attribute.{is_char}
-use Rattle.fm_model.specs.Prototype.{proto_header, proto_axis, time_stands_first, is_plain_name, names_are_plain, kept_vars, run_name, offset_name, names_are_free, dims_have_lengths, proto_var, with_length, proto_with, proto_of, lengths_of, LiesFirst, HasFreeName, HasElements, HasDims, IsSound}
+use Rattle.fm_model.specs.Prototype.{proto_header, proto_axis, time_stands_first, is_plain_name, names_are_plain, kept_vars, run_name, offset_name, names_are_free, dims_have_lengths, proto_var, with_length, proto_with, proto_of, LiesFirst, HasFreeName, HasElements, HasDims, IsSound}
 use Rattle.fm_model.specs.Site.{IsPrototype}
 use Rattle.fm_model.specs.Variable.{is_named, is_coordinate, is_axis, axis_of, dim_of_axis, lies_along, stands_first_alone}
-use Rattle.fm_base.proofs.EndLaws.{EndsWithin, ends_within, length-elements_of}
+use Rattle.fm_base.proofs.EndLaws.{EndsWithin, ends_within}
 use Rattle.fm_base.proofs.ReadFacts.{IsNamed-from_read}
 use Rattle.fm_model.proofs.HeaderLemmas.{proto_has_data}
 use Rattle.fm_base.proofs.ChainLemmas.{step_ok, check_ok, ok_or_ok, same_Ok}
 use Rattle.fm_model.proofs.Members.{In, Each-in, Each-from_in, All-from_each, each_from_All, Any-from_in, In-append_left, In-append_right, In-filter, in_filter, In-map, in_map}
 use Rattle.fm_model.proofs.FindLemmas.{in_find, each_passes}
+use Rattle.fm_model.proofs.KeptLemmas.{dim_names, var_names, kept_names, each_by_recursion, dims_in, has_elements}
 
 -- the steps by which a prototype was taken
 pub record IsProto (bytes : List ℕ) (site : Site) (proto : Proto) : Type 0 where
@@ -185,84 +184,6 @@ module _ (bytes : List ℕ) (site : Site) (header : FileHeader) (axis : NcVar) w
 
 differs : (name other : List ℕ) → bytes_eq name other ≡ false → name ≢ other
 differs name other e same = both_ways (bytes_eq name other) e ((bytes_eq-Decides name other).1 same)
-
--- lengths change no name
-dim_names : (header : FileHeader) (dims : List Dim)
-    → map (λ (d : Dim). d.name) (map (with_length header) dims) ≡ map (λ (d : Dim). d.name) dims
-dim_names header [] = refl
-dim_names header (dim ∷ dims) = ap (λ l. dim.name ∷ l) (dim_names header dims)
-
-var_names : (bytes : List ℕ) (header : FileHeader) (axis : NcVar) (vars : List NcVar)
-    → map (λ (v : ProtoVar). v.name) (map (proto_var bytes header axis) vars) ≡ map (λ (v : NcVar). v.name) vars
-unfolding proto_var
-var_names bytes header axis [] = refl
-var_names bytes header axis (var ∷ vars) = ap (λ l. var.name ∷ l) (var_names bytes header axis vars)
-
--- names of variables that are kept differ where all do
-all_kept : (P : List ℕ → Type 0) (keep : NcVar → Bool) (vars : List NcVar)
-    → AllByRecursion P (map (λ (v : NcVar). v.name) vars)
-    → AllByRecursion P (map (λ (v : NcVar). v.name) (filter keep vars))
-all_kept P keep [] all = tt
-all_kept P keep (var ∷ vars) all = by_test (keep var) (all_kept P keep vars all.1)
-  where
-    by_test : (b : Bool) → AllByRecursion P (map (λ (v : NcVar). v.name) (filter keep vars))
-        → AllByRecursion P (map (λ (v : NcVar). v.name) (cond b (var ∷ filter keep vars) (filter keep vars)))
-    by_test true more = (all.0, more)
-    by_test false more = more
-
-distinct_kept : (keep : NcVar → Bool) (vars : List NcVar) → AreDistinct (map (λ (v : NcVar). v.name) vars)
-    → AreDistinct (map (λ (v : NcVar). v.name) (filter keep vars))
-unfolding IsDistinct
-distinct_kept keep [] apart = tt
-distinct_kept keep (var ∷ vars) apart = by_test (keep var) (all_kept _ keep vars apart.0)
-    (distinct_kept keep vars apart.1)
-  where
-    by_test : (b : Bool)
-        → AllByRecursion (λ n. bytes_eq var.name n ≡ false) (map (λ (v : NcVar). v.name) (filter keep vars))
-        → AreDistinct (map (λ (v : NcVar). v.name) (filter keep vars))
-        → AreDistinct (map (λ (v : NcVar). v.name) (cond b (var ∷ filter keep vars) (filter keep vars)))
-    by_test true all more = (all, more)
-    by_test false all more = more
-
-kept_names : (header : FileHeader) (axis : NcVar) → AreDistinct (map (λ (v : NcVar). v.name) header.vars)
-    → AreDistinct (map (λ (v : NcVar). v.name) (kept_vars header axis))
-unfolding kept_vars
-kept_names header axis apart = distinct_kept _ header.vars apart
-
-each_by_recursion : {A : Type 0} (P : A → Type 0) (items : List A) → AllByRecursion P items → (item : A) → In item items
-    → P item
-each_by_recursion P [] all item h = absurd h
-each_by_recursion P (first ∷ items) all item (inl same) = subst P same all.0
-each_by_recursion P (first ∷ items) all item (inr later) = each_by_recursion P items all.1 item later
-
-dims_in : (header : FileHeader) (dims : List Dim) → length dims ≡ length header.dims → (var : NcVar)
-    → AllByRecursion (λ id. id < length header.dims) var.dims
-    → All (λ id. id < length dims) var.dims
-dims_in header dims same var all = All-from_each (λ id. id < length dims) var.dims (Each-from_in _ var.dims (λ id h.
-    subst (λ n. id < n) (sym same) (each_by_recursion (λ i. i < length header.dims) var.dims all id h)))
-
--- the lengths that a prototype keeps are those of the header
-lengths_kept : (bytes : List ℕ) (site : Site) (header : FileHeader) (axis : NcVar) (ids : List ℕ)
-    → lengths_of (proto_with bytes site header axis) ids ≡ map (size_at header) ids
-unfolding proto_with
-lengths_kept bytes site header axis [] = refl
-lengths_kept bytes site header axis (id ∷ ids) = ap₂ (λ (n : ℕ) (l : List ℕ). n ∷ l)
-    (ap (λ (o : Option Dim). option_map_or (λ (dim : Dim). dim.size) o 0)
-    (slice_get-map (with_length header) header.dims id) ∙ same (slice_get header.dims id))
-    (lengths_kept bytes site header axis ids)
-  where
-    same : (o : Option Dim)
-        → option_map_or (λ (dim : Dim). dim.size) (option_map (with_length header) o) 0 ≡ option_map_or
-        (size_in header) o 0
-    same None = refl
-    same (Some dim) = refl
-
-has_elements : (bytes : List ℕ) (site : Site) (header : FileHeader) (axis : NcVar) (var : NcVar)
-    → EndsWithin header (length bytes) var
-    → HasElements (proto_with bytes site header axis) (proto_var bytes header axis var)
-unfolding proto_var
-has_elements bytes site header axis var ends untimed = rw untimed (length-elements_of bytes header var ends
-    ∙ ap (λ (l : List ℕ). size_of var.kind * product l) (sym (lengths_kept bytes site header axis var.dims)))
 
 sound : (bytes : List ℕ) (site : Site) (proto : Proto) (p : IsProto bytes site proto)
     → IsSound (proto_with bytes site p.header p.axis)

@@ -1,5 +1,5 @@
 -- Lemmas on the definitions.
-use Rattle.fm_model.proofs.BestLemmas.{Rises-runs_of, Contains-runs_of, Rises-times_of_run, Contains-times_of_run, times_of-runs}
+use Rattle.fm_model.proofs.InstantLemmas.{Rises-runs_of, Contains-runs_of, Rises-times_of_run, Contains-times_of_run, times_of-runs}
 use Rattle.fm_model.proofs.laws.cell.runs_and_times_rise.Goals as goal
 
 pub returns-clause-runs : goal.returns-clause-runs

@@ -1,5 +1,5 @@
 -- Lemmas on the definitions.
-use Rattle.fm_model.proofs.RowLemmas.{Contains-best_from, IsBest-row_from}
+use Rattle.fm_model.proofs.BestFromLemmas.{Contains-best_from, IsBest-row_from}
 use Rattle.fm_model.proofs.laws.rows.a_least_offset_leaves_the_times_that_some_run_has_early_enough.Goals as goal
 
 pub returns-clause-times : goal.returns-clause-times
