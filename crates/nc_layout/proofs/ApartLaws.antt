@@ -7,19 +7,14 @@ use Rattle.std.proofs.lemmas.Nat.{mul-le}
 use Rattle.fm_base.specs.declared.header.Header.{Header}
 use Rattle.fm_base.specs.declared.header.NcVar.{NcVar}
 use Rattle.fm_base.specs.Kind.{size_of}
-use Rattle.fm_base.specs.Layout.{rank_in, indices_of, is_record_var, shape_of, fixed_shape, vsize, record_vars, record_size, place_of}
+use Rattle.fm_base.specs.Layout.{rank_in, is_record_var, shape_of, fixed_shape, vsize, record_vars, record_size, place_of}
 use Rattle.nc_layout.specs.Kept.{part_of, index_in_part}
 use Rattle.nc_layout.specs.Meaning.{AreApart}
 use Rattle.nc_layout.specs.Places.{IsIndex, part_begin, part_count}
 use Rattle.nc_layout.proofs.EndLemmas.{element-within}
 use Rattle.nc_layout.proofs.HeaderLemmas.{place_of-part, index-part, same_part}
-use Rattle.nc_layout.proofs.OrderLemmas.{slice_get-indices_of}
+use Rattle.nc_layout.proofs.OrderLemmas.{same_rank}
 use Rattle.nc_layout.proofs.RecordLemmas.{padded_vsize, lone_vsize, of_one, of_others}
-
--- no two index lists have one number
-pub same_rank : (shape index other : List ℕ) → IsIndex shape index → IsIndex shape other → rank_in shape index ≡ rank_in shape other → index ≡ other
-same_rank shape index other is also same =
-    let both = sym (slice_get-indices_of shape index is) ∙ ap (slice_get (indices_of shape)) same ∙ slice_get-indices_of shape other also in cc
 
 -- what a record variable adds to a sum over the record variables is at most the sum
 term-le-sum : (p : NcVar → Bool) (f : NcVar → ℕ) (vars : List NcVar) (i : ℕ) (var : NcVar) → slice_get vars i ≡ Some var → p var ≡ true
