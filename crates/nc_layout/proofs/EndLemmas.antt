@@ -22,11 +22,13 @@ last-index : (header : Header) (var : NcVar) → (part_of header var (last_index
     × (index_in_part header var (last_index header var) ≡ map (λ n. n - 1) (fixed_shape header var))
 last-index header var = by_case (is_record_var header var) refl
   where
-    by_case : (b : Bool) → is_record_var header var ≡ b → (cond b (slice_index (last_index header var) 0) 0 ≡ cond b header.numrecs 1 - 1)
+    by_case : (b : Bool) → is_record_var header var ≡ b
+        → (cond b (slice_index (last_index header var) 0) 0 ≡ cond b header.numrecs 1 - 1)
         × (cond b (drop 1 (last_index header var)) (last_index header var) ≡ map (λ n. n - 1) (fixed_shape header var))
     by_case true some =
         let shape = shape_of-record header var some in
-        (ap (λ (s : List ℕ). slice_index (map (λ n. n - 1) s) 0) shape, ap (λ (s : List ℕ). drop 1 (map (λ n. n - 1) s)) shape)
+        (ap (λ (s : List ℕ). slice_index (map (λ n. n - 1) s) 0) shape, ap
+            (λ (s : List ℕ). drop 1 (map (λ n. n - 1) s)) shape)
     by_case false none = (refl, ap (map (λ n. n - 1)) (shape_of-fixed header var none))
 
 -- so its end is that of the last part
@@ -42,16 +44,19 @@ last-part header var all =
     omega arith
 
 -- how many elements a variable has
-product-parts : (header : Header) (var : NcVar) → product (shape_of header var) ≡ part_count header var * product (fixed_shape header var)
+product-parts : (header : Header) (var : NcVar)
+    → product (shape_of header var) ≡ part_count header var * product (fixed_shape header var)
 unfolding product
 product-parts header var = by_case (is_record_var header var) refl
   where
-    by_case : (b : Bool) → is_record_var header var ≡ b → product (shape_of header var) ≡ cond b header.numrecs 1 * product (fixed_shape header var)
+    by_case : (b : Bool) → is_record_var header var ≡ b
+        → product (shape_of header var) ≡ cond b header.numrecs 1 * product (fixed_shape header var)
     by_case true some = ap product (shape_of-record header var some)
     by_case false none = ap product (shape_of-fixed header var none) ∙ omega arith
 
 -- it has one where it has a part
-pub has-elements : (header : Header) (var : NcVar) → HasLengths header var → 0 < part_count header var → has_elements header var ≡ true
+pub has-elements : (header : Header) (var : NcVar) → HasLengths header var → 0 < part_count header var
+    → has_elements header var ≡ true
 has-elements header var all some =
     let count = product-parts header var in
     let most = le-mul_of_pos_right (part_count header var) (product-pos (fixed_shape header var) all) in
@@ -60,7 +65,8 @@ has-elements header var all some =
 pub end_if_any-some : (header : Header) (var : NcVar) → HasLengths header var → 0 < part_count header var
     → end_if_any header var ≡ Some (part_begin header var (part_count header var - 1) + vsize header var)
 end_if_any-some header var all some =
-    ap (λ b. cond b (Some (end_of header var)) None) (has-elements header var all some) ∙ ap Some (last-part header var all)
+    ap (λ b. cond b (Some (end_of header var)) None) (has-elements header var all some)
+        ∙ ap Some (last-part header var all)
 
 pub end_if_any-none : (header : Header) (var : NcVar) → part_count header var ≡ 0 → end_if_any header var ≡ None
 end_if_any-none header var none =
@@ -72,7 +78,8 @@ pub part-le-end : (header : Header) (var : NcVar) (k : ℕ) → HasLengths heade
     → part_begin header var k + vsize header var ≤ end_of header var
 part-le-end header var k all below =
     let last = last-part header var all in
-    let before = mul-le k (record_size header) (part_count header var - 1) (record_size header) (omega arith) (omega arith) in
+    let before =
+      mul-le k (record_size header) (part_count header var - 1) (record_size header) (omega arith) (omega arith) in
     omega arith
 
 pub element-within : (header : Header) (var : NcVar) (index : List ℕ) → IsIndex (fixed_shape header var) index
@@ -80,7 +87,8 @@ pub element-within : (header : Header) (var : NcVar) (index : List ℕ) → IsIn
 unfolding vsize
 element-within header var index is =
     let below = rank_in-lt (fixed_shape header var) index is in
-    let most = mul-le (size_of var.kind) (rank_in (fixed_shape header var) index + 1) (size_of var.kind) (product (fixed_shape header var)) (omega arith) (omega arith) in
+    let most = mul-le (size_of var.kind) (rank_in (fixed_shape header var) index + 1) (size_of var.kind)
+        (product (fixed_shape header var)) (omega arith) (omega arith) in
     omega arith
 
 pub place_of-le-end_of : (header : Header) (var : NcVar) (index : List ℕ) → IsIndex (shape_of header var) index
@@ -89,7 +97,8 @@ place_of-le-end_of header var index is =
     let parts = index-part header var index is in
     let place = place_of-part header var index in
     let element = element-within header var (index_in_part header var index) parts.1 in
-    let part = part-le-end header var (part_of header var index) (lengths-index (fixed_shape header var) (index_in_part header var index) parts.1) parts.0 in
+    let part = part-le-end header var (part_of header var index)
+        (lengths-index (fixed_shape header var) (index_in_part header var index) parts.1) parts.0 in
     omega arith
 
 pub ruleset ends = (end_if_any-some, end_if_any-none, place_of-le-end_of)

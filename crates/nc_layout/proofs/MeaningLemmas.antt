@@ -23,20 +23,25 @@ first_fault : (ℕ → NcVar → Option LayoutFault) → ℕ → List NcVar → 
 first_fault fault_at n [] = None
 first_fault fault_at n (var ∷ vars) = or_else (fault_at n var) (first_fault fault_at (n + 1) vars)
 
-or_none : (b : Bool) (fault : LayoutFault) (rest later : Option LayoutFault) → rest ≡ later → cond b (Some fault) rest ≡ or_else (cond b (Some fault) None) later
+or_none : (b : Bool) (fault : LayoutFault) (rest later : Option LayoutFault) → rest ≡ later
+    → cond b (Some fault) rest ≡ or_else (cond b (Some fault) None) later
 or_none true fault rest later same = refl
 or_none false fault rest later same = same
 
-first_too_large-is : (header : Header) (n : ℕ) (vars : List NcVar) → first_too_large header n vars ≡ first_fault (too_large_at header) n vars
+first_too_large-is : (header : Header) (n : ℕ) (vars : List NcVar)
+    → first_too_large header n vars ≡ first_fault (too_large_at header) n vars
 unfolding first_too_large first_fault
 first_too_large-is header n [] = refl
-first_too_large-is header n (var ∷ vars) = or_none (ltb (2 ^ 40) (vsize header var)) (TooLarge n) _ _ (first_too_large-is header (n + 1) vars)
+first_too_large-is header n (var ∷ vars) =
+    or_none (ltb (2 ^ 40) (vsize header var)) (TooLarge n) _ _ (first_too_large-is header (n + 1) vars)
 
-first_outside-is : (header : Header) (len n : ℕ) (vars : List NcVar) → first_outside header len n vars ≡ first_fault (outside_at header len) n vars
+first_outside-is : (header : Header) (len n : ℕ) (vars : List NcVar)
+    → first_outside header len n vars ≡ first_fault (outside_at header len) n vars
 unfolding first_outside first_fault
 first_outside-is header len n [] = refl
 first_outside-is header len n (var ∷ vars) =
-    or_none (is_outside header len var) (DataOutside n (end_of header var) len) _ _ (first_outside-is header len (n + 1) vars)
+    or_none (is_outside header len var) (DataOutside n (end_of header var) len) _ _
+        (first_outside-is header len (n + 1) vars)
 
 -- the first variable with a fault, among those from a number on, and none before it
 record IsFirst (Good : NcVar → Type 0) (fault_at : ℕ → NcVar → Option LayoutFault) (from : ℕ) (vars : List NcVar)
@@ -54,7 +59,8 @@ first_fault-says : (Good : NcVar → Type 0) (fault_at : ℕ → NcVar → Optio
 unfolding first_fault
 first_fault-says Good fault_at good from [] = All-nil Good
 first_fault-says Good fault_at good from (var ∷ vars) =
-    at (fault_at from var) refl (first_fault fault_at (from + 1) vars) (first_fault-says Good fault_at good (from + 1) vars)
+    at (fault_at from var) refl (first_fault fault_at (from + 1) vars)
+        (first_fault-says Good fault_at good (from + 1) vars)
   where
     at : (here : Option LayoutFault) → fault_at from var ≡ here → (later : Option LayoutFault)
         → MatchOption later (All Good vars) (IsFirst Good fault_at (from + 1) vars)
@@ -79,7 +85,8 @@ cond_none false fault is = refl
 
 -- a variable without one of the faults
 small : (header : Header) (n : ℕ) (var : NcVar) → too_large_at header n var ≡ None → IsSmall header var
-small header n var is = ltb-false (2 ^ 40) (vsize header var) (cond_none (ltb (2 ^ 40) (vsize header var)) (TooLarge n) is)
+small header n var is =
+    ltb-false (2 ^ 40) (vsize header var) (cond_none (ltb (2 ^ 40) (vsize header var)) (TooLarge n) is)
 
 inside : (header : Header) (len n : ℕ) (var : NcVar) → outside_at header len n var ≡ None → EndsWithin header len var
 inside header len n var is some = at (has_elements header var) some (cond_none (is_outside header len var) _ is)
@@ -98,7 +105,8 @@ outside header len var is = at (has_elements header var) refl is
     at true some e = (some, ltb-true len (end_of header var) e)
     at false none e = absurd (false≢true e)
 
-large_says : (header : Header) (len : ℕ) (fault : LayoutFault) → IsFirst (IsSmall header) (too_large_at header) 0 header.vars fault → Says header len fault
+large_says : (header : Header) (len : ℕ) (fault : LayoutFault)
+    → IsFirst (IsSmall header) (too_large_at header) 0 header.vars fault → Says header len fault
 large_says header len fault first =
     let same : 0 + first.place ≡ first.place = omega arith in
     let bad = cond_some (ltb (2 ^ 40) (vsize header first.var)) (TooLarge first.place) fault (rw same at first.bad) in
@@ -113,7 +121,8 @@ outside_says : (header : Header) (len : ℕ) (fault : LayoutFault) → All (IsSm
     → IsFirst (EndsWithin header len) (outside_at header len) 0 header.vars fault → Says header len fault
 outside_says header len fault small first =
     let same : 0 + first.place ≡ first.place = omega arith in
-    let bad = cond_some (is_outside header len first.var) (DataOutside first.place (end_of header first.var) len) fault (rw same at first.bad) in
+    let bad = cond_some (is_outside header len first.var) (DataOutside first.place (end_of header first.var) len) fault
+        (rw same at first.bad) in
     let past = outside header len first.var bad.0 in
     subst (Says header len) bad.1 (record {
       small = small;
@@ -128,22 +137,28 @@ outside_says header len fault small first =
 -- where no variable is too large
 pub All-small : (header : Header) → first_too_large header 0 header.vars ≡ None → All (IsSmall header) header.vars
 All-small header none =
-    MatchOption-at_none (All (IsSmall header) header.vars) (IsFirst (IsSmall header) (too_large_at header) 0 header.vars)
+    MatchOption-at_none (All (IsSmall header) header.vars)
+        (IsFirst (IsSmall header) (too_large_at header) 0 header.vars)
       (sym (first_too_large-is header 0 header.vars) ∙ none)
       (first_fault-says (IsSmall header) (too_large_at header) (small header) 0 header.vars)
 
 -- what the first fault of a layout says, or that there is none
-pub layout_fault-says : (header : Header) (len : ℕ) → MatchOption (layout_fault header len) (IsInside header len) (Says header len)
+pub layout_fault-says : (header : Header) (len : ℕ)
+    → MatchOption (layout_fault header len) (IsInside header len) (Says header len)
 unfolding layout_fault
 layout_fault-says header len =
     rw (first_too_large-is header 0 header.vars, first_outside-is header len 0 header.vars)
-    (at (first_fault (too_large_at header) 0 header.vars) (first_fault-says (IsSmall header) (too_large_at header) (small header) 0 header.vars)
-      (first_fault (outside_at header len) 0 header.vars) (first_fault-says (EndsWithin header len) (outside_at header len) (inside header len) 0 header.vars))
+    (at (first_fault (too_large_at header) 0 header.vars)
+        (first_fault-says (IsSmall header) (too_large_at header) (small header) 0 header.vars)
+      (first_fault (outside_at header len) 0 header.vars)
+          (first_fault-says (EndsWithin header len) (outside_at header len) (inside header len) 0 header.vars))
   where
     at : (first : Option LayoutFault)
-        → MatchOption first (All (IsSmall header) header.vars) (IsFirst (IsSmall header) (too_large_at header) 0 header.vars)
+        → MatchOption first (All (IsSmall header) header.vars)
+            (IsFirst (IsSmall header) (too_large_at header) 0 header.vars)
         → (second : Option LayoutFault)
-        → MatchOption second (All (EndsWithin header len) header.vars) (IsFirst (EndsWithin header len) (outside_at header len) 0 header.vars)
+        → MatchOption second (All (EndsWithin header len) header.vars)
+            (IsFirst (EndsWithin header len) (outside_at header len) 0 header.vars)
         → MatchOption (or_else first second) (IsInside header len) (Says header len)
     at (Some fault) large second outside = large_says header len fault large
     at None small (Some fault) outside = outside_says header len fault small outside

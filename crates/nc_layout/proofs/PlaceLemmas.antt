@@ -16,10 +16,12 @@ use Rattle.nc_layout.proofs.HeaderLemmas.{All-lengths, place_of-part, index-part
 use Rattle.nc_layout.proofs.MeaningLemmas.{layout_fault-says}
 
 -- all elements of each variable of a layout lie in the file
-pub within : {header : Header} {len size : ℕ} {vsizes : List ℕ} (number : ℕ) (var : NcVar) → IsLaidOut header len size vsizes
+pub within : {header : Header} {len size : ℕ} {vsizes : List ℕ} (number : ℕ) (var : NcVar)
+    → IsLaidOut header len size vsizes
     → slice_get header.vars number ≡ Some var → IsWithin header len var
 within {header} {len} number var laid there =
-    let inside : IsInside header len = MatchOption-at_none (IsInside header len) (Says header len) laid.faultless (layout_fault-says header len) in
+    let inside : IsInside header len =
+      MatchOption-at_none (IsInside header len) (Says header len) laid.faultless (layout_fault-says header len) in
     let below = slice_get_within header.vars number var there in
     let is = get_or_from_slice_get header.vars number var var there in
     record {
@@ -29,7 +31,8 @@ within {header} {len} number var laid there =
     }
 
 -- a part lies in the file
-pub part-within : (header : Header) (len k recsize : ℕ) (var : NcVar) → recsize ≡ record_size header → IsWithin header len var
+pub part-within : (header : Header) (len k recsize : ℕ) (var : NcVar) → recsize ≡ record_size header
+    → IsWithin header len var
     → k < part_count header var → var.begin + k * recsize + vsize header var ≤ len
 part-within header len k recsize var size within below =
     let end = within.ends (has-elements header var within.lengths (omega arith)) in

@@ -41,7 +41,8 @@ unfolding rank_in product
 rank_in-lt [] index is = omega arith
 rank_in-lt (n ∷ shape) [] is = absurd is
 rank_in-lt (n ∷ shape) (i ∷ index) is =
-    rw (mul_comm n (product shape)) (mul-add-lt i (product shape) (rank_in shape index) n is.0 (rank_in-lt shape index is.1))
+    rw (mul_comm n (product shape))
+        (mul-add-lt i (product shape) (rank_in shape index) n is.0 (rank_in-lt shape index is.1))
 
 rank_step : (so_far n i whole rest : ℕ) → so_far * (n * whole) + (i * whole + rest) ≡ (so_far * n + i) * whole + rest
 rank_step so_far n i whole rest = omega arith
@@ -50,7 +51,8 @@ rank_step so_far n i whole rest = omega arith
 pub rank_more : (f : ℕ → ℕ) (so_far n i total : ℕ) (ids index : List ℕ) (at : ℕ) → at < length ids → at < length index
     → n ≡ f (get_or ids at 0) → i ≡ get_or index at 0
     → so_far * product (map f (drop at ids)) + rank_in (map f (drop at ids)) (drop at index) ≡ total
-    → (so_far * n + i) * product (map f (drop (at + 1) ids)) + rank_in (map f (drop (at + 1) ids)) (drop (at + 1) index) ≡ total
+    → (so_far * n + i) * product (map f (drop (at + 1) ids)) + rank_in (map f (drop (at + 1) ids)) (drop (at + 1) index)
+        ≡ total
 unfolding rank_in product
 rank_more f so_far n i total ids index at below there is here e =
     let index_more : drop at index ≡ i ∷ drop (at + 1) index = rw here (drop_more index at 0 there) in
@@ -81,7 +83,8 @@ rank_fits f so_far n i ids index at is below read here e =
     let there : at < length index = omega arith in
     let more = rank_more f so_far n i (rank_in (map f ids) index) ids index at below there read here e in
     let all : All (λ n. 1 ≤ n) (map f (drop (at + 1) ids)) =
-      rw (← drop-map f (at + 1) ids) (All-drop (λ n. 1 ≤ n) (at + 1) (map f ids) (lengths-index (map f ids) index is)) in
+      rw (← drop-map f (at + 1) ids)
+          (All-drop (λ n. 1 ≤ n) (at + 1) (map f ids) (lengths-index (map f ids) index is)) in
     let most : so_far * n + i ≤ (so_far * n + i) * product (map f (drop (at + 1) ids)) =
       le-mul_of_pos_right (so_far * n + i) (product-pos (map f (drop (at + 1) ids)) all) in
     let least = rank_in-lt (map f ids) index is in

@@ -31,7 +31,8 @@ pub record KeepsSums (header : Header) (vars : List NcVar) (most count padded lo
 abbrev pub first_records : Header → ℕ → List NcVar
 first_records header i = filter (is_record_var header) (take i header.vars)
 
-first_records-more : (header : Header) (i : ℕ) (var : NcVar) (b : Bool) → i < length header.vars → var ≡ get_or header.vars i var → is_record_var header var ≡ b
+first_records-more : (header : Header) (i : ℕ) (var : NcVar) (b : Bool) → i < length header.vars
+    → var ≡ get_or header.vars i var → is_record_var header var ≡ b
     → first_records header (i + 1) ≡ first_records header i ++ cond b (var ∷ []) []
 first_records-more header i var b below read is =
     filter_more (is_record_var header) header.vars i var below
@@ -42,23 +43,32 @@ lone-le-padded : (header : Header) (var : NcVar) → lone_vsize header var ≤ v
 lone-le-padded header var = grind arith
 
 -- one record variable more
-pub KeepsSums-more_yes : (header : Header) (i count padded lone : ℕ) (var : NcVar) → KeepsSums header (first_records header i) i count padded lone
+pub KeepsSums-more_yes : (header : Header) (i count padded lone : ℕ) (var : NcVar)
+    → KeepsSums header (first_records header i) i count padded lone
     → i < length header.vars → var ≡ get_or header.vars i var → is_record_var header var ≡ true → IsSmall header var
-    → KeepsSums header (first_records header (i + 1)) (i + 1) (count + 1) (padded + padded_vsize header var) (lone + lone_vsize header var)
-KeepsSums-more_yes header i count padded lone var kept below read is small = rw (first_records-more header i var true below read is) (record {
+    → KeepsSums header (first_records header (i + 1)) (i + 1) (count + 1) (padded + padded_vsize header var)
+        (lone + lone_vsize header var)
+KeepsSums-more_yes header i count padded lone var kept below read is small =
+    rw (first_records-more header i var true below read is) (record {
   count_is = let more = length-append (first_records header i) (var ∷ []) in let was = kept.count_is in omega arith;
-  padded_is = let more = sum_by-append (padded_vsize header) (first_records header i) (var ∷ []) in let was = kept.padded_is in omega arith;
-  lone_is = let more = sum_by-append (lone_vsize header) (first_records header i) (var ∷ []) in let was = kept.lone_is in omega arith;
+  padded_is =
+      let more = sum_by-append (padded_vsize header) (first_records header i) (var ∷ []) in
+      let was = kept.padded_is in omega arith;
+  lone_is =
+      let more = sum_by-append (lone_vsize header) (first_records header i) (var ∷ []) in
+      let was = kept.lone_is in omega arith;
   few = omega arith;
   padded_small = omega arith;
   lone_small = let less = lone-le-padded header var in omega arith;
 })
 
 -- one variable without records more
-pub KeepsSums-more_no : (header : Header) (i count padded lone : ℕ) (var : NcVar) → KeepsSums header (first_records header i) i count padded lone
+pub KeepsSums-more_no : (header : Header) (i count padded lone : ℕ) (var : NcVar)
+    → KeepsSums header (first_records header i) i count padded lone
     → i < length header.vars → var ≡ get_or header.vars i var → is_record_var header var ≡ false
     → KeepsSums header (first_records header (i + 1)) (i + 1) count padded lone
-KeepsSums-more_no header i count padded lone var kept below read is = rw (first_records-more header i var false below read is, append-nil (first_records header i)) (record {
+KeepsSums-more_no header i count padded lone var kept below read is =
+    rw (first_records-more header i var false below read is, append-nil (first_records header i)) (record {
   count_is = kept.count_is;
   padded_is = kept.padded_is;
   lone_is = kept.lone_is;
@@ -67,23 +77,28 @@ KeepsSums-more_no header i count padded lone var kept below read is = rw (first_
   lone_small = omega arith;
 })
 
-pub of_one : (header : Header) (vars : List NcVar) → length vars ≡ 1 → record_size_of header vars ≡ sum_by (lone_vsize header) vars
+pub of_one : (header : Header) (vars : List NcVar) → length vars ≡ 1
+    → record_size_of header vars ≡ sum_by (lone_vsize header) vars
 of_one header [] e = absurd (omega arith)
 of_one header (var ∷ []) e = omega arith
 of_one header (var ∷ other ∷ more) e = absurd (omega arith)
 
-pub of_others : (header : Header) (vars : List NcVar) → (length vars ≡ 1 → ⊥) → record_size_of header vars ≡ sum_by (padded_vsize header) vars
+pub of_others : (header : Header) (vars : List NcVar) → (length vars ≡ 1 → ⊥)
+    → record_size_of header vars ≡ sum_by (padded_vsize header) vars
 of_others header [] e = refl
 of_others header (var ∷ []) e = absurd (e refl)
 of_others header (var ∷ other ∷ more) e = refl
 
-all_kept : (header : Header) (i count padded lone : ℕ) → KeepsSums header (first_records header i) i count padded lone → length header.vars ≤ i
+all_kept : (header : Header) (i count padded lone : ℕ) → KeepsSums header (first_records header i) i count padded lone
+    → length header.vars ≤ i
     → KeepsSums header (record_vars header) i count padded lone
 all_kept header i count padded lone kept all =
-    subst (λ (vars : List NcVar). KeepsSums header (filter (is_record_var header) vars) i count padded lone) (take_all i header.vars all) kept
+    subst (λ (vars : List NcVar). KeepsSums header (filter (is_record_var header) vars) i count padded lone)
+        (take_all i header.vars all) kept
 
 -- what the sums over all variables say where there is one record variable
-pub lone-from_sums : (header : Header) (i count padded lone : ℕ) → KeepsSums header (first_records header i) i count padded lone
+pub lone-from_sums : (header : Header) (i count padded lone : ℕ)
+    → KeepsSums header (first_records header i) i count padded lone
     → length header.vars ≤ i → count ≡ 1 → lone ≡ record_size header
 unfolding record_size
 lone-from_sums header i count padded lone kept all one =
@@ -91,7 +106,8 @@ lone-from_sums header i count padded lone kept all one =
     kept'.lone_is ∙ sym (of_one header (record_vars header) (sym kept'.count_is ∙ one))
 
 -- and where there is none, or several
-pub padded-from_sums : (header : Header) (i count padded lone : ℕ) → KeepsSums header (first_records header i) i count padded lone
+pub padded-from_sums : (header : Header) (i count padded lone : ℕ)
+    → KeepsSums header (first_records header i) i count padded lone
     → length header.vars ≤ i → (count ≡ 1 → ⊥) → padded ≡ record_size header
 unfolding record_size
 padded-from_sums header i count padded lone kept all other =

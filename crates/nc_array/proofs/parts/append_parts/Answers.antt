@@ -20,4 +20,5 @@ returns-clause-ok c =
     let part = part_bytes c.args.bytes.now c.args.layout.now.header c.args.var.now in
     c.loop-k.invariant
     ∙ ap (λ k. c.args.out.now ++ flat_map part (range_with_len 0 k)) (all ∙ c.part_count-k-end.ensures _ c.requires.var)
-    ∙ ap (λ whole. c.args.out.now ++ whole) (sym (elements_of-parts c.args.bytes.now c.args.layout.now.header c.args.var.now))
+    ∙ ap (λ whole. c.args.out.now ++ whole)
+        (sym (elements_of-parts c.args.bytes.now c.args.layout.now.header c.args.var.now))

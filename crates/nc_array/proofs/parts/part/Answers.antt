@@ -3,7 +3,8 @@ use Rattle.std.proofs.lemmas.Option.{slice_get_within}
 use Rattle.nc_array.proofs.parts.part.Goals as goal
 
 pub split_at-requires : goal.split_at-requires
-split_at-requires c = let fits = c.part_begin.ensures.within _ c.requires.var in let len = c.requires.length in omega arith
+split_at-requires c =
+    let fits = c.part_begin.ensures.within _ c.requires.var in let len = c.requires.length in omega arith
 
 pub vsize-requires : goal.vsize-requires
 vsize-requires c = slice_get_within _ _ _ c.requires.var

@@ -19,4 +19,5 @@ overflow_cast-result c =
 
 pub returns-clause-within : goal.returns-clause-within
 returns-clause-within c =
-    rw (c.from.ensures, c.from-2.ensures) (part-within _ _ c.args.k c.args.recsize _ c.requires.recsize c.requires.within c.requires.part)
+    rw (c.from.ensures, c.from-2.ensures)
+        (part-within _ _ c.args.k c.args.recsize _ c.requires.recsize c.requires.within c.requires.part)

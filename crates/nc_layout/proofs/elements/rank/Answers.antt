@@ -7,4 +7,5 @@ pub loop-place-preserved : goal.loop-place-preserved
 loop-place-preserved c =
     let same = length-index_of_ids (size_at c.args.header.now) c.args.ids.now c.args.index.now c.requires.index in
     let there : c.loop-place.place < length c.args.index.now = omega arith in
-    rank_more (size_at c.args.header.now) _ _ _ _ _ _ _ c.loop-place-test.true there c.size_at.ensures refl c.loop-place.invariant
+    let now = c.loop-place.invariant in
+    rank_more (size_at c.args.header.now) _ _ _ _ _ _ _ c.loop-place-test.true there c.size_at.ensures refl now
