@@ -10,7 +10,7 @@ use Rattle.fm_base.specs.declared.header.NcVar.{NcVar}
 use Rattle.fm_base.specs.Kind.{size_of}
 use Rattle.fm_base.specs.Layout.{product, rank_in, indices_of, is_record_var, fixed_shape, vsize, element, elements_of}
 use Rattle.nc_layout.specs.Places.{part_begin, part_count}
-use Rattle.nc_layout.proofs.HeaderLemmas.{shape_of-fixed, shape_of-record, place_of-fixed, place_of-record}
+use Rattle.nc_layout.proofs.HeaderLemmas.{shape_of-fixed, shape_of-record, place_of-part}
 use Rattle.nc_layout.proofs.OrderLemmas.{flat_map_all, map-rank_in, range-append}
 use Rattle.nc_array.specs.Parts.{part_bytes}
 
@@ -53,29 +53,26 @@ pub elements_of-parts : (bytes : List ℕ) (header : Header) (var : NcVar)
 unfolding element elements_of indices_of vsize
 elements_of-parts bytes header var = by_case (is_record_var header var) refl
   where
+    moved : {at to : ℕ} → at ≡ to → take (size_of var.kind) (drop at bytes) ≡ take (size_of var.kind) (drop to bytes)
+    moved e = ap (λ place. take (size_of var.kind) (drop place bytes)) e
+
     by_case : (b : Bool) → is_record_var header var ≡ b
         → elements_of bytes header var
         ≡ flat_map (part_bytes bytes header var) (range_with_len 0 (cond b header.numrecs 1))
     by_case true is =
+        let fixed = fixed_shape header var in
         ap (λ shape. flat_map (element bytes header var) (indices_of shape)) (shape_of-record header var is)
-        ∙ flat_map-flat_map _ (λ (i : ℕ). map (λ (index : List ℕ). i ∷ index) (indices_of (fixed_shape header var)))
+        ∙ flat_map-flat_map _ (λ (i : ℕ). map (λ (index : List ℕ). i ∷ index) (indices_of fixed))
             (range_with_len 0 header.numrecs)
         ∙ flat_map_all _ _ (λ i.
-            flat_map-map (element bytes header var) (λ (index : List ℕ). i ∷ index)
-                (indices_of (fixed_shape header var))
-            ∙ flat_map_all _ _
-                (λ index. ap (λ at. take (size_of var.kind) (drop at bytes))
-                (place_of-record header var (i ∷ index) is)) (indices_of (fixed_shape header var))
-            ∙ elements_at bytes (part_begin header var i) (size_of var.kind) (fixed_shape header var))
-                (range_with_len 0 header.numrecs)
+            flat_map-map (element bytes header var) (λ (index : List ℕ). i ∷ index) (indices_of fixed)
+            ∙ flat_map_all _ _ (λ index. moved (place_of-part header var (i ∷ index) ∙ rw is refl)) (indices_of fixed)
+            ∙ elements_at bytes (part_begin header var i) (size_of var.kind) fixed) (range_with_len 0 header.numrecs)
     by_case false is =
-        let from : var.begin ≡ part_begin header var 0 = omega arith in
+        let fixed = fixed_shape header var in
         ap (λ shape. flat_map (element bytes header var) (indices_of shape)) (shape_of-fixed header var is)
-        ∙ flat_map_all _ _
-            (λ index. ap (λ at. take (size_of var.kind) (drop at bytes)) (place_of-fixed header var index is))
-            (indices_of (fixed_shape header var))
-        ∙ elements_at bytes var.begin (size_of var.kind) (fixed_shape header var)
-        ∙ ap (λ at. take (vsize header var) (drop at bytes)) from
+        ∙ flat_map_all _ _ (λ index. moved (place_of-part header var index ∙ rw is refl)) (indices_of fixed)
+        ∙ elements_at bytes (part_begin header var 0) (size_of var.kind) fixed
         ∙ sym (append-nil (part_bytes bytes header var 0))
 
 -- one part more

@@ -19,11 +19,16 @@ abbrev pub three_records : List NcVar → Header
 three_records vars =
     record { version = 1; numrecs = 3; dims = record { name = codes "time"; size = 0 } ∷ []; attrs = []; vars = vars }
 
+-- one of them, and two
 abbrev pub one_short : Header
 one_short = three_records (short_at 100 ∷ [])
 
 abbrev pub two_shorts : Header
 two_shorts = three_records (short_at 100 ∷ short_at 104 ∷ [])
+
+-- no record of it
+abbrev pub no_record : Header
+no_record = record one_short { numrecs = 0 }
 
 -- a file of 352 bytes: three times on a grid of two by two places
 abbrev pub sample : Header

@@ -22,6 +22,7 @@ ghost use Rattle.nc_layout.specs.Examples.{
   short_at,
   one_short,
   two_shorts,
+  no_record,
   sample,
   field_far_away,
   longest,
@@ -53,4 +54,11 @@ pub fn files_that_claim_much()
     ensures begin { layout_fault field_far_away 352 ≡ Some (DataOutside 3 4294967351 352) }
     ensures length { layout_fault longest 352 ≡ Some (DataOutside 0 34359738656 352) }
     ensures large { layout_fault longest_field 352 ≡ Some (TooLarge 3) }
+{}
+
+/// A variable of which there is no record has no element, so it lies in a file of any length.
+pub fn variable_without_elements(len: u64)
+    ensures size { record_size no_record ≡ 2 }
+    ensures places { places_of no_record (short_at 100) ≡ [] }
+    ensures lies { layout_fault no_record len ≡ None }
 {}
