@@ -32,7 +32,8 @@ pub record Took {A : Type 0} (S : List ℕ → A → Type 0) (i : Input) (a : A)
   pub place : j.at ≡ i.at + length text
 
 -- What is read of an input of this sort is spelled so, and what is spelled so is read where this may follow.
-pub record ExactOn {A E : Type 0} (Of : List ℕ → Type 0) (S : List ℕ → A → Type 0) (Follows : List ℕ → Type 0) (p : Parser A E) : Type 0 where
+pub record ExactOn {A E : Type 0} (Of : List ℕ → Type 0) (S : List ℕ → A → Type 0) (Follows : List ℕ → Type 0)
+    (p : Parser A E) : Type 0 where
   pub takes : (i : Input) (a : A) (j : Input) → Of i.rest → p i ≡ Ok (a, j) → Took S i a j
   pub again : (at : ℕ) (text rest : List ℕ) (a : A) → S text a → Follows rest
       → p (input at (text ++ rest)) ≡ Ok (a, input (at + length text) rest)
@@ -42,7 +43,8 @@ abbrev pub Exact : {A E : Type 0} → (List ℕ → A → Type 0) → (List ℕ 
 Exact S Follows p = ExactOn Anything S Follows p
 
 -- one text and then the other
-pub record Then {A B : Type 0} (S : List ℕ → A → Type 0) (T : A → List ℕ → B → Type 0) (text : List ℕ) (b : B) : Type 0 where
+pub record Then {A B : Type 0} (S : List ℕ → A → Type 0) (T : A → List ℕ → B → Type 0) (text : List ℕ)
+    (b : B) : Type 0 where
   pub a : A
   pub front : List ℕ
   pub back : List ℕ
@@ -66,10 +68,12 @@ bind_ok (Ok x) f y e = (x, refl, e)
 bind_ok (Err fault) f y e = absurd cc
 
 -- one parser and then another, which may count on what the first has read
-pub ExactOn-then : {A B E : Type 0} {Of : List ℕ → Type 0} {S : List ℕ → A → Type 0} {T : A → List ℕ → B → Type 0} {P Q : List ℕ → Type 0}
+pub ExactOn-then : {A B E : Type 0} {Of : List ℕ → Type 0} {S : List ℕ → A → Type 0} {T : A → List ℕ → B → Type 0}
+    {P Q : List ℕ → Type 0}
     {p : Parser A E} {q : A → Parser B E} → IsOfParts Of → ExactOn Of S P p
     → ((a : A) (front : List ℕ) → S front a → ExactOn Of (T a) Q (q a))
-    → ((a : A) (b : B) (back rest : List ℕ) → T a back b → Q rest → P (back ++ rest)) → ExactOn Of (Then S T) Q (p >>= q)
+    → ((a : A) (b : B) (back rest : List ℕ) → T a back b → Q rest → P (back ++ rest))
+    → ExactOn Of (Then S T) Q (p >>= q)
 ExactOn-then {A} {B} {E} {Of} {S} {T} {P} {Q} {p} {q} parts ep eq follows = record {
   takes = λ i b k of e.
       let x = bind_ok (p i) q (b, k) e in
@@ -78,15 +82,18 @@ ExactOn-then {A} {B} {E} {Of} {S} {T} {P} {Q} {p} {q} parts ep eq follows = reco
       let second = (eq x.0.0 first.text first.spelled).takes x.0.1 b k left x.2 in
       record {
         text = first.text ++ second.text;
-        spelled = record { a = x.0.0; front = first.text; back = second.text; first = first.spelled; second = second.spelled; text_is = refl };
+        spelled = record { a = x.0.0; front = first.text; back = second.text; first = first.spelled; second =
+            second.spelled; text_is = refl };
         split = first.split ∙ onto first.text second.split ∙ sym (append_assoc first.text second.text k.rest);
         place = omega (arith, first.place, second.place, length-append first.text second.text);
       };
   again = λ at text rest b s may.
-      let whole : text ++ rest ≡ s.front ++ (s.back ++ rest) = ap (λ (l : List ℕ). l ++ rest) s.text_is ∙ append_assoc s.front s.back rest in
+      let whole : text ++ rest ≡ s.front ++ (s.back ++ rest) = ap (λ (l : List ℕ). l ++ rest) s.text_is
+          ∙ append_assoc s.front s.back rest in
       let first = ep.again at s.front (s.back ++ rest) s.a s.first (follows s.a b s.back rest s.second may) in
       let second = (eq s.a s.front s.first).again (at + length s.front) s.back rest b s.second may in
-      let len : at + length s.front + length s.back ≡ at + length text = omega (arith, ap length s.text_is, length-append s.front s.back) in
+      let len : at + length s.front + length s.back ≡ at + length text =
+          omega (arith, ap length s.text_is, length-append s.front s.back) in
       ap (λ (l : List ℕ). and_then (p (input at l)) q) whole
       ∙ ap (λ (r : Outcome A E). and_then r q) first
       ∙ second
@@ -97,27 +104,34 @@ IsOfParts-anything : IsOfParts Anything
 IsOfParts-anything = record { front = λ xs ys any. tt; back = λ xs ys any. tt }
 
 -- one parser and then another
-pub Exact-then : {A B E : Type 0} {S : List ℕ → A → Type 0} {T : A → List ℕ → B → Type 0} {P Q : List ℕ → Type 0} {p : Parser A E} {q : A → Parser B E}
-    → Exact S P p → ((a : A) → Exact (T a) Q (q a)) → ((a : A) (b : B) (back rest : List ℕ) → T a back b → Q rest → P (back ++ rest))
+pub Exact-then : {A B E : Type 0} {S : List ℕ → A → Type 0} {T : A → List ℕ → B → Type 0} {P Q : List ℕ → Type 0}
+    {p : Parser A E} {q : A → Parser B E}
+    → Exact S P p → ((a : A) → Exact (T a) Q (q a))
+    → ((a : A) (b : B) (back rest : List ℕ) → T a back b → Q rest → P (back ++ rest))
     → Exact (Then S T) Q (p >>= q)
 Exact-then ep eq follows = ExactOn-then IsOfParts-anything ep (λ a front s. eq a) follows
 
 -- the same in other words
-pub ExactOn-as : {A E : Type 0} {Of : List ℕ → Type 0} {S T : List ℕ → A → Type 0} {P : List ℕ → Type 0} {p : Parser A E} → IsOfParts Of
-    → ((text : List ℕ) (a : A) → Of text → S text a → T text a) → ((text : List ℕ) (a : A) → T text a → S text a) → ExactOn Of S P p → ExactOn Of T P p
+pub ExactOn-as : {A E : Type 0} {Of : List ℕ → Type 0} {S T : List ℕ → A → Type 0} {P : List ℕ → Type 0}
+    {p : Parser A E} → IsOfParts Of
+    → ((text : List ℕ) (a : A) → Of text → S text a → T text a) → ((text : List ℕ) (a : A) → T text a → S text a)
+    → ExactOn Of S P p → ExactOn Of T P p
 ExactOn-as {Of = Of} parts to from ep = record {
   takes = λ i a j of e.
       let t = ep.takes i a j of e in
-      record { text = t.text; spelled = to t.text a (parts.front t.text j.rest (subst Of t.split of)) t.spelled; split = t.split; place = t.place };
+      record { text = t.text; spelled = to t.text a (parts.front t.text j.rest (subst Of t.split of)) t.spelled; split =
+          t.split; place = t.place };
   again = λ at text rest a s may. ep.again at text rest a (from text a s) may;
 }
 
-pub Exact-as : {A E : Type 0} {S T : List ℕ → A → Type 0} {P : List ℕ → Type 0} {p : Parser A E} → ((text : List ℕ) (a : A) → S text a → T text a)
+pub Exact-as : {A E : Type 0} {S T : List ℕ → A → Type 0} {P : List ℕ → Type 0} {p : Parser A E}
+    → ((text : List ℕ) (a : A) → S text a → T text a)
     → ((text : List ℕ) (a : A) → T text a → S text a) → Exact S P p → Exact T P p
 Exact-as to from ep = ExactOn-as IsOfParts-anything (λ text a of s. to text a s) from ep
 
 -- where less may follow
-pub Exact-before : {A E : Type 0} {Of : List ℕ → Type 0} {S : List ℕ → A → Type 0} {P Q : List ℕ → Type 0} {p : Parser A E}
+pub Exact-before : {A E : Type 0} {Of : List ℕ → Type 0} {S : List ℕ → A → Type 0} {P Q : List ℕ → Type 0}
+    {p : Parser A E}
     → ((rest : List ℕ) → Q rest → P rest) → ExactOn Of S P p → ExactOn Of S Q p
 Exact-before weaker ep = record {
   takes = λ i a j of e. ep.takes i a j of e;
@@ -125,7 +139,8 @@ Exact-before weaker ep = record {
 }
 
 -- at any place
-pub Exact-located : {A E : Type 0} {Of : List ℕ → Type 0} {S : List ℕ → A → Type 0} {P : List ℕ → Type 0} {f : ℕ → Parser A E}
+pub Exact-located : {A E : Type 0} {Of : List ℕ → Type 0} {S : List ℕ → A → Type 0} {P : List ℕ → Type 0}
+    {f : ℕ → Parser A E}
     → ((at : ℕ) → ExactOn Of S P (f at)) → ExactOn Of S P (located f)
 Exact-located ef = record {
   takes = λ i a j of e. (ef i.at).takes i a j of e;
@@ -154,8 +169,10 @@ done x = Ok x
 ok_is : {A E : Type 0} (x y : A) → done {A = A} {E = E} x ≡ done y → x ≡ y
 ok_is x y e = cc
 
-pub ok_pair : {A E : Type 0} (x a : A) (i j : Input) → done {A = A × Input} {E = E} (x, i) ≡ done {A = A × Input} (a, j) → (x ≡ a) × (i ≡ j)
-ok_pair {A = A} {E = E} x a i j e = let same : (x, i) ≡ (a, j) = ok_is {A = A × Input} {E = E} (x, i) (a, j) e in (ap (λ (p : A × Input). p.0) same, ap (λ (p : A × Input). p.1) same)
+pub ok_pair : {A E : Type 0} (x a : A) (i j : Input) → done {A = A × Input} {E = E} (x, i) ≡ done {A = A × Input} (a, j)
+    → (x ≡ a) × (i ≡ j)
+ok_pair {A = A} {E = E} x a i j e = let same : (x, i) ≡ (a, j) = ok_is {A = A × Input} {E = E} (x, i) (a, j) e in
+    (ap (λ (p : A × Input). p.0) same, ap (λ (p : A × Input). p.1) same)
 
 -- nothing was taken
 pub took_none : {A : Type 0} {S : List ℕ → A → Type 0} (i : Input) (a : A) (j : Input) → S [] a → i ≡ j → Took S i a j
@@ -171,15 +188,18 @@ pub none_again : {A E : Type 0} (x a : A) (at : ℕ) (text rest : List ℕ) → 
 none_again {A = A} x a at text rest value none =
     let whole : text ++ rest ≡ rest = ap (λ (l : List ℕ). l ++ rest) none in
     let len : at ≡ at + length text = omega (arith, ap length none) in
-    ap (λ (l : List ℕ). Ok (x, input at l)) whole ∙ ap (λ (y : A). Ok (y, input at rest)) value ∙ ap (λ (n : ℕ). Ok (a, input n rest)) len
+    ap (λ (l : List ℕ). Ok (x, input at l)) whole ∙ ap (λ (y : A). Ok (y, input at rest)) value
+        ∙ ap (λ (n : ℕ). Ok (a, input n rest)) len
 
-pub Exact-unless : {A E : Type 0} {Of : List ℕ → Type 0} (bad : Bool) (fault : E) (x : A) → ExactOn Of (Passes bad x) Anything (unless bad fault x)
+pub Exact-unless : {A E : Type 0} {Of : List ℕ → Type 0} (bad : Bool) (fault : E) (x : A)
+    → ExactOn Of (Passes bad x) Anything (unless bad fault x)
 Exact-unless true fault x = record {
   takes = λ i a j of e. absurd cc;
   again = λ at text rest a s may. let bad = s.good in absurd cc;
 }
 Exact-unless {A = A} false fault x = record {
-  takes = λ i a j of e. let k = ok_pair x a i j e in took_none i a j (record { good = refl; value = k.0; text_is = refl }) k.1;
+  takes = λ i a j of e. let k = ok_pair x a i j e in
+      took_none i a j (record { good = refl; value = k.0; text_is = refl }) k.1;
   again = λ at text rest a s may. none_again x a at text rest s.value s.text_is;
 }
 
@@ -189,13 +209,15 @@ Exact-pure x = record {
   again = λ at text rest a s may. none_again x a at text rest s.value s.text_is;
 }
 
-pub Exact-known : {A E : Type 0} {Of : List ℕ → Type 0} (fault : E) (found : Option A) → ExactOn Of (Finds found) Anything (known fault found)
+pub Exact-known : {A E : Type 0} {Of : List ℕ → Type 0} (fault : E) (found : Option A)
+    → ExactOn Of (Finds found) Anything (known fault found)
 Exact-known fault None = record {
   takes = λ i a j of e. absurd cc;
   again = λ at text rest a s may. let none = s.found_is in absurd cc;
 }
 Exact-known {A = A} fault (Some x) = record {
-  takes = λ i a j of e. let k = ok_pair x a i j e in took_none i a j (record { found_is = ap Some k.0; text_is = refl }) k.1;
+  takes = λ i a j of e. let k = ok_pair x a i j e in
+      took_none i a j (record { found_is = ap Some k.0; text_is = refl }) k.1;
   again = λ at text rest a s may. none_again x a at text rest (some_is x a s.found_is) s.text_is;
 }
   where

@@ -17,7 +17,7 @@ use Rattle.fm_base.proofs.Exact.{Then, Such, Exact-located, ok_pair}
 use Rattle.fm_base.proofs.Steps.{Tests, Through, IsField, Exact-field, Tests-pure, ExactBytes, ExactBytes-then, ExactBytes-as, ExactBytes-test, ExactBytes-unless, ExactBytes-unless_both}
 use Rattle.fm_base.specs.Parser.{◌>>=◌, located, unless, known}
 
--- a value that is read from a field of so many bytes
+-- a value that is read from a field of `len` bytes
 abbrev Decoded : ℕ → (List ℕ → ℕ) → List ℕ → ℕ → Type 0
 Decoded len decode = Through (IsField len) (λ bytes n. decode bytes ≡ n)
 
@@ -28,9 +28,12 @@ Exact-word = ExactBytes-as (Decoded 4 (from_be_bytes w32)) SpellsWord word
     let four : length text ≡ 4 = ap length s.spelled.text_is ∙ s.spelled.size in
     let value : from_be_bytes w32 text ≡ n = ap (from_be_bytes w32) s.spelled.text_is ∙ s.related in
     let below : from_be_bytes w32 text < 2 ^ 32 = omega (arith, fits 0, fits 1, fits 2, fits 3) in
-    record { small = subst (λ (k : ℕ). k < 2 ^ 32) value below; text_is = sym (be_bytes_4 text _ four fits refl) ∙ ap (to_be_bytes w32) value })
-    (λ text n s. record { x = to_be_bytes w32 n; spelled = record { size = refl; text_is = s.text_is }; related = from_be_bytes-to_be_bytes_4 n s.small })
-    (ExactBytes-test _ (λ bytes n. from_be_bytes w32 bytes ≡ n) (field 4) _ (Exact-field 4) (Tests-pure (from_be_bytes w32)))
+    record { small = subst (λ (k : ℕ). k < 2 ^ 32) value below; text_is = sym (be_bytes_4 text _ four fits refl)
+        ∙ ap (to_be_bytes w32) value })
+    (λ text n s. record { x = to_be_bytes w32 n; spelled = record { size = refl; text_is = s.text_is }; related =
+        from_be_bytes-to_be_bytes_4 n s.small })
+    (ExactBytes-test _ (λ bytes n. from_be_bytes w32 bytes ≡ n) (field 4) _ (Exact-field 4)
+        (Tests-pure (from_be_bytes w32)))
 
 -- a number of eight bytes
 pub record SpellsLong (text : List ℕ) (n : ℕ) : Type 0 where
@@ -43,12 +46,16 @@ Exact-long_word = ExactBytes-as (Decoded 8 (from_be_bytes w64)) SpellsLong long_
     (λ text n fits s.
     let eight : length text ≡ 8 = ap length s.spelled.text_is ∙ s.spelled.size in
     let value : from_be_bytes w64 text ≡ n = ap (from_be_bytes w64) s.spelled.text_is ∙ s.related in
-    let below : from_be_bytes w64 text < 2 ^ 64 = omega (arith, fits 0, fits 1, fits 2, fits 3, fits 4, fits 5, fits 6, fits 7) in
-    record { small = subst (λ (k : ℕ). k < 2 ^ 64) value below; text_is = sym (be_bytes_8 text _ eight fits refl) ∙ ap (to_be_bytes w64) value })
-    (λ text n s. record { x = to_be_bytes w64 n; spelled = record { size = refl; text_is = s.text_is }; related = from_be_bytes-to_be_bytes_8 n s.small })
-    (ExactBytes-test _ (λ bytes n. from_be_bytes w64 bytes ≡ n) (field 8) _ (Exact-field 8) (Tests-pure (from_be_bytes w64)))
+    let below : from_be_bytes w64 text < 2 ^ 64 =
+        omega (arith, fits 0, fits 1, fits 2, fits 3, fits 4, fits 5, fits 6, fits 7) in
+    record { small = subst (λ (k : ℕ). k < 2 ^ 64) value below; text_is = sym (be_bytes_8 text _ eight fits refl)
+        ∙ ap (to_be_bytes w64) value })
+    (λ text n s. record { x = to_be_bytes w64 n; spelled = record { size = refl; text_is = s.text_is }; related =
+        from_be_bytes-to_be_bytes_8 n s.small })
+    (ExactBytes-test _ (λ bytes n. from_be_bytes w64 bytes ≡ n) (field 8) _ (Exact-field 8)
+        (Tests-pure (from_be_bytes w64)))
 
--- a word that is tested, as a part that is told its place
+-- a word that is tested, with a fault at its place
 pub Exact-tested : (bad : ℕ → Bool) (fault : ℕ → HeaderFault)
     → ExactBytes (Such SpellsWord (λ n. bad n ≡ false)) (located (λ at. word >>= λ n. unless (bad n) (fault at) n))
 Exact-tested bad fault = Exact-located (λ at. ExactBytes-unless SpellsWord bad (fault at) word Exact-word)
@@ -68,7 +75,8 @@ Exact-count = ExactBytes-as (Such SpellsWord (λ n. leb (2 ^ 31) n ≡ false)) S
 
 pub Exact-padded : (len : ℕ) → ExactBytes (Such SpellsPadded (λ bytes. length bytes ≡ len)) (padded len)
 unfolding padded
-Exact-padded len = ExactBytes-as (Through (IsField (padded_len len)) (λ text bytes. take len text ≡ bytes)) (Such SpellsPadded (λ bytes. length bytes ≡ len)) (padded len)
+Exact-padded len = ExactBytes-as (Through (IsField (padded_len len)) (λ text bytes. take len text ≡ bytes))
+    (Such SpellsPadded (λ bytes. length bytes ≡ len)) (padded len)
     (λ text bytes fits s.
     let whole : length text ≡ padded_len len = ap length s.spelled.text_is ∙ s.spelled.size in
     let front : take len text ≡ bytes = ap (take len) s.spelled.text_is ∙ s.related in
@@ -86,14 +94,17 @@ Exact-padded len = ExactBytes-as (Through (IsField (padded_len len)) (λ text by
       spelled = record { size = s.spelled.length_is ∙ ap padded_len s.holds; text_is = refl };
       related = ap (take len) s.spelled.text_is ∙ take_at bytes s.spelled.padding len s.holds;
     })
-    (ExactBytes-test _ (λ text bytes. take len text ≡ bytes) (field (padded_len len)) _ (Exact-field (padded_len len)) (Tests-pure (take len)))
+    (ExactBytes-test _ (λ text bytes. take len text ≡ bytes) (field (padded_len len)) _ (Exact-field (padded_len len))
+        (Tests-pure (take len)))
 
 abbrev is_no_name : List ℕ → Bool
 is_no_name name = not (is_name_text name)
 
--- a name as it is read: a length, and so many bytes that pass the tests
+-- a name as it is read: a length, and as many bytes that pass the tests
 abbrev NameAsRead : List (List ℕ) → List ℕ → List ℕ → Type 0
-NameAsRead found = Then SpellsCount (λ len. Such (Such SpellsPadded (λ name. length name ≡ len)) (λ name. (is_no_name name ≡ false) × (has_name found name ≡ false)))
+NameAsRead found = Then SpellsCount
+    (λ len. Such (Such SpellsPadded (λ name. length name ≡ len))
+    (λ name. (is_no_name name ≡ false) × (has_name found name ≡ false)))
 
 name_spelled : (found : List (List ℕ)) (text name : List ℕ) → NameAsRead found text name
     → Such SpellsName (λ name. has_name found name ≡ false) text name
@@ -109,27 +120,33 @@ name_spelled found text name s = record {
   holds = s.second.holds.1;
 }
 
-name_read : (found : List (List ℕ)) (text name : List ℕ) → Such SpellsName (λ name. has_name found name ≡ false) text name
+name_read : (found : List (List ℕ)) (text name : List ℕ)
+    → Such SpellsName (λ name. has_name found name ≡ false) text name
     → NameAsRead found text name
 name_read found text name s = record {
   a = length name;
   front = s.spelled.count_text;
   back = s.spelled.name_text;
   first = s.spelled.count;
-  second = record { spelled = record { spelled = s.spelled.bytes; holds = refl }; holds = (not_from_true (is_name_text name) s.spelled.named, s.holds) };
+  second = record { spelled = record { spelled = s.spelled.bytes; holds = refl }; holds =
+      (not_from_true (is_name_text name) s.spelled.named, s.holds) };
   text_is = s.spelled.text_is;
 }
 
-pub Exact-name_at : (found : List (List ℕ)) → ExactBytes (Such SpellsName (λ name. has_name found name ≡ false)) (name_at found)
+pub Exact-name_at : (found : List (List ℕ))
+    → ExactBytes (Such SpellsName (λ name. has_name found name ≡ false)) (name_at found)
 unfolding name_at
-Exact-name_at found = ExactBytes-as (NameAsRead found) (Such SpellsName (λ name. has_name found name ≡ false)) (name_at found)
+Exact-name_at found = ExactBytes-as (NameAsRead found) (Such SpellsName (λ name. has_name found name ≡ false))
+    (name_at found)
     (λ text name fits s. name_spelled found text name s)
     (name_read found)
     (Exact-located (λ at. ExactBytes-then SpellsCount _ count _ Exact-count
-    (λ len front first. ExactBytes-unless_both _ is_no_name (has_name found) (BadName at) (RepeatedName at) (padded len) (Exact-padded len))))
+    (λ len front first. ExactBytes-unless_both _ is_no_name (has_name found) (BadName at) (RepeatedName at) (padded len)
+        (Exact-padded len))))
 
 -- one of the tests by which a number is looked up among the kinds
-kind_turn : (code : ℕ) (this kind : Kind) (others : Option Kind) → cond (eqb code (code_of this)) (Some this) others ≡ Some kind
+kind_turn : (code : ℕ) (this kind : Kind) (others : Option Kind)
+    → cond (eqb code (code_of this)) (Some this) others ≡ Some kind
     → (others ≡ Some kind → code ≡ code_of kind) → code ≡ code_of kind
 kind_turn code this kind others e more = go (eqb code (code_of this)) refl e
   where
@@ -140,7 +157,8 @@ kind_turn code this kind others e more = go (eqb code (code_of this)) refl e
 kind_of-code : (code : ℕ) (kind : Kind) → kind_of code ≡ Some kind → code ≡ code_of kind
 kind_of-code code kind e =
     kind_turn code Byte kind _ e (λ e. kind_turn code Char kind _ e (λ e. kind_turn code Short kind _ e (λ e.
-    kind_turn code Int kind _ e (λ e. kind_turn code Float kind _ e (λ e. kind_turn code Double kind _ e (λ e. absurd cc))))))
+    kind_turn code Int kind _ e (λ e. kind_turn code Float kind _ e
+        (λ e. kind_turn code Double kind _ e (λ e. absurd cc))))))
 
 kind_of-code_of : (kind : Kind) → kind_of (code_of kind) ≡ Some kind
 kind_of-code_of Byte = refl
@@ -164,7 +182,8 @@ Tests-known_kind at = record {
   again = λ code i kind e. ap (λ (o : Option Kind). known (BadType at) o i) e;
 }
   where
-    go : (o : Option Kind) (i : Input) (kind : Kind) (j : Input) → known (BadType at) o i ≡ Ok (kind, j) → (o ≡ Some kind) × (i ≡ j)
+    go : (o : Option Kind) (i : Input) (kind : Kind) (j : Input) → known (BadType at) o i ≡ Ok (kind, j)
+        → (o ≡ Some kind) × (i ≡ j)
     go None i kind j e = absurd cc
     go (Some k) i kind j e = let p = ok_pair k kind i j e in (ap Some p.0, p.1)
 
@@ -172,5 +191,7 @@ pub Exact-kind_at : ExactBytes SpellsKind kind_at
 unfolding kind_at
 Exact-kind_at = ExactBytes-as (Through SpellsWord (λ code kind. kind_of code ≡ Some kind)) SpellsKind kind_at
     (λ text kind fits s. s.spelled.text_is ∙ ap (to_be_bytes w32) (kind_of-code s.x kind s.related))
-    (λ text kind s. record { x = code_of kind; spelled = record { small = code_of-small kind; text_is = s }; related = kind_of-code_of kind })
-    (Exact-located (λ at. ExactBytes-test SpellsWord _ word (λ code. known (BadType at) (kind_of code)) Exact-word (Tests-known_kind at)))
+    (λ text kind s. record { x = code_of kind; spelled = record { small = code_of-small kind; text_is = s }; related =
+        kind_of-code_of kind })
+    (Exact-located (λ at. ExactBytes-test SpellsWord _ word (λ code. known (BadType at) (kind_of code)) Exact-word
+        (Tests-known_kind at)))

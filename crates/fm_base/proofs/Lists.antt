@@ -15,8 +15,9 @@ abbrev pub EachFrom : {A : Type 0} → (List A → A → Type 0) → List A → 
 EachFrom P found [] = Unit {0}
 EachFrom P found (item ∷ items) = P found item × EachFrom P (found ++ item ∷ []) items
 
--- those that were found, and so many more
-pub record Adds {A : Type 0} (S : List ℕ → A → Type 0) (P : List A → A → Type 0) (found : List A) (n : ℕ) (text : List ℕ) (all : List A) : Type 0 where
+-- those that were found, and n more
+pub record Adds {A : Type 0} (S : List ℕ → A → Type 0) (P : List A → A → Type 0) (found : List A) (n : ℕ)
+    (text : List ℕ) (all : List A) : Type 0 where
   pub more : List A
   pub all_is : all ≡ found ++ more
   pub count : length more ≡ n
@@ -24,7 +25,8 @@ pub record Adds {A : Type 0} (S : List ℕ → A → Type 0) (P : List A → A �
   pub each : EachFrom P found more
 
 -- the first of the items that follow, and the others
-adds_first : {A : Type 0} (S : List ℕ → A → Type 0) (P : List A → A → Type 0) (found : List A) (n : ℕ) (text : List ℕ) (all more : List A)
+adds_first : {A : Type 0} (S : List ℕ → A → Type 0) (P : List A → A → Type 0) (found : List A) (n : ℕ) (text : List ℕ)
+    (all more : List A)
     → all ≡ found ++ more → length more ≡ suc n → Spelled S text more → EachFrom P found more
     → Then (Such S (P found)) (λ x. Adds S P (found ++ x ∷ []) n) text all
 adds_first S P found n text all [] is count s e = absurd (omega arith)
@@ -33,21 +35,27 @@ adds_first S P found n text all (x ∷ more) is count s e = record {
   front = s.0;
   back = s.1;
   first = record { spelled = s.2; holds = e.0 };
-  second = record { more = more; all_is = is ∙ sym (append_assoc found (x ∷ []) more); count = omega arith; spelled = s.3; each = e.1 };
+  second = record { more = more; all_is = is ∙ sym (append_assoc found (x ∷ []) more); count = omega arith; spelled =
+      s.3; each = e.1 };
   text_is = s.4;
 }
 
 -- items, each of which may count on those before it
 pub Exact-items_from : {A : Type 0} (S : List ℕ → A → Type 0) (P : List A → A → Type 0) (item : List A → HeaderParser A)
-    → ((found : List A) → ExactBytes (Such S (P found)) (item found)) → (n : ℕ) (found : List A) → ExactBytes (Adds S P found n) (items_from item n found)
+    → ((found : List A) → ExactBytes (Such S (P found)) (item found)) → (n : ℕ) (found : List A)
+    → ExactBytes (Adds S P found n) (items_from item n found)
 unfolding items_from
 Exact-items_from {A} S P item ei zero found = ExactBytes-as (Is found) (Adds S P found 0) (items_from item zero found)
-    (λ text all fits s. record { more = []; all_is = sym s.value ∙ sym (append-nil found); count = refl; spelled = s.text_is; each = tt })
+    (λ text all fits s. record { more = []; all_is = sym s.value ∙ sym (append-nil found); count = refl; spelled =
+        s.text_is; each = tt })
     (λ text all s.
     let none : s.more ≡ [] = nil_from_length s.more s.count in
-    record { value = sym (s.all_is ∙ ap (λ (l : List A). found ++ l) none ∙ append-nil found); text_is = subst (λ (l : List A). Spelled S text l) none s.spelled })
+    record { value = sym (s.all_is ∙ ap (λ (l : List A). found ++ l) none ∙ append-nil found); text_is =
+        subst (λ (l : List A). Spelled S text l) none s.spelled })
     (Exact-pure found)
-Exact-items_from {A} S P item ei (suc n) found = ExactBytes-as (Then (Such S (P found)) (λ x. Adds S P (found ++ x ∷ []) n)) (Adds S P found (suc n)) (items_from item (suc n) found)
+Exact-items_from {A} S P item ei (suc n) found =
+    ExactBytes-as (Then (Such S (P found)) (λ x. Adds S P (found ++ x ∷ []) n)) (Adds S P found (suc n))
+    (items_from item (suc n) found)
     (λ text all fits s. record {
       more = s.a ∷ s.second.more;
       all_is = s.second.all_is ∙ append_assoc found (s.a ∷ []) s.second.more;
@@ -105,18 +113,21 @@ absent_none tag n none = elim (cases_eq tag 0) [
 
 pub Exact-list_count : (tag : ℕ) → ExactBytes (SpellsListCount tag) (list_count tag)
 unfolding list_count
-Exact-list_count tag = ExactBytes-as (Such SpellsWord (λ n. is_no_list_count tag n ≡ false)) (SpellsListCount tag) (list_count tag)
+Exact-list_count tag = ExactBytes-as (Such SpellsWord (λ n. is_no_list_count tag n ≡ false)) (SpellsListCount tag)
+    (list_count tag)
     (λ text n fits s.
     let good = or_parts _ _ s.holds in
     record { none = none_absent tag n good.1; counted = SpellsCount-from_word text n s.spelled good.0 })
-    (λ text n s. record { spelled = SpellsWord-from_count text n s.counted; holds = or_from _ _ (lt-leb (2 ^ 31) n s.counted.small) (absent_none tag n s.none) })
+    (λ text n s. record { spelled = SpellsWord-from_count text n s.counted; holds =
+        or_from _ _ (lt-leb (2 ^ 31) n s.counted.small) (absent_none tag n s.none) })
     (Exact-tested (is_no_list_count tag) BadCount)
 
 -- a list as it is read: the tag that was found, a count, and the items
-abbrev ListAsRead : {A : Type 0} → ℕ → (List ℕ → A → Type 0) → (List A → A → Type 0) → List ℕ → List A → Type 0
+abbrev pub ListAsRead : {A : Type 0} → ℕ → (List ℕ → A → Type 0) → (List A → A → Type 0) → List ℕ → List A → Type 0
 ListAsRead tag S P = Then (SpellsTag tag) (λ found. Then (SpellsListCount found) (λ n. Adds S P [] n))
 
-list_spelled : {A : Type 0} (tag : ℕ) (S : List ℕ → A → Type 0) (P : List A → A → Type 0) (text : List ℕ) (items : List A)
+pub list_spelled : {A : Type 0} (tag : ℕ) (S : List ℕ → A → Type 0) (P : List A → A → Type 0) (text : List ℕ)
+    (items : List A)
     → ListAsRead tag S P text items → SpellsList tag S text items
 list_spelled {A} tag S P text items s =
     let adds = s.second.second in
@@ -127,7 +138,8 @@ list_spelled {A} tag S P text items s =
         items_text = s.second.back;
         count = subst (SpellsCount s.second.front) (sym adds.count ∙ ap length all) s.second.first.counted;
         each = subst (Spelled S s.second.back) all adds.spelled;
-        text_is = s.text_is ∙ ap₂ (λ (a b : List ℕ). a ++ b) (s.first.spelled.text_is ∙ ap (to_be_bytes w32) own) s.second.text_is;
+        text_is = s.text_is ∙ ap₂ (λ (a b : List ℕ). a ++ b)
+            (s.first.spelled.text_is ∙ ap (to_be_bytes w32) own) s.second.text_is;
       })
       | inr absent ↦
           let zero : s.second.a ≡ 0 = s.second.first.none absent in
@@ -137,11 +149,13 @@ list_spelled {A} tag S P text items s =
           let counted : s.second.front ≡ replicate 4 0 = s.second.first.counted.text_is ∙ ap (to_be_bytes w32) zero in
           inl (record {
             none = sym all ∙ none;
-            text_is = s.text_is ∙ ap₂ (λ (a b : List ℕ). a ++ b) front (s.second.text_is ∙ ap₂ (λ (a b : List ℕ). a ++ b) counted no_text);
+            text_is = s.text_is ∙ ap₂ (λ (a b : List ℕ). a ++ b) front
+                (s.second.text_is ∙ ap₂ (λ (a b : List ℕ). a ++ b) counted no_text);
           })
     ]
 
-list_read : {A : Type 0} (tag : ℕ) (S : List ℕ → A → Type 0) (P : List A → A → Type 0) (text : List ℕ) (items : List A) → 0 < tag → tag < 2 ^ 32
+list_read : {A : Type 0} (tag : ℕ) (S : List ℕ → A → Type 0) (P : List A → A → Type 0) (text : List ℕ) (items : List A)
+    → 0 < tag → tag < 2 ^ 32
     → EachFrom P [] items → SpellsList tag S text items → ListAsRead tag S P text items
 list_read tag S P text items some small each (inl absent) = record {
   a = 0;
@@ -174,11 +188,15 @@ list_read tag S P text items some small each (inr tagged) = record {
   text_is = tagged.text_is;
 }
 
-pub Exact-list_at : {A : Type 0} (tag : ℕ) (S : List ℕ → A → Type 0) (P : List A → A → Type 0) (item : List A → HeaderParser A) → 0 < tag
-    → tag < 2 ^ 32 → ((found : List A) → ExactBytes (Such S (P found)) (item found)) → ExactBytes (Such (SpellsList tag S) (EachFrom P [])) (list_at tag item)
+pub Exact-list_at : {A : Type 0} (tag : ℕ) (S : List ℕ → A → Type 0) (P : List A → A → Type 0)
+    (item : List A → HeaderParser A) → 0 < tag
+    → tag < 2 ^ 32 → ((found : List A) → ExactBytes (Such S (P found)) (item found))
+    → ExactBytes (Such (SpellsList tag S) (EachFrom P [])) (list_at tag item)
 unfolding list_at
-Exact-list_at tag S P item some small ei = ExactBytes-as (ListAsRead tag S P) (Such (SpellsList tag S) (EachFrom P [])) (list_at tag item)
-    (λ text items fits s. record { spelled = list_spelled tag S P text items s; holds = subst (EachFrom P []) (sym s.second.second.all_is) s.second.second.each })
+Exact-list_at tag S P item some small ei =
+    ExactBytes-as (ListAsRead tag S P) (Such (SpellsList tag S) (EachFrom P [])) (list_at tag item)
+    (λ text items fits s. record { spelled = list_spelled tag S P text items s; holds =
+        subst (EachFrom P []) (sym s.second.second.all_is) s.second.second.each })
     (λ text items s. list_read tag S P text items some small s.holds s.spelled)
     (ExactBytes-then (SpellsTag tag) _ (tag_at tag) _ (Exact-tag_at tag)
     (λ found front first. ExactBytes-then (SpellsListCount found) _ (list_count found) _ (Exact-list_count found)

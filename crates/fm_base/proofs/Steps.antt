@@ -11,7 +11,7 @@ use Rattle.fm_base.specs.Reading.{field, HeaderParser}
 use Rattle.fm_base.proofs.Exact.{input, Such, bind_ok, ok_pair, Then, done, ExactOn, ExactOn-then, ExactOn-as, Anything, IsOfParts}
 use Rattle.fm_base.specs.Parser.{Outcome, and_then, ◌>>=◌, pure, unless}
 
--- so many bytes
+-- n bytes
 pub record IsField (n : ℕ) (text bytes : List ℕ) : Type 0 where
   pub size : length bytes ≡ n
   pub text_is : text ≡ bytes
@@ -26,7 +26,7 @@ IsBytes-front xs ys h i =
       | inr le ↦ rw (get_or_past xs i 0 le) (omega arith)
     ]
 
-IsOfParts-bytes : IsOfParts IsBytes
+pub IsOfParts-bytes : IsOfParts IsBytes
 IsOfParts-bytes = record {
   front = IsBytes-front;
   back = λ xs ys h. subst IsBytes (drop_at xs ys (length xs) refl) (IsBytes-drop (length xs) (xs ++ ys) h);
@@ -37,7 +37,8 @@ abbrev pub ExactBytes : {A : Type 0} → (List ℕ → A → Type 0) → HeaderP
 ExactBytes S p = ExactOn IsBytes S Anything p
 
 -- one parser and then another, which may count on what the first has read
-pub ExactBytes-then : {A B : Type 0} (S : List ℕ → A → Type 0) (T : A → List ℕ → B → Type 0) (p : HeaderParser A) (q : A → HeaderParser B)
+pub ExactBytes-then : {A B : Type 0} (S : List ℕ → A → Type 0) (T : A → List ℕ → B → Type 0) (p : HeaderParser A)
+    (q : A → HeaderParser B)
     → ExactBytes S p → ((a : A) (front : List ℕ) → S front a → ExactBytes (T a) (q a)) → ExactBytes (Then S T) (p >>= q)
 ExactBytes-then S T p q ep eq = ExactOn-then IsOfParts-bytes ep eq (λ a b back rest s any. tt)
 
@@ -54,7 +55,8 @@ guard false d x y e = (refl, cc)
 pub Exact-field : (n : ℕ) → ExactBytes (IsField n) (field n)
 Exact-field n = record {
   takes = λ i a j fits e.
-      let g = guard (ltb (length i.rest) n) (Truncated i.at) (take n i.rest, record { at = i.at + n; rest = drop n i.rest }) (a, j) e in
+      let g = guard (ltb (length i.rest) n) (Truncated i.at)
+          (take n i.rest, record { at = i.at + n; rest = drop n i.rest }) (a, j) e in
       let long : n ≤ length i.rest = ltb-false _ _ g.0 in
       let value : take n i.rest ≡ a = ap (λ (p : List ℕ × Input). p.0) g.1 in
       let left : record { at = i.at + n; rest = drop n i.rest } ≡ j = ap (λ (p : List ℕ × Input). p.1) g.1 in
@@ -71,7 +73,7 @@ Exact-field n = record {
       rw (long, take_at text rest n size, drop_at text rest n size, size, ← s.text_is) refl;
 }
 
--- a step that reads nothing, and gives what stands in this relation to what it is told
+-- a step that reads nothing, and whose value stands in this relation to the value before it
 pub record Tests {A B : Type 0} (R : A → B → Type 0) (f : A → HeaderParser B) : Type 0 where
   pub passes : (x : A) (i : Input) (y : B) (j : Input) → f x i ≡ Ok (y, j) → R x y × (i ≡ j)
   pub again : (x : A) (i : Input) (y : B) → R x y → f x i ≡ Ok (y, i)
@@ -83,7 +85,8 @@ pub record Through {A B : Type 0} (S : List ℕ → A → Type 0) (R : A → B �
   pub related : R x y
 
 -- a reader and then a step that reads nothing
-pub ExactBytes-test : {A B : Type 0} (S : List ℕ → A → Type 0) (R : A → B → Type 0) (p : HeaderParser A) (f : A → HeaderParser B) → ExactBytes S p → Tests R f
+pub ExactBytes-test : {A B : Type 0} (S : List ℕ → A → Type 0) (R : A → B → Type 0) (p : HeaderParser A)
+    (f : A → HeaderParser B) → ExactBytes S p → Tests R f
     → ExactBytes (Through S R) (p >>= f)
 ExactBytes-test {A} S R p f ep tf = record {
   takes = λ i y k fits e.
@@ -96,7 +99,8 @@ ExactBytes-test {A} S R p f ep tf = record {
         split = first.split ∙ ap (λ (n : Input). first.text ++ n.rest) step.1;
         place = sym (ap (λ (n : Input). n.at) step.1) ∙ first.place;
       };
-  again = λ at text rest y s any. ap (λ (r : Outcome A HeaderFault). and_then r f) (ep.again at text rest s.x s.spelled tt) ∙ tf.again s.x (input (at + length text) rest) y s.related;
+  again = λ at text rest y s any. ap (λ (r : Outcome A HeaderFault). and_then r f)
+      (ep.again at text rest s.x s.spelled tt) ∙ tf.again s.x (input (at + length text) rest) y s.related;
 }
 
 -- another value
@@ -106,11 +110,13 @@ Tests-pure g = record {
   again = λ x i y s. ap (λ v. Ok (v, i)) s;
 }
 
-unless_ok : {A : Type 0} (b : Bool) (fault : HeaderFault) (x y : A) (i j : Input) → unless b fault x i ≡ Ok (y, j) → (b ≡ false) × (x ≡ y) × (i ≡ j)
+unless_ok : {A : Type 0} (b : Bool) (fault : HeaderFault) (x y : A) (i j : Input) → unless b fault x i ≡ Ok (y, j)
+    → (b ≡ false) × (x ≡ y) × (i ≡ j)
 unless_ok true fault x y i j e = absurd cc
 unless_ok false fault x y i j e = let p = ok_pair x y i j e in (refl, p.0, p.1)
 
-ok_unless : {A : Type 0} (b : Bool) (fault : HeaderFault) (x y : A) (i : Input) → b ≡ false → x ≡ y → unless b fault x i ≡ Ok (y, i)
+ok_unless : {A : Type 0} (b : Bool) (fault : HeaderFault) (x y : A) (i : Input) → b ≡ false → x ≡ y
+    → unless b fault x i ≡ Ok (y, i)
 ok_unless b fault x y i good same = rw (good, same) refl
 
 -- the same value, where the test does not fail
@@ -124,10 +130,12 @@ Tests-unless bad fault = record {
 }
 
 -- a value that is tested
-pub ExactBytes-unless : {A : Type 0} (S : List ℕ → A → Type 0) (bad : A → Bool) (fault : HeaderFault) (p : HeaderParser A) → ExactBytes S p
+pub ExactBytes-unless : {A : Type 0} (S : List ℕ → A → Type 0) (bad : A → Bool) (fault : HeaderFault)
+    (p : HeaderParser A) → ExactBytes S p
     → ExactBytes (Such S (λ x. bad x ≡ false)) (p >>= λ x. unless (bad x) fault x)
 ExactBytes-unless S bad fault p ep = ExactBytes-as (Through S (Tested bad)) _ _
-    (λ text y fits s. record { spelled = subst (S text) s.related.1 s.spelled; holds = ap bad (sym s.related.1) ∙ s.related.0 })
+    (λ text y fits s. record { spelled = subst (S text) s.related.1 s.spelled; holds = ap bad (sym s.related.1)
+        ∙ s.related.0 })
     (λ text y s. record { x = y; spelled = s.spelled; related = (s.holds, refl) })
     (ExactBytes-test S (Tested bad) p _ ep (Tests-unless bad fault))
 
@@ -143,13 +151,18 @@ Tests-unless_both {A} bad worse fault second = record {
       let first = unless_ok (bad x) fault x m.0.0 i m.0.1 m.1 in
       let then = unless_ok (worse m.0.0) second m.0.0 y m.0.1 j m.2 in
       ((first.0, ap worse first.1 ∙ then.0, first.1 ∙ then.1), first.2 ∙ then.2);
-  again = λ x i y s. ap (λ (r : Outcome A HeaderFault). and_then r (λ n. unless (worse n) second n)) (ok_unless (bad x) fault x x i s.0 refl) ∙ ok_unless (worse x) second x y i s.1 s.2;
+  again = λ x i y s. ap (λ (r : Outcome A HeaderFault). and_then r (λ n. unless (worse n) second n))
+      (ok_unless (bad x) fault x x i s.0 refl) ∙ ok_unless (worse x) second x y i s.1 s.2;
 }
 
 -- a value that is tested twice
-pub ExactBytes-unless_both : {A : Type 0} (S : List ℕ → A → Type 0) (bad worse : A → Bool) (fault second : HeaderFault) (p : HeaderParser A) → ExactBytes S p
-    → ExactBytes (Such S (λ x. (bad x ≡ false) × (worse x ≡ false))) (p >>= λ x. unless (bad x) fault x >>= λ y. unless (worse y) second y)
+pub ExactBytes-unless_both : {A : Type 0} (S : List ℕ → A → Type 0) (bad worse : A → Bool) (fault second : HeaderFault)
+    (p : HeaderParser A) → ExactBytes S p
+    → ExactBytes (Such S (λ x. (bad x ≡ false) × (worse x ≡ false)))
+    (p >>= λ x. unless (bad x) fault x >>= λ y. unless (worse y) second y)
 ExactBytes-unless_both {A} S bad worse fault second p ep = ExactBytes-as (Through S (TestedBoth bad worse)) _ _
-    (λ text y fits s. let same = s.related.2 in record { spelled = subst (S text) same s.spelled; holds = (ap bad (sym same) ∙ s.related.0, ap worse (sym same) ∙ s.related.1) })
+    (λ text y fits s. let same = s.related.2 in
+        record { spelled = subst (S text) same s.spelled; holds =
+        (ap bad (sym same) ∙ s.related.0, ap worse (sym same) ∙ s.related.1) })
     (λ text y s. record { x = y; spelled = s.spelled; related = (s.holds.0, s.holds.1, refl) })
     (ExactBytes-test S (TestedBoth bad worse) p _ ep (Tests-unless_both bad worse fault second))

@@ -22,7 +22,7 @@ name_of_var var = var.name
 abbrev pub VarAfter : List Dim → List NcVar → NcVar → Type 0
 VarAfter dims found var = IsFresh name_of_var found var × IsSoundVar dims var
 
-abbrev var_of : List ℕ → List ℕ → List Attr → Kind → ℕ → NcVar
+abbrev pub var_of : List ℕ → List ℕ → List Attr → Kind → ℕ → NcVar
 var_of name ids attrs kind begin = record { name = name; dims = ids; attrs = attrs; kind = kind; begin = begin }
 
 abbrev VarAsRead : ℕ → List Dim → List NcVar → List ℕ → NcVar → Type 0
@@ -35,7 +35,8 @@ VarAsRead version dims found =
     (λ kind. Then (IsField 4)
     (λ size. Through (SpellsBegin version) (λ begin var. var_of name ids attrs kind begin ≡ var)))))))
 
-var_spelled : (version : ℕ) (dims : List Dim) (found : List NcVar) (text : List ℕ) (var : NcVar) → VarAsRead version dims found text var
+var_spelled : (version : ℕ) (dims : List Dim) (found : List NcVar) (text : List ℕ) (var : NcVar)
+    → VarAsRead version dims found text var
     → Such (SpellsVar version) (VarAfter dims found) text var
 var_spelled version dims found text var s =
     let ranked = s.second in
@@ -61,7 +62,8 @@ var_spelled version dims found text var s =
         size = ap length sized.first.text_is ∙ sized.first.size;
         begin = begun.spelled;
         text_is = simp append_assoc (s.text_is ∙ onto s.front (ranked.text_is ∙ onto ranked.front (listed.text_is
-            ∙ onto listed.front (noted.text_is ∙ onto noted.front (sorted.text_is ∙ onto sorted.front sized.text_is)))));
+            ∙ onto listed.front (noted.text_is
+            ∙ onto noted.front (sorted.text_is ∙ onto sorted.front sized.text_is)))));
       };
       holds = (
         s.first.holds,
@@ -123,13 +125,17 @@ var_read version dims found text var s = let t = s.spelled in let sound = s.hold
 pub Exact-var_at : (version : ℕ) → (version ≡ 1) ⊎ (version ≡ 2) → (dims : List Dim) (found : List NcVar)
     → ExactBytes (Such (SpellsVar version) (VarAfter dims found)) (var_at version dims found)
 unfolding var_at
-Exact-var_at version known dims found = ExactBytes-as (VarAsRead version dims found) (Such (SpellsVar version) (VarAfter dims found)) (var_at version dims found)
+Exact-var_at version known dims found =
+    ExactBytes-as (VarAsRead version dims found) (Such (SpellsVar version) (VarAfter dims found))
+    (var_at version dims found)
     (λ text var fits s. var_spelled version dims found text var s)
     (var_read version dims found)
-    (ExactBytes-then (Such SpellsName (λ name. has_name (map name_of_var found) name ≡ false)) _ (name_at (map name_of_var found)) _ (Exact-name_at (map name_of_var found))
+    (ExactBytes-then (Such SpellsName (λ name. has_name (map name_of_var found) name ≡ false)) _
+        (name_at (map name_of_var found)) _ (Exact-name_at (map name_of_var found))
     (λ name front first. ExactBytes-then _ _ rank_at _ Exact-rank_at
     (λ rank front first. ExactBytes-then _ _ (items_from (dim_id_at dims) rank []) _ (Exact-dim_ids dims rank)
     (λ ids front first. ExactBytes-then _ _ (list_at ATTRIBUTE_TAG attr_at) _ Exact-attrs_at
     (λ attrs front first. ExactBytes-then SpellsKind _ kind_at _ Exact-kind_at
     (λ kind front first. ExactBytes-then (IsField 4) _ (field 4) _ (Exact-field 4)
-    (λ size front first. ExactBytes-test _ _ (begin_at version) _ (Exact-begin_at version known) (Tests-pure (var_of name ids attrs kind)))))))))
+    (λ size front first. ExactBytes-test _ _ (begin_at version) _ (Exact-begin_at version known)
+        (Tests-pure (var_of name ids attrs kind)))))))))

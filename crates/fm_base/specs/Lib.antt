@@ -2,6 +2,7 @@ pub mod Answer
 pub mod Calendar
 pub mod Chain
 pub mod Code
+pub mod FaultPlaces
 pub mod Field
 pub mod Format
 pub mod Input

@@ -22,9 +22,10 @@ use Rattle.fm_base.specs.Parser.{Outcome, Parser, ◌>>=◌, pure, located, unle
 abbrev pub HeaderParser : Type 0 → Type 0
 HeaderParser A = Parser A HeaderFault
 
--- so many bytes, as one field
+-- n bytes, as one field
 abbrev pub field : ℕ → HeaderParser (List ℕ)
-field n = λ i. if nat_lt (length i.rest) n then Err (Truncated i.at) else Ok (take n i.rest, record { at = i.at + n; rest = drop n i.rest })
+field n = λ i. if nat_lt (length i.rest) n then Err (Truncated i.at)
+    else Ok (take n i.rest, record { at = i.at + n; rest = drop n i.rest })
 
 -- a number of four bytes
 unfoldable pub word : HeaderParser ℕ
@@ -38,22 +39,29 @@ long_word = field 8 >>= λ bytes. pure (from_be_bytes w64 bytes)
 unfoldable pub count : HeaderParser ℕ
 count = located (λ at. word >>= λ n. unless (nat_le (2 ^ 31) n) (BadCount at) n)
 
--- so many bytes, with padding to a multiple of four
+-- `len` bytes, with padding to a multiple of four
 unfoldable pub padded : ℕ → HeaderParser (List ℕ)
 padded len = field (padded_len len) >>= λ bytes. pure (take len bytes)
 
 -- a name that isn't among these
 unfoldable pub name_at : List (List ℕ) → HeaderParser (List ℕ)
-name_at found = located (λ at. count >>= λ len. padded len >>= λ name. unless (not (is_name_text name)) (BadName at) name >>= λ name. unless (has_name found name) (RepeatedName at) name)
+name_at found = located (λ at. count >>= λ len. padded len
+    >>= λ name. unless (not (is_name_text name)) (BadName at) name
+    >>= λ name. unless (has_name found name) (RepeatedName at) name)
 
 -- the kind of this number
 abbrev pub kind_of : ℕ → Option Kind
-kind_of code = if code == 1 then Some Byte else (if code == 2 then Some Char else (if code == 3 then Some Short else (if code == 4 then Some Int else (if code == 5 then Some Float else (if code == 6 then Some Double else None)))))
+kind_of code = if code == 1 then Some Byte
+    else (if code == 2 then Some Char
+    else (if code == 3 then Some Short
+    else (if code == 4 then Some Int
+    else (if code == 5 then Some Float
+    else (if code == 6 then Some Double else None)))))
 
 unfoldable pub kind_at : HeaderParser Kind
 kind_at = located (λ at. word >>= λ code. known (BadType at) (kind_of code))
 
--- so many items after those that were found, each told what stands before it
+-- n items after those that were found; each may depend on those before it
 unfoldable pub items_from : {A : Type 0} → (List A → HeaderParser A) → ℕ → List A → HeaderParser (List A)
 items_from item zero found = pure found
 items_from item (suc n) found = item found >>= λ next. items_from item n (found ++ next ∷ [])
@@ -98,7 +106,9 @@ names_record dims id = option_map_or is_record (slice_get dims id) false
 
 -- the number of a dimension after these: it is there, and the record dimension stands first
 unfoldable pub dim_id_at : List Dim → List ℕ → HeaderParser ℕ
-dim_id_at dims found = located (λ at. word >>= λ id. unless (nat_le (length dims) id) (BadDimId at) id >>= λ id. unless (not (length found == 0) && names_record dims id) (RecordNotFirst at) id)
+dim_id_at dims found = located
+    (λ at. word >>= λ id. unless (nat_le (length dims) id) (BadDimId at) id
+    >>= λ id. unless (not (length found == 0) && names_record dims id) (RecordNotFirst at) id)
 
 -- the place of a variable's data
 unfoldable pub begin_at : ℕ → HeaderParser ℕ
@@ -117,11 +127,15 @@ var_at version dims found = do
 
 -- `CDF`, and the version
 unfoldable pub version_at : HeaderParser ℕ
-version_at = λ i. if nat_lt (length i.rest) 4 || not (bytes_eq (take 3 i.rest) (codes "CDF")) then Err BadMagic else (if slice_index i.rest 3 == 1 || slice_index i.rest 3 == 2 then Ok (slice_index i.rest 3, record { at = i.at + 4; rest = drop 4 i.rest }) else Err (BadVersion (slice_index i.rest 3)))
+version_at = λ i. if nat_lt (length i.rest) 4 || not (bytes_eq (take 3 i.rest) (codes "CDF")) then Err BadMagic
+    else (if slice_index i.rest 3 == 1 || slice_index i.rest 3 == 2
+    then Ok (slice_index i.rest 3, record { at = i.at + 4; rest = drop 4 i.rest })
+    else Err (BadVersion (slice_index i.rest 3)))
 
 -- the number of records, which is known
 unfoldable pub numrecs_at : HeaderParser ℕ
-numrecs_at = located (λ at. word >>= λ n. unless (n == STREAMING_COUNT) Streaming n >>= λ n. unless (nat_le (2 ^ 31) n) (BadCount at) n)
+numrecs_at = located (λ at. word >>= λ n. unless (n == STREAMING_COUNT) Streaming n
+    >>= λ n. unless (nat_le (2 ^ 31) n) (BadCount at) n)
 
 unfoldable pub header_at : HeaderParser Header
 header_at = do
@@ -136,7 +150,7 @@ header_at = do
 unfoldable pub header_or_fault : List ℕ → Result Header HeaderFault
 header_or_fault bytes = value_of (header_at (whole bytes))
 
--- what a reader that may run out of memory returned is what reading gives
+-- what a reader returned, and where it stands then, is the outcome of this parser, unless memory ran out
 abbrev pub Reads : {X Y : Type 0} → (X → Y) → Outcome Y HeaderFault → Result X (Fail HeaderFault) → Input → Type 0
 Reads view outcome (Ok x) new = outcome ≡ Ok (view x, new)
 Reads view outcome (Err fails.NoMemory) new = Unit {0}

@@ -44,7 +44,8 @@ pub record SpellsName (text name : List ℕ) : Type 0 where
 -- items one after the other
 abbrev pub Spelled : {A : Type 0} → (List ℕ → A → Type 0) → List ℕ → List A → Type 0
 Spelled S text [] = text ≡ []
-Spelled S text (item ∷ items) = (first : List ℕ) × (others : List ℕ) × S first item × Spelled S others items × (text ≡ first ++ others)
+Spelled S text (item ∷ items) = (first : List ℕ) × (others : List ℕ) × S first item × Spelled S others items
+    × (text ≡ first ++ others)
 
 -- the tag of a list, the number of its items, and the items
 pub record SpellsTagged {A : Type 0} (tag : ℕ) (S : List ℕ → A → Type 0) (text : List ℕ) (items : List A) : Type 0 where
@@ -87,7 +88,8 @@ pub record SpellsAttr (text : List ℕ) (attr : Attr) : Type 0 where
 
 -- the place of a variable's data: four bytes in version 1, eight in version 2
 abbrev pub SpellsBegin : ℕ → List ℕ → ℕ → Type 0
-SpellsBegin version text begin = ((version ≡ 1) × (begin < 2 ^ 32) × (text ≡ to_be_bytes w32 begin)) ⊎ ((version ≡ 2) × (begin < 2 ^ 64) × (text ≡ to_be_bytes w64 begin))
+SpellsBegin version text begin = ((version ≡ 1) × (begin < 2 ^ 32) × (text ≡ to_be_bytes w32 begin))
+    ⊎ ((version ≡ 2) × (begin < 2 ^ 64) × (text ≡ to_be_bytes w64 begin))
 
 -- a variable: its name, its rank, the numbers of its dimensions, its attributes, its kind, a size of four bytes that
 -- nothing is compared with (vsize), and the place of its data

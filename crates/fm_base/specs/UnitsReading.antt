@@ -20,7 +20,7 @@ UnitsParser A = Parser A ℕ
 abbrev pub UnitsOutcome : Type 0 → Type 0
 UnitsOutcome A = Outcome A ℕ
 
--- the input after so many bytes more
+-- the input after n bytes more
 abbrev pub past : ℕ → Input → Input
 past n i = record { at = i.at + n; rest = drop n i.rest }
 
@@ -57,9 +57,10 @@ abbrev pub letters_at : List ℕ → UnitsParser (Unit {0})
 letters_at [] = pure tt
 letters_at (letter ∷ letters) = letter_at letter >>= λ done. letters_at letters
 
--- the longest run of bytes that pass, up to so many
+-- the longest run of bytes that pass, up to `most` of them
 abbrev pub run_at : (ℕ → Bool) → ℕ → UnitsParser (List ℕ)
-run_at test most = λ i. Ok (take (prefix_len test (take most i.rest)) i.rest, past (prefix_len test (take most i.rest)) i)
+run_at test most = λ i. Ok (take (prefix_len test (take most i.rest)) i.rest,
+    past (prefix_len test (take most i.rest)) i)
 
 -- how many times this byte stands there
 unfoldable pub many_at : ℕ → UnitsParser ℕ
@@ -79,27 +80,36 @@ gap_at = some_at 32
 
 -- a number from `low` to `high` of at least `fewest` and at most `most` digits
 unfoldable pub number_at : ℕ → ℕ → ℕ → ℕ → UnitsParser ℕ
-number_at fewest most low high = located (λ at. run_at is_ascii_digit most >>= λ digits. unless (nat_lt (number_of digits) low || nat_lt high (number_of digits)) at digits >>= λ digits. located (λ end. unless (nat_lt (length digits) fewest) end (number_of digits)))
+number_at fewest most low high =
+    located (λ at. run_at is_ascii_digit most
+    >>= λ digits. unless (nat_lt (number_of digits) low || nat_lt high (number_of digits)) at digits
+    >>= λ digits. located (λ end. unless (nat_lt (length digits) fewest) end (number_of digits)))
 
 -- whether two words are the same but for the case of their letters
 unfoldable pub is_same_word : List ℕ → List ℕ → Bool
 is_same_word word other = str_eq_ignore_ascii_case word other
 
 unfoldable pub is_second : List ℕ → Bool
-is_second word = is_same_word word (codes "second") || is_same_word word (codes "seconds") || is_same_word word (codes "sec") || is_same_word word (codes "secs") || is_same_word word (codes "s")
+is_second word = is_same_word word (codes "second") || is_same_word word (codes "seconds")
+    || is_same_word word (codes "sec") || is_same_word word (codes "secs") || is_same_word word (codes "s")
 
 unfoldable pub is_minute : List ℕ → Bool
-is_minute word = is_same_word word (codes "minute") || is_same_word word (codes "minutes") || is_same_word word (codes "min") || is_same_word word (codes "mins")
+is_minute word = is_same_word word (codes "minute") || is_same_word word (codes "minutes")
+    || is_same_word word (codes "min") || is_same_word word (codes "mins")
 
 unfoldable pub is_hour : List ℕ → Bool
-is_hour word = is_same_word word (codes "hour") || is_same_word word (codes "hours") || is_same_word word (codes "hr") || is_same_word word (codes "hrs") || is_same_word word (codes "h")
+is_hour word = is_same_word word (codes "hour") || is_same_word word (codes "hours") || is_same_word word (codes "hr")
+    || is_same_word word (codes "hrs") || is_same_word word (codes "h")
 
 unfoldable pub is_day : List ℕ → Bool
 is_day word = is_same_word word (codes "day") || is_same_word word (codes "days") || is_same_word word (codes "d")
 
 -- the seconds of the unit that a word names
 unfoldable pub seconds_per : List ℕ → Option ℕ
-seconds_per word = if is_second word then Some 1 else (if is_minute word then Some 60 else (if is_hour word then Some 3600 else (if is_day word then Some 86_400 else None)))
+seconds_per word = if is_second word then Some 1
+    else (if is_minute word then Some 60
+    else (if is_hour word then Some 3600
+    else (if is_day word then Some 86_400 else None)))
 
 -- the seconds of a unit
 unfoldable pub unit_at : UnitsParser ℕ
@@ -120,7 +130,8 @@ fraction_at = λ i. if next_is 46 i then (byte_at 46 >>= λ point. some_at 48) i
 
 -- the second of a time, 0 where it is left out
 unfoldable pub second_at : UnitsParser ℕ
-second_at = λ i. if next_is 58 i then (byte_at 58 >>= λ colon. number_at 1 2 0 59 >>= λ second. fraction_at >>= λ zeros. pure second) i else Ok (0, i)
+second_at = λ i. if next_is 58 i then
+    (byte_at 58 >>= λ colon. number_at 1 2 0 59 >>= λ second. fraction_at >>= λ zeros. pure second) i else Ok (0, i)
 
 -- the seconds from midnight to a time of day
 unfoldable pub time_at : UnitsParser ℕ
@@ -148,7 +159,8 @@ zone_at = λ i. if next_is 43 i then (byte_at 43 >>= λ plus. distance_at >>= λ
 
 -- a zone up to the end of the text, UTC where it is left out
 unfoldable pub last_zone_at : UnitsParser ℤ
-last_zone_at = spaces_at >>= λ gap. λ i. if has_ended i then Ok (pos 0, i) else (zone_at >>= λ zone. spaces_at >>= λ gap. end_at >>= λ end. pure zone) i
+last_zone_at = spaces_at >>= λ gap. λ i. if has_ended i then Ok (pos 0, i)
+    else (zone_at >>= λ zone. spaces_at >>= λ gap. end_at >>= λ end. pure zone) i
 
 -- a time with its zone up to the end of the text, as the seconds from the midnight in UTC that begins its date
 unfoldable pub clock_at : UnitsParser ℤ
@@ -156,10 +168,12 @@ clock_at = time_at >>= λ time. last_zone_at >>= λ zone. pure (pos time -ℤ zo
 
 -- what follows a date up to the end of the text, which is midnight in UTC where there is no time
 unfoldable pub after_date_at : UnitsParser ℤ
-after_date_at = λ i. if next_is_letter 116 i then (letter_at 116 >>= λ t. clock_at) i else (spaces_at >>= λ gap. λ j. if has_ended j then Ok (pos 0, j) else (if gap == 0 then Err j.at else clock_at j)) i
+after_date_at = λ i. if next_is_letter 116 i then (letter_at 116 >>= λ t. clock_at) i
+    else (spaces_at >>= λ gap. λ j. if has_ended j then Ok (pos 0, j)
+    else (if gap == 0 then Err j.at else clock_at j)) i
 
--- the seconds of the unit, the day number of the date, and the seconds from the midnight in UTC that begins that date to
--- the origin
+-- the seconds of the unit, the day number of the date, and the seconds from the midnight in UTC that begins that date
+-- to the origin
 pub record Written : Type 0 where
   pub per : ℕ
   pub day : ℤ

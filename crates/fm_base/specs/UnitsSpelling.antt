@@ -36,7 +36,7 @@ pub record SpellsNumber (fewest most low high : ℕ) (text : List ℕ) (number :
   pub low_is : low ≤ number
   pub high_is : number ≤ high
 
--- the word of a unit of so many seconds
+-- the word of a unit of this many seconds
 pub record SpellsUnit (text : List ℕ) (seconds : ℕ) : Type 0 where
   pub letters : IsTrue (list_all is_ascii_alphabetic text)
   pub unit : seconds_per text ≡ Some seconds

@@ -1,4 +1,4 @@
-//! Plain values that every other crate speaks of: lists that contracts see as lists, want of memory, the parts of a
+//! Plain values that every other crate speaks of: lists that contracts see as lists, out of memory, the parts of a
 //! netCDF classic header, and the fields that files and texts are made of.
 #![tactic(auto)]
 

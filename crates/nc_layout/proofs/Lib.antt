@@ -1,7 +1,5 @@
 pub mod ApartLaws
-pub mod EndLaws
 pub mod EndLemmas
-pub mod ExampleLemmas
 pub mod HeaderLemmas
 pub mod LayingLemmas
 pub mod MeaningLemmas

@@ -13,12 +13,12 @@ product-pos (n ∷ ns) all =
     mul-le 1 1 n (product ns) (All-head (λ m. 1 ≤ m) n ns all) (product-pos ns (All-tail (λ m. 1 ≤ m) n ns all))
 
 -- a length that goes into the product so far
-pub product_more : (f : ℕ → ℕ) (so_far id total : ℕ) (ids : List ℕ) (i : ℕ) → i < length ids → id ≡ get_or ids i 0
-    → so_far * product (map f (drop i ids)) ≡ total → so_far * f id * product (map f (drop (i + 1) ids)) ≡ total
+pub product_more : (f : ℕ → ℕ) (so_far n total : ℕ) (ids : List ℕ) (i : ℕ) → i < length ids → n ≡ f (get_or ids i 0)
+    → so_far * product (map f (drop i ids)) ≡ total → so_far * n * product (map f (drop (i + 1) ids)) ≡ total
 unfolding product
-product_more f so_far id total ids i below read is =
-    let more : drop i ids ≡ id ∷ drop (i + 1) ids = rw read (drop_more ids i 0 below) in
-    mul_assoc so_far (f id) (product (map f (drop (i + 1) ids))) ∙ (rw more at is)
+product_more f so_far n total ids i below read is =
+    rw read (mul_assoc so_far (f (get_or ids i 0)) (product (map f (drop (i + 1) ids))) ∙
+        (rw (drop_more ids i 0 below) at is))
 
 -- no length is left
 pub product_all : (f : ℕ → ℕ) (so_far total : ℕ) (ids : List ℕ) (i : ℕ) → length ids ≤ i
@@ -33,8 +33,10 @@ product_all f so_far total ids i past is =
 pub product_over : (f : ℕ → ℕ) (limit so_far total : ℕ) (ids : List ℕ) (i : ℕ) → All (λ n. 1 ≤ n) (map f ids)
     → limit < so_far → so_far * product (map f (drop i ids)) ≡ total → limit < total
 product_over f limit so_far total ids i all over is =
-    let rest : All (λ n. 1 ≤ n) (map f (drop i ids)) = rw (← drop-map f i ids) (All-drop (λ n. 1 ≤ n) i (map f ids) all) in
-    let most : so_far ≤ so_far * product (map f (drop i ids)) = le-mul_of_pos_right so_far (product-pos (map f (drop i ids)) rest) in
+    let rest : All (λ n. 1 ≤ n) (map f (drop i ids)) =
+      rw (← drop-map f i ids) (All-drop (λ n. 1 ≤ n) i (map f ids) all) in
+    let most : so_far ≤ so_far * product (map f (drop i ids)) =
+      le-mul_of_pos_right so_far (product-pos (map f (drop i ids)) rest) in
     omega arith
 
 pub ruleset products = (product_more, product_all, product_over)

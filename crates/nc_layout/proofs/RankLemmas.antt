@@ -41,23 +41,24 @@ unfolding rank_in product
 rank_in-lt [] index is = omega arith
 rank_in-lt (n ∷ shape) [] is = absurd is
 rank_in-lt (n ∷ shape) (i ∷ index) is =
-    rw (mul_comm n (product shape)) (mul-add-lt i (product shape) (rank_in shape index) n is.0 (rank_in-lt shape index is.1))
+    rw (mul_comm n (product shape))
+        (mul-add-lt i (product shape) (rank_in shape index) n is.0 (rank_in-lt shape index is.1))
 
 rank_step : (so_far n i whole rest : ℕ) → so_far * (n * whole) + (i * whole + rest) ≡ (so_far * n + i) * whole + rest
 rank_step so_far n i whole rest = omega arith
 
 -- an index that goes into the number so far
-pub rank_more : (f : ℕ → ℕ) (so_far id i total : ℕ) (ids index : List ℕ) (at : ℕ) → at < length ids → at < length index
-    → id ≡ get_or ids at 0 → i ≡ get_or index at 0
+pub rank_more : (f : ℕ → ℕ) (so_far n i total : ℕ) (ids index : List ℕ) (at : ℕ) → at < length ids → at < length index
+    → n ≡ f (get_or ids at 0) → i ≡ get_or index at 0
     → so_far * product (map f (drop at ids)) + rank_in (map f (drop at ids)) (drop at index) ≡ total
-    → (so_far * f id + i) * product (map f (drop (at + 1) ids)) + rank_in (map f (drop (at + 1) ids)) (drop (at + 1) index) ≡ total
+    → (so_far * n + i) * product (map f (drop (at + 1) ids)) + rank_in (map f (drop (at + 1) ids)) (drop (at + 1) index)
+        ≡ total
 unfolding rank_in product
-rank_more f so_far id i total ids index at below there is here e =
-    let ids_more : drop at ids ≡ id ∷ drop (at + 1) ids = rw is (drop_more ids at 0 below) in
+rank_more f so_far n i total ids index at below there is here e =
     let index_more : drop at index ≡ i ∷ drop (at + 1) index = rw here (drop_more index at 0 there) in
-    let e' = rw (ids_more, index_more) at e in
+    let e' = rw (drop_more ids at 0 below, index_more, ← is) at e in
     let shape = map f (drop (at + 1) ids) in
-    sym (rank_step so_far (f id) i (product shape) (rank_in shape (drop (at + 1) index))) ∙ e'
+    sym (rank_step so_far n i (product shape) (rank_in shape (drop (at + 1) index))) ∙ e'
 
 -- no index is left
 pub rank_all : (f : ℕ → ℕ) (so_far total : ℕ) (ids index : List ℕ) (at : ℕ) → length ids ≤ at
@@ -73,19 +74,20 @@ pub length-index_of_ids : (f : ℕ → ℕ) (ids index : List ℕ) → IsIndex (
 length-index_of_ids f ids index is = length-index (map f ids) index is ∙ length-map ids f
 
 -- the number with the next index is below the number of elements
-pub rank_fits : (f : ℕ → ℕ) (so_far id i : ℕ) (ids index : List ℕ) (at : ℕ) → IsIndex (map f ids) index → at < length ids
-    → id ≡ get_or ids at 0 → i ≡ get_or index at 0
+pub rank_fits : (f : ℕ → ℕ) (so_far n i : ℕ) (ids index : List ℕ) (at : ℕ) → IsIndex (map f ids) index → at < length ids
+    → n ≡ f (get_or ids at 0) → i ≡ get_or index at 0
     → so_far * product (map f (drop at ids)) + rank_in (map f (drop at ids)) (drop at index) ≡ rank_in (map f ids) index
-    → so_far * f id + i < product (map f ids)
-rank_fits f so_far id i ids index at is below read here e =
+    → so_far * n + i < product (map f ids)
+rank_fits f so_far n i ids index at is below read here e =
     let same = length-index_of_ids f ids index is in
     let there : at < length index = omega arith in
-    let more = rank_more f so_far id i (rank_in (map f ids) index) ids index at below there read here e in
+    let more = rank_more f so_far n i (rank_in (map f ids) index) ids index at below there read here e in
     let all : All (λ n. 1 ≤ n) (map f (drop (at + 1) ids)) =
-      rw (← drop-map f (at + 1) ids) (All-drop (λ n. 1 ≤ n) (at + 1) (map f ids) (lengths-index (map f ids) index is)) in
-    let most : so_far * f id + i ≤ (so_far * f id + i) * product (map f (drop (at + 1) ids)) =
-      le-mul_of_pos_right (so_far * f id + i) (product-pos (map f (drop (at + 1) ids)) all) in
+      rw (← drop-map f (at + 1) ids)
+          (All-drop (λ n. 1 ≤ n) (at + 1) (map f ids) (lengths-index (map f ids) index is)) in
+    let most : so_far * n + i ≤ (so_far * n + i) * product (map f (drop (at + 1) ids)) =
+      le-mul_of_pos_right (so_far * n + i) (product-pos (map f (drop (at + 1) ids)) all) in
     let least = rank_in-lt (map f ids) index is in
     omega arith
 
-pub ruleset ranks = (rank_more, rank_all, length-index_of_ids)
+pub ruleset ranks = (rank_more, rank_all, rank_fits, length-index_of_ids)

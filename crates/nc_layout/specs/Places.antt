@@ -20,7 +20,8 @@ IsIndex shape index = AllZip (λ n i. i < n) shape index
 
 -- the variable of this number has an element of this index list
 abbrev pub HasElement : LaidOut → ℕ → List ℕ → Type 0
-HasElement laid number index = IsSomeAnd (slice_get laid.header.vars number) (λ var. IsIndex (shape_of laid.header var) index)
+HasElement laid number index =
+    IsSomeAnd (slice_get laid.header.vars number) (λ var. IsIndex (shape_of laid.header var) index)
 
 -- the variable of this number has a dimension at this place
 abbrev pub HasDim : LaidOut → ℕ → ℕ → Type 0

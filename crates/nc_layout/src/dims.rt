@@ -2,6 +2,7 @@
 ghost use Rattle.std.specs.Prelude.{◌≡◌, map};
 ghost use Rattle.fm_base.specs.Layout.{size_at, is_record_var, fixed_shape};
 ghost use Rattle.fm_base.specs.Reading.{names_record};
+ghost use Rattle.nc_layout.specs.Places.{part_count};
 
 use fm_base::{Dim, Header, NcVar};
 
@@ -44,5 +45,16 @@ pub fn fixed_dims<'a>(header: &Header, var: &'a NcVar) -> &'a [u32]
         fixed
     } else {
         ids
+    }
+}
+
+/// In how many parts a variable's elements lie: one in each record, or one where it has no records.
+pub fn part_count_of(header: &Header, var: &NcVar) -> u32
+    ensures { result ≡ part_count header.now var.now }
+{
+    if is_record_var(header, var) {
+        header.numrecs
+    } else {
+        1
     }
 }

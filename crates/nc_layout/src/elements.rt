@@ -2,7 +2,7 @@
 ghost use Rattle.std.specs.Prelude.{◌≡◌, ◌+◌, ◌*◌, ◌<◌, ◌≤◌, ◌^◌, map};
 ghost use Rattle.fm_base.specs.Kind.{size_of};
 ghost use Rattle.fm_base.specs.Layout.{size_at, shape_of, fixed_shape, product, rank_in, vsize, record_size, place_of};
-ghost use Rattle.nc_layout.specs.Kept.{IsWithin};
+ghost use Rattle.nc_layout.specs.Kept.{IsWithin, part_of, index_in_part};
 ghost use Rattle.nc_layout.specs.Meaning.{IsSmall};
 ghost use Rattle.nc_layout.specs.Places.{IsIndex, part_begin, part_count};
 
@@ -46,7 +46,22 @@ fn offset(header: &Header, var: &NcVar, index: &[u64]) -> u64
     u64::from(var.kind.size()) * rank(header, fixed_dims(header, var), index)
 }
 
+// The number of the part in which an element lies, and its index list there.
+fn split_index<'a>(header: &Header, var: &NcVar, index: &'a [u64]) -> (u64, &'a [u64])
+    requires { IsIndex (shape_of header.now var.now) index.now }
+    ensures part { result.0 ≡ part_of header.now var.now index.now }
+    ensures rest { result.1.now ≡ index_in_part header.now var.now index.now }
+{
+    if is_record_var(header, var) {
+        let (_, rest) = index.split_at(1);
+        (index[0], rest)
+    } else {
+        (0, index)
+    }
+}
+
 /// The place in the file of the first byte of an element of a variable.
+#[tactic(auto, using(crate::proofs::PlaceLemmas::places))]
 pub fn place_of(header: &Header, len: u64, recsize: u128, var: &NcVar, index: &[u64]) -> u64
     requires recsize { recsize ≡ record_size header.now }
     requires within { IsWithin header.now len var.now }
@@ -54,9 +69,6 @@ pub fn place_of(header: &Header, len: u64, recsize: u128, var: &NcVar, index: &[
     ensures exact { result ≡ place_of header.now var.now index.now }
     ensures within { result + size_of var.now.kind ≤ len }
 {
-    if !is_record_var(header, var) {
-        return part_begin_of(header, len, recsize, var, 0) + offset(header, var, index);
-    }
-    let (_, others) = index.split_at(1);
-    part_begin_of(header, len, recsize, var, index[0]) + offset(header, var, others)
+    let (part, rest) = split_index(header, var, index);
+    part_begin_of(header, len, recsize, var, part) + offset(header, var, rest)
 }

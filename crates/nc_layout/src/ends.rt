@@ -4,7 +4,7 @@ ghost use Rattle.fm_base.specs.Layout.{vsize, record_size, first_outside};
 ghost use Rattle.nc_layout.specs.Kept.{HasLengths, vsizes_of, end_if_any};
 ghost use Rattle.nc_layout.specs.Meaning.{IsSmall};
 
-use crate::dims::is_record_var;
+use crate::dims::part_count_of;
 use fm_base::{Header, LayoutFault, NcVar};
 
 // Where the last element of a variable ends, if it has one.
@@ -17,15 +17,11 @@ fn end_of(header: &Header, recsize: u128, var: &NcVar, size: u64) -> Option<u128
     requires small { IsSmall header.now var.now }
     ensures { result ≡ end_if_any header.now var.now }
 {
-    let begin = u128::from(var.begin);
-    let size = u128::from(size);
-    if !is_record_var(header, var) {
-        return Some(begin + size);
-    }
-    if header.numrecs == 0 {
+    let count = part_count_of(header, var);
+    if count == 0 {
         return None;
     }
-    Some(begin + u128::from(header.numrecs - 1) * recsize + size)
+    Some(u128::from(var.begin) + u128::from(count - 1) * recsize + u128::from(size))
 }
 
 /// The first variable that has an element past this length.

@@ -1,9 +1,9 @@
 //! A layout, and what it returns.
-ghost use Rattle.std.specs.Prelude.{◌≡◌, ◌+◌, ◌<◌, ◌≤◌, length, slice_index};
+ghost use Rattle.std.specs.Prelude.{◌≡◌, ◌+◌, ◌<◌, ◌≤◌, None, length, slice_index};
 ghost use Rattle.fm_base.specs.Kind.{size_of};
-ghost use Rattle.fm_base.specs.Layout.{shape_of, vsize, record_size, place_of};
+ghost use Rattle.fm_base.specs.Layout.{shape_of, vsize, record_size, place_of, layout_fault};
 
-use crate::dims::{is_record_var, size_at};
+use crate::dims::{part_count_of, size_at};
 use crate::elements::{part_begin_of, place_of};
 use fm_base::{Header, List, NcVar};
 use std::marker::Model;
@@ -30,6 +30,7 @@ impl Model for Layout {
 }
 
 impl Layout {
+    ghost use Rattle.nc_layout.specs.Faults.{CanLayOut};
     ghost use Rattle.nc_layout.specs.Places.{
       HasDim,
       HasElement,
@@ -39,9 +40,11 @@ impl Layout {
       part_count,
     };
 
-    /// The header.
+    /// The header, which has no fault of its layout.
     pub fn header(&self) -> &Header
-        ensures { result.now ≡ self.now.header }
+        ensures exact { result.now ≡ self.now.header }
+        ensures sound { CanLayOut self.now.header }
+        ensures faultless { layout_fault self.now.header self.now.len ≡ None }
     {
         &self.header
     }
@@ -97,11 +100,7 @@ impl Layout {
         requires { var < length self.now.header.vars }
         ensures { (v : _) → IsVar self.now var v → result ≡ part_count self.now.header v }
     {
-        if is_record_var(&self.header, self.var(var)) {
-            self.header.numrecs
-        } else {
-            1
-        }
+        part_count_of(&self.header, self.var(var))
     }
 
     /// How many bytes a part takes, without padding.

@@ -1,10 +1,5 @@
--- Where the content of a file ends a check, and where its layout does.
-use Rattle.std.proofs.Common.{◌≡◌, ℕ, ◌≤◌, refl, subst, Option, Some, None, Result, Ok, Err, IfErr}
-use Rattle.fm_base.specs.declared.fault.LayoutFault.{LayoutFault}
-use Rattle.fm_base.specs.declared.header.Header.{Header}
-use Rattle.fm_base.specs.Layout.{layout_fault}
-use Rattle.nc_layout.specs.Faults.{layout_or_fault}
-use Rattle.nc_layout.specs.Places.{Places}
+-- Where the content of a file ends a check.
+use Rattle.std.proofs.Common.{◌≡◌, ℕ, ◌≤◌, refl, subst, Result, Ok, Err, IfErr}
 use Rattle.srv_run.specs.declared.end.End.{End}
 use Rattle.srv_run.specs.declared.end.End.TheVariants.{Done, BadWords, Refused, NoMemory, SinkFault}
 use Rattle.srv_run.specs.declared.end.Subject.TheVariants.{File}
@@ -36,23 +31,3 @@ IsFault-read end ends = record {
   words = λ is. subst (IsEndOfRead File) is ends;
   sink = λ is. subst (IsEndOfRead File) is ends;
 }
-
--- a file that is laid out has no fault of its layout
-pub layout_fault-none : (header : Header) (len : ℕ) (places : Places) → layout_or_fault header len ≡ Ok places → layout_fault header len ≡ None
-unfolding layout_or_fault
-layout_fault-none header len places laid = by_fault (layout_fault header len) refl
-  where
-    by_fault : (fault : Option LayoutFault) → layout_fault header len ≡ fault → layout_fault header len ≡ None
-    by_fault None is = is
-    by_fault (Some fault) is = absurd (let refused : Err fault ≡ Ok places = rw is at laid in cc)
-
--- one that is refused has this fault
-pub layout_fault-some : (header : Header) (len : ℕ) (found : LayoutFault) → layout_or_fault header len ≡ Err found → layout_fault header len ≡ Some found
-unfolding layout_or_fault
-layout_fault-some header len found refused = by_fault (layout_fault header len) refl
-  where
-    by_fault : (fault : Option LayoutFault) → layout_fault header len ≡ fault → layout_fault header len ≡ Some found
-    by_fault None is = absurd (let laid = rw is at refused in cc)
-    by_fault (Some fault) is = let same = rw is at refused in cc
-
-pub ruleset laid = (layout_fault-none, layout_fault-some)

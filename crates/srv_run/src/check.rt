@@ -32,7 +32,7 @@ pub(crate) fn checked_path(words: &[Bytes]) -> Option<&[u8]>
 }
 
 // The header of a file that has no fault.
-#[tactic(auto, using(nc_layout::proofs::ReadLemmas::headers_read, crate::proofs::CheckLemmas::laid), unfolding(crate::specs::Check::sound_or_refusal, fm_base::specs::Sound::sound_header))]
+#[tactic(auto, using(nc_layout::proofs::ReadLemmas::headers_read), unfolding(crate::specs::Check::sound_or_refusal, fm_base::specs::Sound::sound_header))]
 fn sound_header(alloc: Global, bytes: &[u8]) -> Result<Header, End>
     ensures sound { Gives (λ header. header) result (spec.sound_or_refusal bytes.now) }
     ensures calm { IfErr result IsEndOfTake }
@@ -42,8 +42,8 @@ fn sound_header(alloc: Global, bytes: &[u8]) -> Result<Header, End>
         Err(Fail::NoMemory) => return Err(End::NoMemory),
         Err(Fail::Fault(fault)) => return Err(End::Refused(Subject::File, fault.code())),
     };
-    match lay_out(alloc, &header, bytes.len() as u64) {
-        Ok(_layout) => Ok(header),
+    match lay_out(alloc, header, bytes.len() as u64) {
+        Ok(layout) => Ok(layout.into_header()),
         Err(Fail::NoMemory) => Err(End::NoMemory),
         Err(Fail::Fault(fault)) => Err(End::Refused(Subject::File, fault.code())),
     }

@@ -8,7 +8,7 @@ ghost use Rattle.nc_layout.specs.Places.{IsIndex};
 use fm_base::{Header, NcVar};
 
 /// No element of a variable ends past the end of its last element.
-#[tactic(auto, using(crate::proofs::EndLaws::ends))]
+#[tactic(auto, using(crate::proofs::EndLemmas::ends))]
 pub fn last_element_ends_last(header: &Header, var: &NcVar, index: &[u64])
     requires { IsIndex (shape_of header.now var.now) index.now }
     ensures { place_of header.now var.now index.now + size_of var.now.kind

@@ -5,4 +5,6 @@ use Rattle.nc_layout.proofs.PlaceLemmas.{within}
 use Rattle.nc_layout.proofs.layout.Layout.part_begin.Goals as goal
 
 pub part_begin_of-requires-clause-within : goal.part_begin_of-requires-clause-within
-part_begin_of-requires-clause-within c = within _ _ c.self.invariant (ap (λ (laid : LaidOut). slice_get laid.header.vars c.args.var) c.self.view_is ∙ c.var.ensures)
+part_begin_of-requires-clause-within c =
+    within _ _ c.self.invariant
+    (ap (λ (laid : LaidOut). slice_get laid.header.vars c.args.var) c.self.view_is ∙ c.var.ensures)
