@@ -17,8 +17,12 @@ pub cell_file : (files : List Loaded) (run valid : ℤ) → IsSome (cell files r
     → (file : Loaded) × In file files × (file.run ≡ run) × In valid file.times
 cell_file files run valid h =
     let found = value-from_some (cell files run valid) h in
-    let c = IsCell-from_cell files run valid found.0.0 found.0.1 found.1 in
-    (found.0.0, held-from_cell files run valid found.0.0 found.0.1 c, c.run_is, in_from_slice_get found.0.0.times found.0.1 valid c.time_is)
+    let c = IsCell-from_cell files run valid found.0.0 found.0.1 found.1 in (
+      found.0.0,
+      held-from_cell files run valid found.0.0 found.0.1 c,
+      c.run_is,
+      in_from_slice_get found.0.0.times found.0.1 valid c.time_is,
+    )
 
 -- a run with a cell has the time among its own
 pub time_of_run_of_cell : (files : List Loaded) (run valid : ℤ) → IsSome (cell files run valid)
@@ -47,7 +51,8 @@ run_of_cell files run valid h = let found = cell_file files run valid h in subst
     (In-runs_of files found.0 found.1)
 
 pub time_of_cell : (files : List Loaded) (run valid : ℤ) → IsSome (cell files run valid) → In valid (times_of files)
-time_of_cell files run valid h = let found = cell_file files run valid h in In-times_of files found.0 valid found.1 found.3
+time_of_cell files run valid h =
+    let found = cell_file files run valid h in In-times_of files found.0 valid found.1 found.3
 
 -- what stands before an instant of a rising list lies before it
 below_later : (before : List ℤ) (instant : ℤ) (after : List ℤ) (earlier : ℤ)

@@ -143,7 +143,8 @@ cell-from_IsCell files run valid file place c =
 
 pub cell_both : (files : List Loaded) (run valid : ℤ) (file : Loaded) (place : ℕ)
     → (cell files run valid ≡ Some (file, place)) ↔ IsCell files run valid file place
-cell_both files run valid file place = (IsCell-from_cell files run valid file place, cell-from_IsCell files run valid file place)
+cell_both files run valid file place =
+    (IsCell-from_cell files run valid file place, cell-from_IsCell files run valid file place)
 
 pub none_from_no_cell : (files : List Loaded) (run valid : ℤ) → cell files run valid ≡ None
     → Each (λ file. ¬ HasCell run valid file) files

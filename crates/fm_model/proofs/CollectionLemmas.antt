@@ -160,7 +160,8 @@ EachPair-filter {A} R test (item ∷ items) pairs = by_test (test item) (EachPai
     )
     by_test false others = others
 
-pub differ_after : (files : List Loaded) (op : Op) → EachPair DifferInName files → EachPair DifferInName (after_op files op)
+pub differ_after : (files : List Loaded) (op : Op) → EachPair DifferInName files
+    → EachPair DifferInName (after_op files op)
 unfolding after_op without kept_from
 differ_after files (Put file) differ =
     EachPair-push DifferInName (without file.name files) file

@@ -53,13 +53,29 @@ answer_of held = by_tests (nat_lt MAX_FILES held.files) refl (nat_lt MAX_ROWS he
   where
     by_tests : (f : Bool) → nat_lt MAX_FILES held.files ≡ f → (r : Bool) → nat_lt MAX_ROWS held.rows ≡ r → (s : Bool)
         → nat_lt MAX_BYTES held.size ≡ s
-        → Answer held (cond f (Some (passed Files held)) (cond r (Some (passed Rows held)) (cond s (Some (passed Size held)) None)))
+        → Answer held (cond f (Some (passed Files held)) (cond r (Some (passed Rows held))
+        (cond s (Some (passed Size held)) None)))
     by_tests true f r _ s _ = some Files
-        (record { held_is = refl; limit_is = refl; passed = ltb-true MAX_FILES held.files f; first = none_before_files held })
+        (record {
+          held_is = refl;
+          limit_is = refl;
+          passed = ltb-true MAX_FILES held.files f;
+          first = none_before_files held;
+        })
     by_tests false f true r s _ = some Rows
-        (record { held_is = refl; limit_is = refl; passed = ltb-true MAX_ROWS held.rows r; first = before_rows held (ltb-false MAX_FILES held.files f) })
+        (record {
+          held_is = refl;
+          limit_is = refl;
+          passed = ltb-true MAX_ROWS held.rows r;
+          first = before_rows held (ltb-false MAX_FILES held.files f);
+        })
     by_tests false f false r true s = some Size
-        (record { held_is = refl; limit_is = refl; passed = ltb-true MAX_BYTES held.size s; first = before_size held (ltb-false MAX_FILES held.files f) (ltb-false MAX_ROWS held.rows r) })
+        (record {
+          held_is = refl;
+          limit_is = refl;
+          passed = ltb-true MAX_BYTES held.size s;
+          first = before_size held (ltb-false MAX_FILES held.files f) (ltb-false MAX_ROWS held.rows r);
+        })
     by_tests false f false r false s = none
         (within held (ltb-false MAX_FILES held.files f) (ltb-false MAX_ROWS held.rows r)
         (ltb-false MAX_BYTES held.size s))

@@ -78,4 +78,10 @@ IsGridBegun-same_grid proto bytes header wanted e =
     (same_bytes wanted.name wanted.fixed (elements_of bytes header var.0)) tt var.2 in
     let like = and_parts (is_same_kind wanted.kind var.0.kind)
     (are_same (lengths_of proto wanted.dims) (shape_of header var.0)) (not-false _ passed.0) in
-    record { var = var.0; named = var.1; kind_is = same_kind wanted.kind var.0.kind like.0; lengths = sym ((bytes_eq-Decides (lengths_of proto wanted.dims) (shape_of header var.0)).0 like.1); elements = begins-same_bytes wanted.name wanted.fixed (elements_of bytes header var.0) passed.1 }
+    record {
+      var = var.0;
+      named = var.1;
+      kind_is = same_kind wanted.kind var.0.kind like.0;
+      lengths = sym ((bytes_eq-Decides (lengths_of proto wanted.dims) (shape_of header var.0)).0 like.1);
+      elements = begins-same_bytes wanted.name wanted.fixed (elements_of bytes header var.0) passed.1;
+    }

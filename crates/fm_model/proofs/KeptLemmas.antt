@@ -60,7 +60,8 @@ pub kept_names : (header : FileHeader) (axis : NcVar) → AreDistinct (map (λ (
 unfolding kept_vars
 kept_names header axis apart = distinct_kept _ header.vars apart
 
-pub each_by_recursion : {A : Type 0} (P : A → Type 0) (items : List A) → AllByRecursion P items → (item : A) → In item items
+pub each_by_recursion : {A : Type 0} (P : A → Type 0) (items : List A) → AllByRecursion P items → (item : A)
+    → In item items
     → P item
 each_by_recursion P [] all item h = absurd h
 each_by_recursion P (first ∷ items) all item (inl same) = subst P same all.0

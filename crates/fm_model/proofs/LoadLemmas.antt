@@ -40,7 +40,8 @@ module _ (name bytes : List ℕ) (proto : Proto) where
       (taken name bytes run times slots)
 
   abbrev after_count : FileHeader → NcVar → TimeUnits → ℤ → ℕ → Result Loaded LoadFault
-  after_count header axis units run count = file_times proto.site bytes header axis units count >>= after_times header axis run
+  after_count header axis units run count =
+      file_times proto.site bytes header axis units count >>= after_times header axis run
 
   abbrev after_run : FileHeader → NcVar → TimeUnits → ℤ → Result Loaded LoadFault
   after_run header axis units run = time_count header axis >>= after_count header axis units run

@@ -167,4 +167,5 @@ Each-push P (y ∷ xs) x each p = (each.0, Each-push P xs x each.1 p)
 pub EachPair-push : {A : Type 0} (R : A → A → Type 0) (items : List A) (last : A) → EachPair R items
     → Each (λ x. R x last) items → EachPair R (items ++ last ∷ [])
 EachPair-push R [] last pairs each = (tt, tt)
-EachPair-push R (item ∷ items) last pairs each = (Each-push (R item) items last pairs.0 each.0, EachPair-push R items last pairs.1 each.1)
+EachPair-push R (item ∷ items) last pairs each =
+    (Each-push (R item) items last pairs.0 each.0, EachPair-push R items last pairs.1 each.1)

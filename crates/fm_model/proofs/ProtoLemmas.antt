@@ -103,7 +103,8 @@ is_named-with_length header dims name id = ap (λ (o : Option Dim). option_map_o
     ∙ same (slice_get dims id)
   where
     same : (o : Option Dim)
-        → option_map_or (λ (dim : Dim). bytes_eq dim.name name) (option_map (with_length header) o) false ≡ option_map_or
+        → option_map_or (λ (dim : Dim). bytes_eq dim.name name) (option_map (with_length header) o) false
+        ≡ option_map_or
         (λ (dim : Dim). bytes_eq dim.name name) o false
     same None = refl
     same (Some dim) = refl
@@ -214,14 +215,19 @@ sound bytes site proto p =
           (In-append_right v.name (map (λ (x : Dim). x.name) header.dims) _
           (In-map (λ (x : NcVar). x.name) v header.vars (kept_is_held bytes site header axis v h))));
       free = all_vars bytes site header axis (HasFreeName (proto_with bytes site header axis))
-          (λ v h. let free = free_name bytes site header axis p.free v h in record { run = differs v.name (run_name axis.name) free.0; offset = differs v.name (offset_name axis.name) free.1 });
+          (λ v h. let free = free_name bytes site header axis p.free v h
+          in record {
+            run = differs v.name (run_name axis.name) free.0;
+            offset = differs v.name (offset_name axis.name) free.1;
+          });
       lengths = all_dims bytes site header axis (λ (d : Dim). d.name ≢ axis.name → 0 < d.size)
           (has_length bytes site header axis p.lengths);
       dim_names = rw (dim_names header header.dims) read.dims;
       var_names = rw (var_names bytes header axis (kept_vars header axis)) (kept_names header axis read.vars);
       in_range = all_vars bytes site header axis (HasDims (proto_with bytes site header axis)) (λ v h.
           dims_in header (map (with_length header) header.dims) (length-map header.dims (with_length header)) v
-          (each_by_recursion (λ (x : NcVar). AllByRecursion (λ id. id < length header.dims) x.dims) header.vars read.in_range v (kept_is_held bytes site header axis v h)));
+          (each_by_recursion (λ (x : NcVar). AllByRecursion (λ id. id < length header.dims) x.dims)
+          header.vars read.in_range v (kept_is_held bytes site header axis v h)));
       fixed = all_vars bytes site header axis (HasElements (proto_with bytes site header axis)) (λ v h.
           has_elements bytes site header axis v (Each-in (EndsWithin header (length bytes)) v header.vars
           (each_from_All (EndsWithin header (length bytes)) header.vars (ends_within header (length bytes) has.1))

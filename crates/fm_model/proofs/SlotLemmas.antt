@@ -40,7 +40,15 @@ IsSlotOf-file_slot proto header axis wanted slot e =
     let lengths : Bool = are_same (drop 1 (lengths_of proto wanted.dims)) (drop 1 (shape_of header var.0)) in
     let like = and_parts (kind && along) lengths (not-false _ passed.0) in
     let both = and_parts kind along like.0 in
-    record { var = var.0; named = var.1; kind_is = same_kind wanted.kind var.0.kind both.0; along = both.1; lengths = sym ((bytes_eq-Decides (drop 1 (lengths_of proto wanted.dims)) (drop 1 (shape_of header var.0))).0 like.1); slot_is = sym (same_Ok {E = LoadFault} (slot_in header axis var.0) slot passed.1) }
+    record {
+      var = var.0;
+      named = var.1;
+      kind_is = same_kind wanted.kind var.0.kind both.0;
+      along = both.1;
+      lengths = sym ((bytes_eq-Decides (drop 1 (lengths_of proto wanted.dims))
+          (drop 1 (shape_of header var.0))).0 like.1);
+      slot_is = sym (same_Ok {E = LoadFault} (slot_in header axis var.0) slot passed.1);
+    }
 
 AllZip-push : {A B : Type 0} (R : A → B → Type 0) (as' : List A) (bs : List B) (a : A) (b : B) → AllZip R as' bs → R a b
     → AllZip R (as' ++ a ∷ []) (bs ++ b ∷ [])
@@ -75,14 +83,21 @@ IsNextVar-slots_after proto bytes header axis found wanted next e = by_kind want
     by_kind true is e =
         let slot = step_ok (file_slot proto header axis wanted) (λ s. Ok (found ++ s ∷ [])) next e in
         record {
-          slot = λ _. (slot.0, IsSlotOf-file_slot proto header axis wanted slot.0 slot.1, sym (same_Ok {E = LoadFault} (found ++ slot.0 ∷ []) next slot.2));
+          slot = λ _. (
+            slot.0,
+            IsSlotOf-file_slot proto header axis wanted slot.0 slot.1,
+            sym (same_Ok {E = LoadFault} (found ++ slot.0 ∷ []) next slot.2),
+          );
           grid = λ no. absurd (false≢true (sym no ∙ is));
         }
     by_kind false is e =
         let checked = check_ok (same_grid proto bytes header wanted) (Ok found) next e in
         record {
           slot = λ yes'. absurd (false≢true (sym is ∙ yes'));
-          grid = λ _. (IsGridBegun-same_grid proto bytes header wanted checked.0, sym (same_Ok {E = LoadFault} found next checked.1));
+          grid = λ _. (
+            IsGridBegun-same_grid proto bytes header wanted checked.0,
+            sym (same_Ok {E = LoadFault} found next checked.1),
+          );
         }
 
 -- one step and the others
@@ -130,7 +145,8 @@ slots_zip proto bytes header axis done (wanted ∷ wanteds) found all zip e =
         let slot = var.slot is in
         subst (λ l. AllZip (IsSlotOf proto header axis) l all)
         (append_assoc done (wanted ∷ []) (filter is_timed wanteds))
-        (with_slot (subst (AllZip (IsSlotOf proto header axis) (done ++ wanted ∷ [])) (sym slot.2) (AllZip-push (IsSlotOf proto header axis) done found wanted slot.0 zip slot.1)) e)
+        (with_slot (subst (AllZip (IsSlotOf proto header axis) (done ++ wanted ∷ [])) (sym slot.2)
+        (AllZip-push (IsSlotOf proto header axis) done found wanted slot.0 zip slot.1)) e)
     by_kind false is next var e with_slot without_slot =
         without_slot (subst (AllZip (IsSlotOf proto header axis) done) (sym (var.grid is).1) zip) e
 

@@ -196,7 +196,8 @@ times_are_instants file proto fits = All-from_each IsInstant file.times
     (HasTimes-taken file proto (fit file proto fits)).instants
 
 pub run_is_instant : (file : Loaded) (proto : Proto) → Fits file proto → IsInstant file.run
-run_is_instant file proto fits = let t = fit file proto fits in IsInstant-file_run proto.site file.name file.content t.header file.run t.run_is
+run_is_instant file proto fits =
+    let t = fit file proto fits in IsInstant-file_run proto.site file.name file.content t.header file.run t.run_is
 
 same_header : (bytes : List ℕ) (header other : FileHeader) → file_header bytes ≡ Ok header
     → file_header bytes ≡ Ok other → header ≡ other

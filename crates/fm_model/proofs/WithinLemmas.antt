@@ -1,4 +1,4 @@
--- Of a file that was taken, the data of each slot at each time lies in the content, and coordinates are the prototype's.
+-- A file that was taken: the data of each slot at each time lies in the content, and its grid is the prototype's.
 use Rattle.std.proofs.Common.{◌≡◌, ◌≢◌, ℕ, zero, suc, ◌+◌, ◌-◌, ◌*◌, ◌<◌, ◌≤◌, Bool, true, false, not, ◌&&◌, List, [], ◌∷◌, drop, length, map, take, All, Option, Some, None, Ok, refl, sym, ap, ap₂, subst, ◌∙◌, inl, inr, arith}
 use Rattle.std.specs.Prelude.{IsTrue, slice_get, ◌==◌}
 use Rattle.std.specs.List.{AllByRecursion, AllZip, IsDistinct, list_any}

@@ -1,5 +1,5 @@
--- Which file stands for a run and a valid time, and which run is the best for a valid time (THREDDS Data Server, Forecast
--- Model Run Collections, best time series, also with a least offset).
+-- Which file stands for a run and a valid time, and which run is the best for a valid time (THREDDS Data Server,
+-- Forecast Model Run Collections, best time series, also with a least offset).
 use Rattle.std.specs.Prelude.{◌≡◌, ◌<◌, ◌++◌, ◌≤ℤ◌, ◌-ℤ◌, int_le, true, IfSome, filter, slice_get, All, Any, Contains, ℕ, List, [], ◌∷◌, map, Bool, ◌&&◌, Option, Some, None, is_some, ℤ, if◌then◌else◌}
 use Rattle.std.specs.List.{flat_map, list_any, position_or_len}
 use Rattle.std.specs.Option.{option_map, option_map_or, option_or}

@@ -105,9 +105,9 @@ loaded_a = record {
   slots = record { begin = 296; step = 20 } ∷ [];
 }
 
--- 570 bytes: two times, 6 and 12 hours after 2024-01-01T00:00:00Z, over a dimension that is not the record dimension; a
--- character for each time; names of two stations, one a record; the run as a number of days, with units of its own; and a
--- field over two latitudes
+-- 570 bytes: two times, 6 and 12 hours after 2024-01-01T00:00:00Z, over a dimension that is not the record dimension;
+-- a character for each time; names of two stations, one a record; the run as a number of days, with units of its own;
+-- and a field over two latitudes
 abbrev pub file_c : List ℕ
 file_c = hex (
     codes "43444601 00000002" ++
@@ -212,4 +212,6 @@ many_times = head_of_many ++ replicate 4097 0
 
 -- a prototype with that axis alone
 abbrev pub proto_of_axis : Proto
-proto_of_axis = record proto_a { vars = record { name = codes "time"; kind = Byte; dims = 0 ∷ []; attrs = []; timed = true; fixed = [] } ∷ [] }
+proto_of_axis = record proto_a {
+  vars = record { name = codes "time"; kind = Byte; dims = 0 ∷ []; attrs = []; timed = true; fixed = [] } ∷ [];
+}

@@ -17,7 +17,8 @@ use Rattle.fm_model.specs.Variable.{are_same, is_same_kind, is_coordinate, dim_o
 use Rattle.fm_model.specs.LoadAxis.{file_var}
 pub use Rattle.fm_model.specs.Prototype.{lengths_of}
 
--- whether a variable along the axis is like the prototype's: the same kind, the file's axis first, the same other lengths
+-- whether a variable along the axis is like the prototype's: the same kind, the file's axis first, the same other
+-- lengths
 unfoldable pub is_like_timed : Proto → FileHeader → NcVar → ProtoVar → NcVar → Bool
 is_like_timed proto header axis wanted var = is_same_kind wanted.kind var.kind && stands_first_alone
     (dim_of_axis axis) var.dims && are_same (drop 1 (lengths_of proto wanted.dims)) (drop 1 (shape_of header var))

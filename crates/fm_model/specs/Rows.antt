@@ -18,9 +18,9 @@ row_at files run valid = option_map (λ found. record { valid = valid; run = run
 unfoldable pub best_row : List Loaded → Option ℤ → ℤ → Option Row
 best_row files least valid = option_and_then (λ run. row_at files run valid) (best files valid least)
 
--- the rows of a view: of the best time series, one for each valid time of any run, and with a least offset for each that
--- some run has at least that many seconds after it; of a run, one for each of its valid times; at an offset, one for each
--- run that has the valid time that many seconds after it; for a forecast time, one for each run that has it
+-- the rows of a view: of the best time series, one for each valid time of any run, and with a least offset for each
+-- that some run has at least that many seconds after it; of a run, one for each of its valid times; at an offset, one
+-- for each run that has the valid time that many seconds after it; for a forecast time, one for each run that has it
 unfoldable pub rows : List Loaded → ViewName → List Row
 rows files Best = filter_map (best_row files None) (times_of files)
 rows files (BestFrom least) = filter_map (best_row files (Some least)) (times_of files)

@@ -38,8 +38,8 @@ pub fn an_axis_has_to_stand_first_before_names_are_plain()
         ≡ Err (TimeNotFirst (codes ".")) }
 {}
 
-/// The names of dimensions come before those of variables, those that aren't plain before those that the views take, and
-/// names before a dimension without a length.
+/// The names of dimensions come before those of variables, those that aren't plain before those that the views take,
+/// and names before a dimension without a length.
 pub fn names_have_to_be_right_before_lengths()
     ensures dimensions { proto_of (patched 45 (codes ".") (patched 165 (codes ".") file_a)) site
         ≡ Err (BadProtoName (codes "l.n")) }

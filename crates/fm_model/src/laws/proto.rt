@@ -20,9 +20,9 @@ pub fn a_prototype_is_of_a_file_within_the_limit()
     ensures few { (proto : Proto) (given : IsPrototype proto) → length given.bytes ≤ 536870912 }
 {}
 
-/// A prototype has its axis among its variables, of numbers; a variable along the axis has that dimension first and only
-/// there, and any other has all its elements; names differ and are plain, and those that the views add are free; and the
-/// dimensions of variables are there, and all but the axis's have a length.
+/// A prototype has its axis among its variables, of numbers; a variable along the axis has that dimension first and
+/// only there, and any other has all its elements; names differ and are plain, and those that the views add are free;
+/// and the dimensions of variables are there, and all but the axis's have a length.
 pub fn a_prototype_is_sound()
     ensures read { (bytes : List ℕ) (site : Site) (proto : Proto) →
         proto_of bytes site ≡ Ok proto → IsSound proto }

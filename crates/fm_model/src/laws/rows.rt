@@ -8,8 +8,8 @@ ghost use Rattle.fm_model.specs.Cell.{cell, times_of, times_of_run, HasTimeFrom,
 ghost use Rattle.fm_model.specs.Rising.{Rises};
 ghost use Rattle.fm_model.specs.Rows.{rows, instant_in, Shows, HasHeldFile};
 
-/// The rows of a view rise: by valid time in a best time series and in the dataset of a run, by run at an offset and for
-/// a forecast time. So no instant stands there twice.
+/// The rows of a view rise: by valid time in a best time series and in the dataset of a run, by run at an offset and
+/// for a forecast time. So no instant stands there twice.
 pub fn rows_rise()
     ensures { (files : List Loaded) (view : ViewName) →
         Rises (map (instant_in view) (rows files view)) }
@@ -35,8 +35,8 @@ pub fn best_has_each_time_once()
         Contains (rows files Best) row → IsBest files row.valid None row.run }
 {}
 
-/// With a least offset the best time series has each valid time that some file has at least that many seconds after its
-/// run, once, from the greatest such run. A valid time that no run has early enough is left out.
+/// With a least offset the best time series has each valid time that some file has at least that many seconds after
+/// its run, once, from the greatest such run. A valid time that no run has early enough is left out.
 pub fn a_least_offset_leaves_the_times_that_some_run_has_early_enough()
     ensures times { (files : List Loaded) (least valid : ℤ) →
         Contains (map (λ (row : Row). row.valid) (rows files (BestFrom least))) valid
