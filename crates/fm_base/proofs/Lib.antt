@@ -4,6 +4,7 @@ pub mod BegunHeader
 pub mod BegunParts
 pub mod ChainLemmas
 pub mod Distinct
+pub mod EndLaws
 pub mod Exact
 pub mod FaultLaws
 pub mod Fields
@@ -11,6 +12,7 @@ pub mod HeaderLaws
 pub mod HeaderParts
 pub mod Lists
 pub mod Parts
+pub mod ReadFacts
 pub mod Settled
 pub mod SettledParts
 pub mod SettledSteps

@@ -33,23 +33,31 @@ pub record IsFileAxis (proto : Proto) (header : FileHeader) (axis : NcVar) : Typ
   pub name_is : axis.name ≡ proto.axis
   pub coordinate : IsTrue (is_coordinate header.dims axis.name axis.kind axis.dims)
 
-is_file_axis : (proto : Proto) (header : FileHeader) (axis : NcVar) → file_axis proto header ≡ Ok axis → IsFileAxis proto header axis
+is_file_axis : (proto : Proto) (header : FileHeader) (axis : NcVar) → file_axis proto header ≡ Ok axis
+    → IsFileAxis proto header axis
 unfolding file_axis file_var var_named
 is_file_axis proto header axis e =
-    let var = step_ok (file_var header proto.axis) (λ v. refuse_if (not (is_coordinate header.dims v.name v.kind v.dims)) (load.VariableDiffers proto.axis) >> Ok v) axis e in
-    let passed = refuse_if_ok (not (is_coordinate header.dims var.0.name var.0.kind var.0.dims)) (load.VariableDiffers proto.axis) (Ok var.0) axis var.2 in
-    let found = in_find (λ (v : NcVar). bytes_eq v.name proto.axis) header.vars var.0 (ok_or_ok (var_named header proto.axis) (load.MissingVariable proto.axis) var.0 var.1) in
+    let var = step_ok (file_var header proto.axis)
+    (λ v. refuse_if (not (is_coordinate header.dims v.name v.kind v.dims))
+    (load.VariableDiffers proto.axis) >> Ok v) axis e in
+    let passed = refuse_if_ok (not (is_coordinate header.dims var.0.name var.0.kind var.0.dims))
+    (load.VariableDiffers proto.axis) (Ok var.0) axis var.2 in
+    let found = in_find (λ (v : NcVar). bytes_eq v.name proto.axis) header.vars var.0
+    (ok_or_ok (var_named header proto.axis) (load.MissingVariable proto.axis) var.0 var.1) in
     subst (IsFileAxis proto header) (same_Ok {E = LoadFault} var.0 axis passed.1) (record {
       held = Contains-from_in var.0 header.vars found.0;
       name_is = (bytes_eq-Decides var.0.name proto.axis).0 found.1;
       coordinate = not-false _ passed.0;
     })
 
-pub axis_held : (proto : Proto) (header : FileHeader) (axis : NcVar) → file_axis proto header ≡ Ok axis → Contains header.vars axis
+pub axis_held : (proto : Proto) (header : FileHeader) (axis : NcVar) → file_axis proto header ≡ Ok axis
+    → Contains header.vars axis
 axis_held proto header axis e = (is_file_axis proto header axis e).held
 
-pub axis_name : (proto : Proto) (header : FileHeader) (axis : NcVar) → file_axis proto header ≡ Ok axis → axis.name ≡ proto.axis
+pub axis_name : (proto : Proto) (header : FileHeader) (axis : NcVar) → file_axis proto header ≡ Ok axis
+    → axis.name ≡ proto.axis
 axis_name proto header axis e = (is_file_axis proto header axis e).name_is
 
-pub axis_coordinate : (proto : Proto) (header : FileHeader) (axis : NcVar) → file_axis proto header ≡ Ok axis → IsTrue (is_coordinate header.dims axis.name axis.kind axis.dims)
+pub axis_coordinate : (proto : Proto) (header : FileHeader) (axis : NcVar) → file_axis proto header ≡ Ok axis
+    → IsTrue (is_coordinate header.dims axis.name axis.kind axis.dims)
 axis_coordinate proto header axis e = (is_file_axis proto header axis e).coordinate
