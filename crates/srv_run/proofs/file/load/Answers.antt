@@ -1,6 +1,6 @@
 use Rattle.std.proofs.lemmas.Result.{err_from_is_err_and}
 use Rattle.srv_run.specs.Seen.{seen}
-use Rattle.srv_run.proofs.LoadLemmas.{load-proto, load-file}
+use Rattle.srv_run.proofs.ReadingEnds.{load-proto, load-file}
 use Rattle.srv_run.proofs.file.load.Goals as goal
 
 pub returns-in_err-proto-clause-loaded : goal.returns-in_err-proto-clause-loaded

@@ -13,8 +13,8 @@ use Rattle.srv_run.specs.Best.{IsLoaded, best_rows}
 use Rattle.srv_run.specs.Rows.{row_at, rows_of, is_rising}
 use Rattle.srv_run.specs.Times.{is_in_range}
 use Rattle.srv_run.specs.Values.{has_record}
-use Rattle.srv_run.proofs.RisesLemmas.{is_rising-rising}
-use Rattle.srv_run.proofs.RisingLemmas.{IsPermutation-rising, length-rising, all-rising, length-rows_of, all-rows_of, valid-rows_of}
+use Rattle.srv_run.proofs.StrictlyRising.{is_rising-rising}
+use Rattle.srv_run.proofs.SortedRows.{IsPermutation-rising, length-rising, all-rising, length-rows_of, all-rows_of, valid-rows_of}
 
 -- the times of the file
 abbrev times_of : Loaded → List ℤ
