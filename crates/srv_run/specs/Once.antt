@@ -1,6 +1,7 @@
 -- What the command does: it reads a prototype and a file, and answers one request over the collection of that file.
 use Rattle.std.specs.Prelude.{◌≡◌, ⊤, ℕ, ◌<◌, ◌≤◌, List, length, take, Option, Some, None, Result, Ok, Err, ℤ, ◌-ℤ◌, IsOk, if◌then◌else◌}
 use Rattle.fm_base.specs.Chain.{◌>>=◌}
+use Rattle.fm_model.specs.declared.limit.TheConstants.{MAX_FILE_BYTES}
 use Rattle.fm_world.specs.declared.files.Found.{Found}
 use Rattle.fm_world.specs.declared.files.Found.TheVariants.{Content, Absent, TooLong as TooLongFound}
 use Rattle.fm_world.specs.Files.{found_of}
@@ -20,10 +21,6 @@ use Rattle.srv_run.specs.Marked.{marked_moment}
 use Rattle.srv_run.specs.Request.{taken_by}
 use Rattle.srv_run.specs.Words.{Command}
 
--- the greatest length of a file
-abbrev pub FILE_BYTES : ℕ
-FILE_BYTES = 536870912
-
 -- the refusal of what isn't read yet
 abbrev pub not_yet_read : Matter → End
 not_yet_read subject = Refused subject 60
@@ -36,7 +33,7 @@ content_or_end subject (TooLongFound len) = Err (TooLong subject len)
 
 -- what a path holds is read whole, or ends the run
 unfoldable pub file_or_end : Matter → Option (List ℕ) → Result (List ℕ) End
-file_or_end subject held = content_or_end subject (found_of FILE_BYTES held)
+file_or_end subject held = content_or_end subject (found_of MAX_FILE_BYTES held)
 
 -- the numbers of a thin file, or the end of the run
 abbrev pub shape_or_refusal : Matter → Option ThinShape → Result ThinShape End

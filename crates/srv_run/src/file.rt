@@ -11,12 +11,10 @@ use crate::end::{End, NOT_YET_READ, Subject};
 use crate::marked::run_of;
 use crate::words::Command;
 use fm_base::{Bytes, Fail, NoMemory};
+use fm_model::MAX_FILE_BYTES;
 use fm_world::{Files, Found};
 use nc_model::{ThinShape, thin_shape};
 use std::alloc::Global;
-
-/// The greatest length of a file, in bytes.
-const FILE_BYTES: u64 = 536_870_912;
 
 /// A thin file as it was read.
 #[derive(Drop)]
@@ -46,7 +44,7 @@ pub(crate) fn content_of<F: Files>(
     ensures cause { BlamesFiles (F.shown files.old).faults (F.shown files.new).faults result }
     ensures end { IfErr result (IsEndOfRead subject) }
 {
-    match files.read(alloc, path, FILE_BYTES) {
+    match files.read(alloc, path, MAX_FILE_BYTES) {
         Ok(Found::Content(bytes)) => Ok(bytes),
         Ok(Found::Absent) => Err(End::NoFile(subject)),
         Ok(Found::TooLong(len)) => Err(End::TooLong(subject, len)),
