@@ -21,7 +21,7 @@ mod xdr;
 
 pub use end::{End, Subject};
 pub use laws::{data_is_as_declared, heads_are_told};
-pub use program::{run, run_check, run_once};
+pub use program::{run, run_check, run_once, run_process};
 pub use reply::Content;
 pub use request::Asked;
 

@@ -1,5 +1,6 @@
 //! The top call of the program, and a call for each of its commands.
 ghost use Rattle.std.specs.Prelude.{◌≡◌, ◌≢◌, None};
+ghost use Rattle.std.specs.Process.{exit_status};
 ghost use Rattle.fm_world.specs.Shown.{world_shown};
 ghost use Rattle.srv_run.specs.Check.{checked_path as words_path};
 ghost use Rattle.srv_run.specs.Run as spec;
@@ -14,6 +15,7 @@ use crate::words::{Command, command_of};
 use fm_base::{Bytes, List};
 use fm_world::{Files, Link, Sink, World};
 use std::alloc::Global;
+use std::process::ExitCode;
 
 // Does what the words ask for, and returns the command that they are and how it ended.
 fn carry_out<'w, F: Files, L: Link>(
@@ -153,4 +155,17 @@ pub fn run<F: Files, L: Link, S: Sink>(
     } else {
         run_once(alloc, words, world)
     }
+}
+
+/// As [`run`], for a process that ends with the status.
+pub fn run_process<F: Files, L: Link, S: Sink>(
+    alloc: Global,
+    words: &List<Bytes>,
+    world: &mut World<F, L, S>,
+) -> ExitCode
+    ensures { let shown = world_shown F.shown L.shown S.shown in
+        spec.RunsAs (spec.names_check words.now) words.now (exit_status result)
+        (shown world.old) (shown world.new) }
+{
+    ExitCode::from(run(alloc, words, world))
 }
