@@ -11,7 +11,7 @@ use Rattle.std.proofs.lemmas.List.Sums.{fold-append}
 use Rattle.std.proofs.lemmas.Slice.Eq.{bytes_eq-Decides}
 use Rattle.fm_model.specs.declared.loaded.Loaded.{Loaded}
 use Rattle.fm_model.specs.declared.op.Op.{Op}
-use Rattle.fm_model.specs.declared.op.Op.TheVariants.{Put, Expire}
+use Rattle.fm_model.specs.declared.op.Op.TheVariants.{Put, Expire, Retract}
 use Rattle.fm_model.specs.Collection.{without, kept_from, after_op, coll, DifferInName}
 use Rattle.fm_model.proofs.Members.{In, Each, EachPair, Contains-from_in, in_from_Contains, In-filter, in_filter, Each-in, Each-from_in, each_from_All, AllPairs-from_each, each_from_AllPairs, EachPair-push, in_from_Any}
 
@@ -141,6 +141,7 @@ differ_after files (Put file) differ =
     EachPair-push DifferInName (without file.name files) file (EachPair-filter DifferInName (λ (f : Loaded). not (named file.name f)) files differ)
     (Each-from_in (λ other. DifferInName other file) (without file.name files) (λ other h e.
     both_ways (named file.name other) (not-true (named file.name other) (in_filter (λ (f : Loaded). not (named file.name f)) other files h).1) (same_name file other e)))
+differ_after files (Retract name) differ = EachPair-filter DifferInName (λ (f : Loaded). not (named name f)) files differ
 differ_after files (Expire cutoff) differ = EachPair-filter DifferInName (λ (f : Loaded). int_le cutoff f.run) files differ
 
 differ_from : (files : List Loaded) (ops : List Op) → EachPair DifferInName files → EachPair DifferInName (fold after_op files ops)

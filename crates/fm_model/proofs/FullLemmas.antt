@@ -1,7 +1,9 @@
 -- The first limit that is passed.
-use Rattle.std.proofs.Common.{◌≡◌, ◌≢◌, ◌↔◌, ℕ, ◌+◌, ◌<◌, ◌≤◌, length, All, AllPairs, Any, Bool, true, false, cond, List, Option, Some, None, refl, sym, ap, ap₂, subst, ◌∙◌, inl, inr, arith}
-use Rattle.std.specs.Prelude.{nat_lt}
+use Rattle.std.proofs.Common.{◌≡◌, ◌≢◌, ◌↔◌, ℕ, ◌+◌, ◌<◌, ◌≤◌, length, All, AllPairs, Any, Bool, true, false, cond, List, Option, Some, None, ℤ, refl, sym, ap, ap₂, subst, ◌∙◌, inl, inr, arith}
+use Rattle.std.specs.Prelude.{filter, int_le, nat_lt, not, sum_by}
+use Rattle.std.specs.Str.{bytes_eq}
 use Rattle.std.proofs.lemmas.Bool.{ltb-true, ltb-false, cases_order}
+use Rattle.std.proofs.lemmas.List.Filters.{length-filter_both, sum_by-filter_both}
 use Rattle.std.proofs.lemmas.Option.{none-some, same_Some}
 use Rattle.fm_model.specs.declared.full.Full.{Full as TooMany}
 use Rattle.fm_model.specs.declared.full.Tally.{Tally}
@@ -10,8 +12,8 @@ use Rattle.fm_model.specs.declared.full.Which.TheVariants.{Files, Rows, Size}
 use Rattle.fm_model.specs.declared.limit.TheConstants.{MAX_FILES, MAX_ROWS, MAX_BYTES}
 use Rattle.fm_model.specs.declared.loaded.Loaded.{Loaded}
 use Rattle.fm_model.specs.declared.op.Op.{Op}
-use Rattle.fm_model.specs.declared.op.Op.TheVariants.{Put}
-use Rattle.fm_model.specs.Collection.{DifferInName, after_op, tally, full_of, full_at, number_of, limit_of, place_of, IsWithin, IsFirstPassed}
+use Rattle.fm_model.specs.declared.op.Op.TheVariants.{Put, Expire, Retract}
+use Rattle.fm_model.specs.Collection.{DifferInName, after_op, kept_from, without, tally, full_of, full_at, number_of, limit_of, order_of, IsWithin, IsFirstPassed}
 use Rattle.fm_model.proofs.CollectionLemmas.{length-put_held, length-put_new}
 use Rattle.fm_model.proofs.LastLemmas.{no_value}
 
@@ -24,15 +26,15 @@ within held files rows size Files = files
 within held files rows size Rows = rows
 within held files rows size Size = size
 
-none_before_files : (held : Tally) (which : Which) → place_of which < 0 → number_of which held ≤ limit_of which
+none_before_files : (held : Tally) (which : Which) → order_of which < 0 → number_of which held ≤ limit_of which
 none_before_files held which lt = absurd (omega arith)
 
-before_rows : (held : Tally) → held.files ≤ MAX_FILES → (which : Which) → place_of which < 1 → number_of which held ≤ limit_of which
+before_rows : (held : Tally) → held.files ≤ MAX_FILES → (which : Which) → order_of which < 1 → number_of which held ≤ limit_of which
 before_rows held files Files lt = files
 before_rows held files Rows lt = absurd (omega arith)
 before_rows held files Size lt = absurd (omega arith)
 
-before_size : (held : Tally) → held.files ≤ MAX_FILES → held.rows ≤ MAX_ROWS → (which : Which) → place_of which < 2 → number_of which held ≤ limit_of which
+before_size : (held : Tally) → held.files ≤ MAX_FILES → held.rows ≤ MAX_ROWS → (which : Which) → order_of which < 2 → number_of which held ≤ limit_of which
 before_size held files rows Files lt = files
 before_size held files rows Rows lt = rows
 before_size held files rows Size lt = absurd (omega arith)
@@ -64,7 +66,7 @@ full_none held = (there (full_of held) (answer_of held), back (full_of held) (an
     back None (none _) within = refl
     back (Some full) (some which first) within = let fits = within which in absurd (omega (arith, first.passed, fits))
 
-same_which : (a b : Which) → place_of a ≡ place_of b → a ≡ b
+same_which : (a b : Which) → order_of a ≡ order_of b → a ≡ b
 same_which Files Files e = refl
 same_which Files Rows e = absurd (omega arith)
 same_which Files Size e = absurd (omega arith)
@@ -87,7 +89,7 @@ full_some held full = (there (full_of held) (answer_of held), back (full_of held
 
     back : (o : Option TooMany) → Answer held o → IsFirstPassed held full → o ≡ Some full
     back None (none within) first = let fits = within full.which in absurd (omega (arith, first.passed, first.held_is, first.limit_is, fits))
-    back (Some other) (some which mine) first = elim (cases_order (place_of which) (place_of full.which)) [
+    back (Some other) (some which mine) first = elim (cases_order (order_of which) (order_of full.which)) [
       | inl same ↦ ap Some (as_passed which (same_which which full.which same) first)
       | inr (inl before) ↦ let fits = first.first which before in absurd (omega (arith, mine.passed, fits))
       | inr (inr after) ↦ let fits = mine.first full.which after in absurd (omega (arith, first.passed, first.held_is, first.limit_is, fits))
@@ -100,6 +102,38 @@ full_at-none files op = full_none (tally (after_op files op))
 pub full_at-some : (files : List Loaded) (op : Op) (full : TooMany) → (full_at files op ≡ Some full) ↔ IsFirstPassed (tally (after_op files op)) full
 unfolding full_at
 full_at-some files op full = full_some (tally (after_op files op)) full
+
+expire-kept : (files : List Loaded) (cutoff : ℤ) → after_op files (Expire cutoff) ≡ filter (λ (f : Loaded). int_le cutoff f.run) files
+unfolding after_op kept_from
+expire-kept files cutoff = refl
+
+retract-kept : (files : List Loaded) (name : List ℕ) → after_op files (Retract name) ≡ filter (λ (f : Loaded). not (bytes_eq f.name name)) files
+unfolding after_op without
+retract-kept files name = refl
+
+-- what is kept of some files is no more than all of them
+kept_within : (keep : Loaded → Bool) (files : List Loaded) → IsWithin (tally files) → IsWithin (tally (filter keep files))
+unfolding tally
+kept_within keep files within Files =
+    let most : length files ≤ MAX_FILES = within Files in
+    let both = length-filter_both keep (λ f. not (keep f)) (λ f. refl) files in
+    omega (arith, most, both)
+kept_within keep files within Rows =
+    let most : sum_by (λ (f : Loaded). length f.times) files ≤ MAX_ROWS = within Rows in
+    let both = sum_by-filter_both keep (λ f. not (keep f)) (λ f. refl) (λ (f : Loaded). length f.times) files in
+    omega (arith, most, both)
+kept_within keep files within Size =
+    let most : sum_by (λ (f : Loaded). length f.content) files ≤ MAX_BYTES = within Size in
+    let both = sum_by-filter_both keep (λ f. not (keep f)) (λ f. refl) (λ (f : Loaded). length f.content) files in
+    omega (arith, most, both)
+
+pub full-expire : (files : List Loaded) (cutoff : ℤ) → IsWithin (tally files) → full_at files (Expire cutoff) ≡ None
+full-expire files cutoff within = (full_at-none files (Expire cutoff)).1
+    (subst (λ l. IsWithin (tally l)) (sym (expire-kept files cutoff)) (kept_within (λ (f : Loaded). int_le cutoff f.run) files within))
+
+pub full-retract : (files : List Loaded) (name : List ℕ) → IsWithin (tally files) → full_at files (Retract name) ≡ None
+full-retract files name within = (full_at-none files (Retract name)).1
+    (subst (λ l. IsWithin (tally l)) (sym (retract-kept files name)) (kept_within (λ (f : Loaded). not (bytes_eq f.name name)) files within))
 
 pub full-new : (files : List Loaded) (file : Loaded) → length files ≡ MAX_FILES → All (DifferInName file) files
     → full_at files (Put file) ≡ Some (record { which = Files; held = MAX_FILES + 1; limit = MAX_FILES })

@@ -10,7 +10,8 @@ pub mod LoadLemmas
 pub mod Members
 pub mod PlaceLemmas
 pub mod ProtoLemmas
-pub mod RisingLemmas
+pub mod RetractLemmas
+mod RisingLemmas
 pub mod RowLemmas
 pub mod RunLemmas
 pub mod SlotLemmas

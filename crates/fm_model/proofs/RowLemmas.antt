@@ -1,19 +1,19 @@
 -- The rows of views: which they are, and that they rise.
-use Rattle.std.proofs.Common.{◌≡◌, ◌↔◌, ℕ, List, [], ◌∷◌, map, Option, Some, None, ℤ, ◌+ℤ◌, refl, sym, ap, subst, ◌∙◌}
-use Rattle.std.specs.Prelude.{Any, Contains, IsSome, is_some}
+use Rattle.std.proofs.Common.{◌≡◌, ◌↔◌, ℕ, List, [], ◌∷◌, map, Option, Some, None, ℤ, ◌+ℤ◌, ◌-ℤ◌, ◌≤ℤ◌, refl, sym, ap, ap₂, subst, ◌∙◌}
+use Rattle.std.specs.Prelude.{All, Any, Contains, IsSome, is_some, option_and_then}
 use Rattle.std.specs.List.{filter_map, cons_option}
 use Rattle.std.proofs.lemmas.Option.{option_and_then_some}
 use Rattle.fm_model.specs.declared.loaded.Loaded.{Loaded}
 use Rattle.fm_model.specs.declared.row.Row.{Row}
 use Rattle.fm_model.specs.declared.row.ViewName.{ViewName}
-use Rattle.fm_model.specs.declared.row.ViewName.TheVariants.{Best, Run, Offset, Forecast}
-use Rattle.fm_model.specs.Cell.{runs_of, times_of, cell, best, IsBest}
+use Rattle.fm_model.specs.declared.row.ViewName.TheVariants.{Best, BestFrom, Run, Offset, Forecast}
+use Rattle.fm_model.specs.Cell.{runs_of, times_of, times_of_run, cell, best, HasCell, HasTimeFrom, IsBest}
 use Rattle.fm_model.specs.Rising.{Rises}
 use Rattle.fm_model.specs.Rows.{row_at, best_row, rows, instant_in, Shows, TellsFile}
-use Rattle.fm_model.proofs.BestLemmas.{value-from_some, cell-from_Any, rises_runs_of, rises_times_of, in_times_of, In-times_of, run_of_cell, time_of_cell, IsBest-from_best, best-from_file}
-use Rattle.fm_model.proofs.CellLemmas.{IsCell-from_cell, held-from_cell}
+use Rattle.fm_model.proofs.BestLemmas.{value-from_some, cell-from_Any, rises_runs_of, rises_times_of, rises_times_of_run, in_times_of_run, time_of_run_of_cell, best_file, best-least, in_times_of, In-times_of, run_of_cell, time_of_cell, IsBest-from_best, best-from_file}
+use Rattle.fm_model.proofs.CellLemmas.{IsCell-from_cell, held-from_cell, cell-from_file}
 use Rattle.fm_model.proofs.LastLemmas.{option_map-some}
-use Rattle.fm_model.proofs.Members.{In, Each, EachPair, Contains-from_in, in_from_Contains, in_map, In-filter_map, in_filter_map, Each-in, Each-from_in, AllPairs-from_each, Any-from_in, in_from_Any}
+use Rattle.fm_model.proofs.Members.{In, Each, EachPair, Contains-from_in, in_from_Contains, In-map, in_map, In-filter_map, in_filter_map, Each-in, Each-from_in, AllPairs-from_each, each_from_All, Any-from_in, in_from_Any}
 use Rattle.fm_model.proofs.RisingLemmas.{Above}
 
 -- what a row says of its cell
@@ -33,13 +33,14 @@ unfolding row_at
 row_at-from_cell files row e = rw e refl
 
 -- the row of the best run
-pub record IsBestRow (files : List Loaded) (valid : ℤ) (row : Row) : Type 0 where
-  pub best_is : best files valid ≡ Some row.run
+pub record IsBestRow (files : List Loaded) (least : Option ℤ) (valid : ℤ) (row : Row) : Type 0 where
+  pub best_is : best files valid least ≡ Some row.run
   pub row_is : IsRowAt files row.run valid row
 
-pub IsBestRow-from_best_row : (files : List Loaded) (valid : ℤ) (row : Row) → best_row files valid ≡ Some row → IsBestRow files valid row
+pub IsBestRow-from_best_row : (files : List Loaded) (least : Option ℤ) (valid : ℤ) (row : Row) → best_row files least valid ≡ Some row
+    → IsBestRow files least valid row
 unfolding best_row
-IsBestRow-from_best_row files valid row e = option_and_then_some {P = IsBestRow files valid row} (λ run. row_at files run valid) (best files valid) row e
+IsBestRow-from_best_row files least valid row e = option_and_then_some {P = IsBestRow files least valid row} (λ run. row_at files run valid) (best files valid least) row e
     (λ run best_is row_is.
     let found = IsRowAt-from_row_at files run valid row row_is in
     record { best_is = best_is ∙ ap Some (sym found.run_is); row_is = record { run_is = refl; valid_is = found.valid_is; cell_is = found.cell_is } })
@@ -61,10 +62,16 @@ rises_filter_map key make (t ∷ more) tells rises = by_first (make t) refl (ris
       others,
     )
 
+best_rows_rise : (files : List Loaded) (least : Option ℤ) → EachPair Above (map (λ (row : Row). row.valid) (filter_map (best_row files least) (times_of files)))
+best_rows_rise files least = rises_filter_map (λ (row : Row). row.valid) (best_row files least) (times_of files)
+    (λ t row e. (IsBestRow-from_best_row files least t row e).row_is.valid_is) (rises_times_of files)
+
 rows_rise : (files : List Loaded) (view : ViewName) → EachPair Above (map (instant_in view) (rows files view))
 unfolding rows
-rows_rise files Best = rises_filter_map (λ (row : Row). row.valid) (best_row files) (times_of files) (λ t row e. (IsBestRow-from_best_row files t row e).row_is.valid_is) (rises_times_of files)
-rows_rise files (Run run) = rises_filter_map (λ (row : Row). row.valid) (row_at files run) (times_of files) (λ t row e. (IsRowAt-from_row_at files run t row e).valid_is) (rises_times_of files)
+rows_rise files Best = best_rows_rise files None
+rows_rise files (BestFrom least) = best_rows_rise files (Some least)
+rows_rise files (Run run) = rises_filter_map (λ (row : Row). row.valid) (row_at files run) (times_of_run files run)
+    (λ t row e. (IsRowAt-from_row_at files run t row e).valid_is) (rises_times_of_run files run)
 rows_rise files (Offset seconds) = rises_filter_map (λ (row : Row). row.run) (λ run. row_at files run (run +ℤ seconds)) (runs_of files) (λ t row e. (IsRowAt-from_row_at files t (t +ℤ seconds) row e).run_is) (rises_runs_of files)
 rows_rise files (Forecast valid) = rises_filter_map (λ (row : Row). row.run) (λ run. row_at files run valid) (runs_of files) (λ t row e. (IsRowAt-from_row_at files t valid row e).run_is) (rises_runs_of files)
 
@@ -75,14 +82,20 @@ Rises-rows files view = AllPairs-from_each Above (map (instant_in view) (rows fi
 abbrev pub IsShown : List Loaded → ViewName → Row → Type 0
 IsShown files view row = (cell files row.run row.valid ≡ Some (row.file, row.place)) × Shows files view row.run row.valid
 
+-- a row of a best time series stands for its cell, and is from the best run
+shown_from_best : (files : List Loaded) (least : Option ℤ) (row : Row) → In row (filter_map (best_row files least) (times_of files))
+    → (cell files row.run row.valid ≡ Some (row.file, row.place)) × (best files row.valid least ≡ Some row.run)
+shown_from_best files least row h =
+    let found = in_filter_map (best_row files least) row (times_of files) h in
+    let is = IsBestRow-from_best_row files least found.0 row found.2 in
+    (is.row_is.cell_is, ap (λ t. best files t least) is.row_is.valid_is ∙ is.best_is)
+
 shown_from_in : (files : List Loaded) (view : ViewName) (row : Row) → In row (rows files view) → IsShown files view row
 unfolding rows
-shown_from_in files Best row h =
-    let found = in_filter_map (best_row files) row (times_of files) h in
-    let is = IsBestRow-from_best_row files found.0 row found.2 in
-    (is.row_is.cell_is, ap (best files) is.row_is.valid_is ∙ is.best_is)
+shown_from_in files Best row h = shown_from_best files None row h
+shown_from_in files (BestFrom least) row h = shown_from_best files (Some least) row h
 shown_from_in files (Run run) row h =
-    let found = in_filter_map (row_at files run) row (times_of files) h in
+    let found = in_filter_map (row_at files run) row (times_of_run files run) h in
     let is = IsRowAt-from_row_at files run found.0 row found.2 in
     (is.cell_is, is.run_is)
 shown_from_in files (Offset seconds) row h =
@@ -94,14 +107,21 @@ shown_from_in files (Forecast valid) row h =
     let is = IsRowAt-from_row_at files found.0 valid row found.2 in
     (is.cell_is, is.valid_is)
 
+best_from_shown : (files : List Loaded) (least : Option ℤ) (row : Row) → cell files row.run row.valid ≡ Some (row.file, row.place)
+    → best files row.valid least ≡ Some row.run → In row (filter_map (best_row files least) (times_of files))
+unfolding best_row
+best_from_shown files least row e is =
+    let has : IsSome (cell files row.run row.valid) = ap is_some e in
+    In-filter_map (best_row files least) row row.valid (times_of files) (time_of_cell files row.run row.valid has) (rw is (row_at-from_cell files row e))
+
 in_from_shown : (files : List Loaded) (view : ViewName) (row : Row) → IsShown files view row → In row (rows files view)
-unfolding rows best_row
-in_from_shown files Best row shown =
-    let has : IsSome (cell files row.run row.valid) = ap is_some shown.0 in
-    In-filter_map (best_row files) row row.valid (times_of files) (time_of_cell files row.run row.valid has) (rw shown.1 (row_at-from_cell files row shown.0))
+unfolding rows
+in_from_shown files Best row shown = best_from_shown files None row shown.0 shown.1
+in_from_shown files (BestFrom least) row shown = best_from_shown files (Some least) row shown.0 shown.1
 in_from_shown files (Run run) row shown =
     let has : IsSome (cell files row.run row.valid) = ap is_some shown.0 in
-    In-filter_map (row_at files run) row row.valid (times_of files) (time_of_cell files row.run row.valid has) (ap (λ r. row_at files r row.valid) (sym shown.1) ∙ row_at-from_cell files row shown.0)
+    let time : In row.valid (times_of_run files run) = subst (λ r. In row.valid (times_of_run files r)) shown.1 (time_of_run_of_cell files row.run row.valid has) in
+    In-filter_map (row_at files run) row row.valid (times_of_run files run) time (ap (λ r. row_at files r row.valid) (sym shown.1) ∙ row_at-from_cell files row shown.0)
 in_from_shown files (Offset seconds) row shown =
     let has : IsSome (cell files row.run row.valid) = ap is_some shown.0 in
     In-filter_map (λ run. row_at files run (run +ℤ seconds)) row row.run (runs_of files) (run_of_cell files row.run row.valid has) (ap (row_at files row.run) (sym shown.1) ∙ row_at-from_cell files row shown.0)
@@ -125,19 +145,24 @@ map-filter_map key make (t ∷ more) each tells =
     let others : map key (filter_map make more) ≡ more = map-filter_map key make more each.1 tells in
     rw made.1 (cc (first, others))
 
-best_row-from_time : (files : List Loaded) (valid : ℤ) → In valid (times_of files) → IsSome (best_row files valid)
+-- a best run has a row
+best_row-from_best : (files : List Loaded) (least : Option ℤ) (valid : ℤ) → IsSome (best files valid least) → IsSome (best_row files least valid)
 unfolding best_row row_at
+best_row-from_best files least valid has =
+    let run = value-from_some (best files valid least) has in
+    let found = value-from_some (cell files run.0 valid) (cell-from_Any files run.0 valid (IsBest-from_best files valid least run.0 run.1).has) in
+    rw (run.1, found.1) refl
+
+best_row-from_time : (files : List Loaded) (valid : ℤ) → In valid (times_of files) → IsSome (best_row files None valid)
 best_row-from_time files valid h =
     let found = in_times_of files valid h in
-    let run = value-from_some (best files valid) (best-from_file files valid found.0 found.1 found.2) in
-    let found_cell = value-from_some (cell files run.0 valid) (cell-from_Any files run.0 valid (IsBest-from_best files valid run.0 run.1).has) in
-    rw (run.1, found_cell.1) refl
+    best_row-from_best files None valid (best-from_file files valid None found.0 found.1 found.2 tt)
 
 pub map-valid-best : (files : List Loaded) → map (λ (row : Row). row.valid) (rows files Best) ≡ times_of files
 unfolding rows
-map-valid-best files = map-filter_map (λ (row : Row). row.valid) (best_row files) (times_of files)
-    (Each-from_in (λ t. IsSome (best_row files t)) (times_of files) (best_row-from_time files))
-    (λ t row e. (IsBestRow-from_best_row files t row e).row_is.valid_is)
+map-valid-best files = map-filter_map (λ (row : Row). row.valid) (best_row files None) (times_of files)
+    (Each-from_in (λ t. IsSome (best_row files None t)) (times_of files) (best_row-from_time files))
+    (λ t row e. (IsBestRow-from_best_row files None t row e).row_is.valid_is)
 
 -- the valid times of the best time series are those of all files
 pub Contains-best : (files : List Loaded) (valid : ℤ) → Contains (map (λ (row : Row). row.valid) (rows files Best)) valid ↔ Any (λ file. Contains file.times valid) files
@@ -160,5 +185,67 @@ TellsFile-rows files view row c =
     record { held = Contains-from_in row.file files (held-from_cell files row.run row.valid row.file row.place is); run_is = is.run_is; time_is = is.time_is }
 
 -- a row of the best time series is from the greatest run
-pub IsBest-row : (files : List Loaded) (row : Row) → Contains (rows files Best) row → IsBest files row.valid row.run
-IsBest-row files row c = IsBest-from_best files row.valid row.run ((Contains-rows files Best row).0 c).1
+pub IsBest-row : (files : List Loaded) (row : Row) → Contains (rows files Best) row → IsBest files row.valid None row.run
+IsBest-row files row c = IsBest-from_best files row.valid None row.run ((Contains-rows files Best row).0 c).1
+
+pub IsBest-row_from : (files : List Loaded) (least : ℤ) (row : Row) → Contains (rows files (BestFrom least)) row
+    → IsBest files row.valid (Some least) row.run
+IsBest-row_from files least row c =
+    IsBest-from_best files row.valid (Some least) row.run ((Contains-rows files (BestFrom least) row).0 c).1
+
+-- with a least offset those valid times stay that some run has early enough
+pub Contains-best_from : (files : List Loaded) (least valid : ℤ)
+    → Contains (map (λ (row : Row). row.valid) (rows files (BestFrom least))) valid ↔ Any (HasTimeFrom valid (Some least)) files
+unfolding rows
+Contains-best_from files least valid = (there, back)
+  where
+    there : Contains (map (λ (row : Row). row.valid) (rows files (BestFrom least))) valid → Any (HasTimeFrom valid (Some least)) files
+    there c =
+        let row = in_map (λ (row : Row). row.valid) valid (rows files (BestFrom least)) (in_from_Contains valid _ c) in
+        let made = in_filter_map (best_row files (Some least)) row.0 (times_of files) row.1 in
+        let is = IsBestRow-from_best_row files (Some least) made.0 row.0 made.2 in
+        let time : made.0 ≡ valid = sym is.row_is.valid_is ∙ row.2 in
+        let best_is : best files valid (Some least) ≡ Some row.0.run = ap (λ t. best files t (Some least)) (sym time) ∙ is.best_is in
+        let file = best_file files valid (Some least) row.0.run best_is in
+        let late : least ≤ℤ (valid -ℤ row.0.run) = (IsBest-from_best files valid (Some least) row.0.run best_is).late in
+        Any-from_in (HasTimeFrom valid (Some least)) file.0 files file.1
+        (Contains-from_in valid file.0.times file.3, subst (λ r. least ≤ℤ (valid -ℤ r)) (sym file.2) late)
+
+    back : Any (HasTimeFrom valid (Some least)) files → Contains (map (λ (row : Row). row.valid) (rows files (BestFrom least))) valid
+    back any =
+        let found = in_from_Any (HasTimeFrom valid (Some least)) files any in
+        let time = in_from_Contains valid found.0.times found.2.0 in
+        let row = value-from_some (best_row files (Some least) valid)
+        (best_row-from_best files (Some least) valid (best-from_file files valid (Some least) found.0 found.1 time found.2.1)) in
+        let held : In row.0 (rows files (BestFrom least)) =
+        In-filter_map (best_row files (Some least)) row.0 valid (times_of files) (In-times_of files found.0 valid found.1 time) row.1 in
+        let valid_is : row.0.valid ≡ valid = (IsBestRow-from_best_row files (Some least) valid row.0 row.1).row_is.valid_is in
+        Contains-from_in valid _ (subst (λ t. In t (map (λ (r : Row). r.valid) (rows files (BestFrom least)))) valid_is
+        (In-map (λ (r : Row). r.valid) row.0 (rows files (BestFrom least)) held))
+
+-- the same rows are made where each instant makes the same
+filter_map-same : (make other : ℤ → Option Row) (instants : List ℤ) → Each (λ t. make t ≡ other t) instants
+    → filter_map make instants ≡ filter_map other instants
+filter_map-same make other [] each = refl
+filter_map-same make other (t ∷ more) each = ap₂ cons_option each.0 (filter_map-same make other more each.1)
+
+-- each valid time of a file lies at least that many seconds after its run
+abbrev pub LiesFrom : ℤ → Loaded → Type 0
+LiesFrom least file = All (λ time. least ≤ℤ (time -ℤ file.run)) file.times
+
+pub best_from-least : (files : List Loaded) (least : ℤ) → All (LiesFrom least) files → rows files (BestFrom least) ≡ rows files Best
+unfolding rows best_row
+best_from-least files least all = filter_map-same (best_row files (Some least)) (best_row files None) (times_of files)
+    (Each-from_in _ (times_of files) (λ valid h. ap (option_and_then (λ run. row_at files run valid))
+    (best-least files valid least (λ file held time. Each-in (λ t. least ≤ℤ (t -ℤ file.run)) valid file.times
+    (each_from_All (λ t. least ≤ℤ (t -ℤ file.run)) file.times (Each-in (LiesFrom least) file files (each_from_All (LiesFrom least) files all) held)) time))))
+
+-- each of a run's valid times has a row
+pub map-valid-run : (files : List Loaded) (run : ℤ) → map (λ (row : Row). row.valid) (rows files (Run run)) ≡ times_of_run files run
+unfolding rows row_at
+map-valid-run files run = map-filter_map (λ (row : Row). row.valid) (row_at files run) (times_of_run files run)
+    (Each-from_in (λ t. IsSome (row_at files run t)) (times_of_run files run) (λ valid h.
+    let found = in_times_of_run files run valid h in
+    let has = value-from_some (cell files run valid) (cell-from_file files run valid found.0 found.1 found.2) in
+    rw has.1 refl))
+    (λ t row e. (IsRowAt-from_row_at files run t row e).valid_is)

@@ -28,6 +28,10 @@ morning = file_of (codes "gfs_0600.nc") (pos 21600) (pos 21600 ∷ pos 43200 ∷
 abbrev pub midnight_again : Loaded
 midnight_again = file_of (codes "gfs_0000.nc") (pos 0) (pos 0 ∷ pos 21600 ∷ [])
 
+-- another file of the run of 00Z, with 18Z alone
+abbrev pub midnight_part : Loaded
+midnight_part = file_of (codes "gfs_0000_part.nc") (pos 0) (pos 64800 ∷ [])
+
 -- the row of a file at a place
 abbrev pub row_of : Loaded → ℤ → ℕ → Row
 row_of file valid place = record { valid = valid; run = file.run; file = file; place = place }

@@ -3,7 +3,9 @@
 pub mod axes;
 pub mod kept;
 pub mod limits;
+pub mod loaded_files;
 pub mod prototype;
+pub mod prototype_files;
 pub mod slots;
 pub mod times;
 pub mod views;
