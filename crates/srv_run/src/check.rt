@@ -42,8 +42,8 @@ fn sound_header(alloc: Global, bytes: &[u8]) -> Result<Header, End>
         Err(Fail::NoMemory) => return Err(End::NoMemory),
         Err(Fail::Fault(fault)) => return Err(End::Refused(Subject::File, fault.code())),
     };
-    match lay_out(alloc, &header, bytes.len() as u64) {
-        Ok(_layout) => Ok(header),
+    match lay_out(alloc, header, bytes.len() as u64) {
+        Ok(layout) => Ok(layout.into_header()),
         Err(Fail::NoMemory) => Err(End::NoMemory),
         Err(Fail::Fault(fault)) => Err(End::Refused(Subject::File, fault.code())),
     }
