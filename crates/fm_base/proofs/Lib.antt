@@ -1,11 +1,13 @@
 pub mod ChainLemmas
 pub mod Distinct
+pub mod EndLaws
 pub mod Exact
 pub mod Fields
 pub mod HeaderLaws
 pub mod HeaderParts
 pub mod Lists
 pub mod Parts
+pub mod ReadFacts
 pub mod SoundLaws
 pub mod Steps
 pub mod Vars
