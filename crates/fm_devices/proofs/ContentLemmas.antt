@@ -2,7 +2,8 @@
 use Rattle.std.proofs.Common.{◌≡◌, ◌+◌, ◌-◌, ◌^◌, ◌<◌, ◌≤◌, ℕ, List, length, take, length-take, min, sym, ap, ◌∙◌, arith, rules}
 use Rattle.std.proofs.lemmas.List.{take_all}
 
-pub short_take : (most : ℕ) (bytes content : List ℕ) → content ≡ take most bytes → length content < most → content ≡ bytes
+pub short_take : (most : ℕ) (bytes content : List ℕ) → content ≡ take most bytes → length content < most
+    → content ≡ bytes
 short_take most bytes content is short =
     is ∙ take_all most bytes (omega (arith, short, ap length is, length-take most bytes))
 

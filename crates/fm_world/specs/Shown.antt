@@ -27,7 +27,8 @@ pub record WorldShown : Type 0 where
   pub sink : SinkShown
 
 -- what a world shows, by what each of its devices does
-abbrev pub world_shown : {F L S : Type 0} → (F → FilesShown) → (L → LinkShown) → (S → SinkShown) → World F L S → WorldShown
+abbrev pub world_shown : {F L S : Type 0} → (F → FilesShown) → (L → LinkShown) → (S → SinkShown) → World F L S
+    → WorldShown
 world_shown files link sink world = record {
   files = files world.files;
   link = link world.link;

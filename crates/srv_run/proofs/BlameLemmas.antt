@@ -132,7 +132,8 @@ record CheckEnd (end : End) (sink sink' : SinkShown) : Type 0 where
   by_input : status_of end ≡ 11 → ⊥
 
 -- what the status of a check says of its words and the devices
-record CheckFaults (path : Option (List ℕ)) (end : End) (files files' : FilesShown) (sink sink' : SinkShown) : Type 0 where
+record CheckFaults (path : Option (List ℕ)) (end : End) (files files' : FilesShown) (sink sink' : SinkShown) : Type 0
+    where
   by_words : (status_of end ≡ 2) ↔ (path ≡ None)
   by_files : status_of end ≡ 5 → files'.faults ≡ one_more files.faults
   by_sink : status_of end ≡ 7 → sink'.faults ≡ one_more sink.faults

@@ -28,10 +28,11 @@ pub record RefusesWords (end : End) (files files' : FilesShown) (link link' : Li
   pub unread : files' ≡ files
   pub unused : link' ≡ link
 
--- A run of the command: the end accords with what the files hold and with what the link gives, where these are known;
+-- A run of the command: the end accords with what the files hold and with the link's input, where these are known;
 -- where both are, exactly what is defined was taken and sent. A device is blamed where its last call failed, and no
 -- other call failed. Memory may run out at any time.
-pub record RunsCommand (command : Command) (end : End) (files files' : FilesShown) (link link' : LinkShown) : Type 0 where
+pub record RunsCommand (command : Command) (end : End) (files files' : FilesShown)
+    (link link' : LinkShown) : Type 0 where
   pub of_once : IsEndOfOnce end
   pub loaded : IfSome files.held (λ held.
       AccordsFiles end (read_or_end Prototype (held command.proto)) (loaded_or_end command held))

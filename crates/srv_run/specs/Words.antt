@@ -25,9 +25,12 @@ is_put word = starts_with nat_eq word (codes "put:") && nat_le 5 (length word)
 
 -- whether the words that don't vary are those of the command
 unfoldable pub are_fixed : List ℕ → List ℕ → List ℕ → List ℕ → Bool
-are_fixed first second fourth last = bytes_eq first (codes "once") && bytes_eq second (codes "--name") && bytes_eq fourth (codes "--proto") && bytes_eq last (codes "ask:1")
+are_fixed first second fourth last = bytes_eq first (codes "once") && bytes_eq second (codes "--name")
+    && bytes_eq fourth (codes "--proto") && bytes_eq last (codes "ask:1")
 
 -- the command that the words are, `once --name NAME --proto PROTO put:PATH ask:1`
 unfoldable pub command_of : List (List ℕ) → Option Command
-command_of (first ∷ second ∷ name ∷ fourth ∷ proto ∷ put ∷ last ∷ []) = if are_fixed first second fourth last && is_collection_name name && is_put put then Some (record { name = name; proto = proto; path = drop 4 put }) else None
+command_of (first ∷ second ∷ name ∷ fourth ∷ proto ∷ put ∷ last ∷ []) =
+    if are_fixed first second fourth last && is_collection_name name && is_put put
+    then Some (record { name = name; proto = proto; path = drop 4 put }) else None
 command_of words = None

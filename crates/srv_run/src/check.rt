@@ -62,7 +62,7 @@ pub(crate) fn check_file<F: Files>(alloc: Global, files: &mut F, path: &[u8]) ->
     sound_header(alloc, bytes.as_slice())
 }
 
-// Writes the line of a file without fault, or a front of it where the sink fails. It takes no memory.
+// Writes the line of a file without fault, or its first bytes where the sink fails. It takes no memory.
 #[tactic(auto, unfolding(crate::specs::Check::sound_line))]
 pub(crate) fn put_sound<S: Sink>(sink: &mut S, header: &Header) -> Result<(), Failed>
     ensures put { Appends (spec.sound_line header.now) (S.shown sink.old).held (S.shown sink.new).held result }

@@ -1,4 +1,4 @@
-//! The command that reads a prototype and a file, and answers one request over the collection of that file.
+//! The command that reads a prototype and a file, and replies to one request over the collection of that file.
 ghost use Rattle.std.specs.Prelude.{◌≡◌, Ok, IfSome};
 ghost use Rattle.srv_run.specs.Best.{IsLoaded, reply_to};
 ghost use Rattle.srv_run.specs.Once as spec;

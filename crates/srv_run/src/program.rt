@@ -55,7 +55,7 @@ fn carry_out<'w, F: Files, L: Link>(
 /// | 4 | `no memory` | at any time |
 /// | 5 | `file fault PATH` | only where a call of the files failed |
 /// | 9 | `link fault` | only where a call of the link failed |
-/// | 10 | `no file PATH`, `too long PATH LEN` | exactly where no file lies at the path, or one of over 536,870,912 bytes |
+/// | 10 | `no file PATH`, `too long PATH LEN` | exactly where the path has no file, or one of over 536,870,912 bytes |
 /// | 11 | `input ended` | exactly where the input ends before the request does |
 ///
 /// A line that can't be written changes no status.
@@ -103,8 +103,8 @@ fn check<F: Files, S: Sink>(alloc: Global, path: &[u8], files: &mut F, sink: &mu
 /// | 3 | `refused FILE code C` | exactly where the header or the layout has a fault; C is the number of the first |
 /// | 4 | `no memory` | at any time |
 /// | 5 | `file fault FILE` | only where a call of the files failed |
-/// | 7 | a front of the line of 0 | only where a call of the sink failed |
-/// | 10 | `no file FILE`, `too long FILE LEN` | exactly where no file lies at the path, or one of over 536,870,912 bytes |
+/// | 7 | the first bytes of the line of 0 | only where a call of the sink failed |
+/// | 10 | `no file FILE`, `too long FILE LEN` | exactly where the path has no file, or one of over 536,870,912 bytes |
 ///
 /// A line of another status that can't be written changes no status. The link isn't used.
 pub fn run_check<F: Files, L: Link, S: Sink>(

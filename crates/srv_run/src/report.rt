@@ -11,10 +11,11 @@ use crate::words::Command;
 use fm_world::{Failed, Sink};
 use itoa::Buffer;
 
-// Writes the pieces one after the other.
+// Writes the slices one after the other.
 #[tactic(auto, using(crate::proofs::PieceLemmas::pieces))]
 pub(crate) fn put_pieces<S: Sink>(sink: &mut S, pieces: &[&[u8]]) -> Result<(), Failed>
-    ensures put { Appends (flat_map (λ piece. piece.now) pieces.now) (S.shown sink.old).held (S.shown sink.new).held result }
+    ensures put { Appends (flat_map (λ piece. piece.now) pieces.now)
+        (S.shown sink.old).held (S.shown sink.new).held result }
     ensures cause { HasCause (S.shown sink.old).faults (S.shown sink.new).faults result }
 {
     for piece in pieces {
@@ -91,7 +92,7 @@ fn put_no_file<S: Sink>(sink: &mut S, subject: &[u8]) -> Result<(), Failed>
     put_pieces(sink, &[b"no file ".as_slice(), subject, b"\n".as_slice()])
 }
 
-// Writes the line that tells of an end, or a front of it where the sink fails. It takes no memory.
+// Writes the line of an end, or its first bytes where the sink fails. It takes no memory.
 #[tactic(auto, unfolding(crate::specs::Report::line_of))]
 pub(crate) fn report<S: Sink>(sink: &mut S, command: &Command<'_>, end: End) -> Result<(), Failed>
     ensures put { Appends (spec.line_of (seen command.now) end) (S.shown sink.old).held (S.shown sink.new).held result }

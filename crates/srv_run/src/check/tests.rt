@@ -1,4 +1,4 @@
-//! What no clause says of a check: that it answers with ample memory, and its lines as a user sees them.
+//! What no clause says of a check: that it succeeds with ample memory, and its lines as a user sees them.
 
 use crate::run;
 use crate::tests::{entry, numbers, sample};
@@ -54,7 +54,7 @@ fn ran(alloc: Global, given: &Given<'_>) -> Result<(u8, Bytes), Fail> {
 }
 
 #[test]
-fn a_sound_file_is_told_by_its_counts(rt: HostRuntime) -> Result<(), Fail> {
+fn a_sound_file_is_reported_by_its_counts(rt: HostRuntime) -> Result<(), Fail> {
     let (status, line) = ran(rt.alloc(), &Given::sample())?;
     assert_eq!(rt; status, 0);
     assert_eq!(rt;

@@ -1,3 +1,4 @@
+-- A file that is refused ends the check with its line.
 use Rattle.std.proofs.Common.{Ok, Err, refl}
 use Rattle.srv_run.proofs.ReportLemmas.{Reports-put, Writes-put, Cuts-put}
 use Rattle.srv_run.proofs.program.check.Goals as goal
@@ -7,7 +8,8 @@ returns-in-Err g c = record {
   checked = Err c.in-Err.end;
   found = c.in-Err.ensures.checked;
   named = c.in-Err.ensures.end;
-  ends = (refl, rw c.naming.ensures at (Reports-put _ _ _ _ c.report-written.ensures.put c.report-written.ensures.cause));
+  ends = (refl, rw c.naming.ensures at (Reports-put _ _ _ _ c.report-written.ensures.put
+      c.report-written.ensures.cause));
   held = c.in-Err.ensures.same;
   file_faults = c.in-Err.ensures.cause;
 }

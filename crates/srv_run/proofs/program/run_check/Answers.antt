@@ -1,3 +1,4 @@
+-- Words that aren't `check FILE` end the run at once.
 use Rattle.std.proofs.Common.{◌≡◌, None, refl, sym, ap, ◌∙◌}
 use Rattle.srv_run.specs.declared.end.End.TheVariants.{BadWords}
 use Rattle.srv_run.specs.Check.{checked_path}

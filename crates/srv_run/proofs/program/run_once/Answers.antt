@@ -1,3 +1,4 @@
+-- The line of the end is written after what the words ask for.
 use Rattle.srv_run.proofs.BlameLemmas.{Blames-once, no_sink_fault-once}
 use Rattle.srv_run.proofs.ReportLemmas.{Reports-put}
 use Rattle.srv_run.proofs.program.run_once.Goals as goal
