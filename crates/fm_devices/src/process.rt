@@ -1,20 +1,26 @@
 //! A process: the world that it runs over, and how it ends where its words can't be read.
-ghost use Rattle.std.specs.Prelude.{◌≡◌, None, if◌then◌else◌};
+ghost use Rattle.std.specs.Prelude.{◌≡◌};
 ghost use Rattle.std.specs.Process.{exit_status};
-ghost use Rattle.fm_devices.specs.Process.{names_once, unread_status};
-ghost use Rattle.fm_world.specs.Shown.{world_shown};
+ghost use Rattle.fm_devices.specs.Process.{is_errors, names_once, unread_status};
 
 use crate::files::RealFiles;
 use crate::link::StdLink;
 use crate::sink::{StdSink, StdStream};
 use crate::args::NotText;
 use fm_base::{Bytes, Fail, List};
-use fm_world::World;
+use fm_world::{Files, Link, Sink, World};
 use std::process::ExitCode;
 
 /// The world of a run with these words: the machine's files, standard input and output as the link, and the sink that
 /// [`StdStream::of_words`] picks. No call has failed.
-pub fn host_world(rt: HostRuntime, words: &List<Bytes>) -> World<RealFiles<HostRuntime>, StdLink, StdSink>
+pub fn host_world(
+    rt: HostRuntime,
+    words: &List<Bytes>,
+) -> World<RealFiles<HostRuntime>, StdLink, StdSink>
+    ensures files { (⟦<RealFiles<HostRuntime> as Files>⟧.shown result.files).faults ≡ 0 }
+    ensures link { (⟦<StdLink as Link>⟧.shown result.link).faults ≡ 0 }
+    ensures sink { (⟦<StdSink as Sink>⟧.shown result.sink).faults ≡ 0 }
+    ensures stream { is_errors result.sink.output ≡ names_once words.now }
 {
     World {
         files: RealFiles::new(rt),

@@ -1,7 +1,7 @@
 //! A writer as a sink, and which standard stream reports go to.
-ghost use Rattle.std.specs.Prelude.{◌≡◌, ◌≤◌, ℕ, length, take, None, OnOk, OnErr, if◌then◌else◌};
+ghost use Rattle.std.specs.Prelude.{◌≡◌, ◌≤◌, ℕ, length, take, None, OnOk, OnErr};
 ghost use Rattle.std.specs.Io.KnownBytes.{Appends};
-ghost use Rattle.fm_devices.specs.Process.{names_once};
+ghost use Rattle.fm_devices.specs.Process.{is_errors, names_once};
 ghost use Rattle.fm_world.specs.Cause.{HasCause};
 
 use crate::stream::{counted, write_whole};
@@ -61,8 +61,7 @@ impl StdStream {
     /// The stream of the reports of a run: standard error where the first word is `once`, whose replies go to standard
     /// output, and else standard output.
     pub fn of_words(words: &[Bytes], output: Stdout, errors: Stderr) -> StdStream
-        ensures { result ≡ (if names_once words.now
-            then StdStream.Errors errors else StdStream.Output output) }
+        ensures { is_errors result ≡ names_once words.now }
     {
         match words {
             [first, ..] if first.as_slice() == b"once".as_slice() => StdStream::Errors(errors),

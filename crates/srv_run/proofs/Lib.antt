@@ -9,6 +9,7 @@ pub mod ExchangeLemmas
 pub mod FieldLemmas
 pub mod Heads
 pub mod LeftHeads
+pub mod LimitLaws
 pub mod LoadedRows
 pub mod PieceLemmas
 pub mod ReadingEnds
