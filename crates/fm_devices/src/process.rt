@@ -3,10 +3,10 @@ ghost use Rattle.std.specs.Prelude.{◌≡◌};
 ghost use Rattle.std.specs.Process.{exit_status};
 ghost use Rattle.fm_devices.specs.Process.{is_errors, names_once, unread_status};
 
+use crate::args::NotText;
 use crate::files::RealFiles;
 use crate::link::StdLink;
 use crate::sink::{StdSink, StdStream};
-use crate::args::NotText;
 use fm_base::{Bytes, Fail, List};
 use fm_world::{Files, Link, Sink, World};
 use std::process::ExitCode;

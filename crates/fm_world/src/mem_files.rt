@@ -4,8 +4,8 @@ ghost use Rattle.std.specs.Option.{option_copied};
 ghost use Rattle.fm_world.specs.Files.{found_of, held};
 
 use crate::calls::Calls;
-use crate::files::{Files, Found};
 use crate::faults::Failed;
+use crate::files::{Files, Found};
 use fm_base::{Bytes, Fail, List, NoMemory};
 use std::alloc::Global;
 

@@ -118,8 +118,8 @@ impl MemLink {
 
 impl Link for MemLink {
     ghost shown = { λ link. record {
-        held = Some (wire_at link.input link.taken link.output.bytes.items);
-        faults = link.calls.faults
+      held = Some (wire_at link.input link.taken link.output.bytes.items);
+      faults = link.calls.faults;
     } };
 
     fn faults(&self) -> u64 {

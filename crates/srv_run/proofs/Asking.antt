@@ -61,8 +61,8 @@ pub after_take-add : (i n : ℕ) (told : Option Wire) → after_take n (after_ta
 after_take-add i n None = refl
 after_take-add i n (Some wire) =
     let taken : wire.taken ++ take i wire.left ++ take n (drop i wire.left) ≡ wire.taken ++ take (i + n) wire.left =
-        append_assoc wire.taken (take i wire.left) (take n (drop i wire.left))
-        ∙ ap (λ (l : List ℕ). wire.taken ++ l) (sym (take-add i n wire.left)) in
+    append_assoc wire.taken (take i wire.left) (take n (drop i wire.left))
+    ∙ ap (λ (l : List ℕ). wire.taken ++ l) (sym (take-add i n wire.left)) in
     let left : drop n (drop i wire.left) ≡ drop (i + n) wire.left = drop-drop n i wire.left in
     rw (taken, left) refl
 

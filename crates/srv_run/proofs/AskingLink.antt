@@ -28,8 +28,12 @@ given_byte : (wire : Wire) (now : Option Wire) (buf : List ℕ) (i n : ℕ) → 
     → IfSome now (λ w. GivesNext w buf n) → n ≡ 1 → (i < length wire.left) × (get_or buf 0 0 ≡ get_or wire.left i 0)
 given_byte wire now buf i n is gives one =
     let at_link = subst (λ (t : Option Wire). IfSome t (λ w. GivesNext w buf n)) is gives in
-    let given = subst (λ (k : ℕ). GivesNext (record { taken = wire.taken ++ take i wire.left; left =
-        drop i wire.left; put = wire.put }) buf k) one at_link in
+    let given = subst (λ (k : ℕ). GivesNext (record {
+      taken = wire.taken ++ take i wire.left;
+      left =
+          drop i wire.left;
+      put = wire.put;
+    }) buf k) one at_link in
     next_byte wire.left buf i given.left given.bytes
 
 met_more : (structure values s v : Option (List ℕ)) (buf : List ℕ) (told now : Option Wire) (i n : ℕ)
@@ -45,8 +49,12 @@ met_more structure values s v buf (Some wire) now i n undecided met is gives one
 pub Meets-none : (structure values : Option (List ℕ)) (told : Option Wire)
     → Meets structure values structure values told told
 Meets-none structure values None = record { count = 0; met = tt; told = refl }
-Meets-none structure values (Some wire) = record { count = 0; met = Met-none structure values wire.left; told =
-    rw (append-nil wire.taken) refl }
+Meets-none structure values (Some wire) = record {
+  count = 0;
+  met = Met-none structure values wire.left;
+  told =
+      rw (append-nil wire.taken) refl;
+}
 
 pub Meets-more : (structure values s v : Option (List ℕ)) (buf : List ℕ) (told now next : Option Wire) (n : ℕ)
     → decided s v ≡ None → Meets structure values s v told now → IfSome now (λ wire. GivesNext wire buf n)

@@ -133,12 +133,12 @@ record CheckEnd (end : End) (sink sink' : SinkShown) : Type 0 where
 
 -- what the status of a check says of its words and the devices
 record CheckFaults (path : Option (List ℕ)) (end : End) (files files' : FilesShown) (sink sink' : SinkShown) : Type 0
-    where
-  by_words : (status_of end ≡ 2) ↔ (path ≡ None)
-  by_files : status_of end ≡ 5 → files'.faults ≡ one_more files.faults
-  by_sink : status_of end ≡ 7 → sink'.faults ≡ one_more sink.faults
-  by_link : status_of end ≡ 9 → ⊥
-  by_input : status_of end ≡ 11 → ⊥
+  where
+    by_words : (status_of end ≡ 2) ↔ (path ≡ None)
+    by_files : status_of end ≡ 5 → files'.faults ≡ one_more files.faults
+    by_sink : status_of end ≡ 7 → sink'.faults ≡ one_more sink.faults
+    by_link : status_of end ≡ 9 → ⊥
+    by_input : status_of end ≡ 11 → ⊥
 
 -- a check ends as its file is read, or as its line is written
 ends_check : (path : List ℕ) (checked : Result Header End) (end : End) (sink sink' : SinkShown)

@@ -45,9 +45,9 @@ AllZip-filled proto file rows same =
     let as_many = same_lats _ _ _ _ same in
     let as_wide = same_lons _ _ _ _ same in
     let all : length rows * (file.shape.lats * file.shape.lons)
-        ≡ length rows * (proto.shape.lats * (proto.shape.lons * 1)) = rw (as_many, as_wide) (omega arith) in
+    ≡ length rows * (proto.shape.lats * (proto.shape.lons * 1)) = rw (as_many, as_wide) (omega arith) in
     let field : length (field_numbers file rows) ≡ length rows * (proto.shape.lats * (proto.shape.lons * 1)) =
-        length-field_numbers file rows ∙ all in
+    length-field_numbers file rows ∙ all in
     let axis : length (valid_numbers rows) ≡ length rows * 1 = omega (arith, valid) in
     let north : length (lat_numbers proto) ≡ proto.shape.lats * 1 = omega (arith, lats) in
     let east : length (lon_numbers proto) ≡ proto.shape.lons * 1 = omega (arith, lons) in

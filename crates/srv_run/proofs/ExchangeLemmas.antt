@@ -27,7 +27,7 @@ pub Exchanged-done : (name : List ℕ) (content : Content) (loaded : Loaded) (be
 Exchanged-done name content loaded None now after took put = tt
 Exchanged-done name content loaded (Some wire) now after took put =
     put ∙ ap (λ (bytes : List ℕ). after_put bytes now) (replied name content loaded wire took.asked)
-        ∙ ap (after_put (reply_to name (asked_by name wire.left) (Ok loaded))) took.taken
+    ∙ ap (after_put (reply_to name (asked_by name wire.left) (Ok loaded))) took.taken
 
 -- a front of the reply was sent
 abbrev pub SentFront : List ℕ → Option Wire → Option Wire → Type 0
@@ -39,6 +39,12 @@ pub Exchanged-link_fault : (name : List ℕ) (content : Content) (loaded : Loade
     → IfSome before (λ wire. Exchanged LinkFault name (reply_to name (asked_by name wire.left) (Ok loaded)) wire after)
 Exchanged-link_fault name content loaded None now after took put = tt
 Exchanged-link_fault name content loaded (Some wire) now after took put =
-    let sent = rw (replied name content loaded wire took.asked) at put in
-    (taken_by name wire.left, sent.0, omega arith, sent.1, λ below. absurd (omega (arith, below)), sent.2
-        ∙ ap (after_put (take sent.0 (reply_to name (asked_by name wire.left) (Ok loaded)))) took.taken)
+    let sent = rw (replied name content loaded wire took.asked) at put in (
+      taken_by name wire.left,
+      sent.0,
+      omega arith,
+      sent.1,
+      λ below. absurd (omega (arith, below)),
+      sent.2
+          ∙ ap (after_put (take sent.0 (reply_to name (asked_by name wire.left) (Ok loaded)))) took.taken,
+    )

@@ -73,20 +73,20 @@ tells (Some (next ∷ head)) (Some (other ∷ rest)) (byte ∷ input) is =
     let first = reach_where byte next head input (next == byte) refl in
     let second = reach_where byte other rest input (other == byte) refl in
     tells_more byte (Some (next ∷ head)) (Some (other ∷ rest)) input refl
-        (step_where byte next head input (next == byte) refl) (step_where byte other rest input (other == byte) refl)
-        (omega (arith, first, second)) (tells (after_byte byte (Some (next ∷ head)))
-        (after_byte byte (Some (other ∷ rest))) input
-        (apart_after byte next other head rest (next == byte) (other == byte) refl refl is))
+    (step_where byte next head input (next == byte) refl) (step_where byte other rest input (other == byte) refl)
+    (omega (arith, first, second)) (tells (after_byte byte (Some (next ∷ head)))
+    (after_byte byte (Some (other ∷ rest))) input
+    (apart_after byte next other head rest (next == byte) (other == byte) refl refl is))
 tells (Some (next ∷ head)) None (byte ∷ input) is =
     let first = reach_where byte next head input (next == byte) refl in
     tells_more byte (Some (next ∷ head)) None input refl (step_where byte next head input (next == byte) refl)
-        (step_none byte input) (omega (arith, first))
-        (tells (after_byte byte (Some (next ∷ head))) None input (apart_none (after_byte byte (Some (next ∷ head)))))
+    (step_none byte input) (omega (arith, first))
+    (tells (after_byte byte (Some (next ∷ head))) None input (apart_none (after_byte byte (Some (next ∷ head)))))
 tells None (Some (other ∷ rest)) (byte ∷ input) is =
     let second = reach_where byte other rest input (other == byte) refl in
     tells_more byte None (Some (other ∷ rest)) input refl (step_none byte input)
-        (step_where byte other rest input (other == byte) refl) (omega (arith, second))
-        (tells None (after_byte byte (Some (other ∷ rest))) input refl)
+    (step_where byte other rest input (other == byte) refl) (omega (arith, second))
+    (tells None (after_byte byte (Some (other ∷ rest))) input refl)
 
 -- two heads, the first of which doesn't begin with the second, are met as they are met at once
 met_by-heads : (structure values input : List ℕ) → starts_with nat_eq structure values ≡ false
@@ -129,7 +129,7 @@ data_head-differs name rest =
     let structure = codes ".dds HTTP/1.1\r\n\r\n" in
     let values = codes ".dods HTTP/1.1\r\n\r\n" in
     ap (λ (input : List ℕ). starts_with nat_eq input (front ++ structure)) (append_assoc front values rest)
-        ∙ starts_with-same_front front (values ++ rest) structure
+    ∙ starts_with-same_front front (values ++ rest) structure
 
 -- the heads of a collection are met as they are met at once
 pub met_by-name : (name input : List ℕ) → met_by (Some (structure_head name)) (Some (data_head name)) input

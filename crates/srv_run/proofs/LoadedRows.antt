@@ -32,7 +32,7 @@ pub thin_len-loaded : (loaded : Loaded) → IsLoaded loaded → thin_len loaded.
 unfolding is_thin
 thin_len-loaded loaded facts =
     let long : nat_le (thin_len loaded.file.shape) (length loaded.file.bytes) ≡ true =
-        (both _ _ (both _ _ (both _ _ facts.thin).0).0).1 in
+    (both _ _ (both _ _ (both _ _ facts.thin).0).0).1 in
     leb-true (thin_len loaded.file.shape) (length loaded.file.bytes) long
 
 -- each of its times is an instant
@@ -55,8 +55,8 @@ pub has_record-best_rows : (loaded : Loaded) → IsTrue (list_all (has_record lo
 has_record-best_rows loaded =
     let rows = rows_of loaded.run (times_of loaded) loaded.file.shape.times in
     all-rising (has_record loaded.file) rows
-        (all-rows_of (has_record loaded.file) loaded.run (times_of loaded) loaded.file.shape.times (λ place below.
-        grind (arith, nat_tests)))
+    (all-rows_of (has_record loaded.file) loaded.run (times_of loaded) loaded.file.shape.times (λ place below.
+    grind (arith, nat_tests)))
 
 -- each row is valid, and was run, within the range of instants
 pub is_in_range-best_rows : (loaded : Loaded) → IsLoaded loaded → IsTrue (list_all is_in_range (best_rows loaded))
@@ -83,9 +83,18 @@ unfolding is_thin
 is_rising-best_rows loaded facts =
     let differ : all_differ (times_of loaded) ≡ true = (both _ _ facts.thin).1 in
     is_rising-rising (rows_of loaded.run (times_of loaded) loaded.file.shape.times)
-        (ap all_differ (valid-rows_of loaded.run (times_of loaded) loaded.file.shape.times (length-times loaded))
-        ∙ differ)
+    (ap all_differ (valid-rows_of loaded.run (times_of loaded) loaded.file.shape.times (length-times loaded))
+    ∙ differ)
 
-pub ruleset loaded =
-    (IsPermutation-best_rows, is_rising-best_rows, is_thin_shape-loaded, times-loaded, thin_len-loaded,
-    all-times-loaded, length-times, length-best_rows, has_record-best_rows, is_in_range-best_rows)
+pub ruleset loaded = (
+  IsPermutation-best_rows,
+  is_rising-best_rows,
+  is_thin_shape-loaded,
+  times-loaded,
+  thin_len-loaded,
+  all-times-loaded,
+  length-times,
+  length-best_rows,
+  has_record-best_rows,
+  is_in_range-best_rows,
+)

@@ -111,5 +111,5 @@ unfolding loaded_or_end
 load-file None now command first end same taken gives ends = tt
 load-file (Some held) now command first end same taken gives ends =
     let there = subst (λ (t : Told). IfSome t (λ held.
-        Gives same_file (Err end) (read_or_end File (held command.path)))) same gives in
+    Gives same_file (Err end) (read_or_end File (held command.path)))) same gives in
     AccordsFiles-file end _ _ first (λ proto file. taken_or_end command proto file) taken there ends

@@ -38,11 +38,11 @@ words_bytes bytes place (suc n) fits within =
     let word = take 4 (drop place bytes) in
     let four : length word ≡ 4 = omega (arith, length-take 4 (drop place bytes), length-drop place bytes) in
     let first : to_be_bytes w32 (from_be_bytes w32 word) ≡ word =
-        be_bytes_4 word _ four (small bytes place fits) refl in
+    be_bytes_4 word _ four (small bytes place fits) refl in
     let others = words_bytes bytes (place + 4) n fits (omega arith) in
     let both : to_be_bytes w32 (from_be_bytes w32 word) ++ elements_bytes Float32 (words_at bytes (place + 4) n) ≡ word
-        ++ take (4 * n) (drop (place + 4) bytes) = joined _ _ _ _ first others in
+    ++ take (4 * n) (drop (place + 4) bytes) = joined _ _ _ _ first others in
     let split : take (4 + 4 * n) (drop place bytes) ≡ word ++ take (4 * n) (drop 4 (drop place bytes)) =
-        take-add 4 (4 * n) (drop place bytes) in
+    take-add 4 (4 * n) (drop place bytes) in
     let size : 4 * suc n ≡ 4 + 4 * n = omega arith in
     both ∙ rw (size, split, drop-drop 4 place bytes) refl

@@ -54,7 +54,10 @@ fn what_cannot_be_opened_or_read_is_a_fault_and_not_absent(rt: HostRuntime) -> R
 fn bytes_are_written_to_the_standard_streams(rt: HostRuntime) -> Result<(), Fail> {
     let mut link = StdLink::new(rt.stdin(), rt.stdout());
     assert_eq!(rt; link.put(b"\n")?, 1);
-    for stream in [StdStream::Output(rt.stdout()), StdStream::Errors(rt.stderr())] {
+    for stream in [
+        StdStream::Output(rt.stdout()),
+        StdStream::Errors(rt.stderr()),
+    ] {
         let mut sink = StdSink::new(stream);
         sink.put(b"\n")?;
         assert_eq!(rt; sink.faults(), 0);

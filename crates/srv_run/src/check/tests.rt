@@ -177,8 +177,14 @@ fn large_file(alloc: Global) -> Result<Bytes, NoMemory> {
     put_words(&[11, 3, 1, 0x7200_0000, 1024], &mut file)?;
     put_words(&[0; 1024], &mut file)?;
     put_words(&[0, 0, 1, 4, BEGIN], &mut file)?;
-    put_words(&[1, 0x7600_0000, 1, 1, 0, 0, 6, 8, BEGIN + 70_004], &mut file)?;
-    put_words(&[1, 0x7700_0000, 1, 2, 0, 0, 1, 70_000, BEGIN + 4], &mut file)?;
+    put_words(
+        &[1, 0x7600_0000, 1, 1, 0, 0, 6, 8, BEGIN + 70_004],
+        &mut file,
+    )?;
+    put_words(
+        &[1, 0x7700_0000, 1, 2, 0, 0, 1, 70_000, BEGIN + 4],
+        &mut file,
+    )?;
     for _ in 0..17_501 {
         file.append(b"\0\0\0\0")?;
     }
@@ -192,7 +198,10 @@ const BEGIN: u32 = 6288;
 fn a_large_file_is_checked_with_ample_memory(rt: HostRuntime) -> Result<(), Fail> {
     let alloc = rt.alloc();
     let (status, line) = ran_over(alloc, &Given::sample(), large_file(alloc)?)?;
-    assert_eq!(rt; line.as_slice(), b"ok CDF-1 dims 3 vars 3 records 0\n".as_slice());
+    assert_eq!(rt;
+        line.as_slice(),
+        b"ok CDF-1 dims 3 vars 3 records 0\n".as_slice()
+    );
     assert_eq!(rt; status, 0);
     Ok(())
 }

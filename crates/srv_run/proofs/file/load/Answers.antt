@@ -13,4 +13,4 @@ pub returns-in_err-file-clause-loaded : goal.returns-in_err-file-clause-loaded
 returns-in_err-file-clause-loaded g c =
     let p = err_from_is_err_and c.from_residual-in_err-file.result c.from_residual-in_err-file.ensures.1 in
     rw (p.1, p.2) (load-file _ _ (seen c.args.command.now) _ _ c.in_ok-proto.ensures.same c.in_ok-proto.ensures.file
-        c.in_err-file.ensures.file c.in_err-file.ensures.end)
+    c.in_err-file.ensures.file c.in_err-file.ensures.end)

@@ -8,8 +8,11 @@ returns-in-Err g c = record {
   checked = Err c.in-Err.end;
   found = c.in-Err.ensures.checked;
   named = c.in-Err.ensures.end;
-  ends = (refl, rw c.naming.ensures at (Reports-put _ _ _ _ c.report-written.ensures.put
-      c.report-written.ensures.cause));
+  ends = (
+    refl,
+    rw c.naming.ensures at (Reports-put _ _ _ _ c.report-written.ensures.put
+        c.report-written.ensures.cause),
+  );
   held = c.in-Err.ensures.same;
   file_faults = c.in-Err.ensures.cause;
 }

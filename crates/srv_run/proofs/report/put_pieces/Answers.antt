@@ -8,4 +8,4 @@ pub returns-in_err-put-clause-put : goal.returns-in_err-put-clause-put
 returns-in_err-put-clause-put g c =
     let p = err_from_is_err_and c.from_residual.result c.from_residual.ensures.1 in
     rw (p.1) (appended-cut (λ piece. piece.now) c.args.pieces.now c.loop-piece.piece-index _ _ _ _ (omega arith)
-        c.loop-piece.invariant.put c.in_err-put.ensures.err)
+    c.loop-piece.invariant.put c.in_err-put.ensures.err)

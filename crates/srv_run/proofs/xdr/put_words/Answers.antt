@@ -10,6 +10,6 @@ pub returns : goal.returns
 returns c =
     let words = words_at c.args.bytes.now c.args.place c.args.count in
     let array = counted_array Float32 words _ _ _ (length-words_at c.args.bytes.now c.args.place c.args.count)
-        c.in_ok-put_count.ensures in
+    c.in_ok-put_count.ensures in
     subst (λ (v : List ℕ). OnOk c.append.result (c.append.new.self ≡ v)) (ap (λ (l : List ℕ). c.put_count.new.out
-        ++ l) c.words_at.ensures ∙ array) c.append.ensures.ok
+    ++ l) c.words_at.ensures ∙ array) c.append.ensures.ok
