@@ -1,16 +1,14 @@
 -- What the command `check FILE` does: it reads the header of a file, sees that all the data lies in the file, and says
 -- how many dimensions, variables and records there are.
-use Rattle.std.specs.Prelude.{◌≡◌, ◌⊎◌, ℕ, List, [], ◌∷◌, ◌++◌, length, codes, decimal, Option, Some, None, Result, Ok, Err, if◌then◌else◌}
+use Rattle.std.specs.Prelude.{ℕ, List, [], ◌∷◌, ◌++◌, length, codes, decimal, Option, Some, None, Result, Ok, Err, if◌then◌else◌}
 use Rattle.std.specs.Str.{bytes_eq}
 use Rattle.fm_base.specs.declared.header.Header.{Header}
 use Rattle.fm_base.specs.Chain.{◌>>=◌, fault_as}
 use Rattle.fm_base.specs.Sound.{format_code, sound_header}
 use Rattle.srv_run.specs.declared.end.End.{End}
-use Rattle.srv_run.specs.declared.end.End.TheVariants.{Done, Refused, SinkFault}
+use Rattle.srv_run.specs.declared.end.End.TheVariants.{Refused}
 use Rattle.srv_run.specs.declared.end.Subject.TheVariants.{File}
 use Rattle.srv_run.specs.Once.{file_or_end}
-use Rattle.srv_run.specs.Report.{line_of}
-use Rattle.srv_run.specs.Words.{naming}
 
 -- the path of the file that the words `check FILE` name
 unfoldable pub checked_path : List (List ℕ) → Option (List ℕ)
@@ -27,14 +25,8 @@ checked_or_end held = file_or_end File held >>= sound_or_refusal
 
 -- the line of a file without fault
 unfoldable pub sound_line : Header → List ℕ
-sound_line header = codes "ok CDF-" ++ decimal header.version ++ codes " dims " ++ decimal (length header.dims) ++ codes " vars " ++ decimal (length header.vars) ++ codes " records " ++ decimal header.numrecs ++ codes "\n"
-
--- the line of a check
-abbrev pub check_line : List ℕ → Result Header End → List ℕ
-check_line path (Ok header) = sound_line header
-check_line path (Err end) = line_of (naming path) end
-
--- How a check ended: with what it found, or where the line of a sound file couldn't be written.
-abbrev pub EndsCheck : Result Header End → End → Type 0
-EndsCheck (Ok header) end = (end ≡ Done) ⊎ (end ≡ SinkFault)
-EndsCheck (Err found) end = end ≡ found
+sound_line header =
+    codes "ok CDF-" ++ decimal header.version
+    ++ codes " dims " ++ decimal (length header.dims)
+    ++ codes " vars " ++ decimal (length header.vars)
+    ++ codes " records " ++ decimal header.numrecs ++ codes "\n"

@@ -7,6 +7,7 @@ ghost use Rattle.srv_run.specs.Words.{naming};
 ghost use Rattle.srv_run.specs.Seen.{seen};
 
 use fm_base::Bytes;
+use fm_model::MAX_NAME;
 
 /// What `once --name NAME --proto PROTO put:PATH ask:1` asks for.
 #[derive(Clone, Copy)]
@@ -29,12 +30,12 @@ fn are_name_bytes(bytes: &[u8]) -> bool
     bytes.iter().all(|byte| is_name_byte(*byte))
 }
 
-// Whether a collection may have this name: 1 to 64 letters, digits, `_` and `-`.
+// Whether a collection may have this name: from 1 to `MAX_NAME` letters, digits, `_` and `-`.
 #[tactic(auto, unfolding(crate::specs::Words::is_collection_name))]
 fn is_collection_name(name: &[u8]) -> bool
     ensures { result ≡ spec.is_collection_name name.now }
 {
-    1 <= name.len() && name.len() <= 64 && are_name_bytes(name)
+    1 <= name.len() && name.len() <= MAX_NAME as usize && are_name_bytes(name)
 }
 
 #[tactic(auto, unfolding(crate::specs::Words::is_put))]
