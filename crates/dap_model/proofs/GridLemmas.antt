@@ -14,6 +14,7 @@ use Rattle.dap_model.specs.declared.projection.Slab.{Slab}
 use Rattle.dap_model.specs.Picking.{name_of, parts_of, part_dims, named_parts, nothing, every, only, picked_part, picked_below, picked_by, is_every, given_by, slabs_for, spread, or_whole}
 use Rattle.dap_model.specs.Projection.{slabs_of, cut_array, cut_parts, is_kept, rebuilt, decl_sent}
 use Rattle.dap_model.specs.ProjectionFacts.{NamesAlone, IsGridOf}
+use Rattle.dap_model.proofs.WholeClauseLemmas.{is_kept-all, slabs_of-all}
 use Rattle.dap_model.proofs.ListLemmas.{Has, Has-from_contains, contains_from_Has, Has-filter_map, filter_map-some}
 
 no_items : {A : Type 0} (x : A) (xs : List A) → x ∷ xs ≡ [] → ⊥
@@ -56,7 +57,7 @@ any_passes p (y ∷ xs) x (inr has) e = or_right (p y) (list_any p xs) (any_pass
 
 pub kept_if_alone : (clauses : List Clause) (decl : Decl) → NamesAlone clauses (name_of decl) → is_kept clauses decl ≡ true
 unfolding is_kept
-kept_if_alone [] decl alone = refl
+kept_if_alone [] decl alone = is_kept-all decl
 kept_if_alone (x ∷ clauses) decl (inl none) = absurd (no_items x clauses none)
 kept_if_alone (x ∷ clauses) decl (inr named) =
     any_passes (λ (each : Clause). is_every (picked_by decl each.path)) (x ∷ clauses) named.0 (Has-from_contains (x ∷ clauses) named.0 named.1)
@@ -77,7 +78,7 @@ first_of_some (y ∷ xs) x has = (y, refl)
 -- each part of a declaration that some clause names alone is sent
 part_is_sent : (clauses : List Clause) (decl : Decl) (part : ℕ) → NamesAlone clauses (name_of decl) → (slabs : List Slab) × (slabs_of clauses decl part ≡ Some slabs)
 unfolding slabs_of given_by
-part_is_sent [] decl part alone = (_, refl)
+part_is_sent [] decl part alone = (_, slabs_of-all decl part)
 part_is_sent (x ∷ clauses) decl part (inl none) = absurd (no_items x clauses none)
 part_is_sent (x ∷ clauses) decl part (inr named) =
     let gives = ap (slabs_for decl named.0.slabs part) (every_if_alone decl named.0.path named.2) in

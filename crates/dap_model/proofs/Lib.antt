@@ -24,5 +24,6 @@ pub mod ProjectionWholeLemmas
 pub mod SeparatedLemmas
 pub mod SlabLemmas
 pub mod TextsLemmas
+pub mod WholeClauseLemmas
 pub mod XdrLemmas
 pub mod XdrTellLemmas

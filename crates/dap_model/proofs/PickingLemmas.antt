@@ -69,7 +69,8 @@ Names-picked decl (name ∷ names) e = elim (cases_Bool (bytes_eq (name_of decl)
   | inr f ↦ absurd (true≢false (sym e ∙ ap is_picked (cond-false _ _ _ f)))
 ]
 
-front_picks : (decl : Decl) (names : List (List ℕ)) → picked_by decl (name_of decl ∷ names) ≡ picked_below decl names
+-- a path that begins with the name of a declaration picks what its other names pick
+pub front_picks : (decl : Decl) (names : List (List ℕ)) → picked_by decl (name_of decl ∷ names) ≡ picked_below decl names
 unfolding picked_by
 front_picks decl names = cond-true _ _ _ ((bytes_eq-Decides (name_of decl) (name_of decl)).1 refl)
 

@@ -14,6 +14,7 @@ use Rattle.dap_model.specs.Box.{slab_count}
 use Rattle.dap_model.specs.Picking.{parts_of, picked_by, is_picked}
 use Rattle.dap_model.specs.Projection.{slabs_of, sent_of, cut_array, cut_parts, is_sent, is_kept, rebuilt, decl_sent, all_sent}
 use Rattle.dap_model.specs.ProjectionFacts.{IsCut, lengths_of}
+use Rattle.dap_model.proofs.WholeClauseLemmas.{is_sent-all}
 use Rattle.dap_model.proofs.ListLemmas.{Has, Source-filter_map, filter_map-some, filter_map-none, none_passes, cases_Option, mapped_some}
 use Rattle.dap_model.proofs.ProjectionAgreeLemmas.{picked_if_given, given-slabs_of}
 
@@ -96,7 +97,7 @@ parts_of-sent clauses (Structure name members) = refl
 -- a declaration that no clause names has no part that is sent
 none_sent : (clauses : List Clause) (place : ℕ) (decl : Decl) → is_sent clauses decl ≡ false → sent_of clauses (place, decl) ≡ []
 unfolding is_sent sent_of
-none_sent [] place decl e = absurd (true≢false e)
+none_sent [] place decl e = absurd (true≢false (sym (is_sent-all decl) ∙ e))
 none_sent (x ∷ clauses) place decl e = nil_from_none (sent_of (x ∷ clauses) (place, decl)) (λ sent has.
     let s = Source-filter_map (λ (part : ℕ). option_map (marked place part) (slabs_of (x ∷ clauses) decl part)) (range_with_len 0 (length (parts_of decl))) sent has in
     let slabs = mapped_some (marked place s.item) (slabs_of (x ∷ clauses) decl s.item) sent s.gives in

@@ -17,6 +17,7 @@ use Rattle.dap_model.specs.ProjectionFacts.{IsGridded, FitsDim}
 use Rattle.dap_model.proofs.SlabLemmas.{whole_slab-some}
 use Rattle.dap_model.proofs.ListLemmas.{mapped_some}
 use Rattle.dap_model.proofs.ProjectionAgreeLemmas.{Sound}
+use Rattle.dap_model.proofs.WholeClauseLemmas.{no_spread}
 
 whole_fit : (dim : Dim) (size : ℕ) → dim.size ≡ size → FitsDim dim (whole_slab size)
 unfolding whole_slab
@@ -64,11 +65,6 @@ or_whole-fit name dims (slab ∷ slabs) rank range = elim (ranked name dims (sla
   | inl empty ↦ absurd (omega arith)
   | inr same ↦ in_range_fit name 0 dims (slab ∷ slabs) same range
 ]
-
-no_spread : (part : ℕ) → spread [] part ≡ []
-no_spread zero = refl
-no_spread (suc zero) = refl
-no_spread (suc (suc map)) = refl
 
 none_spread_fit : (dims : List Dim) (part : ℕ) → AllZip FitsDim dims (or_whole dims (spread [] part))
 none_spread_fit dims part = subst (λ (slabs : List Slab). AllZip FitsDim dims (or_whole dims slabs)) (sym (no_spread part)) (whole_slabs-fit dims)

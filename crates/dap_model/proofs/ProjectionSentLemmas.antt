@@ -13,6 +13,7 @@ use Rattle.dap_model.specs.Projection.{slabs_of, sent_of, all_sent}
 use Rattle.dap_model.specs.ProjectionFacts.{AreNamedApart, IsGridded, StandsBefore, IsAsked, IsWhole, FitsDim, FitsPart}
 use Rattle.dap_model.proofs.ProjectionAgreeLemmas.{Sound, Sound-from_none, decl_named-is, picked_if_given, Faultless, Faultless-first, slabs_of-given, given-slabs_of}
 use Rattle.dap_model.proofs.ProjectionFitLemmas.{whole_slabs-fit, given-fit}
+use Rattle.dap_model.proofs.WholeClauseLemmas.{slabs_of-all}
 use Rattle.dap_model.proofs.ListLemmas.{Has, Has-slice_get, Has-from_contains, contains_from_Has, Has-flat_map, Source-flat_map, Has-filter_map, Source-filter_map, within_range, Has-range, slice_get-numbered, Has-numbered, mapped_some}
 use Rattle.dap_model.proofs.OrderLemmas.{Ordered, Ordered-from_pairs, Ordered-filter_map, Ordered-flat_map, Ordered-range, Ordered-numbered}
 
@@ -71,10 +72,19 @@ Has-all_sent decls clauses sent s =
 
 -- what is sent where there is no clause is each part, whole
 pub whole_sent : (decls : List Decl) (sent : Sent) → PartSent decls [] sent ↔ IsWhole decls sent
-unfolding slabs_of
 whole_sent decls sent = (
-  λ s. record { decl = s.decl; decl_is = s.decl_is; within = s.within; slabs_are = sym (same_Some _ _ s.slabs_are) },
-  λ s. record { decl = s.decl; decl_is = s.decl_is; within = s.within; slabs_are = ap Some (sym s.slabs_are) },
+  λ s. record {
+    decl = s.decl;
+    decl_is = s.decl_is;
+    within = s.within;
+    slabs_are = same_Some _ _ (sym s.slabs_are ∙ slabs_of-all s.decl sent.part);
+  },
+  λ s. record {
+    decl = s.decl;
+    decl_is = s.decl_is;
+    within = s.within;
+    slabs_are = slabs_of-all s.decl sent.part ∙ ap Some (sym s.slabs_are);
+  },
 )
 
 -- what is sent for clauses without a fault is each part that some clause names

@@ -11,7 +11,9 @@ use Rattle.dap_model.specs.declared.projection.Slab.{Slab}
 use Rattle.dap_model.specs.Box.{slab_count}
 use Rattle.dap_model.specs.Picking.{name_of, parts_of, part_dims, whole_slabs}
 use Rattle.dap_model.specs.Projection.{slabs_of, cut_array, cut_parts, is_sent, is_kept, rebuilt, decl_sent, all_sent}
+use Rattle.std.proofs.lemmas.Bool.{cond-true}
 use Rattle.dap_model.proofs.SlabLemmas.{slab_count-whole}
+use Rattle.dap_model.proofs.WholeClauseLemmas.{is_sent-all, is_kept-all, slabs_of-all}
 use Rattle.dap_model.proofs.ListLemmas.{Has, slice_get-numbered, filter_map-each, items-numbered, map-same, map-map}
 
 whole_cut : (dims : List Dim) → map (λ (pair : Dim × Slab). record pair.0 { size = slab_count pair.1 }) (zip dims (whole_slabs dims)) ≡ dims
@@ -26,12 +28,13 @@ cut_array-whole array = ap (λ (dims : List Dim). record array { dims = dims }) 
 
 part_whole : (decl : Decl) (numbered : ℕ × Array) → Has (enumerate_from 0 (parts_of decl)) numbered
     → option_map (λ (slabs : List Slab). cut_array slabs numbered.1) (slabs_of [] decl numbered.0) ≡ Some numbered.1
-unfolding slabs_of
 part_whole decl numbered has =
     let found = slice_get-numbered 0 (parts_of decl) numbered has in
     let place : numbered.0 ≡ found.0 = found.1 ∙ zero-add found.0 in
     let dims : part_dims decl numbered.0 ≡ numbered.1.dims = ap (λ (o : Option Array). option_map_or (λ (array : Array). array.dims) o []) (ap (slice_get (parts_of decl)) place ∙ found.2) in
-    ap (λ (each : List Dim). Some (cut_array (whole_slabs each) numbered.1)) dims ∙ ap Some (cut_array-whole numbered.1)
+    ap (option_map (λ (slabs : List Slab). cut_array slabs numbered.1)) (slabs_of-all decl numbered.0)
+    ∙ ap (λ (each : List Dim). Some (cut_array (whole_slabs each) numbered.1)) dims
+    ∙ ap Some (cut_array-whole numbered.1)
 
 parts_whole : (decl : Decl) → cut_parts [] decl ≡ parts_of decl
 unfolding cut_parts
@@ -47,13 +50,16 @@ rebuilt_whole (Structure name members) = refl
 
 -- a declaration is sent as it is
 decl_sent-whole : (decl : Decl) → decl_sent [] decl ≡ decl
-unfolding decl_sent is_kept
-decl_sent-whole decl = ap (rebuilt true decl) (parts_whole decl) ∙ rebuilt_whole decl
+unfolding decl_sent
+decl_sent-whole decl =
+    ap (λ (kept : Bool). rebuilt kept decl (cut_parts [] decl)) (is_kept-all decl)
+    ∙ ap (rebuilt true decl) (parts_whole decl)
+    ∙ rebuilt_whole decl
 
 kept_all : (decls : List Decl) → filter (is_sent []) decls ≡ decls
-unfolding is_sent
 kept_all [] = refl
-kept_all (decl ∷ decls) = ap (λ (l : List Decl). decl ∷ l) (kept_all decls)
+kept_all (decl ∷ decls) =
+    cond-true _ _ _ (is_sent-all decl) ∙ ap (λ (l : List Decl). decl ∷ l) (kept_all decls)
 
 -- all declarations are sent as they are
 pub all_sent-whole : (decls : List Decl) → (all_sent decls []).decls ≡ decls

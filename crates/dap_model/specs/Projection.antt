@@ -13,13 +13,21 @@ use Rattle.dap_model.specs.declared.projection.Projected.{Projected}
 use Rattle.dap_model.specs.declared.projection.Sent.{Sent}
 use Rattle.dap_model.specs.declared.projection.Slab.{Slab}
 use Rattle.dap_model.specs.ClauseFaults.{first_fault}
-use Rattle.dap_model.specs.Picking.{name_of, parts_of, part_dims, picked_by, is_picked, is_every, whole_slabs, given_by}
+use Rattle.dap_model.specs.Picking.{name_of, parts_of, picked_by, is_picked, is_every, given_by}
 
--- the slabs with which a part is sent: those of the first of all clauses that names it, or the whole where there is no
--- clause
+-- the clause that asks for the whole of a declaration
+abbrev pub whole_clause : Decl → Clause
+whole_clause decl = record { path = name_of decl ∷ []; slabs = [] }
+
+-- the clauses by which a declaration is sent: where there is none, the one that asks for its whole
+abbrev pub clauses_for : List Clause → Decl → List Clause
+clauses_for [] decl = whole_clause decl ∷ []
+clauses_for (clause ∷ clauses) decl = clause ∷ clauses
+
+-- the slabs with which a part is sent: those of the first clause that names it
 unfoldable pub slabs_of : List Clause → Decl → ℕ → Option (List Slab)
-slabs_of [] decl part = Some (whole_slabs (part_dims decl part))
-slabs_of (clause ∷ clauses) decl part = slice_get (filter_map (λ (each : Clause). given_by decl each part) (clause ∷ clauses)) 0
+slabs_of clauses decl part =
+    slice_get (filter_map (λ (each : Clause). given_by decl each part) (clauses_for clauses decl)) 0
 
 -- the parts of a declaration that are sent, by its place in the dataset
 unfoldable pub sent_of : List Clause → ℕ × Decl → List Sent
@@ -33,15 +41,13 @@ cut_array slabs array = record array { dims = map (λ (pair : Dim × Slab). reco
 unfoldable pub cut_parts : List Clause → Decl → List Array
 cut_parts clauses decl = filter_map (λ (numbered : ℕ × Array). option_map (λ (slabs : List Slab). cut_array slabs numbered.1) (slabs_of clauses decl numbered.0)) (enumerate_from 0 (parts_of decl))
 
--- whether something of a declaration is sent: some clause picks it, or there is no clause
+-- whether something of a declaration is sent: some clause picks it or a part of it
 unfoldable pub is_sent : List Clause → Decl → Bool
-is_sent [] decl = true
-is_sent (clause ∷ clauses) decl = list_any (λ (each : Clause). is_picked (picked_by decl each.path)) (clause ∷ clauses)
+is_sent clauses decl = list_any (λ (each : Clause). is_picked (picked_by decl each.path)) (clauses_for clauses decl)
 
--- whether all of a declaration is sent, so that a Grid stays one
+-- whether some clause picks all of a declaration, so that a Grid stays one
 unfoldable pub is_kept : List Clause → Decl → Bool
-is_kept [] decl = true
-is_kept (clause ∷ clauses) decl = list_any (λ (each : Clause). is_every (picked_by decl each.path)) (clause ∷ clauses)
+is_kept clauses decl = list_any (λ (each : Clause). is_every (picked_by decl each.path)) (clauses_for clauses decl)
 
 -- a declaration of these parts: a Grid only where it is kept, and else a Structure
 abbrev pub rebuilt : Bool → Decl → List Array → Decl
