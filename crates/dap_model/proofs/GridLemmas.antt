@@ -15,7 +15,7 @@ use Rattle.dap_model.specs.Picking.{name_of, parts_of, part_dims, named_parts, n
 use Rattle.dap_model.specs.Projection.{slabs_of, cut_array, cut_parts, is_kept, rebuilt, decl_sent}
 use Rattle.dap_model.specs.ProjectionFacts.{NamesAlone, IsGridOf}
 use Rattle.dap_model.proofs.WholeClauseLemmas.{is_kept-all, slabs_of-all}
-use Rattle.dap_model.proofs.ListLemmas.{Has, Has-from_contains, contains_from_Has, Has-filter_map, filter_map-some}
+use Rattle.dap_model.proofs.ListLemmas.{Has, some_passes, any_passes, Has-from_contains, contains_from_Has, Has-filter_map, filter_map-some}
 
 no_items : {A : Type 0} (x : A) (xs : List A) → x ∷ xs ≡ [] → ⊥
 no_items x xs e = cc
@@ -31,7 +31,7 @@ below decl name (part ∷ []) same e = absurd (true≢false (sym e ∙ not_every
 below decl name (part ∷ next ∷ names) same e = absurd (true≢false (sym e))
 
 -- a path that picks all of a declaration is its name
-alone_if_every : (decl : Decl) (path : List (List ℕ)) → is_every (picked_by decl path) ≡ true → path ≡ name_of decl ∷ []
+pub alone_if_every : (decl : Decl) (path : List (List ℕ)) → is_every (picked_by decl path) ≡ true → path ≡ name_of decl ∷ []
 unfolding picked_by picked_part
 alone_if_every decl [] e = absurd (true≢false (sym e))
 alone_if_every decl (name ∷ names) e = elim (cases_Bool (bytes_eq (name_of decl) name)) [
@@ -42,18 +42,6 @@ alone_if_every decl (name ∷ names) e = elim (cases_Bool (bytes_eq (name_of dec
 every_if_alone : (decl : Decl) (path : List (List ℕ)) → path ≡ name_of decl ∷ [] → picked_by decl path ≡ every
 unfolding picked_by
 every_if_alone decl path same = ap (picked_by decl) same ∙ cond-true _ _ _ ((bytes_eq-Decides (name_of decl) (name_of decl)).1 refl)
-
-some_passes : {A : Type 0} (p : A → Bool) (xs : List A) → list_any p xs ≡ true → (x : A) × Has xs x × (p x ≡ true)
-some_passes p [] e = absurd (true≢false (sym e))
-some_passes p (x ∷ xs) e = elim (or_cases (p x) (list_any p xs) e) [
-  | inl first ↦ (x, inl refl, first)
-  | inr others ↦ let s = some_passes p xs others in (s.0, inr s.1, s.2)
-]
-
-any_passes : {A : Type 0} (p : A → Bool) (xs : List A) (x : A) → Has xs x → p x ≡ true → list_any p xs ≡ true
-any_passes p [] x has e = absurd has
-any_passes p (y ∷ xs) x (inl same) e = or_left (p y) (list_any p xs) (ap p same ∙ e)
-any_passes p (y ∷ xs) x (inr has) e = or_right (p y) (list_any p xs) (any_passes p xs x has e)
 
 pub kept_if_alone : (clauses : List Clause) (decl : Decl) → NamesAlone clauses (name_of decl) → is_kept clauses decl ≡ true
 unfolding is_kept

@@ -8,6 +8,8 @@ pub mod ConstraintNumbers
 pub mod ConstraintReads
 pub mod ConstraintRuns
 pub mod ConstraintStates
+pub mod FaultFactsLemmas
+pub mod FaultNameLemmas
 pub mod GridLemmas
 pub mod ListLemmas
 pub mod NumberLemmas

@@ -1,8 +1,8 @@
 -- What is in a list, by recursion on the list, and which items give it.
-use Rattle.std.proofs.Common.{◌≡◌, ◌⊎◌, ℕ, zero, suc, ◌+◌, ◌<◌, ◌≤◌, Bool, false, List, [], ◌∷◌, ◌++◌, length, get_or, slice_get, Option, Some, None, refl, sym, ap, ap₂, subst, ◌∙◌, inl, inr, arith, add-zero, map}
+use Rattle.std.proofs.Common.{◌≡◌, ◌⊎◌, ℕ, zero, suc, ◌+◌, ◌<◌, ◌≤◌, Bool, true, false, List, [], ◌∷◌, ◌++◌, length, get_or, slice_get, Option, Some, None, refl, sym, ap, ap₂, subst, ◌∙◌, inl, inr, arith, add-zero, map}
 use Rattle.std.specs.List.{Contains, enumerate_from, filter_map, flat_map, list_any, range_with_len}
 use Rattle.std.specs.Option.{option_map}
-use Rattle.std.proofs.lemmas.Bool.{or_parts, cases_eq}
+use Rattle.std.proofs.lemmas.Bool.{or_parts, or_cases, or_left, or_right, cases_eq, true≢false}
 use Rattle.std.proofs.lemmas.Option.{none-some, same_Some}
 
 -- the item is in the list
@@ -125,6 +125,19 @@ pub none_passes : {A : Type 0} (p : A → Bool) (xs : List A) (x : A) → list_a
 none_passes p [] x none has = absurd has
 none_passes p (y ∷ ys) x none (inl same) = ap p (sym same) ∙ (or_parts (p y) (list_any p ys) none).0
 none_passes p (y ∷ ys) x none (inr has) = none_passes p ys x (or_parts (p y) (list_any p ys) none).1 has
+
+-- some item passes a test
+pub some_passes : {A : Type 0} (p : A → Bool) (xs : List A) → list_any p xs ≡ true → (x : A) × Has xs x × (p x ≡ true)
+some_passes p [] e = absurd (true≢false (sym e))
+some_passes p (x ∷ xs) e = elim (or_cases (p x) (list_any p xs) e) [
+  | inl first ↦ (x, inl refl, first)
+  | inr others ↦ let s = some_passes p xs others in (s.0, inr s.1, s.2)
+]
+
+pub any_passes : {A : Type 0} (p : A → Bool) (xs : List A) (x : A) → Has xs x → p x ≡ true → list_any p xs ≡ true
+any_passes p [] x has e = absurd has
+any_passes p (y ∷ xs) x (inl same) e = or_left (p y) (list_any p xs) (ap p same ∙ e)
+any_passes p (y ∷ xs) x (inr has) e = or_right (p y) (list_any p xs) (any_passes p xs x has e)
 
 -- each item gives something
 pub filter_map-each : {A B : Type 0} (h : A → Option B) (g : A → B) (xs : List A) → ((x : A) → Has xs x → h x ≡ Some (g x)) → filter_map h xs ≡ map g xs

@@ -19,10 +19,12 @@ record PartOf (decl : Decl) (name : List ℕ) : Type 0 where
   has : Contains (named_parts decl) part
   name_is : part.name ≡ name
 
-abbrev blank : List ℕ → Array
+-- a part that stands nowhere
+abbrev pub blank : List ℕ → Array
 blank name = record { name = name; kind = Byte; dims = [] }
 
-abbrev is_named : List ℕ → Array → Bool
+-- whether a part has a name
+abbrev pub is_named : List ℕ → Array → Bool
 is_named name part = bytes_eq part.name name
 
 -- the first of some parts that has a name, where one has it

@@ -22,7 +22,7 @@ abbrev made : ℕ → ℕ → ℕ → Slab
 made start stride stop = record { start = start; stride = stride; stop = stop }
 
 -- the test on slabs decides whether they are the same
-same_slab : (slab other : Slab) → Decides (is_same_slab slab other) (slab ≡ other)
+pub same_slab : (slab other : Slab) → Decides (is_same_slab slab other) (slab ≡ other)
 same_slab slab other = (
   λ passes.
       let tests = and_parts _ _ passes in
@@ -38,11 +38,12 @@ same_slabs : (first second : List Slab) → are_other (Some first) (Some second)
 same_slabs first second e = (slice_eq-Decides same_slab first second (pointwise is_same_slab first second) refl).0 (not-false _ e)
 
 -- two clauses that give slabs to a part give the same
-agreed : (decl : Decl) (other clause : Clause) (part : ℕ) (first second : List Slab) → given_by decl other part ≡ Some first → given_by decl clause part ≡ Some second
+pub agreed : (decl : Decl) (other clause : Clause) (part : ℕ) (first second : List Slab) → given_by decl other part ≡ Some first → given_by decl clause part ≡ Some second
     → are_other (given_by decl other part) (given_by decl clause part) ≡ false → first ≡ second
 agreed decl other clause part first second a b e = same_slabs first second (sym (ap₂ are_other a b) ∙ e)
 
-no_conflict : (decl : Decl) (earlier : List Clause) (clause other : Clause) (part : ℕ) → conflict_fault decl earlier clause ≡ None → part < length (parts_of decl) → Has earlier other
+-- each earlier clause gives a part the same slabs, where there is no conflict
+pub no_conflict : (decl : Decl) (earlier : List Clause) (clause other : Clause) (part : ℕ) → conflict_fault decl earlier clause ≡ None → part < length (parts_of decl) → Has earlier other
     → are_other (given_by decl other part) (given_by decl clause part) ≡ false
 unfolding conflict_fault
 no_conflict decl earlier clause other part e within has =

@@ -51,7 +51,7 @@ in_range_fit name place (dim ∷ dims) (slab ∷ slabs) same none = elim (cases_
 ]
 
 -- no slab, or one for each dimension
-ranked : (name : List ℕ) (dims : List Dim) (slabs : List Slab) → rank_fault name dims slabs ≡ None → (length slabs ≡ 0) ⊎ (length slabs ≡ length dims)
+pub ranked : (name : List ℕ) (dims : List Dim) (slabs : List Slab) → rank_fault name dims slabs ≡ None → (length slabs ≡ 0) ⊎ (length slabs ≡ length dims)
 unfolding rank_fault
 ranked name dims slabs none = elim (cases_Bool (length slabs == 0 || length slabs == length dims)) [
   | inl t ↦ elim (or_cases _ _ t) [ inl empty ↦ inl (eqb-true _ _ empty) | inr same ↦ inr (eqb-true _ _ same) ]

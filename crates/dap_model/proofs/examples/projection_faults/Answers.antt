@@ -16,10 +16,13 @@ returns c = record {
   no_part = refl;
   part_of_an_array = refl;
   rank = refl;
+  rank_of_a_map = refl;
   past_the_end = refl;
   turned = refl;
   no_stride = refl;
+  second_slab = refl;
   range_in_a_map = refl;
   conflict = refl;
   conflict_in_a_map = refl;
+  conflict_on_a_map = refl;
 }
