@@ -50,7 +50,8 @@ none_if_empty : (slabs : List Slab) → length slabs ≡ 0 → slabs ≡ []
 none_if_empty [] e = refl
 none_if_empty (slab ∷ slabs) e = absurd (omega arith)
 
-HasRank-ranked : (name : List ℕ) (dims : List Dim) (clause : Clause) → rank_fault name dims clause.slabs ≡ None → HasRank dims clause
+HasRank-ranked : (name : List ℕ) (dims : List Dim) (clause : Clause) → rank_fault name dims clause.slabs ≡ None
+    → HasRank dims clause
 HasRank-ranked name dims clause e = elim (ranked name dims clause.slabs e) [
   | inl empty ↦ inl (none_if_empty clause.slabs empty)
   | inr same ↦ inr same
@@ -77,23 +78,26 @@ rank_fault-some name dims slabs fault e = elim (cases_Bool (length slabs == 0 ||
 ]
 
 -- one more slab within its dimension in front
-one_more_within : (dim : Dim) (dims : List Dim) (slab : Slab) (slabs : List Slab) → LiesBelow dim.size slab → LieWithin dims slabs
+one_more_within : (dim : Dim) (dims : List Dim) (slab : Slab) (slabs : List Slab) → LiesBelow dim.size slab
+    → LieWithin dims slabs
     → LieWithin (dim ∷ dims) (slab ∷ slabs)
 one_more_within dim dims slab slabs first others zero d s dim_is slab_is =
     subst (λ (other : Dim). LiesBelow other.size s) (same_Some dim d dim_is)
     (subst (LiesBelow dim.size) (same_Some slab s slab_is) first)
 one_more_within dim dims slab slabs first others (suc place) d s dim_is slab_is = others place d s dim_is slab_is
 
-range_fault-none : (name : List ℕ) (place : ℕ) (dims : List Dim) (slabs : List Slab) → range_fault name place dims slabs ≡ None → LieWithin dims slabs
+range_fault-none : (name : List ℕ) (place : ℕ) (dims : List Dim) (slabs : List Slab)
+    → range_fault name place dims slabs ≡ None → LieWithin dims slabs
 unfolding range_fault
 range_fault-none name place [] slabs e k dim slab dim_is slab_is = absurd (none-some dim dim_is)
 range_fault-none name place (first ∷ dims) [] e k dim slab dim_is slab_is = absurd (none-some slab slab_is)
-range_fault-none name place (first ∷ dims) (slab ∷ slabs) e k dim other dim_is slab_is = elim (cases_Bool (is_within first.size slab)) [
-  | inl t ↦
-      one_more_within first dims slab slabs (below_from_test first.size slab t)
-      (range_fault-none name (place + 1) dims slabs (sym (cond-true _ _ _ t) ∙ e)) k dim other dim_is slab_is
-  | inr f ↦ absurd (none-some _ (sym e ∙ cond-false _ _ _ f))
-]
+range_fault-none name place (first ∷ dims) (slab ∷ slabs) e k dim other dim_is slab_is =
+    elim (cases_Bool (is_within first.size slab)) [
+      | inl t ↦
+          one_more_within first dims slab slabs (below_from_test first.size slab t)
+          (range_fault-none name (place + 1) dims slabs (sym (cond-true _ _ _ t) ∙ e)) k dim other dim_is slab_is
+      | inr f ↦ absurd (none-some _ (sym e ∙ cond-false _ _ _ f))
+    ]
 
 -- what a fault of range says, of dimensions from this one on
 record RangeFault (name : List ℕ) (from : ℕ) (dims : List Dim) (slabs : List Slab) (fault : ProjectFault) : Type 0 where
@@ -104,7 +108,8 @@ record RangeFault (name : List ℕ) (from : ℕ) (dims : List Dim) (slabs : List
 
 within_before : (dim : Dim) (dims : List Dim) (slab : Slab) (slabs : List Slab) (place : ℕ) → LiesBelow dim.size slab
     → ((before : ℕ) (d : Dim) (s : Slab) → before < place → slice_get dims before ≡ Some d → slice_get slabs before ≡ Some s → LiesBelow d.size s)
-    → (before : ℕ) (d : Dim) (s : Slab) → before < suc place → slice_get (dim ∷ dims) before ≡ Some d → slice_get (slab ∷ slabs) before ≡ Some s → LiesBelow d.size s
+    → (before : ℕ) (d : Dim) (s : Slab) → before < suc place → slice_get (dim ∷ dims) before ≡ Some d
+    → slice_get (slab ∷ slabs) before ≡ Some s → LiesBelow d.size s
 within_before dim dims slab slabs place first others zero d s below dim_is slab_is =
     subst (λ (other : Dim). LiesBelow other.size s) (same_Some dim d dim_is)
     (subst (LiesBelow dim.size) (same_Some slab s slab_is) first)
@@ -171,7 +176,8 @@ Apart-are_other (Some first) (Some second) e = record {
 }
 
 conflict_fault-some : (decl : Decl) (earlier : List Clause) (clause : Clause) (fault : ProjectFault)
-    → conflict_fault decl earlier clause ≡ Some fault → (SlabConflict (name_of decl) ≡ fault) × Conflicts decl earlier clause
+    → conflict_fault decl earlier clause ≡ Some fault
+    → (SlabConflict (name_of decl) ≡ fault) × Conflicts decl earlier clause
 unfolding conflict_fault
 conflict_fault-some decl earlier clause fault e =
     let differs = λ (p : ℕ). list_any (λ (c : Clause). are_other (given_by decl c p) (given_by decl clause p)) earlier in
@@ -181,8 +187,7 @@ conflict_fault-some decl earlier clause fault e =
       | inl t ↦
           let part = some_passes differs numbers t in
           let other = some_passes (λ (c : Clause). are_other (given_by decl c part.0) (given_by decl clause part.0)) earlier part.2 in
-          let slabs = Apart-are_other _ _ other.2 in
-          (
+          let slabs = Apart-are_other _ _ other.2 in (
             same_Some _ _ (sym (cond-true _ _ _ t) ∙ e),
             record {
               other = other.0;
@@ -209,13 +214,15 @@ record Found (decls : List Decl) (clause : Clause) (decl : Decl) : Type 0 where
   named : IsNamedBy decls clause.path decl
   has : HasDims decl clause.path (picked_dims decl (picked_by decl clause.path))
 
-found_by : (decls : List Decl) (clause : Clause) (decl : Decl) → decl_named decls clause.path ≡ Some decl → Found decls clause decl
+found_by : (decls : List Decl) (clause : Clause) (decl : Decl) → decl_named decls clause.path ≡ Some decl
+    → Found decls clause decl
 found_by decls clause decl e =
     let named = IsNamedBy-decl_named decls clause.path decl e in
     record { named = named; has = HasDims-picked decl clause.path (picked_if_named decl clause.path named.names) }
 
 -- what the first fault on a declaration says
-decl_fault-says : (decls : List Decl) (earlier : List Clause) (clause : Clause) (decl : Decl) (fault : ProjectFault) → Found decls clause decl
+decl_fault-says : (decls : List Decl) (earlier : List Clause) (clause : Clause) (decl : Decl) (fault : ProjectFault)
+    → Found decls clause decl
     → decl_fault decl earlier clause ≡ Some fault → HasClauseFault decls earlier clause fault
 unfolding decl_fault
 decl_fault-says decls earlier clause decl fault found e =

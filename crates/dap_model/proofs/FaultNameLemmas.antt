@@ -17,9 +17,11 @@ use Rattle.dap_model.proofs.GridLemmas.{alone_if_every}
 use Rattle.dap_model.proofs.ListLemmas.{Has}
 use Rattle.dap_model.proofs.PickingLemmas.{Names-picked, picked_if_named, blank, is_named}
 
-none_in_front : (path : List (List ℕ)) (decl : Decl) (decls : List Decl) (place : ℕ) → is_picked (picked_by decl path) ≡ false
+none_in_front : (path : List (List ℕ)) (decl : Decl) (decls : List Decl) (place : ℕ)
+    → is_picked (picked_by decl path) ≡ false
     → ((before : ℕ) (other : Decl) → before < place → slice_get decls before ≡ Some other → Names other path → ⊥)
-    → (before : ℕ) (other : Decl) → before < suc place → slice_get (decl ∷ decls) before ≡ Some other → Names other path → ⊥
+    → (before : ℕ) (other : Decl) → before < suc place → slice_get (decl ∷ decls) before ≡ Some other → Names other path
+    → ⊥
 none_in_front path decl decls place unpicked none zero other below is names =
     let picked = picked_if_named decl path (subst (λ (d : Decl). Names d path) (sym (same_Some decl other is)) names) in
     true≢false (sym picked ∙ unpicked)
@@ -72,7 +74,8 @@ record PartAt (parts : List Array) (name : List ℕ) (place : ℕ) : Type 0 wher
   name_is : part.name ≡ name
   first : (before : ℕ) (other : Array) → before < place → slice_get parts before ≡ Some other → other.name ≢ name
 
-part_at : (parts : List Array) (name : List ℕ) (place : ℕ) → position (is_named name) parts ≡ Some place → PartAt parts name place
+part_at : (parts : List Array) (name : List ℕ) (place : ℕ) → position (is_named name) parts ≡ Some place
+    → PartAt parts name place
 part_at parts name place e =
     let count = position_or_len (is_named name) parts in
     elim (cases_lt count (length parts)) [
@@ -110,7 +113,8 @@ only_below decl [] place e = absurd cc
 only_below decl (name ∷ []) place e = (name, refl, same_place _ place e)
 only_below decl (name ∷ next ∷ names) place e = absurd cc
 
-only_part : (decl : Decl) (path : List (List ℕ)) (place : ℕ) → picked_by decl path ≡ only place → OnlyPart decl path place
+only_part : (decl : Decl) (path : List (List ℕ)) (place : ℕ) → picked_by decl path ≡ only place
+    → OnlyPart decl path place
 unfolding picked_by
 only_part decl [] place e = absurd cc
 only_part decl (name ∷ names) place e = elim (cases_Bool (bytes_eq (name_of decl) name)) [
@@ -125,10 +129,13 @@ only_part decl (name ∷ names) place e = elim (cases_Bool (bytes_eq (name_of de
   | inr f ↦ let none : nothing ≡ only place = sym (cond-false _ _ _ f) ∙ e in absurd cc
 ]
 
-dims_of_part : (decl : Decl) (place : ℕ) (part : Array) → slice_get (named_parts decl) place ≡ Some part → part_dims decl place ≡ part.dims
+dims_of_part : (decl : Decl) (place : ℕ) (part : Array) → slice_get (named_parts decl) place ≡ Some part
+    → part_dims decl place ≡ part.dims
 dims_of_part (Plain array) place part e = absurd (none-some part e)
-dims_of_part (Grid name array maps) place part e = ap (λ (o : Option Array). option_map_or (λ (a : Array). a.dims) o []) e
-dims_of_part (Structure name members) place part e = ap (λ (o : Option Array). option_map_or (λ (a : Array). a.dims) o []) e
+dims_of_part (Grid name array maps) place part e =
+    ap (λ (o : Option Array). option_map_or (λ (a : Array). a.dims) o []) e
+dims_of_part (Structure name members) place part e =
+    ap (λ (o : Option Array). option_map_or (λ (a : Array). a.dims) o []) e
 
 -- the dimensions of what is picked are those of what the path names
 pub HasDims-picked : (decl : Decl) (path : List (List ℕ)) → is_picked (picked_by decl path) ≡ true
@@ -144,6 +151,6 @@ HasDims-picked decl path picked = go (picked_by decl path) refl picked where
         at.part,
         s.path_is ∙ ap (λ (n : List ℕ). name_of decl ∷ n ∷ []) (sym at.name_is),
         subst (λ (n : List ℕ). IsPartNamed (named_parts decl) n at.part) (sym at.name_is)
-        (record { place = place; part_is = at.part_is; name_is = at.name_is; first = at.first }),
+            (record { place = place; part_is = at.part_is; name_is = at.name_is; first = at.first }),
         dims_of_part decl place at.part at.part_is,
       )

@@ -28,4 +28,4 @@ pub mod SlabLemmas
 pub mod TextsLemmas
 pub mod WholeClauseLemmas
 pub mod XdrLemmas
-pub mod XdrTellLemmas
+pub mod XdrUniqueLemmas

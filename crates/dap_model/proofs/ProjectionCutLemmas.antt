@@ -13,15 +13,16 @@ use Rattle.dap_model.specs.declared.projection.Slab.{Slab}
 use Rattle.dap_model.specs.Box.{slab_count}
 use Rattle.dap_model.specs.Picking.{parts_of, picked_by, is_picked}
 use Rattle.dap_model.specs.Projection.{slabs_of, sent_of, cut_array, cut_parts, is_sent, is_kept, rebuilt, decl_sent, all_sent}
-use Rattle.dap_model.specs.ProjectionFacts.{IsCut, lengths_of}
+use Rattle.dap_model.specs.ProjectionFacts.{IsCut, array_lengths}
 use Rattle.dap_model.proofs.WholeClauseLemmas.{is_sent-all}
 use Rattle.dap_model.proofs.ListLemmas.{Has, Source-filter_map, filter_map-some, filter_map-none, none_passes, cases_Option, mapped_some}
 use Rattle.dap_model.proofs.ProjectionAgreeLemmas.{picked_if_given, given-slabs_of}
 
 -- each slab leaves its count
-pub lengths_of-cut_array : (slabs : List Slab) (array : Array) → length slabs ≡ length array.dims → lengths_of (cut_array slabs array) ≡ map slab_count slabs
+pub array_lengths-cut_array : (slabs : List Slab) (array : Array) → length slabs ≡ length array.dims
+    → array_lengths (cut_array slabs array) ≡ map slab_count slabs
 unfolding cut_array
-lengths_of-cut_array slabs array same = go array.dims slabs same where
+array_lengths-cut_array slabs array same = go array.dims slabs same where
   go : (dims : List Dim) (each : List Slab) → length each ≡ length dims
       → map (λ (dim : Dim). dim.size) (map (λ (pair : Dim × Slab). record pair.0 { size = slab_count pair.1 }) (zip dims each)) ≡ map slab_count each
   go [] [] e = refl
@@ -29,7 +30,8 @@ lengths_of-cut_array slabs array same = go array.dims slabs same where
   go (dim ∷ dims) [] e = absurd (omega arith)
   go (dim ∷ dims) (slab ∷ each) e = ap (λ (l : List ℕ). slab_count slab ∷ l) (go dims each (omega arith))
 
-AllZip-append : {A B : Type 0} (R : A → B → Type 0) (a c : List A) (b d : List B) → AllZip R a b → AllZip R c d → AllZip R (a ++ c) (b ++ d)
+AllZip-append : {A B : Type 0} (R : A → B → Type 0) (a c : List A) (b d : List B) → AllZip R a b → AllZip R c d
+    → AllZip R (a ++ c) (b ++ d)
 AllZip-append R [] c [] d first second = second
 AllZip-append R [] c (y ∷ b) d first second = absurd first
 AllZip-append R (x ∷ a) c [] d first second = absurd first
@@ -69,7 +71,8 @@ abbrev marked : ℕ → ℕ → List Slab → Sent
 marked decl part slabs = record { decl = decl; part = part; slabs = slabs }
 
 -- the parts of one declaration
-parts_cut : (decls : List Decl) (clauses : List Clause) (place : ℕ) (decl : Decl) → slice_get decls place ≡ Some decl → AllZip (IsCut decls) (cut_parts clauses decl) (sent_of clauses (place, decl))
+parts_cut : (decls : List Decl) (clauses : List Clause) (place : ℕ) (decl : Decl) → slice_get decls place ≡ Some decl
+    → AllZip (IsCut decls) (cut_parts clauses decl) (sent_of clauses (place, decl))
 unfolding cut_parts sent_of
 parts_cut decls clauses place decl is =
     paired (IsCut decls) (slabs_of clauses decl) cut_array (marked place) 0 (parts_of decl)
@@ -81,7 +84,8 @@ plain_parts : (clauses : List Clause) (array : Array) (o : Option (List Slab))
 plain_parts clauses array None = refl
 plain_parts clauses array (Some slabs) = refl
 
-grid_parts : (kept : Bool) (name : List ℕ) (array : Array) (maps parts : List Array) → parts_of (rebuilt kept (Grid name array maps) parts) ≡ parts
+grid_parts : (kept : Bool) (name : List ℕ) (array : Array) (maps parts : List Array)
+    → parts_of (rebuilt kept (Grid name array maps) parts) ≡ parts
 grid_parts true name array maps [] = refl
 grid_parts true name array maps (part ∷ parts) = refl
 grid_parts false name array maps [] = refl
@@ -91,11 +95,13 @@ grid_parts false name array maps (part ∷ parts) = refl
 parts_of-sent : (clauses : List Clause) (decl : Decl) → parts_of (decl_sent clauses decl) ≡ cut_parts clauses decl
 unfolding decl_sent cut_parts
 parts_of-sent clauses (Plain array) = plain_parts clauses array (slabs_of clauses (Plain array) 0)
-parts_of-sent clauses (Grid name array maps) = grid_parts (is_kept clauses (Grid name array maps)) name array maps (cut_parts clauses (Grid name array maps))
+parts_of-sent clauses (Grid name array maps) =
+    grid_parts (is_kept clauses (Grid name array maps)) name array maps (cut_parts clauses (Grid name array maps))
 parts_of-sent clauses (Structure name members) = refl
 
 -- a declaration that no clause names has no part that is sent
-none_sent : (clauses : List Clause) (place : ℕ) (decl : Decl) → is_sent clauses decl ≡ false → sent_of clauses (place, decl) ≡ []
+none_sent : (clauses : List Clause) (place : ℕ) (decl : Decl) → is_sent clauses decl ≡ false
+    → sent_of clauses (place, decl) ≡ []
 unfolding is_sent sent_of
 none_sent [] place decl e = absurd (true≢false (sym (is_sent-all decl) ∙ e))
 none_sent (x ∷ clauses) place decl e = nil_from_none (sent_of (x ∷ clauses) (place, decl)) (λ sent has.
@@ -105,7 +111,8 @@ none_sent (x ∷ clauses) place decl e = nil_from_none (sent_of (x ∷ clauses) 
     let picked = picked_if_given decl given.0 s.item slabs.0 given.2 in
     true≢false (sym picked ∙ none_passes (λ (each : Clause). is_picked (picked_by decl each.path)) (x ∷ clauses) given.0 e given.1))
 
-cut_from : (decls : List Decl) (clauses : List Clause) (n : ℕ) (rest : List Decl) → ((k : ℕ) (decl : Decl) → slice_get rest k ≡ Some decl → slice_get decls (n + k) ≡ Some decl)
+cut_from : (decls : List Decl) (clauses : List Clause) (n : ℕ) (rest : List Decl)
+    → ((k : ℕ) (decl : Decl) → slice_get rest k ≡ Some decl → slice_get decls (n + k) ≡ Some decl)
     → AllZip (IsCut decls) (flat_map parts_of (map (decl_sent clauses) (filter (is_sent clauses) rest))) (flat_map (sent_of clauses) (enumerate_from n rest))
 cut_from decls clauses n [] each = tt
 cut_from decls clauses n (decl ∷ rest) each =
@@ -124,6 +131,7 @@ cut_from decls clauses n (decl ∷ rest) each =
     ]
 
 -- the arrays of the declarations that are sent are the parts that are sent
-pub cut_sent : (decls : List Decl) (clauses : List Clause) → AllZip (IsCut decls) (flat_map parts_of (all_sent decls clauses).decls) (all_sent decls clauses).sent
+pub cut_sent : (decls : List Decl) (clauses : List Clause)
+    → AllZip (IsCut decls) (flat_map parts_of (all_sent decls clauses).decls) (all_sent decls clauses).sent
 unfolding all_sent
 cut_sent decls clauses = cut_from decls clauses 0 decls (λ k decl is. ap (slice_get decls) (zero-add k) ∙ is)

@@ -33,7 +33,8 @@ record SentOf (clauses : List Clause) (placed : ℕ × Decl) (sent : Sent) : Typ
 abbrev made : ℕ → ℕ → List Slab → Sent
 made decl part slabs = record { decl = decl; part = part; slabs = slabs }
 
-SentOf-sent_of : (clauses : List Clause) (placed : ℕ × Decl) (sent : Sent) → Has (sent_of clauses placed) sent → SentOf clauses placed sent
+SentOf-sent_of : (clauses : List Clause) (placed : ℕ × Decl) (sent : Sent) → Has (sent_of clauses placed) sent
+    → SentOf clauses placed sent
 unfolding sent_of
 SentOf-sent_of clauses placed sent has =
     let numbers = range_with_len 0 (length (parts_of placed.1)) in
@@ -47,14 +48,16 @@ SentOf-sent_of clauses placed sent has =
       slabs_are = ap (slabs_of clauses placed.1) (sym part) ∙ slabs.1 ∙ ap Some (ap (λ (t : Sent). t.slabs) slabs.2);
     }
 
-Has-sent_of : (clauses : List Clause) (placed : ℕ × Decl) (sent : Sent) → SentOf clauses placed sent → Has (sent_of clauses placed) sent
+Has-sent_of : (clauses : List Clause) (placed : ℕ × Decl) (sent : Sent) → SentOf clauses placed sent
+    → Has (sent_of clauses placed) sent
 unfolding sent_of
 Has-sent_of clauses placed sent s =
     Has-filter_map (λ (part : ℕ). option_map (made placed.0 part) (slabs_of clauses placed.1 part)) (range_with_len 0 (length (parts_of placed.1))) sent.part sent
     (Has-range 0 (length (parts_of placed.1)) sent.part (omega arith) (omega (arith, s.within)))
     (ap (option_map (made placed.0 sent.part)) s.slabs_are ∙ ap (λ (place : ℕ). Some (made place sent.part sent.slabs)) (sym s.place_is))
 
-pub PartSent-all_sent : (decls : List Decl) (clauses : List Clause) (sent : Sent) → Has (all_sent decls clauses).sent sent → PartSent decls clauses sent
+pub PartSent-all_sent : (decls : List Decl) (clauses : List Clause) (sent : Sent)
+    → Has (all_sent decls clauses).sent sent → PartSent decls clauses sent
 unfolding all_sent
 PartSent-all_sent decls clauses sent has =
     let s = Source-flat_map (sent_of clauses) (enumerate_from 0 decls) sent has in
@@ -63,7 +66,8 @@ PartSent-all_sent decls clauses sent has =
     let place : sent.decl ≡ numbered.0 = omega (arith, t.place_is, numbered.1) in
     record { decl = s.item.1; decl_is = ap (slice_get decls) place ∙ numbered.2; within = t.within; slabs_are = t.slabs_are }
 
-pub Has-all_sent : (decls : List Decl) (clauses : List Clause) (sent : Sent) → PartSent decls clauses sent → Has (all_sent decls clauses).sent sent
+pub Has-all_sent : (decls : List Decl) (clauses : List Clause) (sent : Sent) → PartSent decls clauses sent
+    → Has (all_sent decls clauses).sent sent
 unfolding all_sent
 Has-all_sent decls clauses sent s =
     Has-flat_map (sent_of clauses) (enumerate_from 0 decls) (sent.decl, s.decl) sent
@@ -88,7 +92,8 @@ whole_sent decls sent = (
 )
 
 -- what is sent for clauses without a fault is each part that some clause names
-pub asked_sent : (decls : List Decl) (clauses : List Clause) (sent : Sent) → clauses ≢ [] → AreNamedApart decls → Faultless decls [] clauses → PartSent decls clauses sent ↔ IsAsked decls clauses sent
+pub asked_sent : (decls : List Decl) (clauses : List Clause) (sent : Sent) → clauses ≢ [] → AreNamedApart decls
+    → Faultless decls [] clauses → PartSent decls clauses sent ↔ IsAsked decls clauses sent
 asked_sent decls [] sent some apart none = absurd (some refl)
 asked_sent decls (x ∷ clauses) sent some apart none = (
   λ s.
@@ -98,7 +103,8 @@ asked_sent decls (x ∷ clauses) sent some apart none = (
     decl = s.decl;
     decl_is = s.decl_is;
     within = s.within;
-    slabs_are = slabs_of-given decls (x ∷ clauses) s.decl s.clause sent.part sent.slabs apart (Has-slice_get decls sent.decl s.decl s.decl_is) s.within none
+    slabs_are =
+        slabs_of-given decls (x ∷ clauses) s.decl s.clause sent.part sent.slabs apart (Has-slice_get decls sent.decl s.decl s.decl_is) s.within none
         (Has-from_contains (x ∷ clauses) s.clause s.clause_is) s.slabs_are;
   },
 )
@@ -125,7 +131,8 @@ record SoundAt (decl : Decl) (clause : Clause) : Type 0 where
   sound : Sound decl earlier clause
 
 sound_at : (decls : List Decl) (earlier clauses : List Clause) (decl : Decl) (clause : Clause) (part : ℕ) (slabs : List Slab) → Ordered (λ (a b : Decl). name_of a ≢ name_of b) decls → Has decls decl
-    → Faultless decls earlier clauses → Has clauses clause → given_by decl clause part ≡ Some slabs → SoundAt decl clause
+    → Faultless decls earlier clauses → Has clauses clause → given_by decl clause part ≡ Some slabs
+    → SoundAt decl clause
 sound_at decls earlier [] decl clause part slabs apart has none after given = absurd after
 sound_at decls earlier (x ∷ clauses) decl clause part slabs apart has none (inl same) given =
     let first = (Faultless-first decls earlier x clauses none).0 in
@@ -135,7 +142,8 @@ sound_at decls earlier (x ∷ clauses) decl clause part slabs apart has none (in
     sound_at decls (earlier ++ x ∷ []) clauses decl clause part slabs apart has (Faultless-first decls earlier x clauses none).1 after given
 
 -- the slabs of a part that is sent fit it
-pub FitsPart-sent : (decls : List Decl) (clauses : List Clause) (sent : Sent) → AreNamedApart decls → All IsGridded decls → Faultless decls [] clauses → PartSent decls clauses sent → FitsPart decls sent
+pub FitsPart-sent : (decls : List Decl) (clauses : List Clause) (sent : Sent) → AreNamedApart decls
+    → All IsGridded decls → Faultless decls [] clauses → PartSent decls clauses sent → FitsPart decls sent
 FitsPart-sent decls [] sent apart gridded none s =
     let whole = (whole_sent decls sent).0 s in
     record { decl = whole.decl; decl_is = whole.decl_is; fits = subst (AllZip FitsDim (part_dims whole.decl sent.part)) (sym whole.slabs_are) (whole_slabs-fit (part_dims whole.decl sent.part)) }
@@ -146,5 +154,6 @@ FitsPart-sent decls (x ∷ clauses) sent apart gridded none s =
     record {
       decl = s.decl;
       decl_is = s.decl_is;
-      fits = given-fit s.decl at.earlier given.0 sent.part sent.slabs (All-contains IsGridded decls s.decl gridded (contains_from_Has decls s.decl has)) s.within at.sound given.2;
+      fits =
+          given-fit s.decl at.earlier given.0 sent.part sent.slabs (All-contains IsGridded decls s.decl gridded (contains_from_Has decls s.decl has)) s.within at.sound given.2;
     }

@@ -16,10 +16,12 @@ use Rattle.dap_model.proofs.SlabLemmas.{slab_count-whole}
 use Rattle.dap_model.proofs.WholeClauseLemmas.{is_sent-all, is_kept-all, slabs_of-all}
 use Rattle.dap_model.proofs.ListLemmas.{Has, slice_get-numbered, filter_map-each, items-numbered, map-same, map-map}
 
-whole_cut : (dims : List Dim) → map (λ (pair : Dim × Slab). record pair.0 { size = slab_count pair.1 }) (zip dims (whole_slabs dims)) ≡ dims
+whole_cut : (dims : List Dim)
+    → map (λ (pair : Dim × Slab). record pair.0 { size = slab_count pair.1 }) (zip dims (whole_slabs dims)) ≡ dims
 unfolding whole_slabs
 whole_cut [] = refl
-whole_cut (dim ∷ dims) = ap₂ (λ (n : ℕ) (l : List Dim). record dim { size = n } ∷ l) (slab_count-whole dim.size) (whole_cut dims)
+whole_cut (dim ∷ dims) =
+    ap₂ (λ (n : ℕ) (l : List Dim). record dim { size = n } ∷ l) (slab_count-whole dim.size) (whole_cut dims)
 
 -- whole slabs leave an array as it is
 cut_array-whole : (array : Array) → cut_array (whole_slabs array.dims) array ≡ array
@@ -72,7 +74,8 @@ unfolding cut_array
 plain_name clauses array None e = refl
 plain_name clauses array (Some slabs) e = refl
 
-grid_name : (kept : Bool) (name : List ℕ) (array : Array) (maps parts : List Array) → name_of (rebuilt kept (Grid name array maps) parts) ≡ name
+grid_name : (kept : Bool) (name : List ℕ) (array : Array) (maps parts : List Array)
+    → name_of (rebuilt kept (Grid name array maps) parts) ≡ name
 grid_name true name array maps [] = refl
 grid_name true name array maps (part ∷ parts) = refl
 grid_name false name array maps [] = refl
@@ -82,10 +85,13 @@ grid_name false name array maps (part ∷ parts) = refl
 pub name_of-sent : (clauses : List Clause) (decl : Decl) → name_of (decl_sent clauses decl) ≡ name_of decl
 unfolding decl_sent cut_parts
 name_of-sent clauses (Plain array) = plain_name clauses array (slabs_of clauses (Plain array) 0) refl
-name_of-sent clauses (Grid name array maps) = grid_name (is_kept clauses (Grid name array maps)) name array maps (cut_parts clauses (Grid name array maps))
+name_of-sent clauses (Grid name array maps) =
+    grid_name (is_kept clauses (Grid name array maps)) name array maps (cut_parts clauses (Grid name array maps))
 name_of-sent clauses (Structure name members) = refl
 
 -- declarations are sent in their order
-pub names_sent : (decls : List Decl) (clauses : List Clause) → map name_of (all_sent decls clauses).decls ≡ map name_of (filter (is_sent clauses) decls)
+pub names_sent : (decls : List Decl) (clauses : List Clause)
+    → map name_of (all_sent decls clauses).decls ≡ map name_of (filter (is_sent clauses) decls)
 unfolding all_sent
-names_sent decls clauses = map-map name_of (decl_sent clauses) name_of (filter (is_sent clauses) decls) (name_of-sent clauses)
+names_sent decls clauses =
+    map-map name_of (decl_sent clauses) name_of (filter (is_sent clauses) decls) (name_of-sent clauses)

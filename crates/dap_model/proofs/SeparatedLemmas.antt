@@ -15,7 +15,8 @@ Followed byte S text items = Spelled (Ended byte S) text items
 
 pub Spelled-push : {A : Type 0} (S : List ℕ → A → Type 0) (front last : List ℕ) (items : List A) (item : A)
     → Spelled S front items → S last item → Spelled S (front ++ last) (items ++ item ∷ [])
-Spelled-push S front last [] item none s = (last, [], s, refl, ap (λ (l : List ℕ). l ++ last) none ∙ sym (append-nil last))
+Spelled-push S front last [] item none s =
+    (last, [], s, refl, ap (λ (l : List ℕ). l ++ last) none ∙ sym (append-nil last))
 Spelled-push S front last (x ∷ items) item each s = (
   each.0,
   each.1 ++ last,

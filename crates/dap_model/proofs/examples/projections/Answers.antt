@@ -1,4 +1,4 @@
--- The equations hold by computing.
+-- These parts are sent for the example constraints, by computing.
 use Rattle.std.proofs.Common.{refl}
 use Rattle.dap_model.specs.Box.{slab_count, whole_slab}
 use Rattle.fm_base.specs.Name.{is_name_byte}

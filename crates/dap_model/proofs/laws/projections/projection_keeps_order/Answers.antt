@@ -1,4 +1,4 @@
--- Each list is made in the dataset's order.
+-- Declarations and parts are sent in the dataset's order.
 use Rattle.std.proofs.Common.{List, ◌∙◌, ap, map, subst, sym}
 use Rattle.dap_model.specs.declared.projection.Projected.{Projected}
 use Rattle.dap_model.specs.declared.projection.Sent.{Sent}

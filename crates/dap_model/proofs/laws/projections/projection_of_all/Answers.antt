@@ -1,4 +1,4 @@
--- Whole slabs leave the lengths as they are.
+-- Without a clause, declarations are sent as they stand and each part whole.
 use Rattle.std.proofs.Common.{[], List, ◌∙◌, ap, subst, sym}
 use Rattle.dap_model.specs.declared.projection.Projected.{Projected}
 use Rattle.dap_model.specs.declared.projection.Sent.{Sent}

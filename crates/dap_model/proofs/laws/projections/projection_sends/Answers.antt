@@ -1,4 +1,4 @@
--- The slabs of a part are those of each clause that names it.
+-- With clauses, exactly the parts are sent that some clause names, with its slabs.
 use Rattle.std.proofs.Common.{List, ap, subst, sym}
 use Rattle.dap_model.specs.declared.projection.Projected.{Projected}
 use Rattle.dap_model.specs.declared.projection.Sent.{Sent}

@@ -1,4 +1,4 @@
--- A part is an array of the numbers at its places.
+-- The values of a part are an array of the numbers at its places.
 use Rattle.std.proofs.Common.{◌+◌, ◌*◌, ◌<◌, ◌∙◌, ap, length, map, subst, sym, slice_get}
 use Rattle.dap_model.specs.Box.{box_of}
 use Rattle.dap_model.specs.Xdr.{element_bytes, element_len, elements_len}
