@@ -26,7 +26,8 @@ get_or-rows : (firsts : List ℕ) (box : List (List ℕ)) (q r : ℕ) (d : List 
 get_or-rows [] box q r d within below = absurd (omega arith)
 get_or-rows (i ∷ firsts) box zero r d within below =
     let row = map (λ (index : List ℕ). i ∷ index) box in
-    let short : r < length row = subst (λ (n : ℕ). r < n) (sym (length-map box (λ (index : List ℕ). i ∷ index))) below in
+    let short : r < length row =
+    subst (λ (n : ℕ). r < n) (sym (length-map box (λ (index : List ℕ). i ∷ index))) below in
     ap (λ (n : ℕ). get_or (row ++ rows firsts box) n d) (omega arith)
     ∙ get_or_append_left row (rows firsts box) d r short
     ∙ get_or-map (λ (index : List ℕ). i ∷ index) box r [] d below
@@ -79,13 +80,16 @@ get_or-box_of (slab ∷ slabs) place d within =
     let split = split_of (slab_count slab) width place within in
     let count = length-box_of slabs in
     let many = length-slab_indices slab in
-    let first : place / width < length (slab_indices slab) = subst (λ (n : ℕ). place / width < n) (sym many) split.first in
-    let second : place % width < length (box_of slabs) = subst (λ (n : ℕ). place % width < n) (sym count) split.second in
+    let first : place / width < length (slab_indices slab) =
+    subst (λ (n : ℕ). place / width < n) (sym many) split.first in
+    let second : place % width < length (box_of slabs) =
+    subst (λ (n : ℕ). place % width < n) (sym count) split.second in
     let at : place ≡ place / width * length (box_of slabs) + place % width = sym split.whole
     ∙ ap (λ (n : ℕ). place / width * n + place % width) (sym count) in
     ap (λ (n : ℕ). get_or (rows (slab_indices slab) (box_of slabs)) n d) at
     ∙ get_or-rows (slab_indices slab) (box_of slabs) (place / width) (place % width) d first second
-    ∙ ap₂ (λ (i : ℕ) (index : List ℕ). i ∷ index) (get_or-slab_indices slab (place / width) 0 split.first) (get_or-box_of slabs (place % width) [] split.second)
+    ∙ ap₂ (λ (i : ℕ) (index : List ℕ). i ∷ index) (get_or-slab_indices slab (place / width) 0 split.first)
+    (get_or-box_of slabs (place % width) [] split.second)
 
 -- two places of a box have two index lists
 pub same_place : (slabs : List Slab) (m n : ℕ) → All HasStride slabs
@@ -99,7 +103,8 @@ same_place (slab ∷ slabs) m n some before within same =
     let heads : slab_index slab (m / width) ≡ slab_index slab (n / width) = cc in
     let tails : index_at slabs (m % width) ≡ index_at slabs (n % width) = cc in
     let quotients : m / width ≡ n / width = same_strides slab _ _ (some 0 slab (omega arith)) heads in
-    let rests : m % width ≡ n % width = same_place slabs _ _ (All-tail HasStride slab slabs some) left.second right.second tails in
+    let rests : m % width ≡ n % width =
+    same_place slabs _ _ (All-tail HasStride slab slabs some) left.second right.second tails in
     sym left.whole ∙ ap₂ (λ (q r : ℕ). q * width + r) quotients rests ∙ right.whole
 
 -- the index list at a place is picked
@@ -108,8 +113,11 @@ pub EachPicks-index_at : (slabs : List Slab) (place : ℕ) → All HasStride sla
 unfolding box_len index_at product
 EachPicks-index_at [] place some within = tt
 EachPicks-index_at (slab ∷ slabs) place some within =
-    let split = split_of (slab_count slab) (box_len slabs) place within in
-    (Picks-slab_index slab _ (some 0 slab (omega arith)) split.first, EachPicks-index_at slabs _ (All-tail HasStride slab slabs some) split.second)
+    let split = split_of (slab_count slab) (box_len slabs) place within in (
+      Picks-slab_index slab _ (some 0 slab (omega arith)) split.first,
+      EachPicks-index_at slabs _
+          (All-tail HasStride slab slabs some) split.second,
+    )
 
 -- the place of an index list that is picked
 pub record Placed (slabs : List Slab) (index : List ℕ) : Type 0 where
@@ -129,7 +137,9 @@ placed_of (slab ∷ slabs) (i ∷ index) some picks =
     record {
       place = picks.0.strides * box_len slabs + others.place;
       within =
-          subst (λ (n : ℕ). picks.0.strides * box_len slabs + others.place < n) (mul_comm (box_len slabs) (slab_count slab)) (mul-add-lt picks.0.strides (box_len slabs) others.place (slab_count slab) first others.within);
+          subst (λ (n : ℕ). picks.0.strides * box_len slabs + others.place < n)
+          (mul_comm (box_len slabs) (slab_count slab))
+          (mul-add-lt picks.0.strides (box_len slabs) others.place (slab_count slab) first others.within);
       index_is = index_at-cons slab slabs picks.0.strides others.place others.within
           ∙ ap₂ (λ (n : ℕ) (l : List ℕ). n ∷ l) (sym picks.0.whole) others.index_is;
     }
@@ -140,10 +150,16 @@ pub Contains-box_of : (slabs : List Slab) (index : List ℕ) → All HasStride s
 Contains-box_of slabs index some = (
   λ found.
       let within : found.0 < box_len slabs = subst (λ (n : ℕ). found.0 < n) (length-box_of slabs) found.1 in
-      subst (EachPicks slabs) (sym (get_or-box_of slabs found.0 index within) ∙ found.2) (EachPicks-index_at slabs found.0 some within),
+      subst (EachPicks slabs) (sym (get_or-box_of slabs found.0 index within) ∙ found.2)
+      (EachPicks-index_at slabs found.0 some within),
   λ picks.
-      let placed = placed_of slabs index some picks in
-      (placed.place, subst (λ (n : ℕ). placed.place < n) (sym (length-box_of slabs)) placed.within, get_or-box_of slabs placed.place index placed.within ∙ placed.index_is),
+      let placed = placed_of slabs index some picks in (
+        placed.place,
+        subst (λ (n : ℕ). placed.place < n)
+            (sym (length-box_of slabs)) placed.within,
+        get_or-box_of slabs placed.place index placed.within
+            ∙ placed.index_is,
+      ),
 )
 
 -- the box of whole slabs is all index lists of the shape

@@ -39,7 +39,8 @@ completed_number begun numbers count value few =
       last = after_slab (with_slab begun made.0);
       clauses = clauses_of (with_slab begun made.0);
       ran =
-          run-cons (in_number begun numbers count value) (after_slab (with_slab begun made.0)) 93 [] (ap (option_map (λ (s : Slab). after_slab (with_slab begun s))) made.1);
+          run-cons (in_number begun numbers count value) (after_slab (with_slab begun made.0)) 93 []
+          (ap (option_map (λ (s : Slab). after_slab (with_slab begun s))) made.1);
       ends = refl;
     }
 
@@ -47,9 +48,23 @@ completed : (text : List ℕ) (state : State) → Leads text state → Completed
 unfolding run step step_to_name clauses_at is_name_byte
 completed text front leads = record { rest = []; last = front; clauses = []; ran = refl; ends = refl }
 completed text (before_name begun) leads =
-    record { rest = 97 ∷ []; last = in_name begun (97 ∷ []); clauses = clauses_of (with_name begun (97 ∷ [])); ran = refl; ends = refl }
+    record {
+      rest = 97 ∷ [];
+      last = in_name begun (97 ∷ []);
+      clauses = clauses_of
+          (with_name begun (97 ∷ []));
+      ran = refl;
+      ends = refl;
+    }
 completed text (in_name begun name) leads =
-    record { rest = []; last = in_name begun name; clauses = clauses_of (with_name begun name); ran = refl; ends = refl }
+    record {
+      rest = [];
+      last = in_name begun name;
+      clauses = clauses_of
+          (with_name begun name);
+      ran = refl;
+      ends = refl;
+    }
 completed text (before_number begun numbers) leads =
     let more = completed_number begun numbers 1 0 leads.few in
     record {
@@ -98,5 +113,6 @@ dead_end text dies more longer begins =
     let reads = Reads-constraint (take more text ++ begins.rest) begins.clauses begins.spelled in
     none-some reads.last
     (sym (ap (run front) (cut text dies.place more dies.byte begins.rest dies.here longer)
-    ∙ stays_dead front dies.last (take dies.place text) (drop (suc dies.place) (take more text) ++ begins.rest) dies.byte dies.ran dies.dead)
+    ∙ stays_dead front dies.last (take dies.place text)
+    (drop (suc dies.place) (take more text) ++ begins.rest) dies.byte dies.ran dies.dead)
     ∙ reads.ran)

@@ -44,7 +44,8 @@ pub goes-text : (state : State) (text : List ℕ) → goes state text
 unfolding run
 goes-text state [] = inl (record { last = state; ran = refl })
 goes-text state (byte ∷ text) = elim (cases_Option (step state byte)) [
-  | inl dead ↦ inr (record { place = 0; last = state; byte = byte; within = omega arith; ran = refl; here = refl; dead = dead })
+  | inl dead ↦
+      inr (record { place = 0; last = state; byte = byte; within = omega arith; ran = refl; here = refl; dead = dead })
   | inr took ↦ goes_on state took.0 byte text took.1 (goes-text took.0 text)
 ]
 
@@ -56,7 +57,8 @@ read_from-lives state last at [] ran =
     ap₂ (λ (n : ℕ) (s : State). ended_at n (clauses_at s)) (omega arith) (same_Some state last ran)
 read_from-lives state last at (byte ∷ text) ran =
     option_and_then_some (λ (next : State). run next text) (step state byte) last ran
-    (λ next took e. ap (λ (o : Option State). option_map_or (λ (s : State). read_from s (at + 1) text) o (Err (fault_at state at byte))) took
+    (λ next took e. ap (λ (o : Option State). option_map_or (λ (s : State). read_from s (at + 1) text) o
+    (Err (fault_at state at byte))) took
     ∙ read_from-lives next last (at + 1) text e
     ∙ ap (λ (n : ℕ). ended_at n (clauses_at last)) (omega arith))
 
@@ -69,13 +71,15 @@ read_from-dies state last at place byte [] ran here dead = absurd (none-some byt
 read_from-dies state last at zero byte (first ∷ text) ran here dead =
     let same = same_Some state last ran in
     let byte_is = same_Some first byte here in
-    ap (λ (o : Option State). option_map_or (λ (s : State). read_from s (at + 1) text) o (Err (fault_at state at first)))
+    ap (λ (o : Option State). option_map_or (λ (s : State). read_from s (at + 1) text) o
+    (Err (fault_at state at first)))
     (ap₂ (λ (s : State) (b : ℕ). step s b) same byte_is ∙ dead)
     ∙ ap₂ (λ (s : State) (b : ℕ). Err (fault_at s at b)) same byte_is
     ∙ ap (λ (n : ℕ). Err (fault_at last n byte)) (omega arith)
 read_from-dies state last at (suc place) byte (first ∷ text) ran here dead =
     option_and_then_some (λ (next : State). run next (take place text)) (step state first) last ran
-    (λ next took e. ap (λ (o : Option State). option_map_or (λ (s : State). read_from s (at + 1) text) o (Err (fault_at state at first))) took
+    (λ next took e. ap (λ (o : Option State). option_map_or (λ (s : State). read_from s (at + 1) text) o
+    (Err (fault_at state at first))) took
     ∙ read_from-dies next last (at + 1) place byte text e here dead
     ∙ ap (λ (n : ℕ). Err (fault_at last n byte)) (omega arith))
 
@@ -84,7 +88,8 @@ pub Leads-run : (before : List ℕ) (state last : State) (text : List ℕ) → L
     → Leads (before ++ text) last
 unfolding run
 Leads-run before state last [] leads ran =
-    subst (λ (l : List ℕ). Leads l last) (sym (append-nil before)) (subst (Leads before) (same_Some state last ran) leads)
+    subst (λ (l : List ℕ). Leads l last) (sym (append-nil before))
+    (subst (Leads before) (same_Some state last ran) leads)
 Leads-run before state last (byte ∷ text) leads ran =
     option_and_then_some (λ (next : State). run next text) (step state byte) last ran
     (λ next took e. subst (λ (l : List ℕ). Leads l last) (append_assoc before (byte ∷ []) text)

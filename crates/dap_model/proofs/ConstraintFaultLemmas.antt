@@ -39,7 +39,8 @@ unfolding constraint_of
 constrains_from_constraint_of text clauses e = elim (goes-text front text) [
   | inl lives ↦
       Constrains-from_leads text lives.last clauses (Leads-front text lives.last lives.ran)
-      (ended_ok (0 + length text) clauses (clauses_at lives.last) (sym (read_from-lives front lives.last 0 text lives.ran) ∙ e))
+      (ended_ok (0 + length text) clauses (clauses_at lives.last)
+      (sym (read_from-lives front lives.last 0 text lives.ran) ∙ e))
   | inr dies ↦
       let other = sym (read_from-dies front dies.last 0 dies.place dies.byte text dies.ran dies.here dies.dead) ∙ e in
       absurd (cc)
@@ -117,7 +118,8 @@ marked text dies mark may =
     record {
       clauses = ends.0;
       before =
-          Constrains-from_leads (take dies.place text) dies.last ends.0 (Leads-front (take dies.place text) dies.last dies.ran) ends.1;
+          Constrains-from_leads (take dies.place text) dies.last ends.0
+          (Leads-front (take dies.place text) dies.last dies.ran) ends.1;
       mark = dies.here ∙ ap Some mark;
     }
 
@@ -130,16 +132,19 @@ unfolding constraint_of
 HasFault-constraint_of text fault e = elim (goes-text front text) [
   | inl lives ↦
       let is : fault ≡ BadConstraint (length text) =
-      ended_err (0 + length text) fault (clauses_at lives.last) (sym (read_from-lives front lives.last 0 text lives.ran) ∙ e) ∙ ap BadConstraint (zero-add (length text)) in
+      ended_err (0 + length text) fault (clauses_at lives.last)
+      (sym (read_from-lives front lives.last 0 text lives.ran) ∙ e) ∙ ap BadConstraint (zero-add (length text)) in
       subst (HasFault text) (sym is) (short text lives.last lives.ran (e ∙ ap Err is))
   | inr dies ↦
       let found : fault ≡ fault_at dies.last dies.place dies.byte =
-      same_fault fault _ (sym e ∙ read_from-dies front dies.last 0 dies.place dies.byte text dies.ran dies.here dies.dead)
+      same_fault fault _ (sym e
+      ∙ read_from-dies front dies.last 0 dies.place dies.byte text dies.ran dies.here dies.dead)
       ∙ ap (λ (n : ℕ). fault_at dies.last n dies.byte) (zero-add dies.place) in
       elim (cases_Bool (dies.byte == 38 && may_end dies.last)) [
         | inl t ↦
             let tests = and_parts (dies.byte == 38) (may_end dies.last) t in
-            subst (HasFault text) (sym (found ∙ cond-true _ _ _ t)) (marked text dies (eqb-true dies.byte 38 tests.0) tests.1)
+            subst (HasFault text) (sym (found ∙ cond-true _ _ _ t))
+            (marked text dies (eqb-true dies.byte 38 tests.0) tests.1)
         | inr f ↦
             let is = found ∙ cond-false _ _ _ f in
             subst (HasFault text) (sym is) (stuck text dies (e ∙ ap Err is))

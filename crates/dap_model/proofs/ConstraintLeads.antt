@@ -27,8 +27,11 @@ Leads-step text (after_slab begun) byte next s h = on_clause text begun byte nex
 ended : (text : List ℕ) (begun : Begun) (clauses : List Clause) → AfterClause text begun
     → Some (clauses_of begun) ≡ Some clauses → Constrains text clauses
 ended text begun clauses s same =
-    let whole = Separated-last 44 SpellsClause s.clauses_text s.clause_text begun.clauses (last_clause begun) s.clauses s.clause in
-    inr (subst (λ (l : List ℕ). Separated 44 SpellsClause l clauses) (sym s.text_is) (subst (λ (each : List Clause). Separated 44 SpellsClause (s.clauses_text ++ s.clause_text) each) (same_Some _ _ same) whole))
+    let whole =
+    Separated-last 44 SpellsClause s.clauses_text s.clause_text begun.clauses (last_clause begun) s.clauses s.clause in
+    inr (subst (λ (l : List ℕ). Separated 44 SpellsClause l clauses) (sym s.text_is)
+    (subst (λ (each : List Clause). Separated 44 SpellsClause (s.clauses_text ++ s.clause_text) each)
+    (same_Some _ _ same) whole))
 
 -- where a constraint may end, the text is one
 pub Constrains-from_leads : (text : List ℕ) (state : State) (clauses : List Clause) → Leads text state

@@ -49,7 +49,16 @@ unfolding step_on
 on_clause text begun byte next s h = choose _ _ _ next h
     (λ passes same.
     let bracket = eqb-true byte 91 passes in
-    reached _ _ next same (record { before = text; inner = []; leads = s; each = refl; few = omega arith; text_is = ap (λ (b : ℕ). text ++ b ∷ []) bracket }))
+    reached _ _ next same
+    (record {
+      before = text;
+      inner = [];
+      leads = s;
+      each = refl;
+      few = omega arith;
+      text_is = ap
+          (λ (b : ℕ). text ++ b ∷ []) bracket;
+    }))
     (λ other rest. choose _ _ _ next rest
     (λ passes same.
     let comma = eqb-true byte 44 passes in
@@ -58,7 +67,8 @@ on_clause text begun byte next s h = choose _ _ _ next h
       clauses_text = clauses ++ 44 ∷ [];
       path_text = [];
       clauses =
-          Followed-push 44 SpellsClause s.clauses_text s.clause_text begun.clauses (last_clause begun) s.clauses s.clause;
+          Followed-push 44 SpellsClause s.clauses_text s.clause_text begun.clauses
+          (last_clause begun) s.clauses s.clause;
       path = refl;
       none = refl;
       text_is = ap₂ (λ (l : List ℕ) (b : ℕ). l ++ b ∷ []) s.text_is comma ∙ sym (append-nil (clauses ++ 44 ∷ []));

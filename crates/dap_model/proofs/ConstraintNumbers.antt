@@ -69,12 +69,15 @@ closed text begun numbers count value slab s made =
             ∙ append_assoc front.clause.path_text front.clause.slabs_text slab_text;
       };
       text_is =
-          ap (λ (l : List ℕ). l ++ 93 ∷ []) (s.text_is ∙ ap (λ (l : List ℕ). l ++ s.digits) (s.leads.text_is ∙ ap (λ (l : List ℕ). l ++ 91 ∷ s.leads.inner) front.text_is))
+          ap (λ (l : List ℕ). l ++ 93 ∷ [])
+          (s.text_is ∙ ap (λ (l : List ℕ). l ++ s.digits)
+          (s.leads.text_is ∙ ap (λ (l : List ℕ). l ++ 91 ∷ s.leads.inner) front.text_is))
           ∙ simp append_assoc;
     }
 
 as_and_then : (begun : Begun) (made : Option Slab)
-    → option_and_then (λ (slab : Slab). Some (after_slab (with_slab begun slab))) made ≡ option_map (λ (slab : Slab). after_slab (with_slab begun slab)) made
+    → option_and_then (λ (slab : Slab). Some (after_slab (with_slab begun slab))) made ≡ option_map
+    (λ (slab : Slab). after_slab (with_slab begun slab)) made
 as_and_then begun None = refl
 as_and_then begun (Some slab) = refl
 
@@ -82,8 +85,10 @@ ended_slab : (text : List ℕ) (begun : Begun) (numbers : List ℕ) (count value
     → InNumber text begun numbers count value → byte ≡ 93
     → step_close begun (numbers ++ value ∷ []) ≡ Some next → Leads (text ++ byte ∷ []) next
 ended_slab text begun numbers count value byte next s bracket h =
-    option_and_then_some (λ (slab : Slab). Some (after_slab (with_slab begun slab))) (slab_of (numbers ++ value ∷ [])) next (as_and_then begun _ ∙ h)
-    (λ slab made same. subst (λ (b : ℕ). Leads (text ++ b ∷ []) next) (sym bracket) (reached _ _ next same (closed text begun numbers count value slab s made)))
+    option_and_then_some (λ (slab : Slab). Some (after_slab (with_slab begun slab)))
+    (slab_of (numbers ++ value ∷ [])) next (as_and_then begun _ ∙ h)
+    (λ slab made same. subst (λ (b : ℕ). Leads (text ++ b ∷ []) next) (sym bracket)
+    (reached _ _ next same (closed text begun numbers count value slab s made)))
 
 pub on_number : (text : List ℕ) (begun : Begun) (numbers : List ℕ) (count value byte : ℕ) (next : State)
     → InNumber text begun numbers count value
@@ -113,7 +118,8 @@ on_number text begun numbers count value byte next s h = choose _ _ _ next h
       each = Followed-push 58 SpellsNumber s.leads.inner s.digits numbers value s.leads.each s.spelled;
       few = omega (arith, length-append numbers (value ∷ []));
       text_is =
-          ap₂ (λ (l : List ℕ) (b : ℕ). l ++ b ∷ []) (s.text_is ∙ ap (λ (l : List ℕ). l ++ s.digits) s.leads.text_is) colon ∙ simp append_assoc;
+          ap₂ (λ (l : List ℕ) (b : ℕ). l ++ b ∷ [])
+          (s.text_is ∙ ap (λ (l : List ℕ). l ++ s.digits) s.leads.text_is) colon ∙ simp append_assoc;
     }))
     (λ other rest. choose _ _ _ next rest
     (λ passes same. ended_slab text begun numbers count value byte next s (eqb-true byte 93 passes) same)

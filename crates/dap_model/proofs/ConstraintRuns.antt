@@ -23,7 +23,8 @@ unfolding run
 run-append state between [] second h = ap (λ (s : State). run s second) (same_Some state between h)
 run-append state between (byte ∷ first) second h =
     option_and_then_some (λ (next : State). run next first) (step state byte) between h
-    (λ next took e. ap (option_and_then (λ (s : State). run s (first ++ second))) took ∙ run-append next between first second e)
+    (λ next took e. ap (option_and_then (λ (s : State). run s (first ++ second))) took
+    ∙ run-append next between first second e)
 
 -- one byte and then more
 pub run-cons : (state next : State) (byte : ℕ) (rest : List ℕ) → step state byte ≡ Some next
@@ -74,19 +75,23 @@ run-path begun text (name ∷ next ∷ path) s =
           ∙ run-cons (in_name begun name) (before_name (with_name begun name)) 46 s.1 refl
           ∙ others.ran;
       whole =
-          others.whole ∙ ap (λ (each : List (List ℕ)). record begun { path = each }) (append_assoc begun.path (name ∷ []) (next ∷ path));
+          others.whole ∙ ap (λ (each : List (List ℕ)). record begun { path = each })
+          (append_assoc begun.path (name ∷ []) (next ∷ path));
     }
 
 more_digits : (begun : Begun) (numbers : List ℕ) (count value : ℕ) (text : List ℕ) → list_all is_ascii_digit text ≡ true
     → count + length text ≤ 18
-    → run (in_number begun numbers count value) text ≡ Some (in_number begun numbers (count + length text) (number_after value text))
+    → run (in_number begun numbers count value) text ≡ Some
+    (in_number begun numbers (count + length text) (number_after value text))
 unfolding run step step_number
 more_digits begun numbers count value [] passes few =
     ap (λ (n : ℕ). Some (in_number begun numbers n value)) (omega arith)
 more_digits begun numbers count value (byte ∷ text) passes few =
     let tests = and_parts (is_ascii_digit byte) (list_all is_ascii_digit text) passes in
     let below = lt-ltb count 18 (omega arith) in
-    run-cons (in_number begun numbers count value) (in_number begun numbers (count + 1) (value * 10 + (byte - 48))) byte text (cond-true _ _ _ (and_from _ _ tests.0 below))
+    run-cons (in_number begun numbers count value)
+    (in_number begun numbers (count + 1) (value * 10 + (byte - 48))) byte text
+    (cond-true _ _ _ (and_from _ _ tests.0 below))
     ∙ more_digits begun numbers (count + 1) (value * 10 + (byte - 48)) text tests.1 (omega arith)
     ∙ ap (λ (n : ℕ). Some (in_number begun numbers n (number_after (value * 10 + (byte - 48)) text))) (omega arith)
 
@@ -105,7 +110,8 @@ run-number begun numbers (byte ∷ text) value s =
     record {
       count = 1 + length text;
       ran =
-          run-cons (before_number begun numbers) (in_number begun numbers 1 (byte - 48)) byte text (cond-true _ _ _ tests.0)
+          run-cons (before_number begun numbers) (in_number begun numbers 1 (byte - 48)) byte text
+          (cond-true _ _ _ tests.0)
           ∙ more_digits begun numbers 1 (byte - 48) text tests.1 (omega (arith, s.few))
           ∙ ap (λ (v : ℕ). Some (in_number begun numbers (1 + length text) (number_after v text))) first
           ∙ ap (λ (v : ℕ). Some (in_number begun numbers (1 + length text) v)) (sym s.value);
@@ -129,7 +135,9 @@ run-numbers begun before text (number ∷ []) few s =
     record { earlier = before; count = last.count; value = number; ran = last.ran; whole = refl }
 run-numbers begun before text (number ∷ next ∷ numbers) few s =
     let first = run-number begun before s.0 number s.2 in
-    let others = run-numbers begun (before ++ number ∷ []) s.1 (next ∷ numbers) (omega (arith, length-append before (number ∷ []))) s.3 in
+    let others =
+    run-numbers begun (before ++ number ∷ []) s.1 (next ∷ numbers)
+    (omega (arith, length-append before (number ∷ []))) s.3 in
     let below = lt-ltb (length before) 2 (omega arith) in
     record {
       earlier = others.earlier;
@@ -137,7 +145,8 @@ run-numbers begun before text (number ∷ next ∷ numbers) few s =
       value = others.value;
       ran = ap (run (before_number begun before)) s.4
           ∙ run-append (before_number begun before) (in_number begun before first.count number) s.0 (58 ∷ s.1) first.ran
-          ∙ run-cons (in_number begun before first.count number) (before_number begun (before ++ number ∷ [])) 58 s.1 (cond-true _ _ _ below)
+          ∙ run-cons (in_number begun before first.count number) (before_number begun (before ++ number ∷ [])) 58 s.1
+          (cond-true _ _ _ below)
           ∙ others.ran;
       whole = others.whole ∙ append_assoc before (number ∷ []) (next ∷ numbers);
     }

@@ -43,7 +43,8 @@ below_from_test size slab t =
 test_from_below : (size : ℕ) (slab : Slab) → LiesBelow size slab → is_within size slab ≡ true
 unfolding is_within
 test_from_below size slab lies =
-    and_from _ _ (and_from _ _ (le-leb 1 slab.stride lies.stride) (le-leb slab.start slab.stop lies.ordered)) (lt-ltb slab.stop size lies.below)
+    and_from _ _ (and_from _ _ (le-leb 1 slab.stride lies.stride) (le-leb slab.start slab.stop lies.ordered))
+    (lt-ltb slab.stop size lies.below)
 
 -- no slab, or one for each dimension
 none_if_empty : (slabs : List Slab) → length slabs ≡ 0 → slabs ≡ []
@@ -107,7 +108,8 @@ record RangeFault (name : List ℕ) (from : ℕ) (dims : List Dim) (slabs : List
   outside : IsFirstOutside dims slabs place size
 
 within_before : (dim : Dim) (dims : List Dim) (slab : Slab) (slabs : List Slab) (place : ℕ) → LiesBelow dim.size slab
-    → ((before : ℕ) (d : Dim) (s : Slab) → before < place → slice_get dims before ≡ Some d → slice_get slabs before ≡ Some s → LiesBelow d.size s)
+    → ((before : ℕ) (d : Dim) (s : Slab) → before < place → slice_get dims before ≡ Some d
+    → slice_get slabs before ≡ Some s → LiesBelow d.size s)
     → (before : ℕ) (d : Dim) (s : Slab) → before < suc place → slice_get (dim ∷ dims) before ≡ Some d
     → slice_get (slab ∷ slabs) before ≡ Some s → LiesBelow d.size s
 within_before dim dims slab slabs place first others zero d s below dim_is slab_is =
@@ -180,13 +182,16 @@ conflict_fault-some : (decl : Decl) (earlier : List Clause) (clause : Clause) (f
     → (SlabConflict (name_of decl) ≡ fault) × Conflicts decl earlier clause
 unfolding conflict_fault
 conflict_fault-some decl earlier clause fault e =
-    let differs = λ (p : ℕ). list_any (λ (c : Clause). are_other (given_by decl c p) (given_by decl clause p)) earlier in
+    let differs =
+    λ (p : ℕ). list_any (λ (c : Clause). are_other (given_by decl c p) (given_by decl clause p)) earlier in
     let numbers = range_with_len 0 (length (parts_of decl)) in
     elim (cases_Bool (list_any differs numbers)) [
       | inr f ↦ absurd (none-some fault (sym (cond-false _ _ _ f) ∙ e))
       | inl t ↦
           let part = some_passes differs numbers t in
-          let other = some_passes (λ (c : Clause). are_other (given_by decl c part.0) (given_by decl clause part.0)) earlier part.2 in
+          let other =
+          some_passes (λ (c : Clause). are_other (given_by decl c part.0)
+          (given_by decl clause part.0)) earlier part.2 in
           let slabs = Apart-are_other _ _ other.2 in (
             same_Some _ _ (sym (cond-true _ _ _ t) ∙ e),
             record {
@@ -277,7 +282,8 @@ pub clause_fault-says : (decls : List Decl) (earlier : List Clause) (clause : Cl
 unfolding clause_fault
 clause_fault-says decls earlier clause fault e = elim (cases_Option (decl_named decls clause.path)) [
   | inl none ↦
-      let fault_is : NoSuchVariable (written_path clause) ≡ fault = same_Some _ _ (sym (ap (fault_in earlier clause) none) ∙ e) in
+      let fault_is : NoSuchVariable (written_path clause) ≡ fault =
+      same_Some _ _ (sym (ap (fault_in earlier clause) none) ∙ e) in
       subst (HasClauseFault decls earlier clause) fault_is (record {
         name_is = refl;
         none = λ decl has names. unnamed decls clause.path decl none (Has-from_contains decls decl has) names;

@@ -88,7 +88,8 @@ part_at parts name place e =
             part_is = ap (slice_get parts) (sym same) ∙ slice_get-get_or parts count (blank name) within;
             name_is = (bytes_eq-Decides part.name name).0 (passes_at_first (is_named name) parts (blank name) within);
             first = λ before other below is named.
-                let stands : slice_get parts before ≡ Some (get_or parts before (blank name)) = slice_get-get_or parts before (blank name) (omega arith) in
+                let stands : slice_get parts before ≡ Some (get_or parts before (blank name)) =
+                slice_get-get_or parts before (blank name) (omega arith) in
                 let other_is = same_Some _ _ (sym stands ∙ is) in
                 let passes : is_named name other ≡ true = (bytes_eq-Decides other.name name).1 named in
                 let fails = fails_before_first (is_named name) parts before (blank name) (omega arith) in

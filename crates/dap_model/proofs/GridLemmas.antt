@@ -38,7 +38,8 @@ pub alone_if_every : (decl : Decl) (path : List (List ℕ)) → is_every (picked
 unfolding picked_by picked_part
 alone_if_every decl [] e = absurd (true≢false (sym e))
 alone_if_every decl (name ∷ names) e = elim (cases_Bool (bytes_eq (name_of decl) name)) [
-  | inl t ↦ below decl name names ((bytes_eq-Decides (name_of decl) name).0 t) (sym (ap is_every (cond-true _ _ _ t)) ∙ e)
+  | inl t ↦
+      below decl name names ((bytes_eq-Decides (name_of decl) name).0 t) (sym (ap is_every (cond-true _ _ _ t)) ∙ e)
   | inr f ↦ absurd (true≢false (sym e ∙ ap is_every (cond-false _ _ _ f)))
 ]
 
@@ -53,7 +54,8 @@ unfolding is_kept
 kept_if_alone [] decl alone = is_kept-all decl
 kept_if_alone (x ∷ clauses) decl (inl none) = absurd (no_items x clauses none)
 kept_if_alone (x ∷ clauses) decl (inr named) =
-    any_passes (λ (each : Clause). is_every (picked_by decl each.path)) (x ∷ clauses) named.0 (Has-from_contains (x ∷ clauses) named.0 named.1)
+    any_passes (λ (each : Clause). is_every (picked_by decl each.path)) (x ∷ clauses) named.0
+    (Has-from_contains (x ∷ clauses) named.0 named.1)
     (ap is_every (every_if_alone decl named.0.path named.2))
 
 pub alone_if_kept : (clauses : List Clause) (decl : Decl) → is_kept clauses decl ≡ true
@@ -77,8 +79,10 @@ part_is_sent [] decl part alone = (_, slabs_of-all decl part)
 part_is_sent (x ∷ clauses) decl part (inl none) = absurd (no_items x clauses none)
 part_is_sent (x ∷ clauses) decl part (inr named) =
     let gives = ap (slabs_for decl named.0.slabs part) (every_if_alone decl named.0.path named.2) in
-    first_of_some (filter_map (λ (each : Clause). given_by decl each part) (x ∷ clauses)) (or_whole (part_dims decl part) (spread named.0.slabs part))
-    (Has-filter_map (λ (each : Clause). given_by decl each part) (x ∷ clauses) named.0 _ (Has-from_contains (x ∷ clauses) named.0 named.1) gives)
+    first_of_some (filter_map (λ (each : Clause). given_by decl each part) (x ∷ clauses))
+    (or_whole (part_dims decl part) (spread named.0.slabs part))
+    (Has-filter_map (λ (each : Clause). given_by decl each part) (x ∷ clauses) named.0 _
+    (Has-from_contains (x ∷ clauses) named.0 named.1) gives)
 
 all_kept : {A B : Type 0} (h : A → Option B) (xs : List A) → ((x : A) → (y : B) × (h x ≡ Some y))
     → length (filter_map h xs) ≡ length xs
@@ -89,7 +93,8 @@ parts_sent : (clauses : List Clause) (decl : Decl) → NamesAlone clauses (name_
     → length (cut_parts clauses decl) ≡ length (parts_of decl)
 unfolding cut_parts
 parts_sent clauses decl alone =
-    all_kept (λ (numbered : ℕ × Array). option_map (λ (slabs : List Slab). cut_array slabs numbered.1) (slabs_of clauses decl numbered.0)) (enumerate_from 0 (parts_of decl))
+    all_kept (λ (numbered : ℕ × Array). option_map (λ (slabs : List Slab). cut_array slabs numbered.1)
+    (slabs_of clauses decl numbered.0)) (enumerate_from 0 (parts_of decl))
     (λ numbered.
     let s = part_is_sent clauses decl numbered.0 alone in
     (cut_array s.0 numbered.1, ap (option_map (λ (slabs : List Slab). cut_array slabs numbered.1)) s.1))
@@ -107,7 +112,8 @@ pub IsGridOf-decl_sent : (clauses : List Clause) (name : List ℕ) (array : Arra
 unfolding decl_sent
 IsGridOf-decl_sent clauses name array maps alone =
     let decl = Grid name array maps in
-    subst (λ (kept : Bool). IsGridOf name maps (rebuilt kept decl (cut_parts clauses decl))) (sym (kept_if_alone clauses decl alone))
+    subst (λ (kept : Bool). IsGridOf name maps (rebuilt kept decl (cut_parts clauses decl)))
+    (sym (kept_if_alone clauses decl alone))
     (grid_of name array maps (cut_parts clauses decl) (parts_sent clauses decl alone))
 
 cut_grid : (name : List ℕ) (array : Array) (maps parts : List Array)

@@ -85,7 +85,9 @@ pub Source-filter_map : {A B : Type 0} (h : A → Option B) (xs : List A) (y : B
     → Source (λ x z. h x ≡ Some z) xs y
 Source-filter_map h [] y has = absurd has
 Source-filter_map h (x ∷ xs) y has = elim (cases_Option (h x)) [
-  | inl none ↦ later (λ z w. h z ≡ Some w) x xs y (Source-filter_map h xs y (subst (λ l. Has l y) (filter_map-none h x xs none) has))
+  | inl none ↦
+      later (λ z w. h z ≡ Some w) x xs y
+      (Source-filter_map h xs y (subst (λ l. Has l y) (filter_map-none h x xs none) has))
   | inr some ↦
       let either : Has (some.0 ∷ filter_map h xs) y = subst (λ l. Has l y) (filter_map-some h x xs some.0 some.1) has in
       elim either [
@@ -101,7 +103,8 @@ Has-filter_map h (z ∷ xs) x y (inl same) gives =
     subst (λ l. Has l y) (sym (filter_map-some h z xs y (ap h same ∙ gives))) (inl refl)
 Has-filter_map h (z ∷ xs) x y (inr has) gives = elim (cases_Option (h z)) [
   | inl none ↦ subst (λ l. Has l y) (sym (filter_map-none h z xs none)) (Has-filter_map h xs x y has gives)
-  | inr some ↦ subst (λ l. Has l y) (sym (filter_map-some h z xs some.0 some.1)) (inr (Has-filter_map h xs x y has gives))
+  | inr some ↦
+      subst (λ l. Has l y) (sym (filter_map-some h z xs some.0 some.1)) (inr (Has-filter_map h xs x y has gives))
 ]
 
 -- the numbers of a range

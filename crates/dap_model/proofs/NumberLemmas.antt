@@ -21,11 +21,13 @@ number_after-below value count [] below passes = subst (λ (n : ℕ). value < 10
 number_after-below value count (byte ∷ digits) below passes =
     let tests = and_parts (is_ascii_digit byte) (list_all is_ascii_digit digits) passes in
     subst (λ (n : ℕ). number_after (value * 10 + (byte - 48)) digits < 10 ^ n) (omega arith)
-    (number_after-below (value * 10 + (byte - 48)) (count + 1) digits (digit_below value count byte below tests.0) tests.1)
+    (number_after-below (value * 10 + (byte - 48)) (count + 1) digits
+    (digit_below value count byte below tests.0) tests.1)
 
 -- a number of a constraint is below 10^18
 pub number_below : (text : List ℕ) (number : ℕ) → SpellsNumber text number → number < 10 ^ 18
 number_below text number s =
     let below = number_after-below 0 0 text (omega arith) s.digits in
-    let more : 10 ^ (0 + length text) ≤ 10 ^ 18 = pow-le-pow_right {n = 10} (omega arith) {i = 0 + length text} {j = 18} (omega (arith, s.few)) in
+    let more : 10 ^ (0 + length text) ≤ 10 ^ 18 =
+    pow-le-pow_right {n = 10} (omega arith) {i = 0 + length text} {j = 18} (omega (arith, s.few)) in
     omega (arith, s.value)

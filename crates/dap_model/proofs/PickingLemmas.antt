@@ -39,7 +39,8 @@ first_named parts name part has same =
       | inr after ↦ after
     ] in
     let within : first < length parts = omega (arith, has.1) in
-    ap (λ (o : Option ℕ). is_picked (option_map_or only o nothing)) (cond-true _ _ _ (lt-ltb first (length parts) within))
+    ap (λ (o : Option ℕ). is_picked (option_map_or only o nothing))
+    (cond-true _ _ _ (lt-ltb first (length parts) within))
 
 named_if_picked : (decl : Decl) (name : List ℕ) → is_picked (picked_part decl name) ≡ true → PartOf decl name
 unfolding picked_part
@@ -49,9 +50,15 @@ named_if_picked decl name e =
     elim (cases_lt first (length parts)) [
       | inl within ↦
           let part = get_or parts first (blank name) in
-          record { part = part; has = Contains-get_or parts first (blank name) within; name_is = (bytes_eq-Decides part.name name).0 (passes_at_first (is_named name) parts (blank name) within) }
+          record {
+            part = part;
+            has = Contains-get_or parts first (blank name) within;
+            name_is =
+                (bytes_eq-Decides part.name name).0 (passes_at_first (is_named name) parts (blank name) within);
+          }
       | inr past ↦
-          absurd (true≢false (sym e ∙ ap (λ (o : Option ℕ). is_picked (option_map_or only o nothing)) (cond-false _ _ _ (le-ltb first (length parts) past))))
+          absurd (true≢false (sym e ∙ ap (λ (o : Option ℕ). is_picked (option_map_or only o nothing))
+          (cond-false _ _ _ (le-ltb first (length parts) past))))
     ]
 
 below_names : (decl : Decl) (names : List (List ℕ)) → is_picked (picked_below decl names) ≡ true

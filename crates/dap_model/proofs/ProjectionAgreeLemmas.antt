@@ -31,7 +31,8 @@ same_slab slab other = (
       let stride : slab.stride ≡ other.stride = eqb-true _ _ front.1 in
       let stop : slab.stop ≡ other.stop = eqb-true _ _ tests.1 in
       ap₂ (λ (a b : ℕ). made a b slab.stop) start stride ∙ ap (made other.start other.stride) stop,
-  λ same. and_from _ _ (and_from _ _ (eq-eqb _ _ (ap (λ (s : Slab). s.start) same)) (eq-eqb _ _ (ap (λ (s : Slab). s.stride) same))) (eq-eqb _ _ (ap (λ (s : Slab). s.stop) same)),
+  λ same. and_from _ _ (and_from _ _ (eq-eqb _ _ (ap (λ (s : Slab). s.start) same))
+      (eq-eqb _ _ (ap (λ (s : Slab). s.stride) same))) (eq-eqb _ _ (ap (λ (s : Slab). s.stop) same)),
 )
 
 same_slabs : (first second : List Slab) → are_other (Some first) (Some second) ≡ false → first ≡ second
@@ -50,12 +51,16 @@ pub no_conflict : (decl : Decl) (earlier : List Clause) (clause other : Clause) 
     → are_other (given_by decl other part) (given_by decl clause part) ≡ false
 unfolding conflict_fault
 no_conflict decl earlier clause other part e within has =
-    let differs = λ (p : ℕ). list_any (λ (c : Clause). are_other (given_by decl c p) (given_by decl clause p)) earlier in
+    let differs =
+    λ (p : ℕ). list_any (λ (c : Clause). are_other (given_by decl c p) (given_by decl clause p)) earlier in
     elim (cases_Bool (list_any differs (range_with_len 0 (length (parts_of decl))))) [
       | inl some ↦ absurd (none-some _ (sym e ∙ cond-true _ _ _ some))
       | inr none ↦
-          let part_none = none_passes differs (range_with_len 0 (length (parts_of decl))) part none (Has-range 0 (length (parts_of decl)) part (omega arith) (omega arith)) in
-          none_passes (λ (c : Clause). are_other (given_by decl c part) (given_by decl clause part)) earlier other part_none has
+          let part_none =
+          none_passes differs (range_with_len 0 (length (parts_of decl))) part none
+          (Has-range 0 (length (parts_of decl)) part (omega arith) (omega arith)) in
+          none_passes (λ (c : Clause). are_other (given_by decl c part)
+          (given_by decl clause part)) earlier other part_none has
     ]
 
 -- what a clause without a fault meets on the declaration that it names
@@ -126,27 +131,34 @@ unfolding first_fault
 Faultless-first decls earlier clause clauses e = both_none _ _ e
 
 -- a clause that names a part agrees with each earlier one
-agree_earlier : (decls : List Decl) (earlier clauses : List Clause) (decl : Decl) (other clause : Clause) (part : ℕ) (first second : List Slab)
+agree_earlier : (decls : List Decl) (earlier clauses : List Clause) (decl : Decl) (other clause : Clause) (part : ℕ)
+    (first second : List Slab)
     → Ordered (λ (a b : Decl). name_of a ≢ name_of b) decls → Has decls decl → part < length (parts_of decl)
     → Faultless decls earlier clauses
     → Has earlier other → Has clauses clause → given_by decl other part ≡ Some first
     → given_by decl clause part ≡ Some second → first ≡ second
 agree_earlier decls earlier [] decl other clause part first second apart has within none before after a b = absurd after
-agree_earlier decls earlier (x ∷ clauses) decl other clause part first second apart has within none before (inl same) a b =
+agree_earlier decls earlier (x ∷ clauses) decl other clause part first second apart has within none before
+    (inl same) a b =
     let parts = Faultless-first decls earlier x clauses none in
     let b' : given_by decl x part ≡ Some second = ap (λ (c : Clause). given_by decl c part) same ∙ b in
-    let sound = Sound-from_none decls earlier x decl (decl_named-is decls decl x.path apart has (picked_if_given decl x part second b')) parts.0 in
+    let sound =
+    Sound-from_none decls earlier x decl
+    (decl_named-is decls decl x.path apart has (picked_if_given decl x part second b')) parts.0 in
     agreed decl other x part first second a b' (no_conflict decl earlier x other part sound.conflict within before)
-agree_earlier decls earlier (x ∷ clauses) decl other clause part first second apart has within none before (inr after) a b =
+agree_earlier decls earlier (x ∷ clauses) decl other clause part first second apart has within none before
+    (inr after) a b =
     let parts = Faultless-first decls earlier x clauses none in
-    agree_earlier decls (earlier ++ x ∷ []) clauses decl other clause part first second apart has within parts.1 (Has-left earlier (x ∷ []) other before) after a b
+    agree_earlier decls (earlier ++ x ∷ []) clauses decl other clause part first second apart has within parts.1
+    (Has-left earlier (x ∷ []) other before) after a b
 
 -- the slabs that clauses give to a part
 abbrev given_all : Decl → ℕ → List Clause → List (List Slab)
 given_all decl part clauses = filter_map (λ (each : Clause). given_by decl each part) clauses
 
 -- the first slabs that are given are those of each clause that gives some
-first_given : (decls : List Decl) (earlier clauses : List Clause) (decl : Decl) (clause : Clause) (part : ℕ) (slabs : List Slab)
+first_given : (decls : List Decl) (earlier clauses : List Clause) (decl : Decl) (clause : Clause) (part : ℕ)
+    (slabs : List Slab)
     → Ordered (λ (a b : Decl). name_of a ≢ name_of b) decls → Has decls decl → part < length (parts_of decl)
     → Faultless decls earlier clauses
     → Has clauses clause → given_by decl clause part ≡ Some slabs
@@ -158,19 +170,25 @@ first_given decls earlier (x ∷ clauses) decl clause part slabs apart has withi
       | inl gives_none ↦ elim after [
         | inl same ↦ absurd (none-some slabs (sym gives_none ∙ ap (λ (c : Clause). given_by decl c part) same ∙ b))
         | inr later ↦
-            ap (λ (l : List (List Slab)). slice_get l 0) (filter_map-none (λ (each : Clause). given_by decl each part) x clauses gives_none)
+            ap (λ (l : List (List Slab)). slice_get l 0)
+            (filter_map-none (λ (each : Clause). given_by decl each part) x clauses gives_none)
             ∙ first_given decls (earlier ++ x ∷ []) clauses decl clause part slabs apart has within parts.1 later b
       ]
       | inr some ↦
-          ap (λ (l : List (List Slab)). slice_get l 0) (filter_map-some (λ (each : Clause). given_by decl each part) x clauses some.0 some.1)
+          ap (λ (l : List (List Slab)). slice_get l 0)
+          (filter_map-some (λ (each : Clause). given_by decl each part) x clauses some.0 some.1)
           ∙ ap Some (elim after [
             | inl same ↦ same_Some _ _ (sym some.1 ∙ ap (λ (c : Clause). given_by decl c part) same ∙ b)
-            | inr later ↦ agree_earlier decls (earlier ++ x ∷ []) clauses decl x clause part some.0 slabs apart has within parts.1 (Has-right earlier (x ∷ []) x (inl refl)) later some.1 b
+            | inr later ↦
+                agree_earlier decls (earlier
+                ++ x ∷ []) clauses decl x clause part some.0 slabs apart has within parts.1
+                (Has-right earlier (x ∷ []) x (inl refl)) later some.1 b
           ])
     ]
 
 -- the slabs with which a part is sent are those that each clause gives that names it
-pub slabs_of-given : (decls : List Decl) (clauses : List Clause) (decl : Decl) (clause : Clause) (part : ℕ) (slabs : List Slab)
+pub slabs_of-given : (decls : List Decl) (clauses : List Clause) (decl : Decl) (clause : Clause) (part : ℕ)
+    (slabs : List Slab)
     → AreNamedApart decls → Has decls decl → part < length (parts_of decl) → Faultless decls [] clauses
     → Has clauses clause → given_by decl clause part ≡ Some slabs → slabs_of clauses decl part ≡ Some slabs
 unfolding slabs_of
@@ -184,5 +202,7 @@ pub given-slabs_of : (x : Clause) (clauses : List Clause) (decl : Decl) (part : 
     → (clause : Clause) × Has (x ∷ clauses) clause × (given_by decl clause part ≡ Some slabs)
 unfolding slabs_of
 given-slabs_of x clauses decl part slabs e =
-    let s = Source-filter_map (λ (each : Clause). given_by decl each part) (x ∷ clauses) slabs (Has-slice_get (given_all decl part (x ∷ clauses)) 0 slabs e) in
+    let s =
+    Source-filter_map (λ (each : Clause). given_by decl each part) (x ∷ clauses) slabs
+    (Has-slice_get (given_all decl part (x ∷ clauses)) 0 slabs e) in
     (s.item, s.has, s.gives)

@@ -24,7 +24,8 @@ pub array_lengths-cut_array : (slabs : List Slab) (array : Array) → length sla
 unfolding cut_array
 array_lengths-cut_array slabs array same = go array.dims slabs same where
   go : (dims : List Dim) (each : List Slab) → length each ≡ length dims
-      → map (λ (dim : Dim). dim.size) (map (λ (pair : Dim × Slab). record pair.0 { size = slab_count pair.1 }) (zip dims each)) ≡ map slab_count each
+      → map (λ (dim : Dim). dim.size)
+      (map (λ (pair : Dim × Slab). record pair.0 { size = slab_count pair.1 }) (zip dims each)) ≡ map slab_count each
   go [] [] e = refl
   go [] (slab ∷ each) e = absurd (omega arith)
   go (dim ∷ dims) [] e = absurd (omega arith)
@@ -42,9 +43,11 @@ nil_from_none [] none = refl
 nil_from_none (x ∷ xs) none = absurd (none x (inl refl))
 
 -- what is made of the items of a list and of their places, where something is made of both or of neither
-paired : {A B C D : Type 0} (P : B → C → Type 0) (o : ℕ → Option D) (cut : D → A → B) (mark : ℕ → D → C) (n : ℕ) (xs : List A)
+paired : {A B C D : Type 0} (P : B → C → Type 0) (o : ℕ → Option D) (cut : D → A → B) (mark : ℕ → D → C) (n : ℕ)
+    (xs : List A)
     → ((k : ℕ) (x : A) (s : D) → slice_get xs k ≡ Some x → o (n + k) ≡ Some s → P (cut s x) (mark (n + k) s))
-    → AllZip P (filter_map (λ (p : ℕ × A). option_map (λ (s : D). cut s p.1) (o p.0)) (enumerate_from n xs)) (filter_map (λ (i : ℕ). option_map (mark i) (o i)) (range_with_len n (length xs)))
+    → AllZip P (filter_map (λ (p : ℕ × A). option_map (λ (s : D). cut s p.1) (o p.0)) (enumerate_from n xs))
+    (filter_map (λ (i : ℕ). option_map (mark i) (o i)) (range_with_len n (length xs)))
 paired P o cut mark n [] each = tt
 paired {A} {B} {C} {D} P o cut mark n (x ∷ xs) each =
     let h = λ (p : ℕ × A). option_map (λ (s : D). cut s p.1) (o p.0) in
@@ -58,13 +61,16 @@ paired {A} {B} {C} {D} P o cut mark n (x ∷ xs) each =
       | inl none ↦
           let first = filter_map-none h (n, x) arrays (ap (option_map (λ (s : D). cut s x)) none) in
           let second = filter_map-none g n places (ap (option_map (mark n)) none) in
-          subst (λ (l : List B). AllZip P l (filter_map g (n ∷ places))) (sym first) (subst (λ (l : List C). AllZip P (filter_map h arrays) l) (sym second) others)
+          subst (λ (l : List B). AllZip P l (filter_map g (n ∷ places))) (sym first)
+          (subst (λ (l : List C). AllZip P (filter_map h arrays) l) (sym second) others)
       | inr some ↦
           let first = filter_map-some h (n, x) arrays (cut some.0 x) (ap (option_map (λ (s : D). cut s x)) some.1) in
           let second = filter_map-some g n places (mark n some.0) (ap (option_map (mark n)) some.1) in
           let here : n + 0 ≡ n = omega arith in
-          let front = subst (λ (i : ℕ). P (cut some.0 x) (mark i some.0)) here (each 0 x some.0 refl (ap o here ∙ some.1)) in
-          subst (λ (l : List B). AllZip P l (filter_map g (n ∷ places))) (sym first) (subst (λ (l : List C). AllZip P (cut some.0 x ∷ filter_map h arrays) l) (sym second) (front, others))
+          let front =
+          subst (λ (i : ℕ). P (cut some.0 x) (mark i some.0)) here (each 0 x some.0 refl (ap o here ∙ some.1)) in
+          subst (λ (l : List B). AllZip P l (filter_map g (n ∷ places))) (sym first)
+          (subst (λ (l : List C). AllZip P (cut some.0 x ∷ filter_map h arrays) l) (sym second) (front, others))
     ]
 
 abbrev marked : ℕ → ℕ → List Slab → Sent
@@ -76,11 +82,21 @@ parts_cut : (decls : List Decl) (clauses : List Clause) (place : ℕ) (decl : De
 unfolding cut_parts sent_of
 parts_cut decls clauses place decl is =
     paired (IsCut decls) (slabs_of clauses decl) cut_array (marked place) 0 (parts_of decl)
-    (λ k part slabs part_is made. record { decl = decl; part = part; decl_is = is; part_is = ap (slice_get (parts_of decl)) (zero-add k) ∙ part_is; array_is = refl })
+    (λ k part slabs part_is made. record {
+      decl = decl;
+      part = part;
+      decl_is = is;
+      part_is = ap
+          (slice_get (parts_of decl)) (zero-add k) ∙ part_is;
+      array_is = refl;
+    })
 
 plain_parts : (clauses : List Clause) (array : Array) (o : Option (List Slab))
-    → parts_of (rebuilt (is_kept clauses (Plain array)) (Plain array) (filter_map (λ (numbered : ℕ × Array). option_map (λ (slabs : List Slab). cut_array slabs numbered.1) o) ((0, array) ∷ [])))
-    ≡ filter_map (λ (numbered : ℕ × Array). option_map (λ (slabs : List Slab). cut_array slabs numbered.1) o) ((0, array) ∷ [])
+    → parts_of (rebuilt (is_kept clauses (Plain array)) (Plain array)
+    (filter_map (λ (numbered : ℕ × Array). option_map (λ (slabs : List Slab). cut_array slabs numbered.1) o)
+    ((0, array) ∷ [])))
+    ≡ filter_map (λ (numbered : ℕ × Array). option_map (λ (slabs : List Slab). cut_array slabs numbered.1) o)
+    ((0, array) ∷ [])
 plain_parts clauses array None = refl
 plain_parts clauses array (Some slabs) = refl
 
@@ -105,29 +121,39 @@ none_sent : (clauses : List Clause) (place : ℕ) (decl : Decl) → is_sent clau
 unfolding is_sent sent_of
 none_sent [] place decl e = absurd (true≢false (sym (is_sent-all decl) ∙ e))
 none_sent (x ∷ clauses) place decl e = nil_from_none (sent_of (x ∷ clauses) (place, decl)) (λ sent has.
-    let s = Source-filter_map (λ (part : ℕ). option_map (marked place part) (slabs_of (x ∷ clauses) decl part)) (range_with_len 0 (length (parts_of decl))) sent has in
+    let s =
+    Source-filter_map (λ (part : ℕ). option_map (marked place part) (slabs_of (x ∷ clauses) decl part))
+    (range_with_len 0 (length (parts_of decl))) sent has in
     let slabs = mapped_some (marked place s.item) (slabs_of (x ∷ clauses) decl s.item) sent s.gives in
     let given = given-slabs_of x clauses decl s.item slabs.0 slabs.1 in
     let picked = picked_if_given decl given.0 s.item slabs.0 given.2 in
-    true≢false (sym picked ∙ none_passes (λ (each : Clause). is_picked (picked_by decl each.path)) (x ∷ clauses) given.0 e given.1))
+    true≢false (sym picked ∙ none_passes (λ (each : Clause). is_picked (picked_by decl each.path))
+    (x ∷ clauses) given.0 e given.1))
 
 cut_from : (decls : List Decl) (clauses : List Clause) (n : ℕ) (rest : List Decl)
     → ((k : ℕ) (decl : Decl) → slice_get rest k ≡ Some decl → slice_get decls (n + k) ≡ Some decl)
-    → AllZip (IsCut decls) (flat_map parts_of (map (decl_sent clauses) (filter (is_sent clauses) rest))) (flat_map (sent_of clauses) (enumerate_from n rest))
+    → AllZip (IsCut decls) (flat_map parts_of (map (decl_sent clauses) (filter (is_sent clauses) rest)))
+    (flat_map (sent_of clauses) (enumerate_from n rest))
 cut_from decls clauses n [] each = tt
 cut_from decls clauses n (decl ∷ rest) each =
-    let others = cut_from decls clauses (n + 1) rest (λ k d is. ap (slice_get decls) (omega arith) ∙ each (suc k) d is) in
+    let others =
+    cut_from decls clauses (n + 1) rest (λ k d is. ap (slice_get decls) (omega arith) ∙ each (suc k) d is) in
     let sents = flat_map (sent_of clauses) (enumerate_from (n + 1) rest) in
     let arrays = λ (l : List Decl). flat_map parts_of (map (decl_sent clauses) l) in
     elim (cases_Bool (is_sent clauses decl)) [
       | inl t ↦
           let front = parts_cut decls clauses n decl (ap (slice_get decls) (omega arith) ∙ each 0 decl refl) in
-          let parts = subst (λ (l : List Array). AllZip (IsCut decls) l (sent_of clauses (n, decl))) (sym (parts_of-sent clauses decl)) front in
-          subst (λ (l : List Decl). AllZip (IsCut decls) (arrays l) (sent_of clauses (n, decl) ++ sents)) (sym (cond-true _ _ _ t))
+          let parts =
+          subst (λ (l : List Array). AllZip (IsCut decls) l (sent_of clauses (n, decl)))
+          (sym (parts_of-sent clauses decl)) front in
+          subst (λ (l : List Decl). AllZip (IsCut decls) (arrays l) (sent_of clauses (n, decl) ++ sents))
+          (sym (cond-true _ _ _ t))
           (AllZip-append (IsCut decls) _ _ _ _ parts others)
       | inr f ↦
-          subst (λ (l : List Decl). AllZip (IsCut decls) (arrays l) (sent_of clauses (n, decl) ++ sents)) (sym (cond-false _ _ _ f))
-          (subst (λ (l : List Sent). AllZip (IsCut decls) (arrays (filter (is_sent clauses) rest)) (l ++ sents)) (sym (none_sent clauses n decl f)) others)
+          subst (λ (l : List Decl). AllZip (IsCut decls) (arrays l) (sent_of clauses (n, decl) ++ sents))
+          (sym (cond-false _ _ _ f))
+          (subst (λ (l : List Sent). AllZip (IsCut decls) (arrays (filter (is_sent clauses) rest)) (l ++ sents))
+          (sym (none_sent clauses n decl f)) others)
     ]
 
 -- the arrays of the declarations that are sent are the parts that are sent

@@ -30,8 +30,10 @@ record FirstAfter (decls : List Decl) (earlier clauses : List Clause) (fault : P
   none_before : (before : ℕ) (other : Clause) → before < place → slice_get clauses before ≡ Some other
       → clause_fault decls (earlier ++ take before clauses) other ≡ None
 
-moved : (decls : List Decl) (earlier : List Clause) (clause : Clause) (clauses : List Clause) (other : Clause) (place : ℕ)
-    → clause_fault decls ((earlier ++ clause ∷ []) ++ take place clauses) other ≡ clause_fault decls (earlier ++ take (suc place) (clause ∷ clauses)) other
+moved : (decls : List Decl) (earlier : List Clause) (clause : Clause) (clauses : List Clause) (other : Clause)
+    (place : ℕ)
+    → clause_fault decls ((earlier ++ clause ∷ []) ++ take place clauses) other ≡ clause_fault decls
+    (earlier ++ take (suc place) (clause ∷ clauses)) other
 moved decls earlier clause clauses other place =
     ap (λ (l : List Clause). clause_fault decls l other) (append_assoc earlier (clause ∷ []) (take place clauses))
 
@@ -42,11 +44,13 @@ here decls earlier clause clauses = ap (λ (l : List Clause). clause_fault decls
 -- no fault in front, and none before a place behind it
 clear : (decls : List Decl) (earlier : List Clause) (clause : Clause) (clauses : List Clause) (place : ℕ)
     → clause_fault decls earlier clause ≡ None
-    → ((before : ℕ) (other : Clause) → before < place → slice_get clauses before ≡ Some other → clause_fault decls ((earlier ++ clause ∷ []) ++ take before clauses) other ≡ None)
+    → ((before : ℕ) (other : Clause) → before < place → slice_get clauses before ≡ Some other → clause_fault decls
+    ((earlier ++ clause ∷ []) ++ take before clauses) other ≡ None)
     → (before : ℕ) (other : Clause) → before < suc place → slice_get (clause ∷ clauses) before ≡ Some other
     → clause_fault decls (earlier ++ take before (clause ∷ clauses)) other ≡ None
 clear decls earlier clause clauses place none each zero other below is =
-    subst (λ (c : Clause). clause_fault decls (earlier ++ []) c ≡ None) (same_Some clause other is) (here decls earlier clause clauses ∙ none)
+    subst (λ (c : Clause). clause_fault decls (earlier ++ []) c ≡ None) (same_Some clause other is)
+    (here decls earlier clause clauses ∙ none)
 clear decls earlier clause clauses place none each (suc before) other below is =
     sym (moved decls earlier clause clauses other before) ∙ each before other (omega arith) is
 
@@ -78,7 +82,13 @@ pub IsFirstFault-first_fault : (decls : List Decl) (clauses : List Clause) (faul
     → first_fault decls [] clauses ≡ Some fault → IsFirstFault decls clauses fault
 IsFirstFault-first_fault decls clauses fault e =
     let s = first_fault-found decls [] clauses fault e in
-    record { place = s.place; clause = s.clause; clause_is = s.clause_is; fault_is = s.fault_is; none_before = s.none_before }
+    record {
+      place = s.place;
+      clause = s.clause;
+      clause_is = s.clause_is;
+      fault_is = s.fault_is;
+      none_before = s.none_before;
+    }
 
 -- no clause has a fault after those before it
 abbrev pub NoneAfter : List Decl → List Clause → List Clause → Type 0
@@ -93,7 +103,8 @@ none_after decls earlier [] e place clause is = absurd (none-some clause is)
 none_after decls earlier (first ∷ clauses) e place clause is =
     let parts = both_none _ _ e in
     let others = none_after decls (earlier ++ first ∷ []) clauses parts.1 in
-    clear decls earlier first clauses place parts.0 (λ before other below is. others before other is) place clause (omega arith) is
+    clear decls earlier first clauses place parts.0 (λ before other below is. others before other is) place clause
+    (omega arith) is
 
 -- two first faults are one
 same_first : (decls : List Decl) (clauses : List Clause) (fault other : ProjectFault) → IsFirstFault decls clauses fault
@@ -101,7 +112,8 @@ same_first : (decls : List Decl) (clauses : List Clause) (fault other : ProjectF
 same_first decls clauses fault other s t = elim (cases_order s.place t.place) [
   | inl same ↦
       let clause : s.clause ≡ t.clause = same_Some _ _ (sym s.clause_is ∙ ap (slice_get clauses) same ∙ t.clause_is) in
-      same_Some _ _ (sym s.fault_is ∙ ap₂ (λ (n : ℕ) (c : Clause). clause_fault decls (take n clauses) c) same clause ∙ t.fault_is)
+      same_Some _ _ (sym s.fault_is ∙ ap₂ (λ (n : ℕ) (c : Clause). clause_fault decls (take n clauses) c) same clause
+      ∙ t.fault_is)
   | inr apart ↦ elim apart [
     | inl below ↦ absurd (none-some fault (sym (t.none_before s.place s.clause below s.clause_is) ∙ s.fault_is))
     | inr above ↦ absurd (none-some other (sym (s.none_before t.place t.clause above t.clause_is) ∙ t.fault_is))
@@ -112,7 +124,8 @@ same_first decls clauses fault other s t = elim (cases_order s.place t.place) [
 pub first_fault-is : (decls : List Decl) (clauses : List Clause) (fault : ProjectFault)
     → IsFirstFault decls clauses fault → first_fault decls [] clauses ≡ Some fault
 first_fault-is decls clauses fault s = elim (cases_Option (first_fault decls [] clauses)) [
-  | inl none ↦ absurd (none-some fault (sym (none_after decls [] clauses none s.place s.clause s.clause_is) ∙ s.fault_is))
+  | inl none ↦
+      absurd (none-some fault (sym (none_after decls [] clauses none s.place s.clause s.clause_is) ∙ s.fault_is))
   | inr some ↦
       let t = IsFirstFault-first_fault decls clauses some.0 some.1 in
       some.1 ∙ ap Some (same_first decls clauses some.0 fault t s)

@@ -23,7 +23,8 @@ whole_fit : (dim : Dim) (size : ℕ) → dim.size ≡ size → FitsDim dim (whol
 unfolding whole_slab
 whole_fit dim zero e = record { stride = omega arith; within = λ turned. absurd (omega arith) }
 whole_fit dim (suc last) e =
-    let fits : FitsDim dim (record { start = 0; stride = 1; stop = last }) = record { stride = omega arith; within = λ ordered. omega arith } in
+    let fits : FitsDim dim (record { start = 0; stride = 1; stop = last }) =
+    record { stride = omega arith; within = λ ordered. omega arith } in
     subst (FitsDim dim) (sym (whole_slab-some last)) fits
 
 -- whole dimensions fit
@@ -47,7 +48,8 @@ in_range_fit name place [] [] same none = tt
 in_range_fit name place [] (slab ∷ slabs) same none = absurd (omega arith)
 in_range_fit name place (dim ∷ dims) [] same none = absurd (omega arith)
 in_range_fit name place (dim ∷ dims) (slab ∷ slabs) same none = elim (cases_Bool (is_within dim.size slab)) [
-  | inl t ↦ (within_fit dim slab t, in_range_fit name (place + 1) dims slabs (omega arith) (sym (cond-true _ _ _ t) ∙ none))
+  | inl t ↦
+      (within_fit dim slab t, in_range_fit name (place + 1) dims slabs (omega arith) (sym (cond-true _ _ _ t) ∙ none))
   | inr f ↦ absurd (none-some _ (sym none ∙ cond-false _ _ _ f))
 ]
 
@@ -71,7 +73,8 @@ or_whole-fit name dims (slab ∷ slabs) rank range = elim (ranked name dims (sla
 
 none_spread_fit : (dims : List Dim) (part : ℕ) → AllZip FitsDim dims (or_whole dims (spread [] part))
 none_spread_fit dims part =
-    subst (λ (slabs : List Slab). AllZip FitsDim dims (or_whole dims slabs)) (sym (no_spread part)) (whole_slabs-fit dims)
+    subst (λ (slabs : List Slab). AllZip FitsDim dims (or_whole dims slabs)) (sym (no_spread part))
+    (whole_slabs-fit dims)
 
 -- the slab of one dimension
 one_fit : (dims : List Dim) (slabs : List Slab) (place : ℕ) (dim : Dim) → AllZip FitsDim dims slabs
@@ -103,18 +106,22 @@ map_at array maps place within gridded =
     let dims : slice_get (map (λ (dim : Dim). dim ∷ []) array.dims) place ≡ Some part.0.dims =
     ap (λ (l : List (List Dim)). slice_get l place) (sym gridded) ∙ slice_get-map (λ (p : Array). p.dims) maps place
     ∙ ap (option_map (λ (p : Array). p.dims)) part.1 in
-    let dim = mapped_some (λ (d : Dim). d ∷ []) (slice_get array.dims place) part.0.dims (sym (slice_get-map (λ (d : Dim). d ∷ []) array.dims place) ∙ dims) in
+    let dim =
+    mapped_some (λ (d : Dim). d ∷ []) (slice_get array.dims place) part.0.dims
+    (sym (slice_get-map (λ (d : Dim). d ∷ []) array.dims place) ∙ dims) in
     record { part = part.0; dim = dim.0; part_is = part.1; dim_is = dim.1; dims_are = sym dim.2 }
 
 map_fit : (array : Array) (maps : List Array) (slabs : List Slab) (place : ℕ) → place < length maps
     → map (λ (part : Array). part.dims) maps ≡ map (λ (dim : Dim). dim ∷ []) array.dims
     → AllZip FitsDim array.dims slabs
-    → AllZip FitsDim (option_map_or (λ (part : Array). part.dims) (slice_get maps place) []) (or_whole (option_map_or (λ (part : Array). part.dims) (slice_get maps place) []) (take 1 (drop place slabs)))
+    → AllZip FitsDim (option_map_or (λ (part : Array). part.dims) (slice_get maps place) [])
+    (or_whole (option_map_or (λ (part : Array). part.dims) (slice_get maps place) []) (take 1 (drop place slabs)))
 map_fit array maps slabs place within gridded fits =
     let at = map_at array maps place within gridded in
     let dims : at.dim ∷ [] ≡ option_map_or (λ (part : Array). part.dims) (slice_get maps place) [] =
     sym (ap (λ (o : Option Array). option_map_or (λ (part : Array). part.dims) o []) at.part_is ∙ at.dims_are) in
-    subst (λ (l : List Dim). AllZip FitsDim l (or_whole l (take 1 (drop place slabs)))) dims (one_fit array.dims slabs place at.dim fits at.dim_is)
+    subst (λ (l : List Dim). AllZip FitsDim l (or_whole l (take 1 (drop place slabs)))) dims
+    (one_fit array.dims slabs place at.dim fits at.dim_is)
 
 -- the slabs of a whole declaration, spread over its parts
 spread_fit : (decl : Decl) (name : List ℕ) (slabs : List Slab) (part : ℕ) → IsGridded decl
@@ -128,7 +135,8 @@ spread_fit (Plain array) name (slab ∷ slabs) (suc part) gridded within rank ra
 spread_fit (Grid label array maps) name (slab ∷ slabs) zero gridded within rank range =
     or_whole-fit name array.dims (slab ∷ slabs) rank range
 spread_fit (Grid label array maps) name (slab ∷ slabs) (suc place) gridded within rank range =
-    map_fit array maps (slab ∷ slabs) place (omega arith) gridded (or_whole-fit name array.dims (slab ∷ slabs) rank range)
+    map_fit array maps (slab ∷ slabs) place (omega arith) gridded
+    (or_whole-fit name array.dims (slab ∷ slabs) rank range)
 spread_fit (Structure label members) name (slab ∷ slabs) part gridded within rank range =
     elim (ranked name [] (slab ∷ slabs) rank) [
       | inl empty ↦ absurd (omega arith)
@@ -147,12 +155,14 @@ given-fit decl earlier clause part slabs gridded within sound e =
           → slabs_for decl clause.slabs part picked ≡ Some slabs → AllZip FitsDim (part_dims decl part) slabs
       go nothing rank range h = absurd (none-some slabs h)
       go every rank range h =
-          subst (AllZip FitsDim (part_dims decl part)) (same_Some _ slabs h) (spread_fit decl (path_text clause.path) clause.slabs part gridded within rank range)
+          subst (AllZip FitsDim (part_dims decl part)) (same_Some _ slabs h)
+          (spread_fit decl (path_text clause.path) clause.slabs part gridded within rank range)
       go (only other) rank range h = elim (cases_Bool (other == part)) [
         | inl t ↦
             let same = eqb-true other part t in
             subst (AllZip FitsDim (part_dims decl part)) (same_Some _ slabs (sym (cond-true _ _ _ t) ∙ h))
-            (subst (λ (p : ℕ). AllZip FitsDim (part_dims decl p) (or_whole (part_dims decl p) clause.slabs)) same (or_whole-fit (path_text clause.path) (part_dims decl other) clause.slabs rank range))
+            (subst (λ (p : ℕ). AllZip FitsDim (part_dims decl p) (or_whole (part_dims decl p) clause.slabs)) same
+            (or_whole-fit (path_text clause.path) (part_dims decl other) clause.slabs rank range))
         | inr f ↦ absurd (none-some slabs (sym (cond-false _ _ _ f) ∙ h))
       ]
 

@@ -38,7 +38,9 @@ SentOf-sent_of : (clauses : List Clause) (placed : ℕ × Decl) (sent : Sent) �
 unfolding sent_of
 SentOf-sent_of clauses placed sent has =
     let numbers = range_with_len 0 (length (parts_of placed.1)) in
-    let s = Source-filter_map (λ (part : ℕ). option_map (made placed.0 part) (slabs_of clauses placed.1 part)) numbers sent has in
+    let s =
+    Source-filter_map (λ (part : ℕ). option_map (made placed.0 part)
+    (slabs_of clauses placed.1 part)) numbers sent has in
     let slabs = mapped_some (made placed.0 s.item) (slabs_of clauses placed.1 s.item) sent s.gives in
     let part : s.item ≡ sent.part = ap (λ (t : Sent). t.part) slabs.2 in
     let within = within_range 0 (length (parts_of placed.1)) s.item s.has in
@@ -52,9 +54,11 @@ Has-sent_of : (clauses : List Clause) (placed : ℕ × Decl) (sent : Sent) → S
     → Has (sent_of clauses placed) sent
 unfolding sent_of
 Has-sent_of clauses placed sent s =
-    Has-filter_map (λ (part : ℕ). option_map (made placed.0 part) (slabs_of clauses placed.1 part)) (range_with_len 0 (length (parts_of placed.1))) sent.part sent
+    Has-filter_map (λ (part : ℕ). option_map (made placed.0 part) (slabs_of clauses placed.1 part))
+    (range_with_len 0 (length (parts_of placed.1))) sent.part sent
     (Has-range 0 (length (parts_of placed.1)) sent.part (omega arith) (omega (arith, s.within)))
-    (ap (option_map (made placed.0 sent.part)) s.slabs_are ∙ ap (λ (place : ℕ). Some (made place sent.part sent.slabs)) (sym s.place_is))
+    (ap (option_map (made placed.0 sent.part)) s.slabs_are ∙ ap (λ (place : ℕ). Some (made place sent.part sent.slabs))
+    (sym s.place_is))
 
 pub PartSent-all_sent : (decls : List Decl) (clauses : List Clause) (sent : Sent)
     → Has (all_sent decls clauses).sent sent → PartSent decls clauses sent
@@ -64,15 +68,23 @@ PartSent-all_sent decls clauses sent has =
     let t = SentOf-sent_of clauses s.item sent s.gives in
     let numbered = slice_get-numbered 0 decls s.item s.has in
     let place : sent.decl ≡ numbered.0 = omega (arith, t.place_is, numbered.1) in
-    record { decl = s.item.1; decl_is = ap (slice_get decls) place ∙ numbered.2; within = t.within; slabs_are = t.slabs_are }
+    record {
+      decl = s.item.1;
+      decl_is = ap (slice_get decls) place
+          ∙ numbered.2;
+      within = t.within;
+      slabs_are = t.slabs_are;
+    }
 
 pub Has-all_sent : (decls : List Decl) (clauses : List Clause) (sent : Sent) → PartSent decls clauses sent
     → Has (all_sent decls clauses).sent sent
 unfolding all_sent
 Has-all_sent decls clauses sent s =
     Has-flat_map (sent_of clauses) (enumerate_from 0 decls) (sent.decl, s.decl) sent
-    (subst (λ (place : ℕ). Has (enumerate_from 0 decls) (place, s.decl)) (zero-add sent.decl) (Has-numbered 0 decls sent.decl s.decl s.decl_is))
-    (Has-sent_of clauses (sent.decl, s.decl) sent (record { place_is = refl; within = s.within; slabs_are = s.slabs_are }))
+    (subst (λ (place : ℕ). Has (enumerate_from 0 decls) (place, s.decl)) (zero-add sent.decl)
+    (Has-numbered 0 decls sent.decl s.decl s.decl_is))
+    (Has-sent_of clauses (sent.decl, s.decl) sent
+    (record { place_is = refl; within = s.within; slabs_are = s.slabs_are }))
 
 -- what is sent where there is no clause is each part, whole
 pub whole_sent : (decls : List Decl) (sent : Sent) → PartSent decls [] sent ↔ IsWhole decls sent
@@ -98,13 +110,22 @@ asked_sent decls [] sent some apart none = absurd (some refl)
 asked_sent decls (x ∷ clauses) sent some apart none = (
   λ s.
       let t = given-slabs_of x clauses s.decl sent.part sent.slabs s.slabs_are in
-      record { decl = s.decl; clause = t.0; decl_is = s.decl_is; within = s.within; clause_is = contains_from_Has (x ∷ clauses) t.0 t.1; slabs_are = t.2 },
+      record {
+        decl = s.decl;
+        clause = t.0;
+        decl_is = s.decl_is;
+        within = s.within;
+        clause_is = contains_from_Has
+            (x ∷ clauses) t.0 t.1;
+        slabs_are = t.2;
+      },
   λ s. record {
     decl = s.decl;
     decl_is = s.decl_is;
     within = s.within;
     slabs_are =
-        slabs_of-given decls (x ∷ clauses) s.decl s.clause sent.part sent.slabs apart (Has-slice_get decls sent.decl s.decl s.decl_is) s.within none
+        slabs_of-given decls (x ∷ clauses) s.decl s.clause sent.part sent.slabs apart
+        (Has-slice_get decls sent.decl s.decl s.decl_is) s.within none
         (Has-from_contains (x ∷ clauses) s.clause s.clause_is) s.slabs_are;
   },
 )
@@ -113,13 +134,20 @@ asked_sent decls (x ∷ clauses) sent some apart none = (
 pub AllPairs-all_sent : (decls : List Decl) (clauses : List Clause) → Ordered StandsBefore (all_sent decls clauses).sent
 unfolding all_sent sent_of
 AllPairs-all_sent decls clauses =
-    Ordered-flat_map (λ (p q : ℕ × Decl). p.0 < q.0) StandsBefore (sent_of clauses) (enumerate_from 0 decls) (Ordered-numbered 0 decls)
-    (λ placed. Ordered-filter_map (λ (i j : ℕ). i < j) StandsBefore (λ (part : ℕ). option_map (made placed.0 part) (slabs_of clauses placed.1 part)) (range_with_len 0 (length (parts_of placed.1)))
+    Ordered-flat_map (λ (p q : ℕ × Decl). p.0 < q.0) StandsBefore (sent_of clauses) (enumerate_from 0 decls)
+    (Ordered-numbered 0 decls)
+    (λ placed. Ordered-filter_map (λ (i j : ℕ). i < j) StandsBefore
+    (λ (part : ℕ). option_map (made placed.0 part) (slabs_of clauses placed.1 part))
+    (range_with_len 0 (length (parts_of placed.1)))
     (Ordered-range 0 (length (parts_of placed.1)))
     (λ i j a b before first second.
     let s = mapped_some (made placed.0 i) (slabs_of clauses placed.1 i) a first in
     let t = mapped_some (made placed.0 j) (slabs_of clauses placed.1 j) b second in
-    inr (sym (ap (λ (x : Sent). x.decl) s.2) ∙ ap (λ (x : Sent). x.decl) t.2, omega (arith, ap (λ (x : Sent). x.part) s.2, ap (λ (x : Sent). x.part) t.2))))
+    inr (
+      sym (ap (λ (x : Sent). x.decl) s.2) ∙ ap (λ (x : Sent). x.decl) t.2,
+      omega
+          (arith, ap (λ (x : Sent). x.part) s.2, ap (λ (x : Sent). x.part) t.2),
+    )))
     (λ p q a b before first second.
     let s = SentOf-sent_of clauses p a first in
     let t = SentOf-sent_of clauses q b second in
@@ -130,30 +158,42 @@ record SoundAt (decl : Decl) (clause : Clause) : Type 0 where
   earlier : List Clause
   sound : Sound decl earlier clause
 
-sound_at : (decls : List Decl) (earlier clauses : List Clause) (decl : Decl) (clause : Clause) (part : ℕ) (slabs : List Slab) → Ordered (λ (a b : Decl). name_of a ≢ name_of b) decls → Has decls decl
+sound_at : (decls : List Decl) (earlier clauses : List Clause) (decl : Decl) (clause : Clause) (part : ℕ)
+    (slabs : List Slab) → Ordered (λ (a b : Decl). name_of a ≢ name_of b) decls → Has decls decl
     → Faultless decls earlier clauses → Has clauses clause → given_by decl clause part ≡ Some slabs
     → SoundAt decl clause
 sound_at decls earlier [] decl clause part slabs apart has none after given = absurd after
 sound_at decls earlier (x ∷ clauses) decl clause part slabs apart has none (inl same) given =
     let first = (Faultless-first decls earlier x clauses none).0 in
-    let named = decl_named-is decls decl x.path apart has (picked_if_given decl x part slabs (ap (λ (c : Clause). given_by decl c part) same ∙ given)) in
+    let named =
+    decl_named-is decls decl x.path apart has
+    (picked_if_given decl x part slabs (ap (λ (c : Clause). given_by decl c part) same ∙ given)) in
     subst (SoundAt decl) same (record { earlier = earlier; sound = Sound-from_none decls earlier x decl named first })
 sound_at decls earlier (x ∷ clauses) decl clause part slabs apart has none (inr after) given =
-    sound_at decls (earlier ++ x ∷ []) clauses decl clause part slabs apart has (Faultless-first decls earlier x clauses none).1 after given
+    sound_at decls (earlier ++ x ∷ []) clauses decl clause part slabs apart has
+    (Faultless-first decls earlier x clauses none).1 after given
 
 -- the slabs of a part that is sent fit it
 pub FitsPart-sent : (decls : List Decl) (clauses : List Clause) (sent : Sent) → AreNamedApart decls
     → All IsGridded decls → Faultless decls [] clauses → PartSent decls clauses sent → FitsPart decls sent
 FitsPart-sent decls [] sent apart gridded none s =
     let whole = (whole_sent decls sent).0 s in
-    record { decl = whole.decl; decl_is = whole.decl_is; fits = subst (AllZip FitsDim (part_dims whole.decl sent.part)) (sym whole.slabs_are) (whole_slabs-fit (part_dims whole.decl sent.part)) }
+    record {
+      decl = whole.decl;
+      decl_is = whole.decl_is;
+      fits = subst (AllZip FitsDim (part_dims whole.decl sent.part))
+          (sym whole.slabs_are) (whole_slabs-fit (part_dims whole.decl sent.part));
+    }
 FitsPart-sent decls (x ∷ clauses) sent apart gridded none s =
     let given = given-slabs_of x clauses s.decl sent.part sent.slabs s.slabs_are in
     let has = Has-slice_get decls sent.decl s.decl s.decl_is in
-    let at = sound_at decls [] (x ∷ clauses) s.decl given.0 sent.part sent.slabs (Ordered-from_pairs _ decls apart) has none given.1 given.2 in
+    let at =
+    sound_at decls [] (x ∷ clauses) s.decl given.0 sent.part sent.slabs
+    (Ordered-from_pairs _ decls apart) has none given.1 given.2 in
     record {
       decl = s.decl;
       decl_is = s.decl_is;
       fits =
-          given-fit s.decl at.earlier given.0 sent.part sent.slabs (All-contains IsGridded decls s.decl gridded (contains_from_Has decls s.decl has)) s.within at.sound given.2;
+          given-fit s.decl at.earlier given.0 sent.part sent.slabs
+          (All-contains IsGridded decls s.decl gridded (contains_from_Has decls s.decl has)) s.within at.sound given.2;
     }

@@ -33,7 +33,9 @@ part_whole : (decl : Decl) (numbered : ℕ × Array) → Has (enumerate_from 0 (
 part_whole decl numbered has =
     let found = slice_get-numbered 0 (parts_of decl) numbered has in
     let place : numbered.0 ≡ found.0 = found.1 ∙ zero-add found.0 in
-    let dims : part_dims decl numbered.0 ≡ numbered.1.dims = ap (λ (o : Option Array). option_map_or (λ (array : Array). array.dims) o []) (ap (slice_get (parts_of decl)) place ∙ found.2) in
+    let dims : part_dims decl numbered.0 ≡ numbered.1.dims =
+    ap (λ (o : Option Array). option_map_or (λ (array : Array). array.dims) o [])
+    (ap (slice_get (parts_of decl)) place ∙ found.2) in
     ap (option_map (λ (slabs : List Slab). cut_array slabs numbered.1)) (slabs_of-all decl numbered.0)
     ∙ ap (λ (each : List Dim). Some (cut_array (whole_slabs each) numbered.1)) dims
     ∙ ap Some (cut_array-whole numbered.1)
@@ -41,7 +43,8 @@ part_whole decl numbered has =
 parts_whole : (decl : Decl) → cut_parts [] decl ≡ parts_of decl
 unfolding cut_parts
 parts_whole decl =
-    filter_map-each (λ (numbered : ℕ × Array). option_map (λ (slabs : List Slab). cut_array slabs numbered.1) (slabs_of [] decl numbered.0)) (λ (numbered : ℕ × Array). numbered.1)
+    filter_map-each (λ (numbered : ℕ × Array). option_map (λ (slabs : List Slab). cut_array slabs numbered.1)
+    (slabs_of [] decl numbered.0)) (λ (numbered : ℕ × Array). numbered.1)
     (enumerate_from 0 (parts_of decl)) (part_whole decl)
     ∙ items-numbered 0 (parts_of decl)
 
@@ -69,7 +72,9 @@ unfolding all_sent
 all_sent-whole decls = ap (map (decl_sent [])) (kept_all decls) ∙ map-same (decl_sent []) decls decl_sent-whole
 
 plain_name : (clauses : List Clause) (array : Array) (o : Option (List Slab)) → o ≡ slabs_of clauses (Plain array) 0
-    → name_of (rebuilt (is_kept clauses (Plain array)) (Plain array) (filter_map (λ (numbered : ℕ × Array). option_map (λ (slabs : List Slab). cut_array slabs numbered.1) o) ((0, array) ∷ []))) ≡ array.name
+    → name_of (rebuilt (is_kept clauses (Plain array)) (Plain array)
+    (filter_map (λ (numbered : ℕ × Array). option_map (λ (slabs : List Slab). cut_array slabs numbered.1) o)
+    ((0, array) ∷ []))) ≡ array.name
 unfolding cut_array
 plain_name clauses array None e = refl
 plain_name clauses array (Some slabs) e = refl

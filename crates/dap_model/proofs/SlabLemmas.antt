@@ -69,10 +69,15 @@ pub Contains-slab_indices : (slab : Slab) (index : ℕ) → HasStride slab
 Contains-slab_indices slab index some = (
   λ found.
       let within : found.0 < slab_count slab = subst (λ (n : ℕ). found.0 < n) (length-slab_indices slab) found.1 in
-      subst (Picks slab) (sym (get_or-slab_indices slab found.0 index within) ∙ found.2) (Picks-slab_index slab found.0 some within),
+      subst (Picks slab) (sym (get_or-slab_indices slab found.0 index within) ∙ found.2)
+      (Picks-slab_index slab found.0 some within),
   λ picks.
-      let within = strides_within slab index some picks in
-      (picks.strides, subst (λ (n : ℕ). picks.strides < n) (sym (length-slab_indices slab)) within, get_or-slab_indices slab picks.strides index within ∙ sym picks.whole),
+      let within = strides_within slab index some picks in (
+        picks.strides,
+        subst (λ (n : ℕ). picks.strides < n)
+            (sym (length-slab_indices slab)) within,
+        get_or-slab_indices slab picks.strides index within ∙ sym picks.whole,
+      ),
 )
 
 -- the indices of a slab rise
@@ -106,7 +111,8 @@ pub slab_indices-whole : (size : ℕ) → slab_indices (whole_slab size) ≡ ran
 slab_indices-whole size = same_number_lists _ _
     (length-slab_indices (whole_slab size) ∙ slab_count-whole size ∙ sym (length-range_with_len 0 size))
     (λ place within.
-    let below : place < slab_count (whole_slab size) = subst (λ (n : ℕ). place < n) (length-slab_indices (whole_slab size)) within in
+    let below : place < slab_count (whole_slab size) =
+    subst (λ (n : ℕ). place < n) (length-slab_indices (whole_slab size)) within in
     let inside : place < size = subst (λ (n : ℕ). place < n) (slab_count-whole size) below in
     get_or-slab_indices (whole_slab size) place 0 below ∙ slab_index-whole size place inside
     ∙ sym (get_or-range_with_len 0 size place 0 inside ∙ zero-add place))

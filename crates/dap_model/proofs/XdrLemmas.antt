@@ -94,7 +94,8 @@ length-elements_bytes kind numbers =
     let bytes = length numbers * element_len kind in
     ap length (elements_laid kind numbers)
     ∙ length-append (flat_map (element_bytes kind) numbers) (zeros_after bytes)
-    ∙ ap (λ (n : ℕ). n + length (zeros_after bytes)) (length-pieces (element_bytes kind) (element_len kind) (length-element_bytes kind) numbers)
+    ∙ ap (λ (n : ℕ). n + length (zeros_after bytes))
+    (length-pieces (element_bytes kind) (element_len kind) (length-element_bytes kind) numbers)
     ∙ length-zeros_after bytes
 
 pub length-array_bytes : (kind : DapKind) (numbers : List ℕ)
@@ -107,18 +108,22 @@ length-array_bytes kind numbers =
 -- a byte of an element
 pub get_or-array_bytes : (kind : DapKind) (numbers : List ℕ) (place offset : ℕ) → place < length numbers
     → offset < element_len kind
-    → get_or (array_bytes kind numbers) (8 + (place * element_len kind + offset)) 0 ≡ get_or (element_bytes kind (get_or numbers place 0)) offset 0
+    → get_or (array_bytes kind numbers) (8 + (place * element_len kind + offset)) 0 ≡ get_or
+    (element_bytes kind (get_or numbers place 0)) offset 0
 unfolding array_bytes count_twice
 get_or-array_bytes kind numbers place offset within inside =
     let pieces = flat_map (element_bytes kind) numbers in
     let zeros = zeros_after (length numbers * element_len kind) in
     let at = place * element_len kind + offset in
     let count = length-pieces (element_bytes kind) (element_len kind) (length-element_bytes kind) numbers in
-    let short : at < length pieces = subst (λ (n : ℕ). at < n) (mul_comm (element_len kind) (length numbers) ∙ sym count) (mul-add-lt place (element_len kind) offset (length numbers) within inside) in
+    let short : at < length pieces =
+    subst (λ (n : ℕ). at < n) (mul_comm (element_len kind) (length numbers) ∙ sym count)
+    (mul-add-lt place (element_len kind) offset (length numbers) within inside) in
     get_or-append-add (count_twice (length numbers)) (elements_bytes kind numbers) at 0
     ∙ ap (λ (l : List ℕ). get_or l at 0) (elements_laid kind numbers)
     ∙ get_or_append_left pieces zeros 0 at short
-    ∙ get_or-pieces (element_bytes kind) (element_len kind) (length-element_bytes kind) numbers place offset within inside
+    ∙ get_or-pieces (element_bytes kind) (element_len kind)
+    (length-element_bytes kind) numbers place offset within inside
 
 pub length-text_bytes : (text : List ℕ) → length (text_bytes text) ≡ text_len (length text)
 unfolding text_bytes
@@ -155,7 +160,8 @@ element_within kind numbers place offset within inside =
 -- a byte of an element, as what stands there
 pub slice_get-array_bytes : (kind : DapKind) (numbers : List ℕ) (place offset : ℕ) → place < length numbers
     → offset < element_len kind
-    → slice_get (array_bytes kind numbers) (8 + (place * element_len kind + offset)) ≡ slice_get (element_bytes kind (get_or numbers place 0)) offset
+    → slice_get (array_bytes kind numbers) (8 + (place * element_len kind + offset)) ≡ slice_get
+    (element_bytes kind (get_or numbers place 0)) offset
 slice_get-array_bytes kind numbers place offset within inside =
     let element = element_bytes kind (get_or numbers place 0) in
     let short = subst (λ (n : ℕ). offset < n) (sym (length-element_bytes kind (get_or numbers place 0))) inside in

@@ -62,9 +62,11 @@ bytes_determine_array kind first second few less p q e =
     (λ place within.
     let inside : place < length second = subst (λ (n : ℕ). place < n) same within in
     let elements : element_bytes kind (get_or first place 0) ≡ element_bytes kind (get_or second place 0) =
-    same_number_lists _ _ (length-element_bytes kind (get_or first place 0) ∙ sym (length-element_bytes kind (get_or second place 0)))
+    same_number_lists _ _
+    (length-element_bytes kind (get_or first place 0) ∙ sym (length-element_bytes kind (get_or second place 0)))
     (λ offset below.
-    let short : offset < element_len kind = subst (λ (n : ℕ). offset < n) (length-element_bytes kind (get_or first place 0)) below in
+    let short : offset < element_len kind =
+    subst (λ (n : ℕ). offset < n) (length-element_bytes kind (get_or first place 0)) below in
     sym (get_or-array_bytes kind first place offset within short)
     ∙ ap (λ (l : List ℕ). get_or l (8 + (place * element_len kind + offset)) 0) e
     ∙ get_or-array_bytes kind second place offset inside short) in

@@ -41,15 +41,24 @@ are_other None second = false
 are_other (Some first) None = false
 are_other (Some first) (Some second) = not (pointwise is_same_slab first second)
 
+-- whether some earlier clause gives other slabs to a part than this one does
+abbrev pub differs_at : Decl → List Clause → Clause → ℕ → Bool
+differs_at decl earlier clause part =
+    list_any (λ (other : Clause). are_other (given_by decl other part) (given_by decl clause part)) earlier
+
 -- an earlier clause gives other slabs to a part that this one names too
 unfoldable pub conflict_fault : Decl → List Clause → Clause → Option ProjectFault
 conflict_fault decl earlier clause =
-    if list_any (λ (part : ℕ). list_any (λ (other : Clause). are_other (given_by decl other part) (given_by decl clause part)) earlier) (range_with_len 0 (length (parts_of decl))) then Some (SlabConflict (name_of decl)) else None
+    if list_any (differs_at decl earlier clause) (range_with_len 0 (length (parts_of decl)))
+    then Some (SlabConflict (name_of decl))
+    else None
 
 -- the first fault of a clause on the declaration that it names
 unfoldable pub decl_fault : Decl → List Clause → Clause → Option ProjectFault
 decl_fault decl earlier clause =
-    or_else (rank_fault (path_text clause.path) (picked_dims decl (picked_by decl clause.path)) clause.slabs) (or_else (range_fault (path_text clause.path) 0 (picked_dims decl (picked_by decl clause.path)) clause.slabs) (conflict_fault decl earlier clause))
+    or_else (rank_fault (path_text clause.path) (picked_dims decl (picked_by decl clause.path)) clause.slabs)
+    (or_else (range_fault (path_text clause.path) 0 (picked_dims decl (picked_by decl clause.path)) clause.slabs)
+    (conflict_fault decl earlier clause))
 
 -- the first fault of a clause, on the declaration that it names if there is one
 abbrev pub fault_in : List Clause → Clause → Option Decl → Option ProjectFault

@@ -72,8 +72,11 @@ step_close begun numbers = option_map (λ slab. after_slab (with_slab begun slab
 -- a byte after some of a number: more of it, a colon if a number may follow, or the end of the slab
 unfoldable pub step_number : Begun → List ℕ → ℕ → ℕ → ℕ → Option State
 step_number begun numbers count value byte =
-    if is_ascii_digit byte && nat_lt count 18 then Some (in_number begun numbers (count + 1) (value * 10 + (byte - 48)))
-    else (if byte == 58 && nat_lt (length numbers) 2 then Some (before_number begun (numbers ++ value ∷ [])) else (if byte == 93 then step_close begun (numbers ++ value ∷ []) else None))
+    if is_ascii_digit byte && nat_lt count 18
+    then Some (in_number begun numbers (count + 1) (value * 10 + (byte - 48)))
+    else (if byte == 58 && nat_lt (length numbers) 2
+    then Some (before_number begun (numbers ++ value ∷ []))
+    else (if byte == 93 then step_close begun (numbers ++ value ∷ []) else None))
 
 -- where reading stands after one more byte; `None` where no constraint begins so
 unfoldable pub step : State → ℕ → Option State

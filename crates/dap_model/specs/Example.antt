@@ -36,12 +36,22 @@ at index = record { start = index; stride = 1; stop = index }
 -- the Grid of a temperature, with these lengths
 abbrev pub t_grid : ℕ → ℕ → ℕ → Decl
 t_grid times lats lons =
-    Grid (codes "t") (array Float32 (codes "t") (dim (codes "time") times ∷ dim (codes "lat") lats ∷ dim (codes "lon") lons ∷ [])) (coordinate Int32 (codes "time") times ∷ coordinate Float32 (codes "lat") lats ∷ coordinate Float32 (codes "lon") lons ∷ [])
+    Grid (codes "t")
+    (array Float32 (codes "t")
+    (dim (codes "time") times ∷ dim (codes "lat") lats ∷ dim (codes "lon") lons ∷ []))
+    (coordinate Int32 (codes "time") times
+    ∷ coordinate Float32 (codes "lat") lats
+    ∷ coordinate Float32 (codes "lon") lons ∷ [])
 
 -- the declarations of the dataset
 abbrev pub example_decls : List Decl
 example_decls =
-    Plain (coordinate Int32 (codes "time") 3) ∷ Plain (coordinate Float32 (codes "lat") 2) ∷ Plain (coordinate Float32 (codes "lon") 2) ∷ t_grid 3 2 2 ∷ Plain (array Int32 (codes "time_run") (dim (codes "time") 3 ∷ [])) ∷ Plain (array Int32 (codes "time_offset") (dim (codes "time") 3 ∷ [])) ∷ []
+    Plain (coordinate Int32 (codes "time") 3)
+    ∷ Plain (coordinate Float32 (codes "lat") 2)
+    ∷ Plain (coordinate Float32 (codes "lon") 2)
+    ∷ t_grid 3 2 2
+    ∷ Plain (array Int32 (codes "time_run") (dim (codes "time") 3 ∷ []))
+    ∷ Plain (array Int32 (codes "time_offset") (dim (codes "time") 3 ∷ [])) ∷ []
 
 -- what is sent of it for a constraint
 abbrev pub example_sent : List ℕ → Result Projected ProjectFault

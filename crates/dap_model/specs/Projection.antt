@@ -29,20 +29,31 @@ unfoldable pub slabs_of : List Clause → Decl → ℕ → Option (List Slab)
 slabs_of clauses decl part =
     slice_get (filter_map (λ (each : Clause). given_by decl each part) (clauses_for clauses decl)) 0
 
+-- a part, by the place of its declaration and its own, with its slabs
+abbrev pub with_slabs : ℕ → ℕ → List Slab → Sent
+with_slabs decl part slabs = record { decl = decl; part = part; slabs = slabs }
+
 -- the parts of a declaration that are sent, by its place in the dataset
 unfoldable pub sent_of : List Clause → ℕ × Decl → List Sent
 sent_of clauses placed =
-    filter_map (λ (part : ℕ). option_map (λ (slabs : List Slab). record { decl = placed.0; part = part; slabs = slabs }) (slabs_of clauses placed.1 part)) (range_with_len 0 (length (parts_of placed.1)))
+    filter_map (λ (part : ℕ). option_map (with_slabs placed.0 part) (slabs_of clauses placed.1 part))
+    (range_with_len 0 (length (parts_of placed.1)))
+
+-- a dimension as long as its slab has indices
+abbrev pub cut_dim : Dim × Slab → Dim
+cut_dim pair = record pair.0 { size = slab_count pair.1 }
 
 -- an array with the lengths that slabs leave
 unfoldable pub cut_array : List Slab → Array → Array
-cut_array slabs array =
-    record array { dims = map (λ (pair : Dim × Slab). record pair.0 { size = slab_count pair.1 }) (zip array.dims slabs) }
+cut_array slabs array = record array { dims = map cut_dim (zip array.dims slabs) }
 
 -- the parts of a declaration that are sent, as arrays
 unfoldable pub cut_parts : List Clause → Decl → List Array
 cut_parts clauses decl =
-    filter_map (λ (numbered : ℕ × Array). option_map (λ (slabs : List Slab). cut_array slabs numbered.1) (slabs_of clauses decl numbered.0)) (enumerate_from 0 (parts_of decl))
+    filter_map
+    (λ (numbered : ℕ × Array).
+    option_map (λ (slabs : List Slab). cut_array slabs numbered.1) (slabs_of clauses decl numbered.0))
+    (enumerate_from 0 (parts_of decl))
 
 -- whether something of a declaration is sent: some clause picks it or a part of it
 unfoldable pub is_sent : List Clause → Decl → Bool
@@ -65,7 +76,10 @@ decl_sent clauses decl = rebuilt (is_kept clauses decl) decl (cut_parts clauses 
 -- what is sent: declarations and parts in the dataset's order
 unfoldable pub all_sent : List Decl → List Clause → Projected
 all_sent decls clauses =
-    record { decls = map (decl_sent clauses) (filter (is_sent clauses) decls); sent = flat_map (sent_of clauses) (enumerate_from 0 decls) }
+    record {
+      decls = map (decl_sent clauses) (filter (is_sent clauses) decls);
+      sent = flat_map (sent_of clauses) (enumerate_from 0 decls);
+    }
 
 -- what is sent, unless there is a fault
 abbrev pub unless_fault : Projected → Option ProjectFault → Result Projected ProjectFault

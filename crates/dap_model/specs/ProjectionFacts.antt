@@ -21,7 +21,8 @@ AreNamedApart decls = AllPairs (λ (decl other : Decl). name_of decl ≢ name_of
 -- a path names a declaration, or a part of one that isn't a plain array
 abbrev pub Names : Decl → List (List ℕ) → Type 0
 Names decl path =
-    (path ≡ name_of decl ∷ []) ⊎ ((part : Array) × Contains (named_parts decl) part × (path ≡ name_of decl ∷ part.name ∷ []))
+    (path ≡ name_of decl ∷ [])
+    ⊎ ((part : Array) × Contains (named_parts decl) part × (path ≡ name_of decl ∷ part.name ∷ []))
 
 -- some clause names the declaration of this name alone, or there is no clause
 abbrev pub NamesAlone : List Clause → List ℕ → Type 0

@@ -49,7 +49,12 @@ close_text depth name = indent depth ++ codes "} " ++ name ++ codes ";\n"
 -- a Grid: its array and its maps, each under a line of its own
 unfoldable pub grid_text : ℕ → List ℕ → Array → List Array → List ℕ
 grid_text depth name array maps =
-    line_text depth (codes "Grid {") ++ line_text (depth + 1) (codes "ARRAY:") ++ array_text (depth + 2) array ++ line_text (depth + 1) (codes "MAPS:") ++ arrays_text (depth + 2) maps ++ close_text depth name
+    line_text depth (codes "Grid {")
+    ++ line_text (depth + 1) (codes "ARRAY:")
+    ++ array_text (depth + 2) array
+    ++ line_text (depth + 1) (codes "MAPS:")
+    ++ arrays_text (depth + 2) maps
+    ++ close_text depth name
 
 -- a Structure and its members
 unfoldable pub structure_text : ℕ → List ℕ → List Array → List ℕ

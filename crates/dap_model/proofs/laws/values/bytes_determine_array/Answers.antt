@@ -4,4 +4,5 @@ use Rattle.dap_model.proofs.laws.values.bytes_determine_array.Goals as goal
 
 pub returns : goal.returns
 returns c =
-    bytes_determine_array c.args.kind c.args.first.now c.args.second.now c.requires.few c.requires.fewer c.requires.bits c.requires.other_bits
+    bytes_determine_array c.args.kind c.args.first.now c.args.second.now
+    c.requires.few c.requires.fewer c.requires.bits c.requires.other_bits

@@ -18,7 +18,8 @@ returns c =
       element = λ bits words place offset below inside.
           let numbers = map bits (box_of slabs) in
           let within = subst (λ n. place < n) (sym (length-numbers slabs bits)) below in
-          ap (λ l. slice_get l (8 + (place * element_len kind + offset))) (array_at kind slabs bits words c.requires.number c.requires.dims)
+          ap (λ l. slice_get l (8 + (place * element_len kind + offset)))
+          (array_at kind slabs bits words c.requires.number c.requires.dims)
           ∙ slice_get-array_bytes kind numbers place offset within inside
           ∙ ap (λ n. slice_get (element_bytes kind n) offset) (get_or-numbers slabs bits place below);
     }
