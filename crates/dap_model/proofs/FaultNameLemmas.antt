@@ -1,6 +1,6 @@
 -- Which declaration the path of a clause names, and the dimensions of what it names.
 use Rattle.std.proofs.Common.{◌≡◌, ◌≢◌, ℕ, zero, suc, ◌<◌, true, false, List, [], ◌∷◌, length, get_or, slice_get, Option, Some, None, refl, sym, ap, ap₂, subst, ◌∙◌, inl, inr, arith}
-use Rattle.std.specs.List.{Contains, position, position_or_len}
+use Rattle.std.specs.List.{position, position_or_len}
 use Rattle.std.specs.Option.{option_map_or}
 use Rattle.std.specs.Str.{bytes_eq}
 use Rattle.std.proofs.lemmas.Bool.{cases_Bool, cond-true, cond-false, cases_lt, lt-ltb, le-ltb, true≢false}
@@ -8,7 +8,7 @@ use Rattle.std.proofs.lemmas.List.Sums.{fails_before_first, passes_at_first}
 use Rattle.std.proofs.lemmas.Option.{none-some, same_Some, slice_get-get_or}
 use Rattle.std.proofs.lemmas.Slice.Eq.{bytes_eq-Decides}
 use Rattle.dap_model.specs.FaultFacts.{IsNamedBy, IsPartNamed, HasDims}
-use Rattle.dap_model.specs.Picking.{name_of, named_parts, parts_of, part_dims, Picked, nothing, every, only, picked_part, picked_below, picked_by, is_picked, is_every, picked_dims, decl_named}
+use Rattle.dap_model.specs.Picking.{name_of, named_parts, part_dims, Picked, nothing, every, only, picked_part, picked_below, picked_by, is_picked, is_every, picked_dims, decl_named}
 use Rattle.dap_model.specs.ProjectionFacts.{Names}
 use Rattle.dap_model.specs.declared.declaration.Array.{Array}
 use Rattle.dap_model.specs.declared.declaration.Decl.{Decl}

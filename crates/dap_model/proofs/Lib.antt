@@ -10,6 +10,7 @@ pub mod ConstraintRuns
 pub mod ConstraintStates
 pub mod FaultFactsLemmas
 pub mod FaultNameLemmas
+pub mod FaultSlabLemmas
 pub mod GridLemmas
 pub mod ListLemmas
 pub mod NumberLemmas

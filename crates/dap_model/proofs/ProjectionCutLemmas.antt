@@ -12,7 +12,7 @@ use Rattle.dap_model.specs.declared.projection.Sent.{Sent}
 use Rattle.dap_model.specs.declared.projection.Slab.{Slab}
 use Rattle.dap_model.specs.Box.{slab_count}
 use Rattle.dap_model.specs.Picking.{parts_of, picked_by, is_picked}
-use Rattle.dap_model.specs.Projection.{slabs_of, sent_of, cut_array, cut_parts, is_sent, is_kept, rebuilt, decl_sent, all_sent}
+use Rattle.dap_model.specs.Projection.{with_slabs, slabs_of, sent_of, cut_array, cut_parts, is_sent, is_kept, rebuilt, decl_sent, all_sent}
 use Rattle.dap_model.specs.ProjectionFacts.{IsCut, array_lengths}
 use Rattle.dap_model.proofs.WholeClauseLemmas.{is_sent-all}
 use Rattle.dap_model.proofs.ListLemmas.{Has, Source-filter_map, filter_map-some, filter_map-none, none_passes, cases_Option, mapped_some}
@@ -73,15 +73,12 @@ paired {A} {B} {C} {D} P o cut mark n (x ∷ xs) each =
           (subst (λ (l : List C). AllZip P (cut some.0 x ∷ filter_map h arrays) l) (sym second) (front, others))
     ]
 
-abbrev marked : ℕ → ℕ → List Slab → Sent
-marked decl part slabs = record { decl = decl; part = part; slabs = slabs }
-
 -- the parts of one declaration
 parts_cut : (decls : List Decl) (clauses : List Clause) (place : ℕ) (decl : Decl) → slice_get decls place ≡ Some decl
     → AllZip (IsCut decls) (cut_parts clauses decl) (sent_of clauses (place, decl))
 unfolding cut_parts sent_of
 parts_cut decls clauses place decl is =
-    paired (IsCut decls) (slabs_of clauses decl) cut_array (marked place) 0 (parts_of decl)
+    paired (IsCut decls) (slabs_of clauses decl) cut_array (with_slabs place) 0 (parts_of decl)
     (λ k part slabs part_is made. record {
       decl = decl;
       part = part;
@@ -122,9 +119,9 @@ unfolding is_sent sent_of
 none_sent [] place decl e = absurd (true≢false (sym (is_sent-all decl) ∙ e))
 none_sent (x ∷ clauses) place decl e = nil_from_none (sent_of (x ∷ clauses) (place, decl)) (λ sent has.
     let s =
-    Source-filter_map (λ (part : ℕ). option_map (marked place part) (slabs_of (x ∷ clauses) decl part))
+    Source-filter_map (λ (part : ℕ). option_map (with_slabs place part) (slabs_of (x ∷ clauses) decl part))
     (range_with_len 0 (length (parts_of decl))) sent has in
-    let slabs = mapped_some (marked place s.item) (slabs_of (x ∷ clauses) decl s.item) sent s.gives in
+    let slabs = mapped_some (with_slabs place s.item) (slabs_of (x ∷ clauses) decl s.item) sent s.gives in
     let given = given-slabs_of x clauses decl s.item slabs.0 slabs.1 in
     let picked = picked_if_given decl given.0 s.item slabs.0 given.2 in
     true≢false (sym picked ∙ none_passes (λ (each : Clause). is_picked (picked_by decl each.path))

@@ -9,7 +9,7 @@ use Rattle.dap_model.specs.declared.projection.Clause.{Clause}
 use Rattle.dap_model.specs.declared.projection.Sent.{Sent}
 use Rattle.dap_model.specs.declared.projection.Slab.{Slab}
 use Rattle.dap_model.specs.Picking.{name_of, parts_of, part_dims, given_by}
-use Rattle.dap_model.specs.Projection.{slabs_of, sent_of, all_sent}
+use Rattle.dap_model.specs.Projection.{with_slabs, slabs_of, sent_of, all_sent}
 use Rattle.dap_model.specs.ProjectionFacts.{AreNamedApart, IsGridded, StandsBefore, IsAsked, IsWhole, FitsDim, FitsPart}
 use Rattle.dap_model.proofs.ProjectionAgreeLemmas.{Sound, Sound-from_none, decl_named-is, picked_if_given, Faultless, Faultless-first, slabs_of-given, given-slabs_of}
 use Rattle.dap_model.proofs.ProjectionFitLemmas.{whole_slabs-fit, given-fit}
@@ -30,18 +30,15 @@ record SentOf (clauses : List Clause) (placed : ℕ × Decl) (sent : Sent) : Typ
   within : sent.part < length (parts_of placed.1)
   slabs_are : slabs_of clauses placed.1 sent.part ≡ Some sent.slabs
 
-abbrev made : ℕ → ℕ → List Slab → Sent
-made decl part slabs = record { decl = decl; part = part; slabs = slabs }
-
 SentOf-sent_of : (clauses : List Clause) (placed : ℕ × Decl) (sent : Sent) → Has (sent_of clauses placed) sent
     → SentOf clauses placed sent
 unfolding sent_of
 SentOf-sent_of clauses placed sent has =
     let numbers = range_with_len 0 (length (parts_of placed.1)) in
     let s =
-    Source-filter_map (λ (part : ℕ). option_map (made placed.0 part)
+    Source-filter_map (λ (part : ℕ). option_map (with_slabs placed.0 part)
     (slabs_of clauses placed.1 part)) numbers sent has in
-    let slabs = mapped_some (made placed.0 s.item) (slabs_of clauses placed.1 s.item) sent s.gives in
+    let slabs = mapped_some (with_slabs placed.0 s.item) (slabs_of clauses placed.1 s.item) sent s.gives in
     let part : s.item ≡ sent.part = ap (λ (t : Sent). t.part) slabs.2 in
     let within = within_range 0 (length (parts_of placed.1)) s.item s.has in
     record {
@@ -54,10 +51,10 @@ Has-sent_of : (clauses : List Clause) (placed : ℕ × Decl) (sent : Sent) → S
     → Has (sent_of clauses placed) sent
 unfolding sent_of
 Has-sent_of clauses placed sent s =
-    Has-filter_map (λ (part : ℕ). option_map (made placed.0 part) (slabs_of clauses placed.1 part))
+    Has-filter_map (λ (part : ℕ). option_map (with_slabs placed.0 part) (slabs_of clauses placed.1 part))
     (range_with_len 0 (length (parts_of placed.1))) sent.part sent
     (Has-range 0 (length (parts_of placed.1)) sent.part (omega arith) (omega (arith, s.within)))
-    (ap (option_map (made placed.0 sent.part)) s.slabs_are ∙ ap (λ (place : ℕ). Some (made place sent.part sent.slabs))
+    (ap (option_map (with_slabs placed.0 sent.part)) s.slabs_are ∙ ap (λ (place : ℕ). Some (with_slabs place sent.part sent.slabs))
     (sym s.place_is))
 
 pub PartSent-all_sent : (decls : List Decl) (clauses : List Clause) (sent : Sent)
@@ -137,12 +134,12 @@ AllPairs-all_sent decls clauses =
     Ordered-flat_map (λ (p q : ℕ × Decl). p.0 < q.0) StandsBefore (sent_of clauses) (enumerate_from 0 decls)
     (Ordered-numbered 0 decls)
     (λ placed. Ordered-filter_map (λ (i j : ℕ). i < j) StandsBefore
-    (λ (part : ℕ). option_map (made placed.0 part) (slabs_of clauses placed.1 part))
+    (λ (part : ℕ). option_map (with_slabs placed.0 part) (slabs_of clauses placed.1 part))
     (range_with_len 0 (length (parts_of placed.1)))
     (Ordered-range 0 (length (parts_of placed.1)))
     (λ i j a b before first second.
-    let s = mapped_some (made placed.0 i) (slabs_of clauses placed.1 i) a first in
-    let t = mapped_some (made placed.0 j) (slabs_of clauses placed.1 j) b second in
+    let s = mapped_some (with_slabs placed.0 i) (slabs_of clauses placed.1 i) a first in
+    let t = mapped_some (with_slabs placed.0 j) (slabs_of clauses placed.1 j) b second in
     inr (
       sym (ap (λ (x : Sent). x.decl) s.2) ∙ ap (λ (x : Sent). x.decl) t.2,
       omega
