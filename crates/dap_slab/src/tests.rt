@@ -9,17 +9,6 @@ use fm_base::NoMemory;
 use std::alloc::Global;
 use std::test::Fail;
 
-// A slab by its three numbers.
-fn slab(start: u64, stride: u64, stop: u64) -> Slab
-    ensures { result ≡ record { start = start; stride = stride; stop = stop } }
-{
-    Slab {
-        start,
-        stride,
-        stop,
-    }
-}
-
 // The first thirty index lists of a walk, each behind its length.
 fn walked(alloc: Global, slabs: &[Slab]) -> Result<Vec<u64>, NoMemory>
     requires index { All HasIndex slabs.now }
@@ -37,6 +26,7 @@ fn walked(alloc: Global, slabs: &[Slab]) -> Result<Vec<u64>, NoMemory>
 }
 
 #[test]
+#[tactic(auto, unfolding(dap_model::specs::Box::box_len, dap_model::specs::Box::slab_count, fm_base::specs::Layout::product))]
 fn no_slab_picks_the_one_empty_index_list(rt: HostRuntime) -> Result<(), Fail> {
     assert_eq!(rt; slab_len(&[]), 1);
     assert_eq!(rt; walked(rt.alloc(), &[])?.as_slice(), [0].as_slice());
@@ -44,16 +34,38 @@ fn no_slab_picks_the_one_empty_index_list(rt: HostRuntime) -> Result<(), Fail> {
 }
 
 #[test]
+#[tactic(auto, unfolding(dap_model::specs::Box::box_len, dap_model::specs::Box::slab_count, fm_base::specs::Layout::product))]
 fn a_stride_that_leaves_the_stop_out_ends_before_it(rt: HostRuntime) -> Result<(), Fail> {
-    let each = slab(1, 3, 9);
+    let each = Slab {
+        start: 1,
+        stride: 3,
+        stop: 9,
+    };
     assert_eq!(rt; slab_count(each), 3);
     assert_eq!(rt; walked(rt.alloc(), &[each])?.as_slice(), [1, 1, 1, 4, 1, 7].as_slice());
     Ok(())
 }
 
 #[test]
+#[tactic(auto, unfolding(dap_model::specs::Box::box_len, dap_model::specs::Box::slab_count, fm_base::specs::Layout::product))]
 fn the_last_of_three_indices_varies_fastest(rt: HostRuntime) -> Result<(), Fail> {
-    let slabs = [slab(0, 2, 2), slab(5, 1, 5), slab(1, 1, 3)];
+    let slabs = [
+        Slab {
+            start: 0,
+            stride: 2,
+            stop: 2,
+        },
+        Slab {
+            start: 5,
+            stride: 1,
+            stop: 5,
+        },
+        Slab {
+            start: 1,
+            stride: 1,
+            stop: 3,
+        },
+    ];
     let lists = [3, 0, 5, 1, 3, 0, 5, 2, 3, 0, 5, 3, 3, 2, 5, 1, 3, 2, 5, 2, 3, 2, 5, 3];
     assert_eq!(rt; slab_len(&slabs), 6);
     assert_eq!(rt; walked(rt.alloc(), &slabs)?.as_slice(), lists.as_slice());
