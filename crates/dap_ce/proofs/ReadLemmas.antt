@@ -1,9 +1,10 @@
 -- Reading goes on with a byte, ends with a fault, or comes to the end of the text.
-use Rattle.std.proofs.Common.{◌≡◌, ◌≢◌, ℕ, suc, ◌+◌, ◌<◌, ◌&&◌, false, List, [], ◌∷◌, length, get_or, drop, Some, None, Ok, Err, Result, refl, sym, ap, ◌∙◌, arith}
+use Rattle.std.proofs.Common.{◌≡◌, ◌≢◌, ℕ, suc, ◌+◌, ◌<◌, ◌&&◌, false, List, [], ◌∷◌, length, get_or, slice_get, drop, Some, None, Ok, Err, Result, refl, sym, ap, ◌∙◌, arith}
 use Rattle.std.specs.Option.{option_map_or}
 use Rattle.std.proofs.Math.Seq.{drop-cons}
 use Rattle.std.proofs.lemmas.Bool.{cond-false, ne_eqb}
 use Rattle.std.proofs.lemmas.List.{drop_all}
+use Rattle.std.proofs.lemmas.Option.{none-some, same_Some}
 use Rattle.fm_base.specs.Name.{is_name_byte}
 use Rattle.dap_model.specs.ConstraintReading.{State, front, before_name, clauses_at, constraint_of, ended_at, fault_at, fresh, may_end, read_from, step, step_to_name}
 use Rattle.dap_model.specs.declared.fault.CeFault.{CeFault}
@@ -57,3 +58,12 @@ unfolding constraint_of read_from step
 constraint_of-clauses byte text other =
     ap (λ (fault : CeFault). option_map_or (λ (s : State). read_from s 1 text) (step_to_name fresh byte) (Err fault))
     (same_fault byte other)
+
+-- what a text begins with
+pub no_front : (text : List ℕ) → None ≡ slice_get text 0 → text ≡ []
+no_front [] e = refl
+no_front (byte ∷ text) e = absurd (none-some byte e)
+
+pub front_of : (text : List ℕ) (byte : ℕ) → Some byte ≡ slice_get text 0 → (rest : List ℕ) × (text ≡ byte ∷ rest)
+front_of [] byte e = absurd (none-some byte (sym e))
+front_of (first ∷ rest) byte e = (rest, ap (λ (n : ℕ). n ∷ rest) (sym (same_Some byte first e)))

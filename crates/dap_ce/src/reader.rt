@@ -26,8 +26,8 @@ pub(crate) struct Reader {
 impl Reader {
     // At the first byte of the first name.
     pub(crate) fn new(alloc: Global) -> Reader
-        ensures { (read : List ℕ) → state_of result read ≡ before_name fresh }
-        
+        ensures start { (read : List ℕ) → state_of result read ≡ before_name fresh }
+        ensures fits { Fits 0 result.phase }
     {
         Reader {
             clauses: List::new(alloc),
