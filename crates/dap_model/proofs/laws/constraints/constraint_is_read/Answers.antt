@@ -1,6 +1,6 @@
--- A constraint is read, and what is read is one.
+-- Clauses are read exactly where the text asks for them, so a text asks for one list at most.
 use Rattle.dap_model.proofs.ConstraintFaultLemmas.{constraint_of-constrains, constrains_from_constraint_of}
-use Rattle.dap_model.proofs.laws.constraints.constraint_tells.Goals as goal
+use Rattle.dap_model.proofs.laws.constraints.constraint_is_read.Goals as goal
 
 pub returns : goal.returns
 returns c =

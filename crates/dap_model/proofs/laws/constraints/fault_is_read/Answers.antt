@@ -1,6 +1,6 @@
--- A fault is read, and what is read is one.
+-- A fault is read exactly where the text has it, so a text has one at most.
 use Rattle.dap_model.proofs.ConstraintFaultLemmas.{constraint_of-fault, HasFault-constraint_of}
-use Rattle.dap_model.proofs.laws.constraints.constraint_fault_tells.Goals as goal
+use Rattle.dap_model.proofs.laws.constraints.fault_is_read.Goals as goal
 
 pub returns : goal.returns
 returns c =
