@@ -12,7 +12,7 @@ use Rattle.fm_base.specs.declared.fault.HeaderFault.TheVariants.{Truncated, BadT
 use Rattle.fm_base.specs.declared.header.Dim.{Dim}
 use Rattle.fm_base.specs.declared.kind.Kind.TheVariants.{Byte}
 use Rattle.fm_base.specs.FaultPlaces.{StandsAt}
-use Rattle.fm_base.specs.Format.{padded_len, MAX_RANK, is_barred, is_name_text, has_record}
+use Rattle.fm_base.specs.Format.{padded_len, MAX_RANK, is_barred, is_name_text, has_record_dim}
 use Rattle.fm_base.specs.Input.{Input}
 use Rattle.fm_base.specs.Parser.{Outcome, and_then, ◌>>=◌, pure, unless, known}
 use Rattle.fm_base.specs.Reading.{HeaderParser, field, word, long_word, count, padded, name_at, kind_of, kind_at, items_from, tag_at, list_count, list_at, dim_size, rank_at, dim_id_at, begin_at, numrecs_at}
@@ -105,7 +105,7 @@ leaf_list_count tag = leaf_tested word
 pub leaf_size : (found : List Dim) → IsLeaf (dim_size found)
 unfolding dim_size
 leaf_size found = leaf_tested count
-    (λ at size. unless (size == 0 && has_record found) (TwoRecordDims at) size) leaf_count (Decides-size found)
+    (λ at size. unless (size == 0 && has_record_dim found) (TwoRecordDims at) size) leaf_count (Decides-size found)
 
 pub leaf_rank : IsLeaf rank_at
 unfolding rank_at

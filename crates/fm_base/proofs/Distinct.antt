@@ -9,8 +9,8 @@ use Rattle.std.proofs.lemmas.List.Folds.{list_any-append}
 use Rattle.std.proofs.lemmas.List.Sums.{sum_by-cons}
 use Rattle.std.proofs.Math.Bool.{or-false}
 use Rattle.fm_base.specs.declared.header.Dim.{Dim}
-use Rattle.fm_base.specs.Format.{has_name, is_record, has_record}
-use Rattle.fm_base.specs.Reading.{names_record}
+use Rattle.fm_base.specs.Format.{has_name, is_record_dim, has_record_dim}
+use Rattle.fm_base.specs.Reading.{names_record_dim}
 use Rattle.fm_base.specs.Spelling.{AreDistinct, NamesNoRecord}
 use Rattle.fm_base.proofs.Lists.{EachFrom}
 
@@ -107,12 +107,12 @@ fresh-from_AreDistinct name items apart = fresh_from_distinct name [] items (Are
 
 -- the dimension is no second record dimension
 abbrev pub IsOnlyRecord : List Dim → Dim → Type 0
-IsOnlyRecord found dim = (is_record dim && has_record found) ≡ false
+IsOnlyRecord found dim = (is_record_dim dim && has_record_dim found) ≡ false
 
-has_record-last : (found : List Dim) (dim : Dim) → has_record (found ++ dim ∷ []) ≡ (has_record found || is_record dim)
-unfolding has_record
-has_record-last found dim = list_any-append is_record found (dim ∷ [])
-    ∙ ap (λ b. list_any is_record found || b) (or-false (is_record dim))
+has_record_dim-last : (found : List Dim) (dim : Dim) → has_record_dim (found ++ dim ∷ []) ≡ (has_record_dim found || is_record_dim dim)
+unfolding has_record_dim
+has_record_dim-last found dim = list_any-append is_record_dim found (dim ∷ [])
+    ∙ ap (λ b. list_any is_record_dim found || b) (or-false (is_record_dim dim))
 
 one_more : (seen this : Bool) (n : ℕ) → (this && seen) ≡ false → cond (seen || this) 1 0 + n ≤ 1
     → cond seen 1 0 + (cond this 1 0 + n) ≤ 1
@@ -129,52 +129,52 @@ one_less false true n h = (refl, omega arith)
 one_less false false n h = (refl, omega arith)
 
 records_after : (found dims : List Dim) → EachFrom IsOnlyRecord found dims
-    → cond (has_record found) 1 0 + count_by is_record dims ≤ 1
-records_after found [] each = at_most_one (has_record found)
+    → cond (has_record_dim found) 1 0 + count_by is_record_dim dims ≤ 1
+records_after found [] each = at_most_one (has_record_dim found)
   where
     at_most_one : (b : Bool) → cond b 1 0 + 0 ≤ 1
     at_most_one true = omega arith
     at_most_one false = omega arith
 records_after found (dim ∷ dims) each =
     let more = records_after (found ++ dim ∷ []) dims each.1 in
-    rw (sum_by-cons (λ d. cond (is_record d) 1 0) dim dims)
-    (one_more (has_record found) (is_record dim) (count_by is_record dims) each.0
-    (rw (has_record-last found dim) at more))
+    rw (sum_by-cons (λ d. cond (is_record_dim d) 1 0) dim dims)
+    (one_more (has_record_dim found) (is_record_dim dim) (count_by is_record_dim dims) each.0
+    (rw (has_record_dim-last found dim) at more))
 
-only_records : (found dims : List Dim) → cond (has_record found) 1 0 + count_by is_record dims ≤ 1
+only_records : (found dims : List Dim) → cond (has_record_dim found) 1 0 + count_by is_record_dim dims ≤ 1
     → EachFrom IsOnlyRecord found dims
 only_records found [] h = tt
 only_records found (dim ∷ dims) h =
-    let less = one_less (has_record found) (is_record dim) (count_by is_record dims)
-    (rw (sum_by-cons (λ d. cond (is_record d) 1 0) dim dims) at h) in
-    (less.0, only_records (found ++ dim ∷ []) dims (rw (has_record-last found dim) less.1))
+    let less = one_less (has_record_dim found) (is_record_dim dim) (count_by is_record_dim dims)
+    (rw (sum_by-cons (λ d. cond (is_record_dim d) 1 0) dim dims) at h) in
+    (less.0, only_records (found ++ dim ∷ []) dims (rw (has_record_dim-last found dim) less.1))
 
 -- dimensions of which none is a second record dimension have at most one, and the converse
-pub one_record-from_only : (dims : List Dim) → EachFrom IsOnlyRecord [] dims → count_by is_record dims ≤ 1
-unfolding has_record
+pub one_record-from_only : (dims : List Dim) → EachFrom IsOnlyRecord [] dims → count_by is_record_dim dims ≤ 1
+unfolding has_record_dim
 one_record-from_only dims each = let h = records_after [] dims each in omega arith
 
-pub only-from_one_record : (dims : List Dim) → count_by is_record dims ≤ 1 → EachFrom IsOnlyRecord [] dims
-unfolding has_record
+pub only-from_one_record : (dims : List Dim) → count_by is_record_dim dims ≤ 1 → EachFrom IsOnlyRecord [] dims
+unfolding has_record_dim
 only-from_one_record dims h = only_records [] dims (omega arith)
 
 -- the number is not that of the record dimension, where others stand before it
 abbrev pub IsRecordFirst : List Dim → List ℕ → ℕ → Type 0
-IsRecordFirst dims found id = (not (length found == 0) && names_record dims id) ≡ false
+IsRecordFirst dims found id = (not (length found == 0) && names_record_dim dims id) ≡ false
 
-NamesNoRecord-from_test : (dims : List Dim) (id : ℕ) → names_record dims id ≡ false → NamesNoRecord dims id
-unfolding names_record
+NamesNoRecord-from_test : (dims : List Dim) (id : ℕ) → names_record_dim dims id ≡ false → NamesNoRecord dims id
+unfolding names_record_dim
 NamesNoRecord-from_test dims id e = go (slice_get dims id) e
   where
-    go : (o : Option Dim) → option_map_or is_record o false ≡ false → IfSome o (λ dim. is_record dim ≡ false)
+    go : (o : Option Dim) → option_map_or is_record_dim o false ≡ false → IfSome o (λ dim. is_record_dim dim ≡ false)
     go None e = tt
     go (Some dim) e = e
 
-test-from_NamesNoRecord : (dims : List Dim) (id : ℕ) → NamesNoRecord dims id → names_record dims id ≡ false
-unfolding names_record
+test-from_NamesNoRecord : (dims : List Dim) (id : ℕ) → NamesNoRecord dims id → names_record_dim dims id ≡ false
+unfolding names_record_dim
 test-from_NamesNoRecord dims id h = go (slice_get dims id) h
   where
-    go : (o : Option Dim) → IfSome o (λ dim. is_record dim ≡ false) → option_map_or is_record o false ≡ false
+    go : (o : Option Dim) → IfSome o (λ dim. is_record_dim dim ≡ false) → option_map_or is_record_dim o false ≡ false
     go None h = refl
     go (Some dim) h = h
 
@@ -185,7 +185,7 @@ no_record_after : (dims : List Dim) (first : ℕ) (found ids : List ℕ) → Eac
     → AllByRecursion (NamesNoRecord dims) ids
 no_record_after dims first found [] each = tt
 no_record_after dims first found (id ∷ ids) each = (
-  NamesNoRecord-from_test dims id (sym (later_test (names_record dims id) (length found)) ∙ each.0),
+  NamesNoRecord-from_test dims id (sym (later_test (names_record_dim dims id) (length found)) ∙ each.0),
   no_record_after dims first (found ++ id ∷ []) ids each.1,
 )
 
@@ -193,7 +193,7 @@ record_first_after : (dims : List Dim) (first : ℕ) (found ids : List ℕ) → 
     → EachFrom (IsRecordFirst dims) (first ∷ found) ids
 record_first_after dims first found [] all = tt
 record_first_after dims first found (id ∷ ids) all = (
-  later_test (names_record dims id) (length found)
+  later_test (names_record_dim dims id) (length found)
       ∙ test-from_NamesNoRecord dims id all.0,
   record_first_after dims first (found ++ id ∷ []) ids all.1,
 )

@@ -6,9 +6,9 @@ use Rattle.fm_base.specs.declared.fault.HeaderFault.TheVariants.{BadCount, BadDi
 use Rattle.fm_base.specs.declared.header.Attr.{Attr}
 use Rattle.fm_base.specs.declared.header.Dim.{Dim}
 use Rattle.fm_base.specs.declared.kind.Kind.{Kind}
-use Rattle.fm_base.specs.Format.{ATTRIBUTE_TAG, MAX_RANK, has_name, has_record}
+use Rattle.fm_base.specs.Format.{ATTRIBUTE_TAG, MAX_RANK, has_name, has_record_dim}
 use Rattle.fm_base.specs.Kind.{size_of}
-use Rattle.fm_base.specs.Reading.{word, long_word, count, padded, name_at, kind_at, items_from, list_at, dim_size, dim_at, attr_at, rank_at, names_record, dim_id_at, begin_at}
+use Rattle.fm_base.specs.Reading.{word, long_word, count, padded, name_at, kind_at, items_from, list_at, dim_size, dim_at, attr_at, rank_at, names_record_dim, dim_id_at, begin_at}
 use Rattle.fm_base.specs.Spelling.{SpellsWord, SpellsCount, SpellsPadded, SpellsName, SpellsKind, SpellsList, SpellsDim, SpellsAttr, SpellsBegin, Spelled, NamesNoRecord}
 use Rattle.fm_base.proofs.Distinct.{IsFresh, IsOnlyRecord, IsRecordFirst, EachFrom-parts, EachFrom-both, AllByRecursion-from_each, EachFrom-from_all, no_record-from_first, first-from_no_record}
 use Rattle.fm_base.proofs.Exact.{onto, Then, Such, Exact-located}
@@ -17,10 +17,10 @@ use Rattle.fm_base.proofs.Lists.{EachFrom, Adds, Exact-items_from, Exact-list_at
 use Rattle.fm_base.proofs.Steps.{Through, Tests-pure, ExactBytes, ExactBytes-then, ExactBytes-as, ExactBytes-test, ExactBytes-unless, ExactBytes-unless_both}
 
 pub Exact-dim_size : (found : List Dim)
-    → ExactBytes (Such SpellsCount (λ size. (size == 0 && has_record found) ≡ false)) (dim_size found)
+    → ExactBytes (Such SpellsCount (λ size. (size == 0 && has_record_dim found) ≡ false)) (dim_size found)
 unfolding dim_size
 Exact-dim_size found = Exact-located
-    (λ at. ExactBytes-unless SpellsCount (λ size. size == 0 && has_record found) (TwoRecordDims at) count Exact-count)
+    (λ at. ExactBytes-unless SpellsCount (λ size. size == 0 && has_record_dim found) (TwoRecordDims at) count Exact-count)
 
 abbrev pub name_of_dim : Dim → List ℕ
 name_of_dim dim = dim.name
@@ -35,7 +35,7 @@ dim_of name size = record { name = name; size = size }
 abbrev DimAsRead : List Dim → List ℕ → Dim → Type 0
 DimAsRead found =
     Then (Such SpellsName (λ name. has_name (map name_of_dim found) name ≡ false))
-    (λ name. Through (Such SpellsCount (λ size. (size == 0 && has_record found) ≡ false))
+    (λ name. Through (Such SpellsCount (λ size. (size == 0 && has_record_dim found) ≡ false))
     (λ size dim. dim_of name size ≡ dim))
 
 pub Exact-dim_at : (found : List Dim) → ExactBytes (Such SpellsDim (DimAfter found)) (dim_at found)
@@ -168,7 +168,7 @@ Exact-dim_id_at dims found = ExactBytes-as
     (λ text id fits s. record { spelled = s.spelled; holds = (leb-false (length dims) id s.holds.0, s.holds.1) })
     (λ text id s. record { spelled = s.spelled; holds = (lt-leb (length dims) id s.holds.0, s.holds.1) })
     (Exact-located (λ at. ExactBytes-unless_both _ (λ id. nat_le (length dims) id)
-    (λ id. not (length found == 0) && names_record dims id) (BadDimId at) (RecordNotFirst at) word Exact-word))
+    (λ id. not (length found == 0) && names_record_dim dims id) (BadDimId at) (RecordNotFirst at) word Exact-word))
 
 -- the numbers of `rank` dimensions that are there, with the record dimension first or not at all
 abbrev pub AreIds : List Dim → ℕ → List ℕ → Type 0

@@ -13,7 +13,7 @@ use Rattle.fm_base.specs.declared.kind.Kind.{Kind}
 use Rattle.fm_base.specs.Format.{ATTRIBUTE_TAG, DIMENSION_TAG, VARIABLE_TAG, has_name, is_name_text}
 use Rattle.fm_base.specs.Input.{Input, whole}
 use Rattle.fm_base.specs.Parser.{Outcome, ◌>>=◌, and_then, pure, unless, value_of}
-use Rattle.fm_base.specs.Reading.{HeaderParser, word, count, field, padded, name_at, kind_at, rank_at, names_record, begin_at, attr_at, dim_size, version_at, numrecs_at, items_from, tag_at, list_count, list_at, dim_at, dim_id_at, var_at, header_at, header_or_fault}
+use Rattle.fm_base.specs.Reading.{HeaderParser, word, count, field, padded, name_at, kind_at, rank_at, names_record_dim, begin_at, attr_at, dim_size, version_at, numrecs_at, items_from, tag_at, list_count, list_at, dim_at, dim_id_at, var_at, header_at, header_or_fault}
 use Rattle.fm_base.specs.Spelling.{AreDistinct}
 use Rattle.fm_base.proofs.Distinct.{IsFresh, AreDistinct-from_fresh, AllByRecursion-from_each, EachFrom-parts}
 use Rattle.fm_base.proofs.Lists.{EachFrom}
@@ -91,11 +91,11 @@ dim_id_in : (dims : List Dim) (found : List ℕ) (i : Input) (x : ℕ × Input) 
 unfolding dim_id_at
 dim_id_in dims found i x e =
     let there : ℕ → HeaderParser ℕ = λ id. unless (nat_le (length dims) id) (BadDimId i.at) id in
-    let first : ℕ → HeaderParser ℕ = λ id. unless (not (length found == 0) && names_record dims id) (RecordNotFirst i.at) id in
+    let first : ℕ → HeaderParser ℕ = λ id. unless (not (length found == 0) && names_record_dim dims id) (RecordNotFirst i.at) id in
     let id = then_ok (word i) (λ n. there n >>= first) x e in
     let is = then_ok (there id.0.0 id.0.1) first x id.2 in
     let in_range = unless_ok (nat_le (length dims) id.0.0) (BadDimId i.at) id.0.0 id.0.1 is.0 is.1 in
-    let last = unless_ok (not (length found == 0) && names_record dims is.0.0) (RecordNotFirst i.at) is.0.0 is.0.1 x is.2 in
+    let last = unless_ok (not (length found == 0) && names_record_dim dims is.0.0) (RecordNotFirst i.at) is.0.0 is.0.1 x is.2 in
     subst (λ n. n < length dims) (in_range.1 ∙ last.1) (leb-false (length dims) id.0.0 in_range.0)
 
 -- a variable's name isn't that of one before it, and its dimensions are there

@@ -7,10 +7,10 @@ use Rattle.fm_base.specs.declared.header.Attr.{Attr}
 use Rattle.fm_base.specs.declared.header.Dim.{Dim}
 use Rattle.fm_base.specs.declared.header.Header.{Header}
 use Rattle.fm_base.specs.declared.header.NcVar.{NcVar}
-use Rattle.fm_base.specs.Format.{padded_len, DIMENSION_TAG, VARIABLE_TAG, ATTRIBUTE_TAG, STREAMING as STREAMING_COUNT, MAX_RANK, is_name_text, has_name, has_record}
+use Rattle.fm_base.specs.Format.{padded_len, DIMENSION_TAG, VARIABLE_TAG, ATTRIBUTE_TAG, STREAMING as STREAMING_COUNT, MAX_RANK, is_name_text, has_name, has_record_dim}
 use Rattle.fm_base.specs.Kind.{size_of}
 use Rattle.fm_base.specs.Parser.{Outcome, and_then, ◌>>=◌, pure, unless, known}
-use Rattle.fm_base.specs.Reading.{HeaderParser, field, word, long_word, count, padded, name_at, kind_of, kind_at, items_from, tag_at, list_count, list_at, dim_size, dim_at, attr_at, rank_at, names_record, dim_id_at, begin_at, var_at, numrecs_at}
+use Rattle.fm_base.specs.Reading.{HeaderParser, field, word, long_word, count, padded, name_at, kind_of, kind_at, items_from, tag_at, list_count, list_at, dim_size, dim_at, attr_at, rank_at, names_record_dim, dim_id_at, begin_at, var_at, numrecs_at}
 use Rattle.fm_base.proofs.Exact.{input}
 use Rattle.fm_base.proofs.Settled.{Local, Local-then}
 use Rattle.fm_base.proofs.SettledSteps.{Local-pure, Local-field, Decides, Decides-unless, Decides-known, Decides-then, Advances, Advances-field, Advances-then, Advances-tested, Local-tested, Local-refit}
@@ -106,14 +106,14 @@ Local-list_at tag item li = Local-then (Local-tag_at tag)
     (λ found. Local-then (Local-list_count found) (λ n. Local-items_from item li n []))
 
 pub Decides-size : (found : List Dim) (at size : ℕ)
-    → Decides at (unless (size == 0 && has_record found) (TwoRecordDims at) size)
-Decides-size found at size = Decides-unless at (size == 0 && has_record found) (TwoRecordDims at) size
+    → Decides at (unless (size == 0 && has_record_dim found) (TwoRecordDims at) size)
+Decides-size found at size = Decides-unless at (size == 0 && has_record_dim found) (TwoRecordDims at) size
     (record { stands = refl; uncut = λ k. tt })
 
 Local-dim_size : (found : List Dim) → Local (dim_size found)
 unfolding dim_size
 Local-dim_size found = Local-tested
-    (λ at size. unless (size == 0 && has_record found) (TwoRecordDims at) size) Local-count Advances-count
+    (λ at size. unless (size == 0 && has_record_dim found) (TwoRecordDims at) size) Local-count Advances-count
     (Decides-size found)
 
 Local-dim_at : (found : List Dim) → Local (dim_at found)
@@ -138,7 +138,7 @@ Local-rank_at = Local-tested (λ at rank. unless (nat_lt MAX_RANK rank) (BadCoun
 -- the tests of the number of a dimension
 abbrev pub tested_id : List Dim → List ℕ → ℕ → ℕ → HeaderParser ℕ
 tested_id dims found at id = unless (nat_le (length dims) id) (BadDimId at) id
-    >>= λ id. unless (not (length found == 0) && names_record dims id) (RecordNotFirst at) id
+    >>= λ id. unless (not (length found == 0) && names_record_dim dims id) (RecordNotFirst at) id
 
 pub Decides-id : (dims : List Dim) (found : List ℕ) (at id : ℕ) → Decides at (tested_id dims found at id)
 Decides-id dims found at id =

@@ -8,13 +8,13 @@ use Rattle.fm_base.specs.declared.fault.LayoutFault.TheVariants.{TooLarge, DataO
 use Rattle.fm_base.specs.declared.header.Dim.{Dim}
 use Rattle.fm_base.specs.declared.header.Header.{Header}
 use Rattle.fm_base.specs.declared.header.NcVar.{NcVar}
-use Rattle.fm_base.specs.Format.{padded_len, is_record}
+use Rattle.fm_base.specs.Format.{padded_len, is_record_dim}
 use Rattle.fm_base.specs.Kind.{size_of}
-use Rattle.fm_base.specs.Reading.{names_record}
+use Rattle.fm_base.specs.Reading.{names_record_dim}
 
 -- the length of a dimension, which is the number of records for the record dimension
 abbrev pub size_in : Header → Dim → ℕ
-size_in header dim = if is_record dim then header.numrecs else dim.size
+size_in header dim = if is_record_dim dim then header.numrecs else dim.size
 
 -- the length of the dimension of this number
 abbrev pub size_at : Header → ℕ → ℕ
@@ -26,7 +26,7 @@ shape_of header var = map (size_at header) var.dims
 
 -- whether the first dimension of a variable is the record dimension
 abbrev pub is_record_var : Header → NcVar → Bool
-is_record_var header var = option_map_or (names_record header.dims) (slice_get var.dims 0) false
+is_record_var header var = option_map_or (names_record_dim header.dims) (slice_get var.dims 0) false
 
 -- the lengths of a variable's dimensions but for the record dimension
 abbrev pub fixed_shape : Header → NcVar → List ℕ

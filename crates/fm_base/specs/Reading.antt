@@ -13,7 +13,7 @@ use Rattle.fm_base.specs.declared.header.Header.{Header}
 use Rattle.fm_base.specs.declared.header.NcVar.{NcVar}
 use Rattle.fm_base.specs.declared.kind.Kind.{Kind}
 use Rattle.fm_base.specs.declared.kind.Kind.TheVariants.{Byte, Char, Short, Int, Float, Double}
-use Rattle.fm_base.specs.Format.{padded_len, DIMENSION_TAG, VARIABLE_TAG, ATTRIBUTE_TAG, STREAMING as STREAMING_COUNT, MAX_RANK, is_name_text, has_name, is_record, has_record}
+use Rattle.fm_base.specs.Format.{padded_len, DIMENSION_TAG, VARIABLE_TAG, ATTRIBUTE_TAG, STREAMING as STREAMING_COUNT, MAX_RANK, is_name_text, has_name, is_record_dim, has_record_dim}
 use Rattle.fm_base.specs.Input.{Input, whole}
 use Rattle.fm_base.specs.Kind.{size_of}
 use Rattle.fm_base.specs.Parser.{Outcome, Parser, ◌>>=◌, pure, located, unless, known, value_of}
@@ -80,7 +80,7 @@ list_at tag item = tag_at tag >>= λ found. list_count found >>= λ n. items_fro
 
 -- the length of a dimension after these, of which at most one is the record dimension
 unfoldable pub dim_size : List Dim → HeaderParser ℕ
-dim_size found = located (λ at. count >>= λ size. unless (size == 0 && has_record found) (TwoRecordDims at) size)
+dim_size found = located (λ at. count >>= λ size. unless (size == 0 && has_record_dim found) (TwoRecordDims at) size)
 
 unfoldable pub dim_at : List Dim → HeaderParser Dim
 dim_at found = do
@@ -101,14 +101,14 @@ unfoldable pub rank_at : HeaderParser ℕ
 rank_at = located (λ at. word >>= λ rank. unless (nat_lt MAX_RANK rank) (BadCount at) rank)
 
 -- whether the dimension of this number is the record dimension
-unfoldable pub names_record : List Dim → ℕ → Bool
-names_record dims id = option_map_or is_record (slice_get dims id) false
+unfoldable pub names_record_dim : List Dim → ℕ → Bool
+names_record_dim dims id = option_map_or is_record_dim (slice_get dims id) false
 
 -- the number of a dimension after these: it is there, and the record dimension stands first
 unfoldable pub dim_id_at : List Dim → List ℕ → HeaderParser ℕ
 dim_id_at dims found = located
     (λ at. word >>= λ id. unless (nat_le (length dims) id) (BadDimId at) id
-    >>= λ id. unless (not (length found == 0) && names_record dims id) (RecordNotFirst at) id)
+    >>= λ id. unless (not (length found == 0) && names_record_dim dims id) (RecordNotFirst at) id)
 
 -- the place of a variable's data
 unfoldable pub begin_at : ℕ → HeaderParser ℕ

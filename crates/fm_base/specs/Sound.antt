@@ -5,14 +5,14 @@ use Rattle.fm_base.specs.declared.fault.FormatFault.{FormatFault}
 use Rattle.fm_base.specs.declared.fault.FormatFault.TheVariants.{OfHeader, OfLayout}
 use Rattle.fm_base.specs.declared.header.Header.{Header}
 use Rattle.fm_base.specs.Chain.{◌>>=◌, ◌>>◌, refuse, fault_as}
-use Rattle.fm_base.specs.Code.{header_code, layout_code}
+use Rattle.fm_base.specs.Code.{header_fault_code, layout_fault_code}
 use Rattle.fm_base.specs.Layout.{layout_fault}
 use Rattle.fm_base.specs.Reading.{header_or_fault}
 
 -- the number of a fault of a file, 1 to 14
-abbrev pub format_code : FormatFault → ℕ
-format_code (OfHeader fault) = header_code fault
-format_code (OfLayout fault) = layout_code fault
+abbrev pub format_fault_code : FormatFault → ℕ
+format_fault_code (OfHeader fault) = header_fault_code fault
+format_fault_code (OfLayout fault) = layout_fault_code fault
 
 -- the header of a file that has no fault, else the first fault
 unfoldable pub sound_header : List ℕ → Result Header FormatFault

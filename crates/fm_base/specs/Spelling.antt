@@ -9,7 +9,7 @@ use Rattle.fm_base.specs.declared.header.Dim.{Dim}
 use Rattle.fm_base.specs.declared.header.Header.{Header}
 use Rattle.fm_base.specs.declared.header.NcVar.{NcVar}
 use Rattle.fm_base.specs.declared.kind.Kind.{Kind}
-use Rattle.fm_base.specs.Format.{padded_len, DIMENSION_TAG, VARIABLE_TAG, ATTRIBUTE_TAG, MAX_RANK, is_name_text, is_record}
+use Rattle.fm_base.specs.Format.{padded_len, DIMENSION_TAG, VARIABLE_TAG, ATTRIBUTE_TAG, MAX_RANK, is_name_text, is_record_dim}
 use Rattle.fm_base.specs.Kind.{size_of, code_of}
 
 -- a number of four bytes, the most significant first
@@ -129,7 +129,7 @@ AreDistinct names = IsDistinct bytes_eq names
 
 -- the dimension of this number isn't the record dimension
 abbrev pub NamesNoRecord : List Dim → ℕ → Type 0
-NamesNoRecord dims id = IfSome (slice_get dims id) (λ dim. is_record dim ≡ false)
+NamesNoRecord dims id = IfSome (slice_get dims id) (λ dim. is_record_dim dim ≡ false)
 
 -- a variable of a file with these dimensions is sound: its rank is within the limit, its dimensions are there, the
 -- record dimension stands first or not at all, and its attributes have different names
@@ -142,7 +142,7 @@ pub record IsSoundVar (dims : List Dim) (var : NcVar) : Type 0 where
 -- a header is sound: names differ within each list, there is at most one record dimension, the variables are sound
 pub record IsSound (header : Header) : Type 0 where
   pub dims : AreDistinct (map (λ (d : Dim). d.name) header.dims)
-  pub one_record : count_by is_record header.dims ≤ 1
+  pub one_record : count_by is_record_dim header.dims ≤ 1
   pub attrs : AreDistinct (map (λ (a : Attr). a.name) header.attrs)
   pub vars : AreDistinct (map (λ (v : NcVar). v.name) header.vars)
   pub each : AllByRecursion (IsSoundVar header.dims) header.vars

@@ -136,8 +136,8 @@ second_at = λ i. if next_is 58 i then
     (byte_at 58 >>= λ colon. number_at 1 2 0 59 >>= λ second. fraction_at >>= λ zeros. pure second) i else Ok (0, i)
 
 -- the seconds from midnight to a time of day
-unfoldable pub time_at : UnitsParser ℕ
-time_at = do
+unfoldable pub time_of_day_at : UnitsParser ℕ
+time_of_day_at = do
   hour ← number_at 1 2 0 23
   colon ← byte_at 58
   minute ← number_at 1 2 0 59
@@ -166,7 +166,7 @@ last_zone_at = spaces_at >>= λ gap. λ i. if has_ended i then Ok (pos 0, i)
 
 -- a time with its zone up to the end of the text, as the seconds from the midnight in UTC that begins its date
 unfoldable pub clock_at : UnitsParser ℤ
-clock_at = time_at >>= λ time. last_zone_at >>= λ zone. pure (pos time -ℤ zone)
+clock_at = time_of_day_at >>= λ time. last_zone_at >>= λ zone. pure (pos time -ℤ zone)
 
 -- what follows a date up to the end of the text, which is midnight in UTC where there is no time
 unfoldable pub after_date_at : UnitsParser ℤ

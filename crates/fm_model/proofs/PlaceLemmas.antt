@@ -7,7 +7,7 @@ use Rattle.fm_base.specs.declared.header.Header.{Header as FileHeader}
 use Rattle.fm_base.specs.declared.header.NcVar.{NcVar}
 use Rattle.fm_base.specs.Kind.{size_of}
 use Rattle.fm_base.specs.Layout.{is_record_var, place_of, product, rank_in, shape_of, size_at}
-use Rattle.fm_base.specs.Reading.{names_record}
+use Rattle.fm_base.specs.Reading.{names_record_dim}
 use Rattle.fm_model.specs.LoadVars.{slot_in}
 use Rattle.fm_model.specs.Variable.{dim_of_axis, stands_first_alone, lies_along}
 
@@ -17,25 +17,25 @@ place_by_slot : (header : FileHeader) (axis var : NcVar) (first : ℕ) (others :
     → place_of header var (k ∷ index) ≡ (slot_in header axis var).begin + k * (slot_in header axis var).step
     + size_of var.kind * rank_in (drop 1 (shape_of header var)) index
 unfolding place_of slot_in rank_in product
-place_by_slot header axis var first others k index dims same = by_record (names_record header.dims first) refl
+place_by_slot header axis var first others k index dims same = by_record (names_record_dim header.dims first) refl
   where
-    records_is : is_record_var header var ≡ names_record header.dims first
-    records_is = ap (λ (l : List ℕ). option_map_or (names_record header.dims) (slice_get l 0) false) dims
+    records_is : is_record_var header var ≡ names_record_dim header.dims first
+    records_is = ap (λ (l : List ℕ). option_map_or (names_record_dim header.dims) (slice_get l 0) false) dims
 
     shape_is : shape_of header var ≡ size_at header first ∷ map (size_at header) others
     shape_is = ap (map (size_at header)) dims
 
-    by_record : (b : Bool) → names_record header.dims first ≡ b
+    by_record : (b : Bool) → names_record_dim header.dims first ≡ b
         → place_of header var (k ∷ index) ≡ (slot_in header axis var).begin + k * (slot_in header axis var).step
         + size_of var.kind * rank_in (drop 1 (shape_of header var)) index
     by_record true is =
         let has : is_record_var header var ≡ true = records_is ∙ is in
-        let along : names_record header.dims (dim_of_axis axis) ≡ true = ap (names_record header.dims) (sym same)
+        let along : names_record_dim header.dims (dim_of_axis axis) ≡ true = ap (names_record_dim header.dims) (sym same)
         ∙ is in
         rw (has, along) refl
     by_record false is =
         let has : is_record_var header var ≡ false = records_is ∙ is in
-        let along : names_record header.dims (dim_of_axis axis) ≡ false = ap (names_record header.dims) (sym same)
+        let along : names_record_dim header.dims (dim_of_axis axis) ≡ false = ap (names_record_dim header.dims) (sym same)
         ∙ is in
         rw (has, along, shape_is) (omega arith)
 

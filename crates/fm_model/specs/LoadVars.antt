@@ -6,7 +6,7 @@ use Rattle.fm_base.specs.declared.header.Header.{Header as FileHeader}
 use Rattle.fm_base.specs.declared.header.NcVar.{NcVar}
 use Rattle.fm_base.specs.Kind.{size_of}
 use Rattle.fm_base.specs.Layout.{shape_of, product, record_size, elements_of}
-use Rattle.fm_base.specs.Reading.{names_record}
+use Rattle.fm_base.specs.Reading.{names_record_dim}
 use Rattle.fm_model.specs.declared.loaded.LoadFault.{LoadFault}
 use Rattle.fm_model.specs.declared.loaded.LoadFault.TheVariants.{VariableDiffers, GridDiffers}
 use Rattle.fm_model.specs.declared.loaded.Slot.{Slot}
@@ -27,7 +27,7 @@ is_like_timed proto header axis wanted var = is_same_kind wanted.kind var.kind &
 unfoldable pub slot_in : FileHeader → NcVar → NcVar → Slot
 slot_in header axis var = record {
   begin = var.begin;
-  step = if names_record header.dims
+  step = if names_record_dim header.dims
       (dim_of_axis axis) then record_size header else size_of var.kind * product (drop 1 (shape_of header var));
 }
 

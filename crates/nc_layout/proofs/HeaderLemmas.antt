@@ -9,21 +9,21 @@ use Rattle.std.proofs.lemmas.List.Elements.{All-nil, All-cons, All-weaker, All-f
 use Rattle.fm_base.specs.declared.header.Dim.{Dim}
 use Rattle.fm_base.specs.declared.header.Header.{Header}
 use Rattle.fm_base.specs.declared.header.NcVar.{NcVar}
-use Rattle.fm_base.specs.Format.{is_record}
+use Rattle.fm_base.specs.Format.{is_record_dim}
 use Rattle.fm_base.specs.Kind.{size_of}
 use Rattle.fm_base.specs.Layout.{size_in, size_at, is_record_var, shape_of, fixed_shape, record_size, rank_in, place_of}
-use Rattle.fm_base.specs.Reading.{names_record}
+use Rattle.fm_base.specs.Reading.{names_record_dim}
 use Rattle.fm_base.specs.Spelling.{IsSoundVar, NamesNoRecord}
 use Rattle.nc_layout.specs.Faults.{CanLayOut}
 use Rattle.nc_layout.specs.Kept.{HasLengths, part_of, index_in_part}
 use Rattle.nc_layout.specs.Places.{IsIndex, part_begin, part_count}
 
 -- the record dimension has as many places as there are records
-size_at-record : (header : Header) (id : ℕ) → names_record header.dims id ≡ true → size_at header id ≡ header.numrecs
-unfolding names_record
+size_at-record : (header : Header) (id : ℕ) → names_record_dim header.dims id ≡ true → size_at header id ≡ header.numrecs
+unfolding names_record_dim
 size_at-record header id named = at (slice_get header.dims id) named
   where
-    at : (o : Option Dim) → option_map_or is_record o false ≡ true → option_map_or (size_in header) o 0 ≡ header.numrecs
+    at : (o : Option Dim) → option_map_or is_record_dim o false ≡ true → option_map_or (size_in header) o 0 ≡ header.numrecs
     at None e = absurd cc
     at (Some dim) e = rw e refl
 
@@ -40,7 +40,7 @@ shape_of-record header var is = at var.dims refl
     at : (ids : List ℕ) → var.dims ≡ ids → shape_of header var ≡ header.numrecs ∷ fixed_shape header var
     at [] none = let not : is_record_var header var ≡ false = rw none refl in absurd cc
     at (id ∷ ids) some =
-        let named : names_record header.dims id ≡ true = rw some at is in
+        let named : names_record_dim header.dims id ≡ true = rw some at is in
         rw is (rw some (ap (λ n. n ∷ map (size_at header) ids) (size_at-record header id named)))
 
 -- an element lies in its part, at the number of its index list there
@@ -114,18 +114,18 @@ some_dim header var is = at var.dims refl
 pub ruleset shapes = (fixed_shape-record, fixed_shape-fixed, some_dim)
 
 -- a dimension that isn't the record dimension has no length 0
-size_at-pos : (header : Header) (id : ℕ) → id < length header.dims → names_record header.dims id ≡ false
+size_at-pos : (header : Header) (id : ℕ) → id < length header.dims → names_record_dim header.dims id ≡ false
     → 1 ≤ size_at header id
-unfolding names_record
+unfolding names_record_dim
 size_at-pos header id below other = at (slice_get header.dims id) refl other
   where
-    at : (o : Option Dim) → slice_get header.dims id ≡ o → option_map_or is_record o false ≡ false
+    at : (o : Option Dim) → slice_get header.dims id ≡ o → option_map_or is_record_dim o false ≡ false
         → 1 ≤ option_map_or (size_in header) o 0
     at None none e = elim (slice_get_cases header.dims id).1 [ inl some ↦ absurd cc | inr past ↦ absurd (omega arith) ]
     at (Some dim) some e = let size = eqb-false dim.size 0 e in rw e (omega arith)
 
 sizes-pos : (header : Header) (ids : List ℕ) → AllByRecursion (λ id. id < length header.dims) ids
-    → AllByRecursion (λ id. names_record header.dims id ≡ false) ids → All (λ n. 1 ≤ n) (map (size_at header) ids)
+    → AllByRecursion (λ id. names_record_dim header.dims id ≡ false) ids → All (λ n. 1 ≤ n) (map (size_at header) ids)
 sizes-pos header [] there other = All-nil (λ n. 1 ≤ n)
 sizes-pos header (id ∷ ids) there other =
     All-cons (λ n. 1 ≤ n) (size_at header id) (map (size_at header) ids) (size_at-pos header id there.0 other.0)
@@ -133,19 +133,19 @@ sizes-pos header (id ∷ ids) there other =
 
 -- the dimensions after the first don't have the records
 names_no_record : (dims : List Dim) (ids : List ℕ) → AllByRecursion (NamesNoRecord dims) ids
-    → AllByRecursion (λ id. names_record dims id ≡ false) ids
-unfolding names_record
+    → AllByRecursion (λ id. names_record_dim dims id ≡ false) ids
+unfolding names_record_dim
 names_no_record dims [] all = tt
 names_no_record dims (id ∷ ids) all = (at (slice_get dims id) all.0, names_no_record dims ids all.1)
   where
-    at : (o : Option Dim) → IfSome o (λ dim. is_record dim ≡ false) → option_map_or is_record o false ≡ false
+    at : (o : Option Dim) → IfSome o (λ dim. is_record_dim dim ≡ false) → option_map_or is_record_dim o false ≡ false
     at None other = refl
     at (Some dim) other = other
 
 fixed-pos : (header : Header) (ids : List ℕ) (b : Bool)
-    → option_map_or (names_record header.dims) (slice_get ids 0) false ≡ b
+    → option_map_or (names_record_dim header.dims) (slice_get ids 0) false ≡ b
     → AllByRecursion (λ id. id < length header.dims) ids
-    → AllByRecursion (λ id. names_record header.dims id ≡ false) (drop 1 ids)
+    → AllByRecursion (λ id. names_record_dim header.dims id ≡ false) (drop 1 ids)
     → All (λ n. 1 ≤ n) (cond b (drop 1 (map (size_at header) ids)) (map (size_at header) ids))
 fixed-pos header [] true first there other = All-nil (λ n. 1 ≤ n)
 fixed-pos header [] false first there other = All-nil (λ n. 1 ≤ n)

@@ -1,7 +1,7 @@
 //! The dimensions of a header's variables.
 ghost use Rattle.std.specs.Prelude.{◌≡◌, map};
 ghost use Rattle.fm_base.specs.Layout.{size_at, is_record_var, fixed_shape};
-ghost use Rattle.fm_base.specs.Reading.{names_record};
+ghost use Rattle.fm_base.specs.Reading.{names_record_dim};
 ghost use Rattle.nc_layout.specs.Places.{part_count};
 
 use fm_base::{Dim, Header, NcVar};
@@ -17,9 +17,9 @@ pub fn size_at(header: &Header, id: u32) -> u64
     }
 }
 
-#[tactic(auto, unfolding(fm_base::specs::Reading::names_record))]
-fn names_record(dims: &[Dim], id: u32) -> bool
-    ensures { result ≡ names_record dims.now id }
+#[tactic(auto, unfolding(fm_base::specs::Reading::names_record_dim))]
+fn names_record_dim(dims: &[Dim], id: u32) -> bool
+    ensures { result ≡ names_record_dim dims.now id }
 {
     dims.get(id as usize).is_some_and(|dim| dim.size == 0)
 }
@@ -30,7 +30,7 @@ pub fn is_record_var(header: &Header, var: &NcVar) -> bool
 {
     match var.dims.as_slice().first() {
         None => false,
-        Some(id) => names_record(header.dims.as_slice(), *id),
+        Some(id) => names_record_dim(header.dims.as_slice(), *id),
     }
 }
 

@@ -1,5 +1,5 @@
 //! Small files, worked by the definitions.
-#![tactic(auto, unfolding(fm_base::specs::Layout::product, fm_base::specs::Layout::vsize, fm_base::specs::Layout::record_size, fm_base::specs::Layout::rank_in, fm_base::specs::Layout::place_of, fm_base::specs::Layout::indices_of, fm_base::specs::Layout::first_too_large, fm_base::specs::Layout::first_outside, fm_base::specs::Layout::layout_fault, fm_base::specs::Reading::names_record))]
+#![tactic(auto, unfolding(fm_base::specs::Layout::product, fm_base::specs::Layout::vsize, fm_base::specs::Layout::record_size, fm_base::specs::Layout::rank_in, fm_base::specs::Layout::place_of, fm_base::specs::Layout::indices_of, fm_base::specs::Layout::first_too_large, fm_base::specs::Layout::first_outside, fm_base::specs::Layout::layout_fault, fm_base::specs::Reading::names_record_dim))]
 
 ghost use Rattle.std.specs.Prelude.{◌≡◌, ◌<◌, ◌≤◌, [], ◌∷◌, None, Some};
 ghost use Rattle.fm_base.specs.declared.fault.LayoutFault.TheVariants.{TooLarge, DataOutside};

@@ -12,7 +12,7 @@ use Rattle.srv_run.specs.declared.file.Loaded.{Loaded}
 use Rattle.srv_run.specs.Best.{IsLoaded, best_rows}
 use Rattle.srv_run.specs.Rows.{row_at, rows_of, is_rising}
 use Rattle.srv_run.specs.Times.{is_in_range}
-use Rattle.srv_run.specs.Values.{has_record}
+use Rattle.srv_run.specs.Values.{has_record_dim}
 use Rattle.srv_run.proofs.StrictlyRising.{is_rising-rising}
 use Rattle.srv_run.proofs.SortedRows.{IsPermutation-rising, length-rising, all-rising, length-rows_of, all-rows_of, valid-rows_of}
 
@@ -51,11 +51,11 @@ length-best_rows loaded = length-rising (rows_of loaded.run (times_of loaded) lo
     ∙ length-rows_of loaded.run (times_of loaded) loaded.file.shape.times
 
 -- each row has a record in the file
-pub has_record-best_rows : (loaded : Loaded) → IsTrue (list_all (has_record loaded.file) (best_rows loaded))
-has_record-best_rows loaded =
+pub has_record_dim-best_rows : (loaded : Loaded) → IsTrue (list_all (has_record_dim loaded.file) (best_rows loaded))
+has_record_dim-best_rows loaded =
     let rows = rows_of loaded.run (times_of loaded) loaded.file.shape.times in
-    all-rising (has_record loaded.file) rows
-    (all-rows_of (has_record loaded.file) loaded.run (times_of loaded) loaded.file.shape.times (λ place below.
+    all-rising (has_record_dim loaded.file) rows
+    (all-rows_of (has_record_dim loaded.file) loaded.run (times_of loaded) loaded.file.shape.times (λ place below.
     grind (arith, nat_tests)))
 
 -- each row is valid, and was run, within the range of instants
@@ -95,6 +95,6 @@ pub ruleset loaded = (
   all-times-loaded,
   length-times,
   length-best_rows,
-  has_record-best_rows,
+  has_record_dim-best_rows,
   is_in_range-best_rows,
 )

@@ -4,7 +4,7 @@ use Rattle.std.specs.Prelude.{ℕ, List, [], ◌∷◌, ◌++◌, length, codes,
 use Rattle.std.specs.Str.{bytes_eq}
 use Rattle.fm_base.specs.declared.header.Header.{Header}
 use Rattle.fm_base.specs.Chain.{◌>>=◌, fault_as}
-use Rattle.fm_base.specs.Sound.{format_code, sound_header}
+use Rattle.fm_base.specs.Sound.{format_fault_code, sound_header}
 use Rattle.srv_run.specs.declared.end.End.{End}
 use Rattle.srv_run.specs.declared.end.End.TheVariants.{Refused}
 use Rattle.srv_run.specs.declared.end.Subject.TheVariants.{File}
@@ -17,7 +17,7 @@ checked_path words = None
 
 -- the header of a file that has no fault, else the refusal by its first fault
 unfoldable pub sound_or_refusal : List ℕ → Result Header End
-sound_or_refusal bytes = fault_as (λ fault. Refused File (format_code fault)) (sound_header bytes)
+sound_or_refusal bytes = fault_as (λ fault. Refused File (format_fault_code fault)) (sound_header bytes)
 
 -- what a path holds is read whole and has no fault, or the check ends
 unfoldable pub checked_or_end : Option (List ℕ) → Result Header End

@@ -31,8 +31,8 @@ abbrev pub field_numbers : ReadFile → List Row → List ℕ
 field_numbers file rows = flat_map (λ (r : Row). field_at file.bytes file.shape r.place) rows
 
 -- whether the file has a record at a row's place
-abbrev pub has_record : ReadFile → Row → Bool
-has_record file row = nat_lt row.place file.shape.times
+abbrev pub has_record_dim : ReadFile → Row → Bool
+has_record_dim file row = nat_lt row.place file.shape.times
 
 -- the times, latitudes and longitudes of these rows
 unfoldable pub coordinates_data : ReadFile → List Row → List ℕ

@@ -6,7 +6,7 @@ use Rattle.std.proofs.Math.Dec.{eqb-suc-zero}
 use Rattle.std.specs.Char.{is_ascii_digit, eq_ignore_ascii_case}
 use Rattle.std.specs.List.{list_all}
 use Rattle.fm_base.specs.UnitsReading.{next_passes, after_date_at, is_same_word}
-use Rattle.fm_base.specs.UnitsSpelling.{SpellsNumber, SpellsClock, SpellsAfterDate}
+use Rattle.fm_base.specs.UnitsSpelling.{SpellsNumberWithin, SpellsClock, SpellsAfterDate}
 use Rattle.tm_units.proofs.InstantLemmas.{and_parts}
 use Rattle.fm_base.proofs.Exact.{input, Exact, Stops, AtEnd, Then, Exact-then, Exact-as, Exact-before}
 use Rattle.tm_units.proofs.UnitsChoices.{GoesOn, Optional, Allowed, Exact-either, Exact-allowed, Exact-unless_ended}
@@ -22,7 +22,7 @@ pub record BeginsWithDigit (text : List ℕ) : Type 0 where
   pub digit : is_ascii_digit byte ≡ true
 
 -- a number of one digit or more begins with one
-pub number_begins : (most low high : ℕ) (text : List ℕ) (n : ℕ) → SpellsNumber 1 most low high text n
+pub number_begins : (most low high : ℕ) (text : List ℕ) (n : ℕ) → SpellsNumberWithin 1 most low high text n
     → BeginsWithDigit text
 number_begins most low high [] n s = let enough = s.enough in absurd (omega arith)
 number_begins most low high (x ∷ text) n s =

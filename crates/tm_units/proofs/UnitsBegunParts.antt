@@ -7,7 +7,7 @@ use Rattle.std.specs.List.{prefix_len, list_all}
 use Rattle.fm_base.specs.Input.{Input}
 use Rattle.fm_base.specs.Stamp.{number_of}
 use Rattle.fm_base.specs.UnitsReading.{UnitsParser as Parser, past, next_passes, byte_at, letter_at, letters_at, many_at, some_at, number_at, unit_at, seconds_per, is_same_word, is_second}
-use Rattle.fm_base.specs.UnitsSpelling.{SpellsNumber, SpellsUnit}
+use Rattle.fm_base.specs.UnitsSpelling.{SpellsNumberWithin, SpellsUnit}
 use Rattle.fm_base.proofs.Exact.{input, done}
 use Rattle.tm_units.proofs.UnitsRuns.{one_at, IsByte, IsLetter, AreLetters, Repeats, RepeatsSome, run_passes, letters_same, no_letters, Exact-letter}
 use Rattle.tm_units.proofs.UnitsLocal.{stepped, err_is}
@@ -138,7 +138,7 @@ zeros_pass (suc zeros) digits all = zeros_pass zeros digits all
 filled : (fewest most low high : ℕ) (digits : List ℕ) → fewest ≤ most → length digits ≤ fewest
     → list_all is_ascii_digit digits ≡ true
     → is_out low high digits ≡ false
-    → SpellsNumber fewest most low high (replicate (fewest - length digits) 48 ++ digits) (number_of digits)
+    → SpellsNumberWithin fewest most low high (replicate (fewest - length digits) 48 ++ digits) (number_of digits)
 filled fewest most low high digits wide few all in_range =
     let zeros = fewest - length digits in
     let size : length (replicate zeros 48 ++ digits) ≡ fewest =
@@ -153,8 +153,8 @@ filled fewest most low high digits wide few all in_range =
       high_is = ltb-false _ _ range.1;
     }
 
-pub Viable-number : (fewest most low high : ℕ) → fewest ≤ most → Spelled (SpellsNumber fewest most low high)
-    → Viable (SpellsNumber fewest most low high) (number_at fewest most low high)
+pub Viable-number : (fewest most low high : ℕ) → fewest ≤ most → Spelled (SpellsNumberWithin fewest most low high)
+    → Viable (SpellsNumberWithin fewest most low high) (number_at fewest most low high)
 Viable-number fewest most low high wide some = record {
   fails = λ at rest bad e. elim (number_place fewest most low high at rest bad e) [
     | inl here ↦ let place : at ≡ at + 0 = omega arith in
@@ -200,7 +200,7 @@ Viable-number fewest most low high wide some = record {
 
 -- the number that one digit writes
 pub one_digit : (most low high digit : ℕ) → is_ascii_digit digit ≡ true → 1 ≤ most → low ≤ digit - 48
-    → digit - 48 ≤ high → Spelled (SpellsNumber 1 most low high)
+    → digit - 48 ≤ high → Spelled (SpellsNumberWithin 1 most low high)
 one_digit most low high digit is wide above below = record {
   text = digit ∷ [];
   a = digit - 48;
@@ -215,13 +215,13 @@ one_digit most low high digit is wide above below = record {
   };
 }
 
-pub a_minute : Spelled (SpellsNumber 1 2 0 59)
+pub a_minute : Spelled (SpellsNumberWithin 1 2 0 59)
 a_minute = one_digit 2 0 59 48 refl (omega arith) (omega arith) (omega arith)
 
-pub an_hour : Spelled (SpellsNumber 1 2 0 23)
+pub an_hour : Spelled (SpellsNumberWithin 1 2 0 23)
 an_hour = one_digit 2 0 23 48 refl (omega arith) (omega arith) (omega arith)
 
-pub two_zeros : Spelled (SpellsNumber 2 2 0 59)
+pub two_zeros : Spelled (SpellsNumberWithin 2 2 0 59)
 two_zeros =
     record {
       text = 48 ∷ 48 ∷ [];

@@ -4,8 +4,8 @@ use Rattle.std.proofs.lemmas.Bool.{le-leb}
 use Rattle.jiff_core.specs.Calendar.{days_from_civil, days_in_month}
 use Rattle.jiff_core.proofs.CalendarLemmas.{days_in_month_bounds}
 use Rattle.fm_base.specs.Calendar.{day_number, is_date, time_seconds}
-use Rattle.fm_base.specs.UnitsReading.{UnitsParser as Parser, next_passes, byte_at, number_at, date_at, fraction_at, second_at, time_at, zone_minute_at, distance_at}
-use Rattle.fm_base.specs.UnitsSpelling.{SpellsNumber, SpellsDate, SpellsSecond, SpellsTime, SpellsZoneMinute, SpellsDistance}
+use Rattle.fm_base.specs.UnitsReading.{UnitsParser as Parser, next_passes, byte_at, number_at, date_at, fraction_at, second_at, time_of_day_at, zone_minute_at, distance_at}
+use Rattle.fm_base.specs.UnitsSpelling.{SpellsNumberWithin, SpellsDate, SpellsSecond, SpellsTime, SpellsZoneMinute, SpellsDistance}
 use Rattle.fm_base.proofs.Exact.{input, Then, Is}
 use Rattle.tm_units.proofs.UnitsRuns.{RepeatsSome, Exact-byte}
 use Rattle.tm_units.proofs.UnitsNumbers.{Exact-number}
@@ -166,8 +166,8 @@ pub a_time : Spelled TheTime
 a_time = Spelled-then {T = λ hour. After 58 (TheMinute hour)} an_hour
     (Spelled-after {S = TheMinute an_hour.a} 58 (to_the_minute an_hour.a))
 
-pub Viable-time : Viable SpellsTime time_at
-unfolding time_at
+pub Viable-time : Viable SpellsTime time_of_day_at
+unfolding time_of_day_at
 Viable-time =
     Viable-as to_time
     (Viable-then {T = λ hour. After 58 (TheMinute hour)} (Exact-number 1 2 0 23)
@@ -186,7 +186,7 @@ Viable-zone_minute : Viable SpellsZoneMinute zone_minute_at
 unfolding zone_minute_at
 Viable-zone_minute =
     Viable-as to_zone_minute
-    (Viable-optional {S = After 58 (SpellsNumber 2 2 0 59)} (next_passes (λ other. other == 58)) 0
+    (Viable-optional {S = After 58 (SpellsNumberWithin 2 2 0 59)} (next_passes (λ other. other == 58)) 0
     (Viable-after 58 two_zeros (Viable-number 2 2 0 59 (omega arith) two_zeros)))
 
 no_zone_minute : Spelled SpellsZoneMinute

@@ -4,7 +4,7 @@ use Rattle.std.proofs.lemmas.List.{append-nil}
 use Rattle.std.specs.Char.{is_ascii_digit}
 use Rattle.fm_base.specs.Calendar.{day_number}
 use Rattle.fm_base.specs.UnitsReading.{UnitsParser as Parser, byte_at, number_at, date_at}
-use Rattle.fm_base.specs.UnitsSpelling.{SpellsNumber, SpellsDate}
+use Rattle.fm_base.specs.UnitsSpelling.{SpellsNumberWithin, SpellsDate}
 use Rattle.fm_base.proofs.Exact.{Exact, Stops, Then, Finds, Exact-then, Exact-as, Exact-before, Exact-known, Exact-located}
 use Rattle.tm_units.proofs.UnitsRuns.{IsByte, Exact-byte, after_nothing}
 use Rattle.tm_units.proofs.UnitsNumbers.{Exact-number}
@@ -25,7 +25,7 @@ Exact-after byte ep = Exact-then (Exact-byte byte) (λ u. ep) (λ a b back rest 
 
 -- the day of a date, after its year and month
 abbrev pub TheDay : ℕ → ℕ → List ℕ → ℤ → Type 0
-TheDay year month = Then (SpellsNumber 1 2 0 99) (λ day. Finds (day_number year month day))
+TheDay year month = Then (SpellsNumberWithin 1 2 0 99) (λ day. Finds (day_number year month day))
 
 pub Exact-the_day : (year month : ℕ)
     → Exact (TheDay year month) (Stops is_ascii_digit)
@@ -38,10 +38,10 @@ Exact-the_day year month =
 
 -- the month of a date, after its year
 abbrev pub TheMonth : ℕ → List ℕ → ℤ → Type 0
-TheMonth year = Then (SpellsNumber 1 2 1 12) (λ month. After 45 (TheDay year month))
+TheMonth year = Then (SpellsNumberWithin 1 2 1 12) (λ month. After 45 (TheDay year month))
 
 abbrev pub TheDate : List ℕ → ℤ → Type 0
-TheDate = Then (SpellsNumber 1 4 0 9999) (λ year. After 45 (TheMonth year))
+TheDate = Then (SpellsNumberWithin 1 4 0 9999) (λ year. After 45 (TheMonth year))
 
 pub to_date : (text : List ℕ) (day : ℤ) → TheDate text day → SpellsDate text day
 to_date text day s =

@@ -4,7 +4,7 @@ use Rattle.std.proofs.lemmas.List.{append-nil}
 use Rattle.std.specs.Char.{is_ascii_digit}
 use Rattle.fm_base.specs.Calendar.{time_seconds}
 use Rattle.fm_base.specs.UnitsReading.{zone_minute_at, distance_at}
-use Rattle.fm_base.specs.UnitsSpelling.{SpellsNumber, SpellsZoneMinute, SpellsDistance}
+use Rattle.fm_base.specs.UnitsSpelling.{SpellsNumberWithin, SpellsZoneMinute, SpellsDistance}
 use Rattle.fm_base.proofs.Exact.{Exact, Stops, Then, Is, Exact-then, Exact-as, Exact-before, Exact-pure}
 use Rattle.tm_units.proofs.UnitsChoices.{Optional, Exact-optional}
 use Rattle.tm_units.proofs.UnitsRuns.{after_nothing}
@@ -12,7 +12,7 @@ use Rattle.tm_units.proofs.UnitsNumbers.{Exact-number}
 use Rattle.tm_units.proofs.UnitsDates.{stops_at, After, Exact-after}
 use Rattle.tm_units.proofs.UnitsTimes.{EndsTime, begins_after}
 
-pub to_zone_minute : (text : List ℕ) (minute : ℕ) → Optional 0 (After 58 (SpellsNumber 2 2 0 59)) text minute
+pub to_zone_minute : (text : List ℕ) (minute : ℕ) → Optional 0 (After 58 (SpellsNumberWithin 2 2 0 59)) text minute
     → SpellsZoneMinute text minute
 to_zone_minute text minute (inl none) = inl none
 to_zone_minute text minute (inr s) =
@@ -24,7 +24,7 @@ to_zone_minute text minute (inr s) =
     })
 
 from_zone_minute : (text : List ℕ) (minute : ℕ) → SpellsZoneMinute text minute
-    → Optional 0 (After 58 (SpellsNumber 2 2 0 59)) text minute
+    → Optional 0 (After 58 (SpellsNumberWithin 2 2 0 59)) text minute
 from_zone_minute text minute (inl none) = inl none
 from_zone_minute text minute (inr s) =
     inr (record {
@@ -42,7 +42,7 @@ unfolding zone_minute_at
 Exact-zone_minute =
     Exact-as to_zone_minute from_zone_minute
     (Exact-before (λ rest may. (may.colon, may.digit))
-    (Exact-optional {S = After 58 (SpellsNumber 2 2 0 59)} (λ other. other == 58) 0
+    (Exact-optional {S = After 58 (SpellsNumberWithin 2 2 0 59)} (λ other. other == 58) 0
     (Exact-after 58 (Exact-number 2 2 0 59)) (λ text rest a s. begins_after 58 text rest a s)))
 
 zone_minute_stops : (text rest : List ℕ) (minute : ℕ) → SpellsZoneMinute text minute → EndsTime rest
@@ -51,7 +51,7 @@ zone_minute_stops text rest minute (inl none) may = after_nothing (Stops is_asci
 zone_minute_stops text rest minute (inr s) may = stops_at is_ascii_digit 58 text s.minute_text rest s.text_is refl
 
 abbrev pub TheDistance : List ℕ → ℕ → Type 0
-TheDistance = Then (SpellsNumber 1 2 0 23) (λ hour. Then SpellsZoneMinute (λ minute. Is (time_seconds hour minute 0)))
+TheDistance = Then (SpellsNumberWithin 1 2 0 23) (λ hour. Then SpellsZoneMinute (λ minute. Is (time_seconds hour minute 0)))
 
 pub to_distance : (text : List ℕ) (seconds : ℕ) → TheDistance text seconds → SpellsDistance text seconds
 to_distance text seconds s = record {

@@ -9,7 +9,7 @@ use Rattle.std.specs.List.{prefix_len, list_all}
 use Rattle.fm_base.specs.Input.{Input}
 use Rattle.fm_base.specs.Stamp.{number_of}
 use Rattle.fm_base.specs.UnitsReading.{past, run_at, number_at, unit_at, seconds_per}
-use Rattle.fm_base.specs.UnitsSpelling.{SpellsNumber, SpellsUnit}
+use Rattle.fm_base.specs.UnitsSpelling.{SpellsNumberWithin, SpellsUnit}
 use Rattle.fm_base.proofs.Exact.{input, Took, Exact, Stops, Then, Passes, Finds, done, ok_pair, Exact-then, Exact-as, Exact-before, Exact-unless, Exact-known, Exact-located}
 use Rattle.tm_units.proofs.UnitsRuns.{run_within, run_passes, after_nothing}
 
@@ -66,7 +66,7 @@ Tested fewest low high digits =
     (λ (digits : List ℕ). Passes (ltb (length digits) fewest) (number_of digits))
 
 to_number : (fewest most low high : ℕ) (text : List ℕ) (n : ℕ)
-    → Then (Run is_ascii_digit most) (Tested fewest low high) text n → SpellsNumber fewest most low high text n
+    → Then (Run is_ascii_digit most) (Tested fewest low high) text n → SpellsNumberWithin fewest most low high text n
 to_number fewest most low high text n s =
     let run = s.first in
     let tests = s.second in
@@ -89,7 +89,7 @@ to_number fewest most low high text n s =
       high_is = subst (λ (m : ℕ). m ≤ high) value below;
     }
 
-from_number : (fewest most low high : ℕ) (text : List ℕ) (n : ℕ) → SpellsNumber fewest most low high text n
+from_number : (fewest most low high : ℕ) (text : List ℕ) (n : ℕ) → SpellsNumberWithin fewest most low high text n
     → Then (Run is_ascii_digit most) (Tested fewest low high) text n
 from_number fewest most low high text n s =
     let above : ltb (number_of text) low ≡ false = rw s.value (le-ltb _ _ s.low_is) in
@@ -111,7 +111,7 @@ from_number fewest most low high text n s =
     }
 
 pub Exact-number : (fewest most low high : ℕ)
-    → Exact (SpellsNumber fewest most low high) (Stops is_ascii_digit) (number_at fewest most low high)
+    → Exact (SpellsNumberWithin fewest most low high) (Stops is_ascii_digit) (number_at fewest most low high)
 unfolding number_at
 Exact-number fewest most low high =
     Exact-as (to_number fewest most low high) (from_number fewest most low high)

@@ -2,7 +2,7 @@
 use Rattle.std.proofs.Common.{ℕ, ◌==◌, Bool, cond, codes, Err, refl, pos, neg_ℤ, ◌-ℤ◌}
 use Rattle.std.specs.Char.{eq_ignore_ascii_case}
 use Rattle.fm_base.specs.Calendar.{time_seconds}
-use Rattle.fm_base.specs.UnitsReading.{UnitsParser as Parser, next_passes, has_ended, date_at, fraction_at, second_at, time_at, zone_minute_at, distance_at, zone_at, last_zone_at, clock_at, after_date_at, gap_at, letters_at, Written}
+use Rattle.fm_base.specs.UnitsReading.{UnitsParser as Parser, next_passes, has_ended, date_at, fraction_at, second_at, time_of_day_at, zone_minute_at, distance_at, zone_at, last_zone_at, clock_at, after_date_at, gap_at, letters_at, Written}
 use Rattle.fm_base.specs.Parser.{◌>>=◌, pure}
 use Rattle.tm_units.proofs.UnitsLocal.{Local, Local-then, Local-pure, Local-here, agree_first, agree_ended}
 use Rattle.tm_units.proofs.UnitsLocalChoices.{Local-cond}
@@ -42,8 +42,8 @@ Local-second =
     (λ colon. Local-then (Local-number 1 2 0 59) (λ second. Local-then Local-fraction (λ zeros. Local-pure second))))
     (Local-pure 0)
 
-Local-time : Local time_at
-unfolding time_at
+Local-time : Local time_of_day_at
+unfolding time_of_day_at
 Local-time =
     Local-then (Local-number 1 2 0 23)
     (λ hour. Local-then (Local-byte 58)

@@ -7,7 +7,7 @@ use Rattle.fm_base.specs.declared.units.UnitsFault.{UnitsFault}
 use Rattle.fm_base.specs.declared.units.UnitsFault.TheVariants.{BadUnits}
 use Rattle.fm_base.specs.Chain.{fault_as}
 use Rattle.fm_base.specs.Input.{Input, whole}
-use Rattle.fm_base.specs.UnitsReading.{UnitsOutcome as Outcome, UnitsParser as Parser, has_ended, next_passes, end_at, letters_at, spaces_at, gap_at, unit_at, date_at, zone_at, time_at, letter_at, last_zone_at, clock_at, after_date_at, units_at, Written, written_or_fault}
+use Rattle.fm_base.specs.UnitsReading.{UnitsOutcome as Outcome, UnitsParser as Parser, has_ended, next_passes, end_at, letters_at, spaces_at, gap_at, unit_at, date_at, zone_at, time_of_day_at, letter_at, last_zone_at, clock_at, after_date_at, units_at, Written, written_or_fault}
 use Rattle.fm_base.specs.UnitsSpelling.{SpellsUnits}
 use Rattle.fm_base.proofs.Exact.{input, done, bind_ok, ok_pair}
 use Rattle.tm_units.proofs.UnitsReadings.{Exact-units}
@@ -74,7 +74,7 @@ Ends-last_zone =
 
 Ends-clock : Ends clock_at
 unfolding clock_at
-Ends-clock = Ends-then time_at (λ time. Ends-last (λ (zone : ℤ). pos time -ℤ zone) Ends-last_zone)
+Ends-clock = Ends-then time_of_day_at (λ time. Ends-last (λ (zone : ℤ). pos time -ℤ zone) Ends-last_zone)
 
 Ends-after_date : Ends after_date_at
 unfolding after_date_at

@@ -4,8 +4,8 @@ use Rattle.std.proofs.Math.Dec.{eqb-suc-zero}
 use Rattle.std.proofs.lemmas.List.{append-nil}
 use Rattle.std.specs.Char.{is_ascii_digit}
 use Rattle.fm_base.specs.Calendar.{time_seconds}
-use Rattle.fm_base.specs.UnitsReading.{next_passes, fraction_at, second_at, time_at}
-use Rattle.fm_base.specs.UnitsSpelling.{SpellsNumber, SpellsFraction, SpellsSecond, SpellsTime}
+use Rattle.fm_base.specs.UnitsReading.{next_passes, fraction_at, second_at, time_of_day_at}
+use Rattle.fm_base.specs.UnitsSpelling.{SpellsNumberWithin, SpellsFraction, SpellsSecond, SpellsTime}
 use Rattle.fm_base.proofs.Exact.{input, Exact, Stops, Then, Is, Exact-then, Exact-as, Exact-before, Exact-pure}
 use Rattle.tm_units.proofs.UnitsChoices.{Optional, Exact-optional}
 use Rattle.tm_units.proofs.UnitsRuns.{RepeatsSome, Exact-some, after_nothing}
@@ -70,7 +70,7 @@ fraction_stops text rest zeros (inr s) may =
 
 -- a second and its fraction
 abbrev pub TheSecond : List ℕ → ℕ → Type 0
-TheSecond = Then (SpellsNumber 1 2 0 59) (λ second. Then Zeros (λ zeros. Is second))
+TheSecond = Then (SpellsNumberWithin 1 2 0 59) (λ second. Then Zeros (λ zeros. Is second))
 
 pub to_second : (text : List ℕ) (second : ℕ) → Optional 0 (After 58 TheSecond) text second → SpellsSecond text second
 to_second text second (inl none) = inl none
@@ -81,7 +81,7 @@ to_second text second (inr s) =
     inr (record {
       second_text = the_second.front;
       fraction_text = zeros.front;
-      second_is = subst (λ (n : ℕ). SpellsNumber 1 2 0 59 the_second.front n) value the_second.first;
+      second_is = subst (λ (n : ℕ). SpellsNumberWithin 1 2 0 59 the_second.front n) value the_second.first;
       fraction = to_fraction zeros.front zeros.a zeros.first;
       text_is = s.text_is ∙ ap (λ (l : List ℕ). l ++ s.back) s.first
           ∙ ap (λ (l : List ℕ). 58 ∷ l) (the_second.text_is
@@ -144,10 +144,10 @@ second_stops text rest second (inr s) may =
 -- a time of day, after its hour
 abbrev pub TheMinute : ℕ → List ℕ → ℕ → Type 0
 TheMinute hour =
-    Then (SpellsNumber 1 2 0 59) (λ minute. Then SpellsSecond (λ second. Is (time_seconds hour minute second)))
+    Then (SpellsNumberWithin 1 2 0 59) (λ minute. Then SpellsSecond (λ second. Is (time_seconds hour minute second)))
 
 abbrev pub TheTime : List ℕ → ℕ → Type 0
-TheTime = Then (SpellsNumber 1 2 0 23) (λ hour. After 58 (TheMinute hour))
+TheTime = Then (SpellsNumberWithin 1 2 0 23) (λ hour. After 58 (TheMinute hour))
 
 pub to_time : (text : List ℕ) (seconds : ℕ) → TheTime text seconds → SpellsTime text seconds
 to_time text seconds s =
@@ -204,8 +204,8 @@ from_time text seconds s = record {
   text_is = s.text_is;
 }
 
-pub Exact-time : Exact SpellsTime EndsTime time_at
-unfolding time_at
+pub Exact-time : Exact SpellsTime EndsTime time_of_day_at
+unfolding time_of_day_at
 Exact-time =
     Exact-as to_time from_time
     (Exact-then {T = λ hour. After 58 (TheMinute hour)} {Q = EndsTime} (Exact-number 1 2 0 23)
