@@ -6,7 +6,7 @@ use Rattle.std.specs.List.{list_any, range_with_len}
 use Rattle.std.proofs.lemmas.Bool.{cases_Bool, cond-true, cond-false, true≢false}
 use Rattle.std.proofs.lemmas.Option.{none-some, same_Some}
 use Rattle.std.proofs.lemmas.Slice.Eq.{slice_eq-Decides}
-use Rattle.fm_base.specs.Layout.{or_else}
+use Rattle.std.specs.Option.{option_or}
 use Rattle.dap_model.specs.ClauseFaults.{conflict_fault, decl_fault, clause_fault, fault_in, is_same_slab, are_other}
 use Rattle.dap_model.specs.FaultFacts.{written_path, IsNamedBy, HasDims, IsFirstOutside, Conflicts, HasNoClauseFault, HasClauseFault}
 use Rattle.dap_model.specs.Picking.{name_of, parts_of, picked_by, picked_dims, given_by, decl_named}
@@ -23,7 +23,7 @@ use Rattle.dap_model.proofs.ProjectionAgreeLemmas.{same_slab, agreed, no_conflic
 use Rattle.dap_model.proofs.ProjectionFaultLemmas.{both_none}
 
 -- the first of two faults is the first, or the second where there is no first
-from_either : {A : Type 0} (first second : Option A) (a : A) → or_else first second ≡ Some a
+from_either : {A : Type 0} (first second : Option A) (a : A) → option_or first second ≡ Some a
     → (first ≡ Some a) ⊎ ((first ≡ None) × (second ≡ Some a))
 from_either None second a e = inr (refl, e)
 from_either (Some b) second a e = inl e

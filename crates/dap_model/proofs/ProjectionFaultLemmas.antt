@@ -2,7 +2,7 @@
 use Rattle.std.proofs.Common.{◌≡◌, ℕ, zero, suc, ◌<◌, List, [], ◌∷◌, ◌++◌, take, slice_get, Option, Some, None, refl, sym, ap, ap₂, subst, ◌∙◌, append_assoc, append-nil, inl, inr, arith}
 use Rattle.std.proofs.lemmas.Bool.{cases_order}
 use Rattle.std.proofs.lemmas.Option.{none-some, same_Some}
-use Rattle.fm_base.specs.Layout.{or_else}
+use Rattle.std.specs.Option.{option_or}
 use Rattle.dap_model.specs.declared.declaration.Decl.{Decl}
 use Rattle.dap_model.specs.declared.fault.ProjectFault.{ProjectFault}
 use Rattle.dap_model.specs.declared.projection.Clause.{Clause}
@@ -11,13 +11,13 @@ use Rattle.dap_model.specs.ProjectionFacts.{HasNoFault, IsFirstFault}
 use Rattle.dap_model.proofs.ListLemmas.{cases_Option}
 
 -- the first of two faults
-pub first_some : {A : Type 0} (first second : Option A) (a : A) → first ≡ Some a → or_else first second ≡ Some a
-first_some first second a e = ap (λ o. or_else o second) e
+pub first_some : {A : Type 0} (first second : Option A) (a : A) → first ≡ Some a → option_or first second ≡ Some a
+first_some first second a e = ap (λ o. option_or o second) e
 
-pub first_none : {A : Type 0} (first second : Option A) → first ≡ None → or_else first second ≡ second
-first_none first second e = ap (λ o. or_else o second) e
+pub first_none : {A : Type 0} (first second : Option A) → first ≡ None → option_or first second ≡ second
+first_none first second e = ap (λ o. option_or o second) e
 
-pub both_none : {A : Type 0} (first second : Option A) → or_else first second ≡ None → (first ≡ None) × (second ≡ None)
+pub both_none : {A : Type 0} (first second : Option A) → option_or first second ≡ None → (first ≡ None) × (second ≡ None)
 both_none None second e = (refl, e)
 both_none (Some a) second e = absurd (none-some a (sym e))
 

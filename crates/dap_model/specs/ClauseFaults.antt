@@ -2,7 +2,7 @@
 use Rattle.std.specs.Prelude.{ℕ, ◌+◌, List, [], ◌∷◌, ◌++◌, length, Bool, false, not, ◌&&◌, ◌||◌, ◌==◌, nat_lt, nat_le, if◌then◌else◌, Option, Some, None}
 use Rattle.std.specs.List.{join_with_byte, list_any, range_with_len}
 use Rattle.std.specs.Cmp.Lexicographic.{pointwise}
-use Rattle.fm_base.specs.Layout.{or_else}
+use Rattle.std.specs.Option.{option_or}
 use Rattle.fm_base.specs.declared.header.Dim.{Dim}
 use Rattle.dap_model.specs.declared.declaration.Decl.{Decl}
 use Rattle.dap_model.specs.declared.fault.ProjectFault.{ProjectFault}
@@ -56,8 +56,8 @@ conflict_fault decl earlier clause =
 -- the first fault of a clause on the declaration that it names
 unfoldable pub decl_fault : Decl → List Clause → Clause → Option ProjectFault
 decl_fault decl earlier clause =
-    or_else (rank_fault (path_text clause.path) (picked_dims decl (picked_by decl clause.path)) clause.slabs)
-    (or_else (range_fault (path_text clause.path) 0 (picked_dims decl (picked_by decl clause.path)) clause.slabs)
+    option_or (rank_fault (path_text clause.path) (picked_dims decl (picked_by decl clause.path)) clause.slabs)
+    (option_or (range_fault (path_text clause.path) 0 (picked_dims decl (picked_by decl clause.path)) clause.slabs)
     (conflict_fault decl earlier clause))
 
 -- the first fault of a clause, on the declaration that it names if there is one
@@ -73,4 +73,4 @@ clause_fault decls earlier clause = fault_in earlier clause (decl_named decls cl
 unfoldable pub first_fault : List Decl → List Clause → List Clause → Option ProjectFault
 first_fault decls earlier [] = None
 first_fault decls earlier (clause ∷ clauses) =
-    or_else (clause_fault decls earlier clause) (first_fault decls (earlier ++ clause ∷ []) clauses)
+    option_or (clause_fault decls earlier clause) (first_fault decls (earlier ++ clause ∷ []) clauses)

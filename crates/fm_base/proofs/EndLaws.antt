@@ -1,7 +1,7 @@
 -- Where the elements of a variable end, and how many bytes they are: in a file whose layout has no fault, all of them.
 use Rattle.std.proofs.Common.{◌≡◌, ℕ, zero, suc, ◌+◌, ◌-◌, ◌*◌, ◌<◌, ◌≤◌, Bool, true, false, cond, List, [], ◌∷◌, ◌++◌, length, map, take, drop, All, None, Option, Some, refl, sym, ap, ap₂, ◌∙◌, arith}
 use Rattle.std.specs.Prelude.{slice_index, ◌==◌, not}
-use Rattle.std.specs.List.{AllZip, flat_map, range_with_len}
+use Rattle.std.specs.List.{flat_map, range_with_len}
 use Rattle.std.proofs.Math.Nat.{mul_assoc, mul_comm}
 use Rattle.std.proofs.lemmas.Bool.{ltb-false, ne_eqb}
 use Rattle.std.proofs.lemmas.List.{length-append, length-drop, length-take}
@@ -9,16 +9,13 @@ use Rattle.std.proofs.lemmas.List.Concat.{flat_map-append}
 use Rattle.std.proofs.lemmas.List.Elements.{All-nil, All-cons}
 use Rattle.std.proofs.lemmas.List.Folds.{flat_map-map}
 use Rattle.std.proofs.lemmas.Nat.{mul-le, mul-add-lt}
+use Rattle.std.specs.Option.{option_or}
 use Rattle.fm_base.specs.declared.fault.LayoutFault.{LayoutFault}
 use Rattle.fm_base.specs.declared.fault.LayoutFault.TheVariants.{DataOutside}
 use Rattle.fm_base.specs.declared.header.Header.{Header}
 use Rattle.fm_base.specs.declared.header.NcVar.{NcVar}
 use Rattle.fm_base.specs.Kind.{size_of}
-use Rattle.fm_base.specs.Layout.{product, rank_in, is_record_var, shape_of, record_size, place_of, element, indices_of, elements_of, end_of, is_outside, first_too_large, first_outside, or_else, layout_fault}
-
--- a list of indices has one below each length
-abbrev pub IsIndexOf : List ℕ → List ℕ → Type 0
-IsIndexOf shape index = AllZip (λ n i. i < n) shape index
+use Rattle.fm_base.specs.Layout.{IsIndex, product, rank_in, is_record_var, shape_of, record_size, place_of, element, indices_of, elements_of, end_of, is_outside, first_too_large, first_outside, layout_fault}
 
 factors : (m n : ℕ) → 0 < m * n → (0 < m) × (0 < n)
 factors zero n some = absurd (omega arith)
@@ -40,14 +37,14 @@ rank_in-last (n ∷ shape) some =
     ∙ ap (λ m. m * product shape) back
 
 -- the number of an index list is below the number of elements
-pub rank_in-lt : (shape index : List ℕ) → IsIndexOf shape index → rank_in shape index < product shape
+pub rank_in-lt : (shape index : List ℕ) → IsIndex shape index → rank_in shape index < product shape
 unfolding rank_in product
 rank_in-lt [] index is = omega arith
 rank_in-lt (n ∷ shape) [] is = absurd is
 rank_in-lt (n ∷ shape) (i ∷ index) is =
     rw (mul_comm n (product shape)) (mul-add-lt i (product shape) (rank_in shape index) n is.0 (rank_in-lt shape index is.1))
 
-rank_in-le-last : (shape index : List ℕ) → IsIndexOf shape index → rank_in shape index ≤ rank_in shape (map (λ n. n - 1) shape)
+rank_in-le-last : (shape index : List ℕ) → IsIndex shape index → rank_in shape index ≤ rank_in shape (map (λ n. n - 1) shape)
 rank_in-le-last shape index is =
     let below = rank_in-lt shape index is in
     let last = rank_in-last shape (omega (arith, below)) in
@@ -59,7 +56,7 @@ place_by b begin recsize size shape index =
     cond b (begin + slice_index index 0 * recsize + size * rank_in (cond b (drop 1 shape) shape) (drop 1 index))
     (begin + size * rank_in (cond b (drop 1 shape) shape) index)
 
-place_by-le : (b : Bool) (begin recsize size : ℕ) (shape index : List ℕ) → IsIndexOf shape index
+place_by-le : (b : Bool) (begin recsize size : ℕ) (shape index : List ℕ) → IsIndex shape index
     → place_by b begin recsize size shape index ≤ place_by b begin recsize size shape (map (λ n. n - 1) shape)
 place_by-le b begin recsize size [] [] is = omega arith
 place_by-le b begin recsize size [] (i ∷ index) is = absurd is
@@ -75,7 +72,7 @@ place_by-le false begin recsize size (n ∷ shape) (i ∷ index) is =
     omega arith
 
 -- no element ends past the last
-pub place_of-le-end_of : (header : Header) (var : NcVar) (index : List ℕ) → IsIndexOf (shape_of header var) index
+pub place_of-le-end_of : (header : Header) (var : NcVar) (index : List ℕ) → IsIndex (shape_of header var) index
     → place_of header var index + size_of var.kind ≤ end_of header var
 unfolding place_of
 place_of-le-end_of header var index is =
@@ -102,7 +99,7 @@ inside_each header len n (var ∷ vars) e = by_test (is_outside header len var) 
     by_test true is e more = absurd cc
     by_test false is e more = All-cons (EndsWithin header len) var vars (ends_inside header len var is) (more e)
 
-second_none : (first second : Option LayoutFault) → or_else first second ≡ None → second ≡ None
+second_none : (first second : Option LayoutFault) → option_or first second ≡ None → second ≡ None
 second_none None second e = e
 second_none (Some fault) second e = absurd cc
 
@@ -113,7 +110,7 @@ ends_within header len e =
     inside_each header len 0 header.vars (second_none (first_too_large header 0 header.vars) (first_outside header len 0 header.vars) e)
 
 -- one more first index
-length_row : (f : List ℕ → List ℕ) (size : ℕ) (shape : List ℕ) → ((index : List ℕ) → IsIndexOf shape index → length (f index) ≡ size)
+length_row : (f : List ℕ → List ℕ) (size : ℕ) (shape : List ℕ) → ((index : List ℕ) → IsIndex shape index → length (f index) ≡ size)
     → length (flat_map f (indices_of shape)) ≡ size * product shape
 unfolding indices_of product
 length_row f size [] each = length-append (f []) [] ∙ (let one = each [] tt in omega (arith, one))
@@ -122,7 +119,7 @@ length_row f size (n ∷ shape) each = rows (λ g row. length_row g size shape r
     turns : (n size whole : ℕ) → n * (size * whole) ≡ size * (n * whole)
     turns n size whole = sym (mul_assoc n size whole) ∙ ap (λ m. m * whole) (mul_comm n size) ∙ mul_assoc size n whole
 
-    rows : ((g : List ℕ → List ℕ) → ((index : List ℕ) → IsIndexOf shape index → length (g index) ≡ size) → length (flat_map g (indices_of shape)) ≡ size * product shape)
+    rows : ((g : List ℕ → List ℕ) → ((index : List ℕ) → IsIndex shape index → length (g index) ≡ size) → length (flat_map g (indices_of shape)) ≡ size * product shape)
         → (a m : ℕ) → ((i : ℕ) → a ≤ i → i < a + m → i < n)
         → length (flat_map f (flat_map (λ (i : ℕ). map (λ (index : List ℕ). i ∷ index) (indices_of shape)) (range_with_len a m))) ≡ m * (size * product shape)
     rows of_row a zero within = omega arith

@@ -1,8 +1,8 @@
 -- Where the elements of a file's variables lie, and what is wrong with where they lie (NetCDF Classic Format
 -- Specification, "Computing File Offsets").
-use Rattle.std.specs.Prelude.{ℕ, ◌+◌, ◌-◌, ◌*◌, ◌^◌, List, [], ◌∷◌, take, drop, map, filter, sum_by, Option, Some, None, slice_get, slice_index, Bool, false, nat_lt, not, ◌==◌, if◌then◌else◌}
-use Rattle.std.specs.List.{flat_map, range_with_len}
-use Rattle.std.specs.Option.{option_map_or}
+use Rattle.std.specs.Prelude.{ℕ, ◌+◌, ◌-◌, ◌*◌, ◌^◌, List, [], ◌∷◌, take, drop, map, filter, sum_by, Option, Some, None, slice_get, slice_index, Bool, false, nat_lt, not, ◌==◌, if◌then◌else◌, ◌<◌}
+use Rattle.std.specs.List.{AllZip, flat_map, range_with_len}
+use Rattle.std.specs.Option.{option_map_or, option_or}
 use Rattle.fm_base.specs.declared.fault.LayoutFault.{LayoutFault}
 use Rattle.fm_base.specs.declared.fault.LayoutFault.TheVariants.{TooLarge, DataOutside}
 use Rattle.fm_base.specs.declared.header.Dim.{Dim}
@@ -55,6 +55,10 @@ record_size_of header (var ∷ other ∷ more) = sum_by (λ v. padded_len (vsize
 
 unfoldable pub record_size : Header → ℕ
 record_size header = record_size_of header (record_vars header)
+
+-- an index list of an array of this shape: each index is below the length of its dimension, and there is one for each
+abbrev pub IsIndex : List ℕ → List ℕ → Type 0
+IsIndex shape index = AllZip (λ n i. i < n) shape index
 
 -- the number of an index list in row-major order, the last index varying fastest
 unfoldable pub rank_in : List ℕ → List ℕ → ℕ
@@ -118,11 +122,6 @@ first_outside header len n (var ∷ vars) =
     then Some (DataOutside n (end_of header var) len)
     else first_outside header len (n + 1) vars
 
--- the first of two, if it is there, else the second
-abbrev pub or_else : {A : Type 0} → Option A → Option A → Option A
-or_else None second = second
-or_else (Some a) second = Some a
-
 -- the first fault of the layout of a file of this length: a variable that is too large comes before one outside
 unfoldable pub layout_fault : Header → ℕ → Option LayoutFault
-layout_fault header len = or_else (first_too_large header 0 header.vars) (first_outside header len 0 header.vars)
+layout_fault header len = option_or (first_too_large header 0 header.vars) (first_outside header len 0 header.vars)

@@ -7,10 +7,10 @@ use Rattle.std.proofs.lemmas.Nat.{mul-le}
 use Rattle.fm_base.specs.declared.header.Header.{Header}
 use Rattle.fm_base.specs.declared.header.NcVar.{NcVar}
 use Rattle.fm_base.specs.Kind.{size_of}
-use Rattle.fm_base.specs.Layout.{rank_in, is_record_var, shape_of, fixed_shape, vsize, record_vars, record_size, place_of}
+use Rattle.fm_base.specs.Layout.{rank_in, is_record_var, shape_of, fixed_shape, vsize, record_vars, record_size, place_of, IsIndex}
 use Rattle.nc_layout.specs.Kept.{part_of, index_in_part}
 use Rattle.nc_layout.specs.Meaning.{AreApart}
-use Rattle.nc_layout.specs.Places.{IsIndex, part_begin, part_count}
+use Rattle.nc_layout.specs.Places.{part_begin, part_count}
 use Rattle.nc_layout.proofs.EndLemmas.{element-within}
 use Rattle.nc_layout.proofs.HeaderLemmas.{place_of-part, index-part, same_part}
 use Rattle.nc_layout.proofs.OrderLemmas.{same_rank}

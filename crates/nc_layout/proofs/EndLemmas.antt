@@ -7,12 +7,12 @@ use Rattle.std.proofs.lemmas.Nat.{mul-le}
 use Rattle.fm_base.specs.declared.header.Header.{Header}
 use Rattle.fm_base.specs.declared.header.NcVar.{NcVar}
 use Rattle.fm_base.specs.Kind.{size_of}
-use Rattle.fm_base.specs.Layout.{product, rank_in, is_record_var, shape_of, fixed_shape, vsize, record_size, place_of, last_index, end_of, has_elements}
+use Rattle.fm_base.specs.Layout.{product, rank_in, is_record_var, shape_of, fixed_shape, vsize, record_size, place_of, last_index, end_of, has_elements, IsIndex}
 use Rattle.nc_layout.specs.Kept.{HasLengths, end_if_any, part_of, index_in_part}
-use Rattle.nc_layout.specs.Places.{IsIndex, part_begin, part_count}
+use Rattle.nc_layout.specs.Places.{part_begin, part_count}
 use Rattle.nc_layout.proofs.HeaderLemmas.{shape_of-fixed, shape_of-record, place_of-part, index-part}
 use Rattle.nc_layout.proofs.ProductLemmas.{product-pos}
-use Rattle.nc_layout.proofs.RankLemmas.{rank_in-last, rank_in-lt, lengths-index}
+use Rattle.fm_base.proofs.EndLaws.{rank_in-last, rank_in-lt, place_of-le-end_of}
 
 times_last : (size rank whole : ℕ) → rank + 1 ≡ whole → size * rank + size ≡ size * whole
 times_last size rank whole e = rw (← e) (omega arith)
@@ -42,7 +42,7 @@ last-part header var all =
     let last = last-index header var in
     let at = ap (part_begin header var) last.0 in
     let offset = ap (λ rest. size_of var.kind * rank_in (fixed_shape header var) rest) last.1 in
-    let whole = times_last (size_of var.kind) _ _ (rank_in-last (fixed_shape header var) all) in
+    let whole = times_last (size_of var.kind) _ _ (rank_in-last (fixed_shape header var) (product-pos (fixed_shape header var) all)) in
     omega arith
 
 -- how many elements a variable has
@@ -91,16 +91,6 @@ element-within header var index is =
     let below = rank_in-lt (fixed_shape header var) index is in
     let most = mul-le (size_of var.kind) (rank_in (fixed_shape header var) index + 1) (size_of var.kind)
     (product (fixed_shape header var)) (omega arith) (omega arith) in
-    omega arith
-
-pub place_of-le-end_of : (header : Header) (var : NcVar) (index : List ℕ) → IsIndex (shape_of header var) index
-    → place_of header var index + size_of var.kind ≤ end_of header var
-place_of-le-end_of header var index is =
-    let parts = index-part header var index is in
-    let place = place_of-part header var index in
-    let element = element-within header var (index_in_part header var index) parts.1 in
-    let part = part-le-end header var (part_of header var index)
-    (lengths-index (fixed_shape header var) (index_in_part header var index) parts.1) parts.0 in
     omega arith
 
 pub ruleset ends = (end_if_any-some, end_if_any-none, place_of-le-end_of)

@@ -11,12 +11,12 @@ use Rattle.fm_base.specs.declared.header.Header.{Header}
 use Rattle.fm_base.specs.declared.header.NcVar.{NcVar}
 use Rattle.fm_base.specs.Format.{is_record_dim}
 use Rattle.fm_base.specs.Kind.{size_of}
-use Rattle.fm_base.specs.Layout.{size_in, size_at, is_record_var, shape_of, fixed_shape, record_size, rank_in, place_of}
+use Rattle.fm_base.specs.Layout.{size_in, size_at, is_record_var, shape_of, fixed_shape, record_size, rank_in, place_of, IsIndex}
 use Rattle.fm_base.specs.Reading.{names_record_dim}
 use Rattle.fm_base.specs.Spelling.{IsSoundVar, NamesNoRecord}
 use Rattle.nc_layout.specs.Faults.{CanLayOut}
 use Rattle.nc_layout.specs.Kept.{HasLengths, part_of, index_in_part}
-use Rattle.nc_layout.specs.Places.{IsIndex, part_begin, part_count}
+use Rattle.nc_layout.specs.Places.{part_begin, part_count}
 
 -- the record dimension has as many places as there are records
 size_at-record : (header : Header) (id : ℕ) → names_record_dim header.dims id ≡ true → size_at header id ≡ header.numrecs

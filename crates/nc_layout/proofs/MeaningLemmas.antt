@@ -1,7 +1,7 @@
 -- The first fault of a list of variables says that one is at fault, and none before it.
 use Rattle.std.proofs.Common.{◌≡◌, ℕ, suc, ◌+◌, ◌^◌, ◌<◌, ◌≤◌, Bool, true, false, cond, ltb, List, [], ◌∷◌, take, All, Option, None, Some, refl, sym, ap, subst, ◌∙◌, arith}
 use Rattle.std.specs.List.{slice_get}
-use Rattle.std.specs.Option.{MatchOption}
+use Rattle.std.specs.Option.{MatchOption, option_or}
 use Rattle.std.proofs.lemmas.Bool.{ltb-true, ltb-false, false≢true}
 use Rattle.std.proofs.lemmas.List.Elements.{All-nil, All-cons}
 use Rattle.std.proofs.lemmas.Option.{cond_some, MatchOption-at_none}
@@ -9,7 +9,7 @@ use Rattle.fm_base.specs.declared.fault.LayoutFault.{LayoutFault}
 use Rattle.fm_base.specs.declared.fault.LayoutFault.TheVariants.{TooLarge, DataOutside}
 use Rattle.fm_base.specs.declared.header.Header.{Header}
 use Rattle.fm_base.specs.declared.header.NcVar.{NcVar}
-use Rattle.fm_base.specs.Layout.{vsize, has_elements, end_of, is_outside, or_else, first_too_large, first_outside, layout_fault}
+use Rattle.fm_base.specs.Layout.{vsize, has_elements, end_of, is_outside, first_too_large, first_outside, layout_fault}
 use Rattle.nc_layout.specs.Meaning.{IsSmall, EndsWithin, IsInside, Says}
 
 -- the fault of a variable of this number, and the first fault of the variables from this number on
@@ -21,10 +21,10 @@ outside_at header len n var = cond (is_outside header len var) (Some (DataOutsid
 
 first_fault : (ℕ → NcVar → Option LayoutFault) → ℕ → List NcVar → Option LayoutFault
 first_fault fault_at n [] = None
-first_fault fault_at n (var ∷ vars) = or_else (fault_at n var) (first_fault fault_at (n + 1) vars)
+first_fault fault_at n (var ∷ vars) = option_or (fault_at n var) (first_fault fault_at (n + 1) vars)
 
 or_none : (b : Bool) (fault : LayoutFault) (rest later : Option LayoutFault) → rest ≡ later
-    → cond b (Some fault) rest ≡ or_else (cond b (Some fault) None) later
+    → cond b (Some fault) rest ≡ option_or (cond b (Some fault) None) later
 or_none true fault rest later same = refl
 or_none false fault rest later same = same
 
@@ -64,7 +64,7 @@ first_fault-says Good fault_at good from (var ∷ vars) =
   where
     at : (here : Option LayoutFault) → fault_at from var ≡ here → (later : Option LayoutFault)
         → MatchOption later (All Good vars) (IsFirst Good fault_at (from + 1) vars)
-        → MatchOption (or_else here later) (All Good (var ∷ vars)) (IsFirst Good fault_at from (var ∷ vars))
+        → MatchOption (option_or here later) (All Good (var ∷ vars)) (IsFirst Good fault_at from (var ∷ vars))
     at (Some fault) is later more =
         let same : from ≡ from + 0 = omega arith in
         record { place = 0; var = var; there = refl; bad = rw (← same) is; before = All-nil Good }
@@ -162,7 +162,7 @@ layout_fault-says header len =
         → (second : Option LayoutFault)
         → MatchOption second (All (EndsWithin header len) header.vars)
         (IsFirst (EndsWithin header len) (outside_at header len) 0 header.vars)
-        → MatchOption (or_else first second) (IsInside header len) (Says header len)
+        → MatchOption (option_or first second) (IsInside header len) (Says header len)
     at (Some fault) large second outside = large_says header len fault large
     at None small (Some fault) outside = outside_says header len fault small outside
     at None small None ends = record { small = small; ends = ends }

@@ -7,9 +7,8 @@ use Rattle.std.proofs.lemmas.List.FromFn.{length-range_with_len, get_or-range_wi
 use Rattle.std.proofs.lemmas.Option.{slice_get-get_or}
 use Rattle.std.proofs.lemmas.Bool.{cases_order}
 use Rattle.std.proofs.lemmas.Nat.{mul-le}
-use Rattle.fm_base.specs.Layout.{product, rank_in, indices_of}
-use Rattle.nc_layout.specs.Places.{IsIndex}
-use Rattle.nc_layout.proofs.RankLemmas.{rank_in-lt}
+use Rattle.fm_base.specs.Layout.{product, rank_in, indices_of, IsIndex}
+use Rattle.fm_base.proofs.EndLaws.{rank_in-lt}
 
 -- a range is cut in two
 pub range-append : (a n m : ℕ) → range_with_len a n ++ range_with_len (a + n) m ≡ range_with_len a (n + m)

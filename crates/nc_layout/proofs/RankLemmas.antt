@@ -4,22 +4,8 @@ use Rattle.std.proofs.Math.Nat.{mul_comm, le-mul_of_pos_right}
 use Rattle.std.proofs.lemmas.Nat.{mul-add-lt}
 use Rattle.std.proofs.lemmas.List.{drop_more, drop_all, drop-map, length-map}
 use Rattle.std.proofs.lemmas.List.Elements.{All-nil, All-cons, All-drop, All-head, All-tail}
-use Rattle.fm_base.specs.Layout.{product, rank_in}
-use Rattle.nc_layout.specs.Places.{IsIndex}
-use Rattle.nc_layout.proofs.ProductLemmas.{product-pos}
-
-last_turn : (m whole rank : ℕ) → rank + 1 ≡ whole → m * whole + rank + 1 ≡ (m + 1) * whole
-last_turn m whole rank e = omega arith
-
--- the last index list has the greatest number
-pub rank_in-last : (ns : List ℕ) → All (λ n. 1 ≤ n) ns → rank_in ns (map (λ n. n - 1) ns) + 1 ≡ product ns
-unfolding rank_in product
-rank_in-last [] all = refl
-rank_in-last (n ∷ ns) all =
-    let some : 1 ≤ n = All-head (λ m. 1 ≤ m) n ns all in
-    let back : n - 1 + 1 ≡ n = omega arith in
-    last_turn (n - 1) (product ns) (rank_in ns (map (λ m. m - 1) ns)) (rank_in-last ns (All-tail (λ m. 1 ≤ m) n ns all))
-    ∙ ap (λ m. m * product ns) back
+use Rattle.fm_base.specs.Layout.{product, rank_in, IsIndex}
+use Rattle.fm_base.proofs.EndLaws.{rank_in-lt}
 
 -- an index list has one index for each length
 pub length-index : (shape index : List ℕ) → IsIndex shape index → length index ≡ length shape
@@ -34,15 +20,6 @@ lengths-index [] index is = All-nil (λ n. 1 ≤ n)
 lengths-index (n ∷ shape) [] is = absurd is
 lengths-index (n ∷ shape) (i ∷ index) is =
     All-cons (λ n. 1 ≤ n) n shape (let below = is.0 in omega arith) (lengths-index shape index is.1)
-
--- the number of an index list is below the number of elements
-pub rank_in-lt : (shape index : List ℕ) → IsIndex shape index → rank_in shape index < product shape
-unfolding rank_in product
-rank_in-lt [] index is = omega arith
-rank_in-lt (n ∷ shape) [] is = absurd is
-rank_in-lt (n ∷ shape) (i ∷ index) is =
-    rw (mul_comm n (product shape))
-    (mul-add-lt i (product shape) (rank_in shape index) n is.0 (rank_in-lt shape index is.1))
 
 rank_step : (so_far n i whole rest : ℕ) → so_far * (n * whole) + (i * whole + rest) ≡ (so_far * n + i) * whole + rest
 rank_step so_far n i whole rest = omega arith

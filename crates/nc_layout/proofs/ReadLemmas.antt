@@ -5,9 +5,9 @@ use Rattle.fm_base.specs.declared.fault.LayoutFault.{LayoutFault}
 use Rattle.fm_base.specs.declared.header.Header.{Header}
 use Rattle.fm_base.specs.declared.header.NcVar.{NcVar}
 use Rattle.fm_base.specs.Spelling.{HeaderOf, SpellsList}
-use Rattle.fm_base.specs.Layout.{shape_of, layout_fault}
+use Rattle.fm_base.specs.Layout.{shape_of, layout_fault, IsIndex}
 use Rattle.nc_layout.specs.Faults.{CanLayOut, layout_or_fault}
-use Rattle.nc_layout.specs.Places.{LaidOut, IsVar, IsIndex, HasElement, HasDim, HasPart, part_count}
+use Rattle.nc_layout.specs.Places.{LaidOut, IsVar, HasElement, HasDim, HasPart, part_count}
 use Rattle.nc_layout.proofs.LayingLemmas.{fault_or-none, fault_or-some}
 
 few_items : {A : Type 0} (tag : ℕ) (S : List ℕ → A → Type 0) (text : List ℕ) (items : List A)

@@ -1,9 +1,8 @@
 -- A header that is laid out, and what its variables have by their number.
 use Rattle.std.specs.Prelude.{◌≡◌, ℕ, ◌+◌, ◌*◌, ◌<◌, List, length, Some, slice_get, IsSomeAnd, if◌then◌else◌}
-use Rattle.std.specs.List.{AllZip}
 use Rattle.fm_base.specs.declared.header.Header.{Header}
 use Rattle.fm_base.specs.declared.header.NcVar.{NcVar}
-use Rattle.fm_base.specs.Layout.{is_record_var, shape_of, record_size}
+use Rattle.fm_base.specs.Layout.{IsIndex, is_record_var, shape_of, record_size}
 
 -- a header, and the length of the file in which the elements of its variables lie
 pub record LaidOut : Type 0 where
@@ -13,10 +12,6 @@ pub record LaidOut : Type 0 where
 -- the variable of this number is this one
 abbrev pub IsVar : LaidOut → ℕ → NcVar → Type 0
 IsVar laid number var = slice_get laid.header.vars number ≡ Some var
-
--- each index is below the length of its dimension, and there is one for each
-abbrev pub IsIndex : List ℕ → List ℕ → Type 0
-IsIndex shape index = AllZip (λ n i. i < n) shape index
 
 -- the variable of this number has an element of this index list
 abbrev pub HasElement : LaidOut → ℕ → List ℕ → Type 0

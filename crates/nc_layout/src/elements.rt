@@ -1,10 +1,10 @@
 //! Where one element and one part of a variable lie.
 ghost use Rattle.std.specs.Prelude.{◌≡◌, ◌+◌, ◌*◌, ◌<◌, ◌≤◌, ◌^◌, map};
 ghost use Rattle.fm_base.specs.Kind.{size_of};
-ghost use Rattle.fm_base.specs.Layout.{size_at, shape_of, fixed_shape, product, rank_in, vsize, record_size, place_of};
+ghost use Rattle.fm_base.specs.Layout.{size_at, shape_of, fixed_shape, product, rank_in, vsize, record_size, place_of, IsIndex};
 ghost use Rattle.nc_layout.specs.Kept.{IsWithin, part_of, index_in_part};
 ghost use Rattle.nc_layout.specs.Meaning.{IsSmall};
-ghost use Rattle.nc_layout.specs.Places.{IsIndex, part_begin, part_count};
+ghost use Rattle.nc_layout.specs.Places.{part_begin, part_count};
 
 use crate::dims::{fixed_dims, is_record_var, size_at};
 use fm_base::{Header, NcVar};

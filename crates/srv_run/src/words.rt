@@ -6,7 +6,7 @@ ghost use Rattle.srv_run.specs.Words as spec;
 ghost use Rattle.srv_run.specs.Words.{naming};
 ghost use Rattle.srv_run.specs.Seen.{seen};
 
-use fm_base::Bytes;
+use fm_base::{Bytes, is_name_byte};
 use fm_model::MAX_NAME;
 
 /// What `once --name NAME --proto PROTO put:PATH ask:1` asks for.
@@ -15,13 +15,6 @@ pub(crate) struct Command<'a> {
     pub(crate) name: &'a [u8],
     pub(crate) proto: &'a [u8],
     pub(crate) path: &'a [u8],
-}
-
-#[tactic(auto, unfolding(fm_base::specs::Name::is_name_byte))]
-fn is_name_byte(byte: u8) -> bool
-    ensures { result ≡ is_name_byte byte }
-{
-    byte.is_ascii_alphanumeric() || byte == b'_' || byte == b'-'
 }
 
 fn are_name_bytes(bytes: &[u8]) -> bool

@@ -1,9 +1,8 @@
 //! Where the elements of a variable lie beside each other.
 ghost use Rattle.std.specs.Prelude.{◌≡◌, ◌≢◌, ◌+◌, ◌≤◌, Some, slice_get};
 ghost use Rattle.fm_base.specs.Kind.{size_of};
-ghost use Rattle.fm_base.specs.Layout.{shape_of, place_of, end_of};
+ghost use Rattle.fm_base.specs.Layout.{shape_of, place_of, end_of, IsIndex};
 ghost use Rattle.nc_layout.specs.Meaning.{AreApart};
-ghost use Rattle.nc_layout.specs.Places.{IsIndex};
 
 use fm_base::{Header, NcVar};
 
