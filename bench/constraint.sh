@@ -35,12 +35,12 @@ fn clauses(alloc: Global, text: &[u8]) -> usize {
 }
 
 fn timed<R: Print + Clock>(rt: &R, alloc: Global, path: &str, text: &[u8]) -> io::Result<()> {
-    let mut fewest = u64::MAX;
+    let mut fewest = u128::MAX;
     let mut count = 0;
     for _ in 0..50 {
         let start = Instant::now(rt)?;
         count = clauses(alloc, text);
-        let took = start.elapsed(rt)?.as_nanos() as u64;
+        let took = start.elapsed(rt)?.as_nanos();
         if took < fewest {
             fewest = took;
         }

@@ -11,7 +11,8 @@ use Rattle.dap_model.specs.declared.fault.CeFault.{CeFault}
 use Rattle.dap_model.specs.declared.fault.CeFault.TheVariants.{BadConstraint, Selection}
 use Rattle.dap_model.specs.declared.projection.Clause.{Clause}
 
-pub read_from-on : (state next : State) (at : ℕ) (text : List ℕ) → at < length text → step state (get_or text at 0) ≡ Some next
+pub read_from-on : (state next : State) (at : ℕ) (text : List ℕ) → at < length text
+    → step state (get_or text at 0) ≡ Some next
     → read_from state at (drop at text) ≡ read_from next (at + 1) (drop (at + 1) text)
 unfolding read_from
 read_from-on state next at text within leads =

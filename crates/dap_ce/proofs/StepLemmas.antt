@@ -20,6 +20,7 @@ unfolding step_name
 step_name-on begun name byte other dot = cond-false _ _ _ other ∙ cond-false _ _ _ (ne_eqb byte 46 dot)
 
 -- the bytes of a text between two places
-pub slice_between : (text : List ℕ) (from at : ℕ) → from ≤ at → drop from (take at text) ≡ take (at - from) (drop from text)
+pub slice_between : (text : List ℕ) (from at : ℕ) → from ≤ at
+    → drop from (take at text) ≡ take (at - from) (drop from text)
 slice_between text from at begun =
     ap (λ (n : ℕ). drop from (take n text)) (omega arith) ∙ drop-take from (at - from) text

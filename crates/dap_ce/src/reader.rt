@@ -80,7 +80,13 @@ impl Reader {
 
     // Takes a byte behind some of a name, which begins at a place of the text.
     #[tactic(auto, unfolding(dap_model::specs::ConstraintReading::step_name))]
-    fn in_name(&mut self, alloc: Global, text: &[u8], from: usize, at: usize) -> Result<bool, NoMemory>
+    fn in_name(
+        &mut self,
+        alloc: Global,
+        text: &[u8],
+        from: usize,
+        at: usize,
+    ) -> Result<bool, NoMemory>
         requires place { at < length text.now }
         requires begun { from ≤ at }
         requires phase { self.old.phase ≡ Phase.InName from }
@@ -115,7 +121,13 @@ impl Reader {
 
     // Takes a byte behind some digits of a number.
     #[tactic(auto, unfolding(dap_model::specs::ConstraintReading::step_number))]
-    fn in_number(&mut self, numbers: Numbers, count: u64, value: u64, byte: u8) -> Result<bool, NoMemory>
+    fn in_number(
+        &mut self,
+        numbers: Numbers,
+        count: u64,
+        value: u64,
+        byte: u8,
+    ) -> Result<bool, NoMemory>
         requires few { count ≤ 18 }
         requires value { value < 10 ^ count }
         ensures step { (read : List ℕ) → IfOk result (LeadsTo

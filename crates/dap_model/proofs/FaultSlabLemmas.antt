@@ -84,7 +84,8 @@ range_fault-none name place (first ∷ dims) (slab ∷ slabs) e k dim other dim_
     ]
 
 -- what a fault of range says, of dimensions from this one on
-pub record RangeFault (name : List ℕ) (from : ℕ) (dims : List Dim) (slabs : List Slab) (fault : ProjectFault) : Type 0 where
+pub record RangeFault (name : List ℕ) (from : ℕ) (dims : List Dim) (slabs : List Slab) (fault : ProjectFault)
+    : Type 0 where
   pub place : ℕ
   pub size : ℕ
   pub fault_is : SlabRange name (from + place) size ≡ fault

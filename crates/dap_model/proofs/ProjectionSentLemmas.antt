@@ -54,7 +54,8 @@ Has-sent_of clauses placed sent s =
     Has-filter_map (λ (part : ℕ). option_map (with_slabs placed.0 part) (slabs_of clauses placed.1 part))
     (range_with_len 0 (length (parts_of placed.1))) sent.part sent
     (Has-range 0 (length (parts_of placed.1)) sent.part (omega arith) (omega (arith, s.within)))
-    (ap (option_map (with_slabs placed.0 sent.part)) s.slabs_are ∙ ap (λ (place : ℕ). Some (with_slabs place sent.part sent.slabs))
+    (ap (option_map (with_slabs placed.0 sent.part)) s.slabs_are
+    ∙ ap (λ (place : ℕ). Some (with_slabs place sent.part sent.slabs))
     (sym s.place_is))
 
 pub PartSent-all_sent : (decls : List Decl) (clauses : List Clause) (sent : Sent)

@@ -63,7 +63,8 @@ index_at-append (slab ∷ front) back place rest within below =
     let inner : second * more + rest < box_len (front ++ back) =
     subst (λ (n : ℕ). second * more + rest < n) (mul_comm more width ∙ sym (box_len-append front back))
     (mul-add-lt second more rest width split.second below) in
-    let apart : (first * width + second) * more + rest ≡ first * (width * more) + (second * more + rest) = grind arith in
+    let apart : (first * width + second) * more + rest ≡ first * (width * more) +
+    (second * more + rest) = grind arith in
     let place_is : place * more + rest ≡ first * box_len (front ++ back) + (second * more + rest) =
     ap (λ (n : ℕ). n * more + rest) (sym split.whole)
     ∙ apart
@@ -90,7 +91,8 @@ Carried-first slabs index next same begun more = record {
 }
 
 -- where every index has started again, all index lists were given
-pub Carried-last : (slabs : List Slab) (index : List ℕ) (next : ℕ) → next < box_len slabs → Carried [] slabs index next → ⊥
+pub Carried-last : (slabs : List Slab) (index : List ℕ) (next : ℕ) → next < box_len slabs → Carried [] slabs index next
+    → ⊥
 Carried-last slabs index next more s =
     let one : 1 ≤ s.place + 1 = omega arith in
     let least = mul-le-mul_right (box_len slabs) one in
@@ -151,7 +153,8 @@ moved_on front slab back index next some s further =
     let inner : (s.strides + 1) * width + 0 < count * width =
     subst (λ (n : ℕ). (s.strides + 1) * width + 0 < n) (mul_comm width count)
     (mul-add-lt (s.strides + 1) width 0 count further some) in
-    let apart : (s.place * count + (s.strides + 1)) * width ≡ s.place * (count * width) + ((s.strides + 1) * width + 0) =
+    let apart : (s.place * count + (s.strides + 1)) * width ≡ s.place * (count * width) +
+    ((s.strides + 1) * width + 0) =
     grind arith in
     sym (ap (index_at (front ++ slab ∷ back)) (sym s.whole ∙ apart)
     ∙ index_at-append front (slab ∷ back) s.place ((s.strides + 1) * width + 0) s.within inner
@@ -173,7 +176,9 @@ starts_again front slab back index next some s last =
       place = s.place;
       within = s.within;
       whole = apart ∙ ap (λ (n : ℕ). (s.place * count + n) * width) (sym last) ∙ s.whole;
-      index_is = ap (λ (l : List ℕ). index_at front s.place ++ l) (sym (ap (index_at (slab ∷ back)) none ∙ index_at-cons slab back 0 0 some ∙ first));
+      index_is =
+          ap (λ (l : List ℕ). index_at front s.place ++ l)
+          (sym (ap (index_at (slab ∷ back)) none ∙ index_at-cons slab back 0 0 some ∙ first));
     }
 
 -- one turn at a slab: its index lies within it; if a stride further too, that is the next index list, and else the
@@ -187,10 +192,12 @@ pub record Turn (slabs : List Slab) (index : List ℕ) (next at : ℕ) (slab : S
       → Carried (take at slabs) (drop at slabs) (set index at slab.start) next
 
 -- a turn where the slabs are those before one, that one, and those after it
-turn_at : (front : List Slab) (slab : Slab) (back : List Slab) (index : List ℕ) (next : ℕ) → HasIndex slab → 0 < box_len back
+turn_at : (front : List Slab) (slab : Slab) (back : List Slab) (index : List ℕ) (next : ℕ) → HasIndex slab
+    → 0 < box_len back
     → AtSlab front slab back index next
     → (here : ℕ) × (get_or index (length front) 0 ≡ here) × (slab.start ≤ here) × (here ≤ slab.stop)
-    × (here + slab.stride ≤ slab.stop → set index (length front) (here + slab.stride) ≡ index_at (front ++ slab ∷ back) next)
+    × (here + slab.stride ≤ slab.stop → set index (length front) (here + slab.stride) ≡ index_at
+    (front ++ slab ∷ back) next)
     × (slab.stop < here + slab.stride → Carried front (slab ∷ back) (set index (length front) slab.start) next)
 turn_at front slab back index next has some s =
     let here = slab_index slab s.strides in
@@ -203,8 +210,7 @@ turn_at front slab back index next has some s =
     ap₂ (λ (l : List ℕ) (n : ℕ). get_or l n 0) s.index_is (sym many ∙ sym (add-zero (length firsts)))
     ∙ get_or-append-add firsts (here ∷ lasts) 0 0 in
     let written : (n : ℕ) → set index (length front) n ≡ firsts ++ n ∷ lasts = λ (n : ℕ).
-        ap₂ (λ (l : List ℕ) (k : ℕ). set l k n) s.index_is (sym many) ∙ set-append_seam firsts here lasts n in
-    (
+    ap₂ (λ (l : List ℕ) (k : ℕ). set l k n) s.index_is (sym many) ∙ set-append_seam firsts here lasts n in (
       here,
       read,
       picks.from_start,
@@ -212,7 +218,13 @@ turn_at front slab back index next has some s =
       λ fits.
           let high : slab_index slab (s.strides + 1) ≤ slab.stop = omega (arith, further) in
           let below = strides_within slab (slab_index slab (s.strides + 1)) has.stride
-          (record { from_start = omega (arith, further, picks.from_start); to_stop = high; strides = s.strides + 1; whole = refl }) in
+          (record {
+            from_start = omega
+                (arith, further, picks.from_start);
+            to_stop = high;
+            strides = s.strides + 1;
+            whole = refl;
+          }) in
           written (here + slab.stride)
           ∙ ap (λ (n : ℕ). firsts ++ n ∷ lasts) (sym further)
           ∙ moved_on front slab back index next some s below,
@@ -225,12 +237,12 @@ turn_at front slab back index next has some s =
           subst (λ (l : List ℕ). Carried front (slab ∷ back) l next) (sym (written slab.start))
           (starts_again front slab back index next some s last),
     ) where
-  absurd_or_last : (slab : Slab) (strides : ℕ) → HasIndex slab → strides < slab_count slab
-      → slab.stop < slab_index slab (strides + 1) → strides + 1 ≡ slab_count slab
-  absurd_or_last slab strides has below past = elim (cases_lt (strides + 1) (slab_count slab)) [
-    | inl further ↦ absurd (omega (arith, (Picks-slab_index slab (strides + 1) has.stride further).to_stop))
-    | inr last ↦ omega arith
-  ]
+      absurd_or_last : (slab : Slab) (strides : ℕ) → HasIndex slab → strides < slab_count slab
+          → slab.stop < slab_index slab (strides + 1) → strides + 1 ≡ slab_count slab
+      absurd_or_last slab strides has below past = elim (cases_lt (strides + 1) (slab_count slab)) [
+        | inl further ↦ absurd (omega (arith, (Picks-slab_index slab (strides + 1) has.stride further).to_stop))
+        | inr last ↦ omega arith
+      ]
 
 -- the slab at a place, or one that is never read
 abbrev pub slab_at : List Slab → ℕ → Slab
@@ -287,7 +299,8 @@ Carried-begun slabs index next same begun more =
     (Carried-first slabs index next same begun more))
 
 -- the first index list has the start of each slab
-pub index_at-first : (slabs : List Slab) → All HasIndex slabs → index_at slabs 0 ≡ map (λ (slab : Slab). slab.start) slabs
+pub index_at-first : (slabs : List Slab) → All HasIndex slabs
+    → index_at slabs 0 ≡ map (λ (slab : Slab). slab.start) slabs
 unfolding index_at
 index_at-first [] each = refl
 index_at-first (slab ∷ slabs) each =

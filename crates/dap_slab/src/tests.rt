@@ -42,7 +42,10 @@ fn a_stride_that_leaves_the_stop_out_ends_before_it(rt: HostRuntime) -> Result<(
         stop: 9,
     };
     assert_eq!(rt; slab_count(each), 3);
-    assert_eq!(rt; walked(rt.alloc(), &[each])?.as_slice(), [1, 1, 1, 4, 1, 7].as_slice());
+    assert_eq!(rt;
+        walked(rt.alloc(), &[each])?.as_slice(),
+        [1, 1, 1, 4, 1, 7].as_slice()
+    );
     Ok(())
 }
 
@@ -66,7 +69,9 @@ fn the_last_of_three_indices_varies_fastest(rt: HostRuntime) -> Result<(), Fail>
             stop: 3,
         },
     ];
-    let lists = [3, 0, 5, 1, 3, 0, 5, 2, 3, 0, 5, 3, 3, 2, 5, 1, 3, 2, 5, 2, 3, 2, 5, 3];
+    let lists = [
+        3, 0, 5, 1, 3, 0, 5, 2, 3, 0, 5, 3, 3, 2, 5, 1, 3, 2, 5, 2, 3, 2, 5, 3,
+    ];
     assert_eq!(rt; slab_len(&slabs), 6);
     assert_eq!(rt; walked(rt.alloc(), &slabs)?.as_slice(), lists.as_slice());
     Ok(())

@@ -37,7 +37,11 @@ fn put_fault(alloc: Global, fault: CeFault, out: &mut Bytes) -> Result<(), NoMem
     put_decimal(alloc, i128::from(fault.code()), out)?;
     out.append(b" at ")?;
     match fault {
-        CeFault::BadConstraint(at) | CeFault::Selection(at) => put_decimal(alloc, i128::from(at), out),
+        CeFault::BadConstraint(at) | CeFault::Selection(at) => put_decimal(
+            alloc,
+            i128::from(at),
+            out,
+        ),
     }
 }
 

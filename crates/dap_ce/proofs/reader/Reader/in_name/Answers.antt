@@ -18,7 +18,8 @@ returns-then-byte-eq46-clause-step c =
     let begun = begun_of c.args.self.now in
     let byte = get_or c.args.text.now c.args.at 0 in
     let name = slice_between c.args.text.now c.args.from c.args.at c.requires.begun in
-    step_name-dot begun (drop c.args.from (take c.args.at c.args.text.now)) byte (sym c.if-is_name_byte.ensures) c.if-byte-eq46.true
+    step_name-dot begun (drop c.args.from (take c.args.at c.args.text.now)) byte
+    (sym c.if-is_name_byte.ensures) c.if-byte-eq46.true
     ∙ ap (λ (n : List ℕ). Some (before_name (with_name begun n))) name
     ∙ ap (λ (b : Begun). Some (before_name b)) (sym c.in_ok-end_name.ensures)
 
@@ -27,7 +28,8 @@ returns-in_ok-follow-clause-step c =
     let begun = begun_of c.args.self.now in
     let byte = get_or c.args.text.now c.args.at 0 in
     let name = slice_between c.args.text.now c.args.from c.args.at c.requires.begun in
-    step_name-on begun (drop c.args.from (take c.args.at c.args.text.now)) byte (sym c.if-is_name_byte.ensures) c.if-byte-eq46.false
+    step_name-on begun (drop c.args.from (take c.args.at c.args.text.now)) byte
+    (sym c.if-is_name_byte.ensures) c.if-byte-eq46.false
     ∙ ap (λ (n : List ℕ). step_on (with_name begun n) byte) name
     ∙ ap (λ (b : Begun). step_on b byte) (sym c.in_ok-end_name.ensures)
     ∙ c.in_ok-follow.ensures.step (take (c.args.at + 1) c.args.text.now)

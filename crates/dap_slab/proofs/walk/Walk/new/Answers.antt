@@ -12,8 +12,7 @@ invariant_of-result c =
     let len = c.slab_len.result in
     let index = c.in_ok-index.index.items in
     subst (λ (l : List Slab). All HasIndex l × (len ≡ box_len l) × (0 ≤ len) × (index ≡ index_at l 0))
-    (sym c.in_ok-from_slice.ensures.items)
-    (
+    (sym c.in_ok-from_slice.ensures.items) (
       c.requires.index,
       c.slab_len.ensures,
       omega arith,

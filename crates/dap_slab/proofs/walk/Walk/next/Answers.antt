@@ -11,8 +11,7 @@ returns-else-step c =
     let past : box_len walk.slabs ≤ walk.given = elim (cases_lt walk.given (box_len walk.slabs)) [
       | inl more ↦ let none = c.if-step.ensures.more.1 more in cc
       | inr past ↦ past
-    ] in
-    (
+    ] in (
       (refl, (λ _. tt), c.step.ensures.new),
       record { some = tt; none = all_given walk.slabs walk.given past; rest = tt },
     )
