@@ -1,7 +1,6 @@
 //! Constraints of DAP 2.0 as values: what a text asks for, or where it is wrong.
 #![tactic(auto)]
 
-mod bytes;
 mod phase;
 mod read;
 mod reader;

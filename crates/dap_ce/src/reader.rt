@@ -7,10 +7,9 @@ ghost use Rattle.dap_model.specs.ConstraintReading.{step, step_name, step_number
 ghost use Rattle.dap_ce.specs.Asked.{as_projection};
 ghost use Rattle.dap_ce.specs.Phases.{begun_of, numbers_of, state_of, Fits, LeadsTo};
 
-use crate::bytes::is_name_byte;
 use crate::phase::{Numbers, Phase, next_number, slab_with};
 use dap_model::{CeFault, Clause, Projection, Slab};
-use fm_base::{Bytes, Fail, List, NoMemory};
+use fm_base::{Bytes, Fail, List, NoMemory, is_name_byte};
 use std::alloc::Global;
 use std::mem;
 

@@ -17,7 +17,8 @@ first_some first second a e = ap (λ o. option_or o second) e
 pub first_none : {A : Type 0} (first second : Option A) → first ≡ None → option_or first second ≡ second
 first_none first second e = ap (λ o. option_or o second) e
 
-pub both_none : {A : Type 0} (first second : Option A) → option_or first second ≡ None → (first ≡ None) × (second ≡ None)
+pub both_none : {A : Type 0} (first second : Option A) → option_or first second ≡ None
+    → (first ≡ None) × (second ≡ None)
 both_none None second e = (refl, e)
 both_none (Some a) second e = absurd (none-some a (sym e))
 

@@ -109,7 +109,8 @@ fresh-from_AreDistinct name items apart = fresh_from_distinct name [] items (Are
 abbrev pub IsOnlyRecord : List Dim → Dim → Type 0
 IsOnlyRecord found dim = (is_record_dim dim && has_record_dim found) ≡ false
 
-has_record_dim-last : (found : List Dim) (dim : Dim) → has_record_dim (found ++ dim ∷ []) ≡ (has_record_dim found || is_record_dim dim)
+has_record_dim-last : (found : List Dim) (dim : Dim) → has_record_dim (found ++ dim ∷ [])
+    ≡ (has_record_dim found || is_record_dim dim)
 unfolding has_record_dim
 has_record_dim-last found dim = list_any-append is_record_dim found (dim ∷ [])
     ∙ ap (λ b. list_any is_record_dim found || b) (or-false (is_record_dim dim))

@@ -42,9 +42,11 @@ unfolding rank_in product
 rank_in-lt [] index is = omega arith
 rank_in-lt (n ∷ shape) [] is = absurd is
 rank_in-lt (n ∷ shape) (i ∷ index) is =
-    rw (mul_comm n (product shape)) (mul-add-lt i (product shape) (rank_in shape index) n is.0 (rank_in-lt shape index is.1))
+    rw (mul_comm n (product shape)) (mul-add-lt i (product shape) (rank_in shape index) n is.0
+    (rank_in-lt shape index is.1))
 
-rank_in-le-last : (shape index : List ℕ) → IsIndex shape index → rank_in shape index ≤ rank_in shape (map (λ n. n - 1) shape)
+rank_in-le-last : (shape index : List ℕ) → IsIndex shape index
+    → rank_in shape index ≤ rank_in shape (map (λ n. n - 1) shape)
 rank_in-le-last shape index is =
     let below = rank_in-lt shape index is in
     let last = rank_in-last shape (omega (arith, below)) in
@@ -64,11 +66,13 @@ place_by-le b begin recsize size (n ∷ shape) [] is = absurd is
 place_by-le true begin recsize size (n ∷ shape) (i ∷ index) is =
     let first = is.0 in
     let records = mul-le i recsize (n - 1) recsize (omega arith) (omega arith) in
-    let others = mul-le size (rank_in shape index) size (rank_in shape (map (λ m. m - 1) shape)) (omega arith) (rank_in-le-last shape index is.1) in
+    let others = mul-le size (rank_in shape index) size (rank_in shape (map (λ m. m - 1) shape)) (omega arith)
+    (rank_in-le-last shape index is.1) in
     omega arith
 place_by-le false begin recsize size (n ∷ shape) (i ∷ index) is =
-    let all = mul-le size (rank_in (n ∷ shape) (i ∷ index)) size (rank_in (n ∷ shape) (map (λ m. m - 1) (n ∷ shape))) (omega arith)
-      (rank_in-le-last (n ∷ shape) (i ∷ index) is) in
+    let all = mul-le size (rank_in (n ∷ shape) (i ∷ index)) size
+    (rank_in (n ∷ shape) (map (λ m. m - 1) (n ∷ shape))) (omega arith)
+    (rank_in-le-last (n ∷ shape) (i ∷ index) is) in
     omega arith
 
 -- no element ends past the last
@@ -76,7 +80,8 @@ pub place_of-le-end_of : (header : Header) (var : NcVar) (index : List ℕ) → 
     → place_of header var index + size_of var.kind ≤ end_of header var
 unfolding place_of
 place_of-le-end_of header var index is =
-    let last = place_by-le (is_record_var header var) var.begin (record_size header) (size_of var.kind) (shape_of header var) index is in
+    let last = place_by-le (is_record_var header var) var.begin (record_size header) (size_of var.kind)
+    (shape_of header var) index is in
     omega arith
 
 -- a variable with an element ends within this length
@@ -85,17 +90,21 @@ EndsWithin header len var = 0 < product (shape_of header var) → end_of header 
 
 ends_inside : (header : Header) (len : ℕ) (var : NcVar) → is_outside header len var ≡ false → EndsWithin header len var
 ends_inside header len var inside some =
-    let has : (product (shape_of header var) == 0) ≡ false = ne_eqb (product (shape_of header var)) 0 (λ e. omega arith) in
+    let has : (product (shape_of header var) == 0)
+    ≡ false = ne_eqb (product (shape_of header var)) 0 (λ e. omega arith) in
     ltb-false len (end_of header var) (rw has at inside)
 
-inside_each : (header : Header) (len n : ℕ) (vars : List NcVar) → first_outside header len n vars ≡ None → All (EndsWithin header len) vars
+inside_each : (header : Header) (len n : ℕ) (vars : List NcVar) → first_outside header len n vars ≡ None
+    → All (EndsWithin header len) vars
 unfolding first_outside
 inside_each header len n [] e = All-nil (EndsWithin header len)
-inside_each header len n (var ∷ vars) e = by_test (is_outside header len var) refl e (inside_each header len (n + 1) vars)
+inside_each header len n (var ∷ vars) e = by_test (is_outside header len var) refl e
+    (inside_each header len (n + 1) vars)
   where
     by_test : (b : Bool) → is_outside header len var ≡ b
         → cond b (Some (DataOutside n (end_of header var) len)) (first_outside header len (n + 1) vars) ≡ None
-        → (first_outside header len (n + 1) vars ≡ None → All (EndsWithin header len) vars) → All (EndsWithin header len) (var ∷ vars)
+        → (first_outside header len (n + 1) vars ≡ None → All (EndsWithin header len) vars)
+        → All (EndsWithin header len) (var ∷ vars)
     by_test true is e more = absurd cc
     by_test false is e more = All-cons (EndsWithin header len) var vars (ends_inside header len var is) (more e)
 
@@ -107,29 +116,36 @@ second_none (Some fault) second e = absurd cc
 pub ends_within : (header : Header) (len : ℕ) → layout_fault header len ≡ None → All (EndsWithin header len) header.vars
 unfolding layout_fault
 ends_within header len e =
-    inside_each header len 0 header.vars (second_none (first_too_large header 0 header.vars) (first_outside header len 0 header.vars) e)
+    inside_each header len 0 header.vars (second_none (first_too_large header 0 header.vars)
+    (first_outside header len 0 header.vars) e)
 
 -- one more first index
-length_row : (f : List ℕ → List ℕ) (size : ℕ) (shape : List ℕ) → ((index : List ℕ) → IsIndex shape index → length (f index) ≡ size)
+length_row : (f : List ℕ → List ℕ) (size : ℕ) (shape : List ℕ)
+    → ((index : List ℕ) → IsIndex shape index → length (f index) ≡ size)
     → length (flat_map f (indices_of shape)) ≡ size * product shape
 unfolding indices_of product
 length_row f size [] each = length-append (f []) [] ∙ (let one = each [] tt in omega (arith, one))
-length_row f size (n ∷ shape) each = rows (λ g row. length_row g size shape row) 0 n (λ i at below. omega arith) ∙ turns n size (product shape)
+length_row f size (n ∷ shape) each = rows (λ g row. length_row g size shape row) 0 n (λ i at below. omega arith)
+    ∙ turns n size (product shape)
   where
     turns : (n size whole : ℕ) → n * (size * whole) ≡ size * (n * whole)
     turns n size whole = sym (mul_assoc n size whole) ∙ ap (λ m. m * whole) (mul_comm n size) ∙ mul_assoc size n whole
 
-    rows : ((g : List ℕ → List ℕ) → ((index : List ℕ) → IsIndex shape index → length (g index) ≡ size) → length (flat_map g (indices_of shape)) ≡ size * product shape)
+    rows : ((g : List ℕ → List ℕ) → ((index : List ℕ) → IsIndex shape index → length (g index) ≡ size)
+        → length (flat_map g (indices_of shape)) ≡ size * product shape)
         → (a m : ℕ) → ((i : ℕ) → a ≤ i → i < a + m → i < n)
-        → length (flat_map f (flat_map (λ (i : ℕ). map (λ (index : List ℕ). i ∷ index) (indices_of shape)) (range_with_len a m))) ≡ m * (size * product shape)
+        → length (flat_map f (flat_map (λ (i : ℕ). map (λ (index : List ℕ). i ∷ index) (indices_of shape))
+        (range_with_len a m))) ≡ m * (size * product shape)
     rows of_row a zero within = omega arith
     rows of_row a (suc m) within =
-        let row = of_row (λ index. f (a ∷ index)) (λ index is. each (a ∷ index) (within a (omega arith) (omega arith), is)) in
+        let row = of_row (λ index. f (a ∷ index)) (λ index is. each (a ∷ index)
+        (within a (omega arith) (omega arith), is)) in
         let more = rows of_row (a + 1) m (λ i at below. within i (omega arith) (omega arith)) in
         ap length (flat_map-append f (map (λ (index : List ℕ). a ∷ index) (indices_of shape))
         (flat_map (λ (i : ℕ). map (λ (index : List ℕ). i ∷ index) (indices_of shape)) (range_with_len (a + 1) m)))
         ∙ length-append (flat_map f (map (λ (index : List ℕ). a ∷ index) (indices_of shape))) _
-        ∙ ap₂ (λ (x y : ℕ). x + y) (ap length (flat_map-map f (λ (index : List ℕ). a ∷ index) (indices_of shape)) ∙ row) more
+        ∙ ap₂ (λ (x y : ℕ). x + y) (ap length (flat_map-map f (λ (index : List ℕ). a ∷ index) (indices_of shape))
+        ∙ row) more
         ∙ omega arith
 
 whole_slice : (size at : ℕ) (bytes : List ℕ) → at + size ≤ length bytes → length (take size (drop at bytes)) ≡ size
@@ -139,7 +155,8 @@ whole_slice size at bytes within = omega (arith, length-take size (drop at bytes
 pub length-elements_of : (bytes : List ℕ) (header : Header) (var : NcVar) → EndsWithin header (length bytes) var
     → length (elements_of bytes header var) ≡ size_of var.kind * product (shape_of header var)
 unfolding elements_of element
-length-elements_of bytes header var ends = length_row (element bytes header var) (size_of var.kind) (shape_of header var)
+length-elements_of bytes header var ends = length_row (element bytes header var) (size_of var.kind)
+    (shape_of header var)
     (λ index is.
     let below = rank_in-lt (shape_of header var) index is in
     let end = ends (omega (arith, below)) in

@@ -20,7 +20,8 @@ pub Exact-dim_size : (found : List Dim)
     → ExactBytes (Such SpellsCount (λ size. (size == 0 && has_record_dim found) ≡ false)) (dim_size found)
 unfolding dim_size
 Exact-dim_size found = Exact-located
-    (λ at. ExactBytes-unless SpellsCount (λ size. size == 0 && has_record_dim found) (TwoRecordDims at) count Exact-count)
+    (λ at. ExactBytes-unless SpellsCount (λ size. size == 0 && has_record_dim found)
+    (TwoRecordDims at) count Exact-count)
 
 abbrev pub name_of_dim : Dim → List ℕ
 name_of_dim dim = dim.name

@@ -26,7 +26,12 @@ HasData bytes header = (header_or_fault bytes ≡ Ok header) × (layout_fault he
 pub sound_header-ok : (bytes : List ℕ) (header : Header) → sound_header bytes ≡ Ok header → HasData bytes header
 unfolding sound_header
 sound_header-ok bytes header e =
-    let found = step_ok (fault_as OfHeader (header_or_fault bytes)) (λ h. refuse (option_map OfLayout (layout_fault h (length bytes))) >> Ok h) header e in
+    let found = step_ok (fault_as OfHeader (header_or_fault bytes))
+    (λ h. refuse (option_map OfLayout (layout_fault h (length bytes))) >> Ok h) header e in
     let passed = refuse_ok (option_map OfLayout (layout_fault found.0 (length bytes))) (Ok found.0) header found.2 in
     subst (HasData bytes) (same_Ok {E = FormatFault} found.0 header passed.1)
-    ((ok-fault_as OfHeader (header_or_fault bytes) found.0 found.1, map_none OfLayout (layout_fault found.0 (length bytes)) passed.0))
+    ((
+      ok-fault_as OfHeader (header_or_fault bytes) found.0 found.1,
+      map_none OfLayout
+          (layout_fault found.0 (length bytes)) passed.0,
+    ))

@@ -71,7 +71,7 @@ unfoldable pub place_of : Header → NcVar → List ℕ → ℕ
 place_of header var index =
     if is_record_var header var
     then var.begin + slice_index index 0 * record_size header
-      + size_of var.kind * rank_in (fixed_shape header var) (drop 1 index)
+    + size_of var.kind * rank_in (fixed_shape header var) (drop 1 index)
     else var.begin + size_of var.kind * rank_in (fixed_shape header var) index
 
 -- the bytes of an element

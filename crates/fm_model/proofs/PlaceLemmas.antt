@@ -30,12 +30,14 @@ place_by_slot header axis var first others k index dims same = by_record (names_
         + size_of var.kind * rank_in (drop 1 (shape_of header var)) index
     by_record true is =
         let has : is_record_var header var ≡ true = records_is ∙ is in
-        let along : names_record_dim header.dims (dim_of_axis axis) ≡ true = ap (names_record_dim header.dims) (sym same)
+        let along : names_record_dim header.dims (dim_of_axis axis)
+        ≡ true = ap (names_record_dim header.dims) (sym same)
         ∙ is in
         rw (has, along) refl
     by_record false is =
         let has : is_record_var header var ≡ false = records_is ∙ is in
-        let along : names_record_dim header.dims (dim_of_axis axis) ≡ false = ap (names_record_dim header.dims) (sym same)
+        let along : names_record_dim header.dims (dim_of_axis axis)
+        ≡ false = ap (names_record_dim header.dims) (sym same)
         ∙ is in
         rw (has, along, shape_is) (omega arith)
 

@@ -28,7 +28,8 @@ IsSite-site = record {
 }
 
 made_a : proto_of file_a site ≡ Ok proto_a
-unfolding is_name_text has_name has_record_dim is_name_byte product vsize record_size rank_in place_of element indices_of
+unfolding is_name_text has_name has_record_dim is_name_byte product vsize record_size rank_in place_of element
+    indices_of
     elements_of first_too_large first_outside layout_fault word long_word count padded name_at kind_at items_from tag_at
     list_count list_at dim_size dim_at attr_at rank_at names_record_dim dim_id_at begin_at var_at version_at numrecs_at
     header_at header_or_fault trimmed attr_text text_of has_text chars is_utf8 encode_utf8 sound_header proto_header

@@ -42,7 +42,8 @@ last-part header var all =
     let last = last-index header var in
     let at = ap (part_begin header var) last.0 in
     let offset = ap (λ rest. size_of var.kind * rank_in (fixed_shape header var) rest) last.1 in
-    let whole = times_last (size_of var.kind) _ _ (rank_in-last (fixed_shape header var) (product-pos (fixed_shape header var) all)) in
+    let whole = times_last (size_of var.kind) _ _ (rank_in-last (fixed_shape header var)
+    (product-pos (fixed_shape header var) all)) in
     omega arith
 
 -- how many elements a variable has

@@ -19,11 +19,13 @@ use Rattle.nc_layout.specs.Kept.{HasLengths, part_of, index_in_part}
 use Rattle.nc_layout.specs.Places.{part_begin, part_count}
 
 -- the record dimension has as many places as there are records
-size_at-record : (header : Header) (id : ℕ) → names_record_dim header.dims id ≡ true → size_at header id ≡ header.numrecs
+size_at-record : (header : Header) (id : ℕ) → names_record_dim header.dims id ≡ true → size_at header id
+    ≡ header.numrecs
 unfolding names_record_dim
 size_at-record header id named = at (slice_get header.dims id) named
   where
-    at : (o : Option Dim) → option_map_or is_record_dim o false ≡ true → option_map_or (size_in header) o 0 ≡ header.numrecs
+    at : (o : Option Dim) → option_map_or is_record_dim o false ≡ true → option_map_or (size_in header) o 0
+        ≡ header.numrecs
     at None e = absurd cc
     at (Some dim) e = rw e refl
 

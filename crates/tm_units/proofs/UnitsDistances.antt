@@ -51,7 +51,8 @@ zone_minute_stops text rest minute (inl none) may = after_nothing (Stops is_asci
 zone_minute_stops text rest minute (inr s) may = stops_at is_ascii_digit 58 text s.minute_text rest s.text_is refl
 
 abbrev pub TheDistance : List ℕ → ℕ → Type 0
-TheDistance = Then (SpellsNumberWithin 1 2 0 23) (λ hour. Then SpellsZoneMinute (λ minute. Is (time_seconds hour minute 0)))
+TheDistance = Then (SpellsNumberWithin 1 2 0 23) (λ hour. Then SpellsZoneMinute
+    (λ minute. Is (time_seconds hour minute 0)))
 
 pub to_distance : (text : List ℕ) (seconds : ℕ) → TheDistance text seconds → SpellsDistance text seconds
 to_distance text seconds s = record {

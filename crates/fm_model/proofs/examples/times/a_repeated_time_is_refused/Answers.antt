@@ -8,6 +8,7 @@ use Rattle.fm_model.specs.LoadTimes.{is_instant, seconds_at, time_at, time_in_ra
 use Rattle.fm_model.proofs.examples.times.a_repeated_time_is_refused.Goals as goal
 
 pub returns : goal.returns
-unfolding element place_of product rank_in record_size vsize finite value_of_fields names_record_dim count_trailing_zeros
+unfolding element place_of product rank_in record_size vsize finite value_of_fields names_record_dim
+    count_trailing_zeros
     is_instant seconds_at time_at time_in_range file_times times_from
 returns c = refl

@@ -8,11 +8,13 @@ use Rattle.fm_model.specs.LoadTimes.{is_instant, seconds_at, time_at, time_in_ra
 use Rattle.fm_model.proofs.examples.times.a_time_is_a_whole_number_of_seconds.Goals as goal
 
 pub returns-clause-half : goal.returns-clause-half
-unfolding element place_of product rank_in record_size vsize finite value_of_fields names_record_dim count_trailing_zeros
+unfolding element place_of product rank_in record_size vsize finite value_of_fields names_record_dim
+    count_trailing_zeros
     is_instant seconds_at time_at time_in_range
 returns-clause-half c = refl
 
 pub returns-clause-third : goal.returns-clause-third
-unfolding element place_of product rank_in record_size vsize finite value_of_fields names_record_dim count_trailing_zeros
+unfolding element place_of product rank_in record_size vsize finite value_of_fields names_record_dim
+    count_trailing_zeros
     is_instant seconds_at time_at time_in_range
 returns-clause-third c = refl
