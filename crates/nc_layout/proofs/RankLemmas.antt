@@ -6,6 +6,7 @@ use Rattle.std.proofs.lemmas.List.{drop_more, drop_all, drop-map, length-map}
 use Rattle.std.proofs.lemmas.List.Elements.{All-nil, All-cons, All-drop, All-head, All-tail}
 use Rattle.fm_base.specs.Layout.{product, rank_in, IsIndex}
 use Rattle.fm_base.proofs.EndLaws.{rank_in-lt}
+use Rattle.nc_layout.proofs.ProductLemmas.{product-pos}
 
 -- an index list has one index for each length
 pub length-index : (shape index : List ℕ) → IsIndex shape index → length index ≡ length shape
