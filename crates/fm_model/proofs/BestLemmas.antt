@@ -151,12 +151,12 @@ at_most : (a b : ℤ) → a ≡ b → a ≤ℤ b
 at_most a b e = omega (arith, ints)
 
 -- the test of a least offset
-offset_test : (least : Option ℤ) (run valid : ℤ) → HasLeastOffset least run valid → has_least_offset least run valid ≡ true
+pub offset_test : (least : Option ℤ) (run valid : ℤ) → HasLeastOffset least run valid → has_least_offset least run valid ≡ true
 unfolding has_least_offset
 offset_test None run valid late = refl
 offset_test (Some least) run valid late = grind (arith, ints)
 
-offset_from_test : (least : Option ℤ) (run valid : ℤ) → has_least_offset least run valid ≡ true → HasLeastOffset least run valid
+pub offset_from_test : (least : Option ℤ) (run valid : ℤ) → has_least_offset least run valid ≡ true → HasLeastOffset least run valid
 unfolding has_least_offset
 offset_from_test None run valid e = tt
 offset_from_test (Some least) run valid e = grind (arith, ints)

@@ -135,7 +135,7 @@ EachPair-filter {A} R test (item ∷ items) pairs = by_test (test item) (EachPai
     by_test true others = (Each-from_in (R item) (filter test items) (λ x h. Each-in (R item) x items pairs.0 (in_filter test x items h).0), others)
     by_test false others = others
 
-differ_after : (files : List Loaded) (op : Op) → EachPair DifferInName files → EachPair DifferInName (after_op files op)
+pub differ_after : (files : List Loaded) (op : Op) → EachPair DifferInName files → EachPair DifferInName (after_op files op)
 unfolding after_op without kept_from
 differ_after files (Put file) differ =
     EachPair-push DifferInName (without file.name files) file (EachPair-filter DifferInName (λ (f : Loaded). not (named file.name f)) files differ)

@@ -11,7 +11,7 @@ pub mod Members
 pub mod PlaceLemmas
 pub mod ProtoLemmas
 pub mod RetractLemmas
-mod RisingLemmas
+pub mod RisingLemmas
 pub mod RowLemmas
 pub mod RunLemmas
 pub mod SlotLemmas

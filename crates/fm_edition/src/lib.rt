@@ -1,0 +1,8 @@
+//! What a collection holds at one moment. An operation makes a new edition from an old one, and both share the files.
+#![tactic(auto)]
+
+pub mod laws;
+pub mod plain_list;
+
+pub use fm_model::{Full, Tally, Which};
+pub use plain_list::Edition;
