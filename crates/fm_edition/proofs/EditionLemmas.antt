@@ -1,10 +1,11 @@
 -- What an edition keeps: at the start, after an operation, and after a log.
-use Rattle.std.proofs.Common.{◌≡◌, ◌≤◌, List, [], ◌∷◌, ◌++◌, None, refl, sym, ap, subst, ◌∙◌, arith}
+use Rattle.std.proofs.Common.{◌≡◌, ◌≤◌, List, [], ◌∷◌, ◌++◌, length, get_or, None, arith}
 use Rattle.std.specs.Prelude.{All, AllPairs, filter, fold, not, int_le}
 use Rattle.std.specs.Str.{bytes_eq}
 use Rattle.std.proofs.lemmas.List.Elements.{All-append, All-filter, All-nil}
 use Rattle.fm_model.specs.declared.full.Which.{Which}
 use Rattle.fm_model.specs.declared.full.Which.TheVariants.{Files, Rows, Size}
+use Rattle.fm_model.specs.declared.limit.TheConstants.{MAX_TIMES}
 use Rattle.fm_model.specs.declared.loaded.Loaded.{Loaded}
 use Rattle.fm_model.specs.declared.op.Op.{Op}
 use Rattle.fm_model.specs.declared.op.Op.TheVariants.{Put, Expire, Retract}
@@ -15,6 +16,7 @@ use Rattle.fm_model.specs.Site.{IsPrototype}
 use Rattle.fm_model.proofs.CollectionLemmas.{differ_after}
 use Rattle.fm_model.proofs.FullLemmas.{full_at-none}
 use Rattle.fm_model.proofs.Members.{All-from_each, AllPairs-from_each, each_from_AllPairs}
+use Rattle.fm_model.proofs.TimeLemmas.{few-times}
 use Rattle.fm_edition.specs.Held.{Held, held_after, IsEdition, OpFits}
 use Rattle.fm_edition.specs.Log.{CanFollow, held_of, IsLog, IsLogFrom}
 
@@ -84,3 +86,7 @@ follows proto files (first ∷ before) after op log = follows proto (after_op fi
 pub CanFollow-from_log : (proto : Proto) (before after : List Op) (op : Op) → IsLog proto (before ++ op ∷ after) → CanFollow proto (coll before) op
 unfolding coll
 CanFollow-from_log proto before after op log = follows proto [] before after op log
+
+-- files that fit have few times
+pub times_are_few : (proto : Proto) (files : List Loaded) → All (λ file. Fits file proto) files → All (λ (file : Loaded). length file.times ≤ MAX_TIMES) files
+times_are_few proto files fit = λ k d lt. few-times (get_or files k d) proto (fit k d lt)

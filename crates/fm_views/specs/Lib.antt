@@ -1,0 +1,1 @@
+pub use Rattle.fm_model.specs.Rows
