@@ -27,7 +27,7 @@ below_best : (files : List Loaded) (valid : ℤ) (least : Option ℤ) (other : �
 below_best files valid least other any late =
     let held = in_from_Any (HasCell other valid) files any in
     let run = value-from_some (best files valid least) (best-from_file files valid least held.0 held.1 (in_from_Contains valid held.0.times held.2.time)
-        (subst (λ r. HasLeastOffset least r valid) (sym held.2.run_is) late)) in
+    (subst (λ r. HasLeastOffset least r valid) (sym held.2.run_is) late)) in
     (run.0, run.1, (IsBest-from_best files valid least run.0 run.1).greatest other any late)
 
 -- a run with a cell in some files and one more has it in those files, or in that file
@@ -88,10 +88,10 @@ best-raised files file valid least has above = best-from_IsBest (files ++ file �
   late = has.1;
   greatest = λ other any late. in_pushed files file valid least other any late
       (λ before.
-          let top = below_best files valid least other before late in
-          let more : top.0 ≤ℤ file.run = above top.0 top.1 in
-          let le : other ≤ℤ top.0 = top.2 in
-          omega (arith, ints))
+      let top = below_best files valid least other before late in
+      let more : top.0 ≤ℤ file.run = above top.0 top.1 in
+      let le : other ≤ℤ top.0 = top.2 in
+      omega (arith, ints))
       (λ own later. at_most other file.run (sym own));
 })
   where

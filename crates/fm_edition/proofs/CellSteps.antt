@@ -76,7 +76,7 @@ cell-found files run valid i before file place next lt is found same =
     let parts = found_parts run valid file place found in
     let passes : has_cell run valid (get_or files i file) ≡ true = ap (has_cell run valid) (sym is) ∙ parts.0 in
     let last : last_such (has_cell run valid) files ≡ Some file =
-        sym same ∙ ap (λ n. last_such (has_cell run valid) (take n files)) (sym next) ∙ last_such-found (has_cell run valid) files i file lt passes ∙ ap Some (sym is) in
+    sym same ∙ ap (λ n. last_such (has_cell run valid) (take n files)) (sym next) ∙ last_such-found (has_cell run valid) files i file lt passes ∙ ap Some (sym is) in
     rw last (ap (λ n. Some (file, n)) parts.1)
 
 -- a file without the cell is passed over

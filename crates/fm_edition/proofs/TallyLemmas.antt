@@ -27,9 +27,10 @@ bounds_without files name within = bounds (without name files) ((full_at-none fi
 
 -- how much there is after a put
 pub tally-put : (files : List Loaded) (file : Loaded) → tally (after_op files (Put file)) ≡ record {
-    files = length (without file.name files) + 1;
-    rows = sum_by (λ (f : Loaded). length f.times) (without file.name files) + length file.times;
-    size = sum_by (λ (f : Loaded). length f.content) (without file.name files) + length file.content }
+  files = length (without file.name files) + 1;
+  rows = sum_by (λ (f : Loaded). length f.times) (without file.name files) + length file.times;
+  size = sum_by (λ (f : Loaded). length f.content) (without file.name files) + length file.content;
+}
 unfolding tally after_op
 tally-put files file =
     let rows = λ (f : Loaded). length f.times in

@@ -2,7 +2,9 @@
 #![tactic(auto)]
 
 pub mod laws;
+mod offset;
 pub mod plain_list;
 
 pub use fm_model::{Full, Tally, Which};
+pub use offset::keeps_least_offset;
 pub use plain_list::Edition;

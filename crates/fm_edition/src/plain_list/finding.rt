@@ -2,10 +2,11 @@
 ghost use Rattle.std.specs.Prelude.{◌≡◌, ◌≤◌, [], ◌∷◌, ◌++◌, All, IfSome, IsNone, List, None, Some, length, position};
 ghost use Rattle.std.specs.Ordering.{int_eq};
 ghost use Rattle.fm_model.specs.declared.loaded.Loaded.{Loaded as File};
-ghost use Rattle.fm_model.specs.Cell.{best, cell, has_least_offset, has_time};
+ghost use Rattle.fm_model.specs.Cell.{best, cell, has_time};
 ghost use Rattle.fm_model.specs.Collection.{holds, holds_older};
 ghost use Rattle.fm_edition.specs.Found.{cell_in};
 
+use crate::offset::keeps_least_offset;
 use fm_base::Arc;
 use fm_model::{Loaded, MAX_TIMES};
 
@@ -71,17 +72,6 @@ fn has_valid(file: &Loaded, valid: i64) -> bool
     file.times.as_slice().iter().any(|time| *time == valid)
 }
 
-// Whether a valid time lies at least the least offset after a run, where one is given.
-#[tactic(auto, unfolding(fm_model::specs::Cell::has_least_offset))]
-fn is_late(least: Option<i64>, run: i64, valid: i64) -> bool
-    ensures { result ≡ has_least_offset least run valid }
-{
-    match least {
-        Some(seconds) => i128::from(seconds) <= i128::from(valid) - i128::from(run),
-        None => true,
-    }
-}
-
 // The best run of some files and one more, where `greatest` is that of the others.
 fn raised(greatest: Option<i64>, file: &Loaded, valid: i64, least: Option<i64>) -> Option<i64>
     ensures { (others : List File) → best others valid least ≡ greatest
@@ -92,7 +82,7 @@ fn raised(greatest: Option<i64>, file: &Loaded, valid: i64, least: Option<i64>) 
             return greatest;
         }
     }
-    if !is_late(least, file.run, valid) {
+    if !keeps_least_offset(least, file.run, valid) {
         return greatest;
     }
     if !has_valid(file, valid) {
