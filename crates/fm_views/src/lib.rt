@@ -4,8 +4,8 @@
 
 mod best;
 mod counting;
-mod rows;
 mod runs;
+mod view;
 
 pub use counting::row_count;
-pub use rows::{NoRows, rows};
+pub use view::{NoRows, rows};
