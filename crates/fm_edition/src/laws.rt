@@ -22,8 +22,8 @@ pub fn logs_leave_editions()
         → IsEdition (held_of proto ops) }
 {}
 
-/// No operations are a log. A log grows by an operation that can be done to what it leaves; its front is a log, and each
-/// of its operations can be done to what those before it leave.
+/// No operations are a log. A log grows by an operation that can be done to what it leaves; its front is a log, and
+/// each of its operations can be done to what those before it leave.
 pub fn logs_grow_by_what_can_follow()
     ensures none { (proto : Prototype) → IsLog proto [] }
     ensures more { (proto : Prototype) (ops : List Operation) (op : Operation) → IsLog proto ops

@@ -109,8 +109,8 @@ impl Edition {
         finding::cell_of(self.files.as_slice(), run, valid)
     }
 
-    /// The greatest run that has a valid time and, where a least offset is given, lies at least that many seconds before
-    /// it. `None` where there is no such run.
+    /// The greatest run that has a valid time and, where a least offset is given, lies at least that many seconds
+    /// before it. `None` where there is no such run.
     pub fn best_run(&self, valid: i64, least: Option<i64>) -> Option<i64>
         ensures { result ≡ best self.now.files valid least }
     {

@@ -78,8 +78,8 @@ impl Plain {
         Ok(Some(revision))
     }
 
-    /// Publishes that the file of a name goes, and returns the revision. `None`, and nothing changed, where no held file
-    /// has the name. An `Err` changes nothing.
+    /// Publishes that the file of a name goes, and returns the revision. `None`, and nothing changed, where no held
+    /// file has the name. An `Err` changes nothing.
     pub fn retract(&mut self, alloc: Global, name: &[u8]) -> Result<Option<u64>, NoMemory>
         ensures revision { IfOk result (λ revision.
             revision ≡ (if holds (coll self.old.seen) name.now then Some (length self.old.seen + 1) else None)) }
