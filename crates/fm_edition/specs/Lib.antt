@@ -1,0 +1,6 @@
+pub mod Found
+pub mod Held
+pub mod Log
+pub use Rattle.fm_model.specs.Collection
+pub use Rattle.fm_model.specs.Cell
+pub use Rattle.fm_model.specs.Rising

@@ -1,0 +1,10 @@
+//! What a collection holds at one moment. An operation makes a new edition from an old one, and both share the files.
+#![tactic(auto)]
+
+pub mod laws;
+mod offset;
+pub mod plain_list;
+
+pub use fm_model::{Full, Tally, Which};
+pub use offset::keeps_least_offset;
+pub use plain_list::Edition;

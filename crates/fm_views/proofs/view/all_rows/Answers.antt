@@ -1,0 +1,33 @@
+-- Each view has its function.
+use Rattle.std.proofs.Common.{◌≡◌, rules, SFits, w64}
+use Rattle.std.proofs.lemmas.Int.{to_z-of_z}
+use Rattle.fm_model.specs.Rows.{rows}
+use Rattle.fm_views.proofs.view.all_rows.Goals as goal
+
+pub returns-in-Best : goal.returns-in-Best
+unfolding rows
+returns-in-Best c = rw c.in-Best.is c.best_rows.ensures
+
+pub returns-in-BestFrom : goal.returns-in-BestFrom
+unfolding rows
+returns-in-BestFrom c =
+    let a : SFits w64 c.in-BestFrom.least = search rules in
+    rw c.in-BestFrom.is (simp to_z-of_z at c.best_rows-in-BestFrom.ensures)
+
+pub returns-in-Run : goal.returns-in-Run
+unfolding rows
+returns-in-Run c =
+    let a : SFits w64 c.in-Run.run' = search rules in
+    rw c.in-Run.is (simp to_z-of_z at c.rows_of_run.ensures)
+
+pub returns-in-Offset : goal.returns-in-Offset
+unfolding rows
+returns-in-Offset c =
+    let a : SFits w64 c.in-Offset.seconds = search rules in
+    rw c.in-Offset.is (simp to_z-of_z at c.rows_at_offset.ensures)
+
+pub returns-in-Forecast : goal.returns-in-Forecast
+unfolding rows
+returns-in-Forecast c =
+    let a : SFits w64 c.in-Forecast.valid = search rules in
+    rw c.in-Forecast.is (simp to_z-of_z at c.rows_at_valid.ensures)

@@ -1,0 +1,2 @@
+pub mod Noted
+pub use Rattle.fm_model.specs.Rows

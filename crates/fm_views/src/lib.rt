@@ -1,0 +1,11 @@
+//! The rows of the views of an edition: of the best time series, with a least offset too, of a run, of a constant offset
+//! and of a constant forecast time (THREDDS Data Server, Forecast Model Run Collections).
+#![tactic(auto)]
+
+mod best;
+mod counting;
+mod runs;
+mod view;
+
+pub use counting::row_count;
+pub use view::{NoRows, rows};
