@@ -1,5 +1,5 @@
 -- The last item that passes, as a walk from the end finds it.
-use Rattle.std.proofs.Common.{◌≡◌, ℕ, suc, ◌+◌, ◌<◌, Bool, true, false, cond, List, [], ◌∷◌, ◌++◌, length, get_or, take, Option, Some, None, ℤ, refl, sym, ap, ◌∙◌, arith}
+use Rattle.std.proofs.Common.{◌≡◌, ℕ, suc, ◌+◌, ◌<◌, Bool, true, false, cond, List, [], ◌∷◌, ◌++◌, length, get_or, take, Some, None, ℤ, refl, sym, ap, ◌∙◌, arith}
 use Rattle.std.specs.Prelude.{nat_lt, position}
 use Rattle.std.specs.List.{list_any, position_or_len}
 use Rattle.std.specs.Ordering.{int_eq}
@@ -17,14 +17,18 @@ last_such-push_failing test [] item fails = rw fails refl
 last_such-push_failing test (first ∷ items) item fails = rw (last_such-push_failing test items item fails) refl
 
 -- an item that fails is passed over
-pub last_such-passed_over : {A : Type 0} (test : A → Bool) (items : List A) (i : ℕ) (d : A) → i < length items → test (get_or items i d) ≡ false
+pub last_such-passed_over : {A : Type 0} (test : A → Bool) (items : List A) (i : ℕ) (d : A) → i < length items
+    → test (get_or items i d) ≡ false
     → last_such test (take (i + 1) items) ≡ last_such test (take i items)
-last_such-passed_over test items i d lt fails = ap (last_such test) (take_more items i d lt) ∙ last_such-push_failing test (take i items) (get_or items i d) fails
+last_such-passed_over test items i d lt fails = ap (last_such test) (take_more items i d lt)
+    ∙ last_such-push_failing test (take i items) (get_or items i d) fails
 
 -- an item that passes is the last of those up to it
-pub last_such-found : {A : Type 0} (test : A → Bool) (items : List A) (i : ℕ) (d : A) → i < length items → test (get_or items i d) ≡ true
+pub last_such-found : {A : Type 0} (test : A → Bool) (items : List A) (i : ℕ) (d : A) → i < length items
+    → test (get_or items i d) ≡ true
     → last_such test (take (i + 1) items) ≡ Some (get_or items i d)
-last_such-found test items i d lt passes = ap (last_such test) (take_more items i d lt) ∙ last_such-is test (take i items) (get_or items i d) [] passes tt
+last_such-found test items i d lt passes = ap (last_such test) (take_more items i d lt)
+    ∙ last_such-is test (take i items) (get_or items i d) [] passes tt
 
 lt_next : (a b : ℕ) → nat_lt (1 + a) (suc b) ≡ nat_lt a b
 lt_next a b = grind (arith, nat_tests)
@@ -33,7 +37,8 @@ lt_first : (b : ℕ) → nat_lt 0 (suc b) ≡ true
 lt_first b = grind (arith, nat_tests)
 
 -- there is a first place exactly where some item passes
-below_length : {A : Type 0} (test : A → Bool) (items : List A) → nat_lt (position_or_len test items) (length items) ≡ list_any test items
+below_length : {A : Type 0} (test : A → Bool) (items : List A) → nat_lt (position_or_len test items) (length items)
+    ≡ list_any test items
 below_length test [] = refl
 below_length {A} test (item ∷ items) = by_test (test item) refl (below_length test items)
   where
@@ -46,16 +51,19 @@ pub cell_in-other_run : (run valid : ℤ) (file : Loaded) → int_eq file.run ru
 unfolding cell_in has_cell
 cell_in-other_run run valid file e = rw e refl
 
-pub cell_in-own_run : (run valid : ℤ) (file : Loaded) → int_eq file.run run ≡ true → cell_in run valid file ≡ position (λ time. int_eq time valid) file.times
+pub cell_in-own_run : (run valid : ℤ) (file : Loaded) → int_eq file.run run ≡ true → cell_in run valid file
+    ≡ position (λ time. int_eq time valid) file.times
 unfolding cell_in has_cell has_time place_of_time
 cell_in-own_run run valid file e = rw (e, below_length (λ time. int_eq time valid) file.times) refl
 
 -- what the place in a file says of its cell
-found_parts : (run valid : ℤ) (file : Loaded) (place : ℕ) → cell_in run valid file ≡ Some place → (has_cell run valid file ≡ true) × (place_of_time valid file ≡ place)
+found_parts : (run valid : ℤ) (file : Loaded) (place : ℕ) → cell_in run valid file ≡ Some place
+    → (has_cell run valid file ≡ true) × (place_of_time valid file ≡ place)
 unfolding cell_in
 found_parts run valid file place e = by_test (has_cell run valid file) refl e
   where
-    by_test : (b : Bool) → has_cell run valid file ≡ b → cond b (Some (place_of_time valid file)) None ≡ Some place → (has_cell run valid file ≡ true) × (place_of_time valid file ≡ place)
+    by_test : (b : Bool) → has_cell run valid file ≡ b → cond b (Some (place_of_time valid file)) None ≡ Some place
+        → (has_cell run valid file ≡ true) × (place_of_time valid file ≡ place)
     by_test true is e = (is, same_Some (place_of_time valid file) place e)
     by_test false is e = absurd (none-some place e)
 
@@ -63,35 +71,44 @@ lacks_cell : (run valid : ℤ) (file : Loaded) → cell_in run valid file ≡ No
 unfolding cell_in
 lacks_cell run valid file e = by_test (has_cell run valid file) refl e
   where
-    by_test : (b : Bool) → has_cell run valid file ≡ b → cond b (Some (place_of_time valid file)) None ≡ None → has_cell run valid file ≡ false
+    by_test : (b : Bool) → has_cell run valid file ≡ b → cond b (Some (place_of_time valid file)) None ≡ None
+        → has_cell run valid file ≡ false
     by_test true is e = absurd (no_value (place_of_time valid file) e)
     by_test false is e = is
 
 -- the file at which the walk stops has the cell
-pub cell-found : (files : List Loaded) (run valid : ℤ) (i before : ℕ) (file : Loaded) (place : ℕ) → i + 1 ≡ before → i < length files
+pub cell-found : (files : List Loaded) (run valid : ℤ) (i before : ℕ) (file : Loaded) (place : ℕ) → i + 1 ≡ before
+    → i < length files
     → file ≡ get_or files i file → cell_in run valid file ≡ Some place
-    → last_such (has_cell run valid) (take before files) ≡ last_such (has_cell run valid) files → cell files run valid ≡ Some (file, place)
+    → last_such (has_cell run valid) (take before files) ≡ last_such (has_cell run valid) files
+    → cell files run valid ≡ Some (file, place)
 unfolding cell
 cell-found files run valid i before file place next lt is found same =
     let parts = found_parts run valid file place found in
     let passes : has_cell run valid (get_or files i file) ≡ true = ap (has_cell run valid) (sym is) ∙ parts.0 in
     let last : last_such (has_cell run valid) files ≡ Some file =
-    sym same ∙ ap (λ n. last_such (has_cell run valid) (take n files)) (sym next) ∙ last_such-found (has_cell run valid) files i file lt passes ∙ ap Some (sym is) in
+    sym same ∙ ap (λ n. last_such (has_cell run valid) (take n files)) (sym next)
+    ∙ last_such-found (has_cell run valid) files i file lt passes ∙ ap Some (sym is) in
     rw last (ap (λ n. Some (file, n)) parts.1)
 
 -- a file without the cell is passed over
-pub cell-passed : (files : List Loaded) (run valid : ℤ) (i before : ℕ) (file : Loaded) → i + 1 ≡ before → i < length files
+pub cell-passed : (files : List Loaded) (run valid : ℤ) (i before : ℕ) (file : Loaded) → i + 1 ≡ before
+    → i < length files
     → file ≡ get_or files i file → cell_in run valid file ≡ None
     → last_such (has_cell run valid) (take before files) ≡ last_such (has_cell run valid) files
     → last_such (has_cell run valid) (take i files) ≡ last_such (has_cell run valid) files
 cell-passed files run valid i before file next lt is none same =
-    let fails : has_cell run valid (get_or files i file) ≡ false = ap (has_cell run valid) (sym is) ∙ lacks_cell run valid file none in
-    sym (last_such-passed_over (has_cell run valid) files i file lt fails) ∙ ap (λ n. last_such (has_cell run valid) (take n files)) next ∙ same
+    let fails : has_cell run valid (get_or files i file) ≡ false = ap (has_cell run valid) (sym is)
+    ∙ lacks_cell run valid file none in
+    sym (last_such-passed_over (has_cell run valid) files i file lt fails)
+    ∙ ap (λ n. last_such (has_cell run valid) (take n files)) next ∙ same
 
 -- there is no cell where the walk comes to the front
 pub cell-none : (files : List Loaded) (run valid : ℤ) (before : ℕ) → before ≡ 0
-    → last_such (has_cell run valid) (take before files) ≡ last_such (has_cell run valid) files → cell files run valid ≡ None
+    → last_such (has_cell run valid) (take before files) ≡ last_such (has_cell run valid) files
+    → cell files run valid ≡ None
 unfolding cell
 cell-none files run valid before none same =
-    let last : last_such (has_cell run valid) files ≡ None = sym same ∙ ap (λ n. last_such (has_cell run valid) (take n files)) none in
+    let last : last_such (has_cell run valid) files ≡ None = sym same
+    ∙ ap (λ n. last_such (has_cell run valid) (take n files)) none in
     rw last refl

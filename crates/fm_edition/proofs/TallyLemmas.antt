@@ -3,7 +3,6 @@ use Rattle.std.proofs.Common.{◌≡◌, ℕ, ◌+◌, ◌≤◌, List, [], ◌�
 use Rattle.std.specs.Prelude.{sum_by}
 use Rattle.std.proofs.lemmas.List.{length-append}
 use Rattle.std.proofs.lemmas.List.Sums.{sum_by-append}
-use Rattle.fm_model.specs.declared.full.Tally.{Tally}
 use Rattle.fm_model.specs.declared.full.Which.TheVariants.{Files, Rows, Size}
 use Rattle.fm_model.specs.declared.limit.TheConstants.{MAX_FILES, MAX_ROWS, MAX_BYTES}
 use Rattle.fm_model.specs.declared.loaded.Loaded.{Loaded}
@@ -23,7 +22,8 @@ bounds files within = record { count = within Files; rows = within Rows; size = 
 
 pub bounds_without : (files : List Loaded) (name : List ℕ) → IsWithin (tally files) → Bounds (without name files)
 unfolding after_op
-bounds_without files name within = bounds (without name files) ((full_at-none files (Retract name)).0 (full-retract files name within))
+bounds_without files name within = bounds (without name files)
+    ((full_at-none files (Retract name)).0 (full-retract files name within))
 
 -- how much there is after a put
 pub tally-put : (files : List Loaded) (file : Loaded) → tally (after_op files (Put file)) ≡ record {
@@ -37,6 +37,8 @@ tally-put files file =
     let size = λ (f : Loaded). length f.content in
     let others = without file.name files in
     let count_is : length (others ++ file ∷ []) ≡ length others + 1 = length-append others (file ∷ []) in
-    let rows_is : sum_by rows (others ++ file ∷ []) ≡ sum_by rows others + length file.times = omega (arith, sum_by-append rows others (file ∷ [])) in
-    let size_is : sum_by size (others ++ file ∷ []) ≡ sum_by size others + length file.content = omega (arith, sum_by-append size others (file ∷ [])) in
+    let rows_is : sum_by rows (others ++ file ∷ [])
+    ≡ sum_by rows others + length file.times = omega (arith, sum_by-append rows others (file ∷ [])) in
+    let size_is : sum_by size (others ++ file ∷ [])
+    ≡ sum_by size others + length file.content = omega (arith, sum_by-append size others (file ∷ [])) in
     cc (count_is, rows_is, size_is)

@@ -7,9 +7,11 @@ use Rattle.fm_model.specs.declared.row.Row.{Row}
 use Rattle.fm_model.specs.Cell.{has_least_offset}
 use Rattle.fm_model.specs.Rows.{row_at}
 
--- after a run with some valid times: this run, where it has the time and lies early enough before it, else the one before
+-- after a run with some valid times: this run, where it has the time and lies early enough before it, else the run
+-- noted before
 unfoldable pub noted : List ℤ → Option ℤ → ℤ → ℤ → Option ℤ → Option ℤ
-noted times least run valid earlier = if list_any (λ time. int_eq time valid) times && has_least_offset least run valid then Some run else earlier
+noted times least run valid earlier = if list_any
+    (λ time. int_eq time valid) times && has_least_offset least run valid then Some run else earlier
 
 -- the row of a valid time and its noted run
 abbrev pub entry_row : List Loaded → ℤ × ℤ → Option Row

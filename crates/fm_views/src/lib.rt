@@ -1,5 +1,5 @@
-//! The rows of the views of an edition: of the best time series, with a least offset too, of a run, of a constant offset
-//! and of a constant forecast time (THREDDS Data Server, Forecast Model Run Collections).
+//! The rows of the views of an edition: of the best time series, also with a least offset, of a run, of a constant
+//! offset and of a constant forecast time (THREDDS Data Server, Forecast Model Run Collections).
 #![tactic(auto)]
 
 mod best;

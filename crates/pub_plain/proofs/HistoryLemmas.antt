@@ -1,5 +1,5 @@
 -- Histories that grow.
-use Rattle.std.proofs.Common.{◌≡◌, List, [], ◌∷◌, ◌++◌, Option, Some, None, Result, Ok, refl, sym, ap, subst, ◌∙◌}
+use Rattle.std.proofs.Common.{◌≡◌, List, [], ◌∷◌, ◌++◌, Option, Some, None, Ok, refl, sym, ap, subst, ◌∙◌}
 use Rattle.std.proofs.lemmas.List.{append-nil}
 use Rattle.fm_base.proofs.ChainLemmas.{same_Ok}
 use Rattle.fm_model.specs.declared.full.Full.{Full as TooMany}
@@ -21,11 +21,16 @@ pub Keeps-none : (proto : Proto) → IsPrototype proto → Keeps (record { proto
 Keeps-none proto is = record { prototype = is; log = tt; stands = sym coll-none }
 
 -- the edition after an operation stands for one more
-pub Keeps-push : (held : Held) (ops : List Op) (op : Op) → Keeps held ops → OpFits held.proto op → full_at held.files op ≡ None
+pub Keeps-push : (held : Held) (ops : List Op) (op : Op) → Keeps held ops → OpFits held.proto op
+    → full_at held.files op ≡ None
     → Keeps (held_after held op) (ops ++ op ∷ [])
 Keeps-push held ops op keeps fits within = record {
   prototype = keeps.prototype;
-  log = IsLog-push held.proto ops op keeps.log (record { fits = fits; within = sym (ap (λ files. full_at files op) keeps.stands) ∙ within });
+  log = IsLog-push held.proto ops op keeps.log (record {
+    fits = fits;
+    within = sym
+        (ap (λ files. full_at files op) keeps.stands) ∙ within;
+  });
   stands = ap (λ files. after_op files op) keeps.stands ∙ sym (coll-push ops op);
 }
 
@@ -34,12 +39,15 @@ pub sound_edition : (held : Held) (ops : List Op) → Keeps held ops → IsEditi
 sound_edition held ops keeps = IsEdition-from_log held.proto ops keeps.prototype keeps.log
 
 -- what an edition's next one stands for
-pub Keeps-next : (held next : Held) (ops : List Op) (op : Op) → Keeps held ops → OpFits held.proto op → next_or_full held op ≡ Ok next
+pub Keeps-next : (held next : Held) (ops : List Op) (op : Op) → Keeps held ops → OpFits held.proto op
+    → next_or_full held op ≡ Ok next
     → Keeps next (ops ++ op ∷ [])
 Keeps-next held next ops op keeps fits e = by_full (full_at held.files op) refl e
   where
-    by_full : (o : Option TooMany) → full_at held.files op ≡ o → unless_full o (held_after held op) ≡ Ok next → Keeps next (ops ++ op ∷ [])
-    by_full None within e = subst (λ h. Keeps h (ops ++ op ∷ [])) (same_Ok {E = TooMany} (held_after held op) next e) (Keeps-push held ops op keeps fits within)
+    by_full : (o : Option TooMany) → full_at held.files op ≡ o → unless_full o (held_after held op) ≡ Ok next
+        → Keeps next (ops ++ op ∷ [])
+    by_full None within e = subst (λ h. Keeps h (ops ++ op ∷ []))
+        (same_Ok {E = TooMany} (held_after held op) next e) (Keeps-push held ops op keeps fits within)
     by_full (Some why) within e = absurd cc
 
 -- the collection that an edition stands for is within the limits

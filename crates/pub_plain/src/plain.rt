@@ -68,7 +68,9 @@ impl Plain {
         ensures revision { IfOk result (λ revision.
             revision ≡ (if holds_older (coll self.old.seen) cutoff then Some (length self.old.seen + 1) else None)) }
         ensures ok { OnOk result
-            (self.new ≡ (if holds_older (coll self.old.seen) cutoff then with_op self.old (ops.Expire cutoff) else self.old)) }
+            (self.new ≡ (if holds_older (coll self.old.seen) cutoff
+            then with_op self.old (ops.Expire cutoff)
+            else self.old)) }
         ensures err { OnErr result (self.new ≡ self.old) }
     {
         if !self.edition.older_than(cutoff) {
@@ -84,7 +86,9 @@ impl Plain {
         ensures revision { IfOk result (λ revision.
             revision ≡ (if holds (coll self.old.seen) name.now then Some (length self.old.seen + 1) else None)) }
         ensures ok { OnOk result
-            (self.new ≡ (if holds (coll self.old.seen) name.now then with_op self.old (ops.Retract name.now) else self.old)) }
+            (self.new ≡ (if holds (coll self.old.seen) name.now
+            then with_op self.old (ops.Retract name.now)
+            else self.old)) }
         ensures err { OnErr result (self.new ≡ self.old) }
     {
         if !self.edition.holds(name) {

@@ -6,7 +6,8 @@ use Rattle.fm_edition.proofs.offset.keeps_least_offset.Goals as goal
 
 pub returns-in-Some : goal.returns-in-Some
 unfolding has_least_offset
-returns-in-Some c = rw c.in-Some.is (grind (arith, ints, c.from.ensures, c.from-in-Some.ensures, c.from-in-Some-2.ensures))
+returns-in-Some c = rw c.in-Some.is
+    (grind (arith, ints, c.from.ensures, c.from-in-Some.ensures, c.from-in-Some-2.ensures))
 
 pub returns-in-None : goal.returns-in-None
 unfolding has_least_offset

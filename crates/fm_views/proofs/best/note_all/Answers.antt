@@ -1,5 +1,5 @@
 -- One more time.
-use Rattle.std.proofs.Common.{◌≡◌, rules, refl, get_or, SFits, w64, pos}
+use Rattle.std.proofs.Common.{rules, refl, get_or, SFits, w64, pos}
 use Rattle.std.specs.BTreeMap as tree
 use Rattle.std.specs.Ordering.{int_cmp}
 use Rattle.std.proofs.lemmas.Int.{to_z-of_z}
@@ -17,5 +17,6 @@ loop-valid-preserved c = λ time.
     let b : SFits w64 (get_or c.args.times.now c.loop-valid.valid-index (pos 0)) = search rules in
     let step = simp to_z-of_z at (c.in_ok-note.ensures time) in
     let before = simp to_z-of_z at (c.loop-valid.invariant time) in
-    let more = noted-more c.args.times.now c.args.least c.args.run time (tree.get int_cmp c.args.noted_runs.now time) c.loop-valid.valid-index (pos 0) c.loop-valid-test.true in
+    let more = noted-more c.args.times.now c.args.least c.args.run time
+    (tree.get int_cmp c.args.noted_runs.now time) c.loop-valid.valid-index (pos 0) c.loop-valid-test.true in
     simp to_z-of_z (cc (step, before, more))

@@ -1,5 +1,5 @@
 -- Each entry, each time of a run, and each run that is counted has its row.
-use Rattle.std.proofs.Common.{◌≡◌, ◌+ℤ◌, None, Some, rules, sym, ap, length, ◌∙◌, SFits, w64}
+use Rattle.std.proofs.Common.{◌+ℤ◌, None, Some, rules, sym, ap, length, ◌∙◌, SFits, w64}
 use Rattle.std.proofs.lemmas.Int.{to_z-of_z}
 use Rattle.fm_model.specs.Cell.{runs_of}
 use Rattle.fm_model.specs.Rows.{row_at, rows}
@@ -11,7 +11,8 @@ pub returns-in_ok-best_runs-in-Best : goal.returns-in_ok-best_runs-in-Best
 unfolding rows
 returns-in_ok-best_runs-in-Best c =
     let entries = c.in_ok-best_runs-in-Best.field-0.entries in
-    let are : AreBest c.args.edition.now.files None entries = record { sorted = c.len-count.ensures.ordered; found = c.in_ok-best_runs-in-Best.ensures } in
+    let are : AreBest c.args.edition.now.files None entries = record
+    { sorted = c.len-count.ensures.ordered; found = c.in_ok-best_runs-in-Best.ensures } in
     rw c.in-Best.is (c.len-count.ensures.len ∙ sym (length-best_rows c.args.edition.now.files None entries are))
 
 pub returns-in_ok-best_runs-in-BestFrom : goal.returns-in_ok-best_runs-in-BestFrom
@@ -20,26 +21,34 @@ returns-in_ok-best_runs-in-BestFrom c =
     let a : SFits w64 c.in-BestFrom.least = search rules in
     let entries = c.in_ok-best_runs-in-BestFrom.field-0.entries in
     let found = simp to_z-of_z at c.in_ok-best_runs-in-BestFrom.ensures in
-    let are : AreBest c.args.edition.now.files (Some c.in-BestFrom.least) entries = record { sorted = c.len-count-in-BestFrom.ensures.ordered; found = found } in
-    rw c.in-BestFrom.is (c.len-count-in-BestFrom.ensures.len ∙ sym (length-best_rows c.args.edition.now.files (Some c.in-BestFrom.least) entries are))
+    let are : AreBest c.args.edition.now.files
+    (Some c.in-BestFrom.least) entries = record
+    { sorted = c.len-count-in-BestFrom.ensures.ordered; found = found } in
+    rw c.in-BestFrom.is (c.len-count-in-BestFrom.ensures.len
+    ∙ sym (length-best_rows c.args.edition.now.files (Some c.in-BestFrom.least) entries are))
 
 pub returns-in_ok-times_of-in-Run : goal.returns-in_ok-times_of-in-Run
 unfolding rows
 returns-in_ok-times_of-in-Run c =
     let a : SFits w64 c.in-Run.run' = search rules in
     let times = simp to_z-of_z at c.in_ok-times_of-in-Run.ensures in
-    rw c.in-Run.is (c.len-count-in-Run.ensures ∙ ap length times ∙ sym (length-rows_of_run c.args.edition.now.files c.in-Run.run'))
+    rw c.in-Run.is (c.len-count-in-Run.ensures ∙ ap length times
+    ∙ sym (length-rows_of_run c.args.edition.now.files c.in-Run.run'))
 
 pub returns-in_ok-count-in-Offset : goal.returns-in_ok-count-in-Offset
 unfolding rows
 returns-in_ok-count-in-Offset c =
     let a : SFits w64 c.in-Offset.seconds = search rules in
     let count = simp to_z-of_z at c.in_ok-count-in-Offset.ensures in
-    rw c.in-Offset.is (count ∙ sym (length-filter_map (λ run. row_at c.args.edition.now.files run (run +ℤ c.in-Offset.seconds)) (runs_of c.args.edition.now.files)))
+    rw c.in-Offset.is (count
+    ∙ sym (length-filter_map (λ run. row_at c.args.edition.now.files run (run +ℤ c.in-Offset.seconds))
+    (runs_of c.args.edition.now.files)))
 
 pub returns-in_ok-count-in-Forecast : goal.returns-in_ok-count-in-Forecast
 unfolding rows
 returns-in_ok-count-in-Forecast c =
     let a : SFits w64 c.in-Forecast.valid = search rules in
     let count = simp to_z-of_z at c.in_ok-count-in-Forecast.ensures in
-    rw c.in-Forecast.is (count ∙ sym (length-filter_map (λ run. row_at c.args.edition.now.files run c.in-Forecast.valid) (runs_of c.args.edition.now.files)))
+    rw c.in-Forecast.is (count
+    ∙ sym (length-filter_map (λ run. row_at c.args.edition.now.files run c.in-Forecast.valid)
+    (runs_of c.args.edition.now.files)))

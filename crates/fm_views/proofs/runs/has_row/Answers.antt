@@ -1,5 +1,5 @@
 -- A row is there where its cell is.
-use Rattle.std.proofs.Common.{◌≡◌, rules, refl, SFits, w64}
+use Rattle.std.proofs.Common.{rules, refl, SFits, w64}
 use Rattle.std.proofs.lemmas.Int.{to_z-of_z}
 use Rattle.fm_model.specs.Rows.{row_at}
 use Rattle.fm_views.proofs.runs.has_row.Goals as goal

@@ -1,5 +1,5 @@
 -- A sum that doesn't fit is no instant.
-use Rattle.std.proofs.Common.{◌≡◌, ◌+ℤ◌, None, rules, refl, sym, SFits, w64}
+use Rattle.std.proofs.Common.{◌≡◌, ◌+ℤ◌, None, rules, refl, SFits, w64}
 use Rattle.std.proofs.lemmas.Int.{to_z-of_z}
 use Rattle.fm_model.specs.Rows.{row_at}
 use Rattle.fm_views.proofs.RowSteps.{row_at-past}

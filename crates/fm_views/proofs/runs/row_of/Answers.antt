@@ -1,5 +1,5 @@
 -- The row of a cell.
-use Rattle.std.proofs.Common.{◌≡◌, rules, refl, SFits, w64}
+use Rattle.std.proofs.Common.{rules, refl, SFits, w64}
 use Rattle.std.proofs.lemmas.Int.{to_z-of_z}
 use Rattle.fm_model.specs.Rows.{row_at}
 use Rattle.fm_views.proofs.runs.row_of.Goals as goal

@@ -1,3 +1,4 @@
+-- The rows of the times so far.
 use Rattle.std.proofs.Common.{◌≡◌, take}
 use Rattle.std.specs.List.{filter_map}
 use Rattle.fm_model.specs.Rows.{row_at}

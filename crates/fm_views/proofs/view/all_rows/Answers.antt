@@ -1,5 +1,5 @@
 -- Each view has its function.
-use Rattle.std.proofs.Common.{◌≡◌, rules, SFits, w64}
+use Rattle.std.proofs.Common.{rules, SFits, w64}
 use Rattle.std.proofs.lemmas.Int.{to_z-of_z}
 use Rattle.fm_model.specs.Rows.{rows}
 use Rattle.fm_views.proofs.view.all_rows.Goals as goal

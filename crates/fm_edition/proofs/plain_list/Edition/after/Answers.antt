@@ -11,7 +11,9 @@ invariant_of-result c =
     let within : full_at held.files c.args.op.now ≡ None = sym c.full_at.ensures ∙ c.in_default.is in
     let sound = subst IsEdition c.self.view_is c.self.invariant in
     let next = IsEdition-after held c.args.op.now sound (record { fits = c.requires; within = within }) in
-    let proto_is : c.in_ok-proto.proto ≡ held.proto = c.in_ok-proto.ensures ∙ ap (λ (h : Held). h.proto) c.self.view_is in
+    let proto_is : c.in_ok-proto.proto ≡ held.proto = c.in_ok-proto.ensures
+    ∙ ap (λ (h : Held). h.proto) c.self.view_is in
     let held_is : c.as_slice.result.now ≡ held.files = c.as_slice.ensures ∙ ap (λ (h : Held). h.files) c.self.view_is in
-    let files_are : c.in_ok-files.files ≡ after_op held.files c.args.op.now = c.in_ok-files.ensures ∙ ap (λ l. after_op l c.args.op.now) held_is in
+    let files_are : c.in_ok-files.files ≡ after_op held.files c.args.op.now = c.in_ok-files.ensures
+    ∙ ap (λ l. after_op l c.args.op.now) held_is in
     rw (proto_is, files_are) next

@@ -1,3 +1,4 @@
+-- The files so far whose run is the cutoff or later are kept.
 use Rattle.std.proofs.Common.{◌≡◌, take}
 use Rattle.fm_model.specs.Collection.{kept_from}
 use Rattle.fm_edition.proofs.plain_list.changing.files_from.Given as goal

@@ -1,8 +1,7 @@
 -- One more file is kept or not.
-use Rattle.std.proofs.Common.{◌≡◌, rules, arith, refl, sym, not}
-use Rattle.std.specs.Prelude.{int_le}
+use Rattle.std.proofs.Common.{arith, not}
 use Rattle.std.specs.Str.{bytes_eq}
-use Rattle.std.proofs.lemmas.Int.{ints, to_z-of_z}
+use Rattle.std.proofs.lemmas.Int.{ints}
 use Rattle.std.proofs.lemmas.List.{append-nil}
 use Rattle.std.proofs.lemmas.List.Elements.{filter_more}
 use Rattle.fm_model.specs.declared.loaded.Loaded.{Loaded}
@@ -17,7 +16,10 @@ loop-file-init c = c.new-kept.ensures
 pub loop-file-preserved : goal.loop-file-preserved
 unfolding without
 loop-file-preserved c =
-    let more = filter_more (λ (f : Loaded). not (bytes_eq f.name c.args.name.now)) c.args.files.now c.loop-file.file-index c.file-item.result c.loop-file-test.true in
+    let more = filter_more
+    (λ (f : Loaded). not
+    (bytes_eq f.name c.args.name.now)) c.args.files.now c.loop-file.file-index c.file-item.result
+    c.loop-file-test.true in
     elim c.if-ne.branch [
       | then-ne+in_ok-share+in_ok-push w ↦ grind (arith, ints, more, append-nil, w.kept-is, w.if-ne.true)
       | else-ne w ↦ grind (arith, ints, more, append-nil, w.kept-is, w.if-ne.false)

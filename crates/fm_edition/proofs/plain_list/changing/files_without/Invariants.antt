@@ -1,3 +1,4 @@
+-- The files so far of other names are kept.
 use Rattle.std.proofs.Common.{◌≡◌, take}
 use Rattle.fm_model.specs.Collection.{without}
 use Rattle.fm_edition.proofs.plain_list.changing.files_without.Given as goal

@@ -1,6 +1,6 @@
 -- Only a put may pass a limit.
-use Rattle.std.proofs.Common.{rules, arith, sym, ap, ◌∙◌}
-use Rattle.fm_model.specs.Collection.{full_at, full_of}
+use Rattle.std.proofs.Common.{arith, sym}
+use Rattle.fm_model.specs.Collection.{full_at}
 use Rattle.fm_model.proofs.FullLemmas.{full-expire, full-retract}
 use Rattle.fm_edition.proofs.TallyLemmas.{bounds_without, tally-put}
 use Rattle.fm_edition.proofs.plain_list.counting.full_after.Goals as goal
@@ -11,7 +11,8 @@ overflow_add-count_without c =
     omega (arith, most.count, c.count_without.ensures)
 
 pub rows_without-requires : goal.rows_without-requires
-rows_without-requires c = let most = bounds_without c.args.files.now c.as_slice-name.result.now c.requires in omega (arith, most.rows)
+rows_without-requires c = let most = bounds_without c.args.files.now c.as_slice-name.result.now c.requires in omega
+    (arith, most.rows)
 
 pub overflow_add-rows_without : goal.overflow_add-rows_without
 overflow_add-rows_without c =
@@ -19,7 +20,8 @@ overflow_add-rows_without c =
     omega (arith, most.rows, c.rows_without.ensures, c.rows_of.ensures.small)
 
 pub size_without-requires : goal.size_without-requires
-size_without-requires c = let most = bounds_without c.args.files.now c.as_slice-name.result.now c.requires in omega (arith, most.size)
+size_without-requires c = let most = bounds_without c.args.files.now c.as_slice-name.result.now c.requires in omega
+    (arith, most.size)
 
 pub overflow_add-size_without : goal.overflow_add-size_without
 overflow_add-size_without c =
@@ -35,7 +37,17 @@ returns-in-Put c =
     let name = c.as_slice-name.ensures in
     let times = c.rows_of.ensures.value in
     let bytes = c.size_of.ensures.value in
-    rw (is, put) (cc (got, name, times, bytes, c.first_passed.ensures, c.count_without.ensures, c.rows_without.ensures, c.size_without.ensures))
+    rw (is, put)
+    (cc (
+      got,
+      name,
+      times,
+      bytes,
+      c.first_passed.ensures,
+      c.count_without.ensures,
+      c.rows_without.ensures,
+      c.size_without.ensures,
+    ))
 
 pub returns-in-Expire : goal.returns-in-Expire
 returns-in-Expire c = rw c.in-Expire.is (sym (full-expire c.args.files.now _ c.requires))

@@ -1,5 +1,5 @@
 -- The sums are within the limits.
-use Rattle.std.proofs.Common.{rules, arith}
+use Rattle.std.proofs.Common.{arith}
 use Rattle.fm_model.specs.Collection.{tally}
 use Rattle.fm_edition.proofs.TallyLemmas.{bounds}
 use Rattle.fm_edition.proofs.plain_list.counting.tally_of.Goals as goal

@@ -1,3 +1,4 @@
+-- The greatest usable run of the files so far.
 use Rattle.std.proofs.Common.{◌≡◌, take}
 use Rattle.fm_model.specs.Cell.{best}
 use Rattle.fm_edition.proofs.plain_list.finding.best_of.Given as goal

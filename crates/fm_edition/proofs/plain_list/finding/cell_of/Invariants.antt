@@ -1,3 +1,4 @@
+-- No file from `before` on is of the run and has the time.
 use Rattle.std.proofs.Common.{◌≡◌, ◌≤◌, length, take}
 use Rattle.fm_model.specs.Cell.{has_cell, last_such}
 use Rattle.fm_edition.proofs.plain_list.finding.cell_of.Given as goal

@@ -1,12 +1,13 @@
 -- A file of the run has its cell at the first place of the time, if at any.
-use Rattle.std.proofs.Common.{◌≡◌, true, false, rules, arith, sym, ◌∙◌, SFits, w64}
+use Rattle.std.proofs.Common.{◌≡◌, true, rules, arith, sym, SFits, w64}
 use Rattle.std.specs.Ordering.{int_eq}
 use Rattle.std.proofs.lemmas.Int.{ints, to_z-of_z}
 use Rattle.fm_edition.proofs.CellSteps.{cell_in-other_run, cell_in-own_run}
 use Rattle.fm_edition.proofs.plain_list.finding.place_in.Goals as goal
 
 pub returns-then-file-run : goal.returns-then-file-run
-returns-then-file-run c = sym (cell_in-other_run c.args.run c.args.valid c.args.file.now (grind (arith, ints, c.if-file-run.true)))
+returns-then-file-run c = sym (cell_in-other_run c.args.run c.args.valid c.args.file.now
+    (grind (arith, ints, c.if-file-run.true)))
 
 pub returns-in-Some : goal.returns-in-Some
 returns-in-Some c =

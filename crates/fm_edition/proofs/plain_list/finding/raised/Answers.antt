@@ -1,6 +1,5 @@
 -- The best run of one more file, in each case of the tests.
-use Rattle.std.proofs.Common.{◌≡◌, true, false, Some, None, ℤ, ◌≤ℤ◌, ◌∙◌, refl, sym, ap, arith, rules, SFits, w64}
-use Rattle.std.proofs.lemmas.Bool.{both_ways}
+use Rattle.std.proofs.Common.{◌≡◌, true, ◌∙◌, sym, arith, rules, SFits, w64}
 use Rattle.std.proofs.lemmas.Int.{ints, to_z-of_z}
 use Rattle.std.proofs.lemmas.Option.{none-some, same_Some}
 use Rattle.fm_model.specs.Cell.{has_least_offset, has_time}
@@ -9,17 +8,25 @@ use Rattle.fm_edition.proofs.plain_list.finding.raised.Goals as goal
 use Rattle.fm_edition.proofs.plain_list.finding.raised.Goals.{in-Some+else-file-run, in_default}
 
 pub returns-then-file-run : goal.returns-then-file-run
-returns-then-file-run c = λ others is. best-kept others c.args.file.now c.args.valid c.args.least c.in-Some.run' (is ∙ c.in-Some.is) (grind (arith, ints, c.if-file-run.true))
+returns-then-file-run c = λ others is. best-kept others c.args.file.now c.args.valid c.args.least c.in-Some.run' (is
+    ∙ c.in-Some.is) (grind (arith, ints, c.if-file-run.true))
 
 pub returns-then-not-keeps_least_offset : goal.returns-then-not-keeps_least_offset
 returns-then-not-keeps_least_offset c = λ others is.
     let fits : SFits w64 c.args.file.now.run = search rules in
     let valid_fits : SFits w64 c.args.valid = search rules in
-    let test : c.keeps_least_offset.result ≡ has_least_offset c.args.least c.args.file.now.run c.args.valid = simp to_z-of_z at c.keeps_least_offset.ensures in
+    let test : c.keeps_least_offset.result
+    ≡ has_least_offset c.args.least c.args.file.now.run c.args.valid = simp to_z-of_z at
+    c.keeps_least_offset.ensures in
     best-passed_over others c.args.file.now c.args.valid c.args.least (λ has.
-    let late : has_least_offset c.args.least c.args.file.now.run c.args.valid ≡ true = late-from c.args.valid c.args.least c.args.file.now has in
+    let late : has_least_offset c.args.least c.args.file.now.run c.args.valid
+    ≡ true = late-from c.args.valid c.args.least c.args.file.now has in
     cc (test, late, c.if-not-keeps_least_offset.true))
-    ∙ elim c.match-greatest.branch [ in-Some+else-file-run w ↦ cc (is, w.greatest-is, w.in-Some.is) | in_default w ↦ cc (is, w.greatest-is, w.in_default.is) ]
+    ∙ elim c.match-greatest.branch [
+      | in-Some+else-file-run w ↦ cc
+          (is, w.greatest-is, w.in-Some.is)
+      | in_default w ↦ cc (is, w.greatest-is, w.in_default.is)
+    ]
 
 pub returns-then-not-has_valid : goal.returns-then-not-has_valid
 returns-then-not-has_valid c = λ others is.
@@ -28,15 +35,22 @@ returns-then-not-has_valid c = λ others is.
     best-passed_over others c.args.file.now c.args.valid c.args.least (λ has.
     let there : has_time c.args.valid c.args.file.now ≡ true = has-from c.args.valid c.args.least c.args.file.now has in
     cc (test, there, c.if-not-has_valid.true))
-    ∙ elim c.match-greatest.branch [ in-Some+else-file-run w ↦ cc (is, w.greatest-is, w.in-Some.is) | in_default w ↦ cc (is, w.greatest-is, w.in_default.is) ]
+    ∙ elim c.match-greatest.branch [
+      | in-Some+else-file-run w ↦ cc
+          (is, w.greatest-is, w.in-Some.is)
+      | in_default w ↦ cc (is, w.greatest-is, w.in_default.is)
+    ]
 
 pub returns : goal.returns
 returns c = λ others is.
     let fits : SFits w64 c.args.file.now.run = search rules in
     let valid_fits : SFits w64 c.args.valid = search rules in
-    let late : has_least_offset c.args.least c.args.file.now.run c.args.valid ≡ true = sym (simp to_z-of_z at c.keeps_least_offset.ensures) ∙ c.if-not-keeps_least_offset.false in
-    let there : has_time c.args.valid c.args.file.now ≡ true = sym (simp to_z-of_z at c.has_valid.ensures) ∙ c.if-not-has_valid.false in
-    best-raised others c.args.file.now c.args.valid c.args.least (HasTimeFrom-from_tests c.args.valid c.args.least c.args.file.now late there)
+    let late : has_least_offset c.args.least c.args.file.now.run c.args.valid
+    ≡ true = sym (simp to_z-of_z at c.keeps_least_offset.ensures) ∙ c.if-not-keeps_least_offset.false in
+    let there : has_time c.args.valid c.args.file.now ≡ true = sym (simp to_z-of_z at c.has_valid.ensures)
+    ∙ c.if-not-has_valid.false in
+    best-raised others c.args.file.now c.args.valid c.args.least
+    (HasTimeFrom-from_tests c.args.valid c.args.least c.args.file.now late there)
     (λ run e. elim c.match-greatest.branch [
       | in-Some+else-file-run w ↦
           let same : run ≡ w.in-Some.run' = same_Some run w.in-Some.run' (sym e ∙ is ∙ w.in-Some.is) in
