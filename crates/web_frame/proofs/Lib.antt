@@ -1,5 +1,7 @@
+pub mod CutLemmas
 pub mod HeadLemmas
 pub mod LineLemmas
-pub mod SpanLemmas
 pub mod ScanLemmas
+pub mod SpanLemmas
 pub mod StoreLemmas
+pub mod UnreadLemmas

@@ -1,13 +1,12 @@
 //! Heads out of a stream of bytes.
-ghost use Rattle.std.specs.Prelude.{◌≡◌, ◌+◌, ◌-◌, [], length, take, min, IfOk};
+ghost use Rattle.std.specs.Prelude.{◌≡◌, ◌+◌, ◌-◌, ◌≤◌, [], length, take, drop, min, IfOk};
 ghost use Rattle.web_frame.specs.Items.{item_of};
 ghost use Rattle.web_frame.specs.Stream as spec;
 
 use crate::head::read_head;
 use crate::limit::MAX_HEAD;
 use crate::request::Request;
-use crate::scan::Place;
-use crate::store::Store;
+use crate::unread::Unread;
 use fm_base::NoMemory;
 use httparse::spans::Span;
 use std::alloc::Global;
@@ -30,44 +29,39 @@ pub enum Next {
 /// and takes their memory once.
 #[derive(Debug, Drop)]
 pub struct Frame {
-    store: Store,
-    // How many bytes the head that was given last has, and where its target is.
+    // The head that was given last, and the bytes after it.
+    unread: Unread,
+    // How many bytes that head has, and where its target is.
     given: usize,
     target: Span,
-    // How many bytes after that head were looked at, and where that leaves the reader.
-    scanned: usize,
-    place: Place,
 }
 
 impl Model for Frame {
-    ghost use Rattle.std.specs.Prelude.{◌≡◌, ◌-◌, ◌≤◌, Some, length, take, drop};
+    ghost use Rattle.std.specs.Prelude.{◌≡◌, ◌≤◌, length, take, drop};
     ghost use Rattle.httparse.specs.Spans.{IsWithin, span_bytes};
-    ghost use Rattle.web_frame.specs.declared.scan.Place.TheVariants.{Before};
     ghost use Rattle.web_frame.specs.Items.{item_of};
-    ghost use Rattle.web_frame.specs.Scan.{place_past};
     ghost use Rattle.web_frame.specs.Stream.{Held, target_of};
 
     ghost Value = { Held };
 
-    ghost view = { λ f. record { head = take f.given f.store; rest = drop f.given f.store } };
+    ghost view = { λ f. record { head = take f.given f.unread; rest = drop f.given f.unread } };
 
-    ghost invariant = { λ f. (f.given ≤ length f.store)
-        × (f.scanned ≤ length f.store - f.given)
-        × (place_past Before (take f.scanned (drop f.given f.store)) ≡ Some f.place)
+    ghost invariant = { λ f. (f.given ≤ length f.unread)
         × IsWithin f.given f.target
-        × (span_bytes (take f.given f.store) f.target ≡ target_of (item_of (take f.given f.store))) };
+        × (span_bytes (take f.given f.unread) f.target ≡ target_of (item_of (take f.given f.unread))) };
 }
 
+const NO_BYTES: Span = Span { start: 0, end: 0 };
+
 impl Frame {
+    #[tactic(auto, using(crate::proofs::HeadLemmas::item_of_nothing))]
     pub fn new(alloc: Global) -> Result<Frame, NoMemory>
         ensures { IfOk result (λ frame. frame ≡ record { head = []; rest = [] }) }
     {
         Ok(Frame {
-            store: Store::new(alloc)?,
+            unread: Unread::new(alloc)?,
             given: 0,
-            target: Span { start: 0, end: 0 },
-            scanned: 0,
-            place: Place::Before,
+            target: NO_BYTES,
         })
     }
 
@@ -75,7 +69,7 @@ impl Frame {
     pub fn room(&self) -> usize
         ensures { result + spec.held_len self.now ≡ MAX_HEAD }
     {
-        MAX_HEAD - self.store.len()
+        MAX_HEAD - self.unread.len()
     }
 
     /// Takes the first bytes of a piece, as many as there is room for, and returns their number.
@@ -83,44 +77,46 @@ impl Frame {
         ensures count { result ≡ min (length piece.now) (MAX_HEAD - spec.held_len self.old) }
         ensures held { self.new ≡ spec.with_bytes (take result piece.now) self.old }
     {
-        self.store.add(piece)
+        self.unread.add(piece)
     }
 
-    // Gives up the head that was given last.
-    fn give_up(&mut self)
-        ensures { self.new ≡ record { head = []; rest = self.old.rest } }
+    // Gives the first bytes as a head.
+    fn give(&mut self, len: usize) -> Next
+        requires none_given { self.old.head ≡ [] }
+        requires fits { len ≤ length self.old.rest }
+        ensures answer { result ≡ spec.next_by_item (item_of (take len self.old.rest)) }
+        ensures held { self.new ≡ record {
+            head = take len self.old.rest; rest = drop len self.old.rest } }
     {
-        self.store.skip(self.given);
-        self.given = 0;
-        self.target = Span { start: 0, end: 0 };
+        match read_head(&self.unread.as_slice()[..len]) {
+            None => {
+                self.given = len;
+                self.target = NO_BYTES;
+                Next::BadHead
+            }
+            Some((request, target)) => {
+                self.given = len;
+                self.target = target;
+                Next::Head(request)
+            }
+        }
     }
 
     /// Gives up the head of the call before, and looks for the next one.
+    #[tactic(auto, using(crate::proofs::HeadLemmas::item_of_nothing), unfolding(crate::specs::Stream::next_of, crate::specs::Stream::held_after, crate::specs::Cut::cut_of))]
     pub fn next(&mut self) -> Next
         ensures answer { result ≡ spec.next_of self.old.rest }
         ensures held { self.new ≡ spec.held_after self.old.rest }
     {
-        self.give_up();
-        let bytes = self.store.as_slice();
-        let Some(more) = self.place.find_end(&bytes[self.scanned..]) else {
-            self.scanned = bytes.len();
-            return if self.scanned < MAX_HEAD {
-                Next::Need
-            } else {
-                Next::HeadTooLong
-            };
-        };
-        let len = self.scanned + more;
-        let found = read_head(&bytes[..len]);
-        self.given = len;
-        self.scanned = 0;
-        self.place = Place::Before;
-        match found {
-            None => Next::BadHead,
-            Some((request, target)) => {
-                self.target = target;
-                Next::Head(request)
-            }
+        let given = self.given;
+        self.given = 0;
+        self.target = NO_BYTES;
+        self.unread.skip(given);
+        let held = self.unread.len();
+        match self.unread.head_len() {
+            Some(len) => self.give(len),
+            None if held < MAX_HEAD => Next::Need,
+            None => Next::HeadTooLong,
         }
     }
 
@@ -128,6 +124,6 @@ impl Frame {
     pub fn target(&self) -> &[u8]
         ensures { result.now ≡ spec.target_of (item_of self.now.head) }
     {
-        self.target.of(&self.store.as_slice()[..self.given])
+        self.target.of(&self.unread.as_slice()[..self.given])
     }
 }

@@ -20,8 +20,15 @@ fn spans_of(raw: &[u8], lines: &mut [HeaderSpan]) -> Option<RequestSpans>
     ensures none { IfNone result (is_head raw.now ≡ false) }
 {
     match parse_request(raw, lines) {
-        Ok(Status::Complete(spans)) if spans.len == raw.len() => Some(spans),
-        _ => None,
+        Ok(Status::Complete(spans)) => {
+            if spans.len == raw.len() {
+                Some(spans)
+            } else {
+                None
+            }
+        }
+        Ok(Status::Partial) => None,
+        Err(_) => None,
     }
 }
 

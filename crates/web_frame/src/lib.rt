@@ -8,6 +8,7 @@ mod limit;
 mod request;
 mod scan;
 mod store;
+mod unread;
 mod word;
 
 pub use frame::{Frame, Next};
