@@ -121,7 +121,7 @@ end_from_past p q [] more is =
     ap (λ r. end_from r more) same ∙ zero_more (end_from q more)
 end_from_past p q (b ∷ front) more is = elim (cases_place (place_after p b)) [
   | inl ended ↦
-      let clash : None ≡ Some q = sym (none_after p b front ended) ∙ is in
+      let clash : ◌≡◌ {A = Option Place} None (Some q) = sym (none_after p b front ended) ∙ is in
       cc
   | inr after ↦
       let past : place_past after.0 front ≡ Some q = sym (place_past_after p after.0 b front after.1) ∙ is in
@@ -135,7 +135,7 @@ place_past_past p q [] more is =
     ap (λ r. place_past r more) same
 place_past_past p q (b ∷ front) more is = elim (cases_place (place_after p b)) [
   | inl ended ↦
-      let clash : None ≡ Some q = sym (none_after p b front ended) ∙ is in
+      let clash : ◌≡◌ {A = Option Place} None (Some q) = sym (none_after p b front ended) ∙ is in
       cc
   | inr after ↦
       let past : place_past after.0 front ≡ Some q = sym (place_past_after p after.0 b front after.1) ∙ is in
@@ -145,7 +145,7 @@ place_past_past p q (b ∷ front) more is = elim (cases_place (place_after p b))
 -- the number under `suc`
 suc_some : (o : Option ℕ) (n : ℕ) → option_map suc o ≡ Some n → (m : ℕ) × (o ≡ Some m) × (suc m ≡ n)
 suc_some None n is =
-    let clash : None ≡ Some n = is in
+    let clash : ◌≡◌ {A = Option ℕ} None (Some n) = is in
     cc
 suc_some (Some m) n is =
     let same : suc m ≡ n = cc in
@@ -155,7 +155,7 @@ suc_some (Some m) n is =
 end_from_fits : (p : Place) (bytes : List ℕ) (n : ℕ) → end_from p bytes ≡ Some n → (0 < n) × (n ≤ length bytes)
 unfolding end_from
 end_from_fits p [] n is =
-    let clash : None ≡ Some n = is in
+    let clash : ◌≡◌ {A = Option ℕ} None (Some n) = is in
     cc
 end_from_fits p (b ∷ bytes) n is = elim (cases_place (place_after p b)) [
   | inl ended ↦
@@ -175,7 +175,7 @@ head_len_fits bytes n is = end_from_fits Before bytes n (end_from-before bytes �
 end_from-append : (p : Place) (bytes more : List ℕ) (n : ℕ) → end_from p bytes ≡ Some n → end_from p (bytes ++ more) ≡ Some n
 unfolding end_from
 end_from-append p [] more n is =
-    let clash : None ≡ Some n = is in
+    let clash : ◌≡◌ {A = Option ℕ} None (Some n) = is in
     cc
 end_from-append p (b ∷ bytes) more n is = elim (cases_place (place_after p b)) [
   | inl ended ↦ end_from_here p b (bytes ++ more) ended ∙ sym (end_from_here p b bytes ended) ∙ is
@@ -195,7 +195,7 @@ end_from_later p [] more n none is =
     fits.0
 end_from_later p (b ∷ bytes) more n none is = elim (cases_place (place_after p b)) [
   | inl ended ↦
-      let clash : Some 1 ≡ None = sym (end_from_here p b bytes ended) ∙ none in
+      let clash : ◌≡◌ {A = Option ℕ} (Some 1) None = sym (end_from_here p b bytes ended) ∙ none in
       cc
   | inr after ↦
       let found = suc_some (end_from after.0 (bytes ++ more)) n (sym (end_from_after p after.0 b (bytes ++ more) after.1) ∙ is) in
@@ -206,7 +206,7 @@ end_from_later p (b ∷ bytes) more n none is = elim (cases_place (place_after p
     suc_none : (o : Option ℕ) → option_map suc o ≡ None → o ≡ None
     suc_none None is = refl
     suc_none (Some m) is =
-        let clash : Some (suc m) ≡ None = is in
+        let clash : ◌≡◌ {A = Option ℕ} (Some (suc m)) None = is in
         cc
 
 pub head_len_later : (bytes more : List ℕ) (n : ℕ) → head_len bytes ≡ None → head_len (bytes ++ more) ≡ Some n → length bytes < n

@@ -14,7 +14,7 @@ use Rattle.std.proofs.lemmas.Str.{IsUtf8-from_is_utf8, is_utf8-from_IsUtf8}
 use Rattle.std.proofs.lemmas.List.Elements.{All-head, All-tail, All-append, All-cons, All-nil}
 use Rattle.httparse.specs.Grammar.{LineEnd, crlf, lf, print_end, print_blank, print_version, Field, print_field, IsField, print_section, is_token_byte, is_uri_byte, is_value_byte, IsToken, is_token, RequestHead, IsRequestHead, ReadsRequest, print_request}
 use Rattle.httparse.proofs.GrammarLemmas.{print_request-append, cons-append}
-use Rattle.web_frame.specs.Head.{Line, lines_of, is_empty, field_in, fields_in, last_in, head_from, after_blank, head_in, head_of, is_field, is_valid, is_head}
+use Rattle.web_frame.specs.Head.{Line, lines_of, is_empty, field_in, fields_in, last_in, head_from, with_blank, head_in, head_of, is_field, is_valid, is_head}
 use Rattle.web_frame.specs.Items.{item_of, bad_head}
 use Rattle.web_frame.proofs.LineLemmas.{Lacks, Lacks-from_AllPass, before_first_at, after_first_at, lines_of_line}
 
@@ -27,13 +27,13 @@ some_text : (front : List ℕ) (b : ℕ) (back : List ℕ) (end : LineEnd) → i
 some_text front b back end = ne_eqb (length (front ++ b ∷ back)) 0 (λ none. absurd (omega (arith, length-append front (b ∷ back))))
 
 -- the lines of what empty lines and more print
-head_after_blank : (ends : List LineEnd) (more : List ℕ)
+head_with_blank : (ends : List LineEnd) (more : List ℕ)
     → head_in (lines_of (print_blank ends ++ more)) ≡ record (head_in (lines_of more)) { blank = ends ++ (head_in (lines_of more)).blank }
-head_after_blank [] more = refl
-head_after_blank (end ∷ ends) more =
+head_with_blank [] more = refl
+head_with_blank (end ∷ ends) more =
     let split : print_blank (end ∷ ends) ++ more ≡ [] ++ (print_end end ++ (print_blank ends ++ more)) = append_assoc (print_end end) (print_blank ends) more in
     let line : lines_of ([] ++ (print_end end ++ (print_blank ends ++ more))) ≡ record { text = []; end = end } ∷ lines_of (print_blank ends ++ more) = lines_of_line [] end (print_blank ends ++ more) (All-nil (λ (z : ℕ). eqb z 13 ≡ false)) (All-nil (λ (z : ℕ). eqb z 10 ≡ false)) in
-    ap (λ (l : List ℕ). head_in (lines_of l)) split ∙ ap head_in line ∙ ap (after_blank end) (head_after_blank ends more)
+    ap (λ (l : List ℕ). head_in (lines_of l)) split ∙ ap head_in line ∙ ap (with_blank end) (head_with_blank ends more)
 
 -- no byte of a token is one of these
 token_lacks : (c : ℕ) (name : List ℕ) → is_token_byte c ≡ false → IsToken name → Lacks c name
@@ -155,9 +155,9 @@ head_of-print h valid =
     let read = section_read h.fields h.last [] valid.fields in
     let start : head_in (lines_of text) ≡ head_of_parts h.method h.target h.minor h.line_end h.fields h.last =
         ap head_in line
-        ∙ ap (λ b. if b then after_blank h.line_end (head_in (lines_of section)) else head_from (record { text = start_text h; end = h.line_end }) (lines_of section)) (some_text h.method 32 (h.target ++ 32 ∷ print_version h.minor) h.line_end)
+        ∙ ap (λ b. if b then with_blank h.line_end (head_in (lines_of section)) else head_from (record { text = start_text h; end = h.line_end }) (lines_of section)) (some_text h.method 32 (h.target ++ 32 ∷ print_version h.minor) h.line_end)
         ∙ start_read h (lines_of section) valid read.0 read.1 in
-    ap (λ (b : List ℕ). head_in (lines_of b)) (print_request-lines h) ∙ head_after_blank h.blank text
+    ap (λ (b : List ℕ). head_in (lines_of b)) (print_request-lines h) ∙ head_with_blank h.blank text
     ∙ ap (λ (g : RequestHead). record g { blank = h.blank ++ g.blank }) start ∙ ap (λ (b : List LineEnd). record h { blank = b }) (append-nil h.blank)
 
 Decides-leb : (a b : ℕ) → Decides (leb a b) (a ≤ b)

@@ -28,10 +28,10 @@ unfoldable pub head_len : List ℕ → Option ℕ
 head_len [] = None
 head_len (b ∷ bytes) = if begins_with_empty_line (b ∷ bytes) then option_map suc (head_len bytes) else lines_len (b ∷ bytes)
 
--- how many bytes the empty lines at the front have
-unfoldable pub blank_len : List ℕ → ℕ
-blank_len [] = 0
-blank_len (b ∷ bytes) = if begins_with_empty_line (b ∷ bytes) then suc (blank_len bytes) else 0
+-- the bytes after the empty lines at the front
+unfoldable pub after_blank : List ℕ → List ℕ
+after_blank [] = []
+after_blank (b ∷ bytes) = if begins_with_empty_line (b ∷ bytes) then after_blank bytes else b ∷ bytes
 
 -- what stands at the front of some bytes: no whole head yet, a head of this many bytes, or one that is too long
 pub data Cut : Type 0 where

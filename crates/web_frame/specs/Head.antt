@@ -52,13 +52,13 @@ head_from line lines = record {
 }
 
 -- the head, with an empty line before it
-abbrev pub after_blank : LineEnd → RequestHead → RequestHead
-after_blank end h = record h { blank = end ∷ h.blank }
+abbrev pub with_blank : LineEnd → RequestHead → RequestHead
+with_blank end h = record h { blank = end ∷ h.blank }
 
 -- the head that lines would be
 abbrev pub head_in : List Line → RequestHead
 head_in [] = head_from (record { text = []; end = lf }) []
-head_in (line ∷ lines) = if is_empty line then after_blank line.end (head_in lines) else head_from line lines
+head_in (line ∷ lines) = if is_empty line then with_blank line.end (head_in lines) else head_from line lines
 
 -- a field's name is a token, and its value has no control byte but the tab
 abbrev pub is_field : Field → Bool

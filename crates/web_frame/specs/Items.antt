@@ -1,5 +1,5 @@
 -- The heads of a stream of bytes, one after the other.
-use Rattle.std.specs.Prelude.{ℕ, zero, suc, if◌then◌else◌, List, [], ◌∷◌, length, take, drop}
+use Rattle.std.specs.Prelude.{ℕ, zero, suc, if◌then◌else◌, ◌≡◌, List, [], ◌∷◌, ◌++◌, length, take, drop}
 use Rattle.web_frame.specs.declared.request.Request.{Request}
 use Rattle.web_frame.specs.Cut.{cut_of, Cut, none_yet, whole, too_long}
 use Rattle.web_frame.specs.Head.{head_of, is_head}
@@ -41,3 +41,15 @@ heads_within (suc n) bytes = heads_by (cut_of bytes) bytes (λ len. heads_within
 -- the heads of some bytes: each head has a byte, so there are at most as many
 unfoldable pub heads_of : List ℕ → Heads
 heads_of bytes = heads_within (length bytes) bytes
+
+-- some items, before the heads of what follows
+abbrev pub items_before : List Item → Heads → Heads
+items_before items heads = record { items = items ++ heads.items; rest = heads.rest }
+
+-- once these items of the bytes are read, these bytes are left to read, whatever follows
+pub record ReadsTo (bytes : List ℕ) (items : List Item) (left : List ℕ) : Type 0 where
+  pub reads : (more : List ℕ) → heads_of (bytes ++ more) ≡ items_before items (heads_of (left ++ more))
+
+-- some items are the first of others
+abbrev pub AreFirst : List Item → List Item → Type 0
+AreFirst items all = take (length items) all ≡ items

@@ -1,8 +1,10 @@
 //! Heads out of a stream of bytes.
 ghost use Rattle.std.specs.Prelude.{◌≡◌, ◌+◌, ◌-◌, ◌≤◌, [], length, take, drop, min, IfOk};
+ghost use Rattle.web_frame.specs.Cut.{after_blank};
 ghost use Rattle.web_frame.specs.Items.{item_of};
 ghost use Rattle.web_frame.specs.Stream as spec;
 
+use crate::blank::skip_blank;
 use crate::head::read_head;
 use crate::limit::MAX_HEAD;
 use crate::request::Request;
@@ -118,6 +120,15 @@ impl Frame {
             None if held < MAX_HEAD => Next::Need,
             None => Next::HeadTooLong,
         }
+    }
+
+    /// How many bytes of a head that hasn't ended are held: those after the head that was given last, without the empty
+    /// lines before them.
+    pub fn begun(&self) -> usize
+        ensures { result ≡ length (after_blank self.now.rest) }
+    {
+        let (_, rest) = self.unread.as_slice().split_at(self.given);
+        skip_blank(rest).len()
     }
 
     /// The target of the head that the last call to `next` gave, and no bytes where it gave none.
