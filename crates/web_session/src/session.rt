@@ -104,7 +104,7 @@ impl Session {
     fn on_input(&mut self, event: Event<'_>)
         requires waiting { self.old.phase ≡ Phase.Waiting }
         requires goes_on { self.old.before < MAX_REPLIES }
-        ensures { self.new ≡ step.after_event self.old event }
+        ensures { self.new ≡ step.after_event self.old event.entry }
     {
         match event {
             Event::Bytes(piece) => {
@@ -128,7 +128,7 @@ impl Session {
     fn on_answer(&mut self, asked: Asked, event: Event<'_>)
         requires asking { self.old.phase ≡ Phase.Asking asked }
         requires goes_on { self.old.before < MAX_REPLIES }
-        ensures { self.new ≡ step.after_event self.old event }
+        ensures { self.new ≡ step.after_event self.old event.entry }
     {
         match event {
             Event::Answer { len } => self.sent_to(asked, 0, len),
@@ -142,7 +142,7 @@ impl Session {
     fn on_sent(&mut self, asked: Asked, from: u64, len: u64, event: Event<'_>)
         requires sending { self.old.phase ≡ Phase.Sending asked from len }
         requires goes_on { self.old.before < MAX_REPLIES }
-        ensures { self.new ≡ step.after_event self.old event }
+        ensures { self.new ≡ step.after_event self.old event.entry }
     {
         match event {
             Event::Sent(count) => self.sent_to(asked, from.saturating_add(count), len),
@@ -170,7 +170,7 @@ impl Session {
     /// taken.
     #[tactic(auto, unfolding(crate::specs::Event::after_event))]
     pub fn on(&mut self, event: Event<'_>) -> Action
-        ensures state { self.new ≡ step.after_event self.old event }
+        ensures state { self.new ≡ step.after_event self.old event.entry }
         ensures action { result ≡ spec.action_of self.new }
 
         // Where bytes are read, there is room for some.
