@@ -1,9 +1,10 @@
 -- What a session keeps: room where it waits, bytes where it sends, and replies where it goes on.
-use Rattle.std.proofs.Common.{◌≡◌, ℕ, ◌+◌, ◌-◌, ◌<◌, ◌≤◌, Bool, true, false, ◌&&◌, if◌then◌else◌, ltb, eqb, min, List, [], ◌++◌, length, take, Option, None, refl, sym, ap, ap₂, subst, ◌∙◌, arith, inl, inr}
-use Rattle.std.proofs.lemmas.Bool.{lt-ltb, ltb-true, and_parts, cases_lt}
+use Rattle.std.proofs.Common.{◌≡◌, ℕ, ◌+◌, ◌-◌, ◌^◌, ◌<◌, ◌≤◌, Bool, true, false, ◌&&◌, if◌then◌else◌, ltb, eqb, min, List, [], ◌++◌, length, take, Option, None, refl, sym, ap, ap₂, subst, ◌∙◌, arith, inl, inr}
+use Rattle.std.proofs.lemmas.Bool.{lt-ltb, ltb-true, and_parts, cases_lt, le-ltb}
 use Rattle.std.proofs.lemmas.List.{take_all}
 use Rattle.web_frame.specs.declared.limit.TheConstants.{MAX_HEAD}
-use Rattle.web_frame.specs.Cut.{Cut, none_yet, whole, too_long, cut_of}
+use Rattle.web_frame.specs.Cut.{Cut, none_yet, too_long, cut_of}
+use Rattle.web_frame.specs.Cut as cuts
 use Rattle.web_frame.specs.Items.{Item, request, bad_head, head_too_long, item_of}
 use Rattle.web_frame.specs.Stream.{Held, held_len, with_bytes, next_by_item, next_by, next_of, held_by, held_after}
 use Rattle.web_frame.proofs.ItemLemmas.{cut_none_yet}
@@ -12,7 +13,7 @@ use Rattle.web_session.specs.declared.action.End.{End}
 use Rattle.web_session.specs.declared.phase.Phase.{Phase}
 use Rattle.web_session.specs.declared.phase.Phase.TheVariants.{Waiting, Asking, Sending, Ended}
 use Rattle.web_session.specs.declared.phase.TheConstants.{MAX_REPLIES}
-use Rattle.web_session.specs.State.{State, is_sound_in, is_sound, phase_after}
+use Rattle.web_session.specs.State.{State, is_sound_in, is_sound, phase_after, replied, sent}
 
 -- both tests pass
 both : (a b : Bool) → a ≡ true → b ≡ true → (a && b) ≡ true
@@ -28,7 +29,7 @@ sound_cut : (rest : List ℕ) (cut : Cut) (before : ℕ) → cut_of rest ≡ cut
 sound_cut rest none_yet before is some =
     let below : length rest < MAX_HEAD = cut_none_yet rest is in
     both _ _ (lt-ltb (0 + length rest) MAX_HEAD (omega arith)) (lt-ltb before MAX_REPLIES some)
-sound_cut rest (whole n) before is some = sound_item (item_of (take n rest)) (held_by (whole n) rest) before some
+sound_cut rest (cuts.whole n) before is some = sound_item (item_of (take n rest)) (held_by (cuts.whole n) rest) before some
 sound_cut rest too_long before is some = lt-ltb before MAX_REPLIES some
 
 -- a session that looked for the next head is sound
@@ -84,3 +85,16 @@ fed_first held piece count is = elim (cases_lt (MAX_HEAD - held_len held) (lengt
 ]
 
 pub ruleset sounds = (sound_looked, sound_ended, sound_sending, fed_first)
+
+-- a sum that stops at the greatest number is past no other end of a reply
+pub sent_capped : (s : State) (asked : Asked) (capped total len : ℕ) → capped ≡ min total (2 ^ 64 - 1) → len < 2 ^ 64 → sent s asked capped len ≡ sent s asked total len
+unfolding sent
+sent_capped s asked capped total len is small = elim (cases_lt total len) [
+  | inl below ↦
+      let same : capped ≡ total = omega arith in
+      ap (λ (n : ℕ). sent s asked n len) same
+  | inr past ↦ is_whole s asked capped len (le-ltb capped len (omega arith)) ∙ sym (is_whole s asked total len (le-ltb total len past))
+]
+  where
+    is_whole : (s : State) (asked : Asked) (from len : ℕ) → ltb from len ≡ false → sent s asked from len ≡ replied s asked
+    is_whole s asked from len is = ap (λ t. if t then record s { phase = Sending asked from len } else replied s asked) is
