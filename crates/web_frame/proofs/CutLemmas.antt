@@ -70,7 +70,7 @@ ends_after b bytes (other no_lf no_cr) ends =
     let text : lines_len (b ∷ bytes) ≡ option_map suc (lines_len bytes) = lines_len_other b bytes no_lf in
     let none : begins_with_empty_line (b ∷ bytes) ≡ false = begins_other b bytes no_lf no_cr in
     let to_inside : (p : Place) → place_after p b ≡ Some Inside → end_from p (b ∷ bytes) ≡ lines_len (b ∷ bytes) =
-        λ p is. end_from_after p Inside b bytes is ∙ ap (option_map suc) ends.inside ∙ sym text in
+    λ p is. end_from_after p Inside b bytes is ∙ ap (option_map suc) ends.inside ∙ sym text in
     let after_return : lines_len (13 ∷ b ∷ bytes) ≡ option_map suc (lines_len (b ∷ bytes)) = lines_len_other 13 (b ∷ bytes) refl in
     record {
       before = to_inside Before (ap (λ t. Some (if t then Before else (if eqb b 13 then BeforeReturn else Inside))) no_lf ∙ ap (λ t. Some (if t then BeforeReturn else Inside)) no_cr)

@@ -82,20 +82,20 @@ section_read (f ∷ fields) last more valid =
     let line : lines_of (flat_map print_field (f ∷ fields) ++ (print_end last ++ more)) ≡ record { text = f.name ++ 58 ∷ f.raw; end = f.end } ∷ lines_of rest = ap lines_of (append_assoc (print_field f) (flat_map print_field fields) (print_end last ++ more)) ∙ field_line f rest first in
     let some : is_empty (record { text = f.name ++ 58 ∷ f.raw; end = f.end }) ≡ false = some_text f.name 58 f.raw f.end in
     let read : field_in (record { text = f.name ++ 58 ∷ f.raw; end = f.end }) ≡ f = field_in_text f first in
-    let after : List Field = fields_in (lines_of rest) in
-    (
+    let after : List Field = fields_in (lines_of rest) in (
       ap fields_in line
-      ∙ ap (λ b. if b then [] else field_in (record { text = f.name ++ 58 ∷ f.raw; end = f.end }) ∷ after) some
-      ∙ ap (λ (g : Field). g ∷ after) read
-      ∙ ap (λ (l : List Field). f ∷ l) others.0,
+          ∙ ap (λ b. if b then [] else field_in (record { text = f.name ++ 58 ∷ f.raw; end = f.end }) ∷ after) some
+          ∙ ap (λ (g : Field). g ∷ after) read
+          ∙ ap (λ (l : List Field). f ∷ l) others.0,
       ap last_in line ∙ ap (λ b. if b then f.end else last_in (lines_of rest)) some ∙ others.1,
     )
 
 -- a version has neither CR nor LF
 version_lacks : (minor : ℕ) → minor ≤ 1 → Lacks 13 (print_version minor) × Lacks 10 (print_version minor)
-version_lacks minor few =
-    (both_lack 13 (codes "HTTP/1.") ((48 + minor) ∷ []) (Lacks-from_AllPass is_uri_byte 13 (codes "HTTP/1.") refl (AllPass-from_list_all is_uri_byte (codes "HTTP/1.") refl)) (one_lacks 13 (48 + minor) [] (ne_eqb _ 13 (λ e. absurd (omega arith))) (All-nil (λ (z : ℕ). eqb z 13 ≡ false))),
-    both_lack 10 (codes "HTTP/1.") ((48 + minor) ∷ []) (Lacks-from_AllPass is_uri_byte 10 (codes "HTTP/1.") refl (AllPass-from_list_all is_uri_byte (codes "HTTP/1.") refl)) (one_lacks 10 (48 + minor) [] (ne_eqb _ 10 (λ e. absurd (omega arith))) (All-nil (λ (z : ℕ). eqb z 10 ≡ false))))
+version_lacks minor few = (
+  both_lack 13 (codes "HTTP/1.") ((48 + minor) ∷ []) (Lacks-from_AllPass is_uri_byte 13 (codes "HTTP/1.") refl (AllPass-from_list_all is_uri_byte (codes "HTTP/1.") refl)) (one_lacks 13 (48 + minor) [] (ne_eqb _ 13 (λ e. absurd (omega arith))) (All-nil (λ (z : ℕ). eqb z 13 ≡ false))),
+  both_lack 10 (codes "HTTP/1.") ((48 + minor) ∷ []) (Lacks-from_AllPass is_uri_byte 10 (codes "HTTP/1.") refl (AllPass-from_list_all is_uri_byte (codes "HTTP/1.") refl)) (one_lacks 10 (48 + minor) [] (ne_eqb _ 10 (λ e. absurd (omega arith))) (All-nil (λ (z : ℕ). eqb z 10 ≡ false))),
+)
 
 -- the text of a request line
 abbrev start_text : RequestHead → List ℕ
@@ -154,9 +154,9 @@ head_of-print h valid =
     let line : lines_of text ≡ record { text = start_text h; end = h.line_end } ∷ lines_of section = start_line h section valid in
     let read = section_read h.fields h.last [] valid.fields in
     let start : head_in (lines_of text) ≡ head_of_parts h.method h.target h.minor h.line_end h.fields h.last =
-        ap head_in line
-        ∙ ap (λ b. if b then with_blank h.line_end (head_in (lines_of section)) else head_from (record { text = start_text h; end = h.line_end }) (lines_of section)) (some_text h.method 32 (h.target ++ 32 ∷ print_version h.minor) h.line_end)
-        ∙ start_read h (lines_of section) valid read.0 read.1 in
+    ap head_in line
+    ∙ ap (λ b. if b then with_blank h.line_end (head_in (lines_of section)) else head_from (record { text = start_text h; end = h.line_end }) (lines_of section)) (some_text h.method 32 (h.target ++ 32 ∷ print_version h.minor) h.line_end)
+    ∙ start_read h (lines_of section) valid read.0 read.1 in
     ap (λ (b : List ℕ). head_in (lines_of b)) (print_request-lines h) ∙ head_with_blank h.blank text
     ∙ ap (λ (g : RequestHead). record g { blank = h.blank ++ g.blank }) start ∙ ap (λ (b : List LineEnd). record h { blank = b }) (append-nil h.blank)
 
@@ -195,6 +195,7 @@ Decides-is_valid h = Decides-like (is_valid h) (λ (x : ValidParts h). to_head h
   where
     to_head : (h : RequestHead) → ValidParts h → IsRequestHead h
     to_head h x = record { method = x.0; target = (x.1.0, x.1.1.0); target_text = x.1.1.1.0; minor = x.1.1.1.1.0; fields = x.1.1.1.1.1 }
+
     from_head : (h : RequestHead) → IsRequestHead h → ValidParts h
     from_head h x = (x.method, (x.target.0, (x.target.1, (x.target_text, (x.minor, x.fields)))))
 

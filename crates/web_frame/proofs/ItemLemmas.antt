@@ -165,7 +165,7 @@ items_first_by zero bytes more small (whole len) is =
 items_first_by (suc n) bytes more small (whole len) is =
     let fits = cut_whole_fits bytes len is in
     let others : AreFirst (heads_of (drop len bytes)).items (heads_of (drop len bytes ++ more)).items =
-        items_first_by n (drop len bytes) more (omega (arith, length-drop len bytes, fits.0)) (cut_of (drop len bytes)) refl in
+    items_first_by n (drop len bytes) more (omega (arith, length-drop len bytes, fits.0)) (cut_of (drop len bytes)) refl in
     subst (λ (h : Heads). AreFirst h.items (heads_of (bytes ++ more)).items) (sym (heads_of-cut bytes (whole len) is))
     (subst (λ (h : Heads). AreFirst (item_before (item_of (take len bytes)) (drop len bytes) (heads_of (drop len bytes))).items h.items) (sym (heads_of-whole_append bytes more len is))
     (first_item (item_of (take len bytes)) (drop len bytes) (drop len bytes ++ more) (heads_of (drop len bytes)) (heads_of (drop len bytes ++ more)) others))

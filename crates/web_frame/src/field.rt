@@ -41,14 +41,16 @@ pub(crate) fn says_close(raw: &[u8], minor: u8, lines: &[HeaderSpan]) -> bool
     requires { All (IsHeaderWithin (length raw.now)) lines.now }
     ensures { result ≡ spec.says_close minor (map (header_bytes raw.now) lines.now) }
 {
-    connection_says(raw, lines, b"close") || (minor == 0 && !connection_says(raw, lines, b"keep-alive"))
+    connection_says(raw, lines, b"close")
+        || (minor == 0 && !connection_says(raw, lines, b"keep-alive"))
 }
 
 #[tactic(auto, unfolding(crate::specs::Said::announces_body))]
 fn announces_body(name: &[u8], value: &[u8]) -> bool
     ensures { result ≡ spec.announces_body (name.now, value.now) }
 {
-    same_word(name, b"Transfer-Encoding") || (same_word(name, b"Content-Length") && value != b"0".as_slice())
+    same_word(name, b"Transfer-Encoding")
+        || (same_word(name, b"Content-Length") && value != b"0".as_slice())
 }
 
 /// Whether a line says that a body follows.

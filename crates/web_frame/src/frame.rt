@@ -88,7 +88,9 @@ impl Frame {
         requires fits { len ≤ length self.old.rest }
         ensures answer { result ≡ spec.next_by_item (item_of (take len self.old.rest)) }
         ensures held { self.new ≡ record {
-            head = take len self.old.rest; rest = drop len self.old.rest } }
+          head = take len self.old.rest;
+          rest = drop len self.old.rest;
+        } }
     {
         match read_head(&self.unread.as_slice()[..len]) {
             None => {

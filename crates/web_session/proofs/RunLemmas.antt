@@ -97,17 +97,17 @@ begins_item (request r target) n left what held is item looked_is held_is =
     let head : target_of (item_of held.head) ≡ target = ap (λ (h : Held). target_of (item_of h.head)) held_is ∙ ap target_of item in
     let asked_item : item_asked what held ≡ request r target = ap (λ (w : Asked). item_asked w held) (sym same) ∙ ap (request r) head in
     let heads : heads_of left ≡ item_before (request r target) (drop n left) (heads_of (drop n left)) =
-        heads_of-cut left (whole n) is ∙ ap (λ (i : Item). item_before i (drop n left) (heads_of (drop n left))) item in
+    heads_of-cut left (whole n) is ∙ ap (λ (i : Item). item_before i (drop n left) (heads_of (drop n left))) item in
     record { more = (heads_of (drop n left)).items; items_are = ap (λ (h : Heads). h.items) heads ∙ ap (λ (i : Item). i ∷ (heads_of (drop n left)).items) (sym asked_item) }
 begins_item bad_head n left what held is item looked_is held_is =
     let same : says.BadHead ≡ what = cc in
     let heads : heads_of left ≡ item_before bad_head (drop n left) (heads_of (drop n left)) =
-        heads_of-cut left (whole n) is ∙ ap (λ (i : Item). item_before i (drop n left) (heads_of (drop n left))) item in
+    heads_of-cut left (whole n) is ∙ ap (λ (i : Item). item_before i (drop n left) (heads_of (drop n left))) item in
     record { more = []; items_are = ap (λ (h : Heads). h.items) heads ∙ ap (λ (w : Asked). item_asked w held ∷ []) same }
 begins_item head_too_long n left what held is item looked_is held_is =
     let same : says.HeadTooLong ≡ what = cc in
     let heads : heads_of left ≡ item_before head_too_long (drop n left) (heads_of (drop n left)) =
-        heads_of-cut left (whole n) is ∙ ap (λ (i : Item). item_before i (drop n left) (heads_of (drop n left))) item in
+    heads_of-cut left (whole n) is ∙ ap (λ (i : Item). item_before i (drop n left) (heads_of (drop n left))) item in
     record { more = []; items_are = ap (λ (h : Heads). h.items) heads ∙ ap (λ (w : Asked). item_asked w held ∷ []) same }
 
 begins_cut : (cut : Cut) (left : List ℕ) (what : Asked) (held : Held) → cut_of left ≡ cut → phase_after (next_by cut left) ≡ Asking what → held ≡ held_by cut left
@@ -124,12 +124,12 @@ first_asked : (text : List ℕ) (items : List Item) (what : Asked) (held : Held)
 first_asked text items what held p =
     let left : List ℕ = p.left in
     let begins : BeginsWith left (item_asked what held) =
-        begins_cut (cut_of left) left what held refl (sym (ap phase_after (next_of-cut left (cut_of left) refl)) ∙ p.looked_is) (p.held_is ∙ held_after-cut left (cut_of left) refl) in
+    begins_cut (cut_of left) left what held refl (sym (ap phase_after (next_of-cut left (cut_of left) refl)) ∙ p.looked_is) (p.held_is ∙ held_after-cut left (cut_of left) refl) in
     let all : heads_of text ≡ items_before p.done (heads_of left) =
-        ap heads_of (sym (append-nil text)) ∙ p.reads.reads [] ∙ ap (λ (l : List ℕ). items_before p.done (heads_of l)) (append-nil left) in
+    ap heads_of (sym (append-nil text)) ∙ p.reads.reads [] ∙ ap (λ (l : List ℕ). items_before p.done (heads_of l)) (append-nil left) in
     let front : List Item = p.done ++ item_asked what held ∷ [] in
     let split : (heads_of text).items ≡ front ++ begins.more =
-        ap (λ (h : Heads). h.items) all ∙ ap (λ (l : List Item). p.done ++ l) begins.items_are ∙ sym (append_assoc p.done (item_asked what held ∷ []) begins.more) in
+    ap (λ (h : Heads). h.items) all ∙ ap (λ (l : List Item). p.done ++ l) begins.items_are ∙ sym (append_assoc p.done (item_asked what held ∷ []) begins.more) in
     subst (λ (l : List Item). AreFirst l (heads_of text).items) (sym p.asked_is) (subst (λ (l : List Item). AreFirst front l) (sym split) (first_of_more front begins.more))
 
 -- ---- after a reply
@@ -211,7 +211,7 @@ step_waiting s Start text items is answers follows = stays s Waiting text items 
 step_waiting s (Bytes piece) text items is answers follows =
     let all : take (MAX_HEAD - held_len s.held) piece.now ≡ piece.now = take_all (MAX_HEAD - held_len s.held) piece.now answers in
     let fed : ReadsTo (text ++ piece.now) items (s.held.rest ++ take (MAX_HEAD - held_len s.held) piece.now) =
-        subst (λ (l : List ℕ). ReadsTo (text ++ piece.now) items (s.held.rest ++ l)) (sym all) (ReadsTo-feed piece.now follows.0) in
+    subst (λ (l : List ℕ). ReadsTo (text ++ piece.now) items (s.held.rest ++ l)) (sym all) (ReadsTo-feed piece.now follows.0) in
     look_follows (with_bytes (take (MAX_HEAD - held_len s.held) piece.now) s.held) s.before (text ++ piece.now) items fed
 step_waiting s (Answer len) text items is answers follows = absurd answers
 step_waiting s (Sent count) text items is answers follows = absurd answers
@@ -282,7 +282,7 @@ run_follows (event ∷ events) s text items answer follows =
     let first : List ℕ = fed_in s.phase event in
     let asked : List Item = asks_after event next in
     let all : Follows (after_events next events) ((text ++ first) ++ fed next events) ((items ++ asked) ++ asks next events) =
-        run_follows events next (text ++ first) (items ++ asked) answer.1 (step_follows s event text items answer.0 follows) in
+    run_follows events next (text ++ first) (items ++ asked) answer.1 (step_follows s event text items answer.0 follows) in
     subst (λ (t : List ℕ). Follows (after_events next events) t (items ++ (asked ++ asks next events))) (append_assoc text first (fed next events))
     (subst (λ (l : List Item). Follows (after_events next events) ((text ++ first) ++ fed next events) l) (append_assoc items asked (asks next events)) all)
 

@@ -22,5 +22,7 @@ pub fn all_heads_are_asked_before_it_waits(events: &[Event<'_>])
     requires { AllAnswer fresh events.now }
     ensures { (after_events fresh events.now).phase ≡ Phase.Waiting
         → heads_of (fed fresh events.now) ≡ record {
-            items = asks fresh events.now; rest = (after_events fresh events.now).held.rest } }
+          items = asks fresh events.now;
+          rest = (after_events fresh events.now).held.rest;
+        } }
 {}

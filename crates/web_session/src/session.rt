@@ -199,7 +199,10 @@ impl Session {
     {
         match self.phase {
             Phase::Waiting | Phase::Ended(_) => false,
-            Phase::Asking(asked) | Phase::Sending { asked, .. } => end_after(asked, self.before).is_some(),
+            Phase::Asking(asked) | Phase::Sending { asked, .. } => end_after(
+                asked,
+                self.before,
+            ).is_some(),
         }
     }
 }

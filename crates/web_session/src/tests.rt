@@ -4,7 +4,8 @@ use crate::{Action, Asked, End, Event, MAX_REPLIES, Method, Request, Session};
 use std::alloc::Global;
 use std::test::Fail;
 
-const TWO: &[u8] = b"GET /a HTTP/1.1\r\n\r\n\r\nHEAD /b HTTP/1.1\r\nConnection: Close\r\n\r\nGET /c HTTP/1.1\r\n\r\n";
+const TWO: &[u8] =
+    b"GET /a HTTP/1.1\r\n\r\n\r\nHEAD /b HTTP/1.1\r\nConnection: Close\r\n\r\nGET /c HTTP/1.1\r\n\r\n";
 
 const GET: Asked = Asked::Head(Request {
     method: Method::Get,
@@ -98,11 +99,23 @@ fn input_ends_after_empty_lines_or_within_a_head(rt: HostRuntime) -> Result<(), 
 fn the_link_ends_after_the_reply_that_ends_it(rt: HostRuntime) -> Result<(), Fail> {
     let rows: [(&[u8], End); 7] = [
         (b"GET / HTTP/1.0\r\n\r\nGET / HTTP/1.1\r\n\r\n", End::Asked),
-        (b"POST / HTTP/1.1\r\nContent-Length: 3\r\n\r\nabc", End::BodyNotTaken),
-        (b"POST / HTTP/1.0\r\nContent-Length: 3\r\n\r\nabc", End::Asked),
-        (b"GET / HTTP/1.1\r\nTransfer-Encoding: chunked\r\n\r\n", End::BodyNotTaken),
+        (
+            b"POST / HTTP/1.1\r\nContent-Length: 3\r\n\r\nabc",
+            End::BodyNotTaken,
+        ),
+        (
+            b"POST / HTTP/1.0\r\nContent-Length: 3\r\n\r\nabc",
+            End::Asked,
+        ),
+        (
+            b"GET / HTTP/1.1\r\nTransfer-Encoding: chunked\r\n\r\n",
+            End::BodyNotTaken,
+        ),
         (b"GET / HTTP/1.1\r\nContent-Length: 0\r\n\r\n", End::Closed),
-        (b"GET / HTTP/1.0\r\nConnection: keep-alive\r\n\r\n", End::Closed),
+        (
+            b"GET / HTTP/1.0\r\nConnection: keep-alive\r\n\r\n",
+            End::Closed,
+        ),
         (b"GET /\r\n\r\nGET / HTTP/1.1\r\n\r\n", End::BadHead),
     ];
     for (input, end) in rows {
@@ -112,7 +125,10 @@ fn the_link_ends_after_the_reply_that_ends_it(rt: HostRuntime) -> Result<(), Fai
     }
     let long = [b'a'; 16_384];
     let seen = actions(rt.alloc(), &long, 5_000)?;
-    assert_eq!(rt; seen.as_slice().last(), Some(&Action::Close(End::HeadTooLong)));
+    assert_eq!(rt;
+        seen.as_slice().last(),
+        Some(&Action::Close(End::HeadTooLong))
+    );
     Ok(())
 }
 
@@ -131,7 +147,10 @@ fn reply_10000_is_the_last(rt: HostRuntime) -> Result<(), Fail> {
     session.on(Event::Bytes(b"GET / HTTP/1.1\r\n\r\n"));
     assert!(rt; session.last());
     session.on(Event::Answer { len: 1 });
-    assert_eq!(rt; session.on(Event::Sent(1)), Action::Close(End::RequestLimit));
+    assert_eq!(rt;
+        session.on(Event::Sent(1)),
+        Action::Close(End::RequestLimit)
+    );
     assert_eq!(rt; session.on(Event::Start), Action::Close(End::RequestLimit));
     Ok(())
 }
@@ -140,7 +159,10 @@ fn reply_10000_is_the_last(rt: HostRuntime) -> Result<(), Fail> {
 fn start_gives_the_action_that_is_due_once_more(rt: HostRuntime) -> Result<(), Fail> {
     let mut session = Session::new(rt.alloc())?;
     assert_eq!(rt; session.on(Event::Start), Action::Read(16_384));
-    assert_eq!(rt; session.on(Event::Bytes(b"GET /a HTTP/1.1\r\n")), Action::Read(16_367));
+    assert_eq!(rt;
+        session.on(Event::Bytes(b"GET /a HTTP/1.1\r\n")),
+        Action::Read(16_367)
+    );
     assert_eq!(rt; session.on(Event::Start), Action::Read(16_367));
     assert_eq!(rt; session.on(Event::Bytes(b"\r\n")), Action::Ask(GET));
     assert_eq!(rt; session.on(Event::Start), Action::Ask(GET));

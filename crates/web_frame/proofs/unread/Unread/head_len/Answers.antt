@@ -10,21 +10,20 @@ use Rattle.web_frame.proofs.unread.Unread.head_len.Goals as goal
 
 pub invariant_of-self : goal.invariant_of-self
 invariant_of-self c =
-    let left = c.split_at.ensures.back ∙ ap (drop c.self.inside.scanned) c.as_slice.ensures in
-    (
+    let left = c.split_at.ensures.back ∙ ap (drop c.self.inside.scanned) c.as_slice.ensures in (
       omega arith,
       ap (λ (n : ℕ). place_past Before (take n c.self.inside.store)) c.len-held.ensures.len
-      ∙ place_past_all c.self.inside.store c.self.inside.scanned c.self.inside.place c.find_end.new.self c.self.invariant.1
-      (ap (place_past c.self.inside.place) (sym left) ∙ c.in-None.ensures.place),
+          ∙ place_past_all c.self.inside.store c.self.inside.scanned c.self.inside.place c.find_end.new.self c.self.invariant.1
+          (ap (place_past c.self.inside.place) (sym left) ∙ c.in-None.ensures.place),
     )
 
 pub overflow_add-len : goal.overflow_add-len
 overflow_add-len c =
     let left = c.split_at.ensures.back ∙ ap (drop c.self.inside.scanned) c.as_slice.ensures in
     let found : head_len c.self.inside.store ≡ Some (c.self.inside.scanned + c.in-Some.more) =
-        head_len_from c.self.inside.store c.self.inside.scanned c.self.inside.place c.self.invariant.0 c.self.invariant.1
-        ∙ ap (λ (l : List ℕ). option_map (λ n. c.self.inside.scanned + n) (end_from c.self.inside.place l)) (sym left)
-        ∙ ap (option_map (λ n. c.self.inside.scanned + n)) (sym c.in-Some.ensures.end) in
+    head_len_from c.self.inside.store c.self.inside.scanned c.self.inside.place c.self.invariant.0 c.self.invariant.1
+    ∙ ap (λ (l : List ℕ). option_map (λ n. c.self.inside.scanned + n) (end_from c.self.inside.place l)) (sym left)
+    ∙ ap (option_map (λ n. c.self.inside.scanned + n)) (sym c.in-Some.ensures.end) in
     let fits = head_len_fits c.self.inside.store _ found in
     let small : c.self.inside.scanned + c.in-Some.more ≤ 16384 = omega (arith, fits.1) in
     omega arith
