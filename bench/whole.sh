@@ -1,6 +1,7 @@
 #!/bin/sh
 # Shows how fast all elements of a variable are copied, beside a plain copy of as many bytes in memory: of a variable
-# without records, of one with records of 1 MiB, and of one with records of 1 KiB. Then it counts what the allocator is
+# without records, of one with records of 1 MiB, of one with records of 1 KiB, and of one with 2^24 records of one byte
+# and 1,000 dimensions. Then it counts what the allocator is
 # asked for by the header and the layout of a large file, which may be little.
 # Use: bench/whole.sh [MEBIBYTES].
 set -eu
@@ -40,7 +41,7 @@ fn elements<R: Print + Clock>(
     var: u32,
 ) -> io::Result<usize>
     requires length { length bytes.now ≡ layout.now.len }
-    requires number { var < length layout.now.vars }
+    requires number { var < length layout.now.header.vars }
 {
     let start = Instant::now(rt)?;
     let mut out = Bytes::new(alloc);
@@ -72,13 +73,14 @@ fn laid<R: Print + Clock>(rt: &R, alloc: Global, bytes: &[u8], turns: u32) -> io
     let Ok(header) = read_header(alloc, bytes) else {
         return println!(rt; "no header");
     };
-    let Ok(layout) = lay_out(alloc, &header, bytes.len() as u64) else {
+    let Ok(layout) = lay_out(alloc, header, bytes.len() as u64) else {
         return println!(rt; "no layout");
     };
-    if header.vars.is_empty() {
+    let vars = &layout.header().vars;
+    if vars.is_empty() {
         return println!(rt; "no variable");
     }
-    let last = (header.vars.len() - 1) as u32;
+    let last = (vars.len() - 1) as u32;
     for _turn in 0..turns {
         let len = elements(rt, alloc, &layout, bytes, last)?;
         plain(rt, alloc, bytes, len)?;
@@ -138,6 +140,19 @@ fixed() {
     head -c $((4 * $2)) /dev/zero >> "$1"
 }
 
+# ranked FILE RECORDS RANK: one variable of one byte in each record, with this rank; all its other dimensions have the
+# length 1.
+ranked() {
+    {
+        printf '43444601 %s 0000000a 00000002' "$(word "$2")"
+        printf '00000004 74696d65 00000000 00000001 78000000 00000001'
+        printf '00000000 00000000 0000000b 00000001 00000001 61000000 %s 00000000' "$(word "$3")"
+        for _ in $(seq 2 "$3"); do printf '00000001'; done
+        printf '00000000 00000000 00000001 00000004 %s' "$(word $((88 + 4 * $3)))"
+    } | tr -d ' ' | xxd -r -p > "$1"
+    head -c "$2" /dev/zero >> "$1"
+}
+
 # copied WHAT FILE: the least time of each kind of copy, and their ratio.
 copied() {
     "$program" copy "$2" | awk -v what="$1" '
@@ -154,8 +169,10 @@ records "$folder/case.nc" "$size" 262144
 copied 'records of 1 MiB' "$folder/case.nc"
 records "$folder/case.nc" $((size * 1024)) 256
 copied 'records of 1 KiB' "$folder/case.nc"
+ranked "$folder/ranked.nc" 16777216 1000
+copied 'records of 1 byte, rank 1,000' "$folder/ranked.nc"
 
-# A library that stands before the C library, and tells at the end how many bytes were asked for.
+# A library that stands before the C library, and shows at the end how many bytes were asked for.
 cat > "$folder/count.c" <<'C'
 #include <stdio.h>
 #include <stdlib.h>

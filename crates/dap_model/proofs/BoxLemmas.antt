@@ -8,7 +8,7 @@ use Rattle.std.proofs.lemmas.Nat.{div-add-mod', div-mul-add, mod-mul-add, div_be
 use Rattle.fm_base.specs.Layout.{product, indices_of}
 use Rattle.dap_model.specs.declared.projection.Slab.{Slab}
 use Rattle.dap_model.specs.Box.{HasStride, slab_count, slab_index, slab_indices, box_of, box_len, index_at, whole_slab, EachPicks}
-use Rattle.dap_model.proofs.SlabLemmas.{length-slab_indices, get_or-slab_indices, slab_index_tells, Picks-slab_index, strides_within, slab_count-whole, slab_indices-whole}
+use Rattle.dap_model.proofs.SlabLemmas.{length-slab_indices, get_or-slab_indices, same_strides, Picks-slab_index, strides_within, slab_count-whole, slab_indices-whole}
 
 -- the index lists that begin with one of these numbers, in rows
 abbrev rows : List ℕ → List (List ℕ) → List (List ℕ)
@@ -26,7 +26,8 @@ get_or-rows : (firsts : List ℕ) (box : List (List ℕ)) (q r : ℕ) (d : List 
 get_or-rows [] box q r d within below = absurd (omega arith)
 get_or-rows (i ∷ firsts) box zero r d within below =
     let row = map (λ (index : List ℕ). i ∷ index) box in
-    let short : r < length row = subst (λ (n : ℕ). r < n) (sym (length-map box (λ (index : List ℕ). i ∷ index))) below in
+    let short : r < length row =
+    subst (λ (n : ℕ). r < n) (sym (length-map box (λ (index : List ℕ). i ∷ index))) below in
     ap (λ (n : ℕ). get_or (row ++ rows firsts box) n d) (omega arith)
     ∙ get_or_append_left row (rows firsts box) d r short
     ∙ get_or-map (λ (index : List ℕ). i ∷ index) box r [] d below
@@ -42,7 +43,8 @@ pub length-box_of : (slabs : List Slab) → length (box_of slabs) ≡ box_len sl
 unfolding box_of box_len product
 length-box_of [] = refl
 length-box_of (slab ∷ slabs) =
-    length-rows (slab_indices slab) (box_of slabs) ∙ ap₂ (λ (m n : ℕ). m * n) (length-slab_indices slab) (length-box_of slabs)
+    length-rows (slab_indices slab) (box_of slabs)
+    ∙ ap₂ (λ (m n : ℕ). m * n) (length-slab_indices slab) (length-box_of slabs)
 
 -- the index list at a place, by a place of the first slab and a place in the box of the others
 pub index_at-cons : (slab : Slab) (slabs : List Slab) (q r : ℕ) → r < box_len slabs
@@ -68,7 +70,8 @@ split_of count (suc width) place within = record {
 }
 
 -- the index list at a place of a box is found by division
-pub get_or-box_of : (slabs : List Slab) (place : ℕ) (d : List ℕ) → place < box_len slabs → get_or (box_of slabs) place d ≡ index_at slabs place
+pub get_or-box_of : (slabs : List Slab) (place : ℕ) (d : List ℕ) → place < box_len slabs
+    → get_or (box_of slabs) place d ≡ index_at slabs place
 unfolding box_of box_len index_at product
 get_or-box_of [] zero d within = refl
 get_or-box_of [] (suc place) d within = absurd (omega arith)
@@ -77,35 +80,44 @@ get_or-box_of (slab ∷ slabs) place d within =
     let split = split_of (slab_count slab) width place within in
     let count = length-box_of slabs in
     let many = length-slab_indices slab in
-    let first : place / width < length (slab_indices slab) = subst (λ (n : ℕ). place / width < n) (sym many) split.first in
-    let second : place % width < length (box_of slabs) = subst (λ (n : ℕ). place % width < n) (sym count) split.second in
-    let at : place ≡ place / width * length (box_of slabs) + place % width = sym split.whole ∙ ap (λ (n : ℕ). place / width * n + place % width) (sym count) in
+    let first : place / width < length (slab_indices slab) =
+    subst (λ (n : ℕ). place / width < n) (sym many) split.first in
+    let second : place % width < length (box_of slabs) =
+    subst (λ (n : ℕ). place % width < n) (sym count) split.second in
+    let at : place ≡ place / width * length (box_of slabs) + place % width = sym split.whole
+    ∙ ap (λ (n : ℕ). place / width * n + place % width) (sym count) in
     ap (λ (n : ℕ). get_or (rows (slab_indices slab) (box_of slabs)) n d) at
     ∙ get_or-rows (slab_indices slab) (box_of slabs) (place / width) (place % width) d first second
-    ∙ ap₂ (λ (i : ℕ) (index : List ℕ). i ∷ index) (get_or-slab_indices slab (place / width) 0 split.first) (get_or-box_of slabs (place % width) [] split.second)
+    ∙ ap₂ (λ (i : ℕ) (index : List ℕ). i ∷ index) (get_or-slab_indices slab (place / width) 0 split.first)
+    (get_or-box_of slabs (place % width) [] split.second)
 
 -- two places of a box have two index lists
-pub index_at_tells : (slabs : List Slab) (m n : ℕ) → All HasStride slabs
+pub same_place : (slabs : List Slab) (m n : ℕ) → All HasStride slabs
     → m < box_len slabs → n < box_len slabs → index_at slabs m ≡ index_at slabs n → m ≡ n
 unfolding box_len index_at product
-index_at_tells [] m n some before within same = omega arith
-index_at_tells (slab ∷ slabs) m n some before within same =
+same_place [] m n some before within same = omega arith
+same_place (slab ∷ slabs) m n some before within same =
     let width = box_len slabs in
     let left = split_of (slab_count slab) width m before in
     let right = split_of (slab_count slab) width n within in
     let heads : slab_index slab (m / width) ≡ slab_index slab (n / width) = cc in
     let tails : index_at slabs (m % width) ≡ index_at slabs (n % width) = cc in
-    let quotients : m / width ≡ n / width = slab_index_tells slab _ _ (some 0 slab (omega arith)) heads in
-    let rests : m % width ≡ n % width = index_at_tells slabs _ _ (All-tail HasStride slab slabs some) left.second right.second tails in
+    let quotients : m / width ≡ n / width = same_strides slab _ _ (some 0 slab (omega arith)) heads in
+    let rests : m % width ≡ n % width =
+    same_place slabs _ _ (All-tail HasStride slab slabs some) left.second right.second tails in
     sym left.whole ∙ ap₂ (λ (q r : ℕ). q * width + r) quotients rests ∙ right.whole
 
 -- the index list at a place is picked
-pub EachPicks-index_at : (slabs : List Slab) (place : ℕ) → All HasStride slabs → place < box_len slabs → EachPicks slabs (index_at slabs place)
+pub EachPicks-index_at : (slabs : List Slab) (place : ℕ) → All HasStride slabs → place < box_len slabs
+    → EachPicks slabs (index_at slabs place)
 unfolding box_len index_at product
 EachPicks-index_at [] place some within = tt
 EachPicks-index_at (slab ∷ slabs) place some within =
-    let split = split_of (slab_count slab) (box_len slabs) place within in
-    (Picks-slab_index slab _ (some 0 slab (omega arith)) split.first, EachPicks-index_at slabs _ (All-tail HasStride slab slabs some) split.second)
+    let split = split_of (slab_count slab) (box_len slabs) place within in (
+      Picks-slab_index slab _ (some 0 slab (omega arith)) split.first,
+      EachPicks-index_at slabs _
+          (All-tail HasStride slab slabs some) split.second,
+    )
 
 -- the place of an index list that is picked
 pub record Placed (slabs : List Slab) (index : List ℕ) : Type 0 where
@@ -124,20 +136,30 @@ placed_of (slab ∷ slabs) (i ∷ index) some picks =
     let others = placed_of slabs index (All-tail HasStride slab slabs some) picks.1 in
     record {
       place = picks.0.strides * box_len slabs + others.place;
-      within = subst (λ (n : ℕ). picks.0.strides * box_len slabs + others.place < n) (mul_comm (box_len slabs) (slab_count slab)) (mul-add-lt picks.0.strides (box_len slabs) others.place (slab_count slab) first others.within);
+      within =
+          subst (λ (n : ℕ). picks.0.strides * box_len slabs + others.place < n)
+          (mul_comm (box_len slabs) (slab_count slab))
+          (mul-add-lt picks.0.strides (box_len slabs) others.place (slab_count slab) first others.within);
       index_is = index_at-cons slab slabs picks.0.strides others.place others.within
           ∙ ap₂ (λ (n : ℕ) (l : List ℕ). n ∷ l) (sym picks.0.whole) others.index_is;
     }
 
 -- the index lists of a box are those that are picked
-pub Contains-box_of : (slabs : List Slab) (index : List ℕ) → All HasStride slabs → Contains (box_of slabs) index ↔ EachPicks slabs index
+pub Contains-box_of : (slabs : List Slab) (index : List ℕ) → All HasStride slabs
+    → Contains (box_of slabs) index ↔ EachPicks slabs index
 Contains-box_of slabs index some = (
   λ found.
       let within : found.0 < box_len slabs = subst (λ (n : ℕ). found.0 < n) (length-box_of slabs) found.1 in
-      subst (EachPicks slabs) (sym (get_or-box_of slabs found.0 index within) ∙ found.2) (EachPicks-index_at slabs found.0 some within),
+      subst (EachPicks slabs) (sym (get_or-box_of slabs found.0 index within) ∙ found.2)
+      (EachPicks-index_at slabs found.0 some within),
   λ picks.
-      let placed = placed_of slabs index some picks in
-      (placed.place, subst (λ (n : ℕ). placed.place < n) (sym (length-box_of slabs)) placed.within, get_or-box_of slabs placed.place index placed.within ∙ placed.index_is),
+      let placed = placed_of slabs index some picks in (
+        placed.place,
+        subst (λ (n : ℕ). placed.place < n)
+            (sym (length-box_of slabs)) placed.within,
+        get_or-box_of slabs placed.place index placed.within
+            ∙ placed.index_is,
+      ),
 )
 
 -- the box of whole slabs is all index lists of the shape

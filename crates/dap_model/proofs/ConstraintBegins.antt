@@ -21,14 +21,16 @@ record Completed (state : State) : Type 0 where
   ran : run state rest ≡ Some last
   ends : clauses_at last ≡ Some clauses
 
-made_slab : (numbers : List ℕ) (value : ℕ) → length numbers ≤ 2 → (slab : Slab) × (slab_of (numbers ++ value ∷ []) ≡ Some slab)
+made_slab : (numbers : List ℕ) (value : ℕ) → length numbers ≤ 2
+    → (slab : Slab) × (slab_of (numbers ++ value ∷ []) ≡ Some slab)
 unfolding slab_of
 made_slab [] value few = (_, refl)
 made_slab (i ∷ []) value few = (_, refl)
 made_slab (i ∷ j ∷ []) value few = (_, refl)
 made_slab (i ∷ j ∷ k ∷ numbers) value few = absurd (omega arith)
 
-completed_number : (begun : Begun) (numbers : List ℕ) (count value : ℕ) → length numbers ≤ 2 → Completed (in_number begun numbers count value)
+completed_number : (begun : Begun) (numbers : List ℕ) (count value : ℕ) → length numbers ≤ 2
+    → Completed (in_number begun numbers count value)
 unfolding run step step_number clauses_at
 completed_number begun numbers count value few =
     let made = made_slab numbers value few in
@@ -36,15 +38,33 @@ completed_number begun numbers count value few =
       rest = 93 ∷ [];
       last = after_slab (with_slab begun made.0);
       clauses = clauses_of (with_slab begun made.0);
-      ran = run-cons (in_number begun numbers count value) (after_slab (with_slab begun made.0)) 93 [] (ap (option_map (λ (s : Slab). after_slab (with_slab begun s))) made.1);
+      ran =
+          run-cons (in_number begun numbers count value) (after_slab (with_slab begun made.0)) 93 []
+          (ap (option_map (λ (s : Slab). after_slab (with_slab begun s))) made.1);
       ends = refl;
     }
 
 completed : (text : List ℕ) (state : State) → Leads text state → Completed state
 unfolding run step step_to_name clauses_at is_name_byte
 completed text front leads = record { rest = []; last = front; clauses = []; ran = refl; ends = refl }
-completed text (before_name begun) leads = record { rest = 97 ∷ []; last = in_name begun (97 ∷ []); clauses = clauses_of (with_name begun (97 ∷ [])); ran = refl; ends = refl }
-completed text (in_name begun name) leads = record { rest = []; last = in_name begun name; clauses = clauses_of (with_name begun name); ran = refl; ends = refl }
+completed text (before_name begun) leads =
+    record {
+      rest = 97 ∷ [];
+      last = in_name begun (97 ∷ []);
+      clauses = clauses_of
+          (with_name begun (97 ∷ []));
+      ran = refl;
+      ends = refl;
+    }
+completed text (in_name begun name) leads =
+    record {
+      rest = [];
+      last = in_name begun name;
+      clauses = clauses_of
+          (with_name begun name);
+      ran = refl;
+      ends = refl;
+    }
 completed text (before_number begun numbers) leads =
     let more = completed_number begun numbers 1 0 leads.few in
     record {
@@ -55,7 +75,8 @@ completed text (before_number begun numbers) leads =
       ends = more.ends;
     }
 completed text (in_number begun numbers count value) leads = completed_number begun numbers count value leads.leads.few
-completed text (after_slab begun) leads = record { rest = []; last = after_slab begun; clauses = clauses_of begun; ran = refl; ends = refl }
+completed text (after_slab begun) leads =
+    record { rest = []; last = after_slab begun; clauses = clauses_of begun; ran = refl; ends = refl }
 
 -- some constraint begins with what is read
 pub BeginsConstraint-run : (text : List ℕ) (last : State) → run front text ≡ Some last → BeginsConstraint text
@@ -69,7 +90,8 @@ BeginsConstraint-run text last ran =
     }
 
 -- where reading dies it doesn't go on, whatever follows
-stays_dead : (state last : State) (before after : List ℕ) (byte : ℕ) → run state before ≡ Some last → step last byte ≡ None → run state (before ++ byte ∷ after) ≡ None
+stays_dead : (state last : State) (before after : List ℕ) (byte : ℕ) → run state before ≡ Some last
+    → step last byte ≡ None → run state (before ++ byte ∷ after) ≡ None
 unfolding run
 stays_dead state last before after byte ran dead =
     run-append state last before (byte ∷ after) ran ∙ ap (option_and_then (λ (next : State). run next after)) dead
@@ -79,14 +101,18 @@ cut : (text : List ℕ) (place more byte : ℕ) (rest : List ℕ) → slice_get 
     → take more text ++ rest ≡ take place text ++ byte ∷ (drop (suc place) (take more text) ++ rest)
 cut [] place more byte rest here longer = absurd (none-some byte here)
 cut (x ∷ text) place zero byte rest here longer = absurd (omega arith)
-cut (x ∷ text) zero (suc more) byte rest here longer = ap (λ (b : ℕ). b ∷ (take more text ++ rest)) (same_Some x byte here)
-cut (x ∷ text) (suc place) (suc more) byte rest here longer = ap (λ (l : List ℕ). x ∷ l) (cut text place more byte rest here (omega arith))
+cut (x ∷ text) zero (suc more) byte rest here longer =
+    ap (λ (b : ℕ). b ∷ (take more text ++ rest)) (same_Some x byte here)
+cut (x ∷ text) (suc place) (suc more) byte rest here longer =
+    ap (λ (l : List ℕ). x ∷ l) (cut text place more byte rest here (omega arith))
 
 -- no constraint begins with more than what is read
-pub dead_end : (text : List ℕ) (dies : Dies front text) (more : ℕ) → dies.place < more → BeginsConstraint (take more text) → ⊥
+pub dead_end : (text : List ℕ) (dies : Dies front text) (more : ℕ) → dies.place < more
+    → BeginsConstraint (take more text) → ⊥
 dead_end text dies more longer begins =
     let reads = Reads-constraint (take more text ++ begins.rest) begins.clauses begins.spelled in
     none-some reads.last
     (sym (ap (run front) (cut text dies.place more dies.byte begins.rest dies.here longer)
-    ∙ stays_dead front dies.last (take dies.place text) (drop (suc dies.place) (take more text) ++ begins.rest) dies.byte dies.ran dies.dead)
+    ∙ stays_dead front dies.last (take dies.place text)
+    (drop (suc dies.place) (take more text) ++ begins.rest) dies.byte dies.ran dies.dead)
     ∙ reads.ran)

@@ -26,8 +26,10 @@ pub record Lives (state : State) (text : List ℕ) : Type 0 where
 abbrev pub goes : State → List ℕ → Type 0
 goes state text = Lives state text ⊎ Dies state text
 
-goes_on : (state next : State) (byte : ℕ) (text : List ℕ) → step state byte ≡ Some next → goes next text → goes state (byte ∷ text)
-goes_on state next byte text took (inl lives) = inl (record { last = lives.last; ran = run-cons state next byte text took ∙ lives.ran })
+goes_on : (state next : State) (byte : ℕ) (text : List ℕ) → step state byte ≡ Some next → goes next text
+    → goes state (byte ∷ text)
+goes_on state next byte text took (inl lives) =
+    inl (record { last = lives.last; ran = run-cons state next byte text took ∙ lives.ran })
 goes_on state next byte text took (inr dies) = inr (record {
   place = suc dies.place;
   last = dies.last;
@@ -42,43 +44,52 @@ pub goes-text : (state : State) (text : List ℕ) → goes state text
 unfolding run
 goes-text state [] = inl (record { last = state; ran = refl })
 goes-text state (byte ∷ text) = elim (cases_Option (step state byte)) [
-  | inl dead ↦ inr (record { place = 0; last = state; byte = byte; within = omega arith; ran = refl; here = refl; dead = dead })
+  | inl dead ↦
+      inr (record { place = 0; last = state; byte = byte; within = omega arith; ran = refl; here = refl; dead = dead })
   | inr took ↦ goes_on state took.0 byte text took.1 (goes-text took.0 text)
 ]
 
 -- what is read where reading comes to the end
-pub read_from-lives : (state last : State) (at : ℕ) (text : List ℕ) → run state text ≡ Some last → read_from state at text ≡ ended_at (at + length text) (clauses_at last)
+pub read_from-lives : (state last : State) (at : ℕ) (text : List ℕ) → run state text ≡ Some last
+    → read_from state at text ≡ ended_at (at + length text) (clauses_at last)
 unfolding run read_from
-read_from-lives state last at [] ran = ap₂ (λ (n : ℕ) (s : State). ended_at n (clauses_at s)) (omega arith) (same_Some state last ran)
+read_from-lives state last at [] ran =
+    ap₂ (λ (n : ℕ) (s : State). ended_at n (clauses_at s)) (omega arith) (same_Some state last ran)
 read_from-lives state last at (byte ∷ text) ran =
     option_and_then_some (λ (next : State). run next text) (step state byte) last ran
-    (λ next took e. ap (λ (o : Option State). option_map_or (λ (s : State). read_from s (at + 1) text) o (Err (fault_at state at byte))) took
+    (λ next took e. ap (λ (o : Option State). option_map_or (λ (s : State). read_from s (at + 1) text) o
+    (Err (fault_at state at byte))) took
     ∙ read_from-lives next last (at + 1) text e
     ∙ ap (λ (n : ℕ). ended_at n (clauses_at last)) (omega arith))
 
 -- what is read where it dies
-pub read_from-dies : (state last : State) (at place byte : ℕ) (text : List ℕ) → run state (take place text) ≡ Some last → slice_get text place ≡ Some byte → step last byte ≡ None
+pub read_from-dies : (state last : State) (at place byte : ℕ) (text : List ℕ) → run state (take place text) ≡ Some last
+    → slice_get text place ≡ Some byte → step last byte ≡ None
     → read_from state at text ≡ Err (fault_at last (at + place) byte)
 unfolding run read_from
 read_from-dies state last at place byte [] ran here dead = absurd (none-some byte here)
 read_from-dies state last at zero byte (first ∷ text) ran here dead =
     let same = same_Some state last ran in
     let byte_is = same_Some first byte here in
-    ap (λ (o : Option State). option_map_or (λ (s : State). read_from s (at + 1) text) o (Err (fault_at state at first)))
+    ap (λ (o : Option State). option_map_or (λ (s : State). read_from s (at + 1) text) o
+    (Err (fault_at state at first)))
     (ap₂ (λ (s : State) (b : ℕ). step s b) same byte_is ∙ dead)
     ∙ ap₂ (λ (s : State) (b : ℕ). Err (fault_at s at b)) same byte_is
     ∙ ap (λ (n : ℕ). Err (fault_at last n byte)) (omega arith)
 read_from-dies state last at (suc place) byte (first ∷ text) ran here dead =
     option_and_then_some (λ (next : State). run next (take place text)) (step state first) last ran
-    (λ next took e. ap (λ (o : Option State). option_map_or (λ (s : State). read_from s (at + 1) text) o (Err (fault_at state at first))) took
+    (λ next took e. ap (λ (o : Option State). option_map_or (λ (s : State). read_from s (at + 1) text) o
+    (Err (fault_at state at first))) took
     ∙ read_from-dies next last (at + 1) place byte text e here dead
     ∙ ap (λ (n : ℕ). Err (fault_at last n byte)) (omega arith))
 
 -- the text that was read leads to where reading stands
-pub Leads-run : (before : List ℕ) (state last : State) (text : List ℕ) → Leads before state → run state text ≡ Some last → Leads (before ++ text) last
+pub Leads-run : (before : List ℕ) (state last : State) (text : List ℕ) → Leads before state → run state text ≡ Some last
+    → Leads (before ++ text) last
 unfolding run
 Leads-run before state last [] leads ran =
-    subst (λ (l : List ℕ). Leads l last) (sym (append-nil before)) (subst (Leads before) (same_Some state last ran) leads)
+    subst (λ (l : List ℕ). Leads l last) (sym (append-nil before))
+    (subst (Leads before) (same_Some state last ran) leads)
 Leads-run before state last (byte ∷ text) leads ran =
     option_and_then_some (λ (next : State). run next text) (step state byte) last ran
     (λ next took e. subst (λ (l : List ℕ). Leads l last) (append_assoc before (byte ∷ []) text)

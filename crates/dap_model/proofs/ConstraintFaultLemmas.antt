@@ -17,7 +17,8 @@ use Rattle.dap_model.proofs.ConstraintReads.{Reads-constraint}
 use Rattle.dap_model.proofs.ConstraintRuns.{run}
 
 -- a constraint is read, with its clauses
-pub constraint_of-constrains : (text : List ℕ) (clauses : List Clause) → Constrains text clauses → constraint_of text ≡ Ok clauses
+pub constraint_of-constrains : (text : List ℕ) (clauses : List Clause) → Constrains text clauses
+    → constraint_of text ≡ Ok clauses
 unfolding constraint_of
 constraint_of-constrains text clauses s =
     let reads = Reads-constraint text clauses s in
@@ -32,12 +33,14 @@ ended_err at fault None e = cc
 ended_err at fault (Some each) e = absurd (cc)
 
 -- what is read is a constraint with these clauses
-pub constrains_from_constraint_of : (text : List ℕ) (clauses : List Clause) → constraint_of text ≡ Ok clauses → Constrains text clauses
+pub constrains_from_constraint_of : (text : List ℕ) (clauses : List Clause) → constraint_of text ≡ Ok clauses
+    → Constrains text clauses
 unfolding constraint_of
 constrains_from_constraint_of text clauses e = elim (goes-text front text) [
   | inl lives ↦
       Constrains-from_leads text lives.last clauses (Leads-front text lives.last lives.ran)
-      (ended_ok (0 + length text) clauses (clauses_at lives.last) (sym (read_from-lives front lives.last 0 text lives.ran) ∙ e))
+      (ended_ok (0 + length text) clauses (clauses_at lives.last)
+      (sym (read_from-lives front lives.last 0 text lives.ran) ∙ e))
   | inr dies ↦
       let other = sym (read_from-dies front dies.last 0 dies.place dies.byte text dies.ran dies.here dies.dead) ∙ e in
       absurd (cc)
@@ -53,8 +56,10 @@ no_mark (before_number begun numbers) clauses e = absurd (none-some clauses e)
 no_mark (in_number begun numbers count value) clauses e = absurd (none-some clauses e)
 no_mark (after_slab begun) clauses e = refl
 
-selects : (state : State) (clauses : List Clause) (at : ℕ) → clauses_at state ≡ Some clauses → fault_at state at 38 ≡ Selection at
-selects state clauses at e = cond-true _ _ _ (ap (λ (o : Option (List Clause)). option_map_or (λ (each : List Clause). true) o false) e)
+selects : (state : State) (clauses : List Clause) (at : ℕ) → clauses_at state ≡ Some clauses
+    → fault_at state at 38 ≡ Selection at
+selects state clauses at e =
+    cond-true _ _ _ (ap (λ (o : Option (List Clause)). option_map_or (λ (each : List Clause). true) o false) e)
 
 -- a selection is read as one
 pub constraint_of-selection : (text : List ℕ) (at : ℕ) → IsSelection text at → constraint_of text ≡ Err (Selection at)
@@ -66,14 +71,17 @@ constraint_of-selection text at s =
     ∙ ap Err (selects reads.last s.clauses at reads.clauses_are)
 
 -- what is read with a bad place is neither
-no_constraint : (text : List ℕ) (fault : CeFault) → constraint_of text ≡ Err fault → (clauses : List Clause) → Constrains text clauses → ⊥
+no_constraint : (text : List ℕ) (fault : CeFault) → constraint_of text ≡ Err fault → (clauses : List Clause)
+    → Constrains text clauses → ⊥
 no_constraint text fault e clauses s = let other = constraint_of-constrains text clauses s in cc
 
-no_selection : (text : List ℕ) (at : ℕ) → constraint_of text ≡ Err (BadConstraint at) → (place : ℕ) → IsSelection text place → ⊥
+no_selection : (text : List ℕ) (at : ℕ) → constraint_of text ≡ Err (BadConstraint at) → (place : ℕ)
+    → IsSelection text place → ⊥
 no_selection text at e place s = let other = constraint_of-selection text place s in cc
 
 -- reading comes to the end of a text that is no constraint
-short : (text : List ℕ) (last : State) → run front text ≡ Some last → constraint_of text ≡ Err (BadConstraint (length text)) → IsBadConstraint text (length text)
+short : (text : List ℕ) (last : State) → run front text ≡ Some last
+    → constraint_of text ≡ Err (BadConstraint (length text)) → IsBadConstraint text (length text)
 short text last ran e = record {
   no_constraint = no_constraint text (BadConstraint (length text)) e;
   no_selection = no_selection text (length text) e;
@@ -83,7 +91,8 @@ short text last ran e = record {
 }
 
 -- reading dies, at no selection
-stuck : (text : List ℕ) (dies : Dies front text) → constraint_of text ≡ Err (BadConstraint dies.place) → IsBadConstraint text dies.place
+stuck : (text : List ℕ) (dies : Dies front text) → constraint_of text ≡ Err (BadConstraint dies.place)
+    → IsBadConstraint text dies.place
 stuck text dies e = record {
   no_constraint = no_constraint text (BadConstraint dies.place) e;
   no_selection = no_selection text dies.place e;
@@ -102,12 +111,15 @@ ends_some (in_number begun numbers count value) e = absurd (true≢false (sym e)
 ends_some (after_slab begun) e = (_, refl)
 
 -- reading dies of `&` where a constraint may end
-marked : (text : List ℕ) (dies : Dies front text) → dies.byte ≡ 38 → may_end dies.last ≡ true → IsSelection text dies.place
+marked : (text : List ℕ) (dies : Dies front text) → dies.byte ≡ 38 → may_end dies.last ≡ true
+    → IsSelection text dies.place
 marked text dies mark may =
     let ends = ends_some dies.last may in
     record {
       clauses = ends.0;
-      before = Constrains-from_leads (take dies.place text) dies.last ends.0 (Leads-front (take dies.place text) dies.last dies.ran) ends.1;
+      before =
+          Constrains-from_leads (take dies.place text) dies.last ends.0
+          (Leads-front (take dies.place text) dies.last dies.ran) ends.1;
       mark = dies.here ∙ ap Some mark;
     }
 
@@ -120,16 +132,19 @@ unfolding constraint_of
 HasFault-constraint_of text fault e = elim (goes-text front text) [
   | inl lives ↦
       let is : fault ≡ BadConstraint (length text) =
-      ended_err (0 + length text) fault (clauses_at lives.last) (sym (read_from-lives front lives.last 0 text lives.ran) ∙ e) ∙ ap BadConstraint (zero-add (length text)) in
+      ended_err (0 + length text) fault (clauses_at lives.last)
+      (sym (read_from-lives front lives.last 0 text lives.ran) ∙ e) ∙ ap BadConstraint (zero-add (length text)) in
       subst (HasFault text) (sym is) (short text lives.last lives.ran (e ∙ ap Err is))
   | inr dies ↦
       let found : fault ≡ fault_at dies.last dies.place dies.byte =
-      same_fault fault _ (sym e ∙ read_from-dies front dies.last 0 dies.place dies.byte text dies.ran dies.here dies.dead)
+      same_fault fault _ (sym e
+      ∙ read_from-dies front dies.last 0 dies.place dies.byte text dies.ran dies.here dies.dead)
       ∙ ap (λ (n : ℕ). fault_at dies.last n dies.byte) (zero-add dies.place) in
       elim (cases_Bool (dies.byte == 38 && may_end dies.last)) [
         | inl t ↦
             let tests = and_parts (dies.byte == 38) (may_end dies.last) t in
-            subst (HasFault text) (sym (found ∙ cond-true _ _ _ t)) (marked text dies (eqb-true dies.byte 38 tests.0) tests.1)
+            subst (HasFault text) (sym (found ∙ cond-true _ _ _ t))
+            (marked text dies (eqb-true dies.byte 38 tests.0) tests.1)
         | inr f ↦
             let is = found ∙ cond-false _ _ _ f in
             subst (HasFault text) (sym is) (stuck text dies (e ∙ ap Err is))
@@ -146,11 +161,13 @@ same_place text at other s t = elim (cases_order at other) [
   ]
 ]
 
-either : (outcome : Result (List Clause) CeFault) → ((clauses : List Clause) × (outcome ≡ Ok clauses)) ⊎ ((fault : CeFault) × (outcome ≡ Err fault))
+either : (outcome : Result (List Clause) CeFault)
+    → ((clauses : List Clause) × (outcome ≡ Ok clauses)) ⊎ ((fault : CeFault) × (outcome ≡ Err fault))
 either (Ok clauses) = inl (clauses, refl)
 either (Err fault) = inr (fault, refl)
 
-bad_place : (text : List ℕ) (at : ℕ) (fault : CeFault) → IsBadConstraint text at → HasFault text fault → fault ≡ BadConstraint at
+bad_place : (text : List ℕ) (at : ℕ) (fault : CeFault) → IsBadConstraint text at → HasFault text fault
+    → fault ≡ BadConstraint at
 bad_place text at (BadConstraint other) s t = ap BadConstraint (same_place text other at t s)
 bad_place text at (Selection place) s t = absurd (s.no_selection place t)
 

@@ -38,11 +38,13 @@ few_numbers (i ∷ j ∷ []) slab h = omega arith
 few_numbers (i ∷ j ∷ k ∷ []) slab h = omega arith
 few_numbers (i ∷ j ∷ k ∷ l ∷ numbers) slab h = absurd (none-some slab h)
 
-run-close : (begun : Begun) (numbers : List ℕ) (count value : ℕ) (slab : Slab) → slab_of (numbers ++ value ∷ []) ≡ Some slab
+run-close : (begun : Begun) (numbers : List ℕ) (count value : ℕ) (slab : Slab)
+    → slab_of (numbers ++ value ∷ []) ≡ Some slab
     → run (in_number begun numbers count value) (93 ∷ []) ≡ Some (after_slab (with_slab begun slab))
 unfolding run step step_number
 run-close begun numbers count value slab h =
-    run-cons (in_number begun numbers count value) (after_slab (with_slab begun slab)) 93 [] (ap (option_map (λ (s : Slab). after_slab (with_slab begun s))) h)
+    run-cons (in_number begun numbers count value) (after_slab (with_slab begun slab)) 93 []
+    (ap (option_map (λ (s : Slab). after_slab (with_slab begun s))) h)
 
 run-slab : (begun : Begun) (state : State) (text : List ℕ) (slab : Slab) → StandsOn begun state → SpellsSlab text slab
     → run state text ≡ Some (after_slab (with_slab begun slab))
@@ -50,23 +52,33 @@ run-slab begun state text slab stands s =
     let inside = run-numbers begun [] s.inner s.numbers (omega (arith, few_numbers s.numbers slab s.slab_is)) s.each in
     ap (run state) s.text_is
     ∙ run-cons state (before_number begun []) 91 (s.inner ++ 93 ∷ []) stands.bracket
-    ∙ run-append (before_number begun []) (in_number begun inside.earlier inside.count inside.value) s.inner (93 ∷ []) inside.ran
+    ∙ run-append (before_number begun []) (in_number begun inside.earlier inside.count inside.value) s.inner
+    (93 ∷ []) inside.ran
     ∙ run-close begun inside.earlier inside.count inside.value slab (ap slab_of inside.whole ∙ s.slab_is)
 
-run-slabs : (begun : Begun) (state : State) (text : List ℕ) (slabs : List Slab) → StandsOn begun state → Spelled SpellsSlab text slabs
+run-slabs : (begun : Begun) (state : State) (text : List ℕ) (slabs : List Slab) → StandsOn begun state
+    → Spelled SpellsSlab text slabs
     → Ends (record begun { slabs = begun.slabs ++ slabs }) (run state text)
 unfolding run
 run-slabs begun state text [] stands s = record {
   last = state;
   ran = ap (run state) s;
-  stands = subst (λ (slabs : List Slab). StandsOn (record begun { slabs = slabs }) state) (sym (append-nil begun.slabs)) stands;
+  stands =
+      subst (λ (slabs : List Slab). StandsOn (record begun { slabs = slabs }) state)
+      (sym (append-nil begun.slabs)) stands;
 }
 run-slabs begun state text (slab ∷ slabs) stands s =
-    let others = run-slabs (with_slab begun slab) (after_slab (with_slab begun slab)) s.1 slabs (at_slab (with_slab begun slab)) s.3 in
+    let others =
+    run-slabs (with_slab begun slab) (after_slab (with_slab begun slab)) s.1 slabs
+    (at_slab (with_slab begun slab)) s.3 in
     record {
       last = others.last;
-      ran = ap (run state) s.4 ∙ run-append state (after_slab (with_slab begun slab)) s.0 s.1 (run-slab begun state s.0 slab stands s.2) ∙ others.ran;
-      stands = subst (λ (each : List Slab). StandsOn (record begun { slabs = each }) others.last) (append_assoc begun.slabs (slab ∷ []) slabs) others.stands;
+      ran =
+          ap (run state) s.4 ∙ run-append state (after_slab (with_slab begun slab)) s.0 s.1
+          (run-slab begun state s.0 slab stands s.2) ∙ others.ran;
+      stands =
+          subst (λ (each : List Slab). StandsOn (record begun { slabs = each }) others.last)
+          (append_assoc begun.slabs (slab ∷ []) slabs) others.stands;
     }
 
 -- a clause after others
@@ -76,11 +88,13 @@ with_clause clauses clause = record { clauses = clauses; path = clause.path; sla
 abbrev opened : List Clause → Begun
 opened clauses = record { clauses = clauses; path = []; slabs = [] }
 
-run-clause : (clauses : List Clause) (text : List ℕ) (clause : Clause) → SpellsClause text clause → Ends (with_clause clauses clause) (run (before_name (opened clauses)) text)
+run-clause : (clauses : List Clause) (text : List ℕ) (clause : Clause) → SpellsClause text clause
+    → Ends (with_clause clauses clause) (run (before_name (opened clauses)) text)
 run-clause clauses text clause s =
     let path = run-path (opened clauses) s.path_text clause.path s.path_is in
     let whole : Begun = record { clauses = clauses; path = clause.path; slabs = [] } in
-    let stands = subst (λ (b : Begun). StandsOn b (in_name path.earlier path.name)) path.whole (at_name path.earlier path.name) in
+    let stands =
+    subst (λ (b : Begun). StandsOn b (in_name path.earlier path.name)) path.whole (at_name path.earlier path.name) in
     let slabs = run-slabs whole (in_name path.earlier path.name) s.slabs_text clause.slabs stands s.slabs_is in
     record {
       last = slabs.last;
@@ -119,8 +133,10 @@ unfolding run clauses_at
 no_clauses clauses reads = none-some clauses (ap clauses_at (same_Some _ _ reads.ran) ∙ reads.clauses_are)
 
 -- a constraint is read to its end
-pub Reads-constraint : (text : List ℕ) (clauses : List Clause) → Constrains text clauses → Reads clauses (run front text)
+pub Reads-constraint : (text : List ℕ) (clauses : List Clause) → Constrains text clauses
+    → Reads clauses (run front text)
 unfolding run step clauses_at
-Reads-constraint text clauses (inl empty) = record { last = front; ran = ap (run front) empty.0; clauses_are = ap Some (sym empty.1) }
+Reads-constraint text clauses (inl empty) =
+    record { last = front; ran = ap (run front) empty.0; clauses_are = ap Some (sym empty.1) }
 Reads-constraint [] clauses (inr s) = absurd (no_clauses clauses (run-clauses [] [] clauses s))
 Reads-constraint (byte ∷ text) clauses (inr s) = run-clauses [] (byte ∷ text) clauses s

@@ -17,19 +17,23 @@ run state [] = Some state
 run state (byte ∷ rest) = option_and_then (λ next. run next rest) (step state byte)
 
 -- first one text and then another
-pub run-append : (state between : State) (first second : List ℕ) → run state first ≡ Some between → run state (first ++ second) ≡ run between second
+pub run-append : (state between : State) (first second : List ℕ) → run state first ≡ Some between
+    → run state (first ++ second) ≡ run between second
 unfolding run
 run-append state between [] second h = ap (λ (s : State). run s second) (same_Some state between h)
 run-append state between (byte ∷ first) second h =
     option_and_then_some (λ (next : State). run next first) (step state byte) between h
-    (λ next took e. ap (option_and_then (λ (s : State). run s (first ++ second))) took ∙ run-append next between first second e)
+    (λ next took e. ap (option_and_then (λ (s : State). run s (first ++ second))) took
+    ∙ run-append next between first second e)
 
 -- one byte and then more
-pub run-cons : (state next : State) (byte : ℕ) (rest : List ℕ) → step state byte ≡ Some next → run state (byte ∷ rest) ≡ run next rest
+pub run-cons : (state next : State) (byte : ℕ) (rest : List ℕ) → step state byte ≡ Some next
+    → run state (byte ∷ rest) ≡ run next rest
 unfolding run
 run-cons state next byte rest h = ap (option_and_then (λ (s : State). run s rest)) h
 
-more_name : (begun : Begun) (name text : List ℕ) → list_all is_name_byte text ≡ true → run (in_name begun name) text ≡ Some (in_name begun (name ++ text))
+more_name : (begun : Begun) (name text : List ℕ) → list_all is_name_byte text ≡ true
+    → run (in_name begun name) text ≡ Some (in_name begun (name ++ text))
 unfolding run step step_name
 more_name begun name [] passes = ap (λ (n : List ℕ). Some (in_name begun n)) (sym (append-nil name))
 more_name begun name (byte ∷ text) passes =
@@ -38,7 +42,8 @@ more_name begun name (byte ∷ text) passes =
     ∙ more_name begun (name ++ byte ∷ []) text tests.1
     ∙ ap (λ (n : List ℕ). Some (in_name begun n)) (append_assoc name (byte ∷ []) text)
 
-run-name : (begun : Begun) (text name : List ℕ) → SpellsName text name → run (before_name begun) text ≡ Some (in_name begun name)
+run-name : (begun : Begun) (text name : List ℕ) → SpellsName text name
+    → run (before_name begun) text ≡ Some (in_name begun name)
 unfolding step step_to_name
 run-name begun [] name s = absurd (omega (arith, s.some))
 run-name begun (byte ∷ text) name s =
@@ -54,10 +59,12 @@ pub record InPath (begun : Begun) (path : List (List ℕ)) (state : Option State
   pub ran : state ≡ Some (in_name earlier name)
   pub whole : with_name earlier name ≡ record begun { path = begun.path ++ path }
 
-pub run-path : (begun : Begun) (text : List ℕ) (path : List (List ℕ)) → Separated 46 SpellsName text path → InPath begun path (run (before_name begun) text)
+pub run-path : (begun : Begun) (text : List ℕ) (path : List (List ℕ)) → Separated 46 SpellsName text path
+    → InPath begun path (run (before_name begun) text)
 unfolding step step_name is_name_byte
 run-path begun text [] s = absurd s
-run-path begun text (name ∷ []) s = record { earlier = begun; name = name; ran = run-name begun text name s; whole = refl }
+run-path begun text (name ∷ []) s =
+    record { earlier = begun; name = name; ran = run-name begun text name s; whole = refl }
 run-path begun text (name ∷ next ∷ path) s =
     let others = run-path (with_name begun name) s.1 (next ∷ path) s.3 in
     record {
@@ -67,17 +74,24 @@ run-path begun text (name ∷ next ∷ path) s =
           ∙ run-append (before_name begun) (in_name begun name) s.0 (46 ∷ s.1) (run-name begun s.0 name s.2)
           ∙ run-cons (in_name begun name) (before_name (with_name begun name)) 46 s.1 refl
           ∙ others.ran;
-      whole = others.whole ∙ ap (λ (each : List (List ℕ)). record begun { path = each }) (append_assoc begun.path (name ∷ []) (next ∷ path));
+      whole =
+          others.whole ∙ ap (λ (each : List (List ℕ)). record begun { path = each })
+          (append_assoc begun.path (name ∷ []) (next ∷ path));
     }
 
-more_digits : (begun : Begun) (numbers : List ℕ) (count value : ℕ) (text : List ℕ) → list_all is_ascii_digit text ≡ true → count + length text ≤ 18
-    → run (in_number begun numbers count value) text ≡ Some (in_number begun numbers (count + length text) (number_after value text))
+more_digits : (begun : Begun) (numbers : List ℕ) (count value : ℕ) (text : List ℕ) → list_all is_ascii_digit text ≡ true
+    → count + length text ≤ 18
+    → run (in_number begun numbers count value) text ≡ Some
+    (in_number begun numbers (count + length text) (number_after value text))
 unfolding run step step_number
-more_digits begun numbers count value [] passes few = ap (λ (n : ℕ). Some (in_number begun numbers n value)) (omega arith)
+more_digits begun numbers count value [] passes few =
+    ap (λ (n : ℕ). Some (in_number begun numbers n value)) (omega arith)
 more_digits begun numbers count value (byte ∷ text) passes few =
     let tests = and_parts (is_ascii_digit byte) (list_all is_ascii_digit text) passes in
     let below = lt-ltb count 18 (omega arith) in
-    run-cons (in_number begun numbers count value) (in_number begun numbers (count + 1) (value * 10 + (byte - 48))) byte text (cond-true _ _ _ (and_from _ _ tests.0 below))
+    run-cons (in_number begun numbers count value)
+    (in_number begun numbers (count + 1) (value * 10 + (byte - 48))) byte text
+    (cond-true _ _ _ (and_from _ _ tests.0 below))
     ∙ more_digits begun numbers (count + 1) (value * 10 + (byte - 48)) text tests.1 (omega arith)
     ∙ ap (λ (n : ℕ). Some (in_number begun numbers n (number_after (value * 10 + (byte - 48)) text))) (omega arith)
 
@@ -86,7 +100,8 @@ record InDigits (begun : Begun) (numbers : List ℕ) (value : ℕ) (state : Opti
   count : ℕ
   ran : state ≡ Some (in_number begun numbers count value)
 
-run-number : (begun : Begun) (numbers : List ℕ) (text : List ℕ) (value : ℕ) → SpellsNumber text value → InDigits begun numbers value (run (before_number begun numbers) text)
+run-number : (begun : Begun) (numbers : List ℕ) (text : List ℕ) (value : ℕ) → SpellsNumber text value
+    → InDigits begun numbers value (run (before_number begun numbers) text)
 unfolding step
 run-number begun numbers [] value s = absurd (omega (arith, s.some))
 run-number begun numbers (byte ∷ text) value s =
@@ -94,7 +109,9 @@ run-number begun numbers (byte ∷ text) value s =
     let first : byte - 48 ≡ 0 * 10 + (byte - 48) = omega arith in
     record {
       count = 1 + length text;
-      ran = run-cons (before_number begun numbers) (in_number begun numbers 1 (byte - 48)) byte text (cond-true _ _ _ tests.0)
+      ran =
+          run-cons (before_number begun numbers) (in_number begun numbers 1 (byte - 48)) byte text
+          (cond-true _ _ _ tests.0)
           ∙ more_digits begun numbers 1 (byte - 48) text tests.1 (omega (arith, s.few))
           ∙ ap (λ (v : ℕ). Some (in_number begun numbers (1 + length text) (number_after v text))) first
           ∙ ap (λ (v : ℕ). Some (in_number begun numbers (1 + length text) v)) (sym s.value);
@@ -108,7 +125,8 @@ pub record InNumbers (begun : Begun) (all : List ℕ) (state : Option State) : T
   pub ran : state ≡ Some (in_number begun earlier count value)
   pub whole : earlier ++ value ∷ [] ≡ all
 
-pub run-numbers : (begun : Begun) (before : List ℕ) (text : List ℕ) (numbers : List ℕ) → length before + length numbers ≤ 3 → Separated 58 SpellsNumber text numbers
+pub run-numbers : (begun : Begun) (before : List ℕ) (text : List ℕ) (numbers : List ℕ)
+    → length before + length numbers ≤ 3 → Separated 58 SpellsNumber text numbers
     → InNumbers begun (before ++ numbers) (run (before_number begun before) text)
 unfolding step step_number
 run-numbers begun before text [] few s = absurd s
@@ -117,7 +135,9 @@ run-numbers begun before text (number ∷ []) few s =
     record { earlier = before; count = last.count; value = number; ran = last.ran; whole = refl }
 run-numbers begun before text (number ∷ next ∷ numbers) few s =
     let first = run-number begun before s.0 number s.2 in
-    let others = run-numbers begun (before ++ number ∷ []) s.1 (next ∷ numbers) (omega (arith, length-append before (number ∷ []))) s.3 in
+    let others =
+    run-numbers begun (before ++ number ∷ []) s.1 (next ∷ numbers)
+    (omega (arith, length-append before (number ∷ []))) s.3 in
     let below = lt-ltb (length before) 2 (omega arith) in
     record {
       earlier = others.earlier;
@@ -125,7 +145,8 @@ run-numbers begun before text (number ∷ next ∷ numbers) few s =
       value = others.value;
       ran = ap (run (before_number begun before)) s.4
           ∙ run-append (before_number begun before) (in_number begun before first.count number) s.0 (58 ∷ s.1) first.ran
-          ∙ run-cons (in_number begun before first.count number) (before_number begun (before ++ number ∷ [])) 58 s.1 (cond-true _ _ _ below)
+          ∙ run-cons (in_number begun before first.count number) (before_number begun (before ++ number ∷ [])) 58 s.1
+          (cond-true _ _ _ below)
           ∙ others.ran;
       whole = others.whole ∙ append_assoc before (number ∷ []) (next ∷ numbers);
     }

@@ -57,7 +57,8 @@ Leads text (in_number begun numbers count value) = InNumber text begun numbers c
 Leads text (after_slab begun) = AfterClause text begun
 
 -- which way a choice went
-pub choose : {A P : Type 0} (b : Bool) (x y : Option A) (z : A) → cond b x y ≡ Some z → (b ≡ true → x ≡ Some z → P) → (b ≡ false → y ≡ Some z → P) → P
+pub choose : {A P : Type 0} (b : Bool) (x y : Option A) (z : A) → cond b x y ≡ Some z → (b ≡ true → x ≡ Some z → P)
+    → (b ≡ false → y ≡ Some z → P) → P
 choose b x y z h then otherwise = elim (cases_Bool b) [
   | inl t ↦ then t (sym (cond-true b x y t) ∙ h)
   | inr f ↦ otherwise f (sym (cond-false b x y f) ∙ h)
@@ -67,4 +68,5 @@ pub reached : (text : List ℕ) (state next : State) → Some state ≡ Some nex
 reached text state next same leads = subst (Leads text) (same_Some state next same) leads
 
 pub BeforeName-fresh : BeforeName [] fresh
-BeforeName-fresh = record { clauses_text = []; path_text = []; clauses = refl; path = refl; none = refl; text_is = refl }
+BeforeName-fresh =
+    record { clauses_text = []; path_text = []; clauses = refl; path = refl; none = refl; text_is = refl }

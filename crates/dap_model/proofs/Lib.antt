@@ -8,6 +8,9 @@ pub mod ConstraintNumbers
 pub mod ConstraintReads
 pub mod ConstraintRuns
 pub mod ConstraintStates
+pub mod FaultFactsLemmas
+pub mod FaultNameLemmas
+pub mod FaultSlabLemmas
 pub mod GridLemmas
 pub mod ListLemmas
 pub mod NumberLemmas
@@ -24,5 +27,6 @@ pub mod ProjectionWholeLemmas
 pub mod SeparatedLemmas
 pub mod SlabLemmas
 pub mod TextsLemmas
+pub mod WholeClauseLemmas
 pub mod XdrLemmas
-pub mod XdrTellLemmas
+pub mod XdrUniqueLemmas

@@ -1,8 +1,8 @@
 -- What is in a list, by recursion on the list, and which items give it.
-use Rattle.std.proofs.Common.{◌≡◌, ◌⊎◌, ℕ, zero, suc, ◌+◌, ◌<◌, ◌≤◌, Bool, false, List, [], ◌∷◌, ◌++◌, length, get_or, slice_get, Option, Some, None, refl, sym, ap, ap₂, subst, ◌∙◌, inl, inr, arith, add-zero, map}
+use Rattle.std.proofs.Common.{◌≡◌, ◌⊎◌, ℕ, zero, suc, ◌+◌, ◌<◌, ◌≤◌, Bool, true, false, List, [], ◌∷◌, ◌++◌, length, get_or, slice_get, Option, Some, None, refl, sym, ap, ap₂, subst, ◌∙◌, inl, inr, arith, add-zero, map}
 use Rattle.std.specs.List.{Contains, enumerate_from, filter_map, flat_map, list_any, range_with_len}
 use Rattle.std.specs.Option.{option_map}
-use Rattle.std.proofs.lemmas.Bool.{or_parts, cases_eq}
+use Rattle.std.proofs.lemmas.Bool.{or_parts, or_cases, or_left, or_right, cases_eq, true≢false}
 use Rattle.std.proofs.lemmas.Option.{none-some, same_Some}
 
 -- the item is in the list
@@ -21,7 +21,8 @@ Has-from_contains xs x found = subst (Has xs) found.2 (Has-at xs found.0 x found
 pub contains_from_Has : {A : Type 0} (xs : List A) (x : A) → Has xs x → Contains xs x
 contains_from_Has [] x has = absurd has
 contains_from_Has (y ∷ ys) x (inl same) = (0, omega arith, same)
-contains_from_Has (y ∷ ys) x (inr has) = let found = contains_from_Has ys x has in (suc found.0, omega (arith, found.1), found.2)
+contains_from_Has (y ∷ ys) x (inr has) =
+    let found = contains_from_Has ys x has in (suc found.0, omega (arith, found.1), found.2)
 
 pub Has-slice_get : {A : Type 0} (xs : List A) (k : ℕ) (x : A) → slice_get xs k ≡ Some x → Has xs x
 Has-slice_get [] k x e = absurd (none-some x e)
@@ -51,16 +52,19 @@ pub record Source {A B : Type 0} (P : A → B → Type 0) (xs : List A) (y : B) 
 pub later : {A B : Type 0} (P : A → B → Type 0) (x : A) (xs : List A) (y : B) → Source P xs y → Source P (x ∷ xs) y
 later P x xs y s = record { item = s.item; has = inr s.has; gives = s.gives }
 
-pub Source-flat_map : {A B : Type 0} (f : A → List B) (xs : List A) (y : B) → Has (flat_map f xs) y → Source (λ x z. Has (f x) z) xs y
+pub Source-flat_map : {A B : Type 0} (f : A → List B) (xs : List A) (y : B) → Has (flat_map f xs) y
+    → Source (λ x z. Has (f x) z) xs y
 Source-flat_map f [] y has = absurd has
 Source-flat_map f (x ∷ xs) y has = elim (Has-either (f x) (flat_map f xs) y has) [
   | inl first ↦ record { item = x; has = inl refl; gives = first }
   | inr others ↦ later (λ z w. Has (f z) w) x xs y (Source-flat_map f xs y others)
 ]
 
-pub Has-flat_map : {A B : Type 0} (f : A → List B) (xs : List A) (x : A) (y : B) → Has xs x → Has (f x) y → Has (flat_map f xs) y
+pub Has-flat_map : {A B : Type 0} (f : A → List B) (xs : List A) (x : A) (y : B) → Has xs x → Has (f x) y
+    → Has (flat_map f xs) y
 Has-flat_map f [] x y has gives = absurd has
-Has-flat_map f (z ∷ xs) x y (inl same) gives = Has-left (f z) (flat_map f xs) y (subst (λ w. Has (f w) y) (sym same) gives)
+Has-flat_map f (z ∷ xs) x y (inl same) gives =
+    Has-left (f z) (flat_map f xs) y (subst (λ w. Has (f w) y) (sym same) gives)
 Has-flat_map f (z ∷ xs) x y (inr has) gives = Has-right (f z) (flat_map f xs) y (Has-flat_map f xs x y has gives)
 
 -- something or nothing
@@ -69,16 +73,21 @@ cases_Option None = inl refl
 cases_Option (Some x) = inr (x, refl)
 
 -- a front item that gives something, and one that gives nothing
-pub filter_map-some : {A B : Type 0} (h : A → Option B) (x : A) (xs : List A) (y : B) → h x ≡ Some y → filter_map h (x ∷ xs) ≡ y ∷ filter_map h xs
+pub filter_map-some : {A B : Type 0} (h : A → Option B) (x : A) (xs : List A) (y : B) → h x ≡ Some y
+    → filter_map h (x ∷ xs) ≡ y ∷ filter_map h xs
 filter_map-some h x xs y e = rw e refl
 
-pub filter_map-none : {A B : Type 0} (h : A → Option B) (x : A) (xs : List A) → h x ≡ None → filter_map h (x ∷ xs) ≡ filter_map h xs
+pub filter_map-none : {A B : Type 0} (h : A → Option B) (x : A) (xs : List A) → h x ≡ None
+    → filter_map h (x ∷ xs) ≡ filter_map h xs
 filter_map-none h x xs e = rw e refl
 
-pub Source-filter_map : {A B : Type 0} (h : A → Option B) (xs : List A) (y : B) → Has (filter_map h xs) y → Source (λ x z. h x ≡ Some z) xs y
+pub Source-filter_map : {A B : Type 0} (h : A → Option B) (xs : List A) (y : B) → Has (filter_map h xs) y
+    → Source (λ x z. h x ≡ Some z) xs y
 Source-filter_map h [] y has = absurd has
 Source-filter_map h (x ∷ xs) y has = elim (cases_Option (h x)) [
-  | inl none ↦ later (λ z w. h z ≡ Some w) x xs y (Source-filter_map h xs y (subst (λ l. Has l y) (filter_map-none h x xs none) has))
+  | inl none ↦
+      later (λ z w. h z ≡ Some w) x xs y
+      (Source-filter_map h xs y (subst (λ l. Has l y) (filter_map-none h x xs none) has))
   | inr some ↦
       let either : Has (some.0 ∷ filter_map h xs) y = subst (λ l. Has l y) (filter_map-some h x xs some.0 some.1) has in
       elim either [
@@ -87,12 +96,15 @@ Source-filter_map h (x ∷ xs) y has = elim (cases_Option (h x)) [
       ]
 ]
 
-pub Has-filter_map : {A B : Type 0} (h : A → Option B) (xs : List A) (x : A) (y : B) → Has xs x → h x ≡ Some y → Has (filter_map h xs) y
+pub Has-filter_map : {A B : Type 0} (h : A → Option B) (xs : List A) (x : A) (y : B) → Has xs x → h x ≡ Some y
+    → Has (filter_map h xs) y
 Has-filter_map h [] x y has gives = absurd has
-Has-filter_map h (z ∷ xs) x y (inl same) gives = subst (λ l. Has l y) (sym (filter_map-some h z xs y (ap h same ∙ gives))) (inl refl)
+Has-filter_map h (z ∷ xs) x y (inl same) gives =
+    subst (λ l. Has l y) (sym (filter_map-some h z xs y (ap h same ∙ gives))) (inl refl)
 Has-filter_map h (z ∷ xs) x y (inr has) gives = elim (cases_Option (h z)) [
   | inl none ↦ subst (λ l. Has l y) (sym (filter_map-none h z xs none)) (Has-filter_map h xs x y has gives)
-  | inr some ↦ subst (λ l. Has l y) (sym (filter_map-some h z xs some.0 some.1)) (inr (Has-filter_map h xs x y has gives))
+  | inr some ↦
+      subst (λ l. Has l y) (sym (filter_map-some h z xs some.0 some.1)) (inr (Has-filter_map h xs x y has gives))
 ]
 
 -- the numbers of a range
@@ -109,12 +121,16 @@ Has-range a (suc n) k low high = elim (cases_eq a k) [
 ]
 
 -- the items of a list with their places
-pub slice_get-numbered : {A : Type 0} (n : ℕ) (xs : List A) (pair : ℕ × A) → Has (enumerate_from n xs) pair → (i : ℕ) × (pair.0 ≡ n + i) × (slice_get xs i ≡ Some pair.1)
+pub slice_get-numbered : {A : Type 0} (n : ℕ) (xs : List A) (pair : ℕ × A) → Has (enumerate_from n xs) pair
+    → (i : ℕ) × (pair.0 ≡ n + i) × (slice_get xs i ≡ Some pair.1)
 slice_get-numbered n [] pair has = absurd has
-slice_get-numbered n (x ∷ xs) pair (inl same) = (0, sym (ap (λ p. p.0) same) ∙ sym (add-zero n), ap (λ p. Some p.1) same)
-slice_get-numbered n (x ∷ xs) pair (inr has) = let found = slice_get-numbered (n + 1) xs pair has in (suc found.0, omega (arith, found.1), found.2)
+slice_get-numbered n (x ∷ xs) pair (inl same) =
+    (0, sym (ap (λ p. p.0) same) ∙ sym (add-zero n), ap (λ p. Some p.1) same)
+slice_get-numbered n (x ∷ xs) pair (inr has) =
+    let found = slice_get-numbered (n + 1) xs pair has in (suc found.0, omega (arith, found.1), found.2)
 
-pub Has-numbered : {A : Type 0} (n : ℕ) (xs : List A) (i : ℕ) (x : A) → slice_get xs i ≡ Some x → Has (enumerate_from n xs) (n + i, x)
+pub Has-numbered : {A : Type 0} (n : ℕ) (xs : List A) (i : ℕ) (x : A) → slice_get xs i ≡ Some x
+    → Has (enumerate_from n xs) (n + i, x)
 Has-numbered n [] i x e = absurd (none-some x e)
 Has-numbered n (y ∷ xs) zero x e = inl (ap₂ (λ (k : ℕ) z. (k, z)) (omega arith) (same_Some y x e))
 Has-numbered n (y ∷ xs) (suc i) x e =
@@ -126,10 +142,26 @@ none_passes p [] x none has = absurd has
 none_passes p (y ∷ ys) x none (inl same) = ap p (sym same) ∙ (or_parts (p y) (list_any p ys) none).0
 none_passes p (y ∷ ys) x none (inr has) = none_passes p ys x (or_parts (p y) (list_any p ys) none).1 has
 
+-- some item passes a test
+pub some_passes : {A : Type 0} (p : A → Bool) (xs : List A) → list_any p xs ≡ true → (x : A) × Has xs x × (p x ≡ true)
+some_passes p [] e = absurd (true≢false (sym e))
+some_passes p (x ∷ xs) e = elim (or_cases (p x) (list_any p xs) e) [
+  | inl first ↦ (x, inl refl, first)
+  | inr others ↦ let s = some_passes p xs others in (s.0, inr s.1, s.2)
+]
+
+pub any_passes : {A : Type 0} (p : A → Bool) (xs : List A) (x : A) → Has xs x → p x ≡ true → list_any p xs ≡ true
+any_passes p [] x has e = absurd has
+any_passes p (y ∷ xs) x (inl same) e = or_left (p y) (list_any p xs) (ap p same ∙ e)
+any_passes p (y ∷ xs) x (inr has) e = or_right (p y) (list_any p xs) (any_passes p xs x has e)
+
 -- each item gives something
-pub filter_map-each : {A B : Type 0} (h : A → Option B) (g : A → B) (xs : List A) → ((x : A) → Has xs x → h x ≡ Some (g x)) → filter_map h xs ≡ map g xs
+pub filter_map-each : {A B : Type 0} (h : A → Option B) (g : A → B) (xs : List A)
+    → ((x : A) → Has xs x → h x ≡ Some (g x)) → filter_map h xs ≡ map g xs
 filter_map-each h g [] each = refl
-filter_map-each h g (x ∷ xs) each = filter_map-some h x xs (g x) (each x (inl refl)) ∙ ap (λ l. g x ∷ l) (filter_map-each h g xs (λ y has. each y (inr has)))
+filter_map-each h g (x ∷ xs) each =
+    filter_map-some h x xs (g x) (each x (inl refl))
+    ∙ ap (λ l. g x ∷ l) (filter_map-each h g xs (λ y has. each y (inr has)))
 
 pub items-numbered : {A : Type 0} (n : ℕ) (xs : List A) → map (λ (p : ℕ × A). p.1) (enumerate_from n xs) ≡ xs
 items-numbered n [] = refl
@@ -139,10 +171,12 @@ pub map-same : {A : Type 0} (f : A → A) (xs : List A) → ((x : A) → f x ≡
 map-same f [] same = refl
 map-same f (x ∷ xs) same = ap₂ (λ y l. y ∷ l) (same x) (map-same f xs same)
 
-pub map-map : {A B C : Type 0} (f : B → C) (g : A → B) (h : A → C) (xs : List A) → ((x : A) → f (g x) ≡ h x) → map f (map g xs) ≡ map h xs
+pub map-map : {A B C : Type 0} (f : B → C) (g : A → B) (h : A → C) (xs : List A) → ((x : A) → f (g x) ≡ h x)
+    → map f (map g xs) ≡ map h xs
 map-map f g h [] same = refl
 map-map f g h (x ∷ xs) same = ap₂ (λ y l. y ∷ l) (same x) (map-map f g h xs same)
 
-pub mapped_some : {A B : Type 0} (f : A → B) (o : Option A) (y : B) → option_map f o ≡ Some y → (x : A) × (o ≡ Some x) × (f x ≡ y)
+pub mapped_some : {A B : Type 0} (f : A → B) (o : Option A) (y : B) → option_map f o ≡ Some y
+    → (x : A) × (o ≡ Some x) × (f x ≡ y)
 mapped_some f None y e = absurd (none-some y e)
 mapped_some f (Some x) y e = (x, refl, same_Some (f x) y e)

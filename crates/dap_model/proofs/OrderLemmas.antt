@@ -8,11 +8,14 @@ abbrev pub Ordered : {A : Type 0} → (A → A → Type 0) → List A → Type 0
 Ordered R [] = Unit {0}
 Ordered {A} R (x ∷ xs) = ((y : A) → Has xs y → R x y) × Ordered R xs
 
-pub AllPairs-from_ordered : {A : Type 0} (R : A → A → Type 0) (xs : List A) → Ordered R xs → (i j : ℕ) (d : A) → i < j → j < length xs → R (get_or xs i d) (get_or xs j d)
+pub AllPairs-from_ordered : {A : Type 0} (R : A → A → Type 0) (xs : List A) → Ordered R xs → (i j : ℕ) (d : A) → i < j
+    → j < length xs → R (get_or xs i d) (get_or xs j d)
 AllPairs-from_ordered R [] ordered i j d before within = absurd (omega arith)
 AllPairs-from_ordered R (x ∷ xs) ordered i zero d before within = absurd (omega arith)
-AllPairs-from_ordered R (x ∷ xs) ordered zero (suc j) d before within = ordered.0 (get_or xs j d) (Has-at xs j d (omega arith))
-AllPairs-from_ordered R (x ∷ xs) ordered (suc i) (suc j) d before within = AllPairs-from_ordered R xs ordered.1 i j d (omega arith) (omega arith)
+AllPairs-from_ordered R (x ∷ xs) ordered zero (suc j) d before within =
+    ordered.0 (get_or xs j d) (Has-at xs j d (omega arith))
+AllPairs-from_ordered R (x ∷ xs) ordered (suc i) (suc j) d before within =
+    AllPairs-from_ordered R xs ordered.1 i j d (omega arith) (omega arith)
 
 pub Ordered-from_pairs : {A : Type 0} (R : A → A → Type 0) (xs : List A) → AllPairs R xs → Ordered R xs
 Ordered-from_pairs R [] pairs = tt
@@ -32,7 +35,8 @@ Ordered-append R (x ∷ xs) ys first second across = (
 )
 
 -- what stands before in a list gives what stands before
-pub Ordered-filter_map : {A B : Type 0} (R : A → A → Type 0) (S : B → B → Type 0) (h : A → Option B) (xs : List A) → Ordered R xs
+pub Ordered-filter_map : {A B : Type 0} (R : A → A → Type 0) (S : B → B → Type 0) (h : A → Option B) (xs : List A)
+    → Ordered R xs
     → ((x y : A) (a b : B) → R x y → h x ≡ Some a → h y ≡ Some b → S a b) → Ordered S (filter_map h xs)
 Ordered-filter_map R S h [] ordered keeps = tt
 Ordered-filter_map R S h (x ∷ xs) ordered keeps =
@@ -47,7 +51,8 @@ Ordered-filter_map R S h (x ∷ xs) ordered keeps =
       )
     ]
 
-pub Ordered-flat_map : {A B : Type 0} (R : A → A → Type 0) (S : B → B → Type 0) (f : A → List B) (xs : List A) → Ordered R xs → ((x : A) → Ordered S (f x))
+pub Ordered-flat_map : {A B : Type 0} (R : A → A → Type 0) (S : B → B → Type 0) (f : A → List B) (xs : List A)
+    → Ordered R xs → ((x : A) → Ordered S (f x))
     → ((x y : A) (a b : B) → R x y → Has (f x) a → Has (f y) b → S a b) → Ordered S (flat_map f xs)
 Ordered-flat_map R S f [] ordered each keeps = tt
 Ordered-flat_map R S f (x ∷ xs) ordered each keeps =
@@ -62,4 +67,5 @@ Ordered-range a (suc n) = (λ k has. let parts = within_range (a + 1) n k has in
 
 pub Ordered-numbered : {A : Type 0} (n : ℕ) (xs : List A) → Ordered (λ (p q : ℕ × A). p.0 < q.0) (enumerate_from n xs)
 Ordered-numbered n [] = tt
-Ordered-numbered n (x ∷ xs) = (λ q has. let found = slice_get-numbered (n + 1) xs q has in omega (arith, found.1), Ordered-numbered (n + 1) xs)
+Ordered-numbered n (x ∷ xs) =
+    (λ q has. let found = slice_get-numbered (n + 1) xs q has in omega (arith, found.1), Ordered-numbered (n + 1) xs)

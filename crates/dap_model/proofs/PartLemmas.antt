@@ -9,7 +9,8 @@ use Rattle.dap_model.specs.Xdr.{array_bytes, xdr_of, values_at}
 use Rattle.dap_model.proofs.BoxLemmas.{length-box_of, get_or-box_of}
 
 -- numbers at the places of slabs are an array
-pub array_at : (kind : DapKind) (slabs : List Slab) (bits : List ℕ → ℕ) (words : List ℕ → List ℕ) → kind ≢ Text → slabs ≢ []
+pub array_at : (kind : DapKind) (slabs : List Slab) (bits : List ℕ → ℕ) (words : List ℕ → List ℕ) → kind ≢ Text
+    → slabs ≢ []
     → xdr_of kind (values_at kind slabs bits words) ≡ array_bytes kind (map bits (box_of slabs))
 unfolding xdr_of
 array_at kind [] bits words number some = absurd (some refl)
@@ -25,7 +26,8 @@ pub length-numbers : (slabs : List Slab) (bits : List ℕ → ℕ) → length (m
 length-numbers slabs bits = length-map (box_of slabs) bits ∙ length-box_of slabs
 
 -- the number at a place is that of the index list there
-pub get_or-numbers : (slabs : List Slab) (bits : List ℕ → ℕ) (place : ℕ) → place < box_len slabs → get_or (map bits (box_of slabs)) place 0 ≡ bits (index_at slabs place)
+pub get_or-numbers : (slabs : List Slab) (bits : List ℕ → ℕ) (place : ℕ) → place < box_len slabs
+    → get_or (map bits (box_of slabs)) place 0 ≡ bits (index_at slabs place)
 get_or-numbers slabs bits place within =
     get_or-map bits (box_of slabs) place [] 0 (subst (λ (n : ℕ). place < n) (sym (length-box_of slabs)) within)
     ∙ ap bits (get_or-box_of slabs place [] within)

@@ -9,10 +9,11 @@ use Rattle.dap_model.specs.declared.projection.Clause.{Clause}
 use Rattle.dap_model.specs.declared.projection.Sent.{Sent}
 use Rattle.dap_model.specs.declared.projection.Slab.{Slab}
 use Rattle.dap_model.specs.Picking.{name_of, parts_of, part_dims, given_by}
-use Rattle.dap_model.specs.Projection.{slabs_of, sent_of, all_sent}
+use Rattle.dap_model.specs.Projection.{with_slabs, slabs_of, sent_of, all_sent}
 use Rattle.dap_model.specs.ProjectionFacts.{AreNamedApart, IsGridded, StandsBefore, IsAsked, IsWhole, FitsDim, FitsPart}
 use Rattle.dap_model.proofs.ProjectionAgreeLemmas.{Sound, Sound-from_none, decl_named-is, picked_if_given, Faultless, Faultless-first, slabs_of-given, given-slabs_of}
 use Rattle.dap_model.proofs.ProjectionFitLemmas.{whole_slabs-fit, given-fit}
+use Rattle.dap_model.proofs.WholeClauseLemmas.{slabs_of-all}
 use Rattle.dap_model.proofs.ListLemmas.{Has, Has-slice_get, Has-from_contains, contains_from_Has, Has-flat_map, Source-flat_map, Has-filter_map, Source-filter_map, within_range, Has-range, slice_get-numbered, Has-numbered, mapped_some}
 use Rattle.dap_model.proofs.OrderLemmas.{Ordered, Ordered-from_pairs, Ordered-filter_map, Ordered-flat_map, Ordered-range, Ordered-numbered}
 
@@ -29,15 +30,15 @@ record SentOf (clauses : List Clause) (placed : ℕ × Decl) (sent : Sent) : Typ
   within : sent.part < length (parts_of placed.1)
   slabs_are : slabs_of clauses placed.1 sent.part ≡ Some sent.slabs
 
-abbrev made : ℕ → ℕ → List Slab → Sent
-made decl part slabs = record { decl = decl; part = part; slabs = slabs }
-
-SentOf-sent_of : (clauses : List Clause) (placed : ℕ × Decl) (sent : Sent) → Has (sent_of clauses placed) sent → SentOf clauses placed sent
+SentOf-sent_of : (clauses : List Clause) (placed : ℕ × Decl) (sent : Sent) → Has (sent_of clauses placed) sent
+    → SentOf clauses placed sent
 unfolding sent_of
 SentOf-sent_of clauses placed sent has =
     let numbers = range_with_len 0 (length (parts_of placed.1)) in
-    let s = Source-filter_map (λ (part : ℕ). option_map (made placed.0 part) (slabs_of clauses placed.1 part)) numbers sent has in
-    let slabs = mapped_some (made placed.0 s.item) (slabs_of clauses placed.1 s.item) sent s.gives in
+    let s =
+    Source-filter_map (λ (part : ℕ). option_map (with_slabs placed.0 part)
+    (slabs_of clauses placed.1 part)) numbers sent has in
+    let slabs = mapped_some (with_slabs placed.0 s.item) (slabs_of clauses placed.1 s.item) sent s.gives in
     let part : s.item ≡ sent.part = ap (λ (t : Sent). t.part) slabs.2 in
     let within = within_range 0 (length (parts_of placed.1)) s.item s.has in
     record {
@@ -46,49 +47,83 @@ SentOf-sent_of clauses placed sent has =
       slabs_are = ap (slabs_of clauses placed.1) (sym part) ∙ slabs.1 ∙ ap Some (ap (λ (t : Sent). t.slabs) slabs.2);
     }
 
-Has-sent_of : (clauses : List Clause) (placed : ℕ × Decl) (sent : Sent) → SentOf clauses placed sent → Has (sent_of clauses placed) sent
+Has-sent_of : (clauses : List Clause) (placed : ℕ × Decl) (sent : Sent) → SentOf clauses placed sent
+    → Has (sent_of clauses placed) sent
 unfolding sent_of
 Has-sent_of clauses placed sent s =
-    Has-filter_map (λ (part : ℕ). option_map (made placed.0 part) (slabs_of clauses placed.1 part)) (range_with_len 0 (length (parts_of placed.1))) sent.part sent
+    Has-filter_map (λ (part : ℕ). option_map (with_slabs placed.0 part) (slabs_of clauses placed.1 part))
+    (range_with_len 0 (length (parts_of placed.1))) sent.part sent
     (Has-range 0 (length (parts_of placed.1)) sent.part (omega arith) (omega (arith, s.within)))
-    (ap (option_map (made placed.0 sent.part)) s.slabs_are ∙ ap (λ (place : ℕ). Some (made place sent.part sent.slabs)) (sym s.place_is))
+    (ap (option_map (with_slabs placed.0 sent.part)) s.slabs_are
+    ∙ ap (λ (place : ℕ). Some (with_slabs place sent.part sent.slabs))
+    (sym s.place_is))
 
-pub PartSent-all_sent : (decls : List Decl) (clauses : List Clause) (sent : Sent) → Has (all_sent decls clauses).sent sent → PartSent decls clauses sent
+pub PartSent-all_sent : (decls : List Decl) (clauses : List Clause) (sent : Sent)
+    → Has (all_sent decls clauses).sent sent → PartSent decls clauses sent
 unfolding all_sent
 PartSent-all_sent decls clauses sent has =
     let s = Source-flat_map (sent_of clauses) (enumerate_from 0 decls) sent has in
     let t = SentOf-sent_of clauses s.item sent s.gives in
     let numbered = slice_get-numbered 0 decls s.item s.has in
     let place : sent.decl ≡ numbered.0 = omega (arith, t.place_is, numbered.1) in
-    record { decl = s.item.1; decl_is = ap (slice_get decls) place ∙ numbered.2; within = t.within; slabs_are = t.slabs_are }
+    record {
+      decl = s.item.1;
+      decl_is = ap (slice_get decls) place
+          ∙ numbered.2;
+      within = t.within;
+      slabs_are = t.slabs_are;
+    }
 
-pub Has-all_sent : (decls : List Decl) (clauses : List Clause) (sent : Sent) → PartSent decls clauses sent → Has (all_sent decls clauses).sent sent
+pub Has-all_sent : (decls : List Decl) (clauses : List Clause) (sent : Sent) → PartSent decls clauses sent
+    → Has (all_sent decls clauses).sent sent
 unfolding all_sent
 Has-all_sent decls clauses sent s =
     Has-flat_map (sent_of clauses) (enumerate_from 0 decls) (sent.decl, s.decl) sent
-    (subst (λ (place : ℕ). Has (enumerate_from 0 decls) (place, s.decl)) (zero-add sent.decl) (Has-numbered 0 decls sent.decl s.decl s.decl_is))
-    (Has-sent_of clauses (sent.decl, s.decl) sent (record { place_is = refl; within = s.within; slabs_are = s.slabs_are }))
+    (subst (λ (place : ℕ). Has (enumerate_from 0 decls) (place, s.decl)) (zero-add sent.decl)
+    (Has-numbered 0 decls sent.decl s.decl s.decl_is))
+    (Has-sent_of clauses (sent.decl, s.decl) sent
+    (record { place_is = refl; within = s.within; slabs_are = s.slabs_are }))
 
 -- what is sent where there is no clause is each part, whole
 pub whole_sent : (decls : List Decl) (sent : Sent) → PartSent decls [] sent ↔ IsWhole decls sent
-unfolding slabs_of
 whole_sent decls sent = (
-  λ s. record { decl = s.decl; decl_is = s.decl_is; within = s.within; slabs_are = sym (same_Some _ _ s.slabs_are) },
-  λ s. record { decl = s.decl; decl_is = s.decl_is; within = s.within; slabs_are = ap Some (sym s.slabs_are) },
-)
-
--- what is sent for clauses without a fault is each part that some clause names
-pub asked_sent : (decls : List Decl) (clauses : List Clause) (sent : Sent) → clauses ≢ [] → AreNamedApart decls → Faultless decls [] clauses → PartSent decls clauses sent ↔ IsAsked decls clauses sent
-asked_sent decls [] sent some apart none = absurd (some refl)
-asked_sent decls (x ∷ clauses) sent some apart none = (
-  λ s.
-      let t = given-slabs_of x clauses s.decl sent.part sent.slabs s.slabs_are in
-      record { decl = s.decl; clause = t.0; decl_is = s.decl_is; within = s.within; clause_is = contains_from_Has (x ∷ clauses) t.0 t.1; slabs_are = t.2 },
   λ s. record {
     decl = s.decl;
     decl_is = s.decl_is;
     within = s.within;
-    slabs_are = slabs_of-given decls (x ∷ clauses) s.decl s.clause sent.part sent.slabs apart (Has-slice_get decls sent.decl s.decl s.decl_is) s.within none
+    slabs_are = same_Some _ _ (sym s.slabs_are ∙ slabs_of-all s.decl sent.part);
+  },
+  λ s. record {
+    decl = s.decl;
+    decl_is = s.decl_is;
+    within = s.within;
+    slabs_are = slabs_of-all s.decl sent.part ∙ ap Some (sym s.slabs_are);
+  },
+)
+
+-- what is sent for clauses without a fault is each part that some clause names
+pub asked_sent : (decls : List Decl) (clauses : List Clause) (sent : Sent) → clauses ≢ [] → AreNamedApart decls
+    → Faultless decls [] clauses → PartSent decls clauses sent ↔ IsAsked decls clauses sent
+asked_sent decls [] sent some apart none = absurd (some refl)
+asked_sent decls (x ∷ clauses) sent some apart none = (
+  λ s.
+      let t = given-slabs_of x clauses s.decl sent.part sent.slabs s.slabs_are in
+      record {
+        decl = s.decl;
+        clause = t.0;
+        decl_is = s.decl_is;
+        within = s.within;
+        clause_is = contains_from_Has
+            (x ∷ clauses) t.0 t.1;
+        slabs_are = t.2;
+      },
+  λ s. record {
+    decl = s.decl;
+    decl_is = s.decl_is;
+    within = s.within;
+    slabs_are =
+        slabs_of-given decls (x ∷ clauses) s.decl s.clause sent.part sent.slabs apart
+        (Has-slice_get decls sent.decl s.decl s.decl_is) s.within none
         (Has-from_contains (x ∷ clauses) s.clause s.clause_is) s.slabs_are;
   },
 )
@@ -97,13 +132,20 @@ asked_sent decls (x ∷ clauses) sent some apart none = (
 pub AllPairs-all_sent : (decls : List Decl) (clauses : List Clause) → Ordered StandsBefore (all_sent decls clauses).sent
 unfolding all_sent sent_of
 AllPairs-all_sent decls clauses =
-    Ordered-flat_map (λ (p q : ℕ × Decl). p.0 < q.0) StandsBefore (sent_of clauses) (enumerate_from 0 decls) (Ordered-numbered 0 decls)
-    (λ placed. Ordered-filter_map (λ (i j : ℕ). i < j) StandsBefore (λ (part : ℕ). option_map (made placed.0 part) (slabs_of clauses placed.1 part)) (range_with_len 0 (length (parts_of placed.1)))
+    Ordered-flat_map (λ (p q : ℕ × Decl). p.0 < q.0) StandsBefore (sent_of clauses) (enumerate_from 0 decls)
+    (Ordered-numbered 0 decls)
+    (λ placed. Ordered-filter_map (λ (i j : ℕ). i < j) StandsBefore
+    (λ (part : ℕ). option_map (with_slabs placed.0 part) (slabs_of clauses placed.1 part))
+    (range_with_len 0 (length (parts_of placed.1)))
     (Ordered-range 0 (length (parts_of placed.1)))
     (λ i j a b before first second.
-    let s = mapped_some (made placed.0 i) (slabs_of clauses placed.1 i) a first in
-    let t = mapped_some (made placed.0 j) (slabs_of clauses placed.1 j) b second in
-    inr (sym (ap (λ (x : Sent). x.decl) s.2) ∙ ap (λ (x : Sent). x.decl) t.2, omega (arith, ap (λ (x : Sent). x.part) s.2, ap (λ (x : Sent). x.part) t.2))))
+    let s = mapped_some (with_slabs placed.0 i) (slabs_of clauses placed.1 i) a first in
+    let t = mapped_some (with_slabs placed.0 j) (slabs_of clauses placed.1 j) b second in
+    inr (
+      sym (ap (λ (x : Sent). x.decl) s.2) ∙ ap (λ (x : Sent). x.decl) t.2,
+      omega
+          (arith, ap (λ (x : Sent). x.part) s.2, ap (λ (x : Sent). x.part) t.2),
+    )))
     (λ p q a b before first second.
     let s = SentOf-sent_of clauses p a first in
     let t = SentOf-sent_of clauses q b second in
@@ -114,27 +156,42 @@ record SoundAt (decl : Decl) (clause : Clause) : Type 0 where
   earlier : List Clause
   sound : Sound decl earlier clause
 
-sound_at : (decls : List Decl) (earlier clauses : List Clause) (decl : Decl) (clause : Clause) (part : ℕ) (slabs : List Slab) → Ordered (λ (a b : Decl). name_of a ≢ name_of b) decls → Has decls decl
-    → Faultless decls earlier clauses → Has clauses clause → given_by decl clause part ≡ Some slabs → SoundAt decl clause
+sound_at : (decls : List Decl) (earlier clauses : List Clause) (decl : Decl) (clause : Clause) (part : ℕ)
+    (slabs : List Slab) → Ordered (λ (a b : Decl). name_of a ≢ name_of b) decls → Has decls decl
+    → Faultless decls earlier clauses → Has clauses clause → given_by decl clause part ≡ Some slabs
+    → SoundAt decl clause
 sound_at decls earlier [] decl clause part slabs apart has none after given = absurd after
 sound_at decls earlier (x ∷ clauses) decl clause part slabs apart has none (inl same) given =
     let first = (Faultless-first decls earlier x clauses none).0 in
-    let named = decl_named-is decls decl x.path apart has (picked_if_given decl x part slabs (ap (λ (c : Clause). given_by decl c part) same ∙ given)) in
+    let named =
+    decl_named-is decls decl x.path apart has
+    (picked_if_given decl x part slabs (ap (λ (c : Clause). given_by decl c part) same ∙ given)) in
     subst (SoundAt decl) same (record { earlier = earlier; sound = Sound-from_none decls earlier x decl named first })
 sound_at decls earlier (x ∷ clauses) decl clause part slabs apart has none (inr after) given =
-    sound_at decls (earlier ++ x ∷ []) clauses decl clause part slabs apart has (Faultless-first decls earlier x clauses none).1 after given
+    sound_at decls (earlier ++ x ∷ []) clauses decl clause part slabs apart has
+    (Faultless-first decls earlier x clauses none).1 after given
 
 -- the slabs of a part that is sent fit it
-pub FitsPart-sent : (decls : List Decl) (clauses : List Clause) (sent : Sent) → AreNamedApart decls → All IsGridded decls → Faultless decls [] clauses → PartSent decls clauses sent → FitsPart decls sent
+pub FitsPart-sent : (decls : List Decl) (clauses : List Clause) (sent : Sent) → AreNamedApart decls
+    → All IsGridded decls → Faultless decls [] clauses → PartSent decls clauses sent → FitsPart decls sent
 FitsPart-sent decls [] sent apart gridded none s =
     let whole = (whole_sent decls sent).0 s in
-    record { decl = whole.decl; decl_is = whole.decl_is; fits = subst (AllZip FitsDim (part_dims whole.decl sent.part)) (sym whole.slabs_are) (whole_slabs-fit (part_dims whole.decl sent.part)) }
+    record {
+      decl = whole.decl;
+      decl_is = whole.decl_is;
+      fits = subst (AllZip FitsDim (part_dims whole.decl sent.part))
+          (sym whole.slabs_are) (whole_slabs-fit (part_dims whole.decl sent.part));
+    }
 FitsPart-sent decls (x ∷ clauses) sent apart gridded none s =
     let given = given-slabs_of x clauses s.decl sent.part sent.slabs s.slabs_are in
     let has = Has-slice_get decls sent.decl s.decl s.decl_is in
-    let at = sound_at decls [] (x ∷ clauses) s.decl given.0 sent.part sent.slabs (Ordered-from_pairs _ decls apart) has none given.1 given.2 in
+    let at =
+    sound_at decls [] (x ∷ clauses) s.decl given.0 sent.part sent.slabs
+    (Ordered-from_pairs _ decls apart) has none given.1 given.2 in
     record {
       decl = s.decl;
       decl_is = s.decl_is;
-      fits = given-fit s.decl at.earlier given.0 sent.part sent.slabs (All-contains IsGridded decls s.decl gridded (contains_from_Has decls s.decl has)) s.within at.sound given.2;
+      fits =
+          given-fit s.decl at.earlier given.0 sent.part sent.slabs
+          (All-contains IsGridded decls s.decl gridded (contains_from_Has decls s.decl has)) s.within at.sound given.2;
     }

@@ -15,7 +15,8 @@ Followed byte S text items = Spelled (Ended byte S) text items
 
 pub Spelled-push : {A : Type 0} (S : List ℕ → A → Type 0) (front last : List ℕ) (items : List A) (item : A)
     → Spelled S front items → S last item → Spelled S (front ++ last) (items ++ item ∷ [])
-Spelled-push S front last [] item none s = (last, [], s, refl, ap (λ (l : List ℕ). l ++ last) none ∙ sym (append-nil last))
+Spelled-push S front last [] item none s =
+    (last, [], s, refl, ap (λ (l : List ℕ). l ++ last) none ∙ sym (append-nil last))
 Spelled-push S front last (x ∷ items) item each s = (
   each.0,
   each.1 ++ last,
@@ -29,12 +30,14 @@ pub Followed-push : {A : Type 0} (byte : ℕ) (S : List ℕ → A → Type 0) (f
     → Followed byte S front items → S last item → Followed byte S ((front ++ last) ++ byte ∷ []) (items ++ item ∷ [])
 Followed-push {A} byte S front last items item each s =
     subst (λ (l : List ℕ). Followed byte S l (items ++ item ∷ [])) (sym (append_assoc front last (byte ∷ [])))
-    (Spelled-push (Ended byte S) front (last ++ byte ∷ []) items item each (record { inner = last; spelled = s; text_is = refl }))
+    (Spelled-push (Ended byte S) front (last ++ byte ∷ []) items item each
+    (record { inner = last; spelled = s; text_is = refl }))
 
 joined : (byte : ℕ) (front first others inner last : List ℕ) → front ≡ first ++ others → first ≡ inner ++ byte ∷ []
     → front ++ last ≡ inner ++ byte ∷ (others ++ last)
 joined byte front first others inner last whole ended =
-    ap (λ (l : List ℕ). l ++ last) (whole ∙ ap (λ (l : List ℕ). l ++ others) ended ∙ append_assoc inner (byte ∷ []) others)
+    ap (λ (l : List ℕ). l ++ last)
+    (whole ∙ ap (λ (l : List ℕ). l ++ others) ended ∙ append_assoc inner (byte ∷ []) others)
     ∙ append_assoc inner (byte ∷ others) last
 
 -- one item more, with no byte after it

@@ -16,18 +16,21 @@ unfolding slab_indices
 length-slab_indices slab = length-map-range_with_len (slab_index slab) 0 (slab_count slab)
 
 -- the index at a place of a slab
-pub get_or-slab_indices : (slab : Slab) (place d : ℕ) → place < slab_count slab → get_or (slab_indices slab) place d ≡ slab_index slab place
+pub get_or-slab_indices : (slab : Slab) (place d : ℕ) → place < slab_count slab
+    → get_or (slab_indices slab) place d ≡ slab_index slab place
 unfolding slab_indices
-get_or-slab_indices slab place d within = get_or-map-range_with_len (slab_index slab) 0 (slab_count slab) place place d within (omega arith)
+get_or-slab_indices slab place d within =
+    get_or-map-range_with_len (slab_index slab) 0 (slab_count slab) place place d within (omega arith)
 
 -- two places of a slab have two indices
-pub slab_index_tells : (slab : Slab) (m n : ℕ) → HasStride slab → slab_index slab m ≡ slab_index slab n → m ≡ n
-slab_index_tells slab m n some same =
+pub same_strides : (slab : Slab) (m n : ℕ) → HasStride slab → slab_index slab m ≡ slab_index slab n → m ≡ n
+same_strides slab m n some same =
     let products : m * slab.stride ≡ n * slab.stride = omega arith in
     (same_from_place m 0 n 0 slab.stride (omega arith) (omega arith) (omega arith)).0
 
 -- how many indices there are, by whether the stop is before the start
-pub count_cases : (slab : Slab) → ((slab.start ≤ slab.stop) × (slab_count slab ≡ (slab.stop - slab.start) / slab.stride + 1))
+pub count_cases : (slab : Slab)
+    → ((slab.start ≤ slab.stop) × (slab_count slab ≡ (slab.stop - slab.start) / slab.stride + 1))
     ⊎ ((slab.stop < slab.start) × (slab_count slab ≡ 0))
 unfolding slab_count
 count_cases slab = elim (leb_tells slab.start slab.stop) [
@@ -36,7 +39,8 @@ count_cases slab = elim (leb_tells slab.start slab.stop) [
 ]
 
 -- an index of a slab is picked
-pub Picks-slab_index : (slab : Slab) (place : ℕ) → HasStride slab → place < slab_count slab → Picks slab (slab_index slab place)
+pub Picks-slab_index : (slab : Slab) (place : ℕ) → HasStride slab → place < slab_count slab
+    → Picks slab (slab_index slab place)
 Picks-slab_index slab place some within = elim (count_cases slab) [
   | inl t ↦
       let few : place ≤ (slab.stop - slab.start) / slab.stride = omega arith in
@@ -48,7 +52,8 @@ Picks-slab_index slab place some within = elim (count_cases slab) [
 ]
 
 -- what a slab picks stands at the place of its strides
-pub strides_within : (slab : Slab) (index : ℕ) → HasStride slab → (picks : Picks slab index) → picks.strides < slab_count slab
+pub strides_within : (slab : Slab) (index : ℕ) → HasStride slab → (picks : Picks slab index)
+    → picks.strides < slab_count slab
 strides_within slab index some picks = elim (count_cases slab) [
   | inl t ↦
       let low = picks.from_start in
@@ -59,14 +64,20 @@ strides_within slab index some picks = elim (count_cases slab) [
   | inr f ↦ absurd (omega (arith, picks.from_start, picks.to_stop, f.0))
 ]
 
-pub Contains-slab_indices : (slab : Slab) (index : ℕ) → HasStride slab → Contains (slab_indices slab) index ↔ Picks slab index
+pub Contains-slab_indices : (slab : Slab) (index : ℕ) → HasStride slab
+    → Contains (slab_indices slab) index ↔ Picks slab index
 Contains-slab_indices slab index some = (
   λ found.
       let within : found.0 < slab_count slab = subst (λ (n : ℕ). found.0 < n) (length-slab_indices slab) found.1 in
-      subst (Picks slab) (sym (get_or-slab_indices slab found.0 index within) ∙ found.2) (Picks-slab_index slab found.0 some within),
+      subst (Picks slab) (sym (get_or-slab_indices slab found.0 index within) ∙ found.2)
+      (Picks-slab_index slab found.0 some within),
   λ picks.
-      let within = strides_within slab index some picks in
-      (picks.strides, subst (λ (n : ℕ). picks.strides < n) (sym (length-slab_indices slab)) within, get_or-slab_indices slab picks.strides index within ∙ sym picks.whole),
+      let within = strides_within slab index some picks in (
+        picks.strides,
+        subst (λ (n : ℕ). picks.strides < n)
+            (sym (length-slab_indices slab)) within,
+        get_or-slab_indices slab picks.strides index within ∙ sym picks.whole,
+      ),
 )
 
 -- the indices of a slab rise
@@ -81,7 +92,9 @@ IsStrictlyIncreasing-slab_indices slab some = λ k more.
 -- the slab of a dimension with an index
 pub whole_slab-some : (last : ℕ) → whole_slab (suc last) ≡ record { start = 0; stride = 1; stop = last }
 unfolding whole_slab
-whole_slab-some last = cond-false _ _ _ (ne_eqb (suc last) 0 (omega arith)) ∙ ap (λ (n : ℕ). record { start = 0; stride = 1; stop = n }) (omega arith)
+whole_slab-some last =
+    cond-false _ _ _ (ne_eqb (suc last) 0 (omega arith))
+    ∙ ap (λ (n : ℕ). record { start = 0; stride = 1; stop = n }) (omega arith)
 
 -- a whole slab has each index of its dimension
 pub slab_count-whole : (size : ℕ) → slab_count (whole_slab size) ≡ size
@@ -98,6 +111,8 @@ pub slab_indices-whole : (size : ℕ) → slab_indices (whole_slab size) ≡ ran
 slab_indices-whole size = same_number_lists _ _
     (length-slab_indices (whole_slab size) ∙ slab_count-whole size ∙ sym (length-range_with_len 0 size))
     (λ place within.
-    let below : place < slab_count (whole_slab size) = subst (λ (n : ℕ). place < n) (length-slab_indices (whole_slab size)) within in
+    let below : place < slab_count (whole_slab size) =
+    subst (λ (n : ℕ). place < n) (length-slab_indices (whole_slab size)) within in
     let inside : place < size = subst (λ (n : ℕ). place < n) (slab_count-whole size) below in
-    get_or-slab_indices (whole_slab size) place 0 below ∙ slab_index-whole size place inside ∙ sym (get_or-range_with_len 0 size place 0 inside ∙ zero-add place))
+    get_or-slab_indices (whole_slab size) place 0 below ∙ slab_index-whole size place inside
+    ∙ sym (get_or-range_with_len 0 size place 0 inside ∙ zero-add place))

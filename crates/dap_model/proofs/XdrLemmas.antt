@@ -31,11 +31,15 @@ length-element_bytes Float64 bits = refl
 length-element_bytes Text bits = refl
 
 -- pieces of one length, one after the other
-length-pieces : (f : ℕ → List ℕ) (width : ℕ) → ((x : ℕ) → length (f x) ≡ width) → (xs : List ℕ) → length (flat_map f xs) ≡ length xs * width
+length-pieces : (f : ℕ → List ℕ) (width : ℕ) → ((x : ℕ) → length (f x) ≡ width) → (xs : List ℕ)
+    → length (flat_map f xs) ≡ length xs * width
 length-pieces f width each [] = omega arith
-length-pieces f width each (x ∷ xs) = length-append (f x) (flat_map f xs) ∙ ap₂ (λ (m n : ℕ). m + n) (each x) (length-pieces f width each xs) ∙ grind arith
+length-pieces f width each (x ∷ xs) =
+    length-append (f x) (flat_map f xs) ∙ ap₂ (λ (m n : ℕ). m + n) (each x) (length-pieces f width each xs)
+    ∙ grind arith
 
-get_or-pieces : (f : ℕ → List ℕ) (width : ℕ) → ((x : ℕ) → length (f x) ≡ width) → (xs : List ℕ) (place offset : ℕ) → place < length xs → offset < width
+get_or-pieces : (f : ℕ → List ℕ) (width : ℕ) → ((x : ℕ) → length (f x) ≡ width) → (xs : List ℕ) (place offset : ℕ)
+    → place < length xs → offset < width
     → get_or (flat_map f xs) (place * width + offset) 0 ≡ get_or (f (get_or xs place 0)) offset 0
 get_or-pieces f width each [] place offset within inside = absurd (omega arith)
 get_or-pieces f width each (x ∷ xs) zero offset within inside =
@@ -52,9 +56,11 @@ get_or-pieces f width each (x ∷ xs) (suc place) offset within inside =
 no_zeros : (n : ℕ) → zeros_after (4 * n) ≡ []
 no_zeros n = ap (λ (k : ℕ). replicate k 0) (let none : padded_len (4 * n) - 4 * n ≡ 0 = omega arith in none)
 
-whole_words : (f : ℕ → List ℕ) (numbers : List ℕ) (bytes n : ℕ) → bytes ≡ 4 * n → flat_map f numbers ≡ flat_map f numbers ++ zeros_after bytes
+whole_words : (f : ℕ → List ℕ) (numbers : List ℕ) (bytes n : ℕ) → bytes ≡ 4 * n
+    → flat_map f numbers ≡ flat_map f numbers ++ zeros_after bytes
 whole_words f numbers bytes n words =
-    sym (append-nil (flat_map f numbers)) ∙ ap (λ (zeros : List ℕ). flat_map f numbers ++ zeros) (sym (no_zeros n) ∙ ap zeros_after (sym words))
+    sym (append-nil (flat_map f numbers))
+    ∙ ap (λ (zeros : List ℕ). flat_map f numbers ++ zeros) (sym (no_zeros n) ∙ ap zeros_after (sym words))
 
 each_byte : (numbers : List ℕ) → flat_map (element_bytes Byte) numbers ≡ numbers
 unfolding element_bytes
@@ -67,46 +73,57 @@ no_bytes (x ∷ numbers) = no_bytes numbers
 
 -- the elements stand one after the other, with zero bytes after them
 pub elements_laid : (kind : DapKind) (numbers : List ℕ)
-    → elements_bytes kind numbers ≡ flat_map (element_bytes kind) numbers ++ zeros_after (length numbers * element_len kind)
+    → elements_bytes kind numbers ≡ flat_map (element_bytes kind) numbers
+    ++ zeros_after (length numbers * element_len kind)
 unfolding elements_bytes element_bytes element_len
 elements_laid Byte numbers = ap₂ (λ (l : List ℕ) (n : ℕ). l ++ zeros_after n) (sym (each_byte numbers)) (omega arith)
 elements_laid Int16 numbers = whole_words _ numbers _ (length numbers) (omega arith)
 elements_laid Int32 numbers = whole_words _ numbers _ (length numbers) (omega arith)
 elements_laid Float32 numbers = whole_words _ numbers _ (length numbers) (omega arith)
 elements_laid Float64 numbers = whole_words _ numbers _ (2 * length numbers) (omega arith)
-elements_laid Text numbers = sym (no_bytes numbers) ∙ whole_words (λ (x : ℕ). []) numbers (length numbers * 0) 0 (omega arith)
+elements_laid Text numbers =
+    sym (no_bytes numbers) ∙ whole_words (λ (x : ℕ). []) numbers (length numbers * 0) 0 (omega arith)
 
 length-zeros_after : (n : ℕ) → n + length (zeros_after n) ≡ padded_len n
 length-zeros_after n = ap (λ (k : ℕ). n + k) (length-replicate (padded_len n - n) 0) ∙ omega arith
 
-pub length-elements_bytes : (kind : DapKind) (numbers : List ℕ) → length (elements_bytes kind numbers) ≡ elements_len kind (length numbers)
+pub length-elements_bytes : (kind : DapKind) (numbers : List ℕ)
+    → length (elements_bytes kind numbers) ≡ elements_len kind (length numbers)
 unfolding elements_len
 length-elements_bytes kind numbers =
     let bytes = length numbers * element_len kind in
     ap length (elements_laid kind numbers)
     ∙ length-append (flat_map (element_bytes kind) numbers) (zeros_after bytes)
-    ∙ ap (λ (n : ℕ). n + length (zeros_after bytes)) (length-pieces (element_bytes kind) (element_len kind) (length-element_bytes kind) numbers)
+    ∙ ap (λ (n : ℕ). n + length (zeros_after bytes))
+    (length-pieces (element_bytes kind) (element_len kind) (length-element_bytes kind) numbers)
     ∙ length-zeros_after bytes
 
-pub length-array_bytes : (kind : DapKind) (numbers : List ℕ) → length (array_bytes kind numbers) ≡ 8 + elements_len kind (length numbers)
+pub length-array_bytes : (kind : DapKind) (numbers : List ℕ)
+    → length (array_bytes kind numbers) ≡ 8 + elements_len kind (length numbers)
 unfolding array_bytes count_twice
 length-array_bytes kind numbers =
-    length-append (count_twice (length numbers)) (elements_bytes kind numbers) ∙ ap (λ (n : ℕ). 8 + n) (length-elements_bytes kind numbers)
+    length-append (count_twice (length numbers)) (elements_bytes kind numbers)
+    ∙ ap (λ (n : ℕ). 8 + n) (length-elements_bytes kind numbers)
 
 -- a byte of an element
-pub get_or-array_bytes : (kind : DapKind) (numbers : List ℕ) (place offset : ℕ) → place < length numbers → offset < element_len kind
-    → get_or (array_bytes kind numbers) (8 + (place * element_len kind + offset)) 0 ≡ get_or (element_bytes kind (get_or numbers place 0)) offset 0
+pub get_or-array_bytes : (kind : DapKind) (numbers : List ℕ) (place offset : ℕ) → place < length numbers
+    → offset < element_len kind
+    → get_or (array_bytes kind numbers) (8 + (place * element_len kind + offset)) 0 ≡ get_or
+    (element_bytes kind (get_or numbers place 0)) offset 0
 unfolding array_bytes count_twice
 get_or-array_bytes kind numbers place offset within inside =
     let pieces = flat_map (element_bytes kind) numbers in
     let zeros = zeros_after (length numbers * element_len kind) in
     let at = place * element_len kind + offset in
     let count = length-pieces (element_bytes kind) (element_len kind) (length-element_bytes kind) numbers in
-    let short : at < length pieces = subst (λ (n : ℕ). at < n) (mul_comm (element_len kind) (length numbers) ∙ sym count) (mul-add-lt place (element_len kind) offset (length numbers) within inside) in
+    let short : at < length pieces =
+    subst (λ (n : ℕ). at < n) (mul_comm (element_len kind) (length numbers) ∙ sym count)
+    (mul-add-lt place (element_len kind) offset (length numbers) within inside) in
     get_or-append-add (count_twice (length numbers)) (elements_bytes kind numbers) at 0
     ∙ ap (λ (l : List ℕ). get_or l at 0) (elements_laid kind numbers)
     ∙ get_or_append_left pieces zeros 0 at short
-    ∙ get_or-pieces (element_bytes kind) (element_len kind) (length-element_bytes kind) numbers place offset within inside
+    ∙ get_or-pieces (element_bytes kind) (element_len kind)
+    (length-element_bytes kind) numbers place offset within inside
 
 pub length-text_bytes : (text : List ℕ) → length (text_bytes text) ≡ text_len (length text)
 unfolding text_bytes
@@ -126,10 +143,12 @@ length-texts (text ∷ texts) =
 pub length-texts_bytes : (texts : List (List ℕ)) → length (texts_bytes texts) ≡ 4 + texts_len texts
 unfolding texts_bytes
 length-texts_bytes texts =
-    length-append (to_be_bytes w32 (length texts)) (flat_map text_bytes texts) ∙ ap (λ (n : ℕ). 4 + n) (length-texts texts)
+    length-append (to_be_bytes w32 (length texts)) (flat_map text_bytes texts)
+    ∙ ap (λ (n : ℕ). 4 + n) (length-texts texts)
 
 -- the bytes of an element lie in the array
-pub element_within : (kind : DapKind) (numbers : List ℕ) (place offset : ℕ) → place < length numbers → offset < element_len kind
+pub element_within : (kind : DapKind) (numbers : List ℕ) (place offset : ℕ) → place < length numbers
+    → offset < element_len kind
     → 8 + (place * element_len kind + offset) < length (array_bytes kind numbers)
 unfolding elements_len
 element_within kind numbers place offset within inside =
@@ -139,8 +158,10 @@ element_within kind numbers place offset within inside =
     omega arith
 
 -- a byte of an element, as what stands there
-pub slice_get-array_bytes : (kind : DapKind) (numbers : List ℕ) (place offset : ℕ) → place < length numbers → offset < element_len kind
-    → slice_get (array_bytes kind numbers) (8 + (place * element_len kind + offset)) ≡ slice_get (element_bytes kind (get_or numbers place 0)) offset
+pub slice_get-array_bytes : (kind : DapKind) (numbers : List ℕ) (place offset : ℕ) → place < length numbers
+    → offset < element_len kind
+    → slice_get (array_bytes kind numbers) (8 + (place * element_len kind + offset)) ≡ slice_get
+    (element_bytes kind (get_or numbers place 0)) offset
 slice_get-array_bytes kind numbers place offset within inside =
     let element = element_bytes kind (get_or numbers place 0) in
     let short = subst (λ (n : ℕ). offset < n) (sym (length-element_bytes kind (get_or numbers place 0))) inside in

@@ -8,7 +8,7 @@ use Rattle.dap_model.specs.declared.projection.Slab.{Slab}
 unfoldable pub slab_count : Slab → ℕ
 slab_count slab = if nat_le slab.start slab.stop then (slab.stop - slab.start) / slab.stride + 1 else 0
 
--- the index at a place of a slab: so many strides past the start
+-- the index at a place of a slab: that number of strides past the start
 abbrev pub slab_index : Slab → ℕ → ℕ
 slab_index slab place = slab.start + place * slab.stride
 
@@ -32,7 +32,8 @@ index_at (slab ∷ slabs) place = slab_index slab (place / box_len slabs) ∷ in
 
 -- the slab of a whole dimension; it has no index where the size is 0
 unfoldable pub whole_slab : ℕ → Slab
-whole_slab size = if size == 0 then record { start = 1; stride = 1; stop = 0 } else record { start = 0; stride = 1; stop = size - 1 }
+whole_slab size =
+    if size == 0 then record { start = 1; stride = 1; stop = 0 } else record { start = 0; stride = 1; stop = size - 1 }
 
 -- a slab's stride is 1 or more
 abbrev pub HasStride : Slab → Type 0

@@ -15,7 +15,9 @@ use Rattle.dap_model.specs.declared.projection.Slab.{Slab}
 abbrev pub Separated : {A : Type 0} → ℕ → (List ℕ → A → Type 0) → List ℕ → List A → Type 0
 Separated byte S text [] = ⊥
 Separated byte S text (item ∷ []) = S text item
-Separated byte S text (item ∷ next ∷ items) = (first : List ℕ) × (others : List ℕ) × S first item × Separated byte S others (next ∷ items) × (text ≡ first ++ byte ∷ others)
+Separated byte S text (item ∷ next ∷ items) =
+    (first : List ℕ) × (others : List ℕ) × S first item × Separated byte S others (next ∷ items)
+    × (text ≡ first ++ byte ∷ others)
 
 -- a name: one byte or more of those that names have
 pub record SpellsName (text : List ℕ) (name : List ℕ) : Type 0 where

@@ -16,7 +16,7 @@ pub record Begun : Type 0 where
   pub slabs : List Slab
 
 -- where reading stands: at the front of the text; at the first byte of a name; in a name; at the first digit of a
--- number of a slab, after these numbers; in a number of so many digits and this value; at the end of a slab
+-- number of a slab, after these numbers; in a number, with how many digits it has and its value; at the end of a slab
 pub data State : Type 0 where
   front : State
   before_name : Begun → State
@@ -51,7 +51,9 @@ next_clause begun = record { clauses = clauses_of begun; path = []; slabs = [] }
 
 -- after a clause that may end here: a slab or the next clause
 unfoldable pub step_on : Begun → ℕ → Option State
-step_on begun byte = if byte == 91 then Some (before_number begun []) else (if byte == 44 then Some (before_name (next_clause begun)) else None)
+step_on begun byte =
+    if byte == 91 then Some (before_number begun [])
+    else (if byte == 44 then Some (before_name (next_clause begun)) else None)
 
 -- the first byte of a name
 unfoldable pub step_to_name : Begun → ℕ → Option State
@@ -59,7 +61,9 @@ step_to_name begun byte = if is_name_byte byte then Some (in_name begun (byte �
 
 -- a byte after some of a name: more of it, a dot, or what may follow a clause
 unfoldable pub step_name : Begun → List ℕ → ℕ → Option State
-step_name begun name byte = if is_name_byte byte then Some (in_name begun (name ++ byte ∷ [])) else (if byte == 46 then Some (before_name (with_name begun name)) else step_on (with_name begun name) byte)
+step_name begun name byte =
+    if is_name_byte byte then Some (in_name begun (name ++ byte ∷ []))
+    else (if byte == 46 then Some (before_name (with_name begun name)) else step_on (with_name begun name) byte)
 
 -- the end of a slab of these numbers
 abbrev pub step_close : Begun → List ℕ → Option State
@@ -67,14 +71,20 @@ step_close begun numbers = option_map (λ slab. after_slab (with_slab begun slab
 
 -- a byte after some of a number: more of it, a colon if a number may follow, or the end of the slab
 unfoldable pub step_number : Begun → List ℕ → ℕ → ℕ → ℕ → Option State
-step_number begun numbers count value byte = if is_ascii_digit byte && nat_lt count 18 then Some (in_number begun numbers (count + 1) (value * 10 + (byte - 48))) else (if byte == 58 && nat_lt (length numbers) 2 then Some (before_number begun (numbers ++ value ∷ [])) else (if byte == 93 then step_close begun (numbers ++ value ∷ []) else None))
+step_number begun numbers count value byte =
+    if is_ascii_digit byte && nat_lt count 18
+    then Some (in_number begun numbers (count + 1) (value * 10 + (byte - 48)))
+    else (if byte == 58 && nat_lt (length numbers) 2
+    then Some (before_number begun (numbers ++ value ∷ []))
+    else (if byte == 93 then step_close begun (numbers ++ value ∷ []) else None))
 
 -- where reading stands after one more byte; `None` where no constraint begins so
 unfoldable pub step : State → ℕ → Option State
 step front byte = step_to_name fresh byte
 step (before_name begun) byte = step_to_name begun byte
 step (in_name begun name) byte = step_name begun name byte
-step (before_number begun numbers) byte = if is_ascii_digit byte then Some (in_number begun numbers 1 (byte - 48)) else None
+step (before_number begun numbers) byte =
+    if is_ascii_digit byte then Some (in_number begun numbers 1 (byte - 48)) else None
 step (in_number begun numbers count value) byte = step_number begun numbers count value byte
 step (after_slab begun) byte = step_on begun byte
 
@@ -103,7 +113,8 @@ ended_at at (Some clauses) = Ok clauses
 -- what the rest of a text gives from a place on
 unfoldable pub read_from : State → ℕ → List ℕ → Result (List Clause) CeFault
 read_from state at [] = ended_at at (clauses_at state)
-read_from state at (byte ∷ rest) = option_map_or (λ next. read_from next (at + 1) rest) (step state byte) (Err (fault_at state at byte))
+read_from state at (byte ∷ rest) =
+    option_map_or (λ next. read_from next (at + 1) rest) (step state byte) (Err (fault_at state at byte))
 
 -- the clauses of a text, or its fault
 unfoldable pub constraint_of : List ℕ → Result (List Clause) CeFault

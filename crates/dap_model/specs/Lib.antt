@@ -4,6 +4,7 @@ pub mod Code
 pub mod Constraint
 pub mod ConstraintReading
 pub mod Example
+pub mod FaultFacts
 pub mod Picking
 pub mod Projection
 pub mod ProjectionFacts

@@ -20,7 +20,9 @@ AreNamedApart decls = AllPairs (λ (decl other : Decl). name_of decl ≢ name_of
 
 -- a path names a declaration, or a part of one that isn't a plain array
 abbrev pub Names : Decl → List (List ℕ) → Type 0
-Names decl path = (path ≡ name_of decl ∷ []) ⊎ ((part : Array) × Contains (named_parts decl) part × (path ≡ name_of decl ∷ part.name ∷ []))
+Names decl path =
+    (path ≡ name_of decl ∷ [])
+    ⊎ ((part : Array) × Contains (named_parts decl) part × (path ≡ name_of decl ∷ part.name ∷ []))
 
 -- some clause names the declaration of this name alone, or there is no clause
 abbrev pub NamesAlone : List Clause → List ℕ → Type 0
@@ -76,11 +78,14 @@ pub record IsFirstFault (decls : List Decl) (clauses : List Clause) (fault : Pro
   pub clause : Clause
   pub clause_is : slice_get clauses place ≡ Some clause
   pub fault_is : clause_fault decls (take place clauses) clause ≡ Some fault
-  pub none_before : (before : ℕ) (other : Clause) → before < place → slice_get clauses before ≡ Some other → clause_fault decls (take before clauses) other ≡ None
+  pub none_before : (before : ℕ) (other : Clause) → before < place → slice_get clauses before ≡ Some other
+      → clause_fault decls (take before clauses) other ≡ None
 
 -- no clause has a fault
 abbrev pub HasNoFault : List Decl → List Clause → Type 0
-HasNoFault decls clauses = (place : ℕ) (clause : Clause) → slice_get clauses place ≡ Some clause → clause_fault decls (take place clauses) clause ≡ None
+HasNoFault decls clauses =
+    (place : ℕ) (clause : Clause) → slice_get clauses place ≡ Some clause
+    → clause_fault decls (take place clauses) clause ≡ None
 
 -- an array that is sent is the part of the dataset with the lengths that the slabs leave
 pub record IsCut (decls : List Decl) (array : Array) (sent : Sent) : Type 0 where
@@ -91,5 +96,5 @@ pub record IsCut (decls : List Decl) (array : Array) (sent : Sent) : Type 0 wher
   pub array_is : array ≡ cut_array sent.slabs part
 
 -- the lengths of an array
-abbrev pub lengths_of : Array → List ℕ
-lengths_of array = map (λ (dim : Dim). dim.size) array.dims
+abbrev pub array_lengths : Array → List ℕ
+array_lengths array = map (λ (dim : Dim). dim.size) array.dims

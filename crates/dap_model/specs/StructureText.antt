@@ -31,7 +31,8 @@ dims_text dims = flat_map dim_text dims
 
 -- the line of an array
 unfoldable pub array_text : ℕ → Array → List ℕ
-array_text depth array = indent depth ++ kind_text array.kind ++ codes " " ++ array.name ++ dims_text array.dims ++ codes ";\n"
+array_text depth array =
+    indent depth ++ kind_text array.kind ++ codes " " ++ array.name ++ dims_text array.dims ++ codes ";\n"
 
 -- arrays, each on its line
 unfoldable pub arrays_text : ℕ → List Array → List ℕ
@@ -47,11 +48,18 @@ close_text depth name = indent depth ++ codes "} " ++ name ++ codes ";\n"
 
 -- a Grid: its array and its maps, each under a line of its own
 unfoldable pub grid_text : ℕ → List ℕ → Array → List Array → List ℕ
-grid_text depth name array maps = line_text depth (codes "Grid {") ++ line_text (depth + 1) (codes "ARRAY:") ++ array_text (depth + 2) array ++ line_text (depth + 1) (codes "MAPS:") ++ arrays_text (depth + 2) maps ++ close_text depth name
+grid_text depth name array maps =
+    line_text depth (codes "Grid {")
+    ++ line_text (depth + 1) (codes "ARRAY:")
+    ++ array_text (depth + 2) array
+    ++ line_text (depth + 1) (codes "MAPS:")
+    ++ arrays_text (depth + 2) maps
+    ++ close_text depth name
 
 -- a Structure and its members
 unfoldable pub structure_text : ℕ → List ℕ → List Array → List ℕ
-structure_text depth name members = line_text depth (codes "Structure {") ++ arrays_text (depth + 1) members ++ close_text depth name
+structure_text depth name members =
+    line_text depth (codes "Structure {") ++ arrays_text (depth + 1) members ++ close_text depth name
 
 -- a declaration, by its case
 unfoldable pub decl_text : ℕ → Decl → List ℕ

@@ -17,7 +17,7 @@ number_bytes Float32 bits = to_be_bytes w32 bits
 number_bytes Float64 bits = to_be_bytes w64 bits
 number_bytes Text bits = []
 
--- the zero bytes after so many, up to a multiple of four
+-- the zero bytes after n bytes, up to a multiple of four
 abbrev pub zeros_after : ℕ → List ℕ
 zeros_after n = replicate (padded_len n - n) 0
 
@@ -86,7 +86,7 @@ element_len Float32 = 4
 element_len Float64 = 8
 element_len Text = 0
 
--- how many bytes so many elements take, with zero bytes up to a multiple of four
+-- how many bytes n elements take, with zero bytes up to a multiple of four
 unfoldable pub elements_len : DapKind → ℕ → ℕ
 elements_len kind n = padded_len (n * element_len kind)
 

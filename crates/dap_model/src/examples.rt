@@ -3,7 +3,7 @@ ghost use Rattle.std.specs.Prelude.{◌≡◌, [], ◌∷◌, ◌++◌, codes, s
 ghost use Rattle.dap_model.specs.Box.{box_of, index_at, slab_indices, whole_slab};
 ghost use Rattle.dap_model.specs.ConstraintReading.{constraint_of};
 ghost use Rattle.dap_model.specs.Example.{array, at, coordinate, dim, example_decls};
-ghost use Rattle.dap_model.specs.Example.{example_sent, t_grid};
+ghost use Rattle.dap_model.specs.Example.{example_sent, t_grid, vector};
 ghost use Rattle.dap_model.specs.StructureText.{dds_of};
 ghost use Rattle.dap_model.specs.Xdr.{array_bytes, number_bytes, text_bytes, texts_bytes};
 ghost use Rattle.dap_model.specs.Xdr.{values_at, xdr_of};
@@ -120,6 +120,27 @@ pub fn structure_text()
         ++ codes "} gfs_best.ncd;\n" }
 {}
 
+/// The word of each kind, and a single value, which has no dimension.
+pub fn structure_text_of_each_kind()
+    ensures { dds_of (codes "each") (Decl.Plain (vector DapKind.Byte (codes "b"))
+        ∷ Decl.Plain (vector DapKind.Int16 (codes "s"))
+        ∷ Decl.Plain (vector DapKind.Int32 (codes "i"))
+        ∷ Decl.Plain (vector DapKind.Float32 (codes "f"))
+        ∷ Decl.Plain (vector DapKind.Float64 (codes "d"))
+        ∷ Decl.Plain (vector DapKind.Text (codes "w"))
+        ∷ Decl.Plain (array DapKind.Int16 (codes "alone") [])
+        ∷ [])
+        ≡ codes "Dataset {\n"
+        ++ codes "    Byte b[x = 10];\n"
+        ++ codes "    Int16 s[x = 10];\n"
+        ++ codes "    Int32 i[x = 10];\n"
+        ++ codes "    Float32 f[x = 10];\n"
+        ++ codes "    Float64 d[x = 10];\n"
+        ++ codes "    String w[x = 10];\n"
+        ++ codes "    Int16 alone;\n"
+        ++ codes "} each;\n" }
+{}
+
 /// A part of a Grid is sent in a Structure.
 pub fn structure_text_of_a_member()
     ensures { dds_of (codes "gfs_best.ncd") (Decl.Structure (codes "t")
@@ -172,16 +193,22 @@ pub fn projection_faults()
         ≡ Err (ProjectFault.NoSuchVariable (codes "time.time")) }
     ensures rank { example_sent (codes "t[0][0]")
         ≡ Err (ProjectFault.SlabRank (codes "t") 2 3) }
+    ensures rank_of_a_map { example_sent (codes "t.lat[0][0]")
+        ≡ Err (ProjectFault.SlabRank (codes "t.lat") 2 1) }
     ensures past_the_end { example_sent (codes "time[0:2:3]")
         ≡ Err (ProjectFault.SlabRange (codes "time") 0 3) }
     ensures turned { example_sent (codes "time[1:0]")
         ≡ Err (ProjectFault.SlabRange (codes "time") 0 3) }
     ensures no_stride { example_sent (codes "time[0:0:1]")
         ≡ Err (ProjectFault.SlabRange (codes "time") 0 3) }
+    ensures second_slab { example_sent (codes "t[0][2][9]")
+        ≡ Err (ProjectFault.SlabRange (codes "t") 1 2) }
     ensures range_in_a_map { example_sent (codes "lat,t.lon[2]")
         ≡ Err (ProjectFault.SlabRange (codes "t.lon") 0 2) }
     ensures conflict { example_sent (codes "t[0][0][0],t")
         ≡ Err (ProjectFault.SlabConflict (codes "t")) }
     ensures conflict_in_a_map { example_sent (codes "t.lat[1],t")
+        ≡ Err (ProjectFault.SlabConflict (codes "t")) }
+    ensures conflict_on_a_map { example_sent (codes "t,t.lat[1]")
         ≡ Err (ProjectFault.SlabConflict (codes "t")) }
 {}

@@ -2,5 +2,6 @@
 
 pub mod boxes;
 pub mod constraints;
+pub mod faults;
 pub mod projections;
 pub mod values;

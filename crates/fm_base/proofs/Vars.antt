@@ -8,11 +8,12 @@ use Rattle.fm_base.specs.Format.{ATTRIBUTE_TAG, MAX_RANK, has_name}
 use Rattle.fm_base.specs.Reading.{field, name_at, kind_at, items_from, list_at, attr_at, rank_at, dim_id_at, begin_at, var_at}
 use Rattle.fm_base.specs.Spelling.{SpellsWord, SpellsCount, SpellsName, SpellsKind, SpellsList, SpellsAttr, SpellsBegin, SpellsVar, Spelled, IsSoundVar}
 use Rattle.fm_base.proofs.Distinct.{IsFresh, AreDistinct-from_fresh, fresh-from_AreDistinct}
-use Rattle.fm_base.proofs.Exact.{onto, Exact, Then, Such, Exact-then, Exact-as}
+use Rattle.fm_base.proofs.Exact.{onto, Then, Such}
 use Rattle.fm_base.proofs.Fields.{Exact-name_at, Exact-kind_at}
 use Rattle.fm_base.proofs.Lists.{EachFrom}
 use Rattle.fm_base.proofs.Parts.{name_of_attr, AreIds, Exact-attrs_at, Exact-rank_at, Exact-dim_ids, Exact-begin_at}
-use Rattle.fm_base.proofs.Steps.{Through, IsField, Exact-field, Exact-test, Tests-pure}
+use Rattle.fm_base.proofs.Steps.{Through, IsField, Exact-field, Tests-pure, ExactBytes, ExactBytes-then, ExactBytes-as, ExactBytes-test}
+use Rattle.fm_base.specs.Parser.{known}
 
 abbrev pub name_of_var : NcVar → List ℕ
 name_of_var var = var.name
@@ -21,7 +22,7 @@ name_of_var var = var.name
 abbrev pub VarAfter : List Dim → List NcVar → NcVar → Type 0
 VarAfter dims found var = IsFresh name_of_var found var × IsSoundVar dims var
 
-abbrev var_of : List ℕ → List ℕ → List Attr → Kind → ℕ → NcVar
+abbrev pub var_of : List ℕ → List ℕ → List Attr → Kind → ℕ → NcVar
 var_of name ids attrs kind begin = record { name = name; dims = ids; attrs = attrs; kind = kind; begin = begin }
 
 abbrev VarAsRead : ℕ → List Dim → List NcVar → List ℕ → NcVar → Type 0
@@ -34,7 +35,8 @@ VarAsRead version dims found =
     (λ kind. Then (IsField 4)
     (λ size. Through (SpellsBegin version) (λ begin var. var_of name ids attrs kind begin ≡ var)))))))
 
-var_spelled : (version : ℕ) (dims : List Dim) (found : List NcVar) (text : List ℕ) (var : NcVar) → VarAsRead version dims found text var
+var_spelled : (version : ℕ) (dims : List Dim) (found : List NcVar) (text : List ℕ) (var : NcVar)
+    → VarAsRead version dims found text var
     → Such (SpellsVar version) (VarAfter dims found) text var
 var_spelled version dims found text var s =
     let ranked = s.second in
@@ -60,7 +62,8 @@ var_spelled version dims found text var s =
         size = ap length sized.first.text_is ∙ sized.first.size;
         begin = begun.spelled;
         text_is = simp append_assoc (s.text_is ∙ onto s.front (ranked.text_is ∙ onto ranked.front (listed.text_is
-            ∙ onto listed.front (noted.text_is ∙ onto noted.front (sorted.text_is ∙ onto sorted.front sized.text_is)))));
+            ∙ onto listed.front (noted.text_is
+            ∙ onto noted.front (sorted.text_is ∙ onto sorted.front sized.text_is)))));
       };
       holds = (
         s.first.holds,
@@ -120,15 +123,19 @@ var_read version dims found text var s = let t = s.spelled in let sound = s.hold
 }
 
 pub Exact-var_at : (version : ℕ) → (version ≡ 1) ⊎ (version ≡ 2) → (dims : List Dim) (found : List NcVar)
-    → Exact (Such (SpellsVar version) (VarAfter dims found)) (var_at version dims found)
+    → ExactBytes (Such (SpellsVar version) (VarAfter dims found)) (var_at version dims found)
 unfolding var_at
-Exact-var_at version known dims found = Exact-as (VarAsRead version dims found) (Such (SpellsVar version) (VarAfter dims found)) (var_at version dims found)
+Exact-var_at version known dims found =
+    ExactBytes-as (VarAsRead version dims found) (Such (SpellsVar version) (VarAfter dims found))
+    (var_at version dims found)
     (λ text var fits s. var_spelled version dims found text var s)
     (var_read version dims found)
-    (Exact-then (Such SpellsName (λ name. has_name (map name_of_var found) name ≡ false)) _ (name_at (map name_of_var found)) _ (Exact-name_at (map name_of_var found))
-    (λ name front first. Exact-then _ _ rank_at _ Exact-rank_at
-    (λ rank front first. Exact-then _ _ (items_from (dim_id_at dims) rank []) _ (Exact-dim_ids dims rank)
-    (λ ids front first. Exact-then _ _ (list_at ATTRIBUTE_TAG attr_at) _ Exact-attrs_at
-    (λ attrs front first. Exact-then SpellsKind _ kind_at _ Exact-kind_at
-    (λ kind front first. Exact-then (IsField 4) _ (field 4) _ (Exact-field 4)
-    (λ size front first. Exact-test _ _ (begin_at version) _ (Exact-begin_at version known) (Tests-pure (var_of name ids attrs kind)))))))))
+    (ExactBytes-then (Such SpellsName (λ name. has_name (map name_of_var found) name ≡ false)) _
+    (name_at (map name_of_var found)) _ (Exact-name_at (map name_of_var found))
+    (λ name front first. ExactBytes-then _ _ rank_at _ Exact-rank_at
+    (λ rank front first. ExactBytes-then _ _ (items_from (dim_id_at dims) rank []) _ (Exact-dim_ids dims rank)
+    (λ ids front first. ExactBytes-then _ _ (list_at ATTRIBUTE_TAG attr_at) _ Exact-attrs_at
+    (λ attrs front first. ExactBytes-then SpellsKind _ kind_at _ Exact-kind_at
+    (λ kind front first. ExactBytes-then (IsField 4) _ (field 4) _ (Exact-field 4)
+    (λ size front first. ExactBytes-test _ _ (begin_at version) _ (Exact-begin_at version known)
+    (Tests-pure (var_of name ids attrs kind)))))))))

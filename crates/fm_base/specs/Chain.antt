@@ -1,7 +1,7 @@
 -- Steps one after the other: each is taken where those before it have no fault, and the first fault stands.
 use Rattle.std.specs.Prelude.{Bool, Option, Some, None, Result, Ok, Err, if◌then◌else◌}
 
--- a step that decides whether there is a fault, and gives nothing else
+-- a step that only decides whether there is a fault
 abbrev pub Check : Type 0 → Type 0
 Check E = Result (Unit {0}) E
 

@@ -44,9 +44,9 @@ unfoldable pub has_name : List (List ℕ) → List ℕ → Bool
 has_name names name = list_any (λ other. bytes_eq other name) names
 
 -- the record dimension is the one of size 0
-abbrev pub is_record : Dim → Bool
-is_record dim = dim.size == 0
+abbrev pub is_record_dim : Dim → Bool
+is_record_dim dim = dim.size == 0
 
 -- whether the record dimension is among these
-unfoldable pub has_record : List Dim → Bool
-has_record dims = list_any is_record dims
+unfoldable pub has_record_dim : List Dim → Bool
+has_record_dim dims = list_any is_record_dim dims

@@ -9,7 +9,8 @@ pub record Input : Type 0 where
 
 -- an input is stored as the pair of its fields
 abbrev pub input_code : Coded Input
-input_code = code_by (ℕ × List ℕ) (coded× coded_ℕ (coded_list coded_ℕ)) (λ i. (i.at, i.rest)) (λ p. record { at = p.0; rest = p.1 }) (λ _. refl)
+input_code = code_by (ℕ × List ℕ) (coded× coded_ℕ (coded_list coded_ℕ)) (λ i. (i.at, i.rest))
+    (λ p. record { at = p.0; rest = p.1 }) (λ _. refl)
 
 -- all of the bytes, from place 0
 abbrev pub whole : List ℕ → Input

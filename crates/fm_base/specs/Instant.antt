@@ -11,13 +11,16 @@ instant_form = codes "0000-00-00T00:00:00Z"
 
 -- the Unix seconds of the instant that a text writes
 unfoldable pub instant_of : List ℕ → Option ℤ
-instant_of text = if begins_in_form instant_form text && length text == 20 then moment_of (number_at text 0 4) (number_at text 5 2) (number_at text 8 2) (number_at text 11 2) (number_at text 14 2) (number_at text 17 2) else None
+instant_of text = if begins_in_form instant_form text && length text == 20
+    then moment_of (number_at text 0 4) (number_at text 5 2) (number_at text 8 2)
+    (number_at text 11 2) (number_at text 14 2) (number_at text 17 2)
+    else None
 
 -- the instants of the years 0 to 9999
 abbrev pub HasFourDigitYear : ℤ → Type 0
 HasFourDigitYear instant = IsBetween (neg_ℤ (pos 62_167_219_200)) (pos 253_402_300_799) instant
 
--- the greatest number that passes, up to so many, and 0 where none does
+-- the greatest number that passes up to this one, and 0 where none does
 abbrev pub last_passing : (ℕ → Bool) → ℕ → ℕ
 last_passing test zero = 0
 last_passing test (suc n) = if test (suc n) then suc n else last_passing test n
@@ -44,12 +47,16 @@ four_digits n = two_digits (n / 100) ++ two_digits n
 
 -- the text of a date and a time
 abbrev pub spelled_instant : ℕ → ℕ → ℕ → ℕ → ℕ → ℕ → List ℕ
-spelled_instant year month day hour minute second = four_digits year ++ codes "-" ++ two_digits month ++ codes "-" ++ two_digits day ++ codes "T" ++ two_digits hour ++ codes ":" ++ two_digits minute ++ codes ":" ++ two_digits second ++ codes "Z"
+spelled_instant year month day hour minute second =
+    four_digits year ++ codes "-" ++ two_digits month ++ codes "-" ++ two_digits day ++ codes "T" ++ two_digits hour
+    ++ codes ":" ++ two_digits minute ++ codes ":" ++ two_digits second ++ codes "Z"
 
 -- the text of an instant, by its day and the seconds from the midnight that begins it
 unfoldable pub text_of_day : ℤ → ℕ → List ℕ
-text_of_day day seconds = spelled_instant (year_of day) (month_of day) (day_of day) (seconds / 3600) (seconds / 60 % 60) (seconds % 60)
+text_of_day day seconds = spelled_instant (year_of day) (month_of day) (day_of day) (seconds / 3600) (seconds / 60 % 60)
+    (seconds % 60)
 
 -- the text of an instant of the years 0 to 9999
 unfoldable pub instant_text_of : ℤ → List ℕ
-instant_text_of instant = text_of_day (int_div_euclid instant (pos 86_400)) (unsigned_abs (int_rem_euclid instant (pos 86_400)))
+instant_text_of instant = text_of_day (int_div_euclid instant (pos 86_400))
+    (unsigned_abs (int_rem_euclid instant (pos 86_400)))

@@ -2,6 +2,7 @@ pub mod Answer
 pub mod Calendar
 pub mod Chain
 pub mod Code
+pub mod FaultPlaces
 pub mod Field
 pub mod Format
 pub mod Input
@@ -9,8 +10,10 @@ pub mod Instant
 pub mod Kind
 pub mod Layout
 pub mod Name
+pub mod Parser
 pub mod Pattern
 pub mod Reading
+pub mod Sound
 pub mod Spelling
 pub mod Stamp
 pub mod Units

@@ -27,7 +27,8 @@ width_of kinds.Double = w64
 abbrev pub pattern_of_bytes : Kind → List ℕ → Option Pattern
 pattern_of_bytes kinds.Char bytes = None
 pattern_of_bytes kind bytes =
-    if length bytes == size_of kind then Some (record { kind = kind; bits = from_be_bytes (width_of kind) bytes }) else None
+    if length bytes == size_of kind then Some (record { kind = kind; bits = from_be_bytes (width_of kind) bytes })
+    else None
 
 -- n * 2^e with a sign, written with an odd number, or with 0 and the exponent 0
 unfoldable pub finite : Bool → ℕ → ℤ → Value
@@ -95,17 +96,17 @@ whole_part n (negsuc e) = if n % 2 ^ suc e == 0 then Some (n / 2 ^ suc e) else N
 abbrev pub in_i64 : Bool → ℕ → Option ℤ
 in_i64 negative n = if nat_lt (if negative then 2 ^ 63 else 2 ^ 63 - 1) n then None else Some (with_sign negative n)
 
--- the value times so many, where that is a whole number and fits 64 bits
+-- the value times this number, where that is a whole number and fits 64 bits
 abbrev pub whole_times : Value → ℕ → Option ℤ
 whole_times (Finite negative odd exponent) per = option_and_then (in_i64 negative) (whole_part (odd * per) exponent)
 whole_times (Infinite negative) per = None
 whole_times NotANumber per = None
 
--- a time in units of so many seconds, in seconds
+-- a time in units of `per` seconds, in seconds
 abbrev pub whole_seconds_of : Pattern → ℕ → Option ℤ
 whole_seconds_of p per = whole_times (pattern_value p) per
 
--- z is the value times so many
+-- z is the value times this number
 abbrev pub IsTimes : Value → ℕ → ℤ → Type 0
 IsTimes (Finite negative odd (pos e)) per z = z ≡ with_sign negative (odd * 2 ^ e * per)
 IsTimes (Finite negative odd (negsuc e)) per z = z *ℤ pos (2 ^ suc e) ≡ with_sign negative (odd * per)

@@ -9,7 +9,7 @@ use Rattle.fm_base.specs.declared.header.Dim.{Dim}
 use Rattle.fm_base.specs.declared.header.Header.{Header}
 use Rattle.fm_base.specs.declared.header.NcVar.{NcVar}
 use Rattle.fm_base.specs.declared.kind.Kind.{Kind}
-use Rattle.fm_base.specs.Format.{padded_len, DIMENSION_TAG, VARIABLE_TAG, ATTRIBUTE_TAG, MAX_RANK, is_name_text, is_record}
+use Rattle.fm_base.specs.Format.{padded_len, DIMENSION_TAG, VARIABLE_TAG, ATTRIBUTE_TAG, MAX_RANK, is_name_text, is_record_dim}
 use Rattle.fm_base.specs.Kind.{size_of, code_of}
 
 -- a number of four bytes, the most significant first
@@ -44,7 +44,8 @@ pub record SpellsName (text name : List ℕ) : Type 0 where
 -- items one after the other
 abbrev pub Spelled : {A : Type 0} → (List ℕ → A → Type 0) → List ℕ → List A → Type 0
 Spelled S text [] = text ≡ []
-Spelled S text (item ∷ items) = (first : List ℕ) × (others : List ℕ) × S first item × Spelled S others items × (text ≡ first ++ others)
+Spelled S text (item ∷ items) = (first : List ℕ) × (others : List ℕ) × S first item × Spelled S others items
+    × (text ≡ first ++ others)
 
 -- the tag of a list, the number of its items, and the items
 pub record SpellsTagged {A : Type 0} (tag : ℕ) (S : List ℕ → A → Type 0) (text : List ℕ) (items : List A) : Type 0 where
@@ -87,7 +88,8 @@ pub record SpellsAttr (text : List ℕ) (attr : Attr) : Type 0 where
 
 -- the place of a variable's data: four bytes in version 1, eight in version 2
 abbrev pub SpellsBegin : ℕ → List ℕ → ℕ → Type 0
-SpellsBegin version text begin = ((version ≡ 1) × (begin < 2 ^ 32) × (text ≡ to_be_bytes w32 begin)) ⊎ ((version ≡ 2) × (begin < 2 ^ 64) × (text ≡ to_be_bytes w64 begin))
+SpellsBegin version text begin = ((version ≡ 1) × (begin < 2 ^ 32) × (text ≡ to_be_bytes w32 begin))
+    ⊎ ((version ≡ 2) × (begin < 2 ^ 64) × (text ≡ to_be_bytes w64 begin))
 
 -- a variable: its name, its rank, the numbers of its dimensions, its attributes, its kind, a size of four bytes that
 -- nothing is compared with (vsize), and the place of its data
@@ -127,7 +129,7 @@ AreDistinct names = IsDistinct bytes_eq names
 
 -- the dimension of this number isn't the record dimension
 abbrev pub NamesNoRecord : List Dim → ℕ → Type 0
-NamesNoRecord dims id = IfSome (slice_get dims id) (λ dim. is_record dim ≡ false)
+NamesNoRecord dims id = IfSome (slice_get dims id) (λ dim. is_record_dim dim ≡ false)
 
 -- a variable of a file with these dimensions is sound: its rank is within the limit, its dimensions are there, the
 -- record dimension stands first or not at all, and its attributes have different names
@@ -140,7 +142,7 @@ pub record IsSoundVar (dims : List Dim) (var : NcVar) : Type 0 where
 -- a header is sound: names differ within each list, there is at most one record dimension, the variables are sound
 pub record IsSound (header : Header) : Type 0 where
   pub dims : AreDistinct (map (λ (d : Dim). d.name) header.dims)
-  pub one_record : count_by is_record header.dims ≤ 1
+  pub one_record : count_by is_record_dim header.dims ≤ 1
   pub attrs : AreDistinct (map (λ (a : Attr). a.name) header.attrs)
   pub vars : AreDistinct (map (λ (v : NcVar). v.name) header.vars)
   pub each : AllByRecursion (IsSoundVar header.dims) header.vars

@@ -23,7 +23,7 @@ begins_in_form [] text = true
 begins_in_form (sample ∷ form) [] = false
 begins_in_form (sample ∷ form) (byte ∷ text) = is_like sample byte && begins_in_form form text
 
--- the number that so many digits write from a place on
+-- the number that `count` digits write from an offset on
 unfoldable pub number_at : List ℕ → ℕ → ℕ → ℕ
 number_at text from count = number_of (take count (drop from text))
 
@@ -33,7 +33,10 @@ stamp_form = codes "00000000_0000"
 
 -- the Unix seconds of the moment, in UTC, whose `yyyyMMdd_HHmm` a text begins with
 unfoldable pub stamp_of : List ℕ → Option ℤ
-stamp_of text = if begins_in_form stamp_form text then moment_of (number_at text 0 4) (number_at text 4 2) (number_at text 6 2) (number_at text 9 2) (number_at text 11 2) 0 else None
+stamp_of text = if begins_in_form stamp_form text
+    then moment_of (number_at text 0 4) (number_at text 4 2) (number_at text 6 2)
+    (number_at text 9 2) (number_at text 11 2) 0
+    else None
 
 -- the Unix seconds of the moment whose `yyyyMMdd_HHmm` follows this prefix of a name
 unfoldable pub mark_of : List ℕ → List ℕ → Option ℤ

@@ -1,53 +1,64 @@
--- The place at which a text of units goes wrong, told by the texts that spell units.
-use Rattle.std.specs.Prelude.{◌≡◌, ◌⊎◌, ℕ, suc, ◌+◌, ◌<◌, ◌≤◌, List, [], ◌∷◌, length, take, drop, slice_get, Bool, true, false, IsTrue}
+-- The place at which a text of units goes wrong, stated by the texts that spell units.
+use Rattle.std.specs.Prelude.{◌≡◌, ◌⊎◌, ℕ, suc, ◌+◌, ◌<◌, ◌≤◌, List, ◌++◌, length, take, drop, replicate, slice_get, Bool, false, IsTrue, None}
 use Rattle.std.specs.Char.{is_ascii_alphabetic, is_ascii_digit}
 use Rattle.std.specs.List.{list_all}
 use Rattle.std.specs.Option.{option_map_or}
-use Rattle.fm_base.specs.UnitsReading.{Written}
+use Rattle.fm_base.specs.UnitsReading.{Written, seconds_per}
 use Rattle.fm_base.specs.UnitsSpelling.{SpellsUnits}
 
--- two bytes are the same, or both are digits
-abbrev pub IsAlike : ℕ → ℕ → Type 0
-IsAlike byte other = (byte ≡ other) ⊎ (IsTrue (is_ascii_digit byte) × IsTrue (is_ascii_digit other))
+-- the first byte isn't of this kind, or there is none
+abbrev pub EndsRun : (ℕ → Bool) → List ℕ → Type 0
+EndsRun test text = option_map_or test (slice_get text 0) false ≡ false
 
--- two texts differ at most in which digits stand in them
-abbrev pub AreAlike : List ℕ → List ℕ → Type 0
-AreAlike [] [] = Unit {0}
-AreAlike (byte ∷ text) (other ∷ others) = IsAlike byte other × AreAlike text others
-AreAlike text others = ⊥
+-- The second text goes on from the first. Where the first ends in digits, zeros may stand before them in the second:
+-- `+1:06` goes on from `+1:6`.
+pub record GoesOn (text other : List ℕ) : Type 0 where
+  pub front : List ℕ
+  pub zeros : ℕ
+  pub digits : List ℕ
+  pub more : List ℕ
+  pub all_digits : IsTrue (list_all is_ascii_digit digits)
+  pub text_is : text ≡ front ++ digits
+  pub other_is : other ≡ front ++ (replicate zeros 48 ++ (digits ++ more))
 
--- some text of units begins with the first so many bytes of this one, but for which digits stand in them
+-- some text of units goes on from the first `count` bytes of this text
 pub record IsBegun (count : ℕ) (text : List ℕ) : Type 0 where
   pub other : List ℕ
   pub units : Written
   pub within : count ≤ length text
   pub spelled : SpellsUnits other units
-  pub alike : AreAlike (take count text) (take count other)
+  pub goes_on : GoesOn (take count text) other
 
--- no text of units begins with the first so many bytes of this one, or with all of it where it ends before
+-- no text of units begins with the first `count` bytes of this text; where it has fewer, it isn't one itself
 abbrev pub GoesNowhere : ℕ → List ℕ → Type 0
-GoesNowhere count text = (other : List ℕ) (units : Written) → SpellsUnits other units → take count other ≡ take count text → ⊥
+GoesNowhere count text =
+    (other : List ℕ) (units : Written) → SpellsUnits other units → take count other ≡ take count text → ⊥
 
--- letters, or digits
-abbrev pub is_of_run : Bool → ℕ → Bool
-is_of_run true = is_ascii_alphabetic
-is_of_run false = is_ascii_digit
+-- Only spaces stand before this place, and a word from there on. The word is whole, and names no unit.
+pub record IsWrongUnit (place : ℕ) (text : List ℕ) : Type 0 where
+  pub word : List ℕ
+  pub more : List ℕ
+  pub some : 0 < length word
+  pub letters : IsTrue (list_all is_ascii_alphabetic word)
+  pub ends : EndsRun is_ascii_alphabetic more
+  pub unknown : seconds_per word ≡ None
+  pub text_is : text ≡ replicate place 32 ++ (word ++ more)
 
--- no byte that passes stands in front
-abbrev pub EndsRun : (ℕ → Bool) → List ℕ → Type 0
-EndsRun test rest = option_map_or test (slice_get rest 0) false ≡ false
-
--- a word or a number stands at this place that no text of units has there
-pub record IsWrongRun (place : ℕ) (text : List ℕ) : Type 0 where
-  pub is_word : Bool
+-- Digits stand at this place that no text of units has there, whatever follows them. Where they end in this text, only
+-- texts count in which they end too.
+pub record IsWrongNumber (place : ℕ) (text : List ℕ) : Type 0 where
   pub count : ℕ
   pub some : 0 < count
   pub within : place + count ≤ length text
-  pub run : IsTrue (list_all (is_of_run is_word) (take count (drop place text)))
-  pub nowhere : (other : List ℕ) (units : Written) → SpellsUnits other units → take (place + count) other ≡ take (place + count) text → EndsRun (is_of_run is_word) (drop (place + count) other) → ⊥
+  pub digits : IsTrue (list_all is_ascii_digit (take count (drop place text)))
+  pub nowhere : (other : List ℕ) (units : Written) → SpellsUnits other units
+      → take (place + count) other ≡ take (place + count) text
+      → (EndsRun is_ascii_digit (drop (place + count) text) → EndsRun is_ascii_digit (drop (place + count) other)) → ⊥
 
--- a text goes wrong at this place: what stands before it begins some text of units, and with the byte there, or the
--- end of the text, or the word or number that stands there, no text of units goes on
+-- A text goes wrong at this place. Some text of units goes on from what stands before it. From there on, no text of
+-- units has the byte, or the end, that this text has; or a word is no unit, or a number is out of its range. No word
+-- before the place is an unknown unit.
 pub record GoesWrong (place : ℕ) (text : List ℕ) : Type 0 where
   pub begun : IsBegun place text
-  pub wrong : GoesNowhere (suc place) text ⊎ IsWrongRun place text
+  pub wrong : GoesNowhere (suc place) text ⊎ (IsWrongUnit place text ⊎ IsWrongNumber place text)
+  pub known : (before : ℕ) → before < place → ¬ IsWrongUnit before text

@@ -28,7 +28,7 @@ abbrev pub IsWord : List ℕ → List ℕ → Type 0
 IsWord word text = IsTrue (is_same_word text word)
 
 -- a number from `low` to `high` of at least `fewest` and at most `most` digits
-pub record SpellsNumber (fewest most low high : ℕ) (text : List ℕ) (number : ℕ) : Type 0 where
+pub record SpellsNumberWithin (fewest most low high : ℕ) (text : List ℕ) (number : ℕ) : Type 0 where
   pub digits : IsTrue (list_all is_ascii_digit text)
   pub enough : fewest ≤ length text
   pub few : length text ≤ most
@@ -36,7 +36,7 @@ pub record SpellsNumber (fewest most low high : ℕ) (text : List ℕ) (number :
   pub low_is : low ≤ number
   pub high_is : number ≤ high
 
--- the word of a unit of so many seconds
+-- the word of a unit of this many seconds
 pub record SpellsUnit (text : List ℕ) (seconds : ℕ) : Type 0 where
   pub letters : IsTrue (list_all is_ascii_alphabetic text)
   pub unit : seconds_per text ≡ Some seconds
@@ -49,9 +49,9 @@ pub record SpellsDate (text : List ℕ) (day : ℤ) : Type 0 where
   pub year : ℕ
   pub month : ℕ
   pub day_of_month : ℕ
-  pub year_is : SpellsNumber 1 4 0 9999 year_text year
-  pub month_is : SpellsNumber 1 2 1 12 month_text month
-  pub day_is : SpellsNumber 1 2 0 99 day_text day_of_month
+  pub year_is : SpellsNumberWithin 1 4 0 9999 year_text year
+  pub month_is : SpellsNumberWithin 1 2 1 12 month_text month
+  pub day_is : SpellsNumberWithin 1 2 0 99 day_text day_of_month
   pub number : day_number year month day_of_month ≡ Some day
   pub text_is : text ≡ joined (year_text ∷ codes "-" ∷ month_text ∷ codes "-" ∷ day_text ∷ [])
 
@@ -63,7 +63,7 @@ SpellsFraction text = (text ≡ []) ⊎ ((more : ℕ) × (text ≡ 46 ∷ replic
 pub record SpellsGivenSecond (text : List ℕ) (second : ℕ) : Type 0 where
   pub second_text : List ℕ
   pub fraction_text : List ℕ
-  pub second_is : SpellsNumber 1 2 0 59 second_text second
+  pub second_is : SpellsNumberWithin 1 2 0 59 second_text second
   pub fraction : SpellsFraction fraction_text
   pub text_is : text ≡ joined (codes ":" ∷ second_text ∷ fraction_text ∷ [])
 
@@ -79,8 +79,8 @@ pub record SpellsTime (text : List ℕ) (seconds : ℕ) : Type 0 where
   pub hour : ℕ
   pub minute : ℕ
   pub second : ℕ
-  pub hour_is : SpellsNumber 1 2 0 23 hour_text hour
-  pub minute_is : SpellsNumber 1 2 0 59 minute_text minute
+  pub hour_is : SpellsNumberWithin 1 2 0 23 hour_text hour
+  pub minute_is : SpellsNumberWithin 1 2 0 59 minute_text minute
   pub second_is : SpellsSecond second_text second
   pub seconds_is : time_seconds hour minute second ≡ seconds
   pub text_is : text ≡ joined (hour_text ∷ codes ":" ∷ minute_text ∷ second_text ∷ [])
@@ -88,7 +88,7 @@ pub record SpellsTime (text : List ℕ) (seconds : ℕ) : Type 0 where
 -- the minutes of a zone after their colon, of two digits
 pub record SpellsGivenZoneMinute (text : List ℕ) (minute : ℕ) : Type 0 where
   pub minute_text : List ℕ
-  pub minute_is : SpellsNumber 2 2 0 59 minute_text minute
+  pub minute_is : SpellsNumberWithin 2 2 0 59 minute_text minute
   pub text_is : text ≡ joined (codes ":" ∷ minute_text ∷ [])
 
 -- the minutes of a zone, 0 where they are left out
@@ -101,7 +101,7 @@ pub record SpellsDistance (text : List ℕ) (seconds : ℕ) : Type 0 where
   pub minute_text : List ℕ
   pub hour : ℕ
   pub minute : ℕ
-  pub hour_is : SpellsNumber 1 2 0 23 hour_text hour
+  pub hour_is : SpellsNumberWithin 1 2 0 23 hour_text hour
   pub minute_is : SpellsZoneMinute minute_text minute
   pub seconds_is : time_seconds hour minute 0 ≡ seconds
   pub text_is : text ≡ joined (hour_text ∷ minute_text ∷ [])

@@ -1,6 +1,7 @@
 //! What can be wrong with a netCDF classic file.
 ghost use Rattle.std.specs.Prelude.{◌≡◌};
-ghost use Rattle.fm_base.specs.Code.{header_code, layout_code};
+ghost use Rattle.fm_base.specs.Code.{header_fault_code, layout_fault_code};
+ghost use Rattle.fm_base.specs.Sound.{format_fault_code};
 
 /// The first fault of a header, with the place of the first byte of the field at fault, counted from 0.
 #[derive(Clone, Copy, Debug, PartialEq, Eq)]
@@ -34,7 +35,7 @@ pub enum HeaderFault {
 impl HeaderFault {
     /// The number by which the fault is reported.
     pub fn code(self) -> u16
-        ensures { result ≡ header_code self }
+        ensures { result ≡ header_fault_code self }
     {
         match self {
             HeaderFault::BadMagic => 1,
@@ -65,11 +66,30 @@ pub enum LayoutFault {
 impl LayoutFault {
     /// The number by which the fault is reported.
     pub fn code(self) -> u16
-        ensures { result ≡ layout_code self }
+        ensures { result ≡ layout_fault_code self }
     {
         match self {
             LayoutFault::TooLarge(_) => 13,
             LayoutFault::DataOutside { .. } => 14,
+        }
+    }
+}
+
+/// What is wrong with a file: its header, or where its data lies.
+#[derive(Clone, Copy, Debug, PartialEq, Eq)]
+pub enum FormatFault {
+    OfHeader(HeaderFault),
+    OfLayout(LayoutFault),
+}
+
+impl FormatFault {
+    /// The number by which the fault is reported.
+    pub fn code(self) -> u16
+        ensures { result ≡ format_fault_code self }
+    {
+        match self {
+            FormatFault::OfHeader(fault) => fault.code(),
+            FormatFault::OfLayout(fault) => fault.code(),
         }
     }
 }

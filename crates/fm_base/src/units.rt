@@ -1,6 +1,6 @@
 //! Units of time, and what is wrong with a text that should name them.
 ghost use Rattle.std.specs.Prelude.{◌≡◌};
-ghost use Rattle.fm_base.specs.Code.{units_code};
+ghost use Rattle.fm_base.specs.Code.{units_fault_code};
 
 /// A number `x` in these units stands for the moment `origin + per * x`, in Unix seconds.
 #[derive(Clone, Copy, Debug, PartialEq, Eq)]
@@ -23,7 +23,7 @@ pub enum UnitsFault {
 impl UnitsFault {
     /// The number by which the fault is reported.
     pub fn code(self) -> u16
-        ensures { result ≡ units_code self }
+        ensures { result ≡ units_fault_code self }
     {
         match self {
             UnitsFault::BadUnits(_) => 15,

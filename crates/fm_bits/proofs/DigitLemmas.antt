@@ -1,4 +1,4 @@
--- Digits tell the number, and where digits end is told by the first byte that is none.
+-- Numbers with the same digits are the same, and digits end at the first byte that is none.
 use Rattle.std.proofs.Common.{inl, ◌⊎◌, ◌≡◌, ℕ, zero, suc, ◌+◌, ◌*◌, ◌/◌, ◌%◌, ◌^◌, ◌<◌, ◌≤◌, ◌==◌, false, List, [], ◌∷◌, ◌++◌, length, sym, ap, ◌∙◌, arith, refl}
 use Rattle.std.specs.Fmt.{digit_glyph, digits, digits_onto, decimal}
 use Rattle.std.proofs.Math.Arith.{mod-mul}
@@ -30,8 +30,8 @@ pub glyph_within : (base d : ℕ) → d < base → base ≤ 16
 glyph_within base d small h = (grind (arith, nat_tests), grind (arith, nat_tests), λ k. grind (arith, nat_tests))
 
 -- digits differ where the numbers do
-pub glyph_tells : (d e : ℕ) → d < 16 → e < 16 → digit_glyph false d ≡ digit_glyph false e → d ≡ e
-glyph_tells d e p q h = grind (arith, nat_tests)
+pub glyph_injective : (d e : ℕ) → d < 16 → e < 16 → digit_glyph false d ≡ digit_glyph false e → d ≡ e
+glyph_injective d e p q h = grind (arith, nat_tests)
 
 -- decimal digits before others
 digits_onto_within : (k n : ℕ) (acc : List ℕ) → Within 48 57 acc → Within 48 57 (digits_onto k 10 false n acc)
@@ -39,15 +39,17 @@ digits_onto_within zero n acc h = h
 digits_onto_within (suc k) n acc h =
     let d = glyph_within 10 (n % 10) (omega arith) (omega arith) in
     let here : Within 48 57 (digit_glyph false (n % 10) ∷ acc) = (d.0, d.2 (omega arith), h) in
-    cond_both (n / 10 == 0) _ _ (Within 48 57) (λ e. here) (λ e. digits_onto_within k (n / 10) (digit_glyph false (n % 10) ∷ acc) here)
+    cond_both (n / 10 == 0) _ _ (Within 48 57) (λ e. here)
+    (λ e. digits_onto_within k (n / 10) (digit_glyph false (n % 10) ∷ acc) here)
 
 pub decimal_within : (n : ℕ) → Within 48 57 (decimal n)
 unfolding digits
 decimal_within n = digits_onto_within 64 n [] tt
 
 -- numbers of the same decimal text are the same
-pub decimal_tells : (m n : ℕ) → m < 10 ^ 64 → n < 10 ^ 64 → decimal m ≡ decimal n → m ≡ n
-decimal_tells m n p q e = sym (decimal_is_IsNumeral_wide m p).1 ∙ ap (digits_value 10) e ∙ (decimal_is_IsNumeral_wide n q).1
+pub decimal_injective : (m n : ℕ) → m < 10 ^ 64 → n < 10 ^ 64 → decimal m ≡ decimal n → m ≡ n
+decimal_injective m n p q e = sym (decimal_is_IsNumeral_wide m p).1 ∙ ap (digits_value 10) e
+    ∙ (decimal_is_IsNumeral_wide n q).1
 
 pub length-fixed_digits : (base k n : ℕ) → length (fixed_digits base k n) ≡ k
 unfolding fixed_digits
@@ -64,43 +66,44 @@ fixed_digits_within base (suc k) n p q =
     Within-push _ _ (fixed_digits base k (n / base)) _ d.0 d.1 (fixed_digits_within base k (n / base) p q)
 
 -- the digits are those of the number without what stands higher
-pub fixed_digits_tell : (base k m n : ℕ) → 2 ≤ base → base ≤ 16 → fixed_digits base k m ≡ fixed_digits base k n
+pub fixed_digits_injective : (base k m n : ℕ) → 2 ≤ base → base ≤ 16 → fixed_digits base k m ≡ fixed_digits base k n
     → m % base ^ k ≡ n % base ^ k
 unfolding fixed_digits
-fixed_digits_tell base zero m n p q e =
+fixed_digits_injective base zero m n p q e =
     let one : (x : ℕ) → x % base ^ 0 ≡ 0 = λ x. ap (λ y. x % y) (pow-zero base) ∙ mod-one x in
     one m ∙ sym (one n)
-fixed_digits_tell base (suc k) m n p q e =
+fixed_digits_injective base (suc k) m n p q e =
     let parts = same_from_push (fixed_digits base k (m / base)) (fixed_digits base k (n / base)) _ _ e in
     let small : (x : ℕ) → x % base < 16 = λ x. omega (arith, mod-lt x {m = base} (omega arith)) in
-    let last : m % base ≡ n % base = glyph_tells _ _ (small m) (small n) parts.1 in
-    let front = fixed_digits_tell base k (m / base) (n / base) p q parts.0 in
+    let last : m % base ≡ n % base = glyph_injective _ _ (small m) (small n) parts.1 in
+    let front = fixed_digits_injective base k (m / base) (n / base) p q parts.0 in
     let some : 0 < base ^ k = one-le-pow k base (omega arith) in
     let split : (x : ℕ) → x % base ^ suc k ≡ (x / base % base ^ k) * base + x % base =
     λ x. ap (λ y. x % y) (pow-suc base k) ∙ mod-mul x some (omega arith) in
     split m ∙ ap (λ y. y * base + m % base) front ∙ ap (λ y. n / base % base ^ k * base + y) last ∙ sym (split n)
 
--- digits followed by bytes that are none are told apart from what follows
-pub cut_tells : (low high : ℕ) (xs ys : List ℕ) (s t : ℕ) (us vs : List ℕ) → Within low high xs → Within low high ys
+-- texts that are the same have the same digits in front, up to the first byte that is none
+pub cut_injective : (low high : ℕ) (xs ys : List ℕ) (s t : ℕ) (us vs : List ℕ) → Within low high xs → Within low high ys
     → (s < low) ⊎ (high < s) → (t < low) ⊎ (high < t) → xs ++ s ∷ us ≡ ys ++ t ∷ vs → (xs ≡ ys) × (s ≡ t) × (us ≡ vs)
-cut_tells low high [] [] s t us vs h i p q e = (refl, cc, cc)
-cut_tells low high [] (y ∷ ys) s t us vs h i p q e = let same : s ≡ y = cc in absurd (omega arith)
-cut_tells low high (x ∷ xs) [] s t us vs h i p q e = let same : x ≡ t = cc in absurd (omega arith)
-cut_tells low high (x ∷ xs) (y ∷ ys) s t us vs h i p q e =
+cut_injective low high [] [] s t us vs h i p q e = (refl, cc, cc)
+cut_injective low high [] (y ∷ ys) s t us vs h i p q e = let same : s ≡ y = cc in absurd (omega arith)
+cut_injective low high (x ∷ xs) [] s t us vs h i p q e = let same : x ≡ t = cc in absurd (omega arith)
+cut_injective low high (x ∷ xs) (y ∷ ys) s t us vs h i p q e =
     let first : x ≡ y = cc in
     let rest : xs ++ s ∷ us ≡ ys ++ t ∷ vs = cc in
-    let others = cut_tells low high xs ys s t us vs h.2 i.2 p q rest in
+    let others = cut_injective low high xs ys s t us vs h.2 i.2 p q rest in
     let front = others.0 in
     (cc, others.1, others.2)
 
 -- the first byte of two texts that are the same
-pub first_tells : (x y : ℕ) (xs ys : List ℕ) → x ∷ xs ≡ y ∷ ys → x ≡ y
-first_tells x y xs ys e = cc
+pub first_injective : (x y : ℕ) (xs ys : List ℕ) → x ∷ xs ≡ y ∷ ys → x ≡ y
+first_injective x y xs ys e = cc
 
 -- decimal digits up to a point
-pub point_tells : (m n : ℕ) (us vs : List ℕ) → decimal m ++ 46 ∷ us ≡ decimal n ++ 46 ∷ vs
+pub point_injective : (m n : ℕ) (us vs : List ℕ) → decimal m ++ 46 ∷ us ≡ decimal n ++ 46 ∷ vs
     → (decimal m ≡ decimal n) × (us ≡ vs)
-point_tells m n us vs e =
+point_injective m n us vs e =
     let below : (46 < 48) ⊎ (57 < 46) = inl (omega arith) in
-    let parts = cut_tells 48 57 (decimal m) (decimal n) 46 46 us vs (decimal_within m) (decimal_within n) below below e in
+    let parts =
+    cut_injective 48 57 (decimal m) (decimal n) 46 46 us vs (decimal_within m) (decimal_within n) below below e in
     (parts.0, parts.2)

@@ -1,4 +1,4 @@
--- The bits of a float give its fields, and its fields give the bits.
+-- The bits of a float are made of its fields, and its fields are those of the bits.
 use Rattle.std.proofs.Common.{◌≡◌, ℕ, ◌+◌, ◌*◌, ◌/◌, ◌^◌, ◌%◌, ◌<◌, inl, inr, Bool, true, false, nat_le, sym, ap, ◌∙◌, arith}
 use Rattle.std.proofs.Math.Nat.{div-eq_of_lt, div-eq_of_lt-le, div-div-eq-div-mul, mod-add-div', mul_comm}
 use Rattle.std.proofs.lemmas.Bool.{le-leb, lt-leb, cases_lt, cond-true, cond-false}
@@ -24,7 +24,8 @@ float_value-bits_of_fields w f false b x p q =
     let n = 0 + b * 2 ^ f + x in
     let rows : n ≡ (0 * 2 ^ w + b) * 2 ^ f + x = omega arith in
     let high : n / 2 ^ f ≡ 0 * 2 ^ w + b = ap (λ y. y / 2 ^ f) rows ∙ div-mul-add (0 * 2 ^ w + b) (2 ^ f) x q in
-    let sign : nat_le (2 ^ (w + f)) n ≡ false = lt-leb (2 ^ (w + f)) n (omega (arith, mul-add-lt b (2 ^ f) x (2 ^ w) p q, pow-add 2 w f)) in
+    let sign : nat_le (2 ^ (w + f)) n ≡ false =
+    lt-leb (2 ^ (w + f)) n (omega (arith, mul-add-lt b (2 ^ f) x (2 ^ w) p q, pow-add 2 w f)) in
     let exponent : n / 2 ^ f % 2 ^ w ≡ b = ap (λ y. y % 2 ^ w) high ∙ mod-mul-add 0 (2 ^ w) b p in
     let fraction : n % 2 ^ f ≡ x = ap (λ y. y % 2 ^ f) rows ∙ mod-mul-add (0 * 2 ^ w + b) (2 ^ f) x q in
     same_fields w f _ _ _ _ _ _ sign exponent fraction
@@ -35,7 +36,8 @@ by_rows w f n top e =
     let above : n / 2 ^ f / 2 ^ w ≡ top = div-div-eq-div-mul n (2 ^ f) (2 ^ w) ∙ e in
     let rows : n / 2 ^ f % 2 ^ w + n / 2 ^ f / 2 ^ w * 2 ^ w ≡ n / 2 ^ f = mod-add-div' (n / 2 ^ f) (2 ^ w) in
     let high : n / 2 ^ f ≡ n / 2 ^ f % 2 ^ w + top * 2 ^ w = sym rows ∙ ap (λ y. n / 2 ^ f % 2 ^ w + y * 2 ^ w) above in
-    let whole : n ≡ n % 2 ^ f + (n / 2 ^ f % 2 ^ w + top * 2 ^ w) * 2 ^ f = sym (mod-add-div' n (2 ^ f)) ∙ ap (λ y. n % 2 ^ f + y * 2 ^ f) high in
+    let whole : n ≡ n % 2 ^ f + (n / 2 ^ f % 2 ^ w + top * 2 ^ w) * 2 ^ f = sym (mod-add-div' n (2 ^ f))
+    ∙ ap (λ y. n % 2 ^ f + y * 2 ^ f) high in
     omega (arith, ap (λ y. top * y) (pow-add 2 w f))
 
 pub bits_of_fields-of_bits : (w f n : ℕ) → n < 2 * 2 ^ (w + f)

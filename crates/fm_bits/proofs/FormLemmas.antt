@@ -47,4 +47,6 @@ decimals_cut odd k = append_assoc (decimal (odd / 2 ^ k)) (46 ∷ []) (fixed_dig
 pub hex_cut : (odd : ℕ) (e : ℤ)
     → hex_text odd e ≡ 48 ∷ 120 ∷ 49 ∷ (hex_fraction odd ++ 112 ∷ exponent_text (e +ℤ pos (high_place odd)))
 unfolding hex_text
-hex_cut odd e = ap (λ (x : List ℕ). 48 ∷ 120 ∷ 49 ∷ x) (append_assoc (hex_fraction odd) (112 ∷ []) (exponent_text (e +ℤ pos (high_place odd))))
+hex_cut odd e =
+    ap (λ (x : List ℕ). 48 ∷ 120 ∷ 49 ∷ x)
+    (append_assoc (hex_fraction odd) (112 ∷ []) (exponent_text (e +ℤ pos (high_place odd))))

@@ -1,13 +1,13 @@
--- A number's text in hexadecimal tells the number.
+-- Numbers with the same text in hexadecimal are the same.
 use Rattle.std.proofs.Common.{◌⊎◌, ◌≡◌, ◌≢◌, ℕ, suc, ◌+◌, ◌-◌, ◌*◌, ◌^◌, ◌%◌, ◌<◌, ◌≤◌, inl, inr, List, [], ◌∷◌, ◌++◌, length, sym, ap, ◌∙◌, arith, refl, ℤ, pos, negsuc, ◌+ℤ◌, unsigned_abs, nat_lt, subst}
 use Rattle.std.specs.Fmt.{decimal}
 use Rattle.std.proofs.lemmas.Bool.{cond-false, cond-true, cond_both, cases_eq, eq-eqb, ne_eqb, le-ltb}
 use Rattle.std.proofs.lemmas.Int.{ints}
 use Rattle.fm_bits.specs.Digits.{fixed_digits}
 use Rattle.fm_bits.specs.Text.{hex_text, hex_fraction, hex_len, exponent_text, high_place}
-use Rattle.fm_bits.proofs.DigitLemmas.{Within, Within-lower, decimal_tells, fixed_digits_tell, length-fixed_digits, fixed_digits_within, cut_tells, first_tells}
+use Rattle.fm_bits.proofs.DigitLemmas.{Within, Within-lower, decimal_injective, fixed_digits_injective, length-fixed_digits, fixed_digits_within, cut_injective, first_injective}
 use Rattle.fm_bits.proofs.FormLemmas.{hex_cut}
-use Rattle.fm_bits.proofs.OddLemmas.{odd_times_power, high_place_is, hex_number, rest_tells}
+use Rattle.fm_bits.proofs.OddLemmas.{odd_times_power, high_place_is, hex_number, rest_injective}
 
 -- an exponent
 exponent_text-pos : (a : ℕ) → exponent_text (pos a) ≡ 43 ∷ decimal a
@@ -18,26 +18,30 @@ exponent_text-negsuc : (a : ℕ) → exponent_text (negsuc a) ≡ 45 ∷ decimal
 unfolding exponent_text
 exponent_text-negsuc a = refl
 
-exponent_tells : (d e : ℤ) → unsigned_abs d < 2 ^ 65 → unsigned_abs e < 2 ^ 65 → exponent_text d ≡ exponent_text e
+exponent_injective : (d e : ℤ) → unsigned_abs d < 2 ^ 65 → unsigned_abs e < 2 ^ 65 → exponent_text d ≡ exponent_text e
     → d ≡ e
-exponent_tells (pos a) (pos b) p q h =
+exponent_injective (pos a) (pos b) p q h =
     let same : 43 ∷ decimal a ≡ 43 ∷ decimal b = sym (exponent_text-pos a) ∙ h ∙ exponent_text-pos b in
     let digits : decimal a ≡ decimal b = cc in
-    ap pos (decimal_tells a b (omega arith) (omega arith) digits)
-exponent_tells (pos a) (negsuc b) p q h = absurd (omega (arith, first_tells 43 45 _ _ (sym (exponent_text-pos a) ∙ h ∙ exponent_text-negsuc b)))
-exponent_tells (negsuc a) (pos b) p q h = absurd (omega (arith, first_tells 45 43 _ _ (sym (exponent_text-negsuc a) ∙ h ∙ exponent_text-pos b)))
-exponent_tells (negsuc a) (negsuc b) p q h =
-    let same : 45 ∷ decimal (suc a) ≡ 45 ∷ decimal (suc b) = sym (exponent_text-negsuc a) ∙ h ∙ exponent_text-negsuc b in
+    ap pos (decimal_injective a b (omega arith) (omega arith) digits)
+exponent_injective (pos a) (negsuc b) p q h =
+    absurd (omega (arith, first_injective 43 45 _ _ (sym (exponent_text-pos a) ∙ h ∙ exponent_text-negsuc b)))
+exponent_injective (negsuc a) (pos b) p q h =
+    absurd (omega (arith, first_injective 45 43 _ _ (sym (exponent_text-negsuc a) ∙ h ∙ exponent_text-pos b)))
+exponent_injective (negsuc a) (negsuc b) p q h =
+    let same : 45 ∷ decimal (suc a) ≡ 45 ∷ decimal (suc b) = sym (exponent_text-negsuc a) ∙ h
+    ∙ exponent_text-negsuc b in
     let digits : decimal (suc a) ≡ decimal (suc b) = cc in
-    ap negsuc (omega (arith, decimal_tells (suc a) (suc b) (omega arith) (omega arith) digits))
+    ap negsuc (omega (arith, decimal_injective (suc a) (suc b) (omega arith) (omega arith) digits))
 
--- a fraction in hexadecimal tells the number that it is the fraction of
-hex_fraction-none : (a : ℕ) → high_place a ≡ 0 → hex_fraction a ≡ []
+-- numbers with the same fraction in hexadecimal are the same
+pub hex_fraction-none : (a : ℕ) → high_place a ≡ 0 → hex_fraction a ≡ []
 unfolding hex_fraction
 hex_fraction-none a e = cond-true _ _ _ (eq-eqb _ _ e)
 
-hex_fraction-some : (a : ℕ) → high_place a ≢ 0
-    → hex_fraction a ≡ 46 ∷ fixed_digits 16 (hex_len (high_place a)) (a * 2 ^ (4 * hex_len (high_place a) - high_place a))
+pub hex_fraction-some : (a : ℕ) → high_place a ≢ 0
+    → hex_fraction a
+    ≡ 46 ∷ fixed_digits 16 (hex_len (high_place a)) (a * 2 ^ (4 * hex_len (high_place a) - high_place a))
 unfolding hex_fraction
 hex_fraction-some a e = cond-false _ _ _ (ne_eqb _ _ e)
 
@@ -56,8 +60,9 @@ hex_fraction_within a =
     ]
 
 -- a number without such a fraction is 1
-one_alone : (a : ℕ) → a % 2 ≡ 1 → a < 2 ^ 64 → high_place a ≡ 0 → a ≡ 1
-one_alone a p r z = let place = high_place_is a (omega arith) r in let unit : 2 ^ high_place a ≡ 1 = ap (λ x. 2 ^ x) z in omega arith
+pub one_alone : (a : ℕ) → a % 2 ≡ 1 → a < 2 ^ 64 → high_place a ≡ 0 → a ≡ 1
+one_alone a p r z = let place = high_place_is a (omega arith) r in let unit : 2 ^ high_place a ≡ 1 =
+    ap (λ x. 2 ^ x) z in omega arith
 
 -- as many digits, and the same, are those of one number
 same_fraction : (a b : ℕ) → a % 2 ≡ 1 → b % 2 ≡ 1 → a < 2 ^ 64 → b < 2 ^ 64 → (h : ℕ) → h ≡ hex_len (high_place a)
@@ -68,8 +73,8 @@ same_fraction a b p q r s h ha hb e =
     let there = high_place_is b (omega arith) s in
     let m = hex_number a (high_place a) h (omega arith) here.1 here.2 in
     let n = hex_number b (high_place b) h (omega arith) there.1 there.2 in
-    let rest = fixed_digits_tell 16 h _ _ (omega arith) (omega arith) e in
-    let same = rest_tells (16 ^ h) _ _ m.0 m.1 n.0 n.1 rest in
+    let rest = fixed_digits_injective 16 h _ _ (omega arith) (omega arith) e in
+    let same = rest_injective (16 ^ h) _ _ m.0 m.1 n.0 n.1 rest in
     (odd_times_power a b _ _ p q same).0
 
 both_some : (a b : ℕ) → a % 2 ≡ 1 → b % 2 ≡ 1 → a < 2 ^ 64 → b < 2 ^ 64
@@ -79,15 +84,17 @@ both_some : (a b : ℕ) → a % 2 ≡ 1 → b % 2 ≡ 1 → a < 2 ^ 64 → b < 2
 both_some a b p q r s e =
     let h = hex_len (high_place a) in
     let k = hex_len (high_place b) in
-    let digits : fixed_digits 16 h (a * 2 ^ (4 * h - high_place a)) ≡ fixed_digits 16 k (b * 2 ^ (4 * k - high_place b)) = cc in
+    let digits : fixed_digits 16 h (a * 2 ^ (4 * h - high_place a))
+    ≡ fixed_digits 16 k (b * 2 ^ (4 * k - high_place b)) = cc in
     let count : h ≡ k =
     sym (length-fixed_digits 16 h (a * 2 ^ (4 * h - high_place a))) ∙ ap length digits
     ∙ length-fixed_digits 16 k (b * 2 ^ (4 * k - high_place b)) in
-    same_fraction a b p q r s h refl count (digits ∙ ap (λ x. fixed_digits 16 x (b * 2 ^ (4 * x - high_place b))) (sym count))
+    same_fraction a b p q r s h refl count (digits
+    ∙ ap (λ x. fixed_digits 16 x (b * 2 ^ (4 * x - high_place b))) (sym count))
 
-hex_fraction_tells : (a b : ℕ) → a % 2 ≡ 1 → b % 2 ≡ 1 → a < 2 ^ 64 → b < 2 ^ 64 → hex_fraction a ≡ hex_fraction b
+hex_fraction_injective : (a b : ℕ) → a % 2 ≡ 1 → b % 2 ≡ 1 → a < 2 ^ 64 → b < 2 ^ 64 → hex_fraction a ≡ hex_fraction b
     → a ≡ b
-hex_fraction_tells a b p q r s e =
+hex_fraction_injective a b p q r s e =
     elim (cases_eq (high_place a) 0) [
       | inl x ↦ elim (cases_eq (high_place b) 0) [
         | inl y ↦ one_alone a p r x ∙ sym (one_alone b q s y)
@@ -102,22 +109,24 @@ hex_fraction_tells a b p q r s e =
 -- an exponent and a place
 pub abs-add : (d : ℤ) (n : ℕ) → unsigned_abs (d +ℤ pos n) ≤ unsigned_abs d + n
 abs-add (pos a) n = omega arith
-abs-add (negsuc a) n = cond_both (nat_lt n (suc a)) _ _ (λ z. unsigned_abs z ≤ suc a + n) (λ t. omega arith) (λ f. omega arith)
+abs-add (negsuc a) n =
+    cond_both (nat_lt n (suc a)) _ _ (λ z. unsigned_abs z ≤ suc a + n) (λ t. omega arith) (λ f. omega arith)
 
-pub hex_tells : (a b : ℕ) (d e : ℤ) → a % 2 ≡ 1 → b % 2 ≡ 1 → a < 2 ^ 64 → b < 2 ^ 64 → unsigned_abs d < 2 ^ 64
+pub hex_injective : (a b : ℕ) (d e : ℤ) → a % 2 ≡ 1 → b % 2 ≡ 1 → a < 2 ^ 64 → b < 2 ^ 64 → unsigned_abs d < 2 ^ 64
     → unsigned_abs e < 2 ^ 64 → hex_text a d ≡ hex_text b e → (a ≡ b) × (d ≡ e)
-hex_tells a b d e p q r s t u h =
+hex_injective a b d e p q r s t u h =
     let x = exponent_text (d +ℤ pos (high_place a)) in
     let y = exponent_text (e +ℤ pos (high_place b)) in
     let same : 48 ∷ 120 ∷ 49 ∷ (hex_fraction a ++ 112 ∷ x) ≡ 48 ∷ 120 ∷ 49 ∷ (hex_fraction b ++ 112 ∷ y) =
     sym (hex_cut a d) ∙ h ∙ hex_cut b e in
     let after : hex_fraction a ++ 112 ∷ x ≡ hex_fraction b ++ 112 ∷ y = cc in
     let above : (112 < 46) ⊎ (102 < 112) = inr (omega arith) in
-    let parts = cut_tells 46 102 _ _ 112 112 x y (hex_fraction_within a) (hex_fraction_within b) above above after in
-    let number : a ≡ b = hex_fraction_tells a b p q r s parts.0 in
+    let parts =
+    cut_injective 46 102 _ _ 112 112 x y (hex_fraction_within a) (hex_fraction_within b) above above after in
+    let number : a ≡ b = hex_fraction_injective a b p q r s parts.0 in
     let place = high_place_is a (omega arith) r in
     let place' = high_place_is b (omega arith) s in
     let small : unsigned_abs (d +ℤ pos (high_place a)) < 2 ^ 65 = omega (arith, abs-add d (high_place a), place.0) in
     let small' : unsigned_abs (e +ℤ pos (high_place b)) < 2 ^ 65 = omega (arith, abs-add e (high_place b), place'.0) in
-    let exponent = exponent_tells (d +ℤ pos (high_place a)) (e +ℤ pos (high_place b)) small small' parts.2 in
+    let exponent = exponent_injective (d +ℤ pos (high_place a)) (e +ℤ pos (high_place b)) small small' parts.2 in
     (number, omega (arith, ints, exponent, ap high_place number))

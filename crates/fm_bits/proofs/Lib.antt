@@ -1,3 +1,5 @@
+mod PatternDenotes
+mod DenotesLemmas
 mod DigitLemmas
 mod FieldLemmas
 mod FormLemmas

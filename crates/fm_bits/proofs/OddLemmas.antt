@@ -1,4 +1,4 @@
--- An odd number times a power of two tells both.
+-- Where odd numbers times powers of two are the same, so are the odd numbers and the powers.
 use Rattle.std.proofs.Common.{◌≡◌, ℕ, zero, suc, ◌+◌, ◌-◌, ◌*◌, ◌/◌, ◌%◌, ◌^◌, ◌<◌, ◌≤◌, ◌⊎◌, inl, inr, sym, ap, ◌∙◌, arith, refl, pos}
 use Rattle.std.proofs.Math.Nat.{pow-zero, pow-suc, mul-pos, mul-le-mul_right, mul-lt-mul_of_pos_right, mod-eq-sub-mod, mod-eq_of_lt}
 use Rattle.std.proofs.Math.Arith.{mod-mul}
@@ -26,16 +26,16 @@ odd_times_power a b (suc i) (suc j) p q e =
     (parts.0, ap (λ x. suc x) parts.1)
 
 -- the same for whole numbers that may be 0
-pub reduced_tells : (a b i j : ℕ) → (a % 2 ≡ 1) ⊎ ((a ≡ 0) × (pos i ≡ pos 0))
+pub reduced_injective : (a b i j : ℕ) → (a % 2 ≡ 1) ⊎ ((a ≡ 0) × (pos i ≡ pos 0))
     → (b % 2 ≡ 1) ⊎ ((b ≡ 0) × (pos j ≡ pos 0)) → a * 2 ^ i ≡ b * 2 ^ j → (a ≡ b) × (i ≡ j)
-reduced_tells a b i j (inl p) (inl q) e = odd_times_power a b i j p q e
-reduced_tells a b i j (inl p) (inr q) e =
+reduced_injective a b i j (inl p) (inl q) e = odd_times_power a b i j p q e
+reduced_injective a b i j (inl p) (inr q) e =
     let some : 0 < a * 2 ^ i = mul-pos (omega arith) (pow_pos i) in
     let none : b * 2 ^ j ≡ 0 = ap (λ x. x * 2 ^ j) q.0 ∙ omega arith in absurd (omega arith)
-reduced_tells a b i j (inr p) (inl q) e =
+reduced_injective a b i j (inr p) (inl q) e =
     let some : 0 < b * 2 ^ j = mul-pos (omega arith) (pow_pos j) in
     let none : a * 2 ^ i ≡ 0 = ap (λ x. x * 2 ^ i) p.0 ∙ omega arith in absurd (omega arith)
-reduced_tells a b i j (inr p) (inr q) e = (p.0 ∙ sym q.0, cc)
+reduced_injective a b i j (inr p) (inr q) e = (p.0 ∙ sym q.0, cc)
 
 -- the highest bit
 pub high_place_is : (a : ℕ) → 0 < a → a < 2 ^ 64
@@ -55,7 +55,7 @@ odd_times_five a (suc k) p =
     let less = odd_times_five a k p in
     let five : a * 5 ^ suc k ≡ 5 * (a * 5 ^ k) = ap (λ x. a * x) (pow-suc 5 k) ∙ omega arith in omega arith
 
-two_pow-mul_four : (h : ℕ) → 2 ^ (4 * h) ≡ 16 ^ h
+pub two_pow-mul_four : (h : ℕ) → 2 ^ (4 * h) ≡ 16 ^ h
 two_pow-mul_four zero = refl
 two_pow-mul_four (suc h) =
     let split : 4 * suc h ≡ 4 * h + 4 = omega arith in
@@ -72,13 +72,13 @@ hex_number a w h fits low high =
     let most : a * 2 ^ k < 2 * 2 ^ w * 2 ^ k = mul-lt-mul_of_pos_right high (pow_pos k) in
     (omega arith, omega arith)
 
--- a number from m up to twice m is told by its rest
-pub rest_tells : (m a b : ℕ) → m ≤ a → a < 2 * m → m ≤ b → b < 2 * m → a % m ≡ b % m → a ≡ b
-rest_tells m a b p q r s e =
+-- numbers from m up to twice m with the same rest are the same
+pub rest_injective : (m a b : ℕ) → m ≤ a → a < 2 * m → m ≤ b → b < 2 * m → a % m ≡ b % m → a ≡ b
+rest_injective m a b p q r s e =
     let one : a % m ≡ a - m = mod-eq-sub-mod p ∙ mod-eq_of_lt (omega arith) in
     let two : b % m ≡ b - m = mod-eq-sub-mod r ∙ mod-eq_of_lt (omega arith) in omega arith
 
--- so many factors of two are in a number
+-- a number is a multiple of its factors of two
 pub two_pow_divides : (k n : ℕ) → n % 2 ^ count_trailing_zeros k n ≡ 0
 unfolding count_trailing_zeros
 two_pow_divides zero n = omega arith

@@ -15,7 +15,7 @@ pub mul-two_pow-ge : (n i j : ℕ) → 0 < n → i ≤ j → 2 ^ i ≤ n * 2 ^ j
 mul-two_pow-ge n i j some h =
     let a : 1 * 2 ^ i ≤ n * 2 ^ j = mul-le-mul some (two_pow_le i j h) in omega arith
 
--- a number of at least so many bits, with zeros added
+-- a number of at least `i` bits, with `j` zeros added
 pub shl-ge : (n i j k : ℕ) → i + j ≡ k → 2 ^ i ≤ n → 2 ^ k ≤ n * 2 ^ j
 shl-ge n i j k e h =
     let a : 2 ^ i * 2 ^ j ≤ n * 2 ^ j = mul-le-mul h (omega arith) in

@@ -48,7 +48,8 @@ times_over : (negative : Bool) (n k : ℕ) (z : ℤ) → 0 < k
 times_over negative n k z some h =
     elim (eqb_tells (n % k) 0) [
       | inl t ↦
-          let e = in_i64-some negative (n / k) z (sym (ap (option_and_then (in_i64 negative)) (cond-true _ _ _ t.0)) ∙ h) in
+          let e = in_i64-some negative (n / k) z (sym (ap (option_and_then (in_i64 negative)) (cond-true _ _ _ t.0))
+          ∙ h) in
           let back : n / k * k ≡ n = omega (arith, t.1, div-add-mod' n k) in
           ap (λ y. y *ℤ pos k) e ∙ with_sign-mul negative (n / k) k ∙ ap (with_sign negative) back
       | inr t ↦
@@ -66,18 +67,22 @@ over_times negative n k z some fits h =
     ap (option_and_then (in_i64 negative)) (cond-true _ _ _ (eq-eqb (n % k) 0 whole))
     ∙ in_i64-fits negative (n / k) z fits (t.1 ∙ ap (with_sign negative) (sym quotient))
 
--- what is answered is the product
+-- what is returned is the product
 pub IsTimes-whole_times : (v : Value) (per : ℕ) (z : ℤ) → whole_times v per ≡ Some z → IsTimes v per z
-IsTimes-whole_times (Finite negative odd (pos e)) per z h = in_i64-some negative (odd * per * 2 ^ e) z h ∙ ap (with_sign negative) (omega arith)
-IsTimes-whole_times (Finite negative odd (negsuc e)) per z h = times_over negative (odd * per) (2 ^ suc e) z (pow_pos (suc e)) h
+IsTimes-whole_times (Finite negative odd (pos e)) per z h = in_i64-some negative (odd * per * 2 ^ e) z h
+    ∙ ap (with_sign negative) (omega arith)
+IsTimes-whole_times (Finite negative odd (negsuc e)) per z h =
+    times_over negative (odd * per) (2 ^ suc e) z (pow_pos (suc e)) h
 IsTimes-whole_times (Infinite negative) per z h = cc
 IsTimes-whole_times NotANumber per z h = cc
 
--- a product that fits is answered
+-- a product that fits is returned
 pub whole_times-IsTimes : (v : Value) (per : ℕ) (z : ℤ) → FitsSigned w64 z → IsTimes v per z
     → whole_times v per ≡ Some z
-whole_times-IsTimes (Finite negative odd (pos e)) per z fits h = in_i64-fits negative (odd * per * 2 ^ e) z fits (h ∙ ap (with_sign negative) (omega arith))
-whole_times-IsTimes (Finite negative odd (negsuc e)) per z fits h = over_times negative (odd * per) (2 ^ suc e) z (pow_pos (suc e)) fits h
+whole_times-IsTimes (Finite negative odd (pos e)) per z fits h =
+    in_i64-fits negative (odd * per * 2 ^ e) z fits (h ∙ ap (with_sign negative) (omega arith))
+whole_times-IsTimes (Finite negative odd (negsuc e)) per z fits h =
+    over_times negative (odd * per) (2 ^ suc e) z (pow_pos (suc e)) fits h
 whole_times-IsTimes (Infinite negative) per z fits h = absurd h
 whole_times-IsTimes NotANumber per z fits h = absurd h
 

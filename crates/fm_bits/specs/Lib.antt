@@ -1,3 +1,4 @@
+pub mod Denotes
 pub mod Digits
 pub mod Quoted
 pub mod Text

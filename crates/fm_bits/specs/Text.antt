@@ -1,4 +1,4 @@
--- The one text of each number, by which it is known exactly.
+-- The text of each number, which denotes it exactly.
 use Rattle.std.specs.Prelude.{ℕ, suc, ◌+◌, ◌-◌, ◌*◌, ◌/◌, ◌^◌, List, [], ◌++◌, codes, nat_lt, nat_le, ◌&&◌, ◌==◌, if◌then◌else◌, ℤ, pos, negsuc, ◌+ℤ◌, unsigned_abs}
 use Rattle.std.specs.Fmt.{decimal, signed_decimal, sign_text}
 use Rattle.std.specs.Int.{w16, w32, w64, cast_signed, is_negative, leading_zeros}
@@ -22,7 +22,7 @@ decimals_text odd k = decimal (odd / 2 ^ k) ++ codes "." ++ fixed_digits 10 k (o
 unfoldable pub high_place : ℕ → ℕ
 high_place n = 63 - leading_zeros w64 n
 
--- how many hexadecimal digits so many bits take
+-- how many hexadecimal digits this number of bits takes
 abbrev pub hex_len : ℕ → ℕ
 hex_len width = (width + 3) / 4
 

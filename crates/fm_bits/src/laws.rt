@@ -1,30 +1,37 @@
-//! Laws of the definitions, each as the contract of a call that does nothing.
+//! What a reader believes of texts, numbers and bits, each as the contract of a call that does nothing.
 ghost use Rattle.std.specs.Prelude.{◌≡◌, ◌+◌, ◌*◌, ◌/◌, ◌%◌, ◌^◌, ◌<◌, pos, ◌+ℤ◌, nat_le};
 ghost use Rattle.std.specs.Int.{trailing_zeros, w64};
 ghost use Rattle.fm_base.specs.Pattern.{IsPattern, pattern_value};
 ghost use Rattle.fm_base.specs.Pattern.{bits_of_fields, float_value, value_of_fields};
+ghost use Rattle.fm_bits.specs.Denotes.{Denotes, shown_value};
 ghost use Rattle.fm_bits.specs.Quoted.{quoted};
 ghost use Rattle.fm_bits.specs.Text.{pattern_text};
 
 use fm_base::Pattern;
 
-/// The text of a pattern tells its value: two patterns of one kind with one text have one value. All NaNs are one
-/// value.
-pub fn text_tells(p: Pattern, q: Pattern)
+/// The text of a pattern denotes its value, and for a byte that of its bits without a sign: its digits, read as one
+/// number, over 10 to the power of how many stand after the point, or `1.H` in hexadecimal times 2 to the power of `E`.
+pub fn text_denotes(p: Pattern)
+    requires { IsPattern p }
+    ensures { Denotes (pattern_text p) (shown_value p.kind p.bits) }
+{}
+
+/// Two patterns of one kind with the same text have the same value. All NaNs are one value.
+pub fn text_has_one_value(p: Pattern, q: Pattern)
     requires first { IsPattern p }
     requires second { IsPattern q }
     ensures { p.kind ≡ q.kind → pattern_text p ≡ pattern_text q
         → pattern_value p ≡ pattern_value q }
 {}
 
-/// A quoted text tells the text.
-pub fn quoted_tells(a: &[u8], b: &[u8])
+/// Two texts that are the same between quotation marks are the same.
+pub fn quoted_has_one_text(a: &[u8], b: &[u8])
     ensures { quoted a.now ≡ quoted b.now → a.now ≡ b.now }
 {}
 
-/// A number has one odd number and one exponent: where `a * 2^d` and `b * 2^e` are the same number, so are `a` and `b`,
-/// and `d` and `e`. The two are compared as whole numbers, `i` above the one exponent and `j` above the other.
-pub fn odd_tells(a: u64, d: i32, i: u32, b: u64, e: i32, j: u32)
+/// A number has one odd part and one exponent: where `a * 2^d` and `b * 2^e` are the same number, `a` is `b` and `d` is
+/// `e`. The two are compared as whole numbers, `i` above the exponent `d` and `j` above the exponent `e`.
+pub fn odd_part_is_one(a: u64, d: i32, i: u32, b: u64, e: i32, j: u32)
     requires first { a % 2 ≡ 1 }
     requires second { b % 2 ≡ 1 }
     requires level { d +ℤ pos j ≡ e +ℤ pos i }
@@ -32,15 +39,21 @@ pub fn odd_tells(a: u64, d: i32, i: u32, b: u64, e: i32, j: u32)
     ensures exponent { a * 2 ^ i ≡ b * 2 ^ j → d ≡ e }
 {}
 
-/// The factors of two of a number are all taken out of it, and nothing else.
-pub fn odd_part_keeps(n: u64)
+/// What is left of a number without its factors of two is odd, and times these factors it is the number.
+pub fn odd_part_is_odd(n: u64)
     requires { 0 < n }
     ensures odd { n / 2 ^ trailing_zeros w64 n % 2 ≡ 1 }
     ensures whole { n / 2 ^ trailing_zeros w64 n * 2 ^ trailing_zeros w64 n ≡ n }
 {}
 
 /// The bits that are made of a sign, an exponent and a fraction stand for the number of these fields.
-pub fn fields_tell(width: u32, fraction_width: u32, negative: bool, biased: u64, fraction: u64)
+pub fn fields_are_read_back(
+    width: u32,
+    fraction_width: u32,
+    negative: bool,
+    biased: u64,
+    fraction: u64,
+)
     requires exponent { biased < 2 ^ width }
     requires significand { fraction < 2 ^ fraction_width }
     ensures { float_value width fraction_width

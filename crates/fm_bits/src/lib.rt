@@ -3,7 +3,7 @@
 
 mod digits;
 mod hexadecimal;
-mod laws;
+pub mod laws;
 mod pattern;
 mod quoted;
 mod scale;
@@ -14,9 +14,6 @@ mod text;
 mod value;
 
 pub use fm_base::Pattern;
-pub use laws::{
-    bits_have_fields, fields_tell, odd_part_keeps, odd_tells, quoted_tells, text_tells,
-};
 pub use pattern::pattern_at;
 pub use quoted::put_quoted;
 pub use seconds::whole_seconds;

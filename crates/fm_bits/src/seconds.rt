@@ -21,7 +21,7 @@ pub fn whole_seconds(p: Pattern, per: u32) -> Option<i64>
     exact_times(value_of(p), per)
 }
 
-/// A value times so many, where that is a whole number and fits.
+/// A value times `per`, where that is a whole number and fits 64 bits.
 fn exact_times(value: Value, per: u32) -> Option<i64>
     ensures { result ≡ whole_times value per }
 {

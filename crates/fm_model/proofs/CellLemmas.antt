@@ -16,7 +16,8 @@ pub has-in : (valid : ℤ) (times : List ℤ) → list_any (λ time. int_eq time
 has-in valid [] e = absurd (false≢true e)
 has-in valid (time ∷ times) e = by_first (int_eq time valid) refl e (has-in valid times)
   where
-    by_first : (b : Bool) → int_eq time valid ≡ b → (b || list_any (λ t. int_eq t valid) times) ≡ true → (list_any (λ t. int_eq t valid) times ≡ true → In valid times) → In valid (time ∷ times)
+    by_first : (b : Bool) → int_eq time valid ≡ b → (b || list_any (λ t. int_eq t valid) times) ≡ true
+        → (list_any (λ t. int_eq t valid) times ≡ true → In valid times) → In valid (time ∷ times)
     by_first true is e more = inl ((signed_Decides time valid).0 is)
     by_first false is e more = inr (more e)
 
@@ -33,7 +34,11 @@ pub HasCell-from_test : (run valid : ℤ) (file : Loaded) → has_cell run valid
 unfolding has_cell has_time
 HasCell-from_test run valid file e =
     let parts = and_parts (int_eq file.run run) (list_any (λ time. int_eq time valid) file.times) e in
-    record { run_is = (signed_Decides file.run run).0 parts.0; time = Contains-from_in valid file.times (has-in valid file.times parts.1) }
+    record {
+      run_is = (signed_Decides file.run run).0 parts.0;
+      time = Contains-from_in valid file.times
+          (has-in valid file.times parts.1);
+    }
 
 pub test-from_HasCell : (run valid : ℤ) (file : Loaded) → HasCell run valid file → has_cell run valid file ≡ true
 unfolding has_cell has_time
@@ -52,27 +57,34 @@ lack-from_test : (run valid : ℤ) (file : Loaded) → has_cell run valid file �
 lack-from_test run valid file e h = both_ways (has_cell run valid file) e (test-from_HasCell run valid file h)
 
 -- the first place of a time among times that have it
-pub slice_get-place : (valid : ℤ) (times : List ℤ) → In valid times → slice_get times (position_or_len (λ time. int_eq time valid) times) ≡ Some valid
+pub slice_get-place : (valid : ℤ) (times : List ℤ) → In valid times
+    → slice_get times (position_or_len (λ time. int_eq time valid) times) ≡ Some valid
 slice_get-place valid [] h = absurd h
 slice_get-place valid (time ∷ times) h = by_first (int_eq time valid) refl h (slice_get-place valid times)
   where
-    by_first : (b : Bool) → int_eq time valid ≡ b → In valid (time ∷ times) → (In valid times → slice_get times (position_or_len (λ t. int_eq t valid) times) ≡ Some valid)
+    by_first : (b : Bool) → int_eq time valid ≡ b → In valid (time ∷ times)
+        → (In valid times → slice_get times (position_or_len (λ t. int_eq t valid) times) ≡ Some valid)
         → slice_get (time ∷ times) (position_or_len (λ t. int_eq t valid) (time ∷ times)) ≡ Some valid
     by_first true is h more = rw is (ap Some ((signed_Decides time valid).0 is))
     by_first false is (inl same) more = absurd (both_ways (int_eq time valid) is ((signed_Decides time valid).1 same))
     by_first false is (inr later) more =
-        let next : 1 + position_or_len (λ t. int_eq t valid) times ≡ suc (position_or_len (λ t. int_eq t valid) times) = omega arith in
+        let next : 1 + position_or_len (λ t. int_eq t valid) times ≡ suc
+        (position_or_len (λ t. int_eq t valid) times) = omega arith in
         rw (is, next) (more later)
 
-pub before_place : (valid : ℤ) (times : List ℤ) (k : ℕ) → k < position_or_len (λ time. int_eq time valid) times → slice_get times k ≡ Some valid → ⊥
+pub before_place : (valid : ℤ) (times : List ℤ) (k : ℕ) → k < position_or_len (λ time. int_eq time valid) times
+    → slice_get times k ≡ Some valid → ⊥
 before_place valid [] k below e = absurd (omega arith)
 before_place valid (time ∷ times) k below e = by_first (int_eq time valid) refl k below e (before_place valid times)
   where
-    by_first : (b : Bool) → int_eq time valid ≡ b → (k : ℕ) → k < position_or_len (λ t. int_eq t valid) (time ∷ times) → slice_get (time ∷ times) k ≡ Some valid
+    by_first : (b : Bool) → int_eq time valid ≡ b → (k : ℕ) → k < position_or_len (λ t. int_eq t valid) (time ∷ times)
+        → slice_get (time ∷ times) k ≡ Some valid
         → ((j : ℕ) → j < position_or_len (λ t. int_eq t valid) times → slice_get times j ≡ Some valid → ⊥) → ⊥
     by_first true is k below e more = let none : k < 0 = rw is at below in absurd (omega arith)
-    by_first false is zero below e more = both_ways (int_eq time valid) is ((signed_Decides time valid).1 (same_Some time valid e))
-    by_first false is (suc k) below e more = let less : suc k < 1 + position_or_len (λ t. int_eq t valid) times = rw is at below in more k (omega arith) e
+    by_first false is zero below e more = both_ways (int_eq time valid) is
+        ((signed_Decides time valid).1 (same_Some time valid e))
+    by_first false is (suc k) below e more = let less : suc k < 1 + position_or_len
+        (λ t. int_eq t valid) times = rw is at below in more k (omega arith) e
 
 pub in_from_slice_get : {A : Type 0} (xs : List A) (k : ℕ) (x : A) → slice_get xs k ≡ Some x → In x xs
 in_from_slice_get [] k x e = absurd (none-some x e)
@@ -80,66 +92,93 @@ in_from_slice_get (y ∷ xs) zero x e = inl (same_Some y x e)
 in_from_slice_get (y ∷ xs) (suc k) x e = inr (in_from_slice_get xs k x e)
 
 -- a place that has the time, where none before it does, is the first
-place_is : (valid : ℤ) (times : List ℤ) (place : ℕ) → slice_get times place ≡ Some valid → ((k : ℕ) → k < place → slice_get times k ≡ Some valid → ⊥)
+place_is : (valid : ℤ) (times : List ℤ) (place : ℕ) → slice_get times place ≡ Some valid
+    → ((k : ℕ) → k < place → slice_get times k ≡ Some valid → ⊥)
     → position_or_len (λ time. int_eq time valid) times ≡ place
 place_is valid times place e first = elim (cases_order (position_or_len (λ time. int_eq time valid) times) place) [
   | inl same ↦ same
-  | inr (inl below) ↦ absurd (first (position_or_len (λ time. int_eq time valid) times) below (slice_get-place valid times (in_from_slice_get times place valid e)))
+  | inr (inl below) ↦ absurd
+      (first (position_or_len (λ time. int_eq time valid) times) below
+      (slice_get-place valid times (in_from_slice_get times place valid e)))
   | inr (inr above) ↦ absurd (before_place valid times place above e)
 ]
 
-pub IsCell-from_cell : (files : List Loaded) (run valid : ℤ) (file : Loaded) (place : ℕ) → cell files run valid ≡ Some (file, place) → IsCell files run valid file place
+pub IsCell-from_cell : (files : List Loaded) (run valid : ℤ) (file : Loaded) (place : ℕ)
+    → cell files run valid ≡ Some (file, place) → IsCell files run valid file place
 unfolding cell place_of_time
 IsCell-from_cell files run valid file place e =
-    let found = option_map-some (λ (f : Loaded). (f, place_of_time valid f)) (last_such (has_cell run valid) files) (file, place) e in
+    let found = option_map-some (λ (f : Loaded). (f, place_of_time valid f)) (last_such (has_cell run valid) files)
+    (file, place) e in
     let parts = some_pair_parts found.0 file (place_of_time valid found.0) place (ap Some found.2) in
     let last = is_last (has_cell run valid) files file (found.1 ∙ ap Some parts.0) in
     let has = HasCell-from_test run valid file last.passes in
-    let at : position_or_len (λ time. int_eq time valid) file.times ≡ place = ap (place_of_time valid) (sym parts.0) ∙ parts.1 in
+    let at : position_or_len (λ time. int_eq time valid) file.times ≡ place = ap (place_of_time valid) (sym parts.0)
+    ∙ parts.1 in
     record {
       before = last.before;
       after = last.after;
       split = last.split;
       run_is = has.run_is;
-      time_is = ap (slice_get file.times) (sym at) ∙ slice_get-place valid file.times (in_from_Contains valid file.times has.time);
+      time_is = ap (slice_get file.times) (sym at)
+          ∙ slice_get-place valid file.times (in_from_Contains valid file.times has.time);
       first = λ k below. before_place valid file.times k (subst (λ n. k < n) (sym at) below);
-      last = All-from_each (λ other. ¬ HasCell run valid other) last.after (Each-weaker _ _ (lack-from_test run valid) last.after last.fails);
+      last = All-from_each (λ other. ¬ HasCell run valid other) last.after
+          (Each-weaker _ _ (lack-from_test run valid) last.after last.fails);
     }
 
-pub cell-from_IsCell : (files : List Loaded) (run valid : ℤ) (file : Loaded) (place : ℕ) → IsCell files run valid file place → cell files run valid ≡ Some (file, place)
+pub cell-from_IsCell : (files : List Loaded) (run valid : ℤ) (file : Loaded) (place : ℕ)
+    → IsCell files run valid file place → cell files run valid ≡ Some (file, place)
 unfolding cell place_of_time
 cell-from_IsCell files run valid file place c =
-    let has : HasCell run valid file = record { run_is = c.run_is; time = Contains-from_in valid file.times (in_from_slice_get file.times place valid c.time_is) } in
-    let fails = Each-weaker _ _ (test-from_lack run valid) c.after (each_from_All (λ other. ¬ HasCell run valid other) c.after c.last) in
-    let last : last_such (has_cell run valid) files ≡ Some file = ap (last_such (has_cell run valid)) c.split ∙ last_such-is (has_cell run valid) c.before file c.after (test-from_HasCell run valid file has) fails in
+    let has : HasCell run valid file = record {
+      run_is = c.run_is;
+      time = Contains-from_in valid file.times
+          (in_from_slice_get file.times place valid c.time_is);
+    } in
+    let fails = Each-weaker _ _ (test-from_lack run valid) c.after
+    (each_from_All (λ other. ¬ HasCell run valid other) c.after c.last) in
+    let last : last_such (has_cell run valid) files ≡ Some file = ap (last_such (has_cell run valid)) c.split
+    ∙ last_such-is (has_cell run valid) c.before file c.after (test-from_HasCell run valid file has) fails in
     rw last (ap (λ n. Some (file, n)) (place_is valid file.times place c.time_is c.first))
 
-pub cell_both : (files : List Loaded) (run valid : ℤ) (file : Loaded) (place : ℕ) → (cell files run valid ≡ Some (file, place)) ↔ IsCell files run valid file place
-cell_both files run valid file place = (IsCell-from_cell files run valid file place, cell-from_IsCell files run valid file place)
+pub cell_both : (files : List Loaded) (run valid : ℤ) (file : Loaded) (place : ℕ)
+    → (cell files run valid ≡ Some (file, place)) ↔ IsCell files run valid file place
+cell_both files run valid file place =
+    (IsCell-from_cell files run valid file place, cell-from_IsCell files run valid file place)
 
-pub none_from_no_cell : (files : List Loaded) (run valid : ℤ) → cell files run valid ≡ None → Each (λ file. ¬ HasCell run valid file) files
+pub none_from_no_cell : (files : List Loaded) (run valid : ℤ) → cell files run valid ≡ None
+    → Each (λ file. ¬ HasCell run valid file) files
 unfolding cell
 none_from_no_cell files run valid e =
-    Each-weaker _ _ (lack-from_test run valid) files (none_passes (has_cell run valid) files (option_map-none (λ (f : Loaded). (f, place_of_time valid f)) (last_such (has_cell run valid) files) e))
+    Each-weaker _ _ (lack-from_test run valid) files
+    (none_passes (has_cell run valid) files
+    (option_map-none (λ (f : Loaded). (f, place_of_time valid f)) (last_such (has_cell run valid) files) e))
 
-no_cell_from_none : (files : List Loaded) (run valid : ℤ) → Each (λ file. ¬ HasCell run valid file) files → cell files run valid ≡ None
+no_cell_from_none : (files : List Loaded) (run valid : ℤ) → Each (λ file. ¬ HasCell run valid file) files
+    → cell files run valid ≡ None
 unfolding cell
-no_cell_from_none files run valid each = rw (last_such-none (has_cell run valid) files (Each-weaker _ _ (test-from_lack run valid) files each)) refl
+no_cell_from_none files run valid each = rw (last_such-none (has_cell run valid) files
+    (Each-weaker _ _ (test-from_lack run valid) files each)) refl
 
-pub no_cell_both : (files : List Loaded) (run valid : ℤ) → (cell files run valid ≡ None) ↔ All (λ file. ¬ HasCell run valid file) files
+pub no_cell_both : (files : List Loaded) (run valid : ℤ)
+    → (cell files run valid ≡ None) ↔ All (λ file. ¬ HasCell run valid file) files
 no_cell_both files run valid = (
   λ e. All-from_each (λ file. ¬ HasCell run valid file) files (none_from_no_cell files run valid e),
   λ all. no_cell_from_none files run valid (each_from_All (λ file. ¬ HasCell run valid file) files all),
 )
 
 -- a cell is of a file that is held
-pub held-from_cell : (files : List Loaded) (run valid : ℤ) (file : Loaded) (place : ℕ) → IsCell files run valid file place → In file files
-held-from_cell files run valid file place c = subst (In file) (sym c.split) (In-append_right file c.before (file ∷ c.after) (inl refl))
+pub held-from_cell : (files : List Loaded) (run valid : ℤ) (file : Loaded) (place : ℕ)
+    → IsCell files run valid file place → In file files
+held-from_cell files run valid file place c = subst (In file) (sym c.split)
+    (In-append_right file c.before (file ∷ c.after) (inl refl))
 
--- a file of a run with a time gives the run a cell there
-pub cell-from_file : (files : List Loaded) (run valid : ℤ) (file : Loaded) → In file files → HasCell run valid file → IsSome (cell files run valid)
+-- a run has a cell where a file of it has the time
+pub cell-from_file : (files : List Loaded) (run valid : ℤ) (file : Loaded) → In file files → HasCell run valid file
+    → IsSome (cell files run valid)
 cell-from_file files run valid file held has = by_cell (cell files run valid) refl
   where
     by_cell : (o : Option (Loaded × ℕ)) → cell files run valid ≡ o → IsSome (cell files run valid)
-    by_cell None is = absurd (Each-in (λ f. ¬ HasCell run valid f) file files (none_from_no_cell files run valid is) held has)
+    by_cell None is = absurd
+        (Each-in (λ f. ¬ HasCell run valid f) file files (none_from_no_cell files run valid is) held has)
     by_cell (Some found) is = ap is_some is

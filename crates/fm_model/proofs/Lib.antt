@@ -1,3 +1,4 @@
+pub mod BestFromLemmas
 pub mod BestLemmas
 pub mod CellLemmas
 pub mod CollectionLemmas
@@ -5,14 +6,19 @@ pub mod FindLemmas
 pub mod FullLemmas
 pub mod GridLemmas
 pub mod HeaderLemmas
+pub mod InstantLemmas
+pub mod KeptLemmas
 pub mod LastLemmas
 pub mod LoadLemmas
 pub mod Members
 pub mod PlaceLemmas
 pub mod ProtoLemmas
+pub mod RetractLemmas
 pub mod RisingLemmas
 pub mod RowLemmas
 pub mod RunLemmas
+pub mod SiteLemmas
 pub mod SlotLemmas
 pub mod TextLemmas
 pub mod TimeLemmas
+pub mod WithinLemmas

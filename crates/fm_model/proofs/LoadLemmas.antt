@@ -36,10 +36,12 @@ taken name bytes run times slots = record { name = name; run = run; times = time
 module _ (name bytes : List ℕ) (proto : Proto) where
   -- what is left of loading after each step
   abbrev after_times : FileHeader → NcVar → ℤ → List ℤ → Result Loaded LoadFault
-  after_times header axis run times = file_slots proto bytes header axis >>= λ slots. Ok (taken name bytes run times slots)
+  after_times header axis run times = file_slots proto bytes header axis >>= λ slots. Ok
+      (taken name bytes run times slots)
 
   abbrev after_count : FileHeader → NcVar → TimeUnits → ℤ → ℕ → Result Loaded LoadFault
-  after_count header axis units run count = file_times proto.site bytes header axis units count >>= after_times header axis run
+  after_count header axis units run count =
+      file_times proto.site bytes header axis units count >>= after_times header axis run
 
   abbrev after_run : FileHeader → NcVar → TimeUnits → ℤ → Result Loaded LoadFault
   after_run header axis units run = time_count header axis >>= after_count header axis units run
@@ -53,7 +55,8 @@ module _ (name bytes : List ℕ) (proto : Proto) where
   abbrev after_header : FileHeader → Result Loaded LoadFault
   after_header header = file_axis proto header >>= after_axis header
 
-  as_taken : (other file : Loaded) → ◌≡◌ {A = Result Loaded LoadFault} (Ok other) (Ok file) → IsTaken name bytes proto other → IsTaken name bytes proto file
+  as_taken : (other file : Loaded) → ◌≡◌ {A = Result Loaded LoadFault} (Ok other) (Ok file)
+      → IsTaken name bytes proto other → IsTaken name bytes proto file
   as_taken other file same t = subst (IsTaken name bytes proto) (same_Ok {E = LoadFault} other file same) t
 
   pub IsTaken-load_of : (file : Loaded) → load_of name bytes proto ≡ Ok file → IsTaken name bytes proto file
@@ -64,8 +67,10 @@ module _ (name bytes : List ℕ) (proto : Proto) where
       let units = step_ok (file_units axis.0) (after_units header.0 axis.0) file axis.2 in
       let run = step_ok (file_run proto.site name bytes header.0) (after_run header.0 axis.0 units.0) file units.2 in
       let count = step_ok (time_count header.0 axis.0) (after_count header.0 axis.0 units.0 run.0) file run.2 in
-      let times = step_ok (file_times proto.site bytes header.0 axis.0 units.0 count.0) (after_times header.0 axis.0 run.0) file count.2 in
-      let slots = step_ok (file_slots proto bytes header.0 axis.0) (λ slots. Ok (taken name bytes run.0 times.0 slots)) file times.2 in
+      let times = step_ok (file_times proto.site bytes header.0 axis.0 units.0 count.0)
+      (after_times header.0 axis.0 run.0) file count.2 in
+      let slots = step_ok (file_slots proto bytes header.0 axis.0)
+      (λ slots. Ok (taken name bytes run.0 times.0 slots)) file times.2 in
       as_taken (taken name bytes run.0 times.0 slots.0) file slots.2 (record {
         header = header.0;
         axis = axis.0;
@@ -82,16 +87,20 @@ module _ (name bytes : List ℕ) (proto : Proto) where
         content_is = refl {a = bytes};
       })
 
-pub one_file : (name bytes : List ℕ) (proto : Proto) (file other : Loaded) → load_of name bytes proto ≡ Ok file → load_of name bytes proto ≡ Ok other → file ≡ other
+pub one_file : (name bytes : List ℕ) (proto : Proto) (file other : Loaded) → load_of name bytes proto ≡ Ok file
+    → load_of name bytes proto ≡ Ok other → file ≡ other
 one_file name bytes proto file other e d = same_Ok {E = LoadFault} file other (sym e ∙ d)
 
-pub name-load_of : (name bytes : List ℕ) (proto : Proto) (file : Loaded) → load_of name bytes proto ≡ Ok file → file.name ≡ name
+pub name-load_of : (name bytes : List ℕ) (proto : Proto) (file : Loaded) → load_of name bytes proto ≡ Ok file
+    → file.name ≡ name
 name-load_of name bytes proto file e = (IsTaken-load_of name bytes proto file e).name_is
 
-pub content-load_of : (name bytes : List ℕ) (proto : Proto) (file : Loaded) → load_of name bytes proto ≡ Ok file → file.content ≡ bytes
+pub content-load_of : (name bytes : List ℕ) (proto : Proto) (file : Loaded) → load_of name bytes proto ≡ Ok file
+    → file.content ≡ bytes
 content-load_of name bytes proto file e = (IsTaken-load_of name bytes proto file e).content_is
 
-pub Fits-load_of : (name bytes : List ℕ) (proto : Proto) (file : Loaded) → load_of name bytes proto ≡ Ok file → Fits file proto
+pub Fits-load_of : (name bytes : List ℕ) (proto : Proto) (file : Loaded) → load_of name bytes proto ≡ Ok file
+    → Fits file proto
 Fits-load_of name bytes proto file e =
     let t = IsTaken-load_of name bytes proto file e in
     ap (λ n. load_of n file.content proto) t.name_is ∙ ap (λ b. load_of name b proto) t.content_is ∙ e

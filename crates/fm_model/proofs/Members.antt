@@ -12,7 +12,8 @@ In x (y ∷ ys) = (y ≡ x) ⊎ In x ys
 pub Contains-from_in : {A : Type 0} (x : A) (xs : List A) → In x xs → Contains xs x
 Contains-from_in x [] h = absurd h
 Contains-from_in x (y ∷ ys) (inl e) = (0, omega arith, e)
-Contains-from_in x (y ∷ ys) (inr h) = let found = Contains-from_in x ys h in (suc found.0, omega (arith, found.1), found.2)
+Contains-from_in x (y ∷ ys) (inr h) = let found = Contains-from_in x ys h in
+    (suc found.0, omega (arith, found.1), found.2)
 
 pub in_from_Contains : {A : Type 0} (x : A) (xs : List A) → Contains xs x → In x xs
 in_from_Contains {A} x xs c = go xs c.0 c.1 c.2
@@ -47,39 +48,46 @@ in_map f b [] h = absurd h
 in_map f b (y ∷ ys) (inl e) = (y, inl refl, e)
 in_map f b (y ∷ ys) (inr h) = let found = in_map f b ys h in (found.0, inr found.1, found.2)
 
-pub In-flat_map : {A B : Type 0} (f : A → List B) (b : B) (x : A) (xs : List A) → In x xs → In b (f x) → In b (flat_map f xs)
+pub In-flat_map : {A B : Type 0} (f : A → List B) (b : B) (x : A) (xs : List A) → In x xs → In b (f x)
+    → In b (flat_map f xs)
 In-flat_map f b x [] h i = absurd h
 In-flat_map f b x (y ∷ ys) (inl e) i = In-append_left b (f y) (flat_map f ys) (subst (λ a. In b (f a)) (sym e) i)
 In-flat_map f b x (y ∷ ys) (inr h) i = In-append_right b (f y) (flat_map f ys) (In-flat_map f b x ys h i)
 
-pub in_flat_map : {A B : Type 0} (f : A → List B) (b : B) (xs : List A) → In b (flat_map f xs) → (x : A) × In x xs × In b (f x)
+pub in_flat_map : {A B : Type 0} (f : A → List B) (b : B) (xs : List A) → In b (flat_map f xs)
+    → (x : A) × In x xs × In b (f x)
 in_flat_map f b [] h = absurd h
 in_flat_map f b (y ∷ ys) h = elim (In-append_cases b (f y) (flat_map f ys) h) [
   | inl here ↦ (y, inl refl, here)
   | inr there ↦ let found = in_flat_map f b ys there in (found.0, inr found.1, found.2)
 ]
 
-pub In-filter_map : {A B : Type 0} (f : A → Option B) (b : B) (x : A) (xs : List A) → In x xs → f x ≡ Some b → In b (filter_map f xs)
+pub In-filter_map : {A B : Type 0} (f : A → Option B) (b : B) (x : A) (xs : List A) → In x xs → f x ≡ Some b
+    → In b (filter_map f xs)
 In-filter_map f b x [] h e = absurd h
-In-filter_map f b x (y ∷ ys) (inl same) e = subst (λ o. In b (cons_option o (filter_map f ys))) (sym (ap f same ∙ e)) (inl refl)
+In-filter_map f b x (y ∷ ys) (inl same) e = subst (λ o. In b (cons_option o (filter_map f ys))) (sym (ap f same ∙ e))
+    (inl refl)
 In-filter_map {B} f b x (y ∷ ys) (inr h) e = later (f y) (In-filter_map f b x ys h e)
   where
     later : (o : Option B) → In b (filter_map f ys) → In b (cons_option o (filter_map f ys))
     later None i = i
     later (Some c) i = inr i
 
-pub in_filter_map : {A B : Type 0} (f : A → Option B) (b : B) (xs : List A) → In b (filter_map f xs) → (x : A) × In x xs × (f x ≡ Some b)
+pub in_filter_map : {A B : Type 0} (f : A → Option B) (b : B) (xs : List A) → In b (filter_map f xs)
+    → (x : A) × In x xs × (f x ≡ Some b)
 in_filter_map f b [] h = absurd h
 in_filter_map {A} {B} f b (y ∷ ys) h = by_first (f y) refl h (in_filter_map f b ys)
   where
-    by_first : (o : Option B) → f y ≡ o → In b (cons_option o (filter_map f ys)) → (In b (filter_map f ys) → (x : A) × In x ys × (f x ≡ Some b)) → (x : A) × In x (y ∷ ys) × (f x ≡ Some b)
+    by_first : (o : Option B) → f y ≡ o → In b (cons_option o (filter_map f ys))
+        → (In b (filter_map f ys) → (x : A) × In x ys × (f x ≡ Some b)) → (x : A) × In x (y ∷ ys) × (f x ≡ Some b)
     by_first None e i more = let found = more i in (found.0, inr found.1, found.2)
     by_first (Some c) e (inl same) more = (y, inl refl, e ∙ ap Some same)
     by_first (Some c) e (inr i) more = let found = more i in (found.0, inr found.1, found.2)
 
 pub In-filter : {A : Type 0} (p : A → Bool) (x : A) (xs : List A) → In x xs → p x ≡ true → In x (filter p xs)
 In-filter p x [] h e = absurd h
-In-filter p x (y ∷ ys) (inl same) e = subst (λ b. In x (cond b (y ∷ filter p ys) (filter p ys))) (sym (ap p same ∙ e)) (inl same)
+In-filter p x (y ∷ ys) (inl same) e = subst (λ b. In x (cond b (y ∷ filter p ys) (filter p ys))) (sym (ap p same ∙ e))
+    (inl same)
 In-filter p x (y ∷ ys) (inr h) e = later (p y) (In-filter p x ys h e)
   where
     later : (b : Bool) → In x (filter p ys) → In x (cond b (y ∷ filter p ys) (filter p ys))
@@ -90,7 +98,8 @@ pub in_filter : {A : Type 0} (p : A → Bool) (x : A) (xs : List A) → In x (fi
 in_filter p x [] h = absurd h
 in_filter p x (y ∷ ys) h = by_first (p y) refl h (in_filter p x ys)
   where
-    by_first : (b : Bool) → p y ≡ b → In x (cond b (y ∷ filter p ys) (filter p ys)) → (In x (filter p ys) → In x ys × (p x ≡ true)) → In x (y ∷ ys) × (p x ≡ true)
+    by_first : (b : Bool) → p y ≡ b → In x (cond b (y ∷ filter p ys) (filter p ys))
+        → (In x (filter p ys) → In x ys × (p x ≡ true)) → In x (y ∷ ys) × (p x ≡ true)
     by_first true e (inl same) more = (inl same, ap p (sym same) ∙ e)
     by_first true e (inr i) more = let found = more i in (inr found.0, found.1)
     by_first false e i more = let found = more i in (inr found.0, found.1)
@@ -132,11 +141,18 @@ EachPair R (x ∷ xs) = Each (R x) xs × EachPair R xs
 
 pub AllPairs-from_each : {A : Type 0} (R : A → A → Type 0) (xs : List A) → EachPair R xs → AllPairs R xs
 AllPairs-from_each R [] each = λ i j d lt within. absurd (omega arith)
-AllPairs-from_each R (x ∷ xs) each = AllPairs-cons R x xs (All-from_each (R x) xs each.0) (AllPairs-from_each R xs each.1)
+AllPairs-from_each R (x ∷ xs) each = AllPairs-cons R x xs (All-from_each (R x) xs each.0)
+    (AllPairs-from_each R xs each.1)
 
 pub each_from_AllPairs : {A : Type 0} (R : A → A → Type 0) (xs : List A) → AllPairs R xs → EachPair R xs
 each_from_AllPairs R [] pairs = tt
-each_from_AllPairs R (x ∷ xs) pairs = (each_from_All (R x) xs (λ k d lt. pairs 0 (suc k) d (omega arith) (omega arith)), each_from_AllPairs R xs (λ i j d lt within. pairs (suc i) (suc j) d (omega arith) (omega arith)))
+each_from_AllPairs R
+    (x ∷ xs) pairs = (
+      each_from_All (R x) xs
+          (λ k d lt. pairs 0 (suc k) d (omega arith) (omega arith)),
+      each_from_AllPairs R xs
+          (λ i j d lt within. pairs (suc i) (suc j) d (omega arith) (omega arith)),
+    )
 
 pub Any-from_in : {A : Type 0} (P : A → Type 0) (x : A) (xs : List A) → In x xs → P x → Any P xs
 Any-from_in P x xs h p = let c = Contains-from_in x xs h in (c.0, x, c.1, c.2, p)
@@ -148,6 +164,8 @@ pub Each-push : {A : Type 0} (P : A → Type 0) (xs : List A) (x : A) → Each P
 Each-push P [] x each p = (p, tt)
 Each-push P (y ∷ xs) x each p = (each.0, Each-push P xs x each.1 p)
 
-pub EachPair-push : {A : Type 0} (R : A → A → Type 0) (items : List A) (last : A) → EachPair R items → Each (λ x. R x last) items → EachPair R (items ++ last ∷ [])
+pub EachPair-push : {A : Type 0} (R : A → A → Type 0) (items : List A) (last : A) → EachPair R items
+    → Each (λ x. R x last) items → EachPair R (items ++ last ∷ [])
 EachPair-push R [] last pairs each = (tt, tt)
-EachPair-push R (item ∷ items) last pairs each = (Each-push (R item) items last pairs.0 each.0, EachPair-push R items last pairs.1 each.1)
+EachPair-push R (item ∷ items) last pairs each =
+    (Each-push (R item) items last pairs.0 each.0, EachPair-push R items last pairs.1 each.1)

@@ -22,7 +22,11 @@ pub IsInstant-from_test : (seconds : ℤ) → not (is_instant seconds) ≡ false
 unfolding is_instant
 IsInstant-from_test seconds e =
     let parts = and_parts (int_le (neg_ℤ MAX_INSTANT) seconds) (int_le seconds MAX_INSTANT) (not-false _ e) in
-    record { low = at_most_from_test (neg_ℤ MAX_INSTANT) seconds parts.0; high = at_most_from_test seconds MAX_INSTANT parts.1 }
+    record {
+      low = at_most_from_test
+          (neg_ℤ MAX_INSTANT) seconds parts.0;
+      high = at_most_from_test seconds MAX_INSTANT parts.1;
+    }
 
 IsInstant-run_in_range : (seconds run : ℤ) → run_in_range seconds ≡ Ok run → IsInstant run
 unfolding run_in_range
@@ -30,12 +34,14 @@ IsInstant-run_in_range seconds run e =
     let passed = refuse_if_ok (not (is_instant seconds)) _ (Ok seconds) run e in
     subst IsInstant (same_Ok {E = LoadFault} seconds run passed.1) (IsInstant-from_test seconds passed.0)
 
-IsInstant-by_variable : (site : Site) (bytes : List ℕ) (header : FileHeader) (var : NcVar) (run : ℤ) → run_by_variable site bytes header var ≡ Ok run → IsInstant run
+IsInstant-by_variable : (site : Site) (bytes : List ℕ) (header : FileHeader) (var : NcVar) (run : ℤ)
+    → run_by_variable site bytes header var ≡ Ok run → IsInstant run
 unfolding run_by_variable
 IsInstant-by_variable site bytes header var run e =
     let passed = refuse_if_ok _ _ _ run e in
     let units = step_ok (file_units var) _ run passed.1 in
-    let seconds = step_ok (ok_or (seconds_at bytes header var units.0 (map (λ id. 0) var.dims)) RunNotWhole) (λ s. run_in_range (from_epoch site units.0 s)) run units.2 in
+    let seconds = step_ok (ok_or (seconds_at bytes header var units.0 (map (λ id. 0) var.dims)) RunNotWhole)
+    (λ s. run_in_range (from_epoch site units.0 s)) run units.2 in
     IsInstant-run_in_range (from_epoch site units.0 seconds.0) run seconds.2
 
 IsInstant-by_name : (site : Site) (name : List ℕ) (run : ℤ) → run_by_name site name ≡ Ok run → IsInstant run
@@ -44,7 +50,8 @@ IsInstant-by_name site name run e =
     let moment = step_ok (ok_or (mark_of name site.mark) NoRunTime) (λ m. run_in_range (m -ℤ site.epoch)) run e in
     IsInstant-run_in_range (moment.0 -ℤ site.epoch) run moment.2
 
-pub IsInstant-file_run : (site : Site) (name bytes : List ℕ) (header : FileHeader) (run : ℤ) → file_run site name bytes header ≡ Ok run → IsInstant run
+pub IsInstant-file_run : (site : Site) (name bytes : List ℕ) (header : FileHeader) (run : ℤ)
+    → file_run site name bytes header ≡ Ok run → IsInstant run
 unfolding file_run
 IsInstant-file_run site name bytes header run e = by_reference (reference_of header) e
   where

@@ -33,14 +33,20 @@ pub record IsCount (header : FileHeader) (axis : NcVar) (count : ℕ) : Type 0 w
   pub some : 0 < count
   pub few : count ≤ MAX_TIMES
 
-IsCount-time_count : (header : FileHeader) (axis : NcVar) (count : ℕ) → time_count header axis ≡ Ok count → IsCount header axis count
+IsCount-time_count : (header : FileHeader) (axis : NcVar) (count : ℕ) → time_count header axis ≡ Ok count
+    → IsCount header axis count
 unfolding time_count
 IsCount-time_count header axis count e =
     let some = refuse_if_ok _ _ _ count e in
     let few = refuse_if_ok _ _ _ count some.1 in
     let is : size_at header (dim_of_axis axis) ≡ count = same_Ok {E = LoadFault} _ count few.1 in
     let apart : size_at header (dim_of_axis axis) ≡ 0 → ⊥ = eqb-false (size_at header (dim_of_axis axis)) 0 some.0 in
-    record { is = sym is; some = subst (λ n. 0 < n) is (omega arith); few = subst (λ n. n ≤ MAX_TIMES) is (ltb-false MAX_TIMES (size_at header (dim_of_axis axis)) few.0) }
+    record {
+      is = sym is;
+      some = subst (λ n. 0 < n) is (omega arith);
+      few = subst (λ n. n ≤ MAX_TIMES) is
+          (ltb-false MAX_TIMES (size_at header (dim_of_axis axis)) few.0);
+    }
 
 IsInstant-time_in_range : (k : ℕ) (seconds t : ℤ) → time_in_range k seconds ≡ Ok t → IsInstant t
 unfolding time_in_range
@@ -48,10 +54,12 @@ IsInstant-time_in_range k seconds t e =
     let passed = refuse_if_ok (not (is_instant seconds)) (TimeRange k seconds) (Ok seconds) t e in
     subst IsInstant (same_Ok {E = LoadFault} seconds t passed.1) (IsInstant-from_test seconds passed.0)
 
-IsInstant-time_at : (site : Site) (bytes : List ℕ) (header : FileHeader) (axis : NcVar) (units : TimeUnits) (k : ℕ) (t : ℤ) → time_at site bytes header axis units k ≡ Ok t → IsInstant t
+IsInstant-time_at : (site : Site) (bytes : List ℕ) (header : FileHeader) (axis : NcVar) (units : TimeUnits) (k : ℕ)
+    (t : ℤ) → time_at site bytes header axis units k ≡ Ok t → IsInstant t
 unfolding time_at
 IsInstant-time_at site bytes header axis units k t e =
-    let seconds = step_ok (ok_or (seconds_at bytes header axis units (k ∷ [])) (NotWhole k)) (λ s. time_in_range k (from_epoch site units s)) t e in
+    let seconds = step_ok (ok_or (seconds_at bytes header axis units (k ∷ [])) (NotWhole k))
+    (λ s. time_in_range k (from_epoch site units s)) t e in
     IsInstant-time_in_range k (from_epoch site units seconds.0) t seconds.2
 
 -- one more time was found
@@ -61,7 +69,8 @@ pub record IsNextTime (time : ℕ → Result ℤ LoadFault) (n : ℕ) (found all
   pub new : list_any (λ earlier. int_eq earlier instant) found ≡ false
   pub more : times_from time n (found ++ instant ∷ []) ≡ Ok all
 
-IsNextTime-times_from : (time : ℕ → Result ℤ LoadFault) (n : ℕ) (found all : List ℤ) → times_from time (suc n) found ≡ Ok all → IsNextTime time n found all
+IsNextTime-times_from : (time : ℕ → Result ℤ LoadFault) (n : ℕ) (found all : List ℤ)
+    → times_from time (suc n) found ≡ Ok all → IsNextTime time n found all
 unfolding times_from
 IsNextTime-times_from time n found all e =
     let next = step_ok (time (length found)) _ all e in
@@ -72,7 +81,8 @@ times_done : (time : ℕ → Result ℤ LoadFault) (found all : List ℤ) → ti
 unfolding times_from
 times_done time found all e = same_Ok {E = LoadFault} found all e
 
-length-times_from : (time : ℕ → Result ℤ LoadFault) (n : ℕ) (found all : List ℤ) → times_from time n found ≡ Ok all → length all ≡ length found + n
+length-times_from : (time : ℕ → Result ℤ LoadFault) (n : ℕ) (found all : List ℤ) → times_from time n found ≡ Ok all
+    → length all ≡ length found + n
 length-times_from time zero found all e = let same = ap length (times_done time found all e) in omega (arith, same)
 length-times_from time (suc n) found all e =
     let next = IsNextTime-times_from time n found all e in
@@ -82,21 +92,27 @@ length-times_from time (suc n) found all e =
 abbrev Apart : ℤ → ℤ → Type 0
 Apart a b = a ≢ b
 
-new_differs : (found : List ℤ) (instant : ℤ) → list_any (λ earlier. int_eq earlier instant) found ≡ false → Each (λ earlier. Apart earlier instant) found
-new_differs found instant new = Each-from_in _ found (λ earlier h same. both_ways _ new (in-has instant found (subst (λ t. In t found) same h)))
+new_differs : (found : List ℤ) (instant : ℤ) → list_any (λ earlier. int_eq earlier instant) found ≡ false
+    → Each (λ earlier. Apart earlier instant) found
+new_differs found instant new = Each-from_in _ found
+    (λ earlier h same. both_ways _ new (in-has instant found (subst (λ t. In t found) same h)))
 
-differ-times_from : (time : ℕ → Result ℤ LoadFault) (n : ℕ) (found all : List ℤ) → EachPair Apart found → times_from time n found ≡ Ok all → EachPair Apart all
+differ-times_from : (time : ℕ → Result ℤ LoadFault) (n : ℕ) (found all : List ℤ) → EachPair Apart found
+    → times_from time n found ≡ Ok all → EachPair Apart all
 differ-times_from time zero found all differ e = subst (EachPair Apart) (times_done time found all e) differ
 differ-times_from time (suc n) found all differ e =
     let next = IsNextTime-times_from time n found all e in
-    differ-times_from time n (found ++ next.instant ∷ []) all (EachPair-push Apart found next.instant differ (new_differs found next.instant next.new)) next.more
+    differ-times_from time n (found ++ next.instant ∷ []) all
+    (EachPair-push Apart found next.instant differ (new_differs found next.instant next.new)) next.more
 
-instants-times_from : (time : ℕ → Result ℤ LoadFault) → ((k : ℕ) (t : ℤ) → time k ≡ Ok t → IsInstant t) → (n : ℕ) (found all : List ℤ) → Each IsInstant found
+instants-times_from : (time : ℕ → Result ℤ LoadFault) → ((k : ℕ) (t : ℤ) → time k ≡ Ok t → IsInstant t)
+    → (n : ℕ) (found all : List ℤ) → Each IsInstant found
     → times_from time n found ≡ Ok all → Each IsInstant all
 instants-times_from time sound zero found all each e = subst (Each IsInstant) (times_done time found all e) each
 instants-times_from time sound (suc n) found all each e =
     let next = IsNextTime-times_from time n found all e in
-    instants-times_from time sound n (found ++ next.instant ∷ []) all (Each-push IsInstant found next.instant each (sound (length found) next.instant next.time_is)) next.more
+    instants-times_from time sound n (found ++ next.instant ∷ []) all
+    (Each-push IsInstant found next.instant each (sound (length found) next.instant next.time_is)) next.more
 
 slice_get-append_left : {A : Type 0} (xs ys : List A) (k : ℕ) → k < length xs → slice_get (xs ++ ys) k ≡ slice_get xs k
 slice_get-append_left [] ys k lt = absurd (omega arith)
@@ -108,35 +124,44 @@ slice_get-push [] x = refl
 slice_get-push (y ∷ xs) x = slice_get-push xs x
 
 -- those that were found stay in front
-front-times_from : (time : ℕ → Result ℤ LoadFault) (n : ℕ) (found all : List ℤ) → times_from time n found ≡ Ok all → (k : ℕ) → k < length found → slice_get all k ≡ slice_get found k
+front-times_from : (time : ℕ → Result ℤ LoadFault) (n : ℕ) (found all : List ℤ) → times_from time n found ≡ Ok all
+    → (k : ℕ) → k < length found → slice_get all k ≡ slice_get found k
 front-times_from time zero found all e k lt = ap (λ (l : List ℤ). slice_get l k) (sym (times_done time found all e))
 front-times_from time (suc n) found all e k lt =
     let next = IsNextTime-times_from time n found all e in
-    front-times_from time n (found ++ next.instant ∷ []) all next.more k (omega (arith, length-append found (next.instant ∷ []))) ∙ slice_get-append_left found (next.instant ∷ []) k lt
+    front-times_from time n (found ++ next.instant ∷ []) all next.more k
+    (omega (arith, length-append found (next.instant ∷ []))) ∙ slice_get-append_left found (next.instant ∷ []) k lt
 
-each-times_from : (time : ℕ → Result ℤ LoadFault) (n : ℕ) (found all : List ℤ) → times_from time n found ≡ Ok all → (k : ℕ) → length found ≤ k → k < length all → slice_get all k ≡ result_ok (time k)
-each-times_from time zero found all e k le lt = let same = ap length (times_done time found all e) in absurd (omega arith)
+each-times_from : (time : ℕ → Result ℤ LoadFault) (n : ℕ) (found all : List ℤ) → times_from time n found ≡ Ok all
+    → (k : ℕ) → length found ≤ k → k < length all → slice_get all k ≡ result_ok (time k)
+each-times_from time zero found all e k le lt = let same = ap length (times_done time found all e) in absurd
+    (omega arith)
 each-times_from time (suc n) found all e k le lt =
     let next = IsNextTime-times_from time n found all e in
     let longer = length-append found (next.instant ∷ []) in
     elim (cases_order k (length found)) [
       | inl same ↦
-          let at_end : slice_get all (length found) ≡ Some next.instant = front-times_from time n (found ++ next.instant ∷ []) all next.more (length found) (omega (arith, longer)) ∙ slice_get-push found next.instant in
+          let at_end : slice_get all (length found) ≡ Some next.instant = front-times_from time n
+          (found ++ next.instant ∷ []) all next.more (length found) (omega (arith, longer))
+          ∙ slice_get-push found next.instant in
           ap (slice_get all) same ∙ at_end ∙ ap result_ok (sym next.time_is) ∙ ap (λ j. result_ok (time j)) (sym same)
       | inr (inl below) ↦ absurd (omega arith)
       | inr (inr above) ↦ each-times_from time n (found ++ next.instant ∷ []) all next.more k (omega (arith, longer)) lt
     ]
 
 -- the times of a file that fits
-pub record HasTimes (file : Loaded) (proto : Proto) (header : FileHeader) (axis : NcVar) (units : TimeUnits) : Type 0 where
+pub record HasTimes (file : Loaded) (proto : Proto) (header : FileHeader) (axis : NcVar)
+    (units : TimeUnits) : Type 0 where
   pub count : length file.times ≡ size_at header (dim_of_axis axis)
   pub some : 0 < length file.times
   pub few : length file.times ≤ MAX_TIMES
   pub differ : EachPair Apart file.times
   pub instants : Each IsInstant file.times
-  pub each : (k : ℕ) → k < length file.times → slice_get file.times k ≡ result_ok (time_at proto.site file.content header axis units k)
+  pub each : (k : ℕ) → k < length file.times
+      → slice_get file.times k ≡ result_ok (time_at proto.site file.content header axis units k)
 
-pub HasTimes-taken : (file : Loaded) (proto : Proto) (t : IsTaken file.name file.content proto file) → HasTimes file proto t.header t.axis t.units
+pub HasTimes-taken : (file : Loaded) (proto : Proto) (t : IsTaken file.name file.content proto file)
+    → HasTimes file proto t.header t.axis t.units
 unfolding file_times
 HasTimes-taken file proto t =
     let count = IsCount-time_count t.header t.axis t.count t.count_is in
@@ -148,7 +173,8 @@ HasTimes-taken file proto t =
       some = subst (λ n. 0 < n) (sym len) count.some;
       few = subst (λ n. n ≤ MAX_TIMES) (sym len) count.few;
       differ = differ-times_from time t.count [] file.times tt all;
-      instants = instants-times_from time (IsInstant-time_at proto.site file.content t.header t.axis t.units) t.count [] file.times tt all;
+      instants = instants-times_from time
+          (IsInstant-time_at proto.site file.content t.header t.axis t.units) t.count [] file.times tt all;
       each = λ k lt. each-times_from time t.count [] file.times all k (omega arith) lt;
     }
 
@@ -162,24 +188,32 @@ pub few-times : (file : Loaded) (proto : Proto) → Fits file proto → length f
 few-times file proto fits = (HasTimes-taken file proto (fit file proto fits)).few
 
 pub times_differ : (file : Loaded) (proto : Proto) → Fits file proto → AllPairs (λ (a b : ℤ). a ≢ b) file.times
-times_differ file proto fits = AllPairs-from_each Apart file.times (HasTimes-taken file proto (fit file proto fits)).differ
+times_differ file proto fits = AllPairs-from_each Apart file.times
+    (HasTimes-taken file proto (fit file proto fits)).differ
 
 pub times_are_instants : (file : Loaded) (proto : Proto) → Fits file proto → All IsInstant file.times
-times_are_instants file proto fits = All-from_each IsInstant file.times (HasTimes-taken file proto (fit file proto fits)).instants
+times_are_instants file proto fits = All-from_each IsInstant file.times
+    (HasTimes-taken file proto (fit file proto fits)).instants
 
 pub run_is_instant : (file : Loaded) (proto : Proto) → Fits file proto → IsInstant file.run
-run_is_instant file proto fits = let t = fit file proto fits in IsInstant-file_run proto.site file.name file.content t.header file.run t.run_is
+run_is_instant file proto fits =
+    let t = fit file proto fits in IsInstant-file_run proto.site file.name file.content t.header file.run t.run_is
 
-same_header : (bytes : List ℕ) (header other : FileHeader) → file_header bytes ≡ Ok header → file_header bytes ≡ Ok other → header ≡ other
+same_header : (bytes : List ℕ) (header other : FileHeader) → file_header bytes ≡ Ok header
+    → file_header bytes ≡ Ok other → header ≡ other
 same_header bytes header other e d = same_Ok {E = LoadFault} header other (sym e ∙ d)
 
-same_axis : (proto : Proto) (header other : FileHeader) (axis second : NcVar) → header ≡ other → file_axis proto header ≡ Ok axis → file_axis proto other ≡ Ok second → axis ≡ second
-same_axis proto header other axis second same e d = same_Ok {E = LoadFault} axis second (sym e ∙ ap (file_axis proto) same ∙ d)
+same_axis : (proto : Proto) (header other : FileHeader) (axis second : NcVar) → header ≡ other
+    → file_axis proto header ≡ Ok axis → file_axis proto other ≡ Ok second → axis ≡ second
+same_axis proto header other axis second same e d = same_Ok {E = LoadFault} axis second
+    (sym e ∙ ap (file_axis proto) same ∙ d)
 
-same_units : (axis other : NcVar) (units second : TimeUnits) → axis ≡ other → file_units axis ≡ Ok units → file_units other ≡ Ok second → units ≡ second
+same_units : (axis other : NcVar) (units second : TimeUnits) → axis ≡ other → file_units axis ≡ Ok units
+    → file_units other ≡ Ok second → units ≡ second
 same_units axis other units second same e d = same_Ok {E = LoadFault} units second (sym e ∙ ap file_units same ∙ d)
 
-pub times_count : (file : Loaded) (proto : Proto) (header : FileHeader) (axis : NcVar) → Fits file proto → file_header file.content ≡ Ok header → file_axis proto header ≡ Ok axis
+pub times_count : (file : Loaded) (proto : Proto) (header : FileHeader) (axis : NcVar) → Fits file proto
+    → file_header file.content ≡ Ok header → file_axis proto header ≡ Ok axis
     → length file.times ≡ size_at header (dim_of_axis axis)
 times_count file proto header axis fits e d =
     let t = fit file proto fits in
@@ -187,26 +221,36 @@ times_count file proto header axis fits e d =
     let a = same_axis proto t.header header t.axis axis h t.axis_is d in
     (HasTimes-taken file proto t).count ∙ ap₂ (λ (x : FileHeader) (y : NcVar). size_at x (dim_of_axis y)) h a
 
-pub times_each : (file : Loaded) (proto : Proto) (header : FileHeader) (axis : NcVar) (units : TimeUnits) (k : ℕ) → Fits file proto → file_header file.content ≡ Ok header
-    → file_axis proto header ≡ Ok axis → file_units axis ≡ Ok units → k < length file.times → slice_get file.times k ≡ result_ok (time_at proto.site file.content header axis units k)
+pub times_each : (file : Loaded) (proto : Proto) (header : FileHeader) (axis : NcVar) (units : TimeUnits) (k : ℕ)
+    → Fits file proto → file_header file.content ≡ Ok header
+    → file_axis proto header ≡ Ok axis → file_units axis ≡ Ok units → k < length file.times
+    → slice_get file.times k ≡ result_ok (time_at proto.site file.content header axis units k)
 times_each file proto header axis units k fits e d u lt =
     let t = fit file proto fits in
     let h = same_header file.content t.header header t.header_is e in
     let a = same_axis proto t.header header t.axis axis h t.axis_is d in
     let w = same_units t.axis axis t.units units a t.units_is u in
-    (HasTimes-taken file proto t).each k lt ∙ ap₂ (λ (x : FileHeader) (y : NcVar). result_ok (time_at proto.site file.content x y t.units k)) h a ∙ ap (λ (v : TimeUnits). result_ok (time_at proto.site file.content header axis v k)) w
+    (HasTimes-taken file proto t).each k lt
+    ∙ ap₂ (λ (x : FileHeader) (y : NcVar). result_ok (time_at proto.site file.content x y t.units k)) h a
+    ∙ ap (λ (v : TimeUnits). result_ok (time_at proto.site file.content header axis v k)) w
 
-run_named : (file : Loaded) (proto : Proto) (header : FileHeader) → Fits file proto → file_header file.content ≡ Ok header
+run_named : (file : Loaded) (proto : Proto) (header : FileHeader) → Fits file proto
+    → file_header file.content ≡ Ok header
     → run_by proto.site file.name file.content header (reference_of header) ≡ Ok file.run
 unfolding file_run
 run_named file proto header fits e =
     let t = fit file proto fits in
-    ap (λ (h : FileHeader). run_by proto.site file.name file.content h (reference_of h)) (sym (same_header file.content t.header header t.header_is e)) ∙ t.run_is
+    ap (λ (h : FileHeader). run_by proto.site file.name file.content h (reference_of h))
+    (sym (same_header file.content t.header header t.header_is e)) ∙ t.run_is
 
-pub run_of_variable : (file : Loaded) (proto : Proto) (header : FileHeader) (var : NcVar) → Fits file proto → file_header file.content ≡ Ok header → reference_of header ≡ Some var
+pub run_of_variable : (file : Loaded) (proto : Proto) (header : FileHeader) (var : NcVar) → Fits file proto
+    → file_header file.content ≡ Ok header → reference_of header ≡ Some var
     → run_by_variable proto.site file.content header var ≡ Ok file.run
-run_of_variable file proto header var fits e is = ap (run_by proto.site file.name file.content header) (sym is) ∙ run_named file proto header fits e
+run_of_variable file proto header var fits e is = ap (run_by proto.site file.name file.content header) (sym is)
+    ∙ run_named file proto header fits e
 
-pub run_of_name : (file : Loaded) (proto : Proto) (header : FileHeader) → Fits file proto → file_header file.content ≡ Ok header → reference_of header ≡ None
+pub run_of_name : (file : Loaded) (proto : Proto) (header : FileHeader) → Fits file proto
+    → file_header file.content ≡ Ok header → reference_of header ≡ None
     → run_by_name proto.site file.name ≡ Ok file.run
-run_of_name file proto header fits e is = ap (run_by proto.site file.name file.content header) (sym is) ∙ run_named file proto header fits e
+run_of_name file proto header fits e is = ap (run_by proto.site file.name file.content header) (sym is)
+    ∙ run_named file proto header fits e

@@ -28,6 +28,10 @@ morning = file_of (codes "gfs_0600.nc") (pos 21600) (pos 21600 ∷ pos 43200 ∷
 abbrev pub midnight_again : Loaded
 midnight_again = file_of (codes "gfs_0000.nc") (pos 0) (pos 0 ∷ pos 21600 ∷ [])
 
+-- another file of the run of 00Z, with 18Z alone
+abbrev pub midnight_part : Loaded
+midnight_part = file_of (codes "gfs_0000_part.nc") (pos 0) (pos 64800 ∷ [])
+
 -- the row of a file at a place
 abbrev pub row_of : Loaded → ℤ → ℕ → Row
 row_of file valid place = record { valid = valid; run = file.run; file = file; place = place }
@@ -40,7 +44,7 @@ site = record { name = codes "gfs"; epoch = pos 1577836800; mark = codes "gfs_" 
 abbrev pub since_1970 : Units
 since_1970 = record { per = 1; origin = pos 0 }
 
--- so many seconds since the epoch of that site
+-- units of n seconds, counted from the epoch of that site
 abbrev pub since_epoch : ℕ → Units
 since_epoch per = record { per = per; origin = pos 1577836800 }
 
@@ -48,9 +52,16 @@ since_epoch per = record { per = per; origin = pos 1577836800 }
 abbrev pub times_var : Kind → List Attr → NcVar
 times_var kind attrs = record { name = codes "time"; dims = 0 ∷ []; attrs = attrs; kind = kind; begin = 0 }
 
--- a header with that variable alone, over so many times
+-- a header with that variable alone, over n times
 abbrev pub times_header : ℕ → NcVar → Header
-times_header count var = record { version = 1; numrecs = 0; dims = record { name = codes "time"; size = count } ∷ []; attrs = []; vars = var ∷ [] }
+times_header count var = record {
+  version = 1;
+  numrecs = 0;
+  dims = record { name = codes "time"; size = count }
+      ∷ [];
+  attrs = [];
+  vars = var ∷ [];
+}
 
 -- an attribute of characters
 abbrev pub text_attr : List ℕ → List ℕ → Attr
@@ -69,7 +80,8 @@ abbrev pub field_header : List NcVar → Header
 field_header vars = record {
   version = 1;
   numrecs = 3;
-  dims = record { name = codes "time"; size = 0 } ∷ record { name = codes "lat"; size = 2 } ∷ record { name = codes "lon"; size = 2 } ∷ [];
+  dims = record { name = codes "time"; size = 0 } ∷ record { name = codes "lat"; size = 2 }
+      ∷ record { name = codes "lon"; size = 2 } ∷ [];
   attrs = [];
   vars = record_axis ∷ vars;
 }
@@ -83,9 +95,11 @@ abbrev pub field_proto : Proto
 field_proto = record {
   site = site;
   axis = codes "time";
-  dims = record { name = codes "time"; size = 3 } ∷ record { name = codes "lat"; size = 2 } ∷ record { name = codes "lon"; size = 2 } ∷ [];
+  dims = record { name = codes "time"; size = 3 } ∷ record { name = codes "lat"; size = 2 }
+      ∷ record { name = codes "lon"; size = 2 } ∷ [];
   attrs = [];
-  vars = record { name = codes "time"; kind = Int; dims = 0 ∷ []; attrs = []; timed = true; fixed = [] } ∷ proto_field ∷ [];
+  vars = record { name = codes "time"; kind = Int; dims = 0 ∷ []; attrs = []; timed = true; fixed = [] } ∷ proto_field
+      ∷ [];
 }
 
 -- a variable of whole numbers over dimensions of these numbers
@@ -94,7 +108,10 @@ number_var name dims = record { name = name; dims = dims; attrs = []; kind = Int
 
 -- a variable with the standard name of a reference time
 abbrev pub run_var : List ℕ → NcVar
-run_var dims = record (number_var (codes "run") dims) { attrs = text_attr (codes "standard_name") (codes "forecast_reference_time") ∷ [] }
+run_var dims = record (number_var (codes "run") dims) {
+  attrs = text_attr (codes "standard_name")
+      (codes "forecast_reference_time") ∷ [];
+}
 
 -- a variable of characters
 abbrev pub flag_var : List ℕ → NcVar
@@ -102,11 +119,21 @@ flag_var dims = record (number_var (codes "flag") dims) { kind = Char }
 
 -- a variable over its own dimension with the standard name `time`
 abbrev pub valid_var : NcVar
-valid_var = record (number_var (codes "valid") (0 ∷ [])) { attrs = text_attr (codes "standard_name") (codes "time") ∷ [] }
+valid_var = record (number_var (codes "valid") (0 ∷ [])) {
+  attrs = text_attr (codes "standard_name") (codes "time")
+      ∷ [];
+}
 
 -- a header with a dimension of this name and length 2, and one variable
 abbrev pub header_of : List ℕ → NcVar → Header
-header_of name var = record { version = 1; numrecs = 0; dims = record { name = name; size = 2 } ∷ []; attrs = []; vars = var ∷ [] }
+header_of name var = record {
+  version = 1;
+  numrecs = 0;
+  dims = record { name = name; size = 2 }
+      ∷ [];
+  attrs = [];
+  vars = var ∷ [];
+}
 
 -- a time axis over two times, a dimension of this name and length, and one more variable
 abbrev pub header_with : List ℕ → ℕ → NcVar → Header

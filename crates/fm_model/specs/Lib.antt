@@ -3,7 +3,9 @@ pub mod Cell
 pub use Rattle.fm_base.specs.Chain
 pub mod Code
 pub mod Collection
+pub mod Computed
 pub mod Example
+pub mod ExampleFiles
 pub mod Load
 pub mod LoadAxis
 pub mod LoadTimes

@@ -1,22 +1,25 @@
 -- The header of a file that is to be taken, and its axis.
-use Rattle.std.specs.Prelude.{ℕ, List, length, not, Result, Ok}
-use Rattle.std.specs.Option.{ok_or, option_map}
+use Rattle.std.specs.Prelude.{ℕ, List, not, Result, Ok}
+use Rattle.std.specs.Option.{ok_or}
 use Rattle.fm_base.specs.declared.header.Header.{Header as FileHeader}
 use Rattle.fm_base.specs.declared.header.NcVar.{NcVar}
-use Rattle.fm_base.specs.Layout.{layout_fault}
-use Rattle.fm_base.specs.Reading.{header_or_fault}
+use Rattle.fm_base.specs.declared.fault.FormatFault.{FormatFault}
+use Rattle.fm_base.specs.declared.fault.FormatFault.TheVariants.{OfHeader, OfLayout}
+use Rattle.fm_base.specs.Sound.{sound_header}
 use Rattle.fm_model.specs.declared.loaded.LoadFault.{LoadFault}
 use Rattle.fm_model.specs.declared.loaded.LoadFault.TheVariants.{Header, Layout, MissingVariable, VariableDiffers}
 use Rattle.fm_model.specs.declared.proto.Proto.{Proto}
-use Rattle.fm_base.specs.Chain.{◌>>=◌, ◌>>◌, refuse, refuse_if, fault_as}
+use Rattle.fm_base.specs.Chain.{◌>>=◌, ◌>>◌, refuse_if, fault_as}
 use Rattle.fm_model.specs.Variable.{is_coordinate, var_named}
 
--- a sound header, with all data in the file
+-- a fault of a file as one of loading it
+abbrev pub fault_of_load : FormatFault → LoadFault
+fault_of_load (OfHeader fault) = Header fault
+fault_of_load (OfLayout fault) = Layout fault
+
+-- the header of a file that has no fault
 unfoldable pub file_header : List ℕ → Result FileHeader LoadFault
-file_header bytes = do
-  header ← fault_as Header (header_or_fault bytes)
-  refuse (option_map Layout (layout_fault header (length bytes)))
-  Ok header
+file_header bytes = fault_as fault_of_load (sound_header bytes)
 
 -- the file's variable of this name
 unfoldable pub file_var : FileHeader → List ℕ → Result NcVar LoadFault

@@ -20,17 +20,19 @@ use Rattle.fm_model.specs.Variable.{dim_of_axis, reference_of}
 
 -- the units of a variable of times, by its `units` and `calendar`; without `units` it has the empty text there
 unfoldable pub file_units : NcVar → Result TimeUnits LoadFault
-file_units var = fault_as Units (units_of (unwrap_or (text_of var.attrs (codes "units")) []) (text_of var.attrs (codes "calendar")))
+file_units var = fault_as Units
+    (units_of (unwrap_or (text_of var.attrs (codes "units")) []) (text_of var.attrs (codes "calendar")))
 
 -- the whole seconds of an element, where it is a number and they are whole
 unfoldable pub seconds_at : List ℕ → FileHeader → NcVar → TimeUnits → List ℕ → Option ℤ
-seconds_at bytes header var units index = option_and_then (λ pattern. whole_seconds_of pattern units.per) (pattern_of_bytes var.kind (element bytes header var index))
+seconds_at bytes header var units index = option_and_then (λ pattern. whole_seconds_of pattern units.per)
+    (pattern_of_bytes var.kind (element bytes header var index))
 
--- so many seconds after the origin of units, in seconds from the collection's epoch
+-- the instant n seconds after the origin of units, in seconds from the collection's epoch
 abbrev pub from_epoch : Site → TimeUnits → ℤ → ℤ
 from_epoch site units seconds = seconds +ℤ units.origin -ℤ site.epoch
 
--- whether so many seconds from the epoch are an instant of a collection
+-- whether an instant, in seconds from the epoch, is one that a collection may have
 unfoldable pub is_instant : ℤ → Bool
 is_instant seconds = int_le (neg_ℤ MAX_INSTANT) seconds && int_le seconds MAX_INSTANT
 
@@ -90,7 +92,7 @@ time_at site bytes header axis units k = do
   seconds ← ok_or (seconds_at bytes header axis units (k ∷ [])) (NotWhole k)
   time_in_range k (from_epoch site units seconds)
 
--- so many more times after those that were found, each told its place, and each unlike those before it
+-- n more times after those that were found, each by its place, and each unlike those before it
 unfoldable pub times_from : (ℕ → Result ℤ LoadFault) → ℕ → List ℤ → Result (List ℤ) LoadFault
 times_from time zero found = Ok found
 times_from time (suc n) found = do

@@ -1,14 +1,12 @@
 -- The variables of a file beside those of the prototype, and where their data lies.
-use Rattle.std.specs.Prelude.{◌≡◌, IsTrue, take, ℕ, ◌*◌, List, [], ◌∷◌, ◌++◌, length, drop, map, filter, slice_get, slice_index, Bool, not, ◌&&◌, ◌||◌, nat_eq, nat_lt, if◌then◌else◌, Result, Ok}
+use Rattle.std.specs.Prelude.{◌≡◌, ◌<◌, ◌≤◌, IsTrue, ℕ, ◌+◌, ◌*◌, List, [], ◌∷◌, ◌++◌, length, drop, map, filter, slice_index, Bool, not, ◌&&◌, ◌||◌, nat_eq, nat_lt, if◌then◌else◌, Result, Ok}
 use Rattle.std.specs.List.{common_prefix_len}
-use Rattle.std.specs.Option.{option_map_or}
 use Rattle.std.specs.Str.{bytes_eq}
-use Rattle.fm_base.specs.declared.header.Dim.{Dim}
 use Rattle.fm_base.specs.declared.header.Header.{Header as FileHeader}
 use Rattle.fm_base.specs.declared.header.NcVar.{NcVar}
 use Rattle.fm_base.specs.Kind.{size_of}
 use Rattle.fm_base.specs.Layout.{shape_of, product, record_size, elements_of}
-use Rattle.fm_base.specs.Reading.{names_record}
+use Rattle.fm_base.specs.Reading.{names_record_dim}
 use Rattle.fm_model.specs.declared.loaded.LoadFault.{LoadFault}
 use Rattle.fm_model.specs.declared.loaded.LoadFault.TheVariants.{VariableDiffers, GridDiffers}
 use Rattle.fm_model.specs.declared.loaded.Slot.{Slot}
@@ -17,18 +15,21 @@ use Rattle.fm_model.specs.declared.proto.ProtoVar.{ProtoVar}
 use Rattle.fm_base.specs.Chain.{Check, ◌>>=◌, ◌>>◌, refuse_if}
 use Rattle.fm_model.specs.Variable.{are_same, is_same_kind, is_coordinate, dim_of_axis, stands_first_alone}
 use Rattle.fm_model.specs.LoadAxis.{file_var}
+pub use Rattle.fm_model.specs.Prototype.{lengths_of}
 
--- the lengths of a prototype's dimensions of these numbers
-abbrev pub lengths_of : Proto → List ℕ → List ℕ
-lengths_of proto ids = map (λ id. option_map_or (λ (dim : Dim). dim.size) (slice_get proto.dims id) 0) ids
-
--- whether a variable along the axis is like the prototype's: the same kind, the file's axis first, the same other lengths
+-- whether a variable along the axis is like the prototype's: the same kind, the file's axis first, the same other
+-- lengths
 unfoldable pub is_like_timed : Proto → FileHeader → NcVar → ProtoVar → NcVar → Bool
-is_like_timed proto header axis wanted var = is_same_kind wanted.kind var.kind && stands_first_alone (dim_of_axis axis) var.dims && are_same (drop 1 (lengths_of proto wanted.dims)) (drop 1 (shape_of header var))
+is_like_timed proto header axis wanted var = is_same_kind wanted.kind var.kind && stands_first_alone
+    (dim_of_axis axis) var.dims && are_same (drop 1 (lengths_of proto wanted.dims)) (drop 1 (shape_of header var))
 
 -- where the data of a variable along the axis lies
 unfoldable pub slot_in : FileHeader → NcVar → NcVar → Slot
-slot_in header axis var = record { begin = var.begin; step = if names_record header.dims (dim_of_axis axis) then record_size header else size_of var.kind * product (drop 1 (shape_of header var)) }
+slot_in header axis var = record {
+  begin = var.begin;
+  step = if names_record_dim header.dims
+      (dim_of_axis axis) then record_size header else size_of var.kind * product (drop 1 (shape_of header var));
+}
 
 -- the slot of a variable of the prototype that lies along the axis
 unfoldable pub file_slot : Proto → FileHeader → NcVar → ProtoVar → Result Slot LoadFault
@@ -39,7 +40,8 @@ file_slot proto header axis wanted = do
 
 -- whether a coordinate variable is like the prototype's: the same kind and lengths
 unfoldable pub is_like_fixed : Proto → FileHeader → ProtoVar → NcVar → Bool
-is_like_fixed proto header wanted var = is_same_kind wanted.kind var.kind && are_same (lengths_of proto wanted.dims) (shape_of header var)
+is_like_fixed proto header wanted var = is_same_kind wanted.kind var.kind && are_same (lengths_of proto wanted.dims)
+    (shape_of header var)
 
 -- two lists of bytes are the same, or differ first at a place
 unfoldable pub same_bytes : List ℕ → List ℕ → List ℕ → Check LoadFault
@@ -56,12 +58,14 @@ same_grid proto bytes header wanted = do
 
 -- whether files are compared in a variable of the prototype: not the axis, and along the axis or a coordinate variable
 unfoldable pub is_compared : Proto → ProtoVar → Bool
-is_compared proto wanted = not (bytes_eq wanted.name proto.axis) && (wanted.timed || is_coordinate proto.dims wanted.name wanted.kind wanted.dims)
+is_compared proto wanted = not (bytes_eq wanted.name proto.axis) &&
+    (wanted.timed || is_coordinate proto.dims wanted.name wanted.kind wanted.dims)
 
 -- the slots after one more variable: one where it lies along the axis, none where it is a coordinate variable
 unfoldable pub slots_after : Proto → List ℕ → FileHeader → NcVar → List Slot → ProtoVar → Result (List Slot) LoadFault
 slots_after proto bytes header axis found wanted =
-    if wanted.timed then (file_slot proto header axis wanted >>= λ slot. Ok (found ++ slot ∷ [])) else (same_grid proto bytes header wanted >> Ok found)
+    if wanted.timed then (file_slot proto header axis wanted >>= λ slot. Ok
+    (found ++ slot ∷ [])) else (same_grid proto bytes header wanted >> Ok found)
 
 -- a step for each item, which counts on what the earlier gave
 unfoldable pub steps_from : {A S E : Type 0} → (S → A → Result S E) → List A → S → Result S E
@@ -70,7 +74,8 @@ steps_from step (item ∷ items) found = step found item >>= λ next. steps_from
 
 -- the slots of a file, in the prototype's order
 unfoldable pub file_slots : Proto → List ℕ → FileHeader → NcVar → Result (List Slot) LoadFault
-file_slots proto bytes header axis = steps_from (slots_after proto bytes header axis) (filter (is_compared proto) proto.vars) []
+file_slots proto bytes header axis = steps_from (slots_after proto bytes header axis)
+    (filter (is_compared proto) proto.vars) []
 
 -- the variables that have a slot: those along the axis but for the axis itself, in the prototype's order
 unfoldable pub slotted_vars : Proto → List ProtoVar
@@ -78,7 +83,8 @@ slotted_vars proto = filter (λ (wanted : ProtoVar). wanted.timed && not (bytes_
 
 -- a slot says where the file's variable of the name of a prototype's variable lies: it is of the same kind, has the
 -- file's axis first and only there, and the same lengths otherwise
-pub record IsSlotOf (proto : Proto) (header : FileHeader) (axis : NcVar) (wanted : ProtoVar) (slot : Slot) : Type 0 where
+pub record IsSlotOf (proto : Proto) (header : FileHeader) (axis : NcVar) (wanted : ProtoVar)
+    (slot : Slot) : Type 0 where
   pub var : NcVar
   pub named : file_var header wanted.name ≡ Ok var
   pub kind_is : var.kind ≡ wanted.kind
@@ -86,11 +92,19 @@ pub record IsSlotOf (proto : Proto) (header : FileHeader) (axis : NcVar) (wanted
   pub lengths : drop 1 (shape_of header var) ≡ drop 1 (lengths_of proto wanted.dims)
   pub slot_is : slot ≡ slot_in header axis var
 
--- the file's variable of the name of a prototype's coordinate variable is of the same kind and length, and its elements
--- begin with the prototype's
+-- how many bytes a variable along the axis takes at one time
+abbrev pub bytes_per_time : Proto → ProtoVar → ℕ
+bytes_per_time proto wanted = size_of wanted.kind * product (drop 1 (lengths_of proto wanted.dims))
+
+-- what a slot says of a variable lies within a length, at each of n times
+abbrev pub LiesWithin : Proto → ℕ → ℕ → ProtoVar → Slot → Type 0
+LiesWithin proto n len wanted slot = (k : ℕ) → k < n → slot.begin + k * slot.step + bytes_per_time proto wanted ≤ len
+
+-- the file's variable of the name of a prototype's coordinate variable is of the same kind and length, and has the same
+-- elements
 pub record IsSameGrid (proto : Proto) (bytes : List ℕ) (header : FileHeader) (wanted : ProtoVar) : Type 0 where
   pub var : NcVar
   pub named : file_var header wanted.name ≡ Ok var
   pub kind_is : var.kind ≡ wanted.kind
   pub lengths : shape_of header var ≡ lengths_of proto wanted.dims
-  pub elements : take (length wanted.fixed) (elements_of bytes header var) ≡ wanted.fixed
+  pub elements : elements_of bytes header var ≡ wanted.fixed

@@ -36,7 +36,8 @@ has_standard_name text var = has_text var.attrs (codes "standard_name") text
 
 -- whether a variable is a time axis: a coordinate variable with the name or the standard name `time`
 unfoldable pub is_axis : Header → NcVar → Bool
-is_axis header var = is_coordinate header.dims var.name var.kind var.dims && (bytes_eq var.name (codes "time") || has_standard_name (codes "time") var)
+is_axis header var = is_coordinate header.dims var.name var.kind var.dims &&
+    (bytes_eq var.name (codes "time") || has_standard_name (codes "time") var)
 
 -- the axis of a prototype: the first time axis
 unfoldable pub axis_of : Header → Option NcVar

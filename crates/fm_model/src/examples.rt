@@ -3,7 +3,10 @@
 pub mod axes;
 pub mod kept;
 pub mod limits;
+pub mod loaded_files;
 pub mod prototype;
+pub mod prototype_files;
+pub mod sites;
 pub mod slots;
 pub mod times;
 pub mod views;

@@ -16,7 +16,7 @@ pub enum Which {
     Size,
 }
 
-/// A collection would hold so many, which is over the limit.
+/// What a collection would hold too much of: how much it would hold, and the limit.
 #[derive(Clone, Copy, Debug, PartialEq, Eq)]
 pub struct Full {
     pub which: Which,

@@ -34,11 +34,8 @@ pub enum LoadFault {
     NoRunTime,
     /// The time at this place isn't a whole number of seconds.
     NotWhole(u64),
-    /// The time lies outside the range of instants.
-    TimeRange {
-        k: u64,
-        seconds: i128,
-    },
+    /// The time at this place, in seconds from the epoch, lies outside the range of instants.
+    TimeRange(u64, i128),
     /// An earlier time is the same.
     TimeRepeated(u64),
     /// The file has no variable of this name.
@@ -73,7 +70,7 @@ impl LoadFault {
             LoadFault::Units(fault) => fault.code(),
             LoadFault::NoRunTime => 45,
             LoadFault::NotWhole(_) => 46,
-            LoadFault::TimeRange { .. } => 47,
+            LoadFault::TimeRange(_, _) => 47,
             LoadFault::TimeRepeated(_) => 48,
             LoadFault::MissingVariable(_) => 49,
             LoadFault::VariableDiffers(_) => 50,

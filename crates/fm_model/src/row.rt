@@ -13,10 +13,12 @@ pub struct Row {
     pub place: u32,
 }
 
-/// The best time series, the dataset of a run, of a constant offset in seconds, or of a constant forecast time.
+/// The best time series, the best time series with a least offset in seconds, or the dataset of a run, of a constant
+/// offset in seconds, or of a constant forecast time.
 #[derive(Clone, Copy, Debug, PartialEq, Eq)]
 pub enum ViewName {
     Best,
+    BestFrom(i64),
     Run(i64),
     Offset(i64),
     Forecast(i64),

@@ -29,7 +29,7 @@ fn small_file(alloc: Global) -> Result<Loaded, NoMemory> {
 fn a_put_is_copied_with_ample_memory(rt: HostRuntime) -> Result<(), Fail> {
     let alloc = rt.alloc();
     let put = Op::Put(Arc::new(alloc, small_file(alloc)?)?);
-    let copy = put.copy()?;
+    let copy = put.copy(alloc)?;
     let Op::Put(file) = &copy else {
         return Err(Fail::from(NoMemory));
     };
@@ -51,7 +51,19 @@ fn a_put_is_copied_with_ample_memory(rt: HostRuntime) -> Result<(), Fail> {
 
 #[test]
 fn an_expire_is_copied_with_ample_memory(rt: HostRuntime) -> Result<(), Fail> {
-    let copy = Op::Expire(-21_600).copy()?;
+    let copy = Op::Expire(-21_600).copy(rt.alloc())?;
     assert!(rt; matches!(&copy, Op::Expire(-21_600)));
+    Ok(())
+}
+
+#[test]
+fn a_retraction_is_copied_with_ample_memory(rt: HostRuntime) -> Result<(), Fail> {
+    let alloc = rt.alloc();
+    let retraction = Op::Retract(Bytes::copy_of(alloc, b"gfs_20240101_0000.nc")?);
+    let copy = retraction.copy(alloc)?;
+    let Op::Retract(name) = &copy else {
+        return Err(Fail::from(NoMemory));
+    };
+    assert_eq!(rt; name.as_slice(), b"gfs_20240101_0000.nc".as_slice());
     Ok(())
 }

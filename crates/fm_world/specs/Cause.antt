@@ -1,23 +1,21 @@
--- Why a call on a device may fail.
-use Rattle.std.specs.Prelude.{⊤, ℕ, ◌+◌, ◌-◌, ◌^◌, ◌≤◌, min, Result, OnErr, IfErr}
+-- Why a call of a device may fail, and how failures are counted.
+use Rattle.std.specs.Prelude.{◌≡◌, ℕ, ◌+◌, ◌-◌, ◌^◌, min, Result, MatchResult}
 use Rattle.fm_base.specs.declared.fail.Fail.{Fail}
 use Rattle.fm_base.specs.declared.fail.Fail.TheVariants.{NoMemory, Fault}
 
--- The count is greater than before, or stands at its greatest number.
-abbrev pub Rose : ℕ → ℕ → Type 0
-Rose before now = min (before + 1) (2 ^ 64 - 1) ≤ now
+-- the count of failed calls after one more; it stands still at its greatest number
+abbrev pub one_more : ℕ → ℕ
+one_more count = min (count + 1) (2 ^ 64 - 1)
 
--- The count of faults never falls, and a failure has raised it.
-pub record HasCause {T E : Type 0} (before now : ℕ) (result : Result T E) : Type 0 where
-  pub later : before ≤ now
-  pub failed : OnErr result (Rose before now)
+-- A call that succeeds leaves the count of failed calls, and one that fails adds one to it.
+abbrev pub HasCause : {T E : Type 0} → ℕ → ℕ → Result T E → Type 0
+HasCause before now result = MatchResult result (λ _. now ≡ before) (λ _. now ≡ one_more before)
 
--- The fact holds where the device failed; want of memory says nothing.
-abbrev pub OnFault : {E : Type 0} → Type 0 → Fail E → Type 0
-OnFault P NoMemory = ⊤
-OnFault P (Fault e) = P
+-- the count after a call that ended so: memory that ran out is no failure of the device
+abbrev pub count_after : {E : Type 0} → ℕ → Fail E → ℕ
+count_after count NoMemory = count
+count_after count (Fault e) = one_more count
 
--- The count of faults never falls, and a failure of the device has raised it.
-pub record HasReadCause {T E : Type 0} (before now : ℕ) (result : Result T (Fail E)) : Type 0 where
-  pub later : before ≤ now
-  pub failed : IfErr result (OnFault (Rose before now))
+-- A call that succeeds or runs out of memory leaves the count of failed calls, and one that fails adds one to it.
+abbrev pub HasReadCause : {T E : Type 0} → ℕ → ℕ → Result T (Fail E) → Type 0
+HasReadCause before now result = MatchResult result (λ _. now ≡ before) (λ fail. now ≡ count_after before fail)

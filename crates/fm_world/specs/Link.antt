@@ -1,7 +1,7 @@
 -- What a link holds.
 use Rattle.std.specs.Prelude.{◌≡◌, ◌≤◌, ◌↔◌, ℕ, List, [], ◌++◌, length, take, drop, Option, Some, None}
 
--- what a link that tells of itself holds
+-- what a link in memory holds
 pub record Wire : Type 0 where
   -- the bytes that were taken
   pub taken : List ℕ
@@ -14,17 +14,25 @@ pub record Wire : Type 0 where
 abbrev pub fresh_wire : List ℕ → Wire
 fresh_wire input = record { taken = []; left = input; put = [] }
 
--- the link after so many of its bytes were taken
+-- a link of whose input the first n bytes were taken, and on which these bytes were sent
+abbrev pub wire_at : List ℕ → ℕ → List ℕ → Wire
+wire_at input count put = record { taken = take count input; left = drop count input; put = put }
+
+-- the link after its next n bytes were taken
 abbrev pub after_take : ℕ → Option Wire → Option Wire
 after_take count None = None
-after_take count (Some wire) = Some (record { taken = wire.taken ++ take count wire.left; left = drop count wire.left; put = wire.put })
+after_take count (Some wire) = Some (record {
+  taken = wire.taken ++ take count wire.left;
+  left = drop count wire.left;
+  put = wire.put;
+})
 
 -- the link after these bytes were sent
 abbrev pub after_put : List ℕ → Option Wire → Option Wire
 after_put bytes None = None
 after_put bytes (Some wire) = Some (record { taken = wire.taken; left = wire.left; put = wire.put ++ bytes })
 
--- The front of the buffer, of this length, is the next bytes, and it is empty exactly where none are left.
+-- The first n bytes of the buffer are the next ones, and n is 0 exactly where none are left.
 pub record GivesNext (wire : Wire) (buf : List ℕ) (count : ℕ) : Type 0 where
   pub left : count ≤ length wire.left
   pub bytes : take count buf ≡ take count wire.left

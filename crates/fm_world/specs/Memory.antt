@@ -1,4 +1,4 @@
--- What the forms in memory were made with, beside what they tell.
+-- What the forms in memory were made with, beside what they show.
 use Rattle.std.specs.Prelude.{ℕ, ◌-◌, List, vec_len, vec_capacity}
 use Rattle.fm_world.specs.declared.mem_files.MemFiles.{MemFiles}
 use Rattle.fm_world.specs.declared.mem_link.MemLink.{MemLink}

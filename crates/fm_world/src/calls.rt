@@ -1,9 +1,9 @@
 //! Calls that are to fail, for the forms in memory.
-ghost use Rattle.std.specs.Prelude.{◌≡◌, ◌+◌, ◌-◌, ◌≤◌, ◌^◌, min, nat_eq};
+ghost use Rattle.std.specs.Prelude.{◌≡◌, nat_eq};
 ghost use Rattle.std.specs.List.{list_any};
-ghost use Rattle.fm_world.specs.Cause.{Rose};
+ghost use Rattle.fm_world.specs.Cause.{one_more};
 
-use crate::link::Failed;
+use crate::faults::{Failed, count_fault};
 use fm_base::List;
 
 /// The calls made so far, the numbers from 1 of those that are to fail, and how many have failed.
@@ -29,7 +29,7 @@ impl Calls {
     /// Counts a call, and says whether it is to fail.
     pub fn due(&mut self) -> bool
         ensures due { result ≡ list_any (λ call. nat_eq call self.new.made) self.old.failing }
-        ensures made { self.new.made ≡ min (self.old.made + 1) (2 ^ 64 - 1) }
+        ensures made { self.new.made ≡ one_more self.old.made }
         ensures failing { self.new.failing ≡ self.old.failing }
         ensures faults { self.new.faults ≡ self.old.faults }
     {
@@ -41,10 +41,8 @@ impl Calls {
     pub fn fail(&mut self) -> Failed
         ensures made { self.new.made ≡ self.old.made }
         ensures failing { self.new.failing ≡ self.old.failing }
-        ensures later { self.old.faults ≤ self.new.faults }
-        ensures rose { Rose self.old.faults self.new.faults }
+        ensures faults { self.new.faults ≡ one_more self.old.faults }
     {
-        self.faults = self.faults.saturating_add(1);
-        Failed
+        count_fault(&mut self.faults)
     }
 }

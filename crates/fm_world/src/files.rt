@@ -1,9 +1,10 @@
 //! Files that are read whole.
-ghost use Rattle.std.specs.Prelude.{◌≡◌, ℕ, List, Option, IfSome, IfOk};
+ghost use Rattle.std.specs.Prelude.{◌≡◌, IfSome, IfOk};
 ghost use Rattle.fm_world.specs.Cause.{HasReadCause};
 ghost use Rattle.fm_world.specs.Files.{found_of, KeepsLimit};
+ghost use Rattle.fm_world.specs.Shown.{FilesShown};
 
-use crate::link::Failed;
+use crate::faults::Failed;
 use fm_base::{Bytes, Fail};
 use std::alloc::Global;
 
@@ -20,23 +21,20 @@ pub enum Found {
 
 /// Files that are read by their paths.
 pub trait Files {
-    /// What each path holds, where the files tell.
-    ghost told: { Self → Option (List ℕ → Option (List ℕ)) };
-
-    /// How many calls have failed.
-    ghost fault_count: { Self → ℕ };
+    /// The content at each path, where it is known, and how many calls have failed.
+    ghost shown: { Self → FilesShown };
 
     /// How many calls have failed. The count stands still at its greatest number.
     fn faults(&self) -> u64
-        ensures { result ≡ fault_count self.now };
+        ensures { result ≡ (shown self.now).faults };
 
     /// The file at a path, where it has at most `limit` bytes.
     fn read(&mut self, alloc: Global, path: &[u8], limit: u64) -> Result<Found, Fail<Failed>>
-        ensures found { IfSome (told self.old) (λ held.
+        ensures found { IfSome (shown self.old).held (λ held.
             IfOk result (λ found. found ≡ found_of limit (held path.now))) }
 
-        // Also where the files tell nothing.
+        // Also where no content is known.
         ensures limit { IfOk result (KeepsLimit limit) }
-        ensures same { told self.new ≡ told self.old }
-        ensures cause { HasReadCause (fault_count self.old) (fault_count self.new) result };
+        ensures same { (shown self.new).held ≡ (shown self.old).held }
+        ensures cause { HasReadCause (shown self.old).faults (shown self.new).faults result };
 }

@@ -3,6 +3,7 @@
 #![tactic(auto)]
 
 mod calls;
+mod faults;
 mod files;
 mod link;
 mod mem_files;
@@ -15,8 +16,9 @@ mod tests;
 mod whole;
 mod world;
 
+pub use faults::{Failed, count_fault};
 pub use files::{Files, Found};
-pub use link::{Failed, Link};
+pub use link::Link;
 pub use mem_files::{Entry, MemFiles};
 pub use mem_link::{Hold, MemLink};
 pub use mem_sink::MemSink;

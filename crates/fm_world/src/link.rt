@@ -1,40 +1,37 @@
 //! A link to a peer.
-ghost use Rattle.std.specs.Prelude.{◌≡◌, ◌<◌, ◌≤◌, ℕ, Option, length, take, IfSome, IfOk, OnErr};
+ghost use Rattle.std.specs.Prelude.{◌≡◌, ◌<◌, ◌≤◌, length, take, IfSome, IfOk, OnErr};
 ghost use Rattle.fm_world.specs.Cause.{HasCause};
-ghost use Rattle.fm_world.specs.Link.{Wire, GivesNext, after_take, after_put};
+ghost use Rattle.fm_world.specs.Link.{GivesNext, after_take, after_put};
+ghost use Rattle.fm_world.specs.Shown.{LinkShown};
 
-/// A device failed.
-#[derive(Clone, Copy, Debug, PartialEq, Eq)]
-pub struct Failed;
+use crate::faults::Failed;
 
 /// A link to a peer: bytes that come, and bytes that are sent.
 pub trait Link {
-    /// What the link holds, where it tells.
-    ghost told: { Self → Option Wire };
-
-    /// How many calls have failed.
-    ghost fault_count: { Self → ℕ };
+    /// What was taken, what is left and what was put, where they are known, and how many calls have failed.
+    ghost shown: { Self → LinkShown };
 
     /// How many calls have failed. The count stands still at its greatest number.
     fn faults(&self) -> u64
-        ensures { result ≡ fault_count self.now };
+        ensures { result ≡ (shown self.now).faults };
 
-    /// Takes the next bytes into the front of `buf`, and answers how many. 0 is the end of input.
+    /// Takes the next bytes into the front of `buf`, and returns how many. 0 is the end of input.
     fn take(&mut self, buf: &mut [u8]) -> Result<usize, Failed>
         requires { 0 < length buf.old }
         ensures within { IfOk result (λ count. count ≤ length buf.old) }
-        ensures given { IfSome (told self.old) (λ wire. IfOk result (GivesNext wire buf.new)) }
-        ensures taken { IfOk result (λ count. told self.new ≡ after_take count (told self.old)) }
-        ensures err { OnErr result (told self.new ≡ told self.old) }
-        ensures cause { HasCause (fault_count self.old) (fault_count self.new) result };
+        ensures given { IfSome (shown self.old).held (λ wire. IfOk result (GivesNext wire buf.new)) }
+        ensures taken { IfOk result (λ count.
+            (shown self.new).held ≡ after_take count (shown self.old).held) }
+        ensures err { OnErr result ((shown self.new).held ≡ (shown self.old).held) }
+        ensures cause { HasCause (shown self.old).faults (shown self.new).faults result };
 
-    /// Sends a front of `bytes`, and answers its length. A link that takes nothing has failed.
+    /// Sends a front of `bytes`, and returns its length. A link that takes nothing has failed.
     fn put(&mut self, bytes: &[u8]) -> Result<usize, Failed>
         requires { 0 < length bytes.now }
         ensures some { IfOk result (λ count. 0 < count) }
         ensures within { IfOk result (λ count. count ≤ length bytes.now) }
         ensures put { IfOk result (λ count.
-            told self.new ≡ after_put (take count bytes.now) (told self.old)) }
-        ensures err { OnErr result (told self.new ≡ told self.old) }
-        ensures cause { HasCause (fault_count self.old) (fault_count self.new) result };
+            (shown self.new).held ≡ after_put (take count bytes.now) (shown self.old).held) }
+        ensures err { OnErr result ((shown self.new).held ≡ (shown self.old).held) }
+        ensures cause { HasCause (shown self.old).faults (shown self.new).faults result };
 }

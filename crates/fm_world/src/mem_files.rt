@@ -4,8 +4,8 @@ ghost use Rattle.std.specs.Option.{option_copied};
 ghost use Rattle.fm_world.specs.Files.{found_of, held};
 
 use crate::calls::Calls;
+use crate::faults::Failed;
 use crate::files::{Files, Found};
-use crate::link::Failed;
 use fm_base::{Bytes, Fail, List, NoMemory};
 use std::alloc::Global;
 
@@ -28,8 +28,8 @@ impl MemFiles {
 
     /// These files. The calls with these numbers, counted from 1, fail.
     pub fn new(entries: List<Entry>, failing: List<u64>) -> MemFiles
-        ensures told { ⟦<MemFiles as Files>⟧.told result ≡ Some (held entries) }
-        ensures faults { ⟦<MemFiles as Files>⟧.fault_count result ≡ 0 }
+        ensures shown { ⟦<MemFiles as Files>⟧.shown result
+            ≡ record { held = Some (held entries); faults = 0 } }
         ensures failing { files_failing result ≡ failing }
     {
         MemFiles {
@@ -40,9 +40,7 @@ impl MemFiles {
 }
 
 impl Files for MemFiles {
-    ghost told = { λ files. Some (held files.entries) };
-
-    ghost fault_count = { λ files. files.calls.faults };
+    ghost shown = { λ files. record { held = Some (held files.entries); faults = files.calls.faults } };
 
     fn faults(&self) -> u64 {
         self.calls.faults

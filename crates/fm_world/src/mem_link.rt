@@ -1,9 +1,10 @@
 //! A link in memory.
 ghost use Rattle.std.specs.Prelude.{◌≡◌, ◌+◌, ◌^◌, ◌<◌, ◌≤◌, min, length, take, drop, Some, IfSome, IfOk};
-ghost use Rattle.fm_world.specs.Link.{fresh_wire};
+ghost use Rattle.fm_world.specs.Link.{fresh_wire, wire_at};
 
 use crate::calls::Calls;
-use crate::link::{Failed, Link};
+use crate::faults::Failed;
+use crate::link::Link;
 use crate::room::Room;
 use fm_base::{Bytes, List, NoMemory};
 use std::alloc::Global;
@@ -35,7 +36,7 @@ pub struct MemLink {
 impl MemLink {
     ghost use Rattle.fm_world.specs.Memory.{link_room, link_failing};
 
-    /// A link with this input and room for so many bytes of output. The calls with these numbers, takes and puts
+    /// A link with this input and room for `room` bytes of output. The calls with these numbers, takes and puts
     /// counted together from 1, fail.
     pub fn new(
         alloc: Global,
@@ -43,8 +44,8 @@ impl MemLink {
         room: usize,
         failing: List<u64>,
     ) -> Result<MemLink, NoMemory>
-        ensures told { IfOk result (λ link. ⟦<MemLink as Link>⟧.told link ≡ Some (fresh_wire input)) }
-        ensures faults { IfOk result (λ link. ⟦<MemLink as Link>⟧.fault_count link ≡ 0) }
+        ensures shown { IfOk result (λ link.
+            ⟦<MemLink as Link>⟧.shown link ≡ record { held = Some (fresh_wire input); faults = 0 }) }
         ensures room { IfOk result (λ link. link_room link ≡ room) }
         ensures failing { IfOk result (λ link. link_failing link ≡ failing) }
     {
@@ -83,14 +84,14 @@ impl MemLink {
 
     /// The bytes that were put.
     pub fn output(&self) -> &[u8]
-        ensures { IfSome (⟦<MemLink as Link>⟧.told self.now) (λ wire. result.now ≡ wire.put) }
+        ensures { IfSome (⟦<MemLink as Link>⟧.shown self.now).held (λ wire. result.now ≡ wire.put) }
     {
         self.output.bytes.as_slice()
     }
 
     /// The bytes that are left to be taken.
     pub fn left(&self) -> &[u8]
-        ensures { IfSome (⟦<MemLink as Link>⟧.told self.now) (λ wire. result.now ≡ wire.left) }
+        ensures { IfSome (⟦<MemLink as Link>⟧.shown self.now).held (λ wire. result.now ≡ wire.left) }
     {
         self.rest()
     }
@@ -116,9 +117,10 @@ impl MemLink {
 }
 
 impl Link for MemLink {
-    ghost told = { λ link. Some (record { taken = take link.taken link.input; left = drop link.taken link.input; put = link.output.bytes.items }) };
-
-    ghost fault_count = { λ link. link.calls.faults };
+    ghost shown = { λ link. record {
+      held = Some (wire_at link.input link.taken link.output.bytes.items);
+      faults = link.calls.faults;
+    } };
 
     fn faults(&self) -> u64 {
         self.calls.faults
@@ -150,7 +152,7 @@ impl Link for MemLink {
     }
 }
 
-/// Copies at most `most` bytes to the front of `into`, as many as there are and fit, and answers how many.
+/// Copies at most `most` bytes to the front of `into`, as many as there are and fit, and returns how many.
 fn copy_front(from: &[u8], most: usize, into: &mut [u8]) -> usize
     ensures count { result ≡ min most (min (length from.now) (length into.old)) }
     ensures bytes { take result into.new ≡ take result from.now }

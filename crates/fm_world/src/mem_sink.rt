@@ -2,7 +2,7 @@
 ghost use Rattle.std.specs.Prelude.{◌≡◌, [], Some, IfOk};
 
 use crate::calls::Calls;
-use crate::link::Failed;
+use crate::faults::Failed;
 use crate::room::Room;
 use crate::sink::Sink;
 use fm_base::{List, NoMemory};
@@ -19,11 +19,11 @@ pub struct MemSink {
 impl MemSink {
     ghost use Rattle.fm_world.specs.Memory.{sink_room, sink_failing};
 
-    /// An empty sink with room for so many bytes. The calls with these numbers, counted from 1, fail and append
+    /// An empty sink with room for `room` bytes. The calls with these numbers, counted from 1, fail and append
     /// nothing.
     pub fn new(alloc: Global, room: usize, failing: List<u64>) -> Result<MemSink, NoMemory>
-        ensures told { IfOk result (λ sink. ⟦<MemSink as Sink>⟧.told sink ≡ Some []) }
-        ensures faults { IfOk result (λ sink. ⟦<MemSink as Sink>⟧.fault_count sink ≡ 0) }
+        ensures shown { IfOk result (λ sink.
+            ⟦<MemSink as Sink>⟧.shown sink ≡ record { held = Some []; faults = 0 }) }
         ensures room { IfOk result (λ sink. sink_room sink ≡ room) }
         ensures failing { IfOk result (λ sink. sink_failing sink ≡ failing) }
     {
@@ -36,16 +36,14 @@ impl MemSink {
 
     /// All the bytes that were appended.
     pub fn bytes(&self) -> &[u8]
-        ensures { Some result.now ≡ ⟦<MemSink as Sink>⟧.told self.now }
+        ensures { Some result.now ≡ (⟦<MemSink as Sink>⟧.shown self.now).held }
     {
         self.all.bytes.as_slice()
     }
 }
 
 impl Sink for MemSink {
-    ghost told = { λ sink. Some sink.all.bytes.items };
-
-    ghost fault_count = { λ sink. sink.calls.faults };
+    ghost shown = { λ sink. record { held = Some sink.all.bytes.items; faults = sink.calls.faults } };
 
     fn faults(&self) -> u64 {
         self.calls.faults

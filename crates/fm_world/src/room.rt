@@ -11,7 +11,7 @@ pub struct Room {
 }
 
 impl Room {
-    /// No bytes yet, and room for so many.
+    /// No bytes yet, and room for `room` bytes.
     pub fn new(alloc: Global, room: usize) -> Result<Room, NoMemory>
         ensures bytes { IfOk result (λ made. made.bytes.items ≡ []) }
         ensures len { IfOk result (λ made. vec_len made.bytes ≡ 0) }
@@ -21,7 +21,7 @@ impl Room {
         Ok(Room { bytes })
     }
 
-    /// Appends what fits of the bytes, and answers how many. It takes no memory.
+    /// Appends what fits of the bytes, and returns how many. It takes no memory.
     pub fn append(&mut self, bytes: &[u8]) -> usize
         ensures count { result ≡ min (vec_capacity self.old.bytes - vec_len self.old.bytes) (length bytes.now) }
         ensures bytes { self.new.bytes.items ≡ self.old.bytes.items ++ take result bytes.now }

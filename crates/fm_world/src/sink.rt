@@ -1,26 +1,24 @@
 //! A place for reports.
-ghost use Rattle.std.specs.Prelude.{◌≡◌, ◌≤◌, ℕ, List, Option, length, take, OnOk, OnErr};
+ghost use Rattle.std.specs.Prelude.{◌≡◌, ◌≤◌, ℕ, length, take, OnOk, OnErr};
 ghost use Rattle.fm_world.specs.Cause.{HasCause};
+ghost use Rattle.fm_world.specs.Shown.{SinkShown};
 ghost use Rattle.fm_world.specs.Sink.{after_append};
 
-use crate::link::Failed;
+use crate::faults::Failed;
 
 /// A place for reports, which are appended.
 pub trait Sink {
-    /// All the bytes that were appended, where the sink tells.
-    ghost told: { Self → Option (List ℕ) };
-
-    /// How many calls have failed.
-    ghost fault_count: { Self → ℕ };
+    /// All the bytes that were appended, where they are known, and how many calls have failed.
+    ghost shown: { Self → SinkShown };
 
     /// How many calls have failed. The count stands still at its greatest number.
     fn faults(&self) -> u64
-        ensures { result ≡ fault_count self.now };
+        ensures { result ≡ (shown self.now).faults };
 
     /// Appends all the bytes, or a front of them where the sink fails.
     fn put(&mut self, bytes: &[u8]) -> Result<(), Failed>
-        ensures ok { OnOk result (told self.new ≡ after_append bytes.now (told self.old)) }
+        ensures ok { OnOk result ((shown self.new).held ≡ after_append bytes.now (shown self.old).held) }
         ensures err { OnErr result ((count : ℕ) × (count ≤ length bytes.now)
-            × (told self.new ≡ after_append (take count bytes.now) (told self.old))) }
-        ensures cause { HasCause (fault_count self.old) (fault_count self.new) result };
+            × ((shown self.new).held ≡ after_append (take count bytes.now) (shown self.old).held)) }
+        ensures cause { HasCause (shown self.old).faults (shown self.new).faults result };
 }

@@ -1,4 +1,1 @@
-pub mod AddedLemmas
-pub mod CaseLemmas
-pub mod HeaderLemmas
-pub mod SlabLemmas
+pub mod PartLemmas

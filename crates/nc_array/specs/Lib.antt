@@ -1,2 +1,2 @@
-pub mod Slabs
+pub mod Parts
 pub use Rattle.nc_layout.specs.Places

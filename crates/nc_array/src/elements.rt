@@ -1,21 +1,20 @@
 //! One element, and all elements of a variable.
-ghost use Rattle.std.specs.Prelude.{◌≡◌, ◌++◌, ◌<◌, IfSome, OnOk, OnErr, length, slice_get, take};
+ghost use Rattle.std.specs.Prelude.{◌≡◌, ◌++◌, ◌<◌, OnOk, OnErr, length, take};
 ghost use Rattle.fm_base.specs.Layout.{element, elements_of};
-ghost use Rattle.nc_layout.specs.Places.{HasElement, IsLayoutOf, element_in, elements_in};
+ghost use Rattle.nc_layout.specs.Places.{HasElement, IsVar};
 
-use crate::slabs::append_slabs;
+use crate::parts::append_parts;
 use fm_base::{Bytes, NoMemory};
 use nc_layout::Layout;
 use std::alloc::Global;
 
 /// The bytes of one element, where they stand in the file.
+#[tactic(auto, unfolding(fm_base::specs::Layout::element))]
 pub fn element<'a>(layout: &Layout, bytes: &'a [u8], var: u32, index: &[u64]) -> &'a [u8]
     requires length { length bytes.now ≡ layout.now.len }
     requires index { HasElement layout.now var index.now }
-    ensures exact { IfSome (slice_get layout.now.vars var) (λ v.
-        result.now ≡ element_in bytes.now layout.now.record_size v index.now) }
-    ensures header { (h v : _) → IsLayoutOf layout.now var h v
-        → result.now ≡ element bytes.now h v index.now }
+    ensures { (v : _) → IsVar layout.now var v
+        → result.now ≡ element bytes.now layout.now.header v index.now }
 {
     let size = layout.var(var).kind.size();
     let place = layout.place(var, index);
@@ -40,7 +39,7 @@ fn cut(out: &mut Bytes, len: usize)
 
 /// Adds the bytes of all elements of a variable at the end, in row-major order. An `Err` changes nothing.
 ///
-/// Elements that lie one after another are copied as one run: those of one record, or all where there are no records.
+/// Elements that lie one after another are copied at once: those of one record, or all where there are no records.
 pub fn whole(
     _alloc: Global,
     layout: &Layout,
@@ -49,17 +48,15 @@ pub fn whole(
     out: &mut Bytes,
 ) -> Result<(), NoMemory>
     requires length { length bytes.now ≡ layout.now.len }
-    requires number { var < length layout.now.vars }
-    ensures ok { OnOk result (IfSome (slice_get layout.now.vars var) (λ v.
-        out.new ≡ out.old ++ elements_in bytes.now layout.now v)) }
-    ensures header { OnOk result ((h v : _) → IsLayoutOf layout.now var h v
-        → out.new ≡ out.old ++ elements_of bytes.now h v) }
+    requires number { var < length layout.now.header.vars }
+    ensures ok { OnOk result ((v : _) → IsVar layout.now var v
+        → out.new ≡ out.old ++ elements_of bytes.now layout.now.header v) }
     ensures err { OnErr result (out.new ≡ out.old) }
 {
     let before = out.len();
-    let len = u64::from(layout.slab_count(var)).saturating_mul(layout.slab_len(var));
+    let len = u64::from(layout.part_count(var)).saturating_mul(layout.vsize(var));
     reserve(out, len)?;
-    let added = append_slabs(layout, bytes, var, out);
+    let added = append_parts(layout, bytes, var, layout.var(var), out);
     if added.is_err() {
         cut(out, before);
     }

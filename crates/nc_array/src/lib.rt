@@ -2,7 +2,7 @@
 #![tactic(auto)]
 
 mod elements;
-mod slabs;
+mod parts;
 
 pub use elements::{element, whole};
 pub use nc_layout::Layout;

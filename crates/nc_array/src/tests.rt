@@ -58,8 +58,8 @@ fn all_elements_of_a_file_that_was_read(rt: HostRuntime) -> Result<(), Fail> {
     let alloc = rt.alloc();
     let bytes = bytes_of(alloc, &SAMPLE)?;
     let header = thin_header(alloc, bytes.as_slice())?.ok_or("thin")?;
-    let layout = lay_out(alloc, &header, bytes.len() as u64)?;
-    assert!(rt; header.vars.len() == 4);
+    let layout = lay_out(alloc, header, bytes.len() as u64)?;
+    assert!(rt; layout.header().vars.len() == 4);
     for (var, words) in ELEMENTS.iter().enumerate() {
         assert!(rt; var < 4);
         let mut out = Bytes::copy_of(alloc, b"before")?;

@@ -1,4 +1,4 @@
--- What is spelled as a header is answered as that header, and a fault means that there is none.
+-- Bytes that spell a header are read as that header, and a fault means that they spell none.
 use Rattle.std.proofs.Common.{◌≡◌, List, ℕ, Result, Ok, Err, refl, sym, ◌∙◌}
 use Rattle.fm_base.specs.declared.fail.Fail.{Fail}
 use Rattle.fm_base.specs.declared.fail.Fail.TheVariants as fails
@@ -11,21 +11,26 @@ use Rattle.fm_base.proofs.HeaderLaws.{read-from_HeaderOf}
 use Rattle.fm_base.specs.Answer.{Answers, IsReadAs, OnFault}
 use Rattle.nc_header.specs.NoHeader.{HasNoHeader}
 
--- what the reader of all fields answers is the answer
-pub Answers-from_Reads : (bytes : List ℕ) (i left : Input) (r : Result Header (Fail HeaderFault)) → i ≡ whole bytes → Reads (λ (h : Header). h) (header_at i) r left → Answers (header_or_fault bytes) r
+-- what reading all fields returns is the outcome of the definition
+pub Answers-from_Reads : (bytes : List ℕ) (i left : Input) (r : Result Header (Fail HeaderFault)) → i ≡ whole bytes
+    → Reads (λ (h : Header). h) (header_at i) r left → Answers (header_or_fault bytes) r
 unfolding header_or_fault
 Answers-from_Reads bytes i left (Ok found) start e = rw (← start, e) refl
 Answers-from_Reads bytes i left (Err fails.NoMemory) start e = tt
 Answers-from_Reads bytes i left (Err (fails.Fault fault)) start e = rw (← start, e) refl
 
 -- what is spelled so is read
-pub IsReadAs-from_HeaderOf : (bytes : List ℕ) (r : Result Header (Fail HeaderFault)) → Answers (header_or_fault bytes) r → (h : Header) → HeaderOf bytes h → IsReadAs h r
+pub IsReadAs-from_HeaderOf : (bytes : List ℕ) (r : Result Header (Fail HeaderFault)) → Answers (header_or_fault bytes) r
+    → (h : Header) → HeaderOf bytes h → IsReadAs h r
 IsReadAs-from_HeaderOf bytes (Ok found) e h spelled = let same = sym e ∙ read-from_HeaderOf bytes h spelled in cc
 IsReadAs-from_HeaderOf bytes (Err fails.NoMemory) e h spelled = refl
-IsReadAs-from_HeaderOf bytes (Err (fails.Fault fault)) e h spelled = let same = sym e ∙ read-from_HeaderOf bytes h spelled in absurd cc
+IsReadAs-from_HeaderOf bytes (Err (fails.Fault fault)) e h spelled = let same = sym e
+    ∙ read-from_HeaderOf bytes h spelled in absurd cc
 
 -- a fault is answered only where no header is spelled
-pub HasNoHeader-from_fault : (bytes : List ℕ) (r : Result Header (Fail HeaderFault)) → Answers (header_or_fault bytes) r → OnFault r (HasNoHeader bytes)
+pub HasNoHeader-from_fault : (bytes : List ℕ) (r : Result Header (Fail HeaderFault)) → Answers (header_or_fault bytes) r
+    → OnFault r (HasNoHeader bytes)
 HasNoHeader-from_fault bytes (Ok found) e = tt
 HasNoHeader-from_fault bytes (Err fails.NoMemory) e = tt
-HasNoHeader-from_fault bytes (Err (fails.Fault fault)) e = λ h spelled. let same = sym e ∙ read-from_HeaderOf bytes h spelled in cc
+HasNoHeader-from_fault bytes (Err (fails.Fault fault)) e = λ h spelled. let same = sym e
+    ∙ read-from_HeaderOf bytes h spelled in cc

@@ -1,6 +1,6 @@
 //! The list of the dimensions.
 ghost use Rattle.std.specs.Prelude.{◌≡◌, []};
-ghost use Rattle.fm_base.specs.Format.{DIMENSION_TAG, has_record};
+ghost use Rattle.fm_base.specs.Format.{DIMENSION_TAG, has_record_dim};
 ghost use Rattle.fm_base.specs.Reading as spec;
 ghost use Rattle.fm_base.specs.Reading.{Reads};
 ghost use Rattle.nc_header.specs.Turns.{one_more};
@@ -15,9 +15,9 @@ use std::alloc::Global;
 /// The tag of the list.
 const TAG: u32 = 10;
 
-#[tactic(auto, unfolding(fm_base::specs::Format::has_record))]
-fn has_record(dims: &[Dim]) -> bool
-    ensures { result ≡ has_record dims.now }
+#[tactic(auto, unfolding(fm_base::specs::Format::has_record_dim))]
+fn has_record_dim(dims: &[Dim]) -> bool
+    ensures { result ≡ has_record_dim dims.now }
 {
     dims.iter().any(|dim| dim.size == 0)
 }
@@ -28,7 +28,7 @@ fn read_size(reader: &mut Reader<'_>, found: &[Dim]) -> Result<u32, Fail<HeaderF
 {
     let place = reader.at();
     let size = reader.count()?;
-    if size == 0 && has_record(found) {
+    if size == 0 && has_record_dim(found) {
         return Err(Fail::Fault(HeaderFault::TwoRecordDims(place)));
     }
     Ok(size)

@@ -1,5 +1,5 @@
 //! The whole header.
-ghost use Rattle.std.specs.Prelude.{◌≡◌, IfOk};
+ghost use Rattle.std.specs.Prelude.{◌≡◌, Ok, IfOk};
 ghost use Rattle.fm_base.specs.Reading as spec;
 ghost use Rattle.fm_base.specs.Reading.{Reads, header_or_fault};
 ghost use Rattle.fm_base.specs.Spelling.{HeaderOf};
@@ -44,6 +44,10 @@ pub fn read_header(alloc: Global, bytes: &[u8]) -> Result<Header, Fail<HeaderFau
     ensures spelled { IfOk result (HeaderOf bytes.now) }
     ensures read { (h : _) → HeaderOf bytes.now h → IsReadAs h result }
     ensures refused { OnFault result (HasNoHeader bytes.now) }
+
+    // A sound header stands exactly where reading finds it, free of what this call returns.
+    ensures stands { (h : _) → (HeaderOf bytes.now h → header_or_fault bytes.now ≡ Ok h)
+        × (header_or_fault bytes.now ≡ Ok h → HeaderOf bytes.now h) }
 
     // Bytes spell one header at most.
     ensures one { (h other : _) → HeaderOf bytes.now h → HeaderOf bytes.now other → h ≡ other }

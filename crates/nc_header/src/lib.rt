@@ -5,12 +5,14 @@ mod attrs;
 mod dims;
 mod found;
 mod header;
+mod laws;
 mod names;
 mod reader;
 mod vars;
 
 pub use fm_base::{Fail, HeaderFault};
 pub use header::read_header;
+pub use laws::a_fault_is_settled_by_its_field;
 pub use nc_model::Header;
 
 #[cfg(test)]

@@ -50,7 +50,7 @@ impl<'a> Reader<'a> {
         self.at
     }
 
-    /// Takes so many bytes, which are one field.
+    /// Takes `count` bytes, which are one field.
     pub fn take(&mut self, count: u64) -> Result<&'a [u8], Fail<HeaderFault>>
         ensures { Reads (λ bytes. bytes.now) (spec.field count self.old) result self.new }
     {
@@ -63,7 +63,7 @@ impl<'a> Reader<'a> {
         Ok(front)
     }
 
-    /// Takes so many bytes with padding to a multiple of four, which are one field.
+    /// Takes `len` bytes with padding to a multiple of four, which are one field.
     #[tactic(auto, unfolding(fm_base::specs::Reading::padded))]
     pub fn padded(&mut self, len: u64) -> Result<&'a [u8], Fail<HeaderFault>>
         requires { len < 2 ^ 62 }

@@ -16,7 +16,7 @@ use std::alloc::Global;
 /// The tag of the list.
 const TAG: u32 = 11;
 
-#[tactic(auto, unfolding(fm_base::specs::Reading::dim_id_at, fm_base::specs::Reading::names_record))]
+#[tactic(auto, unfolding(fm_base::specs::Reading::dim_id_at, fm_base::specs::Reading::names_record_dim))]
 fn read_dim_id(
     reader: &mut Reader<'_>,
     dims: &[Dim],

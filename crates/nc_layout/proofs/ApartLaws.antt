@@ -1,105 +1,119 @@
 -- No two elements of a variable share a byte.
-use Rattle.std.proofs.Common.{◌≡◌, ◌≢◌, ℕ, ◌+◌, ◌*◌, ◌/◌, ◌<◌, ◌≤◌, Bool, true, false, cond, ltb, List, [], ◌∷◌, map, drop, get_or, Some, inl, inr, refl, sym, ap, ap₂, subst, ◌∙◌, arith}
-use Rattle.std.specs.List.{slice_get}
-use Rattle.std.specs.Option.{option_map}
+use Rattle.std.proofs.Common.{◌≡◌, ◌≢◌, ℕ, zero, suc, ◌+◌, ◌*◌, ◌/◌, ◌<◌, ◌≤◌, Bool, true, false, cond, ltb, List, [], ◌∷◌, length, sum_by, Some, inl, inr, refl, sym, ap, ◌∙◌, arith}
+use Rattle.std.specs.List.{slice_get, filter}
 use Rattle.std.proofs.lemmas.Bool.{cases_eq, cases_order, cond_both}
-use Rattle.std.proofs.lemmas.List.Sums.{get_or-le-sum_by}
+use Rattle.std.proofs.lemmas.List.Sums.{sum_by-cons}
 use Rattle.std.proofs.lemmas.Nat.{mul-le}
-use Rattle.std.proofs.lemmas.Option.{slice_get-map, slice_get_within, get_or_from_slice_get}
 use Rattle.fm_base.specs.declared.header.Header.{Header}
 use Rattle.fm_base.specs.declared.header.NcVar.{NcVar}
 use Rattle.fm_base.specs.Kind.{size_of}
-use Rattle.fm_base.specs.Layout.{product, rank_in, indices_of, has_records, shape_of, fixed_shape, record_size, place_of}
-use Rattle.nc_layout.specs.declared.places.VarPlaces.{VarPlaces}
-use Rattle.nc_layout.specs.Faults.{padded_slab, lone_slab, record_size_in, with_records}
+use Rattle.fm_base.specs.Layout.{rank_in, is_record_var, shape_of, fixed_shape, vsize, record_vars, record_size, place_of, IsIndex}
+use Rattle.nc_layout.specs.Kept.{part_of, index_in_part}
 use Rattle.nc_layout.specs.Meaning.{AreApart}
-use Rattle.nc_layout.specs.Places.{IsIndex, var_places, slab_in}
-use Rattle.nc_layout.proofs.EndLaws.{place_by}
-use Rattle.nc_layout.proofs.FaultLemmas.{record_size-is}
-use Rattle.nc_layout.proofs.OrderLemmas.{slice_get-indices_of}
-use Rattle.nc_layout.proofs.RankLemmas.{rank_in-lt}
-use Rattle.nc_layout.proofs.RecordLemmas.{if_records, sum_of, record_size_in-one, record_size_in-others}
+use Rattle.nc_layout.specs.Places.{part_begin, part_count}
+use Rattle.nc_layout.proofs.EndLemmas.{element-within}
+use Rattle.nc_layout.proofs.HeaderLemmas.{place_of-part, index-part, same_part}
+use Rattle.nc_layout.proofs.OrderLemmas.{same_rank}
+use Rattle.nc_layout.proofs.RecordLemmas.{padded_vsize, lone_vsize, of_one, of_others}
 
--- one number tells one index list
-pub same_rank : (shape index other : List ℕ) → IsIndex shape index → IsIndex shape other → rank_in shape index ≡ rank_in shape other → index ≡ other
-same_rank shape index other is also same =
-    let both = sym (slice_get-indices_of shape index is) ∙ ap (slice_get (indices_of shape)) same ∙ slice_get-indices_of shape other also in cc
+-- what a record variable adds to a sum over the record variables is at most the sum
+term-le-sum : (p : NcVar → Bool) (f : NcVar → ℕ) (vars : List NcVar) (i : ℕ) (var : NcVar) → slice_get vars i ≡ Some var
+    → p var ≡ true
+    → f var ≤ sum_by f (filter p vars)
+term-le-sum p f [] i var there is = absurd cc
+term-le-sum p f (v ∷ vars) zero var there is =
+    let same : v ≡ var = cc in rw (same, is) (rw (sum_by-cons f var (filter p vars)) (omega arith))
+term-le-sum p f (v ∷ vars) (suc i) var there is = by_case (p v) (term-le-sum p f vars i var there is)
+  where
+    by_case : (b : Bool) → f var ≤ sum_by f (filter p vars)
+        → f var ≤ sum_by f (cond b (v ∷ filter p vars) (filter p vars))
+    by_case true less = rw (sum_by-cons f v (filter p vars)) (omega arith)
+    by_case false less = less
 
--- what a variable with records adds to a sum over those with records is at most the sum
-term-le-sum : (f : VarPlaces → ℕ) (vars : List VarPlaces) (i : ℕ) (var : VarPlaces) → slice_get vars i ≡ Some var → var.has_records ≡ true → f var ≤ sum_of f vars
-term-le-sum f vars i var there is =
-    let some = get_or-le-sum_by (if_records f) vars i var (slice_get_within vars i var there) in
-    let here : if_records f (get_or vars i var) ≡ f var = ap (if_records f) (get_or_from_slice_get vars i var var there) ∙ ap (λ b. cond b (f var) 0) is in
-    omega arith
+vsize-le-padded : (n : ℕ) → n ≤ (n + 3) / 4 * 4
+vsize-le-padded n = omega arith
 
-slab-le-padded : (n : ℕ) → n ≤ (n + 3) / 4 * 4
-slab-le-padded n = omega arith
-
-slab-le-lone : (var : VarPlaces) → slab_in var ≤ lone_slab var
-slab-le-lone var = cond_both (ltb (size_of var.kind) 4) (slab_in var) (padded_slab var) (λ n. slab_in var ≤ n) (λ _. omega arith) (λ _. slab-le-padded (slab_in var))
+vsize-le-lone : (header : Header) (var : NcVar) → vsize header var ≤ lone_vsize header var
+vsize-le-lone header var =
+    cond_both (ltb (size_of var.kind) 4) (vsize header var) (padded_vsize header var) (λ n. vsize header var ≤ n)
+    (λ _. omega arith) (λ _. vsize-le-padded (vsize header var))
 
 -- one record of a variable is at most one of all
-slab-le-record_size : (vars : List VarPlaces) (i : ℕ) (var : VarPlaces) → slice_get vars i ≡ Some var → var.has_records ≡ true → slab_in var ≤ record_size_in (with_records vars)
-slab-le-record_size vars i var there is = elim (cases_eq (sum_of (λ _. 1) vars) 1) [
+vsize-le-record_size : (header : Header) (i : ℕ) (var : NcVar) → slice_get header.vars i ≡ Some var
+    → is_record_var header var ≡ true
+    → vsize header var ≤ record_size header
+unfolding record_size
+vsize-le-record_size header i var there is = elim (cases_eq (length (record_vars header)) 1) [
   | inl one ↦
-      let some = term-le-sum lone_slab vars i var there is in
-      let least = slab-le-lone var in
-      let whole = record_size_in-one vars one in
+      let some = term-le-sum (is_record_var header) (lone_vsize header) header.vars i var there is in
+      let least = vsize-le-lone header var in
+      let whole = of_one header (record_vars header) one in
       omega arith
   | inr others ↦
-      let some = term-le-sum padded_slab vars i var there is in
-      let least = slab-le-padded (slab_in var) in
-      let whole = record_size_in-others vars others in
+      let some = term-le-sum (is_record_var header) (padded_vsize header) header.vars i var there is in
+      let least = vsize-le-padded (vsize header var) in
+      let whole = of_others header (record_vars header) others in
       omega arith
 ]
 
--- two elements of one slab
-offsets_apart : (size : ℕ) (shape index other : List ℕ) → IsIndex shape index → IsIndex shape other → index ≢ other → AreApart size (size * rank_in shape index) (size * rank_in shape other)
+-- two elements of one part
+offsets_apart : (size : ℕ) (shape index other : List ℕ) → IsIndex shape index → IsIndex shape other → index ≢ other
+    → AreApart size (size * rank_in shape index) (size * rank_in shape other)
 offsets_apart size shape index other is also ne = elim (cases_order (rank_in shape index) (rank_in shape other)) [
   | inl same ↦ absurd (ne (same_rank shape index other is also same))
-  | inr (inl before) ↦ inl (let most = mul-le size (rank_in shape index + 1) size (rank_in shape other) (omega arith) (omega arith) in omega arith)
-  | inr (inr after) ↦ inr (let most = mul-le size (rank_in shape other + 1) size (rank_in shape index) (omega arith) (omega arith) in omega arith)
+  | inr (inl before) ↦
+      inl (let most = mul-le size (rank_in shape index + 1) size (rank_in shape other) (omega arith)
+      (omega arith) in omega arith)
+  | inr (inr after) ↦
+      inr (let most = mul-le size (rank_in shape other + 1) size (rank_in shape index) (omega arith)
+      (omega arith) in omega arith)
 ]
 
-moved : (size by place other : ℕ) → AreApart size place other → AreApart size (by + place) (by + other)
-moved size by place other (inl before) = inl (omega arith)
-moved size by place other (inr after) = inr (omega arith)
-
--- an element of an earlier record ends before any of a later one
-earlier : (size record_size i j : ℕ) (shape index other : List ℕ) → size * product shape ≤ record_size → IsIndex shape index → i < j → i * record_size + size * rank_in shape index + size ≤ j * record_size + size * rank_in shape other
-earlier size record_size i j shape index other slab is before =
-    let below = rank_in-lt shape index is in
-    let within = mul-le size (rank_in shape index + 1) size (product shape) (omega arith) (omega arith) in
-    let records = mul-le (i + 1) record_size j record_size (omega arith) (omega arith) in
-    omega arith
-
-places_apart : (b : Bool) (begin record_size size : ℕ) (shape index other : List ℕ) → (b ≡ true → size * product (drop 1 shape) ≤ record_size) → IsIndex shape index → IsIndex shape other → index ≢ other → AreApart size (place_by b begin record_size size shape index) (place_by b begin record_size size shape other)
-places_apart false begin record_size size shape index other slab is also ne = moved size begin _ _ (offsets_apart size shape index other is also ne)
-places_apart true begin record_size size [] [] [] slab is also ne = absurd (ne refl)
-places_apart true begin record_size size [] [] (j ∷ other) slab is also ne = absurd also
-places_apart true begin record_size size [] (i ∷ index) other slab is also ne = absurd is
-places_apart true begin record_size size (n ∷ shape) [] other slab is also ne = absurd is
-places_apart true begin record_size size (n ∷ shape) (i ∷ index) [] slab is also ne = absurd also
-places_apart true begin record_size size (n ∷ shape) (i ∷ index) (j ∷ other) slab is also ne = elim (cases_order i j) [
-  | inl same ↦ subst (λ k. AreApart size (begin + i * record_size + size * rank_in shape index) (begin + k * record_size + size * rank_in shape other)) same
-      (moved size (begin + i * record_size) _ _ (offsets_apart size shape index other is.1 also.1 (λ e. ne (ap₂ (λ k ks. k ∷ ks) same e))))
-  | inr (inl before) ↦ inl (let ends = earlier size record_size i j shape index other (slab refl) is.1 before in omega arith)
-  | inr (inr after) ↦ inr (let ends = earlier size record_size j i shape other index (slab refl) also.1 after in omega arith)
-]
+-- a record variable has no more than one record's bytes in its part, and another variable has one part
+next-part : (header : Header) (number : ℕ) (var : NcVar) (i j : ℕ) → slice_get header.vars number ≡ Some var → i < j
+    → j < part_count header var
+    → part_begin header var i + vsize header var ≤ part_begin header var j
+next-part header number var i j there before below = by_case (is_record_var header var) refl below
+  where
+    by_case : (b : Bool) → is_record_var header var ≡ b → j < cond b header.numrecs 1
+        → part_begin header var i + vsize header var ≤ part_begin header var j
+    by_case true some below =
+        let least = vsize-le-record_size header number var there some in
+        let records = mul-le (i + 1) (record_size header) j (record_size header) (omega arith) (omega arith) in
+        omega arith
+    by_case false none below = absurd (omega arith)
 
 -- no two elements of a variable of a header share a byte
-pub place_of-apart : (header : Header) (number : ℕ) (var : NcVar) (index other : List ℕ) → slice_get header.vars number ≡ Some var → IsIndex (shape_of header var) index → IsIndex (shape_of header var) other → index ≢ other → AreApart (size_of var.kind) (place_of header var index) (place_of header var other)
-unfolding place_of
+pub place_of-apart : (header : Header) (number : ℕ) (var : NcVar) (index other : List ℕ)
+    → slice_get header.vars number ≡ Some var
+    → IsIndex (shape_of header var) index → IsIndex (shape_of header var) other → index ≢ other
+    → AreApart (size_of var.kind) (place_of header var index) (place_of header var other)
 place_of-apart header number var index other there is also ne =
-    places_apart (has_records header var) var.begin (record_size header) (size_of var.kind) (shape_of header var) index other slab is also ne
+    rw (place_of-part header var index, place_of-part header var other)
+    (elim (cases_order (part_of header var index) (part_of header var other)) [
+      | inl same ↦
+          rw same (moved _ _ _ _
+          (offsets_apart (size_of var.kind) (fixed_shape header var) (index_in_part header var index)
+          (index_in_part header var other) parts.1 others.1
+          (λ rest. ne (same_part header var index other is also same rest))))
+      | inr (inl before) ↦
+          inl (let next = next-part header number var _ _ there before others.0 in
+          let last = element-within header var _ parts.1 in omega arith)
+      | inr (inr after) ↦
+          inr (let next = next-part header number var _ _ there after parts.0 in
+          let last = element-within header var _ others.1 in omega arith)
+    ])
   where
-    slab : has_records header var ≡ true → size_of var.kind * product (drop 1 (shape_of header var)) ≤ record_size header
-    slab some =
-        let kept : slice_get (map (var_places header) header.vars) number ≡ Some (var_places header var) = slice_get-map (var_places header) header.vars number ∙ ap (option_map (var_places header)) there in
-        let least = slab-le-record_size (map (var_places header) header.vars) number (var_places header var) kept some in
-        let whole = record_size-is header in
-        let lengths : fixed_shape header var ≡ drop 1 (shape_of header var) = ap (λ b. cond b (drop 1 (shape_of header var)) (shape_of header var)) some in
-        let product_is = ap product lengths in
-        rw (← lengths) (omega arith)
+    parts : (part_of header var index < part_count header var)
+        × IsIndex (fixed_shape header var) (index_in_part header var index)
+    parts = index-part header var index is
+
+    others : (part_of header var other < part_count header var)
+        × IsIndex (fixed_shape header var) (index_in_part header var other)
+    others = index-part header var other also
+
+    moved : (size by place last : ℕ) → AreApart size place last → AreApart size (by + place) (by + last)
+    moved size by place last (inl before) = inl (omega arith)
+    moved size by place last (inr after) = inr (omega arith)
 
 pub ruleset aparts = (place_of-apart)

@@ -1,51 +1,97 @@
--- Where the last element of a variable ends.
-use Rattle.std.proofs.Common.{◌≡◌, ℕ, ◌+◌, ◌-◌, ◌*◌, ◌<◌, ◌≤◌, Bool, true, false, cond, eqb, ◌∷◌, map, Option, None, Some, refl, ap, ◌∙◌, arith}
+-- Where the last element of a variable ends: with its last part. No element ends past it.
+use Rattle.std.proofs.Common.{◌≡◌, ℕ, ◌+◌, ◌-◌, ◌*◌, ◌<◌, ◌≤◌, Bool, true, false, cond, not, eqb, List, map, drop, Option, None, Some, refl, ap, ◌∙◌, arith}
+use Rattle.std.specs.List.{slice_index}
 use Rattle.std.proofs.Math.Nat.{le-mul_of_pos_right}
 use Rattle.std.proofs.lemmas.Bool.{ne_eqb}
+use Rattle.std.proofs.lemmas.Nat.{mul-le}
+use Rattle.fm_base.specs.declared.header.Header.{Header}
+use Rattle.fm_base.specs.declared.header.NcVar.{NcVar}
 use Rattle.fm_base.specs.Kind.{size_of}
-use Rattle.fm_base.specs.Layout.{product, rank_in}
-use Rattle.nc_layout.specs.declared.places.VarPlaces.{VarPlaces}
-use Rattle.nc_layout.specs.Places.{slab_in}
-use Rattle.nc_layout.specs.Faults.{HasLengths, end_in}
+use Rattle.fm_base.specs.Layout.{product, rank_in, is_record_var, shape_of, fixed_shape, vsize, record_size, place_of, last_index, end_of, has_elements, IsIndex}
+use Rattle.nc_layout.specs.Kept.{HasLengths, end_if_any, part_of, index_in_part}
+use Rattle.nc_layout.specs.Places.{part_begin, part_count}
+use Rattle.nc_layout.proofs.HeaderLemmas.{shape_of-fixed, shape_of-record, place_of-part, index-part}
 use Rattle.nc_layout.proofs.ProductLemmas.{product-pos}
-use Rattle.nc_layout.proofs.RankLemmas.{rank_in-last}
+use Rattle.fm_base.proofs.EndLaws.{rank_in-last, rank_in-lt, place_of-le-end_of}
 
-some_unless_none : (n end : ℕ) → 1 ≤ n → cond (eqb n 0) None (Some end) ≡ Some end
-some_unless_none n end some = ap (λ b. cond b None (Some end)) (ne_eqb n 0 (λ e. absurd (omega arith)))
+times_last : (size rank whole : ℕ) → rank + 1 ≡ whole → size * rank + size ≡ size * whole
+times_last size rank whole e = rw (← e) (omega arith)
 
-none_where_none : (n end : ℕ) → n ≡ 0 → cond (eqb n 0) None (Some end) ≡ None
-none_where_none n end none = ap (λ m. cond (eqb m 0) None (Some end)) none
+-- the last index list of a variable is the last of its last part
+last-index : (header : Header) (var : NcVar) → (part_of header var (last_index header var) ≡ part_count header var - 1)
+    × (index_in_part header var (last_index header var) ≡ map (λ n. n - 1) (fixed_shape header var))
+last-index header var = by_case (is_record_var header var) refl
+  where
+    by_case : (b : Bool) → is_record_var header var ≡ b
+        → (cond b (slice_index (last_index header var) 0) 0 ≡ cond b header.numrecs 1 - 1)
+        × (cond b (drop 1 (last_index header var)) (last_index header var) ≡ map (λ n. n - 1) (fixed_shape header var))
+    by_case true some =
+        let shape = shape_of-record header var some in (
+          ap (λ (s : List ℕ). slice_index (map (λ n. n - 1) s) 0) shape,
+          ap
+              (λ (s : List ℕ). drop 1 (map (λ n. n - 1) s)) shape,
+        )
+    by_case false none = (refl, ap (map (λ n. n - 1)) (shape_of-fixed header var none))
 
--- the end of a variable, by whether it has records
-abbrev end_with : Bool → ℕ → ℕ → VarPlaces → Option ℕ
-end_with true records record_size var = cond (eqb (product (records ∷ var.fixed)) 0) None (Some (var.begin + (records - 1) * record_size + size_of var.kind * rank_in var.fixed (map (λ n. n - 1) var.fixed) + size_of var.kind))
-end_with false records record_size var = cond (eqb (product var.fixed) 0) None (Some (var.begin + size_of var.kind * rank_in var.fixed (map (λ n. n - 1) var.fixed) + size_of var.kind))
+-- so its end is that of the last part
+pub last-part : (header : Header) (var : NcVar) → HasLengths header var
+    → end_of header var ≡ part_begin header var (part_count header var - 1) + vsize header var
+unfolding vsize
+last-part header var all =
+    let place = place_of-part header var (last_index header var) in
+    let last = last-index header var in
+    let at = ap (part_begin header var) last.0 in
+    let offset = ap (λ rest. size_of var.kind * rank_in (fixed_shape header var) rest) last.1 in
+    let whole = times_last (size_of var.kind) _ _ (rank_in-last (fixed_shape header var)
+    (product-pos (fixed_shape header var) all)) in
+    omega arith
 
-end_in-with : (records record_size : ℕ) (var : VarPlaces) (b : Bool) → var.has_records ≡ b → end_in records record_size var ≡ end_with b records record_size var
-end_in-with records record_size var true is = rw is refl
-end_in-with records record_size var false is = rw is refl
-
-last_slab : (size rank whole : ℕ) → rank + 1 ≡ whole → size * rank + size ≡ size * whole
-last_slab size rank whole e = rw (← e) (omega arith)
-
--- the last element of a variable without records ends the slab
-pub end_in-fixed : (records record_size : ℕ) (var : VarPlaces) → HasLengths var → var.has_records ≡ false → end_in records record_size var ≡ Some (var.begin + slab_in var)
-end_in-fixed records record_size var all is =
-    let slab = last_slab (size_of var.kind) _ _ (rank_in-last var.fixed all) in
-    end_in-with records record_size var false is ∙ some_unless_none (product var.fixed) _ (product-pos var.fixed all) ∙ ap Some (omega arith)
-
--- a variable has no element where there are no records
-pub end_in-none : (records record_size : ℕ) (var : VarPlaces) → var.has_records ≡ true → records ≡ 0 → end_in records record_size var ≡ None
+-- how many elements a variable has
+product-parts : (header : Header) (var : NcVar)
+    → product (shape_of header var) ≡ part_count header var * product (fixed_shape header var)
 unfolding product
-end_in-none records record_size var is none =
-    end_in-with records record_size var true is ∙ ap (λ n. end_with true n record_size var) none ∙ none_where_none (0 * product var.fixed) _ (omega arith)
+product-parts header var = by_case (is_record_var header var) refl
+  where
+    by_case : (b : Bool) → is_record_var header var ≡ b
+        → product (shape_of header var) ≡ cond b header.numrecs 1 * product (fixed_shape header var)
+    by_case true some = ap product (shape_of-record header var some)
+    by_case false none = ap product (shape_of-fixed header var none) ∙ omega arith
 
--- the last element of a variable with records ends the slab of the last record
-pub end_in-records : (records record_size : ℕ) (var : VarPlaces) → HasLengths var → var.has_records ≡ true → 0 < records → end_in records record_size var ≡ Some (var.begin + (records - 1) * record_size + slab_in var)
-unfolding product
-end_in-records records record_size var all is some =
-    let slab = last_slab (size_of var.kind) _ _ (rank_in-last var.fixed all) in
-    let whole : records ≤ records * product var.fixed = le-mul_of_pos_right records (product-pos var.fixed all) in
-    end_in-with records record_size var true is ∙ some_unless_none (records * product var.fixed) _ (omega arith) ∙ ap Some (omega arith)
+-- it has one where it has a part
+pub has-elements : (header : Header) (var : NcVar) → HasLengths header var → 0 < part_count header var
+    → has_elements header var ≡ true
+has-elements header var all some =
+    let count = product-parts header var in
+    let most = le-mul_of_pos_right (part_count header var) (product-pos (fixed_shape header var) all) in
+    ap not (ne_eqb (product (shape_of header var)) 0 (λ e. absurd (omega arith)))
 
-pub ruleset ends = (end_in-fixed, end_in-none, end_in-records)
+pub end_if_any-some : (header : Header) (var : NcVar) → HasLengths header var → 0 < part_count header var
+    → end_if_any header var ≡ Some (part_begin header var (part_count header var - 1) + vsize header var)
+end_if_any-some header var all some =
+    ap (λ b. cond b (Some (end_of header var)) None) (has-elements header var all some)
+    ∙ ap Some (last-part header var all)
+
+pub end_if_any-none : (header : Header) (var : NcVar) → part_count header var ≡ 0 → end_if_any header var ≡ None
+end_if_any-none header var none =
+    let count : product (shape_of header var) ≡ 0 = product-parts header var ∙ rw none (omega arith) in
+    ap (λ n. cond (not (eqb n 0)) (Some (end_of header var)) None) count
+
+-- each part ends with the last at the latest, and an element with its part
+pub part-le-end : (header : Header) (var : NcVar) (k : ℕ) → HasLengths header var → k < part_count header var
+    → part_begin header var k + vsize header var ≤ end_of header var
+part-le-end header var k all below =
+    let last = last-part header var all in
+    let before =
+    mul-le k (record_size header) (part_count header var - 1) (record_size header) (omega arith) (omega arith) in
+    omega arith
+
+pub element-within : (header : Header) (var : NcVar) (index : List ℕ) → IsIndex (fixed_shape header var) index
+    → size_of var.kind * rank_in (fixed_shape header var) index + size_of var.kind ≤ vsize header var
+unfolding vsize
+element-within header var index is =
+    let below = rank_in-lt (fixed_shape header var) index is in
+    let most = mul-le (size_of var.kind) (rank_in (fixed_shape header var) index + 1) (size_of var.kind)
+    (product (fixed_shape header var)) (omega arith) (omega arith) in
+    omega arith
+
+pub ruleset ends = (end_if_any-some, end_if_any-none, place_of-le-end_of)

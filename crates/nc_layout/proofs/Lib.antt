@@ -1,9 +1,7 @@
 pub mod ApartLaws
-pub mod EndLaws
 pub mod EndLemmas
-pub mod ExampleLemmas
-pub mod FaultLemmas
 pub mod HeaderLemmas
+pub mod LayingLemmas
 pub mod MeaningLemmas
 pub mod OrderLemmas
 pub mod PlaceLemmas

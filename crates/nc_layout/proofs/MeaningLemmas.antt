@@ -1,107 +1,168 @@
 -- The first fault of a list of variables says that one is at fault, and none before it.
 use Rattle.std.proofs.Common.{◌≡◌, ℕ, suc, ◌+◌, ◌^◌, ◌<◌, ◌≤◌, Bool, true, false, cond, ltb, List, [], ◌∷◌, take, All, Option, None, Some, refl, sym, ap, subst, ◌∙◌, arith}
 use Rattle.std.specs.List.{slice_get}
-use Rattle.std.specs.Option.{MatchOption}
+use Rattle.std.specs.Option.{MatchOption, option_or}
 use Rattle.std.proofs.lemmas.Bool.{ltb-true, ltb-false, false≢true}
 use Rattle.std.proofs.lemmas.List.Elements.{All-nil, All-cons}
+use Rattle.std.proofs.lemmas.Option.{cond_some, MatchOption-at_none}
 use Rattle.fm_base.specs.declared.fault.LayoutFault.{LayoutFault}
 use Rattle.fm_base.specs.declared.fault.LayoutFault.TheVariants.{TooLarge, DataOutside}
 use Rattle.fm_base.specs.declared.header.Header.{Header}
 use Rattle.fm_base.specs.declared.header.NcVar.{NcVar}
-use Rattle.fm_base.specs.Layout.{slab_size, has_elements, end_of, is_outside, or_else, first_too_large, first_outside, layout_fault}
+use Rattle.fm_base.specs.Layout.{vsize, has_elements, end_of, is_outside, first_too_large, first_outside, layout_fault}
 use Rattle.nc_layout.specs.Meaning.{IsSmall, EndsWithin, IsInside, Says}
 
--- the first variable that fails a test, among those from a number on, and none before it
-record IsFirst (Good Bad : NcVar → Type 0) (fault_of : ℕ → NcVar → LayoutFault) (from : ℕ) (vars : List NcVar) (fault : LayoutFault) : Type 0 where
+-- the fault of a variable of this number, and the first fault of the variables from this number on
+abbrev too_large_at : Header → ℕ → NcVar → Option LayoutFault
+too_large_at header n var = cond (ltb (2 ^ 40) (vsize header var)) (Some (TooLarge n)) None
+
+abbrev outside_at : Header → ℕ → ℕ → NcVar → Option LayoutFault
+outside_at header len n var = cond (is_outside header len var) (Some (DataOutside n (end_of header var) len)) None
+
+first_fault : (ℕ → NcVar → Option LayoutFault) → ℕ → List NcVar → Option LayoutFault
+first_fault fault_at n [] = None
+first_fault fault_at n (var ∷ vars) = option_or (fault_at n var) (first_fault fault_at (n + 1) vars)
+
+or_none : (b : Bool) (fault : LayoutFault) (rest later : Option LayoutFault) → rest ≡ later
+    → cond b (Some fault) rest ≡ option_or (cond b (Some fault) None) later
+or_none true fault rest later same = refl
+or_none false fault rest later same = same
+
+first_too_large-is : (header : Header) (n : ℕ) (vars : List NcVar)
+    → first_too_large header n vars ≡ first_fault (too_large_at header) n vars
+unfolding first_too_large first_fault
+first_too_large-is header n [] = refl
+first_too_large-is header n (var ∷ vars) =
+    or_none (ltb (2 ^ 40) (vsize header var)) (TooLarge n) _ _ (first_too_large-is header (n + 1) vars)
+
+first_outside-is : (header : Header) (len n : ℕ) (vars : List NcVar)
+    → first_outside header len n vars ≡ first_fault (outside_at header len) n vars
+unfolding first_outside first_fault
+first_outside-is header len n [] = refl
+first_outside-is header len n (var ∷ vars) =
+    or_none (is_outside header len var) (DataOutside n (end_of header var) len) _ _
+    (first_outside-is header len (n + 1) vars)
+
+-- the first variable with a fault, among those from a number on, and none before it
+record IsFirst (Good : NcVar → Type 0) (fault_at : ℕ → NcVar → Option LayoutFault) (from : ℕ) (vars : List NcVar)
+    (fault : LayoutFault) : Type 0 where
   place : ℕ
   var : NcVar
   there : slice_get vars place ≡ Some var
-  bad : Bad var
-  fault_is : fault ≡ fault_of (from + place) var
+  bad : fault_at (from + place) var ≡ Some fault
   before : All Good (take place vars)
 
-first_here : (Good Bad : NcVar → Type 0) (fault_of : ℕ → NcVar → LayoutFault) (from : ℕ) (var : NcVar) (vars : List NcVar) (fault : LayoutFault) → Bad var → fault ≡ fault_of from var → IsFirst Good Bad fault_of from (var ∷ vars) fault
-first_here Good Bad fault_of from var vars fault bad is = record {
-  place = 0;
-  var = var;
-  there = refl;
-  bad = bad;
-  fault_is = let same : from ≡ from + 0 = omega arith in is ∙ ap (λ n. fault_of n var) same;
-  before = All-nil Good;
-}
-
-first_later : (Good Bad : NcVar → Type 0) (fault_of : ℕ → NcVar → LayoutFault) (from : ℕ) (var : NcVar) (vars : List NcVar) (fault : LayoutFault) → Good var → IsFirst Good Bad fault_of (from + 1) vars fault → IsFirst Good Bad fault_of from (var ∷ vars) fault
-first_later Good Bad fault_of from var vars fault good first = record {
-  place = suc first.place;
-  var = first.var;
-  there = first.there;
-  bad = first.bad;
-  fault_is = let same : from + 1 + first.place ≡ from + suc first.place = omega arith in first.fault_is ∙ ap (λ n. fault_of n first.var) same;
-  before = All-cons Good var (take first.place vars) good first.before;
-}
-
-abbrev IsLarge : Header → NcVar → Type 0
-IsLarge header var = 2 ^ 40 < slab_size header var
-
--- where the first variable that is too large stands, or that there is none
-first_large : (header : Header) (from : ℕ) (vars : List NcVar) → MatchOption (first_too_large header from vars) (All (IsSmall header) vars) (IsFirst (IsSmall header) (IsLarge header) (λ n _. TooLarge n) from vars)
-unfolding first_too_large
-first_large header from [] = All-nil (IsSmall header)
-first_large header from (var ∷ vars) = at (ltb (2 ^ 40) (slab_size header var)) refl (first_too_large header (from + 1) vars) (first_large header (from + 1) vars)
+-- all variables are good, or one is the first with a fault
+first_fault-says : (Good : NcVar → Type 0) (fault_at : ℕ → NcVar → Option LayoutFault)
+    → ((n : ℕ) (var : NcVar) → fault_at n var ≡ None → Good var) → (from : ℕ) (vars : List NcVar)
+    → MatchOption (first_fault fault_at from vars) (All Good vars) (IsFirst Good fault_at from vars)
+unfolding first_fault
+first_fault-says Good fault_at good from [] = All-nil Good
+first_fault-says Good fault_at good from (var ∷ vars) =
+    at (fault_at from var) refl (first_fault fault_at (from + 1) vars)
+    (first_fault-says Good fault_at good (from + 1) vars)
   where
-    at : (b : Bool) → ltb (2 ^ 40) (slab_size header var) ≡ b → (o : Option LayoutFault) → MatchOption o (All (IsSmall header) vars) (IsFirst (IsSmall header) (IsLarge header) (λ n _. TooLarge n) (from + 1) vars) → MatchOption (cond b (Some (TooLarge from)) o) (All (IsSmall header) (var ∷ vars)) (IsFirst (IsSmall header) (IsLarge header) (λ n _. TooLarge n) from (var ∷ vars))
-    at true is o more = first_here _ _ _ from var vars _ (ltb-true (2 ^ 40) (slab_size header var) is) refl
-    at false is None more = All-cons (IsSmall header) var vars (ltb-false (2 ^ 40) (slab_size header var) is) more
-    at false is (Some fault) more = first_later _ _ _ from var vars fault (ltb-false (2 ^ 40) (slab_size header var) is) more
+    at : (here : Option LayoutFault) → fault_at from var ≡ here → (later : Option LayoutFault)
+        → MatchOption later (All Good vars) (IsFirst Good fault_at (from + 1) vars)
+        → MatchOption (option_or here later) (All Good (var ∷ vars)) (IsFirst Good fault_at from (var ∷ vars))
+    at (Some fault) is later more =
+        let same : from ≡ from + 0 = omega arith in
+        record { place = 0; var = var; there = refl; bad = rw (← same) is; before = All-nil Good }
+    at None is None more = All-cons Good var vars (good from var is) more
+    at None is (Some fault) more =
+        let same : from + suc more.place ≡ from + 1 + more.place = omega arith in
+        record {
+          place = suc more.place;
+          var = more.var;
+          there = more.there;
+          bad = rw same more.bad;
+          before = All-cons Good var (take more.place vars) (good from var is) more.before;
+        }
 
-record IsPast (header : Header) (len : ℕ) (var : NcVar) : Type 0 where
-  some : has_elements header var ≡ true
-  outside : len < end_of header var
+cond_none : (b : Bool) (fault : LayoutFault) → cond b (Some fault) None ≡ None → b ≡ false
+cond_none true fault is = absurd cc
+cond_none false fault is = refl
 
-outside-true : (header : Header) (len : ℕ) (var : NcVar) → is_outside header len var ≡ true → IsPast header len var
-outside-true header len var is = at (has_elements header var) refl is
+-- a variable without one of the faults
+small : (header : Header) (n : ℕ) (var : NcVar) → too_large_at header n var ≡ None → IsSmall header var
+small header n var is =
+    ltb-false (2 ^ 40) (vsize header var) (cond_none (ltb (2 ^ 40) (vsize header var)) (TooLarge n) is)
+
+inside : (header : Header) (len n : ℕ) (var : NcVar) → outside_at header len n var ≡ None → EndsWithin header len var
+inside header len n var is some = at (has_elements header var) some (cond_none (is_outside header len var) _ is)
   where
-    at : (b : Bool) → has_elements header var ≡ b → cond b (ltb len (end_of header var)) false ≡ true → IsPast header len var
-    at true some e = record { some = some; outside = ltb-true len (end_of header var) e }
-    at false none e = absurd cc
+    at : (b : Bool) → b ≡ true → cond b (ltb len (end_of header var)) false ≡ false → end_of header var ≤ len
+    at true some e = ltb-false len (end_of header var) e
+    at false none e = absurd (false≢true none)
 
-outside-false : (header : Header) (len : ℕ) (var : NcVar) → is_outside header len var ≡ false → EndsWithin header len var
-outside-false header len var is some = at (has_elements header var) refl is
+-- and one with it
+outside : (header : Header) (len : ℕ) (var : NcVar) → is_outside header len var ≡ true
+    → (has_elements header var ≡ true) × (len < end_of header var)
+outside header len var is = at (has_elements header var) refl is
   where
-    at : (b : Bool) → has_elements header var ≡ b → cond b (ltb len (end_of header var)) false ≡ false → end_of header var ≤ len
-    at true some' e = ltb-false len (end_of header var) e
-    at false none e = absurd (false≢true (sym none ∙ some))
+    at : (b : Bool) → has_elements header var ≡ b → cond b (ltb len (end_of header var)) false ≡ true
+        → (has_elements header var ≡ true) × (len < end_of header var)
+    at true some e = (some, ltb-true len (end_of header var) e)
+    at false none e = absurd (false≢true e)
 
-abbrev outside_fault : Header → ℕ → ℕ → NcVar → LayoutFault
-outside_fault header len n var = DataOutside n (end_of header var) len
-
--- where the first variable with an element outside stands, or that there is none
-first_past : (header : Header) (len from : ℕ) (vars : List NcVar) → MatchOption (first_outside header len from vars) (All (EndsWithin header len) vars) (IsFirst (EndsWithin header len) (IsPast header len) (outside_fault header len) from vars)
-unfolding first_outside
-first_past header len from [] = All-nil (EndsWithin header len)
-first_past header len from (var ∷ vars) = at (is_outside header len var) refl (first_outside header len (from + 1) vars) (first_past header len (from + 1) vars)
-  where
-    at : (b : Bool) → is_outside header len var ≡ b → (o : Option LayoutFault) → MatchOption o (All (EndsWithin header len) vars) (IsFirst (EndsWithin header len) (IsPast header len) (outside_fault header len) (from + 1) vars) → MatchOption (cond b (Some (DataOutside from (end_of header var) len)) o) (All (EndsWithin header len) (var ∷ vars)) (IsFirst (EndsWithin header len) (IsPast header len) (outside_fault header len) from (var ∷ vars))
-    at true is o more = first_here _ _ _ from var vars _ (outside-true header len var is) refl
-    at false is None more = All-cons (EndsWithin header len) var vars (outside-false header len var is) more
-    at false is (Some fault) more = first_later _ _ _ from var vars fault (outside-false header len var is) more
-
-large_says : (header : Header) (len : ℕ) (fault : LayoutFault) → IsFirst (IsSmall header) (IsLarge header) (λ n _. TooLarge n) 0 header.vars fault → Says header len fault
+large_says : (header : Header) (len : ℕ) (fault : LayoutFault)
+    → IsFirst (IsSmall header) (too_large_at header) 0 header.vars fault → Says header len fault
 large_says header len fault first =
-    let is : TooLarge first.place ≡ fault = let same : 0 + first.place ≡ first.place = omega arith in sym (first.fault_is ∙ ap TooLarge same) in
-    subst (Says header len) is (record { var = first.var; numbered = first.there; large = first.bad; before = first.before })
+    let same : 0 + first.place ≡ first.place = omega arith in
+    let bad = cond_some (ltb (2 ^ 40) (vsize header first.var)) (TooLarge first.place) fault (rw same at first.bad) in
+    subst (Says header len) bad.1 (record {
+      var = first.var;
+      numbered = first.there;
+      large = ltb-true (2 ^ 40) (vsize header first.var) bad.0;
+      before = first.before;
+    })
 
-outside_says : (header : Header) (len : ℕ) (fault : LayoutFault) → All (IsSmall header) header.vars → IsFirst (EndsWithin header len) (IsPast header len) (outside_fault header len) 0 header.vars fault → Says header len fault
+outside_says : (header : Header) (len : ℕ) (fault : LayoutFault) → All (IsSmall header) header.vars
+    → IsFirst (EndsWithin header len) (outside_at header len) 0 header.vars fault → Says header len fault
 outside_says header len fault small first =
-    let is : outside_fault header len first.place first.var ≡ fault = let same : 0 + first.place ≡ first.place = omega arith in sym (first.fault_is ∙ ap (λ n. outside_fault header len n first.var) same) in
-    subst (Says header len) is (record { small = small; var = first.var; numbered = first.there; some = first.bad.some; end_is = refl; outside = first.bad.outside; before = first.before }, refl)
+    let same : 0 + first.place ≡ first.place = omega arith in
+    let bad = cond_some (is_outside header len first.var) (DataOutside first.place (end_of header first.var) len) fault
+    (rw same at first.bad) in
+    let past = outside header len first.var bad.0 in
+    subst (Says header len) bad.1 (
+      record {
+        small = small;
+        var = first.var;
+        numbered = first.there;
+        some = past.0;
+        end_is = refl;
+        outside = past.1;
+        before = first.before;
+      },
+      refl,
+    )
+
+-- where no variable is too large
+pub All-small : (header : Header) → first_too_large header 0 header.vars ≡ None → All (IsSmall header) header.vars
+All-small header none =
+    MatchOption-at_none (All (IsSmall header) header.vars)
+    (IsFirst (IsSmall header) (too_large_at header) 0 header.vars)
+    (sym (first_too_large-is header 0 header.vars) ∙ none)
+    (first_fault-says (IsSmall header) (too_large_at header) (small header) 0 header.vars)
 
 -- what the first fault of a layout says, or that there is none
-pub layout_fault-says : (header : Header) (len : ℕ) → MatchOption (layout_fault header len) (IsInside header len) (Says header len)
+pub layout_fault-says : (header : Header) (len : ℕ)
+    → MatchOption (layout_fault header len) (IsInside header len) (Says header len)
 unfolding layout_fault
-layout_fault-says header len = at (first_too_large header 0 header.vars) (first_large header 0 header.vars) (first_outside header len 0 header.vars) (first_past header len 0 header.vars)
+layout_fault-says header len =
+    rw (first_too_large-is header 0 header.vars, first_outside-is header len 0 header.vars)
+    (at (first_fault (too_large_at header) 0 header.vars)
+    (first_fault-says (IsSmall header) (too_large_at header) (small header) 0 header.vars)
+    (first_fault (outside_at header len) 0 header.vars)
+    (first_fault-says (EndsWithin header len) (outside_at header len) (inside header len) 0 header.vars))
   where
-    at : (first : Option LayoutFault) → MatchOption first (All (IsSmall header) header.vars) (IsFirst (IsSmall header) (IsLarge header) (λ n _. TooLarge n) 0 header.vars) → (second : Option LayoutFault) → MatchOption second (All (EndsWithin header len) header.vars) (IsFirst (EndsWithin header len) (IsPast header len) (outside_fault header len) 0 header.vars) → MatchOption (or_else first second) (IsInside header len) (Says header len)
+    at : (first : Option LayoutFault)
+        → MatchOption first (All (IsSmall header) header.vars)
+        (IsFirst (IsSmall header) (too_large_at header) 0 header.vars)
+        → (second : Option LayoutFault)
+        → MatchOption second (All (EndsWithin header len) header.vars)
+        (IsFirst (EndsWithin header len) (outside_at header len) 0 header.vars)
+        → MatchOption (option_or first second) (IsInside header len) (Says header len)
     at (Some fault) large second outside = large_says header len fault large
     at None small (Some fault) outside = outside_says header len fault small outside
     at None small None ends = record { small = small; ends = ends }

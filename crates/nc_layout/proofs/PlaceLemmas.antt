@@ -1,37 +1,52 @@
--- Elements and slabs lie in the file.
-use Rattle.std.proofs.Common.{◌≡◌, ℕ, ◌+◌, ◌-◌, ◌*◌, ◌<◌, ◌≤◌, Bool, true, false, cond, List, Some, refl, arith}
-use Rattle.std.proofs.lemmas.Option.{MatchOption-at_some}
-use Rattle.std.proofs.lemmas.Nat.{mul-le}
+-- Elements and parts lie in the file, and their places fit 64 bits.
+use Rattle.std.proofs.Common.{◌≡◌, ℕ, ◌+◌, ◌*◌, ◌^◌, ◌<◌, ◌≤◌, List, Some, arith}
+use Rattle.std.specs.List.{slice_get}
+use Rattle.std.proofs.lemmas.List.Elements.{All-get_or}
+use Rattle.std.proofs.lemmas.Option.{MatchOption-at_none, slice_get_within, get_or_from_slice_get}
+use Rattle.fm_base.specs.declared.header.Header.{Header}
+use Rattle.fm_base.specs.declared.header.NcVar.{NcVar}
+use Rattle.fm_base.specs.declared.kind.Kind.{Kind}
 use Rattle.fm_base.specs.Kind.{size_of}
-use Rattle.fm_base.specs.Layout.{product, rank_in}
-use Rattle.nc_layout.specs.declared.places.VarPlaces.{VarPlaces}
-use Rattle.nc_layout.specs.Places.{IsIndex, slab_in, slab_begin_in, slab_count_in}
-use Rattle.nc_layout.specs.Faults.{IsWithin, end_in}
-use Rattle.nc_layout.proofs.EndLemmas.{end_in-fixed, end_in-records}
-use Rattle.nc_layout.proofs.RankLemmas.{rank_in-lt}
+use Rattle.fm_base.specs.Layout.{product, fixed_shape, vsize, record_size}
+use Rattle.nc_layout.specs.Kept.{HasLengths, IsWithin, IsLaidOut}
+use Rattle.nc_layout.specs.Meaning.{IsInside, IsSmall, EndsWithin, Says}
+use Rattle.nc_layout.specs.Places.{part_count}
+use Rattle.nc_layout.proofs.EndLemmas.{has-elements, part-le-end, element-within}
+use Rattle.nc_layout.proofs.HeaderLemmas.{All-lengths, place_of-part, index-part}
+use Rattle.nc_layout.proofs.MeaningLemmas.{layout_fault-says}
 
-end_at : {len records record_size end : ℕ} {var : VarPlaces} → IsWithin len records record_size var → end_in records record_size var ≡ Some end → end ≤ len
-end_at {len} within is = MatchOption-at_some _ (λ end. end ≤ len) _ is within.ends
+-- all elements of each variable of a layout lie in the file
+pub within : {header : Header} {len size : ℕ} {vsizes : List ℕ} (number : ℕ) (var : NcVar)
+    → IsLaidOut header len size vsizes
+    → slice_get header.vars number ≡ Some var → IsWithin header len var
+within {header} {len} number var laid there =
+    let inside : IsInside header len =
+    MatchOption-at_none (IsInside header len) (Says header len) laid.faultless (layout_fault-says header len) in
+    let below = slice_get_within header.vars number var there in
+    let is = get_or_from_slice_get header.vars number var var there in
+    record {
+      lengths = rw (← is) (All-get_or (HasLengths header) header.vars number var below (All-lengths header laid.can));
+      small = rw (← is) (All-get_or (IsSmall header) header.vars number var below inside.small);
+      ends = rw (← is) (All-get_or (EndsWithin header len) header.vars number var below inside.ends);
+    }
 
--- a slab lies in the file
-pub slab-within : (len records record_size k : ℕ) (var : VarPlaces) → IsWithin len records record_size var → k < slab_count_in records var → slab_begin_in record_size var k + slab_in var ≤ len
-slab-within len records record_size k var within below = at var.has_records refl below
+-- a part lies in the file
+pub part-within : (header : Header) (len k recsize : ℕ) (var : NcVar) → recsize ≡ record_size header
+    → IsWithin header len var
+    → k < part_count header var → var.begin + k * recsize + vsize header var ≤ len
+part-within header len k recsize var size within below =
+    let end = within.ends (has-elements header var within.lengths (omega arith)) in
+    let part = part-le-end header var k within.lengths below in
+    rw size (omega arith)
+
+-- a part has fewer than 2^64 elements
+pub product-small : (header : Header) (var : NcVar) → IsSmall header var → product (fixed_shape header var) < 2 ^ 64
+unfolding vsize
+product-small header var small = let most = le_times (product (fixed_shape header var)) var.kind in omega arith
   where
-    at : (b : Bool) → var.has_records ≡ b → k < cond b records 1 → var.begin + k * record_size + slab_in var ≤ len
-    at true is here =
-        let end : var.begin + (records - 1) * record_size + slab_in var ≤ len = end_at within (end_in-records records record_size var within.sized.lengths is (omega arith)) in
-        let before : k * record_size ≤ (records - 1) * record_size = mul-le k record_size (records - 1) record_size (omega arith) (omega arith) in
-        omega arith
-    at false is here =
-        let end : var.begin + slab_in var ≤ len = end_at within (end_in-fixed records record_size var within.sized.lengths is) in
-        let first : k ≡ 0 = omega arith in
-        rw first (omega arith)
+    le_times : (n : ℕ) (kind : Kind) → n ≤ size_of kind * n
+    le_times n kind = grind arith
 
--- an element lies in its slab
-pub element-within : (var : VarPlaces) (index : List ℕ) → IsIndex var.fixed index → size_of var.kind * rank_in var.fixed index + size_of var.kind ≤ slab_in var
-element-within var index is = in_slab (size_of var.kind) (rank_in var.fixed index) (product var.fixed) (rank_in-lt var.fixed index is)
-  where
-    in_slab : (size rank whole : ℕ) → rank < whole → size * rank + size ≤ size * whole
-    in_slab size rank whole below = let most = mul-le size (rank + 1) size whole (omega arith) (omega arith) in omega arith
+pub ruleset parts = (part-within, element-within, product-small)
 
-pub ruleset places = (slab-within, element-within)
+pub ruleset places = (place_of-part, index-part)

@@ -2,23 +2,11 @@
 use Rattle.std.proofs.Common.{◌≡◌, ℕ, suc, ◌+◌, ◌-◌, ◌*◌, ◌<◌, ◌≤◌, List, [], ◌∷◌, length, get_or, drop, map, All, refl, sym, ap, ◌∙◌, arith}
 use Rattle.std.proofs.Math.Nat.{mul_comm, le-mul_of_pos_right}
 use Rattle.std.proofs.lemmas.Nat.{mul-add-lt}
-use Rattle.std.proofs.lemmas.List.{drop_more, drop_all}
+use Rattle.std.proofs.lemmas.List.{drop_more, drop_all, drop-map, length-map}
 use Rattle.std.proofs.lemmas.List.Elements.{All-nil, All-cons, All-drop, All-head, All-tail}
-use Rattle.fm_base.specs.Layout.{product, rank_in}
-use Rattle.nc_layout.specs.Places.{IsIndex}
+use Rattle.fm_base.specs.Layout.{product, rank_in, IsIndex}
+use Rattle.fm_base.proofs.EndLaws.{rank_in-lt}
 use Rattle.nc_layout.proofs.ProductLemmas.{product-pos}
-
-last_turn : (m whole rank : ℕ) → rank + 1 ≡ whole → m * whole + rank + 1 ≡ (m + 1) * whole
-last_turn m whole rank e = omega arith
-
--- the last index list has the greatest number
-pub rank_in-last : (ns : List ℕ) → All (λ n. 1 ≤ n) ns → rank_in ns (map (λ n. n - 1) ns) + 1 ≡ product ns
-unfolding rank_in product
-rank_in-last [] all = refl
-rank_in-last (n ∷ ns) all =
-    let some : 1 ≤ n = All-head (λ m. 1 ≤ m) n ns all in
-    let back : n - 1 + 1 ≡ n = omega arith in
-    last_turn (n - 1) (product ns) (rank_in ns (map (λ m. m - 1) ns)) (rank_in-last ns (All-tail (λ m. 1 ≤ m) n ns all)) ∙ ap (λ m. m * product ns) back
 
 -- an index list has one index for each length
 pub length-index : (shape index : List ℕ) → IsIndex shape index → length index ≡ length shape
@@ -31,44 +19,53 @@ length-index (n ∷ shape) (i ∷ index) is = ap suc (length-index shape index i
 pub lengths-index : (shape index : List ℕ) → IsIndex shape index → All (λ n. 1 ≤ n) shape
 lengths-index [] index is = All-nil (λ n. 1 ≤ n)
 lengths-index (n ∷ shape) [] is = absurd is
-lengths-index (n ∷ shape) (i ∷ index) is = All-cons (λ n. 1 ≤ n) n shape (let below = is.0 in omega arith) (lengths-index shape index is.1)
-
--- the number of an index list is below the number of elements
-pub rank_in-lt : (shape index : List ℕ) → IsIndex shape index → rank_in shape index < product shape
-unfolding rank_in product
-rank_in-lt [] index is = omega arith
-rank_in-lt (n ∷ shape) [] is = absurd is
-rank_in-lt (n ∷ shape) (i ∷ index) is = rw (mul_comm n (product shape)) (mul-add-lt i (product shape) (rank_in shape index) n is.0 (rank_in-lt shape index is.1))
+lengths-index (n ∷ shape) (i ∷ index) is =
+    All-cons (λ n. 1 ≤ n) n shape (let below = is.0 in omega arith) (lengths-index shape index is.1)
 
 rank_step : (so_far n i whole rest : ℕ) → so_far * (n * whole) + (i * whole + rest) ≡ (so_far * n + i) * whole + rest
 rank_step so_far n i whole rest = omega arith
 
 -- an index that goes into the number so far
-pub rank_more : (so_far n i total : ℕ) (shape index : List ℕ) (at : ℕ) → at < length shape → at < length index → n ≡ get_or shape at 0 → i ≡ get_or index at 0 → so_far * product (drop at shape) + rank_in (drop at shape) (drop at index) ≡ total → (so_far * n + i) * product (drop (at + 1) shape) + rank_in (drop (at + 1) shape) (drop (at + 1) index) ≡ total
+pub rank_more : (f : ℕ → ℕ) (so_far n i total : ℕ) (ids index : List ℕ) (at : ℕ) → at < length ids → at < length index
+    → n ≡ f (get_or ids at 0) → i ≡ get_or index at 0
+    → so_far * product (map f (drop at ids)) + rank_in (map f (drop at ids)) (drop at index) ≡ total
+    → (so_far * n + i) * product (map f (drop (at + 1) ids)) + rank_in (map f (drop (at + 1) ids)) (drop (at + 1) index)
+    ≡ total
 unfolding rank_in product
-rank_more so_far n i total shape index at below there size is e =
-    let shape_more : drop at shape ≡ n ∷ drop (at + 1) shape = rw size (drop_more shape at 0 below) in
-    let index_more : drop at index ≡ i ∷ drop (at + 1) index = rw is (drop_more index at 0 there) in
-    let e' = rw (shape_more, index_more) at e in
-    sym (rank_step so_far n i (product (drop (at + 1) shape)) (rank_in (drop (at + 1) shape) (drop (at + 1) index))) ∙ e'
+rank_more f so_far n i total ids index at below there is here e =
+    let index_more : drop at index ≡ i ∷ drop (at + 1) index = rw here (drop_more index at 0 there) in
+    let e' = rw (drop_more ids at 0 below, index_more, ← is) at e in
+    let shape = map f (drop (at + 1) ids) in
+    sym (rank_step so_far n i (product shape) (rank_in shape (drop (at + 1) index))) ∙ e'
 
 -- no index is left
-pub rank_all : (so_far total : ℕ) (shape index : List ℕ) (at : ℕ) → length shape ≤ at → so_far * product (drop at shape) + rank_in (drop at shape) (drop at index) ≡ total → so_far ≡ total
+pub rank_all : (f : ℕ → ℕ) (so_far total : ℕ) (ids index : List ℕ) (at : ℕ) → length ids ≤ at
+    → so_far * product (map f (drop at ids)) + rank_in (map f (drop at ids)) (drop at index) ≡ total → so_far ≡ total
 unfolding rank_in product
-rank_all so_far total shape index at past e =
-    let none : drop at shape ≡ [] = drop_all at shape past in
+rank_all f so_far total ids index at past e =
+    let none : drop at ids ≡ [] = drop_all at ids past in
     let e' = rw none at e in
     omega arith
 
+-- there are as many indices as dimensions
+pub length-index_of_ids : (f : ℕ → ℕ) (ids index : List ℕ) → IsIndex (map f ids) index → length index ≡ length ids
+length-index_of_ids f ids index is = length-index (map f ids) index is ∙ length-map ids f
+
 -- the number with the next index is below the number of elements
-pub rank_fits : (so_far n i : ℕ) (shape index : List ℕ) (at : ℕ) → IsIndex shape index → at < length shape → n ≡ get_or shape at 0 → i ≡ get_or index at 0 → so_far * product (drop at shape) + rank_in (drop at shape) (drop at index) ≡ rank_in shape index → so_far * n + i < product shape
-rank_fits so_far n i shape index at is below size here e =
-    let same = length-index shape index is in
+pub rank_fits : (f : ℕ → ℕ) (so_far n i : ℕ) (ids index : List ℕ) (at : ℕ) → IsIndex (map f ids) index → at < length ids
+    → n ≡ f (get_or ids at 0) → i ≡ get_or index at 0
+    → so_far * product (map f (drop at ids)) + rank_in (map f (drop at ids)) (drop at index) ≡ rank_in (map f ids) index
+    → so_far * n + i < product (map f ids)
+rank_fits f so_far n i ids index at is below read here e =
+    let same = length-index_of_ids f ids index is in
     let there : at < length index = omega arith in
-    let more = rank_more so_far n i (rank_in shape index) shape index at below there size here e in
-    let some : 0 < product (drop (at + 1) shape) = product-pos (drop (at + 1) shape) (All-drop (λ n. 1 ≤ n) (at + 1) shape (lengths-index shape index is)) in
-    let most : so_far * n + i ≤ (so_far * n + i) * product (drop (at + 1) shape) = le-mul_of_pos_right (so_far * n + i) some in
-    let least = rank_in-lt shape index is in
+    let more = rank_more f so_far n i (rank_in (map f ids) index) ids index at below there read here e in
+    let all : All (λ n. 1 ≤ n) (map f (drop (at + 1) ids)) =
+    rw (← drop-map f (at + 1) ids)
+    (All-drop (λ n. 1 ≤ n) (at + 1) (map f ids) (lengths-index (map f ids) index is)) in
+    let most : so_far * n + i ≤ (so_far * n + i) * product (map f (drop (at + 1) ids)) =
+    le-mul_of_pos_right (so_far * n + i) (product-pos (map f (drop (at + 1) ids)) all) in
+    let least = rank_in-lt (map f ids) index is in
     omega arith
 
-pub ruleset ranks = (rank_more, rank_all, length-index)
+pub ruleset ranks = (rank_more, rank_all, rank_fits, length-index_of_ids)

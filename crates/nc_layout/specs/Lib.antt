@@ -1,4 +1,5 @@
 pub mod Places
 pub mod Faults
 pub mod Meaning
+pub mod Kept
 pub mod Examples

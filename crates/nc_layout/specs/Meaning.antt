@@ -4,11 +4,11 @@ use Rattle.fm_base.specs.declared.fault.LayoutFault.{LayoutFault}
 use Rattle.fm_base.specs.declared.fault.LayoutFault.TheVariants.{TooLarge, DataOutside}
 use Rattle.fm_base.specs.declared.header.Header.{Header}
 use Rattle.fm_base.specs.declared.header.NcVar.{NcVar}
-use Rattle.fm_base.specs.Layout.{slab_size, has_elements, end_of}
+use Rattle.fm_base.specs.Layout.{vsize, has_elements, end_of}
 
--- one record of the variable, or all of it where it has no records, takes 2^40 bytes at most
+-- the variable takes 2^40 bytes at most in one record, or in all where it has no records
 abbrev pub IsSmall : Header → NcVar → Type 0
-IsSmall header var = slab_size header var ≤ 2 ^ 40
+IsSmall header var = vsize header var ≤ 2 ^ 40
 
 -- the last element of the variable, if it has one, ends within this length
 abbrev pub EndsWithin : Header → ℕ → NcVar → Type 0
@@ -18,7 +18,7 @@ EndsWithin header len var = has_elements header var ≡ true → end_of header v
 pub record IsFirstTooLarge (header : Header) (number : ℕ) : Type 0 where
   pub var : NcVar
   pub numbered : slice_get header.vars number ≡ Some var
-  pub large : 2 ^ 40 < slab_size header var
+  pub large : 2 ^ 40 < vsize header var
   pub before : All (IsSmall header) (take number header.vars)
 
 -- no variable takes too many bytes, the last element of the variable of this number ends here, past the length, and
@@ -42,6 +42,6 @@ abbrev pub Says : Header → ℕ → LayoutFault → Type 0
 Says header len (TooLarge number) = IsFirstTooLarge header number
 Says header len (DataOutside number end length) = IsFirstOutside header len number end × (length ≡ len)
 
--- two runs of so many bytes at these places share no byte
+-- n bytes at one of these places and n bytes at the other have none in common
 abbrev pub AreApart : ℕ → ℕ → ℕ → Type 0
 AreApart size place other = (place + size ≤ other) ⊎ (other + size ≤ place)

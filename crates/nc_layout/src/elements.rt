@@ -1,80 +1,74 @@
-//! Where one element and one slab of a variable lie.
-ghost use Rattle.std.specs.Prelude.{◌≡◌, ◌+◌, ◌*◌, ◌<◌, ◌≤◌, ◌^◌, length, slice_index};
+//! Where one element and one part of a variable lie.
+ghost use Rattle.std.specs.Prelude.{◌≡◌, ◌+◌, ◌*◌, ◌<◌, ◌≤◌, ◌^◌, map};
 ghost use Rattle.fm_base.specs.Kind.{size_of};
-ghost use Rattle.fm_base.specs.Layout.{product, rank_in};
-ghost use Rattle.nc_layout.specs.Faults.{IsSized, IsWithin};
-ghost use Rattle.nc_layout.specs.Places.{
-  IsIndex,
-  place_in,
-  shape_in,
-  slab_begin_in,
-  slab_count_in,
-  slab_in,
-};
+ghost use Rattle.fm_base.specs.Layout.{size_at, shape_of, fixed_shape, product, rank_in, vsize, record_size, place_of, IsIndex};
+ghost use Rattle.nc_layout.specs.Kept.{IsWithin, part_of, index_in_part};
+ghost use Rattle.nc_layout.specs.Meaning.{IsSmall};
+ghost use Rattle.nc_layout.specs.Places.{part_begin, part_count};
 
-use crate::places::VarPlaces;
+use crate::dims::{fixed_dims, is_record_var, size_at};
+use fm_base::{Header, NcVar};
 
-/// The length of a variable's dimension.
-pub fn size_in(var: &VarPlaces, records: u32, dim: u32) -> u64
-    requires { dim < length (shape_in records var.now) }
-    ensures { result ≡ slice_index (shape_in records var.now) dim }
-{
-    if !var.has_records {
-        return var.fixed.as_slice()[dim as usize];
-    }
-    if dim == 0 {
-        return u64::from(records);
-    }
-    var.fixed.as_slice()[dim as usize - 1]
-}
-
-// The number of an index list in row-major order.
+// The number of an index list in row-major order, over these dimensions.
 #[tactic(auto, using(crate::proofs::RankLemmas::ranks))]
-fn rank(shape: &[u64], index: &[u64]) -> u64
-    requires index { IsIndex shape.now index.now }
-    requires small { product shape.now < 2 ^ 64 }
-    ensures { result ≡ rank_in shape.now index.now }
+fn rank(header: &Header, ids: &[u32], index: &[u64]) -> u64
+    requires index { IsIndex (map (size_at header.now) ids.now) index.now }
+    requires small { product (map (size_at header.now) ids.now) < 2 ^ 64 }
+    ensures { result ≡ rank_in (map (size_at header.now) ids.now) index.now }
 {
     let mut rank = 0;
-    for (place, n) in shape.iter().enumerate() {
-        rank = rank * *n + index[place];
+    for (place, id) in ids.iter().enumerate() {
+        rank = rank * size_at(header, *id) + index[place];
     }
     rank
 }
 
-/// The place of the first byte of a slab of a variable.
-#[tactic(auto, using(crate::proofs::PlaceLemmas::places))]
-pub fn slab_begin_in(var: &VarPlaces, len: u64, records: u32, record_size: u128, k: u32) -> u64
-    requires within { IsWithin len records record_size var.now }
-    requires slab { k < slab_count_in records var.now }
-    ensures exact { result ≡ slab_begin_in record_size var.now k }
-    ensures within { result + slab_in var.now ≤ len }
+/// The place in the file of the first byte of a part of a variable.
+#[tactic(auto, using(crate::proofs::PlaceLemmas::parts))]
+pub fn part_begin_of(header: &Header, len: u64, recsize: u128, var: &NcVar, k: u64) -> u64
+    requires recsize { recsize ≡ record_size header.now }
+    requires within { IsWithin header.now len var.now }
+    requires part { k < part_count header.now var.now }
+    ensures exact { result ≡ part_begin header.now var.now k }
+    ensures within { result + vsize header.now var.now ≤ len }
 {
-    (u128::from(var.begin) + u128::from(k) * record_size) as u64
+    (u128::from(var.begin) + u128::from(k) * recsize) as u64
 }
 
-// The place of an element in its slab.
-#[tactic(auto, using(crate::proofs::PlaceLemmas::places))]
-fn offset(var: &VarPlaces, index: &[u64]) -> u64
-    requires sized { IsSized var.now }
-    requires index { IsIndex var.now.fixed index.now }
-    ensures exact { result ≡ size_of var.now.kind * rank_in var.now.fixed index.now }
-    ensures within { result + size_of var.now.kind ≤ slab_in var.now }
+// The place of an element in its part.
+#[tactic(auto, using(crate::proofs::PlaceLemmas::parts))]
+fn offset(header: &Header, var: &NcVar, index: &[u64]) -> u64
+    requires small { IsSmall header.now var.now }
+    requires index { IsIndex (fixed_shape header.now var.now) index.now }
+    ensures exact { result ≡ size_of var.now.kind * rank_in (fixed_shape header.now var.now) index.now }
+    ensures within { result + size_of var.now.kind ≤ vsize header.now var.now }
 {
-    u64::from(var.kind.size()) * rank(var.fixed.as_slice(), index)
+    u64::from(var.kind.size()) * rank(header, fixed_dims(header, var), index)
 }
 
-/// The place of the first byte of an element of a variable.
+// The number of the part in which an element lies, and its index list there.
+fn split_index<'a>(header: &Header, var: &NcVar, index: &'a [u64]) -> (u64, &'a [u64])
+    requires { IsIndex (shape_of header.now var.now) index.now }
+    ensures part { result.0 ≡ part_of header.now var.now index.now }
+    ensures rest { result.1.now ≡ index_in_part header.now var.now index.now }
+{
+    if is_record_var(header, var) {
+        let (_, rest) = index.split_at(1);
+        (index[0], rest)
+    } else {
+        (0, index)
+    }
+}
+
+/// The place in the file of the first byte of an element of a variable.
 #[tactic(auto, using(crate::proofs::PlaceLemmas::places))]
-pub fn place_in(var: &VarPlaces, len: u64, records: u32, record_size: u128, index: &[u64]) -> u64
-    requires within { IsWithin len records record_size var.now }
-    requires index { IsIndex (shape_in records var.now) index.now }
-    ensures exact { result ≡ place_in record_size var.now index.now }
+pub fn place_of(header: &Header, len: u64, recsize: u128, var: &NcVar, index: &[u64]) -> u64
+    requires recsize { recsize ≡ record_size header.now }
+    requires within { IsWithin header.now len var.now }
+    requires index { IsIndex (shape_of header.now var.now) index.now }
+    ensures exact { result ≡ place_of header.now var.now index.now }
     ensures within { result + size_of var.now.kind ≤ len }
 {
-    if !var.has_records {
-        return slab_begin_in(var, len, records, record_size, 0) + offset(var, index);
-    }
-    let (record, others) = index.split_at(1);
-    slab_begin_in(var, len, records, record_size, record[0] as u32) + offset(var, others)
+    let (part, rest) = split_index(header, var, index);
+    part_begin_of(header, len, recsize, var, part) + offset(header, var, rest)
 }

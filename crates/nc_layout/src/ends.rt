@@ -1,58 +1,53 @@
 //! Where the last elements of variables end, and the first variable that has an element past the file's end.
 ghost use Rattle.std.specs.Prelude.{◌≡◌, ◌<◌, ◌^◌, All};
-ghost use Rattle.nc_layout.specs.Faults.{IsSized, end_in, first_past, past};
+ghost use Rattle.fm_base.specs.Layout.{vsize, record_size, first_outside};
+ghost use Rattle.nc_layout.specs.Kept.{HasLengths, vsizes_of, end_if_any};
+ghost use Rattle.nc_layout.specs.Meaning.{IsSmall};
 
-use crate::places::VarPlaces;
-use crate::slabs::slab_of;
-use fm_base::LayoutFault;
+use crate::dims::part_count_of;
+use fm_base::{Header, LayoutFault, NcVar};
 
 // Where the last element of a variable ends, if it has one.
 #[tactic(auto, using(crate::proofs::EndLemmas::ends))]
-fn end_of(records: u32, record_size: u128, var: &VarPlaces) -> Option<u128>
-    requires small { record_size < 2 ^ 73 }
-    requires sized { IsSized var.now }
-    ensures { result ≡ end_in records record_size var.now }
+fn end_of(header: &Header, recsize: u128, var: &NcVar, size: u64) -> Option<u128>
+    requires recsize { recsize ≡ record_size header.now }
+    requires small_recsize { recsize < 2 ^ 73 }
+    requires vsize { size ≡ vsize header.now var.now }
+    requires lengths { HasLengths header.now var.now }
+    requires small { IsSmall header.now var.now }
+    ensures { result ≡ end_if_any header.now var.now }
 {
-    let slab = u128::from(slab_of(var));
-    let begin = u128::from(var.begin);
-    if !var.has_records {
-        return Some(begin + slab);
-    }
-    if records == 0 {
+    let count = part_count_of(header, var);
+    if count == 0 {
         return None;
     }
-    Some(begin + u128::from(records - 1) * record_size + slab)
-}
-
-fn past(len: u64, number: u64, end: Option<u128>) -> Option<LayoutFault>
-    ensures { result ≡ past len number end }
-{
-    match end {
-        Some(end) if end > u128::from(len) => Some(LayoutFault::DataOutside {
-            var: number,
-            end,
-            len,
-        }),
-        _ => None,
-    }
+    Some(u128::from(var.begin) + u128::from(count - 1) * recsize + u128::from(size))
 }
 
 /// The first variable that has an element past this length.
-#[tactic(auto, unfolding(crate::specs::Faults::first_past))]
-pub fn first_past(
+#[tactic(auto, unfolding(fm_base::specs::Layout::first_outside))]
+pub fn first_outside(
+    header: &Header,
     len: u64,
-    records: u32,
-    record_size: u128,
-    vars: &[VarPlaces],
+    recsize: u128,
+    vsizes: &[u64],
 ) -> Option<LayoutFault>
-    requires small { record_size < 2 ^ 73 }
-    requires sized { All IsSized vars.now }
-    ensures { result ≡ first_past len records record_size 0 vars.now }
+    requires recsize { recsize ≡ record_size header.now }
+    requires small_recsize { recsize < 2 ^ 73 }
+    requires sizes { vsizes.now ≡ vsizes_of header.now }
+    requires lengths { All (HasLengths header.now) header.now.vars }
+    requires small { All (IsSmall header.now) header.now.vars }
+    ensures { result ≡ first_outside header.now len 0 header.now.vars }
 {
-    for (number, var) in vars.iter().enumerate() {
-        let fault = past(len, number as u64, end_of(records, record_size, var));
-        if fault.is_some() {
-            return fault;
+    for (number, var) in header.vars.as_slice().iter().enumerate() {
+        if let Some(end) = end_of(header, recsize, var, vsizes[number]) {
+            if end > u128::from(len) {
+                return Some(LayoutFault::DataOutside {
+                    var: number as u64,
+                    end,
+                    len,
+                });
+            }
         }
     }
     None

@@ -1,44 +1,51 @@
-//! How many bytes one record takes, over all variables with records.
-ghost use Rattle.std.specs.Prelude.{◌≡◌, ◌<◌, ◌^◌, All, length};
-ghost use Rattle.nc_layout.specs.Faults.{IsSized, padded_slab, lone_slab, record_size_in, with_records};
+//! How many bytes one record takes, over all record variables.
+ghost use Rattle.std.specs.Prelude.{◌≡◌, ◌<◌, ◌≤◌, ◌^◌, All, length, if◌then◌else◌, nat_lt};
+ghost use Rattle.fm_base.specs.Format.{padded_len};
+ghost use Rattle.fm_base.specs.Kind.{size_of};
+ghost use Rattle.fm_base.specs.Layout.{record_size};
+ghost use Rattle.nc_layout.specs.Kept.{vsizes_of};
+ghost use Rattle.nc_layout.specs.Meaning.{IsSmall};
 
-use crate::places::VarPlaces;
-use crate::slabs::slab_of;
+use crate::dims::is_record_var;
+use fm_base::{Header, Kind};
 
-fn padded_slab(var: &VarPlaces) -> u64
-    requires { IsSized var.now }
-    ensures { result ≡ padded_slab var.now }
+fn padded_len(vsize: u64) -> u64
+    requires { vsize ≤ 2 ^ 40 }
+    ensures { result ≡ padded_len vsize }
 {
-    (slab_of(var) + 3) / 4 * 4
+    (vsize + 3) / 4 * 4
 }
 
-fn lone_slab(var: &VarPlaces) -> u64
-    requires { IsSized var.now }
-    ensures { result ≡ lone_slab var.now }
+fn lone_len(kind: Kind, vsize: u64) -> u64
+    requires { vsize ≤ 2 ^ 40 }
+    ensures { result ≡ (if nat_lt (size_of kind) 4 then vsize else padded_len vsize) }
 {
-    if var.kind.size() < 4 {
-        slab_of(var)
+    if kind.size() < 4 {
+        vsize
     } else {
-        padded_slab(var)
+        padded_len(vsize)
     }
 }
 
-/// How many bytes one record of these variables takes. The record of each is padded to a multiple of four bytes, but
-/// where there is one variable with records alone and its kind is smaller than four bytes.
-pub fn record_size(vars: &[VarPlaces]) -> u128
-    requires sized { All IsSized vars.now }
-    requires few { length vars.now < 2 ^ 32 }
-    ensures value { result ≡ record_size_in (with_records vars.now) }
+/// How many bytes one record takes. Each variable's part is padded to a multiple of four bytes, but where there is one
+/// record variable alone and its kind is smaller than four bytes.
+#[tactic(auto, using(crate::proofs::RecordLemmas::records))]
+pub fn record_size(header: &Header, vsizes: &[u64]) -> u128
+    requires sizes { vsizes.now ≡ vsizes_of header.now }
+    requires small { All (IsSmall header.now) header.now.vars }
+    requires few { length header.now.vars < 2 ^ 32 }
+    ensures value { result ≡ record_size header.now }
     ensures small { result < 2 ^ 73 }
 {
     let mut count = 0u32;
     let mut padded = 0u128;
     let mut lone = 0u128;
-    for var in vars {
-        if var.has_records {
+    for (number, var) in header.vars.as_slice().iter().enumerate() {
+        if is_record_var(header, var) {
+            let vsize = vsizes[number];
             count += 1;
-            padded += u128::from(padded_slab(var));
-            lone += u128::from(lone_slab(var));
+            padded += u128::from(padded_len(vsize));
+            lone += u128::from(lone_len(var.kind, vsize));
         }
     }
     if count == 1 { lone } else { padded }

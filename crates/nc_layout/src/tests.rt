@@ -36,13 +36,13 @@ fn a_file_that_was_read_is_laid_out(rt: HostRuntime) -> Result<(), TestFail> {
     let alloc = rt.alloc();
     let bytes = sample(alloc)?;
     let header = thin_header(alloc, bytes.as_slice())?.ok_or("thin")?;
-    let layout = lay_out(alloc, &header, 352)?;
+    let layout = lay_out(alloc, header, 352)?;
     assert_eq!(rt; layout.recsize(), 20);
-    assert!(rt; header.vars.len() == 4);
-    assert_eq!(rt; layout.slab_count(3), 3);
-    assert_eq!(rt; layout.slab_len(3), 16);
-    assert_eq!(rt; layout.slab_count(1), 1);
-    assert_eq!(rt; layout.slab_len(1), 8);
+    assert!(rt; layout.header().vars.len() == 4);
+    assert_eq!(rt; layout.part_count(3), 3);
+    assert_eq!(rt; layout.vsize(3), 16);
+    assert_eq!(rt; layout.part_count(1), 1);
+    assert_eq!(rt; layout.vsize(1), 8);
     Ok(())
 }
 
@@ -51,11 +51,11 @@ fn a_file_that_was_read_is_laid_out(rt: HostRuntime) -> Result<(), TestFail> {
 fn a_file_that_is_cut_after_its_header_has_data_outside(rt: HostRuntime) -> Result<(), TestFail> {
     let alloc = rt.alloc();
     let bytes = sample(alloc)?;
-    let header = thin_header(alloc, bytes.as_slice())?.ok_or("thin")?;
-    for len in 276..352 {
+    for len in [276, 335, 336, 351] {
+        let header = thin_header(alloc, bytes.as_slice())?.ok_or("thin")?;
         let (var, end) = if len < 336 { (0, 336) } else { (3, 352) };
         assert_eq!(rt;
-            lay_out(alloc, &header, len).err(),
+            lay_out(alloc, header, len).err(),
             Some(Fail::Fault(LayoutFault::DataOutside { var, end, len }))
         );
     }

@@ -27,7 +27,16 @@ IsSound-thin shape small =
           record { rank = omega arith; named = (omega arith, tt); record_first = tt; attrs = tt },
           (
             record { rank = omega arith; named = (omega arith, tt); record_first = tt; attrs = tt },
-            (record { rank = omega arith; named = (omega arith, (omega arith, (omega arith, tt))); record_first = (lats, (lons, tt)); attrs = tt }, tt),
+            (
+              record {
+                rank = omega arith;
+                named = (omega arith, (omega arith, (omega arith, tt)));
+                record_first =
+                    (lats, (lons, tt));
+                attrs = tt;
+              },
+              tt,
+            ),
           ),
         ),
       );

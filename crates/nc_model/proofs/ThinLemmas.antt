@@ -26,7 +26,8 @@ unfolding is_thin
 is_thin-shape bytes shape e = (both _ _ (both _ _ (both _ _ (both _ _ e).0).0).0).0
 
 -- a thin file begins with the header of its numbers
-pub is_thin-text : (bytes : List ℕ) (shape : ThinShape) → is_thin bytes shape ≡ true → bytes ≡ header_text shape ++ drop (length (header_text shape)) bytes
+pub is_thin-text : (bytes : List ℕ) (shape : ThinShape) → is_thin bytes shape ≡ true
+    → bytes ≡ header_text shape ++ drop (length (header_text shape)) bytes
 unfolding is_thin
 is_thin-text bytes shape e =
     let starts = (both _ _ (both _ _ (both _ _ (both _ _ e).0).0).0).1 in
@@ -44,13 +45,16 @@ HeaderOf-thin bytes shape e =
       split = is_thin-text bytes shape e;
     }
 
--- the number at a place behind so many bytes
-number_at-append : (front rest : List ℕ) (n at : ℕ) → n < 2 ^ 32 → length front ≡ at → number_at (front ++ (to_be_bytes w32 n ++ rest)) at ≡ n
+-- the number at an offset behind n bytes
+number_at-append : (front rest : List ℕ) (n at : ℕ) → n < 2 ^ 32 → length front ≡ at
+    → number_at (front ++ (to_be_bytes w32 n ++ rest)) at ≡ n
 number_at-append front rest n at small len =
     let word = to_be_bytes w32 n in
-    let far : length (front ++ (word ++ rest)) ≡ at + 4 + length rest = omega (arith, length-append front (word ++ rest), length-append word rest) in
+    let far : length (front ++ (word ++ rest)) ≡ at + 4 + length rest =
+    omega (arith, length-append front (word ++ rest), length-append word rest) in
     let long : nat_lt (length (front ++ (word ++ rest))) (at + 4) ≡ false = grind (arith, nat_tests) in
-    let read : take 4 (drop at (front ++ (word ++ rest))) ≡ word = rw (drop_at front (word ++ rest) at len, take_at word rest 4 refl) refl in
+    let read : take 4 (drop at (front ++ (word ++ rest))) ≡ word =
+    rw (drop_at front (word ++ rest) at len, take_at word rest 4 refl) refl in
     rw (long, read, from_be_bytes-to_be_bytes_4 n small) refl
 
 -- the numbers of a thin file stand at their places
@@ -65,13 +69,23 @@ shape_in-thin bytes shape e =
     let words = header_words shape in
     let rest = drop (length (header_text shape)) bytes in
     let part : ℕ → List ℕ = λ k. flat_map (to_be_bytes w32) (take k words) in
-    let times : number_at bytes 4 ≡ shape.times = subst (λ b. number_at b 4 ≡ shape.times) (sym whole) (number_at-append (part 1) (flat_map (to_be_bytes w32) (drop 2 words) ++ rest) shape.times 4 (omega arith) refl) in
-    let lats : number_at bytes 36 ≡ shape.lats = subst (λ b. number_at b 36 ≡ shape.lats) (sym whole) (number_at-append (part 9) (flat_map (to_be_bytes w32) (drop 10 words) ++ rest) shape.lats 36 (omega arith) refl) in
-    let lons : number_at bytes 48 ≡ shape.lons = subst (λ b. number_at b 48 ≡ shape.lons) (sym whole) (number_at-append (part 12) (flat_map (to_be_bytes w32) (drop 13 words) ++ rest) shape.lons 48 (omega arith) refl) in
+    let times : number_at bytes 4 ≡ shape.times =
+    subst (λ b. number_at b 4 ≡ shape.times) (sym whole)
+    (number_at-append (part 1) (flat_map (to_be_bytes w32) (drop 2 words) ++ rest) shape.times 4
+    (omega arith) refl) in
+    let lats : number_at bytes 36 ≡ shape.lats =
+    subst (λ b. number_at b 36 ≡ shape.lats) (sym whole)
+    (number_at-append (part 9) (flat_map (to_be_bytes w32) (drop 10 words) ++ rest) shape.lats 36
+    (omega arith) refl) in
+    let lons : number_at bytes 48 ≡ shape.lons =
+    subst (λ b. number_at b 48 ≡ shape.lons) (sym whole)
+    (number_at-append (part 12) (flat_map (to_be_bytes w32) (drop 13 words) ++ rest) shape.lons 48
+    (omega arith) refl) in
     rw (times, lats, lons) refl
 
 -- bytes that aren't thin with the numbers at their places aren't thin with any
-pub is_thin-none : (bytes : List ℕ) → is_thin bytes (shape_in bytes) ≡ false → (shape : ThinShape) → is_thin bytes shape ≡ false
+pub is_thin-none : (bytes : List ℕ) → is_thin bytes (shape_in bytes) ≡ false → (shape : ThinShape)
+    → is_thin bytes shape ≡ false
 is_thin-none bytes e shape = elim_bool (is_thin bytes shape) refl
   where
     elim_bool : (b : Bool) → is_thin bytes shape ≡ b → is_thin bytes shape ≡ false

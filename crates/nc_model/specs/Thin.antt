@@ -21,7 +21,8 @@ shape_in bytes = record { times = number_at bytes 4; lats = number_at bytes 36; 
 
 -- 1 to 4,096 times, and 1 to 1,000 latitudes and longitudes
 abbrev pub is_thin_shape : ThinShape → Bool
-is_thin_shape shape = nat_le 1 shape.times && nat_le shape.times 4096 && nat_le 1 shape.lats && nat_le shape.lats 1000 && nat_le 1 shape.lons && nat_le shape.lons 1000
+is_thin_shape shape = nat_le 1 shape.times && nat_le shape.times 4096 && nat_le 1 shape.lats && nat_le shape.lats 1000
+    && nat_le 1 shape.lons && nat_le shape.lons 1000
 
 -- where the records begin: after the header, the latitudes and the longitudes
 abbrev pub data_begin : ThinShape → ℕ
@@ -49,7 +50,8 @@ header_words shape =
     0 ∷ 0 ∷
     11 ∷ 4 ∷
     4 ∷ 0x7469_6d65 ∷ 1 ∷ 0 ∷ 12 ∷ 1 ∷ 5 ∷ 0x756e_6974 ∷ 0x7300_0000 ∷ 2 ∷ 33 ∷
-    0x7365_636f ∷ 0x6e64_7320 ∷ 0x7369_6e63 ∷ 0x6520_3139 ∷ 0x3730_2d30 ∷ 0x312d_3031 ∷ 0x2030_303a ∷ 0x3030_3a30 ∷ 0x3000_0000 ∷
+    0x7365_636f ∷ 0x6e64_7320 ∷ 0x7369_6e63 ∷ 0x6520_3139 ∷ 0x3730_2d30 ∷ 0x312d_3031 ∷
+    0x2030_303a ∷ 0x3030_3a30 ∷ 0x3000_0000 ∷
     4 ∷ 4 ∷ data_begin shape ∷
     3 ∷ 0x6c61_7400 ∷ 1 ∷ 1 ∷ 0 ∷ 0 ∷ 5 ∷ (4 * shape.lats) ∷ 276 ∷
     3 ∷ 0x6c6f_6e00 ∷ 1 ∷ 2 ∷ 0 ∷ 0 ∷ 5 ∷ (4 * shape.lons) ∷ (276 + 4 * shape.lats) ∷
@@ -69,7 +71,8 @@ EPOCH_SECONDS = pos 1577836800
 
 -- the time of record k in seconds from the epoch
 unfoldable pub instant_at : List ℕ → ThinShape → ℕ → ℤ
-instant_at bytes shape k = cast_signed w32 (from_be_bytes w32 (take 4 (drop (data_begin shape + k * record_len shape) bytes))) -ℤ EPOCH_SECONDS
+instant_at bytes shape k = cast_signed w32
+    (from_be_bytes w32 (take 4 (drop (data_begin shape + k * record_len shape) bytes))) -ℤ EPOCH_SECONDS
 
 -- the times of all records
 unfoldable pub instants_of : List ℕ → ThinShape → List ℤ
@@ -86,7 +89,9 @@ all_differ (instant ∷ instants) = not (list_any (λ other. int_eq other instan
 
 -- whether the bytes are a thin file with these numbers
 unfoldable pub is_thin : List ℕ → ThinShape → Bool
-is_thin bytes shape = is_thin_shape shape && starts_with nat_eq bytes (header_text shape) && nat_le (thin_len shape) (length bytes) && list_all is_instant (instants_of bytes shape) && all_differ (instants_of bytes shape)
+is_thin bytes shape = is_thin_shape shape && starts_with nat_eq bytes (header_text shape)
+    && nat_le (thin_len shape) (length bytes) && list_all is_instant (instants_of bytes shape)
+    && all_differ (instants_of bytes shape)
 
 -- the numbers of a thin file
 unfoldable pub thin_shape : List ℕ → Option ThinShape
@@ -94,21 +99,30 @@ thin_shape bytes = if is_thin bytes (shape_in bytes) then Some (shape_in bytes) 
 
 -- the dimensions: the times are the records
 abbrev pub dims_of : ThinShape → List Dim
-dims_of shape = record { name = codes "time"; size = 0 } ∷ record { name = codes "lat"; size = shape.lats } ∷ record { name = codes "lon"; size = shape.lons } ∷ []
+dims_of shape = record { name = codes "time"; size = 0 } ∷ record { name = codes "lat"; size = shape.lats }
+    ∷ record { name = codes "lon"; size = shape.lons } ∷ []
 
 -- the attribute that says from when the times are counted
 abbrev pub units_attr : Attr
 units_attr = record { name = codes "units"; kind = Char; values = codes "seconds since 1970-01-01 00:00:00" }
 
 abbrev pub time_var : ThinShape → NcVar
-time_var shape = record { name = codes "time"; dims = 0 ∷ []; attrs = units_attr ∷ []; kind = Int; begin = data_begin shape }
+time_var shape = record {
+  name = codes "time";
+  dims = 0 ∷ [];
+  attrs = units_attr ∷ [];
+  kind = Int;
+  begin = data_begin shape;
+}
 
 -- a variable of 32-bit floats without attributes
 abbrev pub float_var : List ℕ → List ℕ → ℕ → NcVar
 float_var name dims begin = record { name = name; dims = dims; attrs = []; kind = Float; begin = begin }
 
 abbrev pub vars_of : ThinShape → List NcVar
-vars_of shape = time_var shape ∷ float_var (codes "lat") (1 ∷ []) 276 ∷ float_var (codes "lon") (2 ∷ []) (276 + 4 * shape.lats) ∷ float_var (codes "t") (0 ∷ 1 ∷ 2 ∷ []) (data_begin shape + 4) ∷ []
+vars_of shape = time_var shape ∷ float_var (codes "lat") (1 ∷ []) 276
+    ∷ float_var (codes "lon") (2 ∷ []) (276 + 4 * shape.lats)
+    ∷ float_var (codes "t") (0 ∷ 1 ∷ 2 ∷ []) (data_begin shape + 4) ∷ []
 
 -- the header that a thin file stands for
 abbrev pub header_of : ThinShape → Header

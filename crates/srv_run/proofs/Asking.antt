@@ -20,7 +20,9 @@ pub Met-none : (structure values : Option (List ℕ)) (input : List ℕ) → Met
 Met-none structure values input = record { asked = refl; taken = omega arith }
 
 -- one more byte is met
-pub Met-more : (structure values s v : Option (List ℕ)) (input : List ℕ) (i : ℕ) → decided s v ≡ None → i < length input → Met structure values s v input i → Met structure values (after_byte (get_or input i 0) s) (after_byte (get_or input i 0) v) input (i + 1)
+pub Met-more : (structure values s v : Option (List ℕ)) (input : List ℕ) (i : ℕ) → decided s v ≡ None → i < length input
+    → Met structure values s v input i → Met structure values (after_byte (get_or input i 0) s)
+    (after_byte (get_or input i 0) v) input (i + 1)
 unfolding met_by met_len
 Met-more structure values s v input i undecided below met = record {
   asked = met.asked ∙ rw (drop_next input i below, undecided) refl;
@@ -28,18 +30,23 @@ Met-more structure values s v input i undecided below met = record {
 }
 
 -- the input ends
-pub Met-ended : (structure values s v : Option (List ℕ)) (input : List ℕ) (i : ℕ) → decided s v ≡ None → drop i input ≡ [] → Met structure values s v input i → (met_by structure values input ≡ Ended) × (met_len structure values input ≡ i)
+pub Met-ended : (structure values s v : Option (List ℕ)) (input : List ℕ) (i : ℕ) → decided s v ≡ None
+    → drop i input ≡ [] → Met structure values s v input i → (met_by structure values input ≡ Ended)
+    × (met_len structure values input ≡ i)
 unfolding met_by met_len
 Met-ended structure values s v input i undecided none met =
     (met.asked ∙ rw (none, undecided) refl, met.taken ∙ rw none (omega arith))
 
 -- what is decided takes nothing more
-asked_decided : (s v : Option (List ℕ)) (input : List ℕ) (asked : Asked) → decided s v ≡ Some asked → (met_by s v input ≡ asked) × (met_len s v input ≡ 0)
+asked_decided : (s v : Option (List ℕ)) (input : List ℕ) (asked : Asked) → decided s v ≡ Some asked
+    → (met_by s v input ≡ asked) × (met_len s v input ≡ 0)
 unfolding met_by met_len
 asked_decided s v [] asked is = (rw is refl, refl)
 asked_decided s v (byte ∷ input) asked is = (rw is refl, rw is refl)
 
-pub Met-decided : (structure values s v : Option (List ℕ)) (input : List ℕ) (i : ℕ) (asked : Asked) → decided s v ≡ Some asked → Met structure values s v input i → (met_by structure values input ≡ asked) × (met_len structure values input ≡ i)
+pub Met-decided : (structure values s v : Option (List ℕ)) (input : List ℕ) (i : ℕ) (asked : Asked)
+    → decided s v ≡ Some asked → Met structure values s v input i → (met_by structure values input ≡ asked)
+    × (met_len structure values input ≡ i)
 Met-decided structure values s v input i asked is met =
     let now = asked_decided s v (drop i input) asked is in
     (met.asked ∙ now.0, met.taken ∙ rw now.1 (omega arith))
@@ -53,7 +60,9 @@ left_len (Some head) = length head
 pub after_take-add : (i n : ℕ) (told : Option Wire) → after_take n (after_take i told) ≡ after_take (i + n) told
 after_take-add i n None = refl
 after_take-add i n (Some wire) =
-    let taken : wire.taken ++ take i wire.left ++ take n (drop i wire.left) ≡ wire.taken ++ take (i + n) wire.left = append_assoc wire.taken (take i wire.left) (take n (drop i wire.left)) ∙ ap (λ (l : List ℕ). wire.taken ++ l) (sym (take-add i n wire.left)) in
+    let taken : wire.taken ++ take i wire.left ++ take n (drop i wire.left) ≡ wire.taken ++ take (i + n) wire.left =
+    append_assoc wire.taken (take i wire.left) (take n (drop i wire.left))
+    ∙ ap (λ (l : List ℕ). wire.taken ++ l) (sym (take-add i n wire.left)) in
     let left : drop n (drop i wire.left) ≡ drop (i + n) wire.left = drop-drop n i wire.left in
     rw (taken, left) refl
 
@@ -61,8 +70,9 @@ first_of_take : (xs : List ℕ) → get_or (take 1 xs) 0 0 ≡ get_or xs 0 0
 first_of_take [] = refl
 first_of_take (x ∷ xs) = refl
 
--- the byte that a link gives is the next of its input
-pub next_byte : (left buf : List ℕ) (i : ℕ) → 1 ≤ length (drop i left) → take 1 buf ≡ take 1 (drop i left) → (i < length left) × (get_or buf 0 0 ≡ get_or left i 0)
+-- the byte that is taken from a link is the next of its input
+pub next_byte : (left buf : List ℕ) (i : ℕ) → 1 ≤ length (drop i left) → take 1 buf ≡ take 1 (drop i left)
+    → (i < length left) × (get_or buf 0 0 ≡ get_or left i 0)
 next_byte left buf i some same =
     let below : i < length left = omega (arith, length-drop i left) in
     let first : get_or (drop i left) 0 0 ≡ get_or left i 0 = rw (drop_next left i below) refl in

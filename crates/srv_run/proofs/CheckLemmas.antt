@@ -1,58 +1,16 @@
--- Where the content of a file ends a check, and where its layout does.
-use Rattle.std.proofs.Common.{◌≡◌, ℕ, ◌≤◌, refl, subst, Option, Some, None, Result, Ok, Err, IfErr}
-use Rattle.fm_base.specs.declared.fault.LayoutFault.{LayoutFault}
-use Rattle.fm_base.specs.declared.header.Header.{Header}
-use Rattle.fm_base.specs.Layout.{layout_fault}
-use Rattle.nc_layout.specs.Faults.{layout_or_fault}
-use Rattle.nc_layout.specs.Places.{Places}
+-- Where the content of a file ends a check.
+use Rattle.std.proofs.Common.{refl, Result, Ok, Err, IfErr}
 use Rattle.srv_run.specs.declared.end.End.{End}
-use Rattle.srv_run.specs.declared.end.End.TheVariants.{Done, BadWords, Refused, NoMemory, SinkFault}
+use Rattle.srv_run.specs.declared.end.End.TheVariants.{Refused, NoMemory}
 use Rattle.srv_run.specs.declared.end.Subject.TheVariants.{File}
-use Rattle.srv_run.specs.Steps.{BlamesFiles, IsEndOfTake, IsEndOfRead}
-
--- the files are not blamed for what a file holds
-pub BlamesFiles-content : {X : Type 0} (before now : ℕ) (result : Result X End) → before ≤ now → IfErr result IsEndOfTake → IfErr result (BlamesFiles before now)
-BlamesFiles-content before now (Ok x) later content = tt
-BlamesFiles-content before now (Err end) later content = record { later = later; rose = λ subject is. absurd (subst IsEndOfTake is content) }
+use Rattle.srv_run.specs.Steps.{IsEndOfTake, IsEndOfRead}
 
 -- what ends a check of a content ends one of a file
-pub IsEndOfRead-content : {X : Type 0} (result : Result X End) → IfErr result IsEndOfTake → IfErr result (IsEndOfRead File)
+pub IsEndOfRead-content : {X : Type 0} (result : Result X End) → IfErr result IsEndOfTake
+    → IfErr result (IsEndOfRead File)
 IsEndOfRead-content (Ok x) content = tt
 IsEndOfRead-content (Err NoMemory) content = tt
 IsEndOfRead-content (Err (Refused File code)) content = refl
 IsEndOfRead-content (Err end) content = absurd content
 
-pub ruleset calm = (BlamesFiles-content, IsEndOfRead-content)
-
--- the end of a read is none of a run that was done, whose words were bad or whose sink failed
-pub record IsFault (end : End) : Type 0 where
-  pub undone : end ≡ Done → ⊥
-  pub words : end ≡ BadWords → ⊥
-  pub sink : end ≡ SinkFault → ⊥
-
-pub IsFault-read : (end : End) → IsEndOfRead File end → IsFault end
-IsFault-read end ends = record {
-  undone = λ is. subst (IsEndOfRead File) is ends;
-  words = λ is. subst (IsEndOfRead File) is ends;
-  sink = λ is. subst (IsEndOfRead File) is ends;
-}
-
--- a file that is laid out has no fault of its layout
-pub layout_fault-none : (header : Header) (len : ℕ) (places : Places) → layout_or_fault header len ≡ Ok places → layout_fault header len ≡ None
-unfolding layout_or_fault
-layout_fault-none header len places laid = by_fault (layout_fault header len) refl
-  where
-    by_fault : (fault : Option LayoutFault) → layout_fault header len ≡ fault → layout_fault header len ≡ None
-    by_fault None is = is
-    by_fault (Some fault) is = absurd (let refused : Err fault ≡ Ok places = rw is at laid in cc)
-
--- one that is refused has this fault
-pub layout_fault-some : (header : Header) (len : ℕ) (found : LayoutFault) → layout_or_fault header len ≡ Err found → layout_fault header len ≡ Some found
-unfolding layout_or_fault
-layout_fault-some header len found refused = by_fault (layout_fault header len) refl
-  where
-    by_fault : (fault : Option LayoutFault) → layout_fault header len ≡ fault → layout_fault header len ≡ Some found
-    by_fault None is = absurd (let laid = rw is at refused in cc)
-    by_fault (Some fault) is = let same = rw is at refused in cc
-
-pub ruleset laid = (layout_fault-none, layout_fault-some)
+pub ruleset content = (IsEndOfRead-content)

@@ -27,9 +27,10 @@ abbrev pub left_len : Option (List ℕ) → ℕ
 left_len None = 0
 left_len (Some head) = length head
 
--- how input meets what is left, told at once
+-- how input meets what is left, seen at once
 abbrev pub told : Bool → Bool → Bool → Asked
-told structure values more = if structure then Whole Structure else (if values then Whole Data else (if more then Ended else Differs))
+told structure values more = if structure then Whole Structure
+    else (if values then Whole Data else (if more then Ended else Differs))
 
 abbrev pub told_of : Option (List ℕ) → Option (List ℕ) → List ℕ → Asked
 told_of s v input = told (whole s input) (whole v input) (open_to s input || open_to v input)
@@ -56,7 +57,8 @@ pub record Step (byte : ℕ) (s : Option (List ℕ)) (input : List ℕ) : Type 0
   pub open_is : open_to s (byte ∷ input) ≡ open_to (after_byte byte s) input
   pub len_is : whole (after_byte byte s) input ≡ true → left_len s ≡ 1 + left_len (after_byte byte s)
 
-pub step_where : (byte next : ℕ) (head input : List ℕ) (same : Bool) → (next == byte) ≡ same → Step byte (Some (next ∷ head)) input
+pub step_where : (byte next : ℕ) (head input : List ℕ) (same : Bool) → (next == byte) ≡ same
+    → Step byte (Some (next ∷ head)) input
 step_where byte next head input true is =
     let back : (byte == next) ≡ true = same_byte byte next ∙ is in
     record { whole_is = rw is refl; open_is = rw (is, back) refl; len_is = λ _. rw is (omega arith) }
@@ -68,6 +70,7 @@ pub step_none : (byte : ℕ) (input : List ℕ) → Step byte None input
 step_none byte input = record { whole_is = refl; open_is = refl; len_is = λ w. absurd (false≢true w) }
 
 -- one more byte of input is one more byte to reach
-pub reach_where : (byte next : ℕ) (head input : List ℕ) (same : Bool) → (next == byte) ≡ same → reach (Some (next ∷ head)) (byte ∷ input) ≡ 1 + reach (after_byte byte (Some (next ∷ head))) input
+pub reach_where : (byte next : ℕ) (head input : List ℕ) (same : Bool) → (next == byte) ≡ same
+    → reach (Some (next ∷ head)) (byte ∷ input) ≡ 1 + reach (after_byte byte (Some (next ∷ head))) input
 reach_where byte next head input true is = rw is refl
 reach_where byte next head input false is = rw is refl

@@ -1,15 +1,24 @@
 -- A report that was written whole or in part.
-use Rattle.std.proofs.Common.{◌≡◌, ℕ, List, length, take, Result, Ok, Err, sym, ap, ◌∙◌, arith}
-use Rattle.std.proofs.lemmas.List.{take_all}
-use Rattle.fm_world.specs.Cause.{HasCause}
+use Rattle.std.proofs.Common.{◌≡◌, ◌≤◌, ℕ, List, length, take, Result, Ok, Err, inl, inr}
+use Rattle.fm_world.specs.Cause.{HasCause, one_more}
+use Rattle.fm_world.specs.Shown.{SinkShown}
 use Rattle.fm_world.specs.Sink.{after_append}
 use Rattle.srv_run.specs.Report.{Appends}
-use Rattle.srv_run.specs.Run.{SinkSeen, Reports}
+use Rattle.srv_run.specs.Run.{Reports, WritesLine, CutsLine}
 
-whole : (line : List ℕ) → take (length line) line ≡ line
-whole line = take_all (length line) line (omega arith)
+-- a line that was put is written whole, or cut where the sink failed
+pub Reports-put : {X E : Type 0} (line : List ℕ) (sink sink' : SinkShown) (result : Result X E)
+    → Appends line sink.held sink'.held result → HasCause sink.faults sink'.faults result → Reports line sink sink'
+Reports-put line sink sink' (Ok x) put cause = inl (record { put = put; faults = cause })
+Reports-put line sink sink' (Err e) put cause =
+    inr (record { count = put.0; within = put.1; put = put.2; faults = cause })
 
--- what the writing of a line says
-pub Reports-from_put : {X E : Type 0} (line : List ℕ) (sink sink' : SinkSeen) (result : Result X E) → Appends line sink.told sink'.told result → HasCause sink.faults sink'.faults result → Reports line sink sink'
-Reports-from_put line sink sink' (Ok x) put cause = (length line, omega arith, put ∙ ap (λ (l : List ℕ). after_append l sink.told) (sym (whole line)), λ _. whole line)
-Reports-from_put line sink sink' (Err e) put cause = (put.0, put.1, put.2, λ calm. absurd (calm cause.failed))
+-- a line that was put whole, and one that wasn't
+pub Writes-put : (line : List ℕ) (sink sink' : SinkShown)
+    → sink'.held ≡ after_append line sink.held → sink'.faults ≡ sink.faults → WritesLine line sink sink'
+Writes-put line sink sink' put faults = record { put = put; faults = faults }
+
+pub Cuts-put : (line : List ℕ) (sink sink' : SinkShown)
+    → (count : ℕ) × (count ≤ length line) × (sink'.held ≡ after_append (take count line) sink.held)
+    → sink'.faults ≡ one_more sink.faults → CutsLine line sink sink'
+Cuts-put line sink sink' put faults = record { count = put.0; within = put.1; put = put.2; faults = faults }

@@ -1,4 +1,4 @@
--- Input that begins with a head is told by it.
+-- Input that begins with a head is the request of that head.
 use Rattle.std.proofs.Common.{◌≡◌, List, ℕ, ◌++◌, length, true, nat_eq, refl, ap}
 use Rattle.std.specs.List.{starts_with}
 use Rattle.std.proofs.lemmas.Bool.Decides.{Decides-eqb}
@@ -20,12 +20,15 @@ pub asked_by-data : (name rest : List ℕ) → asked_by name (data_head name ++ 
 unfolding asked_of
 asked_by-data name rest = rw (data_head-differs name rest, begins (data_head name) rest) refl
 
-pub taken_by-structure : (name rest : List ℕ) → taken_by name (structure_head name ++ rest) ≡ length (structure_head name)
+pub taken_by-structure : (name rest : List ℕ)
+    → taken_by name (structure_head name ++ rest) ≡ length (structure_head name)
 unfolding taken_for
-taken_by-structure name rest = ap (taken_for (structure_head name) (data_head name) (structure_head name ++ rest)) (asked_by-structure name rest)
+taken_by-structure name rest = ap (taken_for (structure_head name) (data_head name) (structure_head name
+    ++ rest)) (asked_by-structure name rest)
 
 pub taken_by-data : (name rest : List ℕ) → taken_by name (data_head name ++ rest) ≡ length (data_head name)
 unfolding taken_for
-taken_by-data name rest = ap (taken_for (structure_head name) (data_head name) (data_head name ++ rest)) (asked_by-data name rest)
+taken_by-data name rest = ap (taken_for (structure_head name) (data_head name) (data_head name
+    ++ rest)) (asked_by-data name rest)
 
 pub ruleset told = (asked_by-structure, asked_by-data, taken_by-structure, taken_by-data)

@@ -1,4 +1,4 @@
--- How many numbers the rows give.
+-- How many numbers rows have.
 use Rattle.std.proofs.lemmas.List.{length-map}
 use Rattle.std.proofs.lemmas.List.Sums.{prefix_len-le-length}
 use Rattle.std.proofs.lemmas.Int.{to_z-of_z}

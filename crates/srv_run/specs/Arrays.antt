@@ -20,7 +20,8 @@ declared_arrays loaded = flat_map parts_of (decls_of loaded.proto.shape (length 
 
 -- the numbers of the arrays of a view with these rows, in the same order
 abbrev pub numbers_over : ReadFile → ReadFile → List Row → List (List ℕ)
-numbers_over proto file rows = valid_numbers rows ∷ lat_numbers proto ∷ lon_numbers proto ∷ field_numbers file rows ∷ valid_numbers rows ∷ lat_numbers proto ∷ lon_numbers proto ∷ run_numbers rows ∷ offset_numbers rows ∷ []
+numbers_over proto file rows = valid_numbers rows ∷ lat_numbers proto ∷ lon_numbers proto ∷ field_numbers file rows ∷
+    valid_numbers rows ∷ lat_numbers proto ∷ lon_numbers proto ∷ run_numbers rows ∷ offset_numbers rows ∷ []
 
 -- the numbers of the arrays of the best view
 abbrev pub best_numbers : Loaded → List (List ℕ)

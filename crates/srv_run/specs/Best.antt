@@ -36,7 +36,8 @@ structure_of name loaded = dds_of (best_label name) (decls_of loaded.proto.shape
 -- the body of a reply: the structure text, and for data also the line `Data:` and the values
 unfoldable pub body_of : List ℕ → Content → Loaded → List ℕ
 body_of name Structure loaded = structure_of name loaded
-body_of name Data loaded = structure_of name loaded ++ codes "Data:\n" ++ data_over loaded.proto loaded.file (best_rows loaded)
+body_of name Data loaded = structure_of name loaded ++ codes "Data:\n"
+    ++ data_over loaded.proto loaded.file (best_rows loaded)
 
 -- the reply over the collection of the one file, which is its revision 1
 unfoldable pub reply_over : List ℕ → Content → Loaded → List ℕ

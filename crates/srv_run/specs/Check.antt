@@ -1,39 +1,23 @@
 -- What the command `check FILE` does: it reads the header of a file, sees that all the data lies in the file, and says
 -- how many dimensions, variables and records there are.
-use Rattle.std.specs.Prelude.{◌≡◌, ◌⊎◌, ℕ, List, [], ◌∷◌, ◌++◌, length, codes, decimal, Option, Some, None, Result, Ok, Err, if◌then◌else◌}
+use Rattle.std.specs.Prelude.{ℕ, List, [], ◌∷◌, ◌++◌, length, codes, decimal, Option, Some, None, Result, Ok, Err, if◌then◌else◌}
 use Rattle.std.specs.Str.{bytes_eq}
-use Rattle.fm_base.specs.declared.fault.HeaderFault.{HeaderFault}
-use Rattle.fm_base.specs.declared.fault.LayoutFault.{LayoutFault}
 use Rattle.fm_base.specs.declared.header.Header.{Header}
-use Rattle.fm_base.specs.Code.{header_code, layout_code}
-use Rattle.fm_base.specs.Layout.{layout_fault}
-use Rattle.fm_base.specs.Reading.{header_or_fault}
-use Rattle.fm_base.specs.Chain.{◌>>=◌}
+use Rattle.fm_base.specs.Chain.{◌>>=◌, fault_as}
+use Rattle.fm_base.specs.Sound.{format_fault_code, sound_header}
 use Rattle.srv_run.specs.declared.end.End.{End}
-use Rattle.srv_run.specs.declared.end.End.TheVariants.{Done, Refused, SinkFault}
+use Rattle.srv_run.specs.declared.end.End.TheVariants.{Refused}
 use Rattle.srv_run.specs.declared.end.Subject.TheVariants.{File}
 use Rattle.srv_run.specs.Once.{file_or_end}
-use Rattle.srv_run.specs.Report.{line_of}
-use Rattle.srv_run.specs.Words.{naming}
 
 -- the path of the file that the words `check FILE` name
 unfoldable pub checked_path : List (List ℕ) → Option (List ℕ)
 checked_path (first ∷ path ∷ []) = if bytes_eq first (codes "check") then Some path else None
 checked_path words = None
 
--- a header, or the refusal by the number of its first fault
-abbrev pub header_or_refusal : Result Header HeaderFault → Result Header End
-header_or_refusal (Ok header) = Ok header
-header_or_refusal (Err fault) = Err (Refused File (header_code fault))
-
--- the same header where its layout has no fault, else the refusal by the fault's number
-abbrev pub laid_or_refusal : Header → Option LayoutFault → Result Header End
-laid_or_refusal header None = Ok header
-laid_or_refusal header (Some fault) = Err (Refused File (layout_code fault))
-
 -- the header of a file that has no fault, else the refusal by its first fault
 unfoldable pub sound_or_refusal : List ℕ → Result Header End
-sound_or_refusal bytes = header_or_refusal (header_or_fault bytes) >>= λ header. laid_or_refusal header (layout_fault header (length bytes))
+sound_or_refusal bytes = fault_as (λ fault. Refused File (format_fault_code fault)) (sound_header bytes)
 
 -- what a path holds is read whole and has no fault, or the check ends
 unfoldable pub checked_or_end : Option (List ℕ) → Result Header End
@@ -41,14 +25,8 @@ checked_or_end held = file_or_end File held >>= sound_or_refusal
 
 -- the line of a file without fault
 unfoldable pub sound_line : Header → List ℕ
-sound_line header = codes "ok CDF-" ++ decimal header.version ++ codes " dims " ++ decimal (length header.dims) ++ codes " vars " ++ decimal (length header.vars) ++ codes " records " ++ decimal header.numrecs ++ codes "\n"
-
--- the line of a check
-abbrev pub check_line : List ℕ → Result Header End → List ℕ
-check_line path (Ok header) = sound_line header
-check_line path (Err end) = line_of (naming path) end
-
--- How a check ended: with what it found, or where the line of a sound file couldn't be written.
-abbrev pub EndsCheck : Result Header End → End → Type 0
-EndsCheck (Ok header) end = (end ≡ Done) ⊎ (end ≡ SinkFault)
-EndsCheck (Err found) end = end ≡ found
+sound_line header =
+    codes "ok CDF-" ++ decimal header.version
+    ++ codes " dims " ++ decimal (length header.dims)
+    ++ codes " vars " ++ decimal (length header.vars)
+    ++ codes " records " ++ decimal header.numrecs ++ codes "\n"

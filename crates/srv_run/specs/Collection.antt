@@ -15,7 +15,8 @@ places_of bytes shape = take (4 * shape.lats + 4 * shape.lons) (drop 276 bytes)
 
 -- whether a thin file lies on the same grid as the prototype
 unfoldable pub is_same_grid : List ℕ → ThinShape → List ℕ → ThinShape → Bool
-is_same_grid proto grid file shape = shape.lats == grid.lats && shape.lons == grid.lons && bytes_eq (places_of file shape) (places_of proto grid)
+is_same_grid proto grid file shape = shape.lats == grid.lats && shape.lons == grid.lons
+    && bytes_eq (places_of file shape) (places_of proto grid)
 
 -- an array over these dimensions
 abbrev pub array : List ℕ → DapKind → List Dim → Array
@@ -24,7 +25,7 @@ array name kind dims = record { name = name; kind = kind; dims = dims }
 abbrev pub dim : List ℕ → ℕ → Dim
 dim name size = record { name = name; size = size }
 
--- the dimensions of a view with so many rows
+-- the dimensions of a view with n rows
 abbrev pub time_dim : ℕ → Dim
 time_dim rows = dim (codes "time") rows
 
@@ -44,13 +45,20 @@ row_array name rows = array name Int32 (time_dim rows ∷ [])
 
 -- the coordinates of a view: its times, and the prototype's latitudes and longitudes
 unfoldable pub coordinates : ThinShape → ℕ → List Array
-coordinates grid rows = row_array (codes "time") rows ∷ place_array (codes "lat") grid.lats ∷ place_array (codes "lon") grid.lons ∷ []
+coordinates grid rows =
+    row_array (codes "time") rows ∷ place_array (codes "lat") grid.lats ∷ place_array (codes "lon") grid.lons ∷ []
 
 -- the field over the coordinates
 unfoldable pub field_array : ThinShape → ℕ → Array
 field_array grid rows = array (codes "t") Float32 (time_dim rows ∷ lat_dim grid ∷ lon_dim grid ∷ [])
 
--- the declarations of a view with so many rows: the coordinates, the field as a Grid over them, and for each row its
+-- the declarations of a view with n rows: the coordinates, the field as a Grid over them, and for each row its
 -- run and its offset
 unfoldable pub decls_of : ThinShape → ℕ → List Decl
-decls_of grid rows = Plain (row_array (codes "time") rows) ∷ Plain (place_array (codes "lat") grid.lats) ∷ Plain (place_array (codes "lon") grid.lons) ∷ Grid (codes "t") (field_array grid rows) (coordinates grid rows) ∷ Plain (row_array (codes "time_run") rows) ∷ Plain (row_array (codes "time_offset") rows) ∷ []
+decls_of grid rows =
+    Plain (row_array (codes "time") rows)
+    ∷ Plain (place_array (codes "lat") grid.lats)
+    ∷ Plain (place_array (codes "lon") grid.lons)
+    ∷ Grid (codes "t") (field_array grid rows) (coordinates grid rows)
+    ∷ Plain (row_array (codes "time_run") rows)
+    ∷ Plain (row_array (codes "time_offset") rows) ∷ []

@@ -43,7 +43,8 @@ last_lines = codes "Connection: keep-alive\r\n\r\n"
 
 -- the head of a reply with status 200 after which the link goes on
 unfoldable pub ok_head : Content → ℕ → ℕ → List ℕ
-ok_head content revision len = status_line ++ server_line ++ description_line content ++ media_type_line content ++ revision_line revision ++ length_line len ++ last_lines
+ok_head content revision len = status_line ++ server_line ++ description_line content ++ media_type_line content
+    ++ revision_line revision ++ length_line len ++ last_lines
 
 -- the whole reply
 unfoldable pub reply_of : Content → ℕ → List ℕ → List ℕ

@@ -7,9 +7,11 @@ use Rattle.srv_run.specs.declared.end.Subject.{Subject as Matter}
 use Rattle.srv_run.specs.declared.end.Subject.TheVariants.{Prototype, File, Request}
 use Rattle.srv_run.specs.Words.{Command}
 
--- All of the bytes were appended to a sink, or a front of them where it failed.
+-- All of the bytes were appended to a sink, or the first n of them where it failed.
 abbrev pub Appends : {X E : Type 0} → List ℕ → Option (List ℕ) → Option (List ℕ) → Result X E → Type 0
-Appends bytes before after result = MatchResult result (λ _. after ≡ after_append bytes before) (λ _. (count : ℕ) × (count ≤ length bytes) × (after ≡ after_append (take count bytes) before))
+Appends bytes before after result = MatchResult result
+    (λ _. after ≡ after_append bytes before)
+    (λ _. (count : ℕ) × (count ≤ length bytes) × (after ≡ after_append (take count bytes) before))
 
 -- the status of a program that ended so
 abbrev pub status_of : End → ℕ
@@ -42,7 +44,7 @@ file_fault_line subject = codes "file fault " ++ subject ++ codes "\n"
 unfoldable pub no_file_line : List ℕ → List ℕ
 no_file_line subject = codes "no file " ++ subject ++ codes "\n"
 
--- the line that tells of an end; none where every step was done, or where the line of what was done failed
+-- the line of an end; none where every step was done, or where the line of what was done failed
 unfoldable pub line_of : Command → End → List ℕ
 line_of command Done = []
 line_of command BadWords = codes "bad words\n"

@@ -1,6 +1,6 @@
--- What the steps of a run answer.
-use Rattle.std.specs.Prelude.{◌≡◌, ⊤, ℕ, ◌≤◌, Result, Ok, Err}
-use Rattle.fm_world.specs.Cause.{Rose}
+-- What the steps of a run return.
+use Rattle.std.specs.Prelude.{◌≡◌, ⊤, ℕ, Result, Ok, Err, MatchResult}
+use Rattle.fm_world.specs.Cause.{one_more}
 use Rattle.srv_run.specs.declared.end.End.{End}
 use Rattle.srv_run.specs.declared.end.End.TheVariants.{Done, BadWords, Refused, NoMemory, FileFault, SinkFault, LinkFault, NoFile, TooLong, InputEnded}
 use Rattle.srv_run.specs.declared.end.Subject.{Subject as Matter}
@@ -9,7 +9,7 @@ use Rattle.srv_run.specs.declared.file.Loaded.{Loaded}
 use Rattle.srv_run.specs.declared.file.ReadFile.{ReadFile}
 use Rattle.srv_run.specs.Once.{AccordsFiles}
 
--- A step answers the defined value or end, unless memory ran out or a device failed.
+-- A step returns the defined value or end, unless memory ran out or a device failed.
 abbrev pub Gives : {X Y : Type 0} → (X → Y) → Result X End → Result Y End → Type 0
 Gives view (Ok x) defined = defined ≡ Ok (view x)
 Gives view (Err NoMemory) defined = ⊤
@@ -31,7 +31,7 @@ IsEndOfTake NoMemory = ⊤
 IsEndOfTake (Refused File code) = ⊤
 IsEndOfTake end = ⊥
 
--- A run of the command that ended so hasn't come to its request.
+-- A run of `once` that ended so hasn't come to its request.
 abbrev pub IsBeforeRequest : End → Type 0
 IsBeforeRequest Done = ⊥
 IsBeforeRequest InputEnded = ⊥
@@ -41,7 +41,7 @@ IsBeforeRequest SinkFault = ⊥
 IsBeforeRequest BadWords = ⊥
 IsBeforeRequest end = ⊤
 
--- A run that ended so has come to its request, or wanted memory.
+-- A run of `once` that ended so has come to its request, or memory ran out.
 abbrev pub IsFromRequest : End → Type 0
 IsFromRequest Done = ⊤
 IsFromRequest InputEnded = ⊤
@@ -55,12 +55,22 @@ abbrev pub Loads : Result Loaded End → Result ReadFile End → Result Loaded E
 Loads (Ok found) proto loaded = loaded ≡ Ok found
 Loads (Err end) proto loaded = AccordsFiles end proto loaded
 
--- The count of the link's faults never falls, and the run ended by the link only where it rose.
-pub record BlamesLink (before now : ℕ) (end : End) : Type 0 where
-  pub later : before ≤ now
-  pub rose : end ≡ LinkFault → Rose before now
+-- A run of `once` may end so, where its words are the command.
+abbrev pub IsEndOfOnce : End → Type 0
+IsEndOfOnce SinkFault = ⊥
+IsEndOfOnce BadWords = ⊥
+IsEndOfOnce end = ⊤
 
--- The count of the files' faults never falls, and the run ended by a file only where it rose.
-pub record BlamesFiles (before now : ℕ) (end : End) : Type 0 where
-  pub later : before ≤ now
-  pub rose : (subject : Matter) → end ≡ FileFault subject → Rose before now
+-- how many calls of the files have failed after a run that ended so
+abbrev pub file_faults_after : ℕ → End → ℕ
+file_faults_after count (FileFault subject) = one_more count
+file_faults_after count end = count
+
+-- how many calls of the link have failed after a run that ended so
+abbrev pub link_faults_after : ℕ → End → ℕ
+link_faults_after count LinkFault = one_more count
+link_faults_after count end = count
+
+-- No call of the files failed in a step that went on, and where the step ended the run, only the one that is blamed.
+abbrev pub BlamesFiles : {X : Type 0} → ℕ → ℕ → Result X End → Type 0
+BlamesFiles before now result = MatchResult result (λ _. now ≡ before) (λ end. now ≡ file_faults_after before end)

@@ -23,9 +23,11 @@ decided None None = Some Differs
 -- how input meets what is left
 unfoldable pub met_by : Option (List ℕ) → Option (List ℕ) → List ℕ → Asked
 met_by structure values [] = unwrap_or (decided structure values) Ended
-met_by structure values (byte ∷ input) = unwrap_or (decided structure values) (met_by (after_byte byte structure) (after_byte byte values) input)
+met_by structure values (byte ∷ input) = unwrap_or (decided structure values)
+    (met_by (after_byte byte structure) (after_byte byte values) input)
 
 -- how many bytes are taken for it
 unfoldable pub met_len : Option (List ℕ) → Option (List ℕ) → List ℕ → ℕ
 met_len structure values [] = 0
-met_len structure values (byte ∷ input) = if is_some (decided structure values) then 0 else 1 + met_len (after_byte byte structure) (after_byte byte values) input
+met_len structure values (byte ∷ input) = if is_some (decided structure values) then 0
+    else 1 + met_len (after_byte byte structure) (after_byte byte values) input

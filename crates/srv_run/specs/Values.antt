@@ -10,7 +10,7 @@ use Rattle.srv_run.specs.declared.file.ReadFile.{ReadFile}
 use Rattle.srv_run.specs.declared.rows.Row.{Row}
 use Rattle.srv_run.specs.Times.{valid_numbers, runs_data}
 
--- so many numbers of four bytes from a place on
+-- n numbers of four bytes from a place on
 unfoldable pub words_at : List ℕ → ℕ → ℕ → List ℕ
 words_at bytes place zero = []
 words_at bytes place (suc n) = from_be_bytes w32 (take 4 (drop place bytes)) ∷ words_at bytes (place + 4) n
@@ -31,13 +31,15 @@ abbrev pub field_numbers : ReadFile → List Row → List ℕ
 field_numbers file rows = flat_map (λ (r : Row). field_at file.bytes file.shape r.place) rows
 
 -- whether the file has a record at a row's place
-abbrev pub has_record : ReadFile → Row → Bool
-has_record file row = nat_lt row.place file.shape.times
+abbrev pub has_record_dim : ReadFile → Row → Bool
+has_record_dim file row = nat_lt row.place file.shape.times
 
 -- the times, latitudes and longitudes of these rows
 unfoldable pub coordinates_data : ReadFile → List Row → List ℕ
-coordinates_data proto rows = array_bytes Int32 (valid_numbers rows) ++ array_bytes Float32 (lat_numbers proto) ++ array_bytes Float32 (lon_numbers proto)
+coordinates_data proto rows = array_bytes Int32 (valid_numbers rows) ++ array_bytes Float32 (lat_numbers proto)
+    ++ array_bytes Float32 (lon_numbers proto)
 
 -- the values in the order of the declarations: the coordinates, the Grid's field and its maps, runs and offsets
 unfoldable pub data_over : ReadFile → ReadFile → List Row → List ℕ
-data_over proto file rows = coordinates_data proto rows ++ array_bytes Float32 (field_numbers file rows) ++ coordinates_data proto rows ++ runs_data rows
+data_over proto file rows = coordinates_data proto rows ++ array_bytes Float32 (field_numbers file rows)
+    ++ coordinates_data proto rows ++ runs_data rows

@@ -17,7 +17,7 @@ use nc_model::instants_of;
 use std::alloc::Global;
 
 // The times of the file.
-#[tactic(auto, using(crate::proofs::LoadedLemmas::loaded))]
+#[tactic(auto, using(crate::proofs::LoadedRows::loaded))]
 fn times_of(alloc: Global, loaded: &Loaded) -> Result<List<i64>, NoMemory>
     requires { spec.IsLoaded loaded.now }
     ensures { IfOk result (λ times.
@@ -27,7 +27,7 @@ fn times_of(alloc: Global, loaded: &Loaded) -> Result<List<i64>, NoMemory>
 }
 
 // A row for each time of the file, in the order of the times.
-#[tactic(auto, using(crate::proofs::LoadedLemmas::loaded))]
+#[tactic(auto, using(crate::proofs::LoadedRows::loaded))]
 fn best_rows(alloc: Global, loaded: &Loaded) -> Result<List<Row>, NoMemory>
     requires { spec.IsLoaded loaded.now }
     ensures rows { IfOk result (λ rows. rows ≡ spec.best_rows loaded.now) }
@@ -58,7 +58,7 @@ fn structure_of(
 }
 
 // The body of a reply.
-#[tactic(auto, using(crate::proofs::LoadedLemmas::loaded), unfolding(crate::specs::Best::body_of))]
+#[tactic(auto, using(crate::proofs::LoadedRows::loaded), unfolding(crate::specs::Best::body_of))]
 fn body_of(alloc: Global, name: &[u8], content: Content, loaded: &Loaded) -> Result<Bytes, NoMemory>
     requires { spec.IsLoaded loaded.now }
     ensures { IfOk result (λ body. body ≡ spec.body_of name.now content loaded.now) }

@@ -32,7 +32,7 @@ pub(crate) fn checked_path(words: &[Bytes]) -> Option<&[u8]>
 }
 
 // The header of a file that has no fault.
-#[tactic(auto, using(nc_layout::proofs::ReadLemmas::headers_read, crate::proofs::CheckLemmas::laid), unfolding(crate::specs::Check::sound_or_refusal))]
+#[tactic(auto, using(nc_layout::proofs::ReadLemmas::headers_read), unfolding(crate::specs::Check::sound_or_refusal, fm_base::specs::Sound::sound_header))]
 fn sound_header(alloc: Global, bytes: &[u8]) -> Result<Header, End>
     ensures sound { Gives (λ header. header) result (spec.sound_or_refusal bytes.now) }
     ensures calm { IfErr result IsEndOfTake }
@@ -42,32 +42,31 @@ fn sound_header(alloc: Global, bytes: &[u8]) -> Result<Header, End>
         Err(Fail::NoMemory) => return Err(End::NoMemory),
         Err(Fail::Fault(fault)) => return Err(End::Refused(Subject::File, fault.code())),
     };
-    match lay_out(alloc, &header, bytes.len() as u64) {
-        Ok(_layout) => Ok(header),
+    match lay_out(alloc, header, bytes.len() as u64) {
+        Ok(layout) => Ok(layout.into_header()),
         Err(Fail::NoMemory) => Err(End::NoMemory),
         Err(Fail::Fault(fault)) => Err(End::Refused(Subject::File, fault.code())),
     }
 }
 
 // Reads a file and checks it.
-#[tactic(auto, using(crate::proofs::CheckLemmas::calm), unfolding(crate::specs::Check::checked_or_end))]
+#[tactic(auto, using(crate::proofs::CheckLemmas::content, crate::proofs::EndLemmas::content), unfolding(crate::specs::Check::checked_or_end))]
 pub(crate) fn check_file<F: Files>(alloc: Global, files: &mut F, path: &[u8]) -> Result<Header, End>
-    ensures checked { IfSome (F.told files.old) (λ held.
+    ensures checked { IfSome (F.shown files.old).held (λ held.
         Gives (λ header. header) result (spec.checked_or_end (held path.now))) }
-    ensures same { F.told files.new ≡ F.told files.old }
-    ensures later { F.fault_count files.old ≤ F.fault_count files.new }
-    ensures cause { IfErr result (BlamesFiles (F.fault_count files.old) (F.fault_count files.new)) }
+    ensures same { (F.shown files.new).held ≡ (F.shown files.old).held }
+    ensures cause { BlamesFiles (F.shown files.old).faults (F.shown files.new).faults result }
     ensures end { IfErr result (IsEndOfRead Subject.File) }
 {
     let bytes = content_of(alloc, files, path, Subject::File)?;
     sound_header(alloc, bytes.as_slice())
 }
 
-// Writes the line of a file without fault, or a front of it where the sink fails. It takes no memory.
+// Writes the line of a file without fault, or its first bytes where the sink fails. It takes no memory.
 #[tactic(auto, unfolding(crate::specs::Check::sound_line))]
 pub(crate) fn put_sound<S: Sink>(sink: &mut S, header: &Header) -> Result<(), Failed>
-    ensures put { Appends (spec.sound_line header.now) (S.told sink.old) (S.told sink.new) result }
-    ensures cause { HasCause (S.fault_count sink.old) (S.fault_count sink.new) result }
+    ensures put { Appends (spec.sound_line header.now) (S.shown sink.old).held (S.shown sink.new).held result }
+    ensures cause { HasCause (S.shown sink.old).faults (S.shown sink.new).faults result }
 {
     let mut version = Buffer::new();
     let mut dims = Buffer::new();

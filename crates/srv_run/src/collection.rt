@@ -95,7 +95,7 @@ fn field_grid(alloc: Global, grid: ThinShape, rows: u64) -> Result<Decl, NoMemor
     })
 }
 
-// The declarations of a view with so many rows.
+// The declarations of a view with `rows` rows.
 #[tactic(auto, unfolding(crate::specs::Collection::decls_of))]
 pub(crate) fn decls_of(alloc: Global, grid: ThinShape, rows: u64) -> Result<List<Decl>, NoMemory>
     ensures { IfOk result (λ decls. decls ≡ spec.decls_of grid rows) }

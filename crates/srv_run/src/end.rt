@@ -29,19 +29,19 @@ pub enum End {
     LinkFault,
     /// No file lies at the path.
     NoFile(Subject),
-    /// The file has so many bytes, which is over the limit.
+    /// The length of the file in bytes, which is over the limit.
     TooLong(Subject, u64),
     /// The input ended before the request did.
     InputEnded,
 }
 
-/// The number of the refusal of what isn't read yet: a file of another form, or another request.
+// The number of the refusal of what isn't read yet: a file of another form, or another request.
 pub(crate) const NOT_YET_READ: u16 = 60;
 
-/// The number of the refusal of a file whose name marks no run.
+// The number of the refusal of a file whose name marks no run.
 pub(crate) const NO_RUN_TIME: u16 = 45;
 
-/// The number of the refusal of a file whose run is no instant.
+// The number of the refusal of a file whose run is no instant.
 pub(crate) const RUN_OUT_OF_RANGE: u16 = 55;
 
 impl End {

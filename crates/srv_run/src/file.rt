@@ -11,12 +11,10 @@ use crate::end::{End, NOT_YET_READ, Subject};
 use crate::marked::run_of;
 use crate::words::Command;
 use fm_base::{Bytes, Fail, NoMemory};
+use fm_model::MAX_FILE_BYTES;
 use fm_world::{Files, Found};
 use nc_model::{ThinShape, thin_shape};
 use std::alloc::Global;
-
-/// The greatest length of a file, in bytes.
-const FILE_BYTES: u64 = 536_870_912;
 
 /// A thin file as it was read.
 #[derive(Drop)]
@@ -40,14 +38,13 @@ pub(crate) fn content_of<F: Files>(
     path: &[u8],
     subject: Subject,
 ) -> Result<Bytes, End>
-    ensures content { IfSome (F.told files.old) (λ held.
+    ensures content { IfSome (F.shown files.old).held (λ held.
         Gives (λ bytes. bytes) result (spec.file_or_end subject (held path.now))) }
-    ensures same { F.told files.new ≡ F.told files.old }
-    ensures later { F.fault_count files.old ≤ F.fault_count files.new }
-    ensures cause { IfErr result (BlamesFiles (F.fault_count files.old) (F.fault_count files.new)) }
+    ensures same { (F.shown files.new).held ≡ (F.shown files.old).held }
+    ensures cause { BlamesFiles (F.shown files.old).faults (F.shown files.new).faults result }
     ensures end { IfErr result (IsEndOfRead subject) }
 {
-    match files.read(alloc, path, FILE_BYTES) {
+    match files.read(alloc, path, MAX_FILE_BYTES) {
         Ok(Found::Content(bytes)) => Ok(bytes),
         Ok(Found::Absent) => Err(End::NoFile(subject)),
         Ok(Found::TooLong(len)) => Err(End::TooLong(subject, len)),
@@ -64,11 +61,10 @@ fn read_thin<F: Files>(
     path: &[u8],
     subject: Subject,
 ) -> Result<ReadFile, End>
-    ensures file { IfSome (F.told files.old) (λ held.
+    ensures file { IfSome (F.shown files.old).held (λ held.
         Gives (λ file. file) result (spec.read_or_end subject (held path.now))) }
-    ensures same { F.told files.new ≡ F.told files.old }
-    ensures later { F.fault_count files.old ≤ F.fault_count files.new }
-    ensures cause { IfErr result (BlamesFiles (F.fault_count files.old) (F.fault_count files.new)) }
+    ensures same { (F.shown files.new).held ≡ (F.shown files.old).held }
+    ensures cause { BlamesFiles (F.shown files.old).faults (F.shown files.new).faults result }
     ensures end { IfErr result (IsEndOfRead subject) }
     ensures thin { IfOk result (λ file. is_thin file.bytes file.shape ≡ true) }
     ensures places { IfOk result (λ file. HoldsPlaces file.bytes file.shape) }
@@ -110,18 +106,17 @@ fn take_file(
 }
 
 // Reads the prototype and the file, and takes the file over it.
-#[tactic(auto, using(crate::proofs::LoadLemmas::load_ends), unfolding(crate::specs::Once::loaded_or_end))]
+#[tactic(auto, using(crate::proofs::ReadingEnds::load_ends, crate::proofs::EndLemmas::content), unfolding(crate::specs::Once::loaded_or_end))]
 pub(crate) fn load<F: Files>(
     alloc: Global,
     files: &mut F,
     command: &Command<'_>,
 ) -> Result<Loaded, End>
-    ensures loaded { IfSome (F.told files.old) (λ held.
+    ensures loaded { IfSome (F.shown files.old).held (λ held.
         Loads result (spec.read_or_end Subject.Prototype (held command.now.proto.now))
         (spec.loaded_or_end (seen command.now) held)) }
-    ensures same { F.told files.new ≡ F.told files.old }
-    ensures later { F.fault_count files.old ≤ F.fault_count files.new }
-    ensures cause { IfErr result (BlamesFiles (F.fault_count files.old) (F.fault_count files.new)) }
+    ensures same { (F.shown files.new).held ≡ (F.shown files.old).held }
+    ensures cause { BlamesFiles (F.shown files.old).faults (F.shown files.new).faults result }
     ensures before { IfErr result IsBeforeRequest }
     ensures facts { IfOk result IsLoaded }
 {

@@ -6,7 +6,7 @@ mod check;
 mod collection;
 mod end;
 mod file;
-mod laws;
+pub mod laws;
 mod marked;
 mod once;
 mod program;
@@ -20,8 +20,7 @@ mod words;
 mod xdr;
 
 pub use end::{End, Subject};
-pub use laws::{data_is_as_declared, heads_are_told};
-pub use program::{run, run_check, run_once};
+pub use program::{run, run_check, run_once, run_process};
 pub use reply::Content;
 pub use request::Asked;
 

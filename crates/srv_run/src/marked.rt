@@ -11,8 +11,8 @@ use fm_base::{Bytes, NoMemory};
 use std::alloc::Global;
 use tm_units::read_mark;
 
-/// 2020-01-01T00:00:00Z in Unix seconds, from which instants are counted. It is so wide that no moment less the epoch is
-/// out of its range.
+// 2020-01-01T00:00:00Z in Unix seconds, from which instants are counted. With 128 bits, a moment less the epoch never
+// overflows.
 const EPOCH: i128 = 1_577_836_800;
 
 // How many bytes of a path follow its last `/`.

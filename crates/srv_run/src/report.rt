@@ -11,11 +11,12 @@ use crate::words::Command;
 use fm_world::{Failed, Sink};
 use itoa::Buffer;
 
-// Writes the pieces one after the other.
+// Writes the slices one after the other.
 #[tactic(auto, using(crate::proofs::PieceLemmas::pieces))]
 pub(crate) fn put_pieces<S: Sink>(sink: &mut S, pieces: &[&[u8]]) -> Result<(), Failed>
-    ensures put { Appends (flat_map (λ piece. piece.now) pieces.now) (S.told sink.old) (S.told sink.new) result }
-    ensures cause { HasCause (S.fault_count sink.old) (S.fault_count sink.new) result }
+    ensures put { Appends (flat_map (λ piece. piece.now) pieces.now)
+        (S.shown sink.old).held (S.shown sink.new).held result }
+    ensures cause { HasCause (S.shown sink.old).faults (S.shown sink.new).faults result }
 {
     for piece in pieces {
         sink.put(piece)?;
@@ -36,8 +37,8 @@ fn subject_of<'a>(command: &Command<'a>, subject: Subject) -> &'a [u8]
 
 #[tactic(auto, unfolding(crate::specs::Report::refused_line))]
 fn put_refused<S: Sink>(sink: &mut S, subject: &[u8], code: u16) -> Result<(), Failed>
-    ensures put { Appends (spec.refused_line subject.now code) (S.told sink.old) (S.told sink.new) result }
-    ensures cause { HasCause (S.fault_count sink.old) (S.fault_count sink.new) result }
+    ensures put { Appends (spec.refused_line subject.now code) (S.shown sink.old).held (S.shown sink.new).held result }
+    ensures cause { HasCause (S.shown sink.old).faults (S.shown sink.new).faults result }
 {
     let mut digits = Buffer::new();
     let code = digits.format(code).as_bytes();
@@ -55,8 +56,8 @@ fn put_refused<S: Sink>(sink: &mut S, subject: &[u8], code: u16) -> Result<(), F
 
 #[tactic(auto, unfolding(crate::specs::Report::too_long_line))]
 fn put_too_long<S: Sink>(sink: &mut S, subject: &[u8], len: u64) -> Result<(), Failed>
-    ensures put { Appends (spec.too_long_line subject.now len) (S.told sink.old) (S.told sink.new) result }
-    ensures cause { HasCause (S.fault_count sink.old) (S.fault_count sink.new) result }
+    ensures put { Appends (spec.too_long_line subject.now len) (S.shown sink.old).held (S.shown sink.new).held result }
+    ensures cause { HasCause (S.shown sink.old).faults (S.shown sink.new).faults result }
 {
     let mut digits = Buffer::new();
     let len = digits.format(len).as_bytes();
@@ -74,8 +75,8 @@ fn put_too_long<S: Sink>(sink: &mut S, subject: &[u8], len: u64) -> Result<(), F
 
 #[tactic(auto, unfolding(crate::specs::Report::file_fault_line))]
 fn put_file_fault<S: Sink>(sink: &mut S, subject: &[u8]) -> Result<(), Failed>
-    ensures put { Appends (spec.file_fault_line subject.now) (S.told sink.old) (S.told sink.new) result }
-    ensures cause { HasCause (S.fault_count sink.old) (S.fault_count sink.new) result }
+    ensures put { Appends (spec.file_fault_line subject.now) (S.shown sink.old).held (S.shown sink.new).held result }
+    ensures cause { HasCause (S.shown sink.old).faults (S.shown sink.new).faults result }
 {
     put_pieces(
         sink,
@@ -85,17 +86,17 @@ fn put_file_fault<S: Sink>(sink: &mut S, subject: &[u8]) -> Result<(), Failed>
 
 #[tactic(auto, unfolding(crate::specs::Report::no_file_line))]
 fn put_no_file<S: Sink>(sink: &mut S, subject: &[u8]) -> Result<(), Failed>
-    ensures put { Appends (spec.no_file_line subject.now) (S.told sink.old) (S.told sink.new) result }
-    ensures cause { HasCause (S.fault_count sink.old) (S.fault_count sink.new) result }
+    ensures put { Appends (spec.no_file_line subject.now) (S.shown sink.old).held (S.shown sink.new).held result }
+    ensures cause { HasCause (S.shown sink.old).faults (S.shown sink.new).faults result }
 {
     put_pieces(sink, &[b"no file ".as_slice(), subject, b"\n".as_slice()])
 }
 
-// Writes the line that tells of an end, or a front of it where the sink fails. It takes no memory.
+// Writes the line of an end, or its first bytes where the sink fails. It takes no memory.
 #[tactic(auto, unfolding(crate::specs::Report::line_of))]
 pub(crate) fn report<S: Sink>(sink: &mut S, command: &Command<'_>, end: End) -> Result<(), Failed>
-    ensures put { Appends (spec.line_of (seen command.now) end) (S.told sink.old) (S.told sink.new) result }
-    ensures cause { HasCause (S.fault_count sink.old) (S.fault_count sink.new) result }
+    ensures put { Appends (spec.line_of (seen command.now) end) (S.shown sink.old).held (S.shown sink.new).held result }
+    ensures cause { HasCause (S.shown sink.old).faults (S.shown sink.new).faults result }
 {
     match end {
         End::Done | End::SinkFault => Ok(()),

@@ -84,15 +84,15 @@ fn decided(structure: Option<&[u8]>, values: Option<&[u8]>) -> Option<Asked>
 // Takes a request byte by byte, up to the end of its head or the first byte that differs from both heads, and no byte
 // after it.
 fn take_request<L: Link>(link: &mut L, structure: &[u8], values: &[u8]) -> Result<Asked, Failed>
-    ensures asked { IfSome (L.told link.old) (λ wire. IfOk result (λ asked.
+    ensures asked { IfSome (L.shown link.old).held (λ wire. IfOk result (λ asked.
         asked ≡ taking.met_by (Some structure.now) (Some values.now) wire.left)) }
-    ensures taken { IfSome (L.told link.old) (λ wire. OnOk result (L.told link.new
+    ensures taken { IfSome (L.shown link.old).held (λ wire. OnOk result ((L.shown link.new).held
         ≡ after_take (taking.met_len (Some structure.now) (Some values.now) wire.left)
-        (L.told link.old))) }
-    ensures err { IfSome (L.told link.old) (λ wire. OnErr result ((count : ℕ)
+        (L.shown link.old).held)) }
+    ensures err { IfSome (L.shown link.old).held (λ wire. OnErr result ((count : ℕ)
         × (count ≤ taking.met_len (Some structure.now) (Some values.now) wire.left)
-        × (L.told link.new ≡ after_take count (L.told link.old)))) }
-    ensures cause { HasCause (L.fault_count link.old) (L.fault_count link.new) result }
+        × ((L.shown link.new).held ≡ after_take count (L.shown link.old).held))) }
+    ensures cause { HasCause (L.shown link.old).faults (L.shown link.new).faults result }
 {
     let mut structure = Some(structure);
     let mut values = Some(values);
@@ -116,14 +116,14 @@ pub(crate) fn take_asked<L: Link>(
     name: &[u8],
     link: &mut L,
 ) -> Result<Asked, Fail<Failed>>
-    ensures asked { IfSome (L.told link.old) (λ wire. IfOk result (λ asked.
+    ensures asked { IfSome (L.shown link.old).held (λ wire. IfOk result (λ asked.
         asked ≡ spec.asked_by name.now wire.left)) }
-    ensures taken { IfSome (L.told link.old) (λ wire. OnOk result (L.told link.new
-        ≡ after_take (spec.taken_by name.now wire.left) (L.told link.old))) }
-    ensures err { IfSome (L.told link.old) (λ wire. OnErr result ((count : ℕ)
+    ensures taken { IfSome (L.shown link.old).held (λ wire. OnOk result ((L.shown link.new).held
+        ≡ after_take (spec.taken_by name.now wire.left) (L.shown link.old).held)) }
+    ensures err { IfSome (L.shown link.old).held (λ wire. OnErr result ((count : ℕ)
         × (count ≤ spec.taken_by name.now wire.left)
-        × (L.told link.new ≡ after_take count (L.told link.old)))) }
-    ensures cause { HasReadCause (L.fault_count link.old) (L.fault_count link.new) result }
+        × ((L.shown link.new).held ≡ after_take count (L.shown link.old).held))) }
+    ensures cause { HasReadCause (L.shown link.old).faults (L.shown link.new).faults result }
 {
     let structure = structure_head(alloc, name)?;
     let values = data_head(alloc, name)?;

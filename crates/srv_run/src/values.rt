@@ -54,7 +54,7 @@ fn field_at(bytes: &[u8], shape: ThinShape, place: u32) -> &[u8]
 fn put_fields(file: &ReadFile, rows: &[Row], out: &mut Bytes) -> Result<(), NoMemory>
     requires shape { IsTrue (is_thin_shape file.now.shape) }
     requires long { thin_len file.now.shape ≤ length file.now.bytes }
-    requires records { IsTrue (list_all (spec.has_record file.now) rows.now) }
+    requires records { IsTrue (list_all (spec.has_record_dim file.now) rows.now) }
     ensures { OnOk result (out.new
         ≡ out.old ++ xdr.elements_bytes DapKind.Float32 (spec.field_numbers file.now rows.now)) }
 {
@@ -78,7 +78,7 @@ fn put_field_array(file: &ReadFile, rows: &[Row], out: &mut Bytes) -> Result<(),
     requires shape { IsTrue (is_thin_shape file.now.shape) }
     requires long { thin_len file.now.shape ≤ length file.now.bytes }
     requires rows { length rows.now ≤ 4096 }
-    requires records { IsTrue (list_all (spec.has_record file.now) rows.now) }
+    requires records { IsTrue (list_all (spec.has_record_dim file.now) rows.now) }
     ensures { OnOk result (out.new
         ≡ out.old ++ xdr.array_bytes DapKind.Float32 (spec.field_numbers file.now rows.now)) }
 {
@@ -120,7 +120,7 @@ pub(crate) fn put_data(
     requires shape { IsTrue (is_thin_shape file.now.shape) }
     requires long { thin_len file.now.shape ≤ length file.now.bytes }
     requires rows { length rows.now ≤ 4096 }
-    requires records { IsTrue (list_all (spec.has_record file.now) rows.now) }
+    requires records { IsTrue (list_all (spec.has_record_dim file.now) rows.now) }
     requires range { IsTrue (list_all times.is_in_range rows.now) }
     ensures { OnOk result (out.new ≡ out.old ++ spec.data_over proto.now file.now rows.now) }
 {

@@ -6,7 +6,8 @@ ghost use Rattle.srv_run.specs.Words as spec;
 ghost use Rattle.srv_run.specs.Words.{naming};
 ghost use Rattle.srv_run.specs.Seen.{seen};
 
-use fm_base::Bytes;
+use fm_base::{Bytes, is_name_byte};
+use fm_model::MAX_NAME;
 
 /// What `once --name NAME --proto PROTO put:PATH ask:1` asks for.
 #[derive(Clone, Copy)]
@@ -16,25 +17,18 @@ pub(crate) struct Command<'a> {
     pub(crate) path: &'a [u8],
 }
 
-#[tactic(auto, unfolding(fm_base::specs::Name::is_name_byte))]
-fn is_name_byte(byte: u8) -> bool
-    ensures { result ≡ is_name_byte byte }
-{
-    byte.is_ascii_alphanumeric() || byte == b'_' || byte == b'-'
-}
-
 fn are_name_bytes(bytes: &[u8]) -> bool
     ensures { result ≡ list_all is_name_byte bytes.now }
 {
     bytes.iter().all(|byte| is_name_byte(*byte))
 }
 
-// Whether a collection may have this name: 1 to 64 letters, digits, `_` and `-`.
+// Whether a collection may have this name: from 1 to `MAX_NAME` letters, digits, `_` and `-`.
 #[tactic(auto, unfolding(crate::specs::Words::is_collection_name))]
 fn is_collection_name(name: &[u8]) -> bool
     ensures { result ≡ spec.is_collection_name name.now }
 {
-    1 <= name.len() && name.len() <= 64 && are_name_bytes(name)
+    1 <= name.len() && name.len() <= MAX_NAME as usize && are_name_bytes(name)
 }
 
 #[tactic(auto, unfolding(crate::specs::Words::is_put))]

@@ -73,7 +73,7 @@ pub(crate) fn put_offsets(rows: &[Row], out: &mut Bytes) -> Result<(), NoMemory>
     Ok(())
 }
 
-// So many numbers of four bytes from a place on, as they stand in a file.
+// The next n numbers of four bytes from a place on, as they stand in a file.
 #[tactic(auto, using(crate::proofs::WordLemmas::words_bytes))]
 fn words_at(bytes: &[u8], place: u32, count: u32) -> &[u8]
     requires count { count < 2 ^ 30 }

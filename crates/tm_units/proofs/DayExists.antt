@@ -6,7 +6,7 @@ use Rattle.jiff_core.proofs.CalendarLemmas.{days_in_month_bounds, day_count-day,
 use Rattle.jiff_core.proofs.SignedLemmas.{signed_arith}
 use Rattle.tm_units.proofs.DayLemmas.{first_count}
 
--- a date of the years 0 to 9999, so many days after the first of the year -10000
+-- a date of the years 0 to 9999, this number of days after the first of the year -10000
 pub record DateAt (count : ℕ) : Type 0 where
   pub year : ℕ
   pub month : ℕ
@@ -28,10 +28,13 @@ next_day count at later =
       day = at.day + 1;
       small = at.small;
       is_civil = (is_year at.year at.small, month_in, (omega arith, omega arith));
-      count_is = let low = day_in.0 in let one = day_count-day (pos at.year) at.month at.day (at.day + 1) low (omega arith) in omega (arith, at.count_is);
+      count_is = let low = day_in.0 in
+          let one = day_count-day (pos at.year) at.month at.day (at.day + 1) low (omega arith) in
+          omega (arith, at.count_is);
     }
 
-next_month : (count : ℕ) (at : DateAt count) → days_in_month (pos at.year) at.month ≤ at.day → at.month < 12 → DateAt (suc count)
+next_month : (count : ℕ) (at : DateAt count) → days_in_month (pos at.year) at.month ≤ at.day → at.month < 12
+    → DateAt (suc count)
 next_month count at last later =
     let month_in = at.is_civil.1 in
     let day_in = at.is_civil.2 in
@@ -42,10 +45,17 @@ next_month count at last later =
       day = 1;
       small = at.small;
       is_civil = (is_year at.year at.small, (omega arith, omega arith), (omega arith, omega arith));
-      count_is = omega (arith, at.count_is, day_count-next_month (pos at.year) at.month month_in.0, day_count-day (pos at.year) at.month at.day 1 day_in.0 (omega arith));
+      count_is =
+          omega (
+            arith,
+            at.count_is,
+            day_count-next_month (pos at.year) at.month month_in.0,
+            day_count-day (pos at.year) at.month at.day 1 day_in.0 (omega arith),
+          );
     }
 
-last_of_year : (count : ℕ) (at : DateAt count) → days_in_month (pos at.year) at.month ≤ at.day → 12 ≤ at.month → day_count (pos (at.year + 1)) 1 1 ≡ suc count
+last_of_year : (count : ℕ) (at : DateAt count) → days_in_month (pos at.year) at.month ≤ at.day → 12 ≤ at.month
+    → day_count (pos (at.year + 1)) 1 1 ≡ suc count
 last_of_year count at last past =
     let month_in = at.is_civil.1 in
     let day_in = at.is_civil.2 in
@@ -56,7 +66,8 @@ last_of_year count at last past =
     let next = day_count-next_year (pos at.year) (pos (at.year + 1)) (search rules) (omega (arith, signed_arith)) in
     omega (arith, next, day_count-last_of_year (pos at.year))
 
-next_year : (count : ℕ) (at : DateAt count) → suc count ≤ 7_304_849 → days_in_month (pos at.year) at.month ≤ at.day → 12 ≤ at.month → DateAt (suc count)
+next_year : (count : ℕ) (at : DateAt count) → suc count ≤ 7_304_849 → days_in_month (pos at.year) at.month ≤ at.day
+    → 12 ≤ at.month → DateAt (suc count)
 next_year count at room last past =
     let is = last_of_year count at last past in
     let small : at.year + 1 ≤ 9999 = elim (cases_lt at.year 9999) [
@@ -87,9 +98,17 @@ next_date count room at =
       ]
     ]
 
--- so many days after 0000-01-01 there is a date
+-- this number of days after 0000-01-01 there is a date
 pub date_exists : (days : ℕ) → days ≤ 3_652_424 → DateAt (days + 3_652_425)
-date_exists zero within = record { year = 0; month = 1; day = 1; small = omega arith; is_civil = (is_year 0 (omega arith), (omega arith, omega arith), (omega arith, search rules)); count_is = first_count }
+date_exists zero within = record {
+  year = 0;
+  month = 1;
+  day = 1;
+  small = omega arith;
+  is_civil =
+      (is_year 0 (omega arith), (omega arith, omega arith), (omega arith, search rules));
+  count_is = first_count;
+}
 date_exists (suc days) within =
     let e : suc (days + 3_652_425) ≡ suc days + 3_652_425 = omega arith in
     subst DateAt e (next_date (days + 3_652_425) (omega arith) (date_exists days (omega arith)))

@@ -14,12 +14,14 @@ use Rattle.tm_units.specs.Parts.{HasParts}
 use borrow.Author.Differences.{up, down}
 
 -- the greatest that passes is the one that passes while none after it does
-pub last_passing-is : (test : ℕ → Bool) (most k : ℕ) → k ≤ most → test k ≡ true → ((later : ℕ) → k < later → later ≤ most → test later ≡ false) → last_passing test most ≡ k
+pub last_passing-is : (test : ℕ → Bool) (most k : ℕ) → k ≤ most → test k ≡ true
+    → ((later : ℕ) → k < later → later ≤ most → test later ≡ false) → last_passing test most ≡ k
 last_passing-is test zero k within passes none = omega arith
 last_passing-is test (suc n) k within passes none =
     elim (cases_order k (suc n)) [
       | inl same ↦ let e : test (suc n) ≡ true = sym (ap test same) ∙ passes in rw e (sym same)
-      | inr (inl lt) ↦ let e : test (suc n) ≡ false = none (suc n) lt (omega arith) in rw e (last_passing-is test n k (omega arith) passes (λ later after inside. none later after (omega arith)))
+      | inr (inl lt) ↦ let e : test (suc n) ≡ false = none (suc n) lt (omega arith) in
+          rw e (last_passing-is test n k (omega arith) passes (λ later after inside. none later after (omega arith)))
       | inr (inr gt) ↦ absurd (omega arith)
     ]
 
@@ -32,34 +34,64 @@ not_le_test a b true e h = absurd (omega (arith, signed_arith))
 not_le_test a b false e h = sym e
 
 le-first_of_year : (y m d : ℕ) → 1 ≤ d → int_le (days_from_civil (pos y) 1 1) (days_from_civil (pos y) m d) ≡ true
-le-first_of_year y m d low = le_test (days_from_civil (pos y) 1 1) (days_from_civil (pos y) m d) _ refl (omega (arith, signed_arith, days_from_civil-day_count, day_count-day_of_year (pos y) m d low))
+le-first_of_year y m d low =
+    le_test (days_from_civil (pos y) 1 1) (days_from_civil (pos y) m d) _ refl
+    (omega (arith, signed_arith, days_from_civil-day_count, day_count-day_of_year (pos y) m d low))
 
-not_le-later_year : (y m d later : ℕ) → IsCivilDate (pos y) m d → y < later → int_le (days_from_civil (pos later) 1 1) (days_from_civil (pos y) m d) ≡ false
-not_le-later_year y m d later civil lt = not_le_test (days_from_civil (pos later) 1 1) (days_from_civil (pos y) m d) _ refl (omega (arith, signed_arith, days_from_civil-day_count, day_count-lt_year (pos y) m d (pos later) 1 1 civil (omega arith) (omega (arith, signed_arith))))
+not_le-later_year : (y m d later : ℕ) → IsCivilDate (pos y) m d → y < later
+    → int_le (days_from_civil (pos later) 1 1) (days_from_civil (pos y) m d) ≡ false
+not_le-later_year y m d later civil lt =
+    not_le_test (days_from_civil (pos later) 1 1) (days_from_civil (pos y) m d) _ refl
+    (omega (
+      arith,
+      signed_arith,
+      days_from_civil-day_count,
+      day_count-lt_year (pos y) m d (pos later) 1 1 civil (omega arith) (omega (arith, signed_arith)),
+    ))
 
 le-first_of_month : (y m d : ℕ) → 1 ≤ d → int_le (days_from_civil (pos y) m 1) (days_from_civil (pos y) m d) ≡ true
-le-first_of_month y m d low = le_test (days_from_civil (pos y) m 1) (days_from_civil (pos y) m d) _ refl (omega (arith, signed_arith, days_from_civil-day_count, day_count-day (pos y) m d 1 low (omega arith)))
+le-first_of_month y m d low =
+    le_test (days_from_civil (pos y) m 1) (days_from_civil (pos y) m d) _ refl
+    (omega (arith, signed_arith, days_from_civil-day_count, day_count-day (pos y) m d 1 low (omega arith)))
 
-not_le-later_month : (y m d later : ℕ) → IsCivilDate (pos y) m d → m < later → int_le (days_from_civil (pos y) later 1) (days_from_civil (pos y) m d) ≡ false
-not_le-later_month y m d later civil lt = not_le_test (days_from_civil (pos y) later 1) (days_from_civil (pos y) m d) _ refl (omega (arith, signed_arith, days_from_civil-day_count, day_count-lt_month (pos y) m d later 1 civil (omega arith) lt))
+not_le-later_month : (y m d later : ℕ) → IsCivilDate (pos y) m d → m < later
+    → int_le (days_from_civil (pos y) later 1) (days_from_civil (pos y) m d) ≡ false
+not_le-later_month y m d later civil lt =
+    not_le_test (days_from_civil (pos y) later 1) (days_from_civil (pos y) m d) _ refl
+    (omega (
+      arith,
+      signed_arith,
+      days_from_civil-day_count,
+      day_count-lt_month (pos y) m d later 1 civil (omega arith) lt,
+    ))
 
 abs-gap : (z : ℤ) (k : ℕ) → up z ≡ down z + k → unsigned_abs z ≡ k
 abs-gap (pos n) k e = omega arith
 abs-gap (negsuc n) k e = absurd (omega arith)
 
 -- the parts of the day number of a date are the date's
-pub year_of-days_from_civil : (y m d : ℕ) → y ≤ 9999 → IsCivilDate (pos y) m d → year_of (days_from_civil (pos y) m d) ≡ y
+pub year_of-days_from_civil : (y m d : ℕ) → y ≤ 9999 → IsCivilDate (pos y) m d → year_of (days_from_civil (pos y) m d)
+    ≡ y
 unfolding year_of
-year_of-days_from_civil y m d small civil = last_passing-is (λ year. int_le (days_from_civil (pos year) 1 1) (days_from_civil (pos y) m d)) 9999 y small (le-first_of_year y m d civil.2.0) (λ later lt inside. not_le-later_year y m d later civil lt)
+year_of-days_from_civil y m d small civil =
+    last_passing-is (λ year. int_le (days_from_civil (pos year) 1 1) (days_from_civil (pos y) m d)) 9999 y small
+    (le-first_of_year y m d civil.2.0) (λ later lt inside. not_le-later_year y m d later civil lt)
 
-pub month_of-days_from_civil : (y m d : ℕ) → y ≤ 9999 → IsCivilDate (pos y) m d → month_of (days_from_civil (pos y) m d) ≡ m
+pub month_of-days_from_civil : (y m d : ℕ) → y ≤ 9999 → IsCivilDate (pos y) m d
+    → month_of (days_from_civil (pos y) m d) ≡ m
 unfolding month_of
-month_of-days_from_civil y m d small civil = rw (year_of-days_from_civil y m d small civil) (last_passing-is (λ month. int_le (days_from_civil (pos y) month 1) (days_from_civil (pos y) m d)) 12 m civil.1.1 (le-first_of_month y m d civil.2.0) (λ later lt inside. not_le-later_month y m d later civil lt))
+month_of-days_from_civil y m d small civil =
+    rw (year_of-days_from_civil y m d small civil)
+    (last_passing-is (λ month. int_le (days_from_civil (pos y) month 1) (days_from_civil (pos y) m d)) 12 m civil.1.1
+    (le-first_of_month y m d civil.2.0) (λ later lt inside. not_le-later_month y m d later civil lt))
 
 pub day_of-days_from_civil : (y m d : ℕ) → y ≤ 9999 → IsCivilDate (pos y) m d → day_of (days_from_civil (pos y) m d) ≡ d
 unfolding day_of
-day_of-days_from_civil y m d small civil = rw (month_of-days_from_civil y m d small civil, year_of-days_from_civil y m d small civil) (let low = civil.2.0 in
-    let gap = abs-gap (days_from_civil (pos y) m d -ℤ days_from_civil (pos y) m 1) (d - 1) (omega (arith, signed_arith, days_from_civil-day_count, day_count-day (pos y) m d 1 low (omega arith))) in
+day_of-days_from_civil y m d small civil =
+    rw (month_of-days_from_civil y m d small civil, year_of-days_from_civil y m d small civil) (let low = civil.2.0 in
+    let gap =
+    abs-gap (days_from_civil (pos y) m d -ℤ days_from_civil (pos y) m 1) (d - 1)
+    (omega (arith, signed_arith, days_from_civil-day_count, day_count-day (pos y) m d 1 low (omega arith))) in
     omega (arith, gap))
 
 pub first_count : day_count (pos 0) 1 1 ≡ 3_652_425
@@ -69,7 +101,13 @@ first_count = day_count-early (pos 0) 9999 1 1 refl (omega arith) (omega arith) 
 pub year_from_zero : (date : Date) → neg_ℤ (pos 719_528) ≤ℤ epoch_day date → pos (unsigned_abs date.year) ≡ date.year
 year_from_zero date low =
     by_lt_z date.year (pos 0)
-    (λ before. absurd (omega (arith, signed_arith, days_from_civil-day_count date.year date.month date.day, first_count, day_count-lt_year date.year date.month date.day (pos 0) 1 1 (civil date) (omega arith) before)))
+    (λ before. absurd (omega (
+      arith,
+      signed_arith,
+      days_from_civil-day_count date.year date.month date.day,
+      first_count,
+      day_count-lt_year date.year date.month date.day (pos 0) 1 1 (civil date) (omega arith) before,
+    )))
     (λ from. pos-abs date.year from)
   where
     pos-abs : (z : ℤ) → pos 0 ≤ℤ z → pos (unsigned_abs z) ≡ z
@@ -77,13 +115,16 @@ year_from_zero date low =
     pos-abs (negsuc n) h = absurd (omega (arith, signed_arith))
 
 -- the parts of a date's day number are the date's
-pub HasParts-date : (date : Date) → neg_ℤ (pos 719_528) ≤ℤ epoch_day date → HasParts (epoch_day date) (unsigned_abs date.year) date.month date.day
+pub HasParts-date : (date : Date) → neg_ℤ (pos 719_528) ≤ℤ epoch_day date
+    → HasParts (epoch_day date) (unsigned_abs date.year) date.month date.day
 HasParts-date date low =
     let year = year_from_zero date low in
     let is = civil date in
     let small : unsigned_abs date.year ≤ 9999 = omega (arith, signed_arith, is.0) in
-    let there : IsCivilDate (pos (unsigned_abs date.year)) date.month date.day = subst (λ (y : ℤ). IsCivilDate y date.month date.day) (sym year) is in
-    let e : days_from_civil (pos (unsigned_abs date.year)) date.month date.day ≡ epoch_day date = ap (λ (y : ℤ). days_from_civil y date.month date.day) year in
+    let there : IsCivilDate (pos (unsigned_abs date.year)) date.month date.day =
+    subst (λ (y : ℤ). IsCivilDate y date.month date.day) (sym year) is in
+    let e : days_from_civil (pos (unsigned_abs date.year)) date.month date.day ≡ epoch_day date =
+    ap (λ (y : ℤ). days_from_civil y date.month date.day) year in
     record {
       year_is = ap year_of (sym e) ∙ year_of-days_from_civil _ _ _ small there;
       month_is = ap month_of (sym e) ∙ month_of-days_from_civil _ _ _ small there;

@@ -3,12 +3,12 @@ pub mod FormLemmas
 pub mod InstantLemmas
 pub mod DayExists
 pub mod InstantLaws
-pub mod UnitsExact
 pub mod UnitsChoices
 pub mod UnitsRuns
 pub mod UnitsNumbers
 pub mod UnitsDates
 pub mod UnitsTimes
+pub mod UnitsDistances
 pub mod UnitsZones
 pub mod UnitsZoneTexts
 pub mod UnitsEnds
@@ -17,10 +17,12 @@ pub mod UnitsLaws
 pub mod UnitsReadings
 pub mod UnitsSpelled
 pub mod UnitsLocal
+pub mod UnitsLocalChoices
 pub mod UnitsLocalRuns
 pub mod UnitsLocalNumbers
 pub mod UnitsLocalFound
 pub mod UnitsPlaces
+pub mod UnitsWrong
 pub mod UnitsBegun
 pub mod UnitsBegunParts
 pub mod UnitsBegunTimes

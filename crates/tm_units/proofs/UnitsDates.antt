@@ -3,28 +3,33 @@ use Rattle.std.proofs.Common.{◌≡◌, ℕ, Bool, false, List, [], ◌∷◌, 
 use Rattle.std.proofs.lemmas.List.{append-nil}
 use Rattle.std.specs.Char.{is_ascii_digit}
 use Rattle.fm_base.specs.Calendar.{day_number}
-use Rattle.fm_base.specs.UnitsReading.{Parser, ◌>>=◌, located, known, byte_at, number_at, date_at}
-use Rattle.fm_base.specs.UnitsSpelling.{SpellsNumber, SpellsDate}
-use Rattle.tm_units.proofs.UnitsExact.{Exact, Stops, Then, Finds, Exact-then, Exact-as, Exact-before, Exact-known, Exact-located}
+use Rattle.fm_base.specs.UnitsReading.{UnitsParser as Parser, byte_at, number_at, date_at}
+use Rattle.fm_base.specs.UnitsSpelling.{SpellsNumberWithin, SpellsDate}
+use Rattle.fm_base.proofs.Exact.{Exact, Stops, Then, Finds, Exact-then, Exact-as, Exact-before, Exact-known, Exact-located}
 use Rattle.tm_units.proofs.UnitsRuns.{IsByte, Exact-byte, after_nothing}
 use Rattle.tm_units.proofs.UnitsNumbers.{Exact-number}
+use Rattle.fm_base.specs.Parser.{◌>>=◌, located, known}
 
 -- what begins with a byte that doesn't pass stops a run
-pub stops_at : (test : ℕ → Bool) (byte : ℕ) (back more rest : List ℕ) → back ≡ byte ∷ more → test byte ≡ false → Stops test (back ++ rest)
+pub stops_at : (test : ℕ → Bool) (byte : ℕ) (back more rest : List ℕ) → back ≡ byte ∷ more → test byte ≡ false
+    → Stops test (back ++ rest)
 stops_at test byte back more rest begins fails = subst (λ (l : List ℕ). Stops test (l ++ rest)) (sym begins) fails
 
 -- a part after its first byte
 abbrev pub After : {A : Type 0} → ℕ → (List ℕ → A → Type 0) → List ℕ → A → Type 0
 After byte S = Then (IsByte byte) (λ u. S)
 
-pub Exact-after : {A : Type 0} {S : List ℕ → A → Type 0} {P : List ℕ → Type 0} {p : Parser A} (byte : ℕ) → Exact S P p → Exact (After byte S) P (byte_at byte >>= λ u. p)
+pub Exact-after : {A : Type 0} {S : List ℕ → A → Type 0} {P : List ℕ → Type 0} {p : Parser A} (byte : ℕ) → Exact S P p
+    → Exact (After byte S) P (byte_at byte >>= λ u. p)
 Exact-after byte ep = Exact-then (Exact-byte byte) (λ u. ep) (λ a b back rest s may. tt)
 
 -- the day of a date, after its year and month
 abbrev pub TheDay : ℕ → ℕ → List ℕ → ℤ → Type 0
-TheDay year month = Then (SpellsNumber 1 2 0 99) (λ day. Finds (day_number year month day))
+TheDay year month = Then (SpellsNumberWithin 1 2 0 99) (λ day. Finds (day_number year month day))
 
-pub Exact-the_day : (year month : ℕ) → Exact (TheDay year month) (Stops is_ascii_digit) (located (λ at. number_at 1 2 0 99 >>= λ day. known at (day_number year month day)))
+pub Exact-the_day : (year month : ℕ)
+    → Exact (TheDay year month) (Stops is_ascii_digit)
+    (located (λ at. number_at 1 2 0 99 >>= λ day. known at (day_number year month day)))
 Exact-the_day year month =
     Exact-located (λ at.
     Exact-then {T = λ day. Finds (day_number year month day)} {Q = Stops is_ascii_digit} (Exact-number 1 2 0 99)
@@ -33,16 +38,17 @@ Exact-the_day year month =
 
 -- the month of a date, after its year
 abbrev pub TheMonth : ℕ → List ℕ → ℤ → Type 0
-TheMonth year = Then (SpellsNumber 1 2 1 12) (λ month. After 45 (TheDay year month))
+TheMonth year = Then (SpellsNumberWithin 1 2 1 12) (λ month. After 45 (TheDay year month))
 
 abbrev pub TheDate : List ℕ → ℤ → Type 0
-TheDate = Then (SpellsNumber 1 4 0 9999) (λ year. After 45 (TheMonth year))
+TheDate = Then (SpellsNumberWithin 1 4 0 9999) (λ year. After 45 (TheMonth year))
 
 pub to_date : (text : List ℕ) (day : ℤ) → TheDate text day → SpellsDate text day
 to_date text day s =
     let month = s.second.second in
     let the_day = month.second.second in
-    let day_text : the_day.front ++ the_day.back ≡ the_day.front = ap (λ (l : List ℕ). the_day.front ++ l) the_day.second.text_is ∙ append-nil the_day.front in
+    let day_text : the_day.front ++ the_day.back ≡ the_day.front =
+    ap (λ (l : List ℕ). the_day.front ++ l) the_day.second.text_is ∙ append-nil the_day.front in
     record {
       year_text = s.front;
       month_text = month.front;
@@ -54,7 +60,12 @@ to_date text day s =
       month_is = month.first;
       day_is = the_day.first;
       number = the_day.second.found_is;
-      text_is = s.text_is ∙ ap (λ (l : List ℕ). s.front ++ l) (s.second.text_is ∙ ap (λ (l : List ℕ). l ++ s.second.back) s.second.first ∙ ap (λ (l : List ℕ). 45 ∷ l) (month.text_is ∙ ap (λ (l : List ℕ). month.front ++ l) (month.second.text_is ∙ ap (λ (l : List ℕ). l ++ month.second.back) month.second.first ∙ ap (λ (l : List ℕ). 45 ∷ l) (the_day.text_is ∙ day_text))));
+      text_is = s.text_is
+          ∙ ap (λ (l : List ℕ). s.front ++ l) (s.second.text_is
+          ∙ ap (λ (l : List ℕ). l ++ s.second.back) s.second.first
+          ∙ ap (λ (l : List ℕ). 45 ∷ l) (month.text_is ∙ ap (λ (l : List ℕ). month.front ++ l) (month.second.text_is
+          ∙ ap (λ (l : List ℕ). l ++ month.second.back) month.second.first
+          ∙ ap (λ (l : List ℕ). 45 ∷ l) (the_day.text_is ∙ day_text))));
     }
 
 pub from_date : (text : List ℕ) (day : ℤ) → SpellsDate text day → TheDate text day
@@ -103,5 +114,7 @@ Exact-date =
     (λ year. Exact-after {S = TheMonth year} 45
     (Exact-then {T = λ month. After 45 (TheDay year month)} {Q = Stops is_ascii_digit} (Exact-number 1 2 1 12)
     (λ month. Exact-after {S = TheDay year month} 45 (Exact-the_day year month))
-    (λ a b back rest s may. stops_at is_ascii_digit 45 back s.back rest (s.text_is ∙ ap (λ (l : List ℕ). l ++ s.back) s.first) refl)))
-    (λ a b back rest s may. stops_at is_ascii_digit 45 back s.back rest (s.text_is ∙ ap (λ (l : List ℕ). l ++ s.back) s.first) refl))
+    (λ a b back rest s may. stops_at is_ascii_digit 45 back s.back rest (s.text_is
+    ∙ ap (λ (l : List ℕ). l ++ s.back) s.first) refl)))
+    (λ a b back rest s may. stops_at is_ascii_digit 45 back s.back rest (s.text_is
+    ∙ ap (λ (l : List ℕ). l ++ s.back) s.first) refl))

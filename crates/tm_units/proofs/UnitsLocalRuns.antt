@@ -6,29 +6,39 @@ use Rattle.std.proofs.lemmas.List.Sums.{prefix_len-le-length}
 use Rattle.std.specs.Char.{eq_ignore_ascii_case}
 use Rattle.std.specs.List.{prefix_len}
 use Rattle.fm_base.specs.Input.{Input}
-use Rattle.fm_base.specs.UnitsReading.{located, unless, past, next_passes, has_ended, end_at, byte_at, letter_at, letters_at, run_at, many_at, some_at}
-use Rattle.tm_units.proofs.UnitsExact.{input, done, ok_pair}
+use Rattle.fm_base.specs.UnitsReading.{past, next_passes, has_ended, end_at, byte_at, letter_at, letters_at, run_at, many_at, some_at}
+use Rattle.fm_base.proofs.Exact.{input, done, ok_pair}
 use Rattle.tm_units.proofs.UnitsRuns.{one_at}
-use Rattle.tm_units.proofs.UnitsLocal.{Agree, agree_less, agree_first, agree_ended, Taken, Failed, Local, Local-then, Local-pure, Local-here, Local-cond}
+use Rattle.tm_units.proofs.UnitsLocal.{Agree, agree_less, agree_first, agree_ended, Taken, Failed, Local, Local-then, Local-pure, Local-here}
+use Rattle.tm_units.proofs.UnitsLocalChoices.{Local-cond}
+use Rattle.fm_base.specs.Parser.{located, unless}
 
 -- a run is as long in each text that begins with it and the same next byte
-pub prefix_agree : (test : ℕ → Bool) (xs ys : List ℕ) → Agree (suc (prefix_len test xs)) xs ys → prefix_len test ys ≡ prefix_len test xs
+pub prefix_agree : (test : ℕ → Bool) (xs ys : List ℕ) → Agree (suc (prefix_len test xs)) xs ys
+    → prefix_len test ys ≡ prefix_len test xs
 prefix_agree test [] [] e = refl
 prefix_agree test [] (y ∷ ys) e = absurd cc
 prefix_agree test (x ∷ xs) [] e = absurd cc
 prefix_agree test (x ∷ xs) (y ∷ ys) e = by_first test x y xs ys (test x) refl e (λ same. prefix_agree test xs ys same)
   where
-    by_first : (test : ℕ → Bool) (x y : ℕ) (xs ys : List ℕ) (b : Bool) → test x ≡ b → Agree (suc (cond b (1 + prefix_len test xs) 0)) (x ∷ xs) (y ∷ ys) → (Agree (suc (prefix_len test xs)) xs ys → prefix_len test ys ≡ prefix_len test xs) → prefix_len test (y ∷ ys) ≡ cond b (1 + prefix_len test xs) 0
+    by_first : (test : ℕ → Bool) (x y : ℕ) (xs ys : List ℕ) (b : Bool) → test x ≡ b
+        → Agree (suc (cond b (1 + prefix_len test xs) 0)) (x ∷ xs) (y ∷ ys)
+        → (Agree (suc (prefix_len test xs)) xs ys → prefix_len test ys ≡ prefix_len test xs)
+        → prefix_len test (y ∷ ys) ≡ cond b (1 + prefix_len test xs) 0
     by_first test x y xs ys true is e more =
         let longer : 1 + prefix_len test xs ≡ suc (prefix_len test xs) = omega arith in
-        let same : Agree (suc (suc (prefix_len test xs))) (x ∷ xs) (y ∷ ys) = subst (λ (n : ℕ). Agree (suc n) (x ∷ xs) (y ∷ ys)) longer e in
+        let same : Agree (suc (suc (prefix_len test xs))) (x ∷ xs) (y ∷ ys) =
+        subst (λ (n : ℕ). Agree (suc n) (x ∷ xs) (y ∷ ys)) longer e in
         let byte : x ≡ y = cc in
         let rest : Agree (suc (prefix_len test xs)) xs ys = cc in
         rw (← byte, is, more rest) refl
     by_first test x y xs ys false is e more = let byte : x ≡ y = cc in rw (← byte, is) refl
 
-pub prefix_agree_within : (test : ℕ → Bool) (most : ℕ) (xs ys : List ℕ) → Agree (suc (prefix_len test (take most xs))) xs ys → prefix_len test (take most ys) ≡ prefix_len test (take most xs)
-prefix_agree_within test most xs ys e = prefix_agree test (take most xs) (take most ys) (both most (suc (prefix_len test (take most xs))) xs ys e)
+pub prefix_agree_within : (test : ℕ → Bool) (most : ℕ) (xs ys : List ℕ)
+    → Agree (suc (prefix_len test (take most xs))) xs ys → prefix_len test (take most ys)
+    ≡ prefix_len test (take most xs)
+prefix_agree_within test most xs ys e =
+    prefix_agree test (take most xs) (take most ys) (both most (suc (prefix_len test (take most xs))) xs ys e)
   where
     both : (m n : ℕ) (xs ys : List ℕ) → Agree n xs ys → Agree n (take m xs) (take m ys)
     both m n xs ys e = elim (cases_lt m n) [
@@ -52,8 +62,10 @@ Local-run test most = record {
         within = short test most rest;
         again = λ other same.
             let size = prefix_agree_within test most rest other same in
-            let front : take count other ≡ run = sym (agree_less count (suc count) rest other (omega arith) same) ∙ k.0 in
-            ap (λ (n : ℕ). done {A = List ℕ × Input} (take n other, past n (input at other))) size ∙ ap (λ (l : List ℕ). done {A = List ℕ × Input} (l, past count (input at other))) front;
+            let front : take count other ≡ run = sym (agree_less count (suc count) rest other (omega arith) same)
+            ∙ k.0 in
+            ap (λ (n : ℕ). done {A = List ℕ × Input} (take n other, past n (input at other))) size
+            ∙ ap (λ (l : List ℕ). done {A = List ℕ × Input} (l, past count (input at other))) front;
       };
   fails = λ at rest bad e. absurd cc;
 }
@@ -70,28 +82,36 @@ Local-many byte = record {
         within = prefix_len-le-length (λ other. other == byte) rest;
         again = λ other same.
             let size = prefix_agree (λ other. other == byte) rest other same in
-            ap (λ (m : ℕ). done {A = ℕ × Input} (m, past m (input at other))) size ∙ ap (λ (m : ℕ). done {A = ℕ × Input} (m, past count (input at other))) k.0;
+            ap (λ (m : ℕ). done {A = ℕ × Input} (m, past m (input at other))) size
+            ∙ ap (λ (m : ℕ). done {A = ℕ × Input} (m, past count (input at other))) k.0;
       };
   fails = λ at rest bad e. absurd cc;
 }
 
 -- one byte that passes
-one_taken : (test : ℕ → Bool) (at : ℕ) (rest : List ℕ) (unit : Unit {0}) (j : Input) → one_at test (input at rest) ≡ Ok (unit, j) → Taken (one_at test) at rest unit j
+one_taken : (test : ℕ → Bool) (at : ℕ) (rest : List ℕ) (unit : Unit {0}) (j : Input)
+    → one_at test (input at rest) ≡ Ok (unit, j) → Taken (one_at test) at rest unit j
 one_taken test at [] unit j e = absurd cc
 one_taken test at (x ∷ rest) unit j e = by_test test at x rest unit j (test x) refl e
   where
-    by_test : (test : ℕ → Bool) (at x : ℕ) (rest : List ℕ) (unit : Unit {0}) (j : Input) (b : Bool) → test x ≡ b → cond b (done {A = Unit {0} × Input} (tt, past 1 (input at (x ∷ rest)))) (Err at) ≡ Ok (unit, j) → Taken (one_at test) at (x ∷ rest) unit j
+    by_test : (test : ℕ → Bool) (at x : ℕ) (rest : List ℕ) (unit : Unit {0}) (j : Input) (b : Bool) → test x ≡ b
+        → cond b (done {A = Unit {0} × Input} (tt, past 1 (input at (x ∷ rest)))) (Err at) ≡ Ok (unit, j)
+        → Taken (one_at test) at (x ∷ rest) unit j
     by_test test at x rest unit j true is e =
         let k = ok_pair tt unit (past 1 (input at (x ∷ rest))) j e in
         record {
           count = 1;
           input_is = sym k.1;
           within = omega arith;
-          again = λ other same. ap (λ (b : Bool). cond b (done {A = Unit {0} × Input} (tt, past 1 (input at other))) (Err at)) (sym (agree_first 1 test at (x ∷ rest) other same) ∙ is);
+          again = λ other same.
+              ap (λ (b : Bool). cond b (done {A = Unit {0} × Input} (tt, past 1 (input at other))) (Err at))
+              (sym (agree_first 1 test at (x ∷ rest) other same) ∙ is);
         }
     by_test test at x rest unit j false is e = absurd cc
 
-one_failed : (test : ℕ → Bool) (at : ℕ) (rest : List ℕ) (bad : ℕ) (b : Bool) → next_passes test (input at rest) ≡ b → cond b (done {A = Unit {0} × Input} (tt, past 1 (input at rest))) (Err at) ≡ Err bad → Failed (one_at test) at rest bad
+one_failed : (test : ℕ → Bool) (at : ℕ) (rest : List ℕ) (bad : ℕ) (b : Bool) → next_passes test (input at rest) ≡ b
+    → cond b (done {A = Unit {0} × Input} (tt, past 1 (input at rest))) (Err at) ≡ Err bad
+    → Failed (one_at test) at rest bad
 one_failed test at rest bad true is e = absurd cc
 one_failed test at rest bad false is e =
     let place : at ≡ at + 0 = omega arith in
@@ -99,7 +119,9 @@ one_failed test at rest bad false is e =
       count = 0;
       place_is = let same : at ≡ bad = cc in sym same ∙ place;
       within = omega arith;
-      why = inl (λ other same. ap (λ (b : Bool). cond b (done {A = Unit {0} × Input} (tt, past 1 (input at other))) (Err at)) (sym (agree_first 0 test at rest other same) ∙ is) ∙ ap (λ (n : ℕ). Err n) place);
+      why = inl
+          (λ other same. ap (λ (b : Bool). cond b (done {A = Unit {0} × Input} (tt, past 1 (input at other)))
+          (Err at)) (sym (agree_first 0 test at rest other same) ∙ is) ∙ ap (λ (n : ℕ). Err n) place);
     }
 
 pub Local-one : (test : ℕ → Bool) → Local (one_at test)
@@ -126,11 +148,21 @@ Local-end = Local-cond has_ended (λ n at xs ys same. agree_ended n at xs ys sam
 
 -- the value, unless the test passes, and then the text goes wrong here
 unless_here : {A : Type 0} (bad : Bool) (x : A) → Local (located (λ at. unless bad at x))
-unless_here true x = let here = Local-here in record { takes = λ at rest a j e. absurd cc; fails = λ at rest bad e. let f = here.fails at rest bad e in record { count = f.count; place_is = f.place_is; within = f.within; why = refit_here f.why } }
+unless_here true x = let here = Local-here in
+    record {
+      takes = λ at rest a j e. absurd cc;
+      fails = λ at rest bad e. let f = here.fails at rest bad e in
+          record { count = f.count; place_is = f.place_is; within = f.within; why = refit_here f.why };
+    }
   where
     refit_here : {P Q : Type 0} → P ⊎ Q → P ⊎ Q
     refit_here w = w
-unless_here false x = let p = Local-pure x in record { takes = λ at rest a j e. let t = p.takes at rest a j e in record { count = t.count; input_is = t.input_is; within = t.within; again = t.again }; fails = λ at rest bad e. absurd cc }
+unless_here false x = let p = Local-pure x in record {
+  takes = λ at rest a j e. let t = p.takes at rest a j e in
+      record { count = t.count; input_is = t.input_is; within = t.within; again = t.again };
+  fails =
+      λ at rest bad e. absurd cc;
+}
 
 pub Local-some : (byte : ℕ) → Local (some_at byte)
 unfolding some_at

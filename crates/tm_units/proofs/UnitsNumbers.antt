@@ -9,17 +9,18 @@ use Rattle.std.specs.List.{prefix_len, list_all}
 use Rattle.fm_base.specs.Input.{Input}
 use Rattle.fm_base.specs.Stamp.{number_of}
 use Rattle.fm_base.specs.UnitsReading.{past, run_at, number_at, unit_at, seconds_per}
-use Rattle.fm_base.specs.UnitsSpelling.{SpellsNumber, SpellsUnit}
-use Rattle.tm_units.proofs.UnitsExact.{input, Took, Exact, Stops, Then, Passes, Finds, done, ok_pair, Exact-then, Exact-as, Exact-before, Exact-unless, Exact-known, Exact-located}
+use Rattle.fm_base.specs.UnitsSpelling.{SpellsNumberWithin, SpellsUnit}
+use Rattle.fm_base.proofs.Exact.{input, Took, Exact, Stops, Then, Passes, Finds, done, ok_pair, Exact-then, Exact-as, Exact-before, Exact-unless, Exact-known, Exact-located}
 use Rattle.tm_units.proofs.UnitsRuns.{run_within, run_passes, after_nothing}
 
--- a run of bytes that pass, of at most so many
+-- a run of at most `most` bytes that pass
 pub record Run (test : ℕ → Bool) (most : ℕ) (text run : List ℕ) : Type 0 where
   pub text_is : text ≡ run
   pub all : list_all test run ≡ true
   pub few : length run ≤ most
 
-run_takes : (test : ℕ → Bool) (most at : ℕ) (rest run : List ℕ) (j : Input) → run_at test most (input at rest) ≡ Ok (run, j) → Took (Run test most) (input at rest) run j
+run_takes : (test : ℕ → Bool) (most at : ℕ) (rest run : List ℕ) (j : Input) → run_at test most (input at rest)
+    ≡ Ok (run, j) → Took (Run test most) (input at rest) run j
 run_takes test most at rest run j e =
     let count = prefix_len test (take most rest) in
     let k = ok_pair (take count rest) run (past count (input at rest)) j e in
@@ -37,7 +38,8 @@ run_takes test most at rest run j e =
       place = let here = ap (λ (h : Input). h.at) k.1 in omega (arith, here, size);
     }
 
-run_again : (test : ℕ → Bool) (most at : ℕ) (text rest run : List ℕ) → Run test most text run → Stops test rest → run_at test most (input at (text ++ rest)) ≡ Ok (run, input (at + length text) rest)
+run_again : (test : ℕ → Bool) (most at : ℕ) (text rest run : List ℕ) → Run test most text run → Stops test rest
+    → run_at test most (input at (text ++ rest)) ≡ Ok (run, input (at + length text) rest)
 run_again test most at text rest run s may =
     let few : length text ≤ most = subst (λ (l : List ℕ). length l ≤ most) (sym s.text_is) s.few in
     let all : list_all test text ≡ true = subst (λ (l : List ℕ). list_all test l ≡ true) (sym s.text_is) s.all in
@@ -49,7 +51,7 @@ run_again test most at text rest run s may =
 
 pub Exact-run : (test : ℕ → Bool) (most : ℕ) → Exact (Run test most) (Stops test) (run_at test most)
 Exact-run test most = record {
-  takes = λ i run j e. run_takes test most i.at i.rest run j e;
+  takes = λ i run j any e. run_takes test most i.at i.rest run j e;
   again = λ at text rest run s may. run_again test most at text rest run s may;
 }
 
@@ -59,19 +61,25 @@ is_out low high digits = ltb (number_of digits) low || ltb high (number_of digit
 
 -- what a number's digits are tested for
 abbrev Tested : ℕ → ℕ → ℕ → List ℕ → List ℕ → ℕ → Type 0
-Tested fewest low high digits = Then (Passes (is_out low high digits) digits) (λ (digits : List ℕ). Passes (ltb (length digits) fewest) (number_of digits))
+Tested fewest low high digits =
+    Then (Passes (is_out low high digits) digits)
+    (λ (digits : List ℕ). Passes (ltb (length digits) fewest) (number_of digits))
 
-to_number : (fewest most low high : ℕ) (text : List ℕ) (n : ℕ) → Then (Run is_ascii_digit most) (Tested fewest low high) text n → SpellsNumber fewest most low high text n
+to_number : (fewest most low high : ℕ) (text : List ℕ) (n : ℕ)
+    → Then (Run is_ascii_digit most) (Tested fewest low high) text n → SpellsNumberWithin fewest most low high text n
 to_number fewest most low high text n s =
     let run = s.first in
     let tests = s.second in
     let digits = s.a in
-    let whole : text ≡ digits = s.text_is ∙ ap (λ (l : List ℕ). s.front ++ l) (tests.text_is ∙ ap (λ (l : List ℕ). l ++ tests.back) tests.first.text_is ∙ tests.second.text_is) ∙ append-nil s.front ∙ run.text_is in
+    let whole : text ≡ digits = s.text_is
+    ∙ ap (λ (l : List ℕ). s.front ++ l) (tests.text_is ∙ ap (λ (l : List ℕ). l ++ tests.back) tests.first.text_is
+    ∙ tests.second.text_is) ∙ append-nil s.front ∙ run.text_is in
     let range = or_parts (ltb (number_of digits) low) (ltb high (number_of digits)) tests.first.good in
     let same : tests.a ≡ text = sym tests.first.value ∙ sym whole in
     let value : number_of text ≡ n = subst (λ (l : List ℕ). number_of l ≡ n) same tests.second.value in
     let above : low ≤ number_of text = subst (λ (l : List ℕ). low ≤ number_of l) (sym whole) (ltb-false _ _ range.0) in
-    let below : number_of text ≤ high = subst (λ (l : List ℕ). number_of l ≤ high) (sym whole) (ltb-false _ _ range.1) in
+    let below : number_of text ≤ high =
+    subst (λ (l : List ℕ). number_of l ≤ high) (sym whole) (ltb-false _ _ range.1) in
     record {
       digits = subst (λ (l : List ℕ). list_all is_ascii_digit l ≡ true) (sym whole) run.all;
       enough = subst (λ (l : List ℕ). fewest ≤ length l) same (ltb-false _ _ tests.second.good);
@@ -81,7 +89,8 @@ to_number fewest most low high text n s =
       high_is = subst (λ (m : ℕ). m ≤ high) value below;
     }
 
-from_number : (fewest most low high : ℕ) (text : List ℕ) (n : ℕ) → SpellsNumber fewest most low high text n → Then (Run is_ascii_digit most) (Tested fewest low high) text n
+from_number : (fewest most low high : ℕ) (text : List ℕ) (n : ℕ) → SpellsNumberWithin fewest most low high text n
+    → Then (Run is_ascii_digit most) (Tested fewest low high) text n
 from_number fewest most low high text n s =
     let above : ltb (number_of text) low ≡ false = rw s.value (le-ltb _ _ s.low_is) in
     let below : ltb high (number_of text) ≡ false = rw s.value (le-ltb _ _ s.high_is) in
@@ -101,19 +110,23 @@ from_number fewest most low high text n s =
       text_is = sym (append-nil text);
     }
 
-pub Exact-number : (fewest most low high : ℕ) → Exact (SpellsNumber fewest most low high) (Stops is_ascii_digit) (number_at fewest most low high)
+pub Exact-number : (fewest most low high : ℕ)
+    → Exact (SpellsNumberWithin fewest most low high) (Stops is_ascii_digit) (number_at fewest most low high)
 unfolding number_at
 Exact-number fewest most low high =
     Exact-as (to_number fewest most low high) (from_number fewest most low high)
     (Exact-located (λ at.
     Exact-then {T = Tested fewest low high} {Q = Stops is_ascii_digit} (Exact-run is_ascii_digit most)
     (λ digits.
-    Exact-then {T = λ (digits : List ℕ). Passes (ltb (length digits) fewest) (number_of digits)} {Q = Stops is_ascii_digit}
+    Exact-then {T = λ (digits : List ℕ). Passes (ltb (length digits) fewest) (number_of digits)} {Q =
+    Stops is_ascii_digit}
     (Exact-unless (is_out low high digits) at digits)
-    (λ digits. Exact-located (λ end. Exact-before (λ rest may. tt) (Exact-unless (ltb (length digits) fewest) end (number_of digits))))
+    (λ digits. Exact-located
+    (λ end. Exact-before (λ rest may. tt) (Exact-unless (ltb (length digits) fewest) end (number_of digits))))
     (λ a b back rest s may. tt))
     (λ a b back rest s may.
-    after_nothing (Stops is_ascii_digit) back rest (s.text_is ∙ ap (λ (l : List ℕ). l ++ s.back) s.first.text_is ∙ s.second.text_is) may)))
+    after_nothing (Stops is_ascii_digit) back rest (s.text_is ∙ ap (λ (l : List ℕ). l ++ s.back) s.first.text_is
+    ∙ s.second.text_is) may)))
 
 -- a run of bytes that pass
 pub record Whole (test : ℕ → Bool) (text run : List ℕ) : Type 0 where
@@ -122,12 +135,23 @@ pub record Whole (test : ℕ → Bool) (text run : List ℕ) : Type 0 where
 
 pub Exact-whole : (test : ℕ → Bool) → Exact (Whole test) (Stops test) (λ i. run_at test (length i.rest) i)
 Exact-whole test = record {
-  takes = λ i run j e.
+  takes = λ i run j any e.
       let t = run_takes test (length i.rest) i.at i.rest run j e in
-      record { text = t.text; spelled = record { text_is = t.spelled.text_is; all = t.spelled.all }; split = t.split; place = t.place };
+      record {
+        text = t.text;
+        spelled = record { text_is = t.spelled.text_is; all = t.spelled.all };
+        split =
+            t.split;
+        place = t.place;
+      };
   again = λ at text rest run s may.
       let few : length run ≤ length (text ++ rest) = omega (arith, length-append text rest, ap length s.text_is) in
-      run_again test (length (text ++ rest)) at text rest run (record { text_is = s.text_is; all = s.all; few = few }) may;
+      run_again test (length (text ++ rest)) at text rest run (record {
+        text_is = s.text_is;
+        all = s.all;
+        few =
+            few;
+      }) may;
 }
 
 pub Exact-unit : Exact SpellsUnit (Stops is_ascii_alphabetic) unit_at
@@ -135,7 +159,8 @@ unfolding unit_at
 Exact-unit =
     Exact-as
     (λ text seconds s.
-    let whole : text ≡ s.a = s.text_is ∙ ap (λ (l : List ℕ). s.front ++ l) s.second.text_is ∙ append-nil s.front ∙ s.first.text_is in
+    let whole : text ≡ s.a = s.text_is ∙ ap (λ (l : List ℕ). s.front ++ l) s.second.text_is ∙ append-nil s.front
+    ∙ s.first.text_is in
     record {
       letters = subst (λ (l : List ℕ). list_all is_ascii_alphabetic l ≡ true) (sym whole) s.first.all;
       unit = ap seconds_per whole ∙ s.second.found_is;

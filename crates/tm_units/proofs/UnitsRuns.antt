@@ -8,12 +8,13 @@ use Rattle.std.specs.Char.{eq_ignore_ascii_case}
 use Rattle.std.specs.List.{prefix_len, list_all}
 use Rattle.std.specs.Str.{str_eq_ignore_ascii_case}
 use Rattle.fm_base.specs.Input.{Input}
-use Rattle.fm_base.specs.UnitsReading.{Parser, past, next_passes, byte_at, letter_at, letters_at, many_at, some_at, is_same_word}
+use Rattle.fm_base.specs.UnitsReading.{UnitsParser as Parser, past, next_passes, byte_at, letter_at, letters_at, many_at, some_at, is_same_word}
 use Rattle.tm_units.proofs.InstantLemmas.{and_parts}
-use Rattle.tm_units.proofs.UnitsExact.{input, Took, Exact, Stops, Anything, Passes, done, ok_pair, Exact-then, Exact-pure, Exact-as, Exact-before, Exact-unless, Exact-located}
+use Rattle.fm_base.proofs.Exact.{input, Took, Exact, Stops, Anything, Passes, done, ok_pair, Exact-then, Exact-pure, Exact-as, Exact-before, Exact-unless, Exact-located}
 
 -- a run is as long as it can be
-pub run_is : (test : ℕ → Bool) (run rest : List ℕ) → list_all test run ≡ true → Stops test rest → prefix_len test (run ++ rest) ≡ length run
+pub run_is : (test : ℕ → Bool) (run rest : List ℕ) → list_all test run ≡ true → Stops test rest
+    → prefix_len test (run ++ rest) ≡ length run
 run_is test [] [] all stops = refl
 run_is test [] (x ∷ rest) all stops = rw stops refl
 run_is test (x ∷ run) rest all stops =
@@ -21,7 +22,8 @@ run_is test (x ∷ run) rest all stops =
     rw (parts.0, run_is test run rest parts.1 stops) (omega arith)
 
 -- and no longer than it may be
-pub run_within : (test : ℕ → Bool) (run rest : List ℕ) (most : ℕ) → list_all test run ≡ true → length run ≤ most → Stops test rest → prefix_len test (take most (run ++ rest)) ≡ length run
+pub run_within : (test : ℕ → Bool) (run rest : List ℕ) (most : ℕ) → list_all test run ≡ true → length run ≤ most
+    → Stops test rest → prefix_len test (take most (run ++ rest)) ≡ length run
 run_within test [] rest zero all few stops = refl
 run_within test [] [] (suc most) all few stops = refl
 run_within test [] (x ∷ rest) (suc most) all few stops = rw stops refl
@@ -31,12 +33,15 @@ run_within test (x ∷ run) rest (suc most) all few stops =
     rw (parts.0, run_within test run rest most parts.1 (omega arith) stops) (omega arith)
 
 -- each byte of a run passes
-pub run_passes : (test : ℕ → Bool) (xs : List ℕ) (most : ℕ) → list_all test (take (prefix_len test (take most xs)) xs) ≡ true
+pub run_passes : (test : ℕ → Bool) (xs : List ℕ) (most : ℕ) → list_all test (take (prefix_len test (take most xs)) xs)
+    ≡ true
 run_passes test xs zero = refl
 run_passes test [] (suc most) = refl
-run_passes test (x ∷ xs) (suc most) = by_first test x xs (prefix_len test (take most xs)) (test x) refl (run_passes test xs most)
+run_passes test (x ∷ xs) (suc most) =
+    by_first test x xs (prefix_len test (take most xs)) (test x) refl (run_passes test xs most)
   where
-    by_first : (test : ℕ → Bool) (x : ℕ) (xs : List ℕ) (k : ℕ) (b : Bool) → test x ≡ b → list_all test (take k xs) ≡ true → list_all test (take (cond b (1 + k) 0) (x ∷ xs)) ≡ true
+    by_first : (test : ℕ → Bool) (x : ℕ) (xs : List ℕ) (k : ℕ) (b : Bool) → test x ≡ b
+        → list_all test (take k xs) ≡ true → list_all test (take (cond b (1 + k) 0) (x ∷ xs)) ≡ true
     by_first test x xs k true e all = let longer : 1 + k ≡ suc k = omega arith in rw longer (rw (e, all) refl)
     by_first test x xs k false e all = refl
 
@@ -57,12 +62,13 @@ repeated_passes byte (suc n) = rw (eq-eqb byte byte refl, repeated_passes byte n
 pub Exact-many : (byte : ℕ) → Exact (Repeats byte) (Stops (λ other. other == byte)) (many_at byte)
 unfolding many_at
 Exact-many byte = record {
-  takes = λ i n j e.
+  takes = λ i n j any e.
       let test : ℕ → Bool = λ other. other == byte in
       let count = prefix_len test i.rest in
       let k = ok_pair count n (past count i) j e in
       let size : length (take count i.rest) ≡ count = length-prefix_len test i.rest in
-      let same : take count i.rest ≡ replicate count byte = same_byte byte (take count i.rest) (run_all test i.rest) ∙ ap (λ (m : ℕ). replicate m byte) size in
+      let same : take count i.rest ≡ replicate count byte = same_byte byte (take count i.rest) (run_all test i.rest)
+      ∙ ap (λ (m : ℕ). replicate m byte) size in
       record {
         text = take count i.rest;
         spelled = record { text_is = subst (λ (m : ℕ). take count i.rest ≡ replicate m byte) k.0 same };
@@ -72,14 +78,19 @@ Exact-many byte = record {
   again = λ at text rest n s may.
       let test : ℕ → Bool = λ other. other == byte in
       let size : length text ≡ n = ap length s.text_is ∙ length-replicate n byte in
-      let all : list_all test text ≡ true = subst (λ (l : List ℕ). list_all test l ≡ true) (sym s.text_is) (repeated_passes byte n) in
+      let all : list_all test text ≡ true =
+      subst (λ (l : List ℕ). list_all test l ≡ true) (sym s.text_is) (repeated_passes byte n) in
       let count : prefix_len test (text ++ rest) ≡ length text = run_is test text rest all may in
-      let whole : past (length text) (input at (text ++ rest)) ≡ input (at + length text) rest = ap (λ (l : List ℕ). input (at + length text) l) (drop-append_seam text rest) in
-      ap (λ (m : ℕ). done {A = ℕ × Input} (m, past m (input at (text ++ rest)))) count ∙ ap (λ (h : Input). done {A = ℕ × Input} (length text, h)) whole ∙ ap (λ (m : ℕ). done {A = ℕ × Input} (m, input (at + length text) rest)) size;
+      let whole : past (length text) (input at (text ++ rest)) ≡ input (at + length text) rest =
+      ap (λ (l : List ℕ). input (at + length text) l) (drop-append_seam text rest) in
+      ap (λ (m : ℕ). done {A = ℕ × Input} (m, past m (input at (text ++ rest)))) count
+      ∙ ap (λ (h : Input). done {A = ℕ × Input} (length text, h)) whole
+      ∙ ap (λ (m : ℕ). done {A = ℕ × Input} (m, input (at + length text) rest)) size;
 }
   where
     run_all : (test : ℕ → Bool) (xs : List ℕ) → list_all test (take (prefix_len test xs) xs) ≡ true
-    run_all test xs = subst (λ (l : List ℕ). list_all test (take (prefix_len test l) xs) ≡ true) (take-length xs) (run_passes test xs (length xs))
+    run_all test xs = subst (λ (l : List ℕ). list_all test (take (prefix_len test l) xs) ≡ true) (take-length xs)
+        (run_passes test xs (length xs))
 
 -- at least once
 pub record RepeatsSome (byte : ℕ) (text : List ℕ) (count : ℕ) : Type 0 where
@@ -96,10 +107,20 @@ Exact-some byte =
     Exact-as
     (λ text n s. record {
       some = subst (λ (m : ℕ). (m == 0) ≡ false) s.second.value s.second.good;
-      text_is = s.text_is ∙ ap (λ (l : List ℕ). s.front ++ l) s.second.text_is ∙ append-nil s.front ∙ s.first.text_is ∙ ap (λ (m : ℕ). replicate m byte) s.second.value;
+      text_is = s.text_is ∙ ap (λ (l : List ℕ). s.front ++ l) s.second.text_is ∙ append-nil s.front ∙ s.first.text_is
+          ∙ ap (λ (m : ℕ). replicate m byte) s.second.value;
     })
-    (λ text n s. record { a = n; front = text; back = []; first = record { text_is = s.text_is }; second = record { good = s.some; value = refl; text_is = refl }; text_is = sym (append-nil text) })
-    (Exact-then {T = λ count. Passes (count == 0) count} {Q = Stops (λ other. other == byte)} (Exact-many byte) (λ count. Exact-located (λ at. Exact-before (λ rest may. tt) (Exact-unless (count == 0) at count)))
+    (λ text n s. record {
+      a = n;
+      front = text;
+      back = [];
+      first = record { text_is = s.text_is };
+      second =
+          record { good = s.some; value = refl; text_is = refl };
+      text_is = sym (append-nil text);
+    })
+    (Exact-then {T = λ count. Passes (count == 0) count} {Q = Stops (λ other. other == byte)} (Exact-many byte)
+    (λ count. Exact-located (λ at. Exact-before (λ rest may. tt) (Exact-unless (count == 0) at count)))
     (λ a b back rest s may. after_nothing (Stops (λ other. other == byte)) back rest s.text_is may))
 
 -- one byte that passes
@@ -116,7 +137,8 @@ guard : {A : Type 0} (b : Bool) (d : ℕ) (x y : A) → cond b (done x) (Err d) 
 guard true d x y e = (refl, cc)
 guard false d x y e = absurd cc
 
-one_takes : (test : ℕ → Bool) (at : ℕ) (rest : List ℕ) (unit : Unit {0}) (j : Input) → one_at test (input at rest) ≡ Ok (unit, j) → Took (One test) (input at rest) unit j
+one_takes : (test : ℕ → Bool) (at : ℕ) (rest : List ℕ) (unit : Unit {0}) (j : Input)
+    → one_at test (input at rest) ≡ Ok (unit, j) → Took (One test) (input at rest) unit j
 one_takes test at [] unit j e = absurd cc
 one_takes test at (x ∷ rest) unit j e =
     let g = guard {A = Unit {0} × Input} (test x) at (tt, input (at + 1) rest) (unit, j) e in
@@ -130,9 +152,10 @@ one_takes test at (x ∷ rest) unit j e =
 
 pub Exact-one : (test : ℕ → Bool) → Exact (One test) Anything (one_at test)
 Exact-one test = record {
-  takes = λ i unit j e. one_takes test i.at i.rest unit j e;
+  takes = λ i unit j any e. one_takes test i.at i.rest unit j e;
   again = λ at text rest unit s may.
-      subst (λ (l : List ℕ). one_at test (input at (l ++ rest)) ≡ Ok (unit, input (at + length l) rest)) (sym s.text_is) (rw (s.passes) refl);
+      subst (λ (l : List ℕ). one_at test (input at (l ++ rest)) ≡ Ok (unit, input (at + length l) rest))
+      (sym s.text_is) (rw (s.passes) refl);
 }
 
 -- this byte
@@ -164,12 +187,17 @@ unfolding is_same_word
 no_word [] h = refl
 no_word (x ∷ text) h = let e : false ≡ true = h in absurd cc
 
-pub same_letters : (letter : ℕ) (word text : List ℕ) → IsTrue (is_same_word text (letter ∷ word)) → (first : ℕ) × (others : List ℕ) × (text ≡ first ∷ others) × (eq_ignore_ascii_case first letter ≡ true) × IsTrue (is_same_word others word)
+pub same_letters : (letter : ℕ) (word text : List ℕ) → IsTrue (is_same_word text (letter ∷ word))
+    → (first : ℕ) × (others : List ℕ) × (text ≡ first ∷ others) × (eq_ignore_ascii_case first letter ≡ true)
+    × IsTrue (is_same_word others word)
 unfolding is_same_word
 same_letters letter word [] h = let e : false ≡ true = h in absurd cc
-same_letters letter word (x ∷ text) h = let parts = and_parts (eq_ignore_ascii_case x letter) (str_eq_ignore_ascii_case text word) h in (x, text, refl, parts.0, parts.1)
+same_letters letter word (x ∷ text) h = let parts =
+    and_parts (eq_ignore_ascii_case x letter) (str_eq_ignore_ascii_case text word) h in
+    (x, text, refl, parts.0, parts.1)
 
-pub letters_same : (letter : ℕ) (word : List ℕ) (x : ℕ) (text : List ℕ) → eq_ignore_ascii_case x letter ≡ true → IsTrue (is_same_word text word) → IsTrue (is_same_word (x ∷ text) (letter ∷ word))
+pub letters_same : (letter : ℕ) (word : List ℕ) (x : ℕ) (text : List ℕ) → eq_ignore_ascii_case x letter ≡ true
+    → IsTrue (is_same_word text word) → IsTrue (is_same_word (x ∷ text) (letter ∷ word))
 unfolding is_same_word
 letters_same letter word x text first others = rw first others
 
@@ -183,12 +211,22 @@ Exact-letters [] =
 Exact-letters (letter ∷ word) =
     Exact-as
     (λ text unit s.
-    subst (λ (l : List ℕ). IsTrue (is_same_word l (letter ∷ word))) (sym (s.text_is ∙ ap (λ (l : List ℕ). l ++ s.back) s.first.text_is))
+    subst (λ (l : List ℕ). IsTrue (is_same_word l (letter ∷ word)))
+    (sym (s.text_is ∙ ap (λ (l : List ℕ). l ++ s.back) s.first.text_is))
     (letters_same letter word s.first.byte s.back s.first.passes s.second))
     (λ text unit s.
     let parts = same_letters letter word text s in
-    record { a = tt; front = parts.0 ∷ []; back = parts.1; first = record { byte = parts.0; passes = parts.3; text_is = refl }; second = parts.4; text_is = parts.2 })
-    (Exact-then {T = λ u. AreLetters word} {Q = Anything} (Exact-letter letter) (λ u. Exact-letters word) (λ a b back rest s may. tt))
+    record {
+      a = tt;
+      front = parts.0 ∷ [];
+      back = parts.1;
+      first =
+          record { byte = parts.0; passes = parts.3; text_is = refl };
+      second = parts.4;
+      text_is = parts.2;
+    })
+    (Exact-then {T = λ u. AreLetters word} {Q = Anything} (Exact-letter letter) (λ u. Exact-letters word)
+    (λ a b back rest s may. tt))
 
 -- a word of no letters
 pub no_letters : Unit {0} → IsTrue (is_same_word [] [])

@@ -3,18 +3,25 @@ use Rattle.std.proofs.Common.{◌≡◌, ℕ, ◌+◌, Bool, true, false, cond, 
 use Rattle.std.proofs.lemmas.Bool.{eqb-true}
 use Rattle.std.proofs.lemmas.List.{append-nil, nil_from_length}
 use Rattle.std.specs.Char.{eq_ignore_ascii_case}
+use Rattle.fm_base.specs.declared.units.UnitsFault.{UnitsFault}
+use Rattle.fm_base.specs.declared.units.UnitsFault.TheVariants.{BadUnits}
+use Rattle.fm_base.specs.Chain.{fault_as}
 use Rattle.fm_base.specs.Input.{Input, whole}
-use Rattle.fm_base.specs.UnitsReading.{Outcome, Parser, ◌>>=◌, pure, has_ended, next_passes, end_at, letters_at, spaces_at, gap_at, unit_at, date_at, zone_at, time_at, letter_at, last_zone_at, clock_at, after_date_at, units_at, Written, value_of, written_or_fault}
+use Rattle.fm_base.specs.UnitsReading.{UnitsOutcome as Outcome, UnitsParser as Parser, has_ended, next_passes, end_at, letters_at, spaces_at, gap_at, unit_at, date_at, zone_at, time_of_day_at, letter_at, last_zone_at, clock_at, after_date_at, units_at, Written, written_or_fault}
 use Rattle.fm_base.specs.UnitsSpelling.{SpellsUnits}
-use Rattle.tm_units.proofs.UnitsExact.{input, done, bind_ok, ok_pair}
+use Rattle.fm_base.proofs.Exact.{input, done, bind_ok, ok_pair}
 use Rattle.tm_units.proofs.UnitsReadings.{Exact-units}
+use Rattle.fm_base.specs.Parser.{◌>>=◌, pure, value_of}
 
--- a reader that reads to the end of the text
+-- a parser that reads to the end of the text
 record Ends {A : Type 0} (p : Parser A) : Type 0 where
   ends : (i : Input) (a : A) (j : Input) → p i ≡ Ok (a, j) → j.rest ≡ []
 
 Ends-then : {A B : Type 0} (p : Parser A) {q : A → Parser B} → ((a : A) → Ends (q a)) → Ends (p >>= q)
-Ends-then p {q = q} each = record { ends = λ i b k e. let x = bind_ok (p i) q (b, k) e in (each x.0.0).ends x.0.1 b k x.2 }
+Ends-then p {q = q} each = record {
+  ends = λ i b k e. let x = bind_ok (p i) q (b, k) e in
+      (each x.0.0).ends x.0.1 b k x.2;
+}
 
 -- nothing is read after the end
 Ends-last : {A B : Type 0} {p : Parser A} (f : A → B) → Ends p → Ends (p >>= λ a. pure (f a))
@@ -28,14 +35,17 @@ Ends-last {A} {B} {p} f ep = record {
 ended : (i j : Input) → has_ended i ≡ true → i ≡ j → j.rest ≡ []
 ended i j e same = subst (λ (h : Input). h.rest ≡ []) same (nil_from_length i.rest (eqb-true (length i.rest) 0 e))
 
-Ends-unless_ended : {A : Type 0} {p : Parser A} (missing : A) → Ends p → Ends (λ i. cond (has_ended i) (Ok (missing, i)) (p i))
+Ends-unless_ended : {A : Type 0} {p : Parser A} (missing : A) → Ends p
+    → Ends (λ i. cond (has_ended i) (Ok (missing, i)) (p i))
 Ends-unless_ended {A} {p} missing ep = record { ends = λ i a j e. by_end i a j (has_ended i) refl e }
   where
-    by_end : (i : Input) (a : A) (j : Input) (b : Bool) → has_ended i ≡ b → cond b (Ok (missing, i)) (p i) ≡ Ok (a, j) → j.rest ≡ []
+    by_end : (i : Input) (a : A) (j : Input) (b : Bool) → has_ended i ≡ b → cond b (Ok (missing, i)) (p i) ≡ Ok (a, j)
+        → j.rest ≡ []
     by_end i a j true is e = ended i j is (ok_pair missing a i j e).1
     by_end i a j false is e = ep.ends i a j e
 
-Ends-either : {A : Type 0} {p q : Parser A} (test : Input → Bool) → Ends p → Ends q → Ends (λ i. cond (test i) (p i) (q i))
+Ends-either : {A : Type 0} {p q : Parser A} (test : Input → Bool) → Ends p → Ends q
+    → Ends (λ i. cond (test i) (p i) (q i))
 Ends-either {A} {p} {q} test ep eq = record { ends = λ i a j e. by_test i a j (test i) e }
   where
     by_test : (i : Input) (a : A) (j : Input) (b : Bool) → cond b (p i) (q i) ≡ Ok (a, j) → j.rest ≡ []
@@ -50,17 +60,21 @@ Ends-end : Ends end_at
 unfolding end_at
 Ends-end = record { ends = λ i u j e. by_end i u j (has_ended i) refl e }
   where
-    by_end : (i : Input) (u : Unit {0}) (j : Input) (b : Bool) → has_ended i ≡ b → cond b (done {A = Unit {0} × Input} (tt, i)) (Err i.at) ≡ Ok (u, j) → j.rest ≡ []
+    by_end : (i : Input) (u : Unit {0}) (j : Input) (b : Bool) → has_ended i ≡ b
+        → cond b (done {A = Unit {0} × Input} (tt, i)) (Err i.at) ≡ Ok (u, j) → j.rest ≡ []
     by_end i u j true is e = ended i j is (ok_pair tt u i j e).1
     by_end i u j false is e = absurd cc
 
 Ends-last_zone : Ends last_zone_at
 unfolding last_zone_at
-Ends-last_zone = Ends-then spaces_at (λ gap. Ends-unless_ended (pos 0) (Ends-then zone_at (λ zone. Ends-then spaces_at (λ gap. Ends-last (λ (u : Unit {0}). zone) Ends-end))))
+Ends-last_zone =
+    Ends-then spaces_at
+    (λ gap. Ends-unless_ended (pos 0)
+    (Ends-then zone_at (λ zone. Ends-then spaces_at (λ gap. Ends-last (λ (u : Unit {0}). zone) Ends-end))))
 
 Ends-clock : Ends clock_at
 unfolding clock_at
-Ends-clock = Ends-then time_at (λ time. Ends-last (λ (zone : ℤ). pos time -ℤ zone) Ends-last_zone)
+Ends-clock = Ends-then time_of_day_at (λ time. Ends-last (λ (zone : ℤ). pos time -ℤ zone) Ends-last_zone)
 
 Ends-after_date : Ends after_date_at
 unfolding after_date_at
@@ -72,7 +86,10 @@ Ends-after_date =
 Ends-units : Ends units_at
 unfolding units_at
 Ends-units =
-    Ends-then spaces_at (λ front. Ends-then unit_at (λ per. Ends-then gap_at (λ gap. Ends-then (letters_at (codes "since")) (λ since. Ends-then gap_at (λ gap. Ends-then date_at (λ day.
+    Ends-then spaces_at
+    (λ front. Ends-then unit_at
+    (λ per. Ends-then gap_at
+    (λ gap. Ends-then (letters_at (codes "since")) (λ since. Ends-then gap_at (λ gap. Ends-then date_at (λ day.
     Ends-last (λ (seconds : ℤ). record { per = per; day = day; seconds = seconds }) Ends-after_date))))))
 
 -- what is spelled so is read
@@ -80,13 +97,15 @@ pub written_or_fault-spelled : (text : List ℕ) (w : Written) → SpellsUnits t
 unfolding written_or_fault
 written_or_fault-spelled text w s =
     let again = Exact-units.again 0 text [] w s refl in
-    let read : units_at (whole text) ≡ Ok (w, input (0 + length text) []) = subst (λ (l : List ℕ). units_at (input 0 l) ≡ Ok (w, input (0 + length text) [])) (append-nil text) again in
-    ap value_of read
+    let read : units_at (whole text) ≡ Ok (w, input (0 + length text) []) =
+    subst (λ (l : List ℕ). units_at (input 0 l) ≡ Ok (w, input (0 + length text) [])) (append-nil text) again in
+    ap (λ (r : Outcome Written). fault_as BadUnits (value_of r)) read
 
-value_some : {A : Type 0} (r : Outcome A) (a : A) → value_of r ≡ Ok a → (j : Input) × (r ≡ Ok (a, j))
+value_some : {A : Type 0} (r : Outcome A) (a : A) → fault_as BadUnits (value_of r) ≡ Ok a
+    → (j : Input) × (r ≡ Ok (a, j))
 value_some (Ok p) a e = (p.1, ap (λ (x : _). Ok (x, p.1)) (ok_value p.0 a e))
   where
-    ok_value : {A : Type 0} (x y : A) → value_of (Ok (x, p.1)) ≡ Ok y → x ≡ y
+    ok_value : {A : Type 0} (x y : A) → done {E = UnitsFault} x ≡ Ok y → x ≡ y
     ok_value x y e = cc
 value_some (Err at) a e = absurd cc
 
@@ -95,7 +114,7 @@ pub SpellsUnits-written_or_fault : (text : List ℕ) (w : Written) → written_o
 unfolding written_or_fault
 SpellsUnits-written_or_fault text w e =
     let read = value_some (units_at (whole text)) w e in
-    let took = Exact-units.takes (whole text) w read.0 read.1 in
+    let took = Exact-units.takes (whole text) w read.0 tt read.1 in
     let none = Ends-units.ends (whole text) w read.0 read.1 in
     let all : text ≡ took.text = took.split ∙ ap (λ (l : List ℕ). took.text ++ l) none ∙ append-nil took.text in
     subst (λ (l : List ℕ). SpellsUnits l w) (sym all) took.spelled

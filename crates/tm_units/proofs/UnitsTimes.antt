@@ -1,12 +1,12 @@
--- Times, and the hours and minutes of zones, are read exactly.
+-- Times are read exactly.
 use Rattle.std.proofs.Common.{◌≡◌, inl, inr, ℕ, zero, suc, true, ◌==◌, List, [], ◌∷◌, ◌++◌, replicate, refl, sym, ap, subst, ◌∙◌, eq-eqb}
 use Rattle.std.proofs.Math.Dec.{eqb-suc-zero}
 use Rattle.std.proofs.lemmas.List.{append-nil}
 use Rattle.std.specs.Char.{is_ascii_digit}
 use Rattle.fm_base.specs.Calendar.{time_seconds}
-use Rattle.fm_base.specs.UnitsReading.{next_passes, fraction_at, second_at, time_at, zone_minute_at, distance_at}
-use Rattle.fm_base.specs.UnitsSpelling.{SpellsNumber, SpellsFraction, SpellsSecond, SpellsTime, SpellsZoneMinute, SpellsDistance}
-use Rattle.tm_units.proofs.UnitsExact.{input, Exact, Stops, Then, Is, Exact-then, Exact-as, Exact-before, Exact-pure}
+use Rattle.fm_base.specs.UnitsReading.{next_passes, fraction_at, second_at, time_of_day_at}
+use Rattle.fm_base.specs.UnitsSpelling.{SpellsNumberWithin, SpellsFraction, SpellsSecond, SpellsTime}
+use Rattle.fm_base.proofs.Exact.{input, Exact, Stops, Then, Is, Exact-then, Exact-as, Exact-before, Exact-pure}
 use Rattle.tm_units.proofs.UnitsChoices.{Optional, Exact-optional}
 use Rattle.tm_units.proofs.UnitsRuns.{RepeatsSome, Exact-some, after_nothing}
 use Rattle.tm_units.proofs.UnitsNumbers.{Exact-number}
@@ -24,32 +24,53 @@ abbrev pub Zeros : List ℕ → ℕ → Type 0
 Zeros = Optional 0 (After 46 (RepeatsSome 48))
 
 -- a part after its first byte begins with it
-pub begins_after : {A : Type 0} {S : List ℕ → A → Type 0} (byte : ℕ) (text rest : List ℕ) (a : A) → After byte S text a → next_passes (λ other. other == byte) (input 0 (text ++ rest)) ≡ true
-begins_after byte text rest a s = subst (λ (l : List ℕ). next_passes (λ other. other == byte) (input 0 (l ++ rest)) ≡ true) (sym (s.text_is ∙ ap (λ (l : List ℕ). l ++ s.back) s.first)) (eq-eqb byte byte refl)
+pub begins_after : {A : Type 0} {S : List ℕ → A → Type 0} (byte : ℕ) (text rest : List ℕ) (a : A)
+    → After byte S text a → next_passes (λ other. other == byte) (input 0 (text ++ rest)) ≡ true
+begins_after byte text rest a s =
+    subst (λ (l : List ℕ). next_passes (λ other. other == byte) (input 0 (l ++ rest)) ≡ true)
+    (sym (s.text_is ∙ ap (λ (l : List ℕ). l ++ s.back) s.first)) (eq-eqb byte byte refl)
 
 pub Exact-fraction : Exact Zeros EndsTime fraction_at
 unfolding fraction_at
 Exact-fraction =
     Exact-before (λ rest may. (may.point, may.zero_byte))
-    (Exact-optional {S = After 46 (RepeatsSome 48)} (λ other. other == 46) 0 (Exact-after 46 (Exact-some 48)) (λ text rest a s. begins_after 46 text rest a s))
+    (Exact-optional {S = After 46 (RepeatsSome 48)} (λ other. other == 46) 0 (Exact-after 46 (Exact-some 48))
+    (λ text rest a s. begins_after 46 text rest a s))
 
 pub to_fraction : (text : List ℕ) (zeros : ℕ) → Zeros text zeros → SpellsFraction text
 to_fraction text zeros (inl none) = inl none.0
 to_fraction text zero (inr s) = let some = s.second.some in absurd cc
-to_fraction text (suc more) (inr s) = inr (more, s.text_is ∙ ap (λ (l : List ℕ). l ++ s.back) s.first ∙ ap (λ (l : List ℕ). 46 ∷ l) s.second.text_is)
+to_fraction text (suc more) (inr s) = inr (
+  more,
+  s.text_is ∙ ap (λ (l : List ℕ). l ++ s.back) s.first
+      ∙ ap (λ (l : List ℕ). 46 ∷ l) s.second.text_is,
+)
 
 from_fraction : (text : List ℕ) → SpellsFraction text → (zeros : ℕ) × Zeros text zeros
 from_fraction text (inl none) = (0, inl (none, refl))
-from_fraction text (inr s) = (suc s.0, inr (record { a = tt; front = 46 ∷ []; back = replicate (suc s.0) 48; first = refl; second = record { some = eqb-suc-zero s.0; text_is = refl }; text_is = s.1 }))
+from_fraction text (inr s) = (
+  suc s.0,
+  inr (record {
+    a = tt;
+    front = 46 ∷ [];
+    back = replicate (suc s.0) 48;
+    first = refl;
+    second =
+        record { some = eqb-suc-zero s.0; text_is = refl };
+    text_is = s.1;
+  }),
+)
 
 -- what may stand at the start of a fraction stops a number
-fraction_stops : (text rest : List ℕ) (zeros : ℕ) → Zeros text zeros → EndsTime rest → Stops is_ascii_digit (text ++ rest)
+fraction_stops : (text rest : List ℕ) (zeros : ℕ) → Zeros text zeros → EndsTime rest
+    → Stops is_ascii_digit (text ++ rest)
 fraction_stops text rest zeros (inl none) may = after_nothing (Stops is_ascii_digit) text rest none.0 may.digit
-fraction_stops text rest zeros (inr s) may = stops_at is_ascii_digit 46 text s.back rest (s.text_is ∙ ap (λ (l : List ℕ). l ++ s.back) s.first) refl
+fraction_stops text rest zeros (inr s) may =
+    stops_at is_ascii_digit 46 text s.back rest (s.text_is ∙ ap (λ (l : List ℕ). l ++ s.back) s.first) refl
 
 -- a second and its fraction
 abbrev pub TheSecond : List ℕ → ℕ → Type 0
-TheSecond = Then (SpellsNumber 1 2 0 59) (λ second. Then Zeros (λ zeros. Is second))
+TheSecond = Then (SpellsNumberWithin 1 2 0 59) (λ second. Then Zeros (λ zeros. Is second))
 
 pub to_second : (text : List ℕ) (second : ℕ) → Optional 0 (After 58 TheSecond) text second → SpellsSecond text second
 to_second text second (inl none) = inl none
@@ -60,9 +81,12 @@ to_second text second (inr s) =
     inr (record {
       second_text = the_second.front;
       fraction_text = zeros.front;
-      second_is = subst (λ (n : ℕ). SpellsNumber 1 2 0 59 the_second.front n) value the_second.first;
+      second_is = subst (λ (n : ℕ). SpellsNumberWithin 1 2 0 59 the_second.front n) value the_second.first;
       fraction = to_fraction zeros.front zeros.a zeros.first;
-      text_is = s.text_is ∙ ap (λ (l : List ℕ). l ++ s.back) s.first ∙ ap (λ (l : List ℕ). 58 ∷ l) (the_second.text_is ∙ ap (λ (l : List ℕ). the_second.front ++ l) (zeros.text_is ∙ ap (λ (l : List ℕ). zeros.front ++ l) zeros.second.text_is ∙ append-nil zeros.front));
+      text_is = s.text_is ∙ ap (λ (l : List ℕ). l ++ s.back) s.first
+          ∙ ap (λ (l : List ℕ). 58 ∷ l) (the_second.text_is
+          ∙ ap (λ (l : List ℕ). the_second.front ++ l) (zeros.text_is
+          ∙ ap (λ (l : List ℕ). zeros.front ++ l) zeros.second.text_is ∙ append-nil zeros.front));
     })
 
 from_second : (text : List ℕ) (second : ℕ) → SpellsSecond text second → Optional 0 (After 58 TheSecond) text second
@@ -79,7 +103,15 @@ from_second text second (inr s) =
         front = s.second_text;
         back = s.fraction_text;
         first = s.second_is;
-        second = record { a = zeros.0; front = s.fraction_text; back = []; first = zeros.1; second = record { value = refl; text_is = refl }; text_is = sym (append-nil s.fraction_text) };
+        second = record {
+          a = zeros.0;
+          front = s.fraction_text;
+          back = [];
+          first = zeros.1;
+          second =
+              record { value = refl; text_is = refl };
+          text_is = sym (append-nil s.fraction_text);
+        };
         text_is = refl;
       };
       text_is = s.text_is;
@@ -93,22 +125,29 @@ Exact-second =
     (Exact-optional {S = After 58 TheSecond} (λ other. other == 58) 0
     (Exact-after {S = TheSecond} 58
     (Exact-then {T = λ second. Then Zeros (λ zeros. Is second)} {Q = EndsTime} (Exact-number 1 2 0 59)
-    (λ second. Exact-then {T = λ zeros. Is second} {Q = EndsTime} Exact-fraction (λ zeros. Exact-before (λ rest may. tt) (Exact-pure second)) (λ a b back rest s may. after_nothing EndsTime back rest s.text_is may))
+    (λ second. Exact-then {T = λ zeros. Is second} {Q =
+    EndsTime} Exact-fraction (λ zeros. Exact-before (λ rest may. tt) (Exact-pure second))
+    (λ a b back rest s may. after_nothing EndsTime back rest s.text_is may))
     (λ a b back rest s may.
-    subst (λ (l : List ℕ). Stops is_ascii_digit (l ++ rest)) (sym (s.text_is ∙ ap (λ (l : List ℕ). s.front ++ l) s.second.text_is ∙ append-nil s.front)) (fraction_stops s.front rest s.a s.first may))))
+    subst (λ (l : List ℕ). Stops is_ascii_digit (l ++ rest))
+    (sym (s.text_is ∙ ap (λ (l : List ℕ). s.front ++ l) s.second.text_is ∙ append-nil s.front))
+    (fraction_stops s.front rest s.a s.first may))))
     (λ text rest a s. begins_after 58 text rest a s)))
 
 -- what may stand at the start of a second stops a number
-second_stops : (text rest : List ℕ) (second : ℕ) → SpellsSecond text second → EndsTime rest → Stops is_ascii_digit (text ++ rest)
+second_stops : (text rest : List ℕ) (second : ℕ) → SpellsSecond text second → EndsTime rest
+    → Stops is_ascii_digit (text ++ rest)
 second_stops text rest second (inl none) may = after_nothing (Stops is_ascii_digit) text rest none.0 may.digit
-second_stops text rest second (inr s) may = stops_at is_ascii_digit 58 text (s.second_text ++ s.fraction_text) rest s.text_is refl
+second_stops text rest second (inr s) may =
+    stops_at is_ascii_digit 58 text (s.second_text ++ s.fraction_text) rest s.text_is refl
 
 -- a time of day, after its hour
 abbrev pub TheMinute : ℕ → List ℕ → ℕ → Type 0
-TheMinute hour = Then (SpellsNumber 1 2 0 59) (λ minute. Then SpellsSecond (λ second. Is (time_seconds hour minute second)))
+TheMinute hour =
+    Then (SpellsNumberWithin 1 2 0 59) (λ minute. Then SpellsSecond (λ second. Is (time_seconds hour minute second)))
 
 abbrev pub TheTime : List ℕ → ℕ → Type 0
-TheTime = Then (SpellsNumber 1 2 0 23) (λ hour. After 58 (TheMinute hour))
+TheTime = Then (SpellsNumberWithin 1 2 0 23) (λ hour. After 58 (TheMinute hour))
 
 pub to_time : (text : List ℕ) (seconds : ℕ) → TheTime text seconds → SpellsTime text seconds
 to_time text seconds s =
@@ -125,7 +164,12 @@ to_time text seconds s =
       minute_is = minute.first;
       second_is = second.first;
       seconds_is = second.second.value;
-      text_is = s.text_is ∙ ap (λ (l : List ℕ). s.front ++ l) (s.second.text_is ∙ ap (λ (l : List ℕ). l ++ s.second.back) s.second.first ∙ ap (λ (l : List ℕ). 58 ∷ l) (minute.text_is ∙ ap (λ (l : List ℕ). minute.front ++ l) (second.text_is ∙ ap (λ (l : List ℕ). second.front ++ l) second.second.text_is ∙ append-nil second.front)));
+      text_is = s.text_is
+          ∙ ap (λ (l : List ℕ). s.front ++ l) (s.second.text_is
+          ∙ ap (λ (l : List ℕ). l ++ s.second.back) s.second.first
+          ∙ ap (λ (l : List ℕ). 58 ∷ l) (minute.text_is
+          ∙ ap (λ (l : List ℕ). minute.front ++ l) (second.text_is
+          ∙ ap (λ (l : List ℕ). second.front ++ l) second.second.text_is ∙ append-nil second.front)));
     }
 
 from_time : (text : List ℕ) (seconds : ℕ) → SpellsTime text seconds → TheTime text seconds
@@ -144,7 +188,15 @@ from_time text seconds s = record {
       front = s.minute_text;
       back = s.second_text;
       first = s.minute_is;
-      second = record { a = s.second; front = s.second_text; back = []; first = s.second_is; second = record { value = s.seconds_is; text_is = refl }; text_is = sym (append-nil s.second_text) };
+      second = record {
+        a = s.second;
+        front = s.second_text;
+        back = [];
+        first = s.second_is;
+        second =
+            record { value = s.seconds_is; text_is = refl };
+        text_is = sym (append-nil s.second_text);
+      };
       text_is = refl;
     };
     text_is = refl;
@@ -152,67 +204,21 @@ from_time text seconds s = record {
   text_is = s.text_is;
 }
 
-pub Exact-time : Exact SpellsTime EndsTime time_at
-unfolding time_at
+pub Exact-time : Exact SpellsTime EndsTime time_of_day_at
+unfolding time_of_day_at
 Exact-time =
     Exact-as to_time from_time
     (Exact-then {T = λ hour. After 58 (TheMinute hour)} {Q = EndsTime} (Exact-number 1 2 0 23)
     (λ hour. Exact-after {S = TheMinute hour} 58
-    (Exact-then {T = λ minute. Then SpellsSecond (λ second. Is (time_seconds hour minute second))} {Q = EndsTime} (Exact-number 1 2 0 59)
-    (λ minute. Exact-then {T = λ second. Is (time_seconds hour minute second)} {Q = EndsTime} Exact-second (λ second. Exact-before (λ rest may. tt) (Exact-pure (time_seconds hour minute second))) (λ a b back rest s may. after_nothing EndsTime back rest s.text_is may))
+    (Exact-then {T = λ minute. Then SpellsSecond (λ second. Is (time_seconds hour minute second))} {Q =
+    EndsTime} (Exact-number 1 2 0 59)
+    (λ minute. Exact-then {T = λ second. Is (time_seconds hour minute second)} {Q =
+    EndsTime} Exact-second
+    (λ second. Exact-before (λ rest may. tt) (Exact-pure (time_seconds hour minute second)))
+    (λ a b back rest s may. after_nothing EndsTime back rest s.text_is may))
     (λ a b back rest s may.
-    subst (λ (l : List ℕ). Stops is_ascii_digit (l ++ rest)) (sym (s.text_is ∙ ap (λ (l : List ℕ). s.front ++ l) s.second.text_is ∙ append-nil s.front)) (second_stops s.front rest s.a s.first may))))
-    (λ a b back rest s may. stops_at is_ascii_digit 58 back s.back rest (s.text_is ∙ ap (λ (l : List ℕ). l ++ s.back) s.first) refl))
-
-pub to_zone_minute : (text : List ℕ) (minute : ℕ) → Optional 0 (After 58 (SpellsNumber 2 2 0 59)) text minute → SpellsZoneMinute text minute
-to_zone_minute text minute (inl none) = inl none
-to_zone_minute text minute (inr s) = inr (record { minute_text = s.back; minute_is = s.second; text_is = s.text_is ∙ ap (λ (l : List ℕ). l ++ s.back) s.first })
-
-from_zone_minute : (text : List ℕ) (minute : ℕ) → SpellsZoneMinute text minute → Optional 0 (After 58 (SpellsNumber 2 2 0 59)) text minute
-from_zone_minute text minute (inl none) = inl none
-from_zone_minute text minute (inr s) = inr (record { a = tt; front = 58 ∷ []; back = s.minute_text; first = refl; second = s.minute_is; text_is = s.text_is })
-
-pub Exact-zone_minute : Exact SpellsZoneMinute EndsTime zone_minute_at
-unfolding zone_minute_at
-Exact-zone_minute =
-    Exact-as to_zone_minute from_zone_minute
-    (Exact-before (λ rest may. (may.colon, may.digit))
-    (Exact-optional {S = After 58 (SpellsNumber 2 2 0 59)} (λ other. other == 58) 0 (Exact-after 58 (Exact-number 2 2 0 59)) (λ text rest a s. begins_after 58 text rest a s)))
-
-zone_minute_stops : (text rest : List ℕ) (minute : ℕ) → SpellsZoneMinute text minute → EndsTime rest → Stops is_ascii_digit (text ++ rest)
-zone_minute_stops text rest minute (inl none) may = after_nothing (Stops is_ascii_digit) text rest none.0 may.digit
-zone_minute_stops text rest minute (inr s) may = stops_at is_ascii_digit 58 text s.minute_text rest s.text_is refl
-
-abbrev pub TheDistance : List ℕ → ℕ → Type 0
-TheDistance = Then (SpellsNumber 1 2 0 23) (λ hour. Then SpellsZoneMinute (λ minute. Is (time_seconds hour minute 0)))
-
-pub to_distance : (text : List ℕ) (seconds : ℕ) → TheDistance text seconds → SpellsDistance text seconds
-to_distance text seconds s = record {
-  hour_text = s.front;
-  minute_text = s.second.front;
-  hour = s.a;
-  minute = s.second.a;
-  hour_is = s.first;
-  minute_is = s.second.first;
-  seconds_is = s.second.second.value;
-  text_is = s.text_is ∙ ap (λ (l : List ℕ). s.front ++ l) (s.second.text_is ∙ ap (λ (l : List ℕ). s.second.front ++ l) s.second.second.text_is ∙ append-nil s.second.front);
-}
-
-from_distance : (text : List ℕ) (seconds : ℕ) → SpellsDistance text seconds → TheDistance text seconds
-from_distance text seconds s = record {
-  a = s.hour;
-  front = s.hour_text;
-  back = s.minute_text;
-  first = s.hour_is;
-  second = record { a = s.minute; front = s.minute_text; back = []; first = s.minute_is; second = record { value = s.seconds_is; text_is = refl }; text_is = sym (append-nil s.minute_text) };
-  text_is = s.text_is;
-}
-
-pub Exact-distance : Exact SpellsDistance EndsTime distance_at
-unfolding distance_at
-Exact-distance =
-    Exact-as to_distance from_distance
-    (Exact-then {T = λ hour. Then SpellsZoneMinute (λ minute. Is (time_seconds hour minute 0))} {Q = EndsTime} (Exact-number 1 2 0 23)
-    (λ hour. Exact-then {T = λ minute. Is (time_seconds hour minute 0)} {Q = EndsTime} Exact-zone_minute (λ minute. Exact-before (λ rest may. tt) (Exact-pure (time_seconds hour minute 0))) (λ a b back rest s may. after_nothing EndsTime back rest s.text_is may))
-    (λ a b back rest s may.
-    subst (λ (l : List ℕ). Stops is_ascii_digit (l ++ rest)) (sym (s.text_is ∙ ap (λ (l : List ℕ). s.front ++ l) s.second.text_is ∙ append-nil s.front)) (zone_minute_stops s.front rest s.a s.first may)))
+    subst (λ (l : List ℕ). Stops is_ascii_digit (l ++ rest))
+    (sym (s.text_is ∙ ap (λ (l : List ℕ). s.front ++ l) s.second.text_is ∙ append-nil s.front))
+    (second_stops s.front rest s.a s.first may))))
+    (λ a b back rest s may. stops_at is_ascii_digit 58 back s.back rest (s.text_is
+    ∙ ap (λ (l : List ℕ). l ++ s.back) s.first) refl))

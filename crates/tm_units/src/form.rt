@@ -38,7 +38,7 @@ pub(crate) fn number_of(digits: &[u8]) -> u32
     number
 }
 
-/// The number that so many digits write from a place on.
+/// The number that `count` digits write from a place on.
 #[tactic(auto, unfolding(fm_base::specs::Stamp::number_at))]
 pub(crate) fn number_at(text: &[u8], from: usize, count: usize) -> u32
     requires short { count ≤ 4 }

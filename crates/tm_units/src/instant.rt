@@ -12,8 +12,8 @@ use std::alloc::Global;
 
 const SECONDS_PER_DAY: i64 = 86_400;
 
-/// The instant of a text `YYYY-MM-DDThh:mm:ssZ`, as Unix seconds. `None` exactly where the text isn't of that form, with
-/// a date that exists, an hour below 24, and minutes and seconds below 60.
+/// The instant of a text `YYYY-MM-DDThh:mm:ssZ`, as Unix seconds. `None` exactly where the text isn't of that form,
+/// with a date that exists, an hour below 24, and minutes and seconds below 60.
 #[tactic(auto, using(crate::proofs::InstantLaws::instants))]
 pub fn read_instant(text: &[u8]) -> Option<i64>
     ensures value { result ≡ spec.instant_of text.now }

@@ -3,6 +3,7 @@
 
 mod calendar;
 mod date;
+pub mod examples;
 mod form;
 mod instant;
 mod mark;

@@ -114,7 +114,7 @@ impl<'a> Scanner<'a> {
         front
     }
 
-    /// Takes the longest run of digits, up to so many.
+    /// Takes the longest run of digits, up to `most` of them.
     pub(crate) fn digits(&mut self, most: usize) -> &'a [u8]
         ensures taken { let parser = spec.run_at is_ascii_digit most in
             Reads (λ digits. digits.now) (parser self.old) (Ok result) self.new }

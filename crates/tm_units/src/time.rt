@@ -56,9 +56,9 @@ fn second(scanner: &mut Scanner<'_>) -> Result<u32, BadPlace>
 }
 
 /// Reads a time of day as the seconds from midnight.
-#[tactic(auto, unfolding(fm_base::specs::UnitsReading::time_at))]
+#[tactic(auto, unfolding(fm_base::specs::UnitsReading::time_of_day_at))]
 fn time(scanner: &mut Scanner<'_>) -> Result<u32, BadPlace>
-    ensures read { Reads (λ n. n) (spec.time_at scanner.old) result scanner.new }
+    ensures read { Reads (λ n. n) (spec.time_of_day_at scanner.old) result scanner.new }
     ensures range { IfOk result (λ n. n < 86_400) }
 {
     let hour = number(scanner, HOUR)?;

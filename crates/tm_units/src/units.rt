@@ -1,6 +1,7 @@
 //! The `units` and `calendar` attributes of a time variable.
-ghost use Rattle.std.specs.Prelude.{◌≡◌, option_map};
+ghost use Rattle.std.specs.Prelude.{◌≡◌, Err, option_map};
 ghost use Rattle.fm_base.specs.Units as spec;
+ghost use Rattle.fm_base.specs.UnitsFaults.{IsWrongUnit};
 ghost use Rattle.fm_base.specs.UnitsReading.{units_at};
 ghost use Rattle.fm_base.specs.UnitsSpelling.{SpellsUnits};
 ghost use Rattle.tm_units.specs.Scanning.{Reads};
@@ -108,12 +109,17 @@ fn units_of(text: &[u8], calendar: Option<&[u8]>) -> Result<Units, UnitsFault>
 pub fn read_units(text: &[u8], calendar: Option<&[u8]>) -> Result<Units, UnitsFault>
     ensures value { result ≡ spec.units_of text.now (option_map (λ text. text.now) calendar.entry) }
 
-    // What is read is spelled so, and what is refused isn't spelled or has another calendar.
+    // Units are those that the text spells. A text with a bad place spells none and goes wrong there, and a calendar is
+    // refused only beside a text that spells units.
     ensures settled { spec.Settles text.now (option_map (λ text. text.now) calendar.entry) result }
 
     // What is spelled is read, so a text spells one reading at most.
     ensures spelled { (written : _) → SpellsUnits text.now written
         → result ≡ spec.in_calendar (option_map (λ text. text.now) calendar.entry) written }
+
+    // A word that is no unit, where the unit stands, is refused at its first letter.
+    ensures unit { (place : _) → IsWrongUnit place text.now
+        → result ≡ Err (UnitsFault.BadUnits place) }
 {
     units_of(text, calendar)
 }

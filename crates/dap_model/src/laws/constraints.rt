@@ -8,14 +8,14 @@ use crate::projection::Clause;
 
 /// Reading a text gives clauses exactly where the text is a constraint that asks for them, so no text asks for two
 /// lists of clauses.
-pub fn constraint_tells(text: &[u8], clauses: &[Clause], others: &[Clause])
+pub fn constraint_is_read(text: &[u8], clauses: &[Clause], others: &[Clause])
     ensures read { constraint_of text.now ≡ Ok clauses.now ↔ Constrains text.now clauses.now }
     ensures one { Constrains text.now clauses.now → Constrains text.now others.now
         → clauses.now ≡ others.now }
 {}
 
 /// Reading a text gives a fault exactly where the text has it, so a text has one fault at most.
-pub fn constraint_fault_tells(text: &[u8], fault: CeFault, other: CeFault)
+pub fn fault_is_read(text: &[u8], fault: CeFault, other: CeFault)
     ensures read { constraint_of text.now ≡ Err fault ↔ HasFault text.now fault }
     ensures one { HasFault text.now fault → HasFault text.now other → fault ≡ other }
 {}

@@ -6,7 +6,7 @@ ghost use Rattle.dap_model.specs.Box.{slab_count, EachPicks};
 ghost use Rattle.dap_model.specs.Picking.{is_picked, name_of, parts_of, picked_by};
 ghost use Rattle.dap_model.specs.Projection.{cut_array, cut_parts, decl_sent, is_sent};
 ghost use Rattle.dap_model.specs.Projection.{projection_of};
-ghost use Rattle.dap_model.specs.ProjectionFacts.{lengths_of, AreNamedApart, FitsDim, FitsPart};
+ghost use Rattle.dap_model.specs.ProjectionFacts.{array_lengths, AreNamedApart, FitsDim, FitsPart};
 ghost use Rattle.dap_model.specs.ProjectionFacts.{HasNoFault, IsAsked, IsCut, IsFirstFault, IsGridded, IsWhole};
 ghost use Rattle.dap_model.specs.ProjectionFacts.{IsGridOf, Names, NamesAlone, StandsBefore};
 
@@ -92,5 +92,5 @@ pub fn projection_cuts(decls: &[Decl], clauses: &[Clause], projected: &Projected
 /// An array that is cut by a slab for each dimension is as long in each as the slab has indices.
 pub fn cut_lengths(array: &Array, slabs: &[Slab])
     ensures { length slabs.now ≡ length array.now.dims
-        → lengths_of (cut_array slabs.now array.now) ≡ map slab_count slabs.now }
+        → array_lengths (cut_array slabs.now array.now) ≡ map slab_count slabs.now }
 {}

@@ -1,4 +1,4 @@
-//! How long values are as XDR, where they stand, and that they are told.
+//! How long values are as XDR, where they stand, and that their bytes determine them.
 ghost use Rattle.std.specs.Prelude.{◌≡◌, ◌≢◌, ℕ, ◌+◌, ◌*◌, ◌^◌, ◌<◌, List, [], length, map, take};
 ghost use Rattle.std.specs.Prelude.{slice_get, slice_index, slice_index_or, All};
 ghost use Rattle.dap_model.specs.Box.{box_len, box_of, index_at};
@@ -25,8 +25,8 @@ pub fn array_layout(kind: DapKind, numbers: &[u64])
         ≡ slice_get (element_bytes kind (slice_index numbers.now place)) offset }
 {}
 
-/// The bytes of an array tell its numbers.
-pub fn array_tells(kind: DapKind, first: &[u64], second: &[u64])
+/// No two arrays of a kind have the same bytes.
+pub fn bytes_determine_array(kind: DapKind, first: &[u64], second: &[u64])
     requires few { length first.now < 2 ^ 32 }
     requires fewer { length second.now < 2 ^ 32 }
     requires bits { All (AreBitsOf kind) first.now }

@@ -1,5 +1,5 @@
 //! The variables of a file beside those of a prototype.
-#![tactic(auto, unfolding(crate::specs::LoadAxis::file_var, crate::specs::LoadVars::file_slot, crate::specs::LoadVars::is_like_timed, crate::specs::LoadVars::same_bytes, crate::specs::LoadVars::slot_in, crate::specs::Variable::lies_along, crate::specs::Variable::stands_first_alone, crate::specs::Variable::var_named, fm_base::specs::Layout::product, fm_base::specs::Layout::record_size, fm_base::specs::Layout::slab_size, fm_base::specs::Reading::names_record))]
+#![tactic(auto, unfolding(crate::specs::LoadAxis::file_var, crate::specs::LoadVars::file_slot, crate::specs::LoadVars::is_like_timed, crate::specs::LoadVars::same_bytes, crate::specs::LoadVars::slot_in, crate::specs::Variable::lies_along, crate::specs::Variable::stands_first_alone, crate::specs::Variable::var_named, fm_base::specs::Layout::product, fm_base::specs::Layout::record_size, fm_base::specs::Layout::vsize, fm_base::specs::Reading::names_record_dim))]
 
 ghost use Rattle.std.specs.Prelude.{◌≡◌, [], ◌∷◌, Ok, Err, codes};
 ghost use Rattle.fm_base.specs.declared.kind.Kind.TheVariants.{Float, Int};

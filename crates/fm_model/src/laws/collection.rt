@@ -1,14 +1,14 @@
 //! Collections after operations.
-ghost use Rattle.std.specs.Prelude.{◌≡◌, ◌≢◌, ◌≤◌, ◌+◌, ◌↔◌, [], ◌∷◌, ◌++◌, ◌≤ℤ◌};
-ghost use Rattle.std.specs.Prelude.{List, ℤ, None, Some, All, AllPairs, Any, Contains, filter, length};
+ghost use Rattle.std.specs.Prelude.{◌≡◌, ◌≢◌, ◌≤◌, ◌+◌, ◌↔◌, [], ◌∷◌, ◌++◌, ◌≤ℤ◌, ◌<ℤ◌, ℕ};
+ghost use Rattle.std.specs.Prelude.{List, ℤ, None, Some, true, false, All, AllPairs, Any, Contains, filter, length};
 ghost use Rattle.std.specs.List.{last_or};
 ghost use Rattle.std.specs.Str.{bytes_eq};
 ghost use Rattle.fm_model.specs.declared.full.Full.{Full as TooMany};
 ghost use Rattle.fm_model.specs.declared.full.Which.TheVariants.{Files};
 ghost use Rattle.fm_model.specs.declared.loaded.Loaded.{Loaded};
 ghost use Rattle.fm_model.specs.declared.op.Op.{Op};
-ghost use Rattle.fm_model.specs.declared.op.Op.TheVariants.{Put, Expire};
-ghost use Rattle.fm_model.specs.Collection.{after_op, coll, full_at, tally, without};
+ghost use Rattle.fm_model.specs.declared.op.Op.TheVariants.{Put, Expire, Retract};
+ghost use Rattle.fm_model.specs.Collection.{after_op, coll, full_at, holds, holds_older, tally, without};
 ghost use Rattle.fm_model.specs.Collection.{DifferInName, IsFirstPassed, IsWithin};
 
 use crate::limit::MAX_FILES;
@@ -46,6 +46,38 @@ pub fn expire_keeps_runs_from_its_cutoff()
         ≡ after_op files (Expire cutoff) }
 {}
 
+/// A retraction leaves the files without that of its name, in their order: it takes out just that file, whatever others
+/// its run has. The same retraction again changes nothing, and a put of that name leaves what it leaves without it.
+pub fn a_retraction_takes_out_the_file_of_its_name()
+    ensures kept { (files : List Loaded) (name : List ℕ) (file : Loaded) →
+        Contains (after_op files (Retract name)) file
+        ↔ (Contains files file × (file.name ≢ name)) }
+    ensures one { (before after : List Loaded) (file : Loaded) →
+        AllPairs DifferInName (before ++ file ∷ after)
+        → after_op (before ++ file ∷ after) (Retract file.name) ≡ before ++ after }
+    ensures order { (files more : List Loaded) (name : List ℕ) →
+        after_op (files ++ more) (Retract name)
+        ≡ after_op files (Retract name) ++ after_op more (Retract name) }
+    ensures again { (files : List Loaded) (name : List ℕ) →
+        after_op (after_op files (Retract name)) (Retract name)
+        ≡ after_op files (Retract name) }
+    ensures put { (files : List Loaded) (file : Loaded) →
+        after_op (after_op files (Retract file.name)) (Put file) ≡ after_op files (Put file) }
+{}
+
+/// A retraction of a name that no held file has, and an expire of runs that are all at its cutoff or later, change
+/// nothing.
+pub fn what_is_not_held_is_not_taken_out()
+    ensures name { (files : List Loaded) (name : List ℕ) →
+        (holds files name ≡ true) ↔ Any (λ (file : Loaded). file.name ≡ name) files }
+    ensures retract { (files : List Loaded) (name : List ℕ) →
+        holds files name ≡ false → after_op files (Retract name) ≡ files }
+    ensures older { (files : List Loaded) (cutoff : ℤ) →
+        (holds_older files cutoff ≡ true) ↔ Any (λ (file : Loaded). file.run <ℤ cutoff) files }
+    ensures expire { (files : List Loaded) (cutoff : ℤ) →
+        holds_older files cutoff ≡ false → after_op files (Expire cutoff) ≡ files }
+{}
+
 /// The files of a collection have different names, whatever was done.
 pub fn names_differ()
     ensures { (ops : List Op) → AllPairs DifferInName (coll ops) }
@@ -63,6 +95,14 @@ pub fn full_exactly_past_a_limit()
         (full_at files op ≡ None) ↔ IsWithin (tally (after_op files op)) }
     ensures full { (files : List Loaded) (op : Op) (full : TooMany) →
         (full_at files op ≡ Some full) ↔ IsFirstPassed (tally (after_op files op)) full }
+{}
+
+/// An expire or a retraction is never refused of a collection that is within the limits.
+pub fn only_a_put_is_refused()
+    ensures expire { (files : List Loaded) (cutoff : ℤ) → IsWithin (tally files)
+        → full_at files (Expire cutoff) ≡ None }
+    ensures retract { (files : List Loaded) (name : List ℕ) → IsWithin (tally files)
+        → full_at files (Retract name) ≡ None }
 {}
 
 /// A collection with as many files as it may hold refuses a file of one more name, and never for the number of its

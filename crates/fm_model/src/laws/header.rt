@@ -6,12 +6,12 @@ ghost use Rattle.fm_base.specs.Layout.{layout_fault};
 ghost use Rattle.fm_base.specs.Reading.{header_or_fault};
 ghost use Rattle.fm_model.specs.declared.proto.Proto.{Proto};
 ghost use Rattle.fm_model.specs.LoadAxis.{file_axis, file_header};
-ghost use Rattle.fm_model.specs.Prototype.{sound_header};
+ghost use Rattle.fm_model.specs.Prototype.{proto_header};
 ghost use Rattle.fm_model.specs.Variable.{is_coordinate};
 
 /// The header of a prototype, and of a file that is taken, is that of the bytes, and all data lies in them.
 pub fn headers_have_their_data_in_the_file()
-    ensures proto { (bytes : List ℕ) (header : FileHeader) → sound_header bytes ≡ Ok header
+    ensures proto { (bytes : List ℕ) (header : FileHeader) → proto_header bytes ≡ Ok header
         → (header_or_fault bytes ≡ Ok header) × (layout_fault header (length bytes) ≡ None) }
     ensures file { (bytes : List ℕ) (header : FileHeader) → file_header bytes ≡ Ok header
         → (header_or_fault bytes ≡ Ok header) × (layout_fault header (length bytes) ≡ None) }

@@ -15,7 +15,8 @@ ghost use Rattle.fm_model.specs.Load.{load_of, Fits};
 ghost use Rattle.fm_model.specs.LoadAxis.{file_axis, file_header};
 ghost use Rattle.fm_model.specs.LoadTimes.{file_units, run_by_name, run_by_variable, time_at, IsInstant};
 ghost use Rattle.fm_model.specs.LoadVars.{slot_in, slotted_vars};
-ghost use Rattle.fm_model.specs.LoadVars.{IsSameGrid, IsSlotOf};
+ghost use Rattle.fm_model.specs.LoadVars.{IsSameGrid, IsSlotOf, LiesWithin};
+ghost use Rattle.fm_model.specs.Prototype.{IsSound};
 ghost use Rattle.fm_model.specs.Variable.{dim_of_axis, is_coordinate, reference_of, stands_first_alone};
 
 use crate::limit::MAX_TIMES;
@@ -78,19 +79,27 @@ pub fn a_fit_file_has_a_slot_for_each_variable()
         → AllZip (IsSlotOf proto header axis) (slotted_vars proto) file.slots }
 {}
 
+/// The data of each slot lies in the content, at each of the file's times.
+pub fn the_data_of_slots_lies_in_the_content()
+    ensures { (file : Loaded) (proto : Proto) → IsSound proto → Fits file proto
+        → AllZip (LiesWithin proto (length file.times) (length file.content))
+        (slotted_vars proto) file.slots }
+{}
+
 /// A file that fits lies on the prototype's grid: it has each coordinate variable but for the axis, with the same
 /// elements.
 pub fn a_fit_file_has_the_same_grid()
-    ensures { (file : Loaded) (proto : Proto) (header : FileHeader) → Fits file proto
+    ensures { (file : Loaded) (proto : Proto) (header : FileHeader) → IsSound proto
+        → Fits file proto
         → file_header file.content ≡ Ok header
         → All (λ (wanted : ProtoVar). wanted.name ≢ proto.axis → wanted.timed ≡ false
         → IsTrue (is_coordinate proto.dims wanted.name wanted.kind wanted.dims)
         → IsSameGrid proto file.content header wanted) proto.vars }
 {}
 
-/// A slot tells where each element of its variable lies: at the k-th time they begin at `begin + k * step`, and follow
+/// A slot says where each element of its variable lies: at the k-th time they begin at `begin + k * step`, and follow
 /// each other in row-major order.
-pub fn slots_tell_places()
+pub fn slots_say_where_elements_lie()
     ensures { (header : FileHeader) (axis var : NcVar) (k : ℕ) (index : List ℕ) →
         IsTrue (stands_first_alone (dim_of_axis axis) var.dims)
         → place_of header var (k ∷ index)

@@ -1,9 +1,9 @@
 //! Prototypes.
-ghost use Rattle.std.specs.Prelude.{◌≡◌, ℕ, List, Ok};
+ghost use Rattle.std.specs.Prelude.{◌≡◌, ◌≤◌, ℕ, List, Ok, length};
 ghost use Rattle.fm_model.specs.declared.proto.Proto.{Proto};
 ghost use Rattle.fm_model.specs.declared.site.Site.{Site};
 ghost use Rattle.fm_model.specs.Prototype.{proto_of, IsSound};
-ghost use Rattle.fm_model.specs.Site.{IsPrototype};
+ghost use Rattle.fm_model.specs.Site.{IsPrototype, IsSite};
 
 /// Bytes are at most one prototype at a site, which keeps the site.
 pub fn bytes_are_one_prototype()
@@ -13,8 +13,16 @@ pub fn bytes_are_one_prototype()
         proto_of bytes site ≡ Ok proto → proto.site ≡ site }
 {}
 
-/// A prototype has its axis among its variables; a variable along the axis has that dimension first and only there;
-/// names are plain, and those that the views add are free; and all dimensions but the axis's have a length.
+/// A collection's prototype is that of a file of at most 536,870,912 bytes, at a site that a collection may have.
+pub fn a_prototype_is_of_a_file_within_the_limit()
+    ensures made { (bytes : List ℕ) (proto : Proto) → length bytes ≤ 536870912
+        → IsSite proto.site → proto_of bytes proto.site ≡ Ok proto → IsPrototype proto }
+    ensures few { (proto : Proto) (given : IsPrototype proto) → length given.bytes ≤ 536870912 }
+{}
+
+/// A prototype has its axis among its variables, of numbers; a variable along the axis has that dimension first and
+/// only there, and any other has all its elements; names differ and are plain, and those that the views add are free;
+/// and the dimensions of variables are there, and all but the axis's have a length.
 pub fn a_prototype_is_sound()
     ensures read { (bytes : List ℕ) (site : Site) (proto : Proto) →
         proto_of bytes site ≡ Ok proto → IsSound proto }

@@ -13,7 +13,7 @@ pub fn rising_rises()
     ensures { (instants : List ℤ) → Rises (rising instants) }
 {}
 
-/// A list that rises is told by its members.
+/// Two lists that rise and have the same members are the same list.
 pub fn rising_lists_differ_by_members()
     ensures { (a b : List ℤ) → Rises a → Rises b
         → ((instant : ℤ) → Contains a instant ↔ Contains b instant) → a ≡ b }

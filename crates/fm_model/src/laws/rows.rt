@@ -1,15 +1,15 @@
 //! The rows of views.
-ghost use Rattle.std.specs.Prelude.{◌≡◌, ◌↔◌, List, ℤ, Some, map, Any, Contains};
+ghost use Rattle.std.specs.Prelude.{◌≡◌, ◌↔◌, ◌≤ℤ◌, ◌-ℤ◌, List, ℤ, None, Some, map, All, Any, Contains};
 ghost use Rattle.fm_model.specs.declared.loaded.Loaded.{Loaded};
 ghost use Rattle.fm_model.specs.declared.row.Row.{Row};
 ghost use Rattle.fm_model.specs.declared.row.ViewName.{ViewName};
-ghost use Rattle.fm_model.specs.declared.row.ViewName.TheVariants.{Best};
-ghost use Rattle.fm_model.specs.Cell.{cell, times_of, IsBest};
+ghost use Rattle.fm_model.specs.declared.row.ViewName.TheVariants.{Best, BestFrom, Run};
+ghost use Rattle.fm_model.specs.Cell.{cell, times_of, times_of_run, HasTimeFrom, IsBest};
 ghost use Rattle.fm_model.specs.Rising.{Rises};
-ghost use Rattle.fm_model.specs.Rows.{rows, instant_in, Shows, TellsFile};
+ghost use Rattle.fm_model.specs.Rows.{rows, instant_in, Shows, HasHeldFile};
 
-/// The rows of a view rise: by valid time in the best time series and in that of a run, by run at an offset and for a
-/// forecast time. So no instant stands there twice.
+/// The rows of a view rise: by valid time in a best time series and in the dataset of a run, by run at an offset and
+/// for a forecast time. So no instant stands there twice.
 pub fn rows_rise()
     ensures { (files : List Loaded) (view : ViewName) →
         Rises (map (instant_in view) (rows files view)) }
@@ -32,11 +32,36 @@ pub fn best_has_each_time_once()
         Contains (map (λ (row : Row). row.valid) (rows files Best)) valid
         ↔ Any (λ (file : Loaded). Contains file.times valid) files }
     ensures greatest { (files : List Loaded) (row : Row) →
-        Contains (rows files Best) row → IsBest files row.valid row.run }
+        Contains (rows files Best) row → IsBest files row.valid None row.run }
+{}
+
+/// With a least offset the best time series has each valid time that some file has at least that many seconds after
+/// its run, once, from the greatest such run. A valid time that no run has early enough is left out.
+pub fn a_least_offset_leaves_the_times_that_some_run_has_early_enough()
+    ensures times { (files : List Loaded) (least valid : ℤ) →
+        Contains (map (λ (row : Row). row.valid) (rows files (BestFrom least))) valid
+        ↔ Any (HasTimeFrom valid (Some least)) files }
+    ensures greatest { (files : List Loaded) (least : ℤ) (row : Row) →
+        Contains (rows files (BestFrom least)) row → IsBest files row.valid (Some least) row.run }
+    ensures offset { (files : List Loaded) (least : ℤ) (row : Row) →
+        Contains (rows files (BestFrom least)) row → least ≤ℤ (row.valid -ℤ row.run) }
+{}
+
+/// A least offset that no valid time of a file lies below, as the least of all offsets, leaves the best time series.
+pub fn the_least_of_all_offsets_leaves_the_best_time_series()
+    ensures { (files : List Loaded) (least : ℤ) →
+        All (λ (file : Loaded). All (λ time. least ≤ℤ (time -ℤ file.run)) file.times) files
+        → rows files (BestFrom least) ≡ rows files Best }
+{}
+
+/// Each valid time of a run stands once in the dataset of the run, in rising order.
+pub fn a_run_has_each_of_its_times_once()
+    ensures { (files : List Loaded) (run : ℤ) →
+        map (λ (row : Row). row.valid) (rows files (Run run)) ≡ times_of_run files run }
 {}
 
 /// The file of a row is held, is of the row's run, and has the row's valid time at the row's place.
-pub fn rows_tell_their_files()
+pub fn rows_have_held_files()
     ensures { (files : List Loaded) (view : ViewName) (row : Row) →
-        Contains (rows files view) row → TellsFile files row }
+        Contains (rows files view) row → HasHeldFile files row }
 {}

@@ -1,8 +1,8 @@
-//! What no clause says of a check: that it answers with ample memory, and its lines as a user sees them.
+//! What no clause says of a check: that it succeeds with ample memory, and its lines as a user sees them.
 
 use crate::run;
 use crate::tests::{entry, numbers, sample};
-use fm_base::{Bytes, List};
+use fm_base::{Bytes, List, NoMemory};
 use fm_world::{MemFiles, MemLink, MemSink, World};
 use std::alloc::Global;
 use std::test::Fail;
@@ -35,12 +35,17 @@ impl<'a> Given<'a> {
 
 /// The status of a run and the line that it wrote.
 fn ran(alloc: Global, given: &Given<'_>) -> Result<(u8, Bytes), Fail> {
+    let mut content = sample(alloc, given.changes)?;
+    content.items.truncate(given.len);
+    ran_over(alloc, given, content)
+}
+
+/// The same over this content of the file.
+fn ran_over(alloc: Global, given: &Given<'_>, content: Bytes) -> Result<(u8, Bytes), Fail> {
     let mut words = List::new(alloc);
     for word in given.words {
         words.push(Bytes::copy_of(alloc, word)?)?;
     }
-    let mut content = sample(alloc, given.changes)?;
-    content.items.truncate(given.len);
     let mut entries = List::new(alloc);
     entries.push(entry(alloc, b"file.nc", content)?)?;
     let mut world = World {
@@ -54,7 +59,7 @@ fn ran(alloc: Global, given: &Given<'_>) -> Result<(u8, Bytes), Fail> {
 }
 
 #[test]
-fn a_sound_file_is_told_by_its_counts(rt: HostRuntime) -> Result<(), Fail> {
+fn a_sound_file_is_reported_by_its_counts(rt: HostRuntime) -> Result<(), Fail> {
     let (status, line) = ran(rt.alloc(), &Given::sample())?;
     assert_eq!(rt; status, 0);
     assert_eq!(rt;
@@ -149,5 +154,54 @@ fn a_device_that_fails_is_blamed(rt: HostRuntime) -> Result<(), Fail> {
     let (status, line) = ran(rt.alloc(), &unwritten)?;
     assert_eq!(rt; status, 7);
     assert!(rt; line.is_empty());
+    Ok(())
+}
+
+/// Appends numbers of four bytes.
+fn put_words(words: &[u32], out: &mut Bytes) -> Result<(), NoMemory> {
+    for word in words {
+        out.append(&word.to_be_bytes())?;
+    }
+    Ok(())
+}
+
+/// A file with a name and a text of 1,001 bytes, a variable of rank 1,024, one without elements and one of 70,000 bytes.
+fn large_file(alloc: Global) -> Result<Bytes, NoMemory> {
+    let mut file = Bytes::copy_of(alloc, b"CDF\x01")?;
+    put_words(&[0, 10, 3, 1001], &mut file)?;
+    file.append(&[b'd'; 1001])?;
+    file.append(b"\0\0\0\0\0\0\x01\0\0\0\x04time\0\0\0\0\0\0\0\x01n\0\0\0")?;
+    put_words(&[70_000, 12, 1, 1, 0x6100_0000, 2, 1001], &mut file)?;
+    file.append(&[b'x'; 1001])?;
+    file.append(b"\0\0\0")?;
+    put_words(&[11, 3, 1, 0x7200_0000, 1024], &mut file)?;
+    put_words(&[0; 1024], &mut file)?;
+    put_words(&[0, 0, 1, 4, BEGIN], &mut file)?;
+    put_words(
+        &[1, 0x7600_0000, 1, 1, 0, 0, 6, 8, BEGIN + 70_004],
+        &mut file,
+    )?;
+    put_words(
+        &[1, 0x7700_0000, 1, 2, 0, 0, 1, 70_000, BEGIN + 4],
+        &mut file,
+    )?;
+    for _ in 0..17_501 {
+        file.append(b"\0\0\0\0")?;
+    }
+    Ok(file)
+}
+
+/// Where the data of the large file begins: the length of its header.
+const BEGIN: u32 = 6288;
+
+#[test]
+fn a_large_file_is_checked_with_ample_memory(rt: HostRuntime) -> Result<(), Fail> {
+    let alloc = rt.alloc();
+    let (status, line) = ran_over(alloc, &Given::sample(), large_file(alloc)?)?;
+    assert_eq!(rt;
+        line.as_slice(),
+        b"ok CDF-1 dims 3 vars 3 records 0\n".as_slice()
+    );
+    assert_eq!(rt; status, 0);
     Ok(())
 }

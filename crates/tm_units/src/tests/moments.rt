@@ -1,4 +1,4 @@
-//! Moments in names and texts, with the seconds that GNU `date` gives for them.
+//! Moments in names and texts, with their seconds by GNU `date`.
 
 use crate::{instant_text, read_instant, read_mark};
 use fm_base::{Bytes, NoMemory};

@@ -1,4 +1,4 @@
--- The equations hold by computing.
+-- The example boxes have these index lists, by computing.
 use Rattle.std.proofs.Common.{refl}
 use Rattle.fm_base.specs.Layout.{product}
 use Rattle.dap_model.specs.Box.{box_len, box_of, index_at, slab_count, slab_indices}

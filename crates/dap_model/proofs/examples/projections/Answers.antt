@@ -1,4 +1,4 @@
--- The equations hold by computing.
+-- These parts are sent for the example constraints, by computing.
 use Rattle.std.proofs.Common.{refl}
 use Rattle.dap_model.specs.Box.{slab_count, whole_slab}
 use Rattle.fm_base.specs.Name.{is_name_byte}
@@ -10,7 +10,10 @@ use Rattle.dap_model.specs.Projection.{all_sent, cut_array, cut_parts, decl_sent
 use Rattle.dap_model.proofs.examples.projections.Goals as goal
 
 pub returns : goal.returns
-unfolding slab_count whole_slab is_name_byte slab_of clauses_at constraint_of read_from step step_name step_number step_on step_to_name all_sent clause_fault conflict_fault cut_array cut_parts decl_fault decl_named decl_sent first_fault given_by is_kept is_sent is_within picked_by picked_part projection_of range_fault rank_fault sent_of slabs_of whole_slabs
+unfolding slab_count whole_slab is_name_byte slab_of clauses_at constraint_of read_from step step_name step_number
+    step_on step_to_name all_sent clause_fault conflict_fault cut_array cut_parts decl_fault decl_named decl_sent
+    first_fault given_by is_kept is_sent is_within picked_by picked_part projection_of range_fault rank_fault sent_of
+    slabs_of whole_slabs
 returns c = record {
   grid = refl;
   member = refl;

@@ -1,4 +1,4 @@
--- The equations hold by computing.
+-- The example slabs have these indices, by computing.
 use Rattle.std.proofs.Common.{refl}
 use Rattle.dap_model.specs.Box.{slab_count, slab_indices}
 use Rattle.dap_model.proofs.examples.slabs.Goals as goal

@@ -1,4 +1,4 @@
--- The equations hold by computing.
+-- The example texts have these bytes, by computing.
 use Rattle.std.proofs.Common.{refl}
 use Rattle.dap_model.specs.Xdr.{text_bytes, texts_bytes}
 use Rattle.dap_model.proofs.examples.texts.Goals as goal

@@ -1,4 +1,4 @@
--- The equations hold by computing.
+-- The example numbers and arrays have these bytes, by computing.
 use Rattle.std.proofs.Common.{refl}
 use Rattle.dap_model.specs.Xdr.{array_bytes, count_twice, elements_bytes, number_bytes}
 use Rattle.dap_model.proofs.examples.words.Goals as goal

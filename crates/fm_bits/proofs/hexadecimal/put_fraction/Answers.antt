@@ -14,8 +14,10 @@ returns c =
     let count = (width + 3) / 4 in
     let digits = λ (n : ℕ). fixed_digits 16 count n in
     let whole : (c.from.result * 2 ^ (4 * count - width)) % 2 ^ 128 ≡ c.args.odd * 2 ^ (4 * count - width) =
-    ap (λ x. (x * 2 ^ (4 * count - width)) % 2 ^ 128) c.from.ensures ∙ hex_digits_fit c.args.odd width c.ranges.odd.fits in
-    let written : c.push.new.self ++ digits ((c.from.result * 2 ^ (4 * count - width)) % 2 ^ 128) ≡ c.args.out.now ++ hex_fraction c.args.odd =
+    ap (λ x. (x * 2 ^ (4 * count - width)) % 2 ^ 128) c.from.ensures
+    ∙ hex_digits_fit c.args.odd width c.ranges.odd.fits in
+    let written : c.push.new.self ++ digits ((c.from.result * 2 ^ (4 * count - width)) % 2 ^ 128)
+    ≡ c.args.out.now ++ hex_fraction c.args.odd =
     ap (λ x. x ++ digits ((c.from.result * 2 ^ (4 * count - width)) % 2 ^ 128)) c.in_ok-push.ensures.ok
     ∙ append_assoc c.args.out.now (46 ∷ []) _
     ∙ ap (λ x. c.args.out.now ++ (46 ∷ [] ++ digits x)) whole

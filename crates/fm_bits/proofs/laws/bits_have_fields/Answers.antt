@@ -1,4 +1,4 @@
--- A lemma on the definitions.
+-- Bits are made of their own fields.
 use Rattle.fm_bits.proofs.FieldLemmas.{bits_of_fields-of_bits}
 use Rattle.fm_bits.proofs.laws.bits_have_fields.Goals as goal
 

@@ -1,4 +1,4 @@
--- The text so far is the opening mark, and what each byte gives.
+-- The text so far is the opening mark, and then what is written for each byte.
 use Rattle.std.proofs.Common.{◌≡◌, [], ◌∷◌, ◌++◌, take}
 use Rattle.std.specs.List.{flat_map}
 use Rattle.fm_bits.specs.Quoted.{escaped}

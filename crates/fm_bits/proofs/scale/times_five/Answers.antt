@@ -10,5 +10,6 @@ pow-requires c = omega (arith, five_pow_le c.args.power 50 (omega arith))
 pub returns-then-product : goal.returns-then-product
 returns-then-product c =
     let is : c.in_ok-product.product ≡ c.args.n * 5 ^ c.args.power =
-    c.in_ok-product.ensures.1 ∙ ap (λ x. x * c.from.result) c.pow.ensures ∙ ap (λ x. 5 ^ c.args.power * x) c.from.ensures ∙ mul_comm _ _ in
+    c.in_ok-product.ensures.1 ∙ ap (λ x. x * c.from.result) c.pow.ensures
+    ∙ ap (λ x. 5 ^ c.args.power * x) c.from.ensures ∙ mul_comm _ _ in
     ((omega arith, omega arith), is)

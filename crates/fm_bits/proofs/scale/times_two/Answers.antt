@@ -10,7 +10,8 @@ pub returns-then-power-ge127 : goal.returns-then-power-ge127
 returns-then-power-ge127 c small =
     let one = one_shl (127 - c.args.power) 128 in
     elim c.then-power-ge127.branch [
-      | then-power-ge127-via-then-power-ge127 w ↦ omega (arith, mul-two_pow-ge c.args.n 127 c.args.power (omega arith) (omega arith))
+      | then-power-ge127-via-then-power-ge127 w ↦
+          omega (arith, mul-two_pow-ge c.args.n 127 c.args.power (omega arith) (omega arith))
       | then-power-ge127-via-else-power-ge127+then-n-power w ↦
           let least : 2 ^ (127 - c.args.power) ≤ c.args.n = omega (arith, one (omega arith)) in
           omega (arith, shl-ge c.args.n (127 - c.args.power) c.args.power 127 (omega arith) least)
@@ -19,5 +20,6 @@ returns-then-power-ge127 c small =
 pub returns : goal.returns
 returns c =
     let most : c.args.n < 2 ^ (127 - c.args.power) = omega (arith, one_shl (127 - c.args.power) 128 (omega arith)) in
-    let below : c.args.n * 2 ^ c.args.power < 2 ^ 127 = shl-lt c.args.n (127 - c.args.power) c.args.power 127 (omega arith) most in
+    let below : c.args.n * 2 ^ c.args.power < 2 ^ 127 =
+    shl-lt c.args.n (127 - c.args.power) c.args.power 127 (omega arith) most in
     (below, mod-eq_of_lt (omega arith))

@@ -1,3 +1,4 @@
+-- No entry before the index has the path.
 use Rattle.std.proofs.Common.{◌≡◌, drop}
 use Rattle.fm_world.specs.Files.{held}
 use Rattle.fm_world.proofs.mem_files.content_at.Given as goal

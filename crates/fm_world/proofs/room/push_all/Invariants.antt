@@ -1,3 +1,4 @@
+-- The bytes before the index were appended, and the room is the same.
 use Rattle.std.proofs.Common.{◌≡◌, ◌++◌, take, vec_capacity}
 use Rattle.fm_world.proofs.room.push_all.Given as goal
 

@@ -1,3 +1,4 @@
+-- The bytes before `sent` were sent, and no call failed.
 use Rattle.std.proofs.Common.{◌≡◌, ◌≤◌, ◌-◌, length, take}
 use Rattle.fm_world.specs.Link.{after_put}
 use Rattle.fm_world.proofs.whole.put_all.Given as goal
@@ -5,8 +6,8 @@ use Rattle.fm_world.proofs.whole.put_all.Given as goal
 abbrev pub invariant-loop-sent : goal.invariant-loop-sent
 invariant-loop-sent g l = record {
   within : l.sent ≤ length l.bytes;
-  sent : g.L.Link.told l.link ≡ after_put (take l.sent l.bytes) (g.L.Link.told l.fn.link);
-  faults : g.L.Link.fault_count l.fn.link ≤ g.L.Link.fault_count l.link;
+  sent : (g.L.Link.shown l.link).held ≡ after_put (take l.sent l.bytes) (g.L.Link.shown l.fn.link).held;
+  faults : (g.L.Link.shown l.link).faults ≡ (g.L.Link.shown l.fn.link).faults;
 }
 
 abbrev pub decreases-loop-sent : goal.decreases-loop-sent

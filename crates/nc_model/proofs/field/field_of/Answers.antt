@@ -1,4 +1,4 @@
-use Rattle.std.proofs.Common.{◌≡◌, ◌≤◌, ◌+◌, ◌*◌, length, drop, arith, length-drop}
+use Rattle.std.proofs.Common.{arith, length-drop}
 use Rattle.std.proofs.lemmas.Nat.{row_fits}
 use Rattle.nc_model.specs.Thin.{record_len, field_begin}
 use Rattle.nc_model.proofs.field.field_of.Goals as goal

@@ -1,3 +1,4 @@
+-- The slices before the index were appended, and no put failed.
 use Rattle.std.proofs.Common.{◌≡◌, ◌≤◌, take}
 use Rattle.std.specs.List.{flat_map}
 use Rattle.fm_world.specs.Sink.{after_append}
@@ -5,6 +6,7 @@ use Rattle.srv_run.proofs.report.put_pieces.Given as goal
 
 abbrev pub invariant-loop-piece : goal.invariant-loop-piece
 invariant-loop-piece g l = record {
-  put : g.S.Sink.told l.sink ≡ after_append (flat_map (λ piece. piece.now) (take l.piece-index l.pieces)) (g.S.Sink.told l.fn.sink);
-  faults : g.S.Sink.fault_count l.fn.sink ≤ g.S.Sink.fault_count l.sink;
+  put : (g.S.Sink.shown l.sink).held ≡ after_append (flat_map (λ piece. piece.now) (take l.piece-index l.pieces))
+      (g.S.Sink.shown l.fn.sink).held;
+  faults : (g.S.Sink.shown l.sink).faults ≡ (g.S.Sink.shown l.fn.sink).faults;
 }

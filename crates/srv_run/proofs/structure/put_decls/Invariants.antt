@@ -1,3 +1,4 @@
+-- The text of the declarations before the index was appended.
 use Rattle.std.proofs.Common.{◌≡◌, ◌++◌, take}
 use Rattle.dap_model.specs.StructureText.{decls_text}
 use Rattle.srv_run.proofs.structure.put_decls.Given as goal

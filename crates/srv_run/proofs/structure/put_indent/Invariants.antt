@@ -1,3 +1,4 @@
+-- A space was appended for each turn.
 use Rattle.std.proofs.Common.{◌≡◌, ◌++◌, replicate}
 use Rattle.srv_run.proofs.structure.put_indent.Given as goal
 

@@ -1,3 +1,4 @@
+-- The count, twice, and the elements are the array.
 use Rattle.std.proofs.Common.{◌≡◌, ℕ, List, ◌++◌, OnOk, subst, ◌∙◌, ap}
 use Rattle.dap_model.specs.declared.declaration.DapKind.TheVariants.{Float32}
 use Rattle.dap_model.specs.Xdr.{count_twice}

@@ -1,3 +1,4 @@
+-- The valid time of each row before the index was appended.
 use Rattle.std.proofs.Common.{◌≡◌, ◌++◌, take}
 use Rattle.dap_model.specs.declared.declaration.DapKind.TheVariants.{Int32}
 use Rattle.dap_model.specs.Xdr.{elements_bytes}

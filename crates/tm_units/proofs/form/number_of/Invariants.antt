@@ -1,3 +1,4 @@
+-- The number so far is that of the digits so far, and fits.
 use Rattle.std.proofs.Common.{◌≡◌, ◌≤◌, drop}
 use Rattle.fm_base.specs.Stamp.{number_of, number_after}
 use Rattle.tm_units.proofs.form.number_of.Given as goal

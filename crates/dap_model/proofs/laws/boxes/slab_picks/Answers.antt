@@ -1,4 +1,4 @@
--- Lemmas on the definitions.
+-- The indices of a slab are those that it picks, rising, and as many as its count.
 use Rattle.dap_model.proofs.SlabLemmas.{length-slab_indices, Contains-slab_indices, IsStrictlyIncreasing-slab_indices}
 use Rattle.dap_model.proofs.laws.boxes.slab_picks.Goals as goal
 

@@ -1,4 +1,4 @@
--- Lemmas on the definitions.
+-- The box of whole dimensions is all index lists of the array.
 use Rattle.dap_model.proofs.BoxLemmas.{box_of-whole, box_len-whole}
 use Rattle.dap_model.proofs.laws.boxes.whole_box.Goals as goal
 

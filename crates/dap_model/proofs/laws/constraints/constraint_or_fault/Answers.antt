@@ -1,4 +1,4 @@
--- What is read is one or the other.
+-- A text is a constraint or has a fault, and never both.
 use Rattle.std.proofs.Common.{◌≡◌, List, ℕ, Result, Ok, Err, refl}
 use Rattle.std.specs.Prelude.{MatchResult}
 use Rattle.dap_model.specs.declared.fault.CeFault.{CeFault}

@@ -1,4 +1,4 @@
--- A lemma on the definitions.
+-- What fitting slabs pick lies within the dimensions.
 use Rattle.dap_model.proofs.ProjectionFitLemmas.{picked_within}
 use Rattle.dap_model.proofs.laws.projections.fit_is_in_range.Goals as goal
 

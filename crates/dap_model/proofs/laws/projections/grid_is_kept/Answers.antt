@@ -1,4 +1,4 @@
--- Lemmas on the definitions.
+-- A Grid stays one where some clause names it alone, and is else a Structure.
 use Rattle.dap_model.proofs.GridLemmas.{IsGridOf-decl_sent, structure_sent}
 use Rattle.dap_model.proofs.laws.projections.grid_is_kept.Goals as goal
 

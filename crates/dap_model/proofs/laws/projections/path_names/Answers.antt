@@ -1,4 +1,4 @@
--- What picks something names it, and what is named is picked.
+-- A path that picks something names it, and what is named is picked.
 use Rattle.dap_model.proofs.PickingLemmas.{Names-picked, picked_if_named}
 use Rattle.dap_model.proofs.laws.projections.path_names.Goals as goal
 

@@ -1,4 +1,4 @@
--- No first fault is no fault.
+-- A projection is accepted exactly where no clause has a fault.
 use Rattle.std.proofs.Common.{[]}
 use Rattle.dap_model.proofs.ProjectionFaultLemmas.{none_after, no_first_fault}
 use Rattle.dap_model.proofs.ProjectionAcceptLemmas.{faultless_if_ok, ok_if_faultless}

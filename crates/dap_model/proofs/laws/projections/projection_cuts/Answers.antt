@@ -1,4 +1,4 @@
--- A lemma on what is sent.
+-- The arrays of the declarations that are sent are the parts that are sent.
 use Rattle.std.proofs.Common.{subst}
 use Rattle.std.specs.List.{AllZip, flat_map}
 use Rattle.dap_model.specs.declared.projection.Projected.{Projected}

@@ -15,4 +15,5 @@ returns c = λ sends k d within.
     let accepted = Accepted-projection_of decls clauses c.args.projected.now sends in
     let same = ap (λ (p : Projected). p.sent) accepted.all in
     let has = subst (λ (l : List Sent). Has l (get_or list k d)) (sym same) (Has-at list k d within) in
-    FitsPart-sent decls clauses (get_or list k d) c.requires.apart c.requires.gridded accepted.faultless (PartSent-all_sent decls clauses (get_or list k d) has)
+    FitsPart-sent decls clauses (get_or list k d) c.requires.apart c.requires.gridded accepted.faultless
+    (PartSent-all_sent decls clauses (get_or list k d) has)

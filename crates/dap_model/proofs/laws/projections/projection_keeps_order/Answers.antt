@@ -1,4 +1,4 @@
--- Each list is made in the dataset's order.
+-- Declarations and parts are sent in the dataset's order.
 use Rattle.std.proofs.Common.{List, ◌∙◌, ap, map, subst, sym}
 use Rattle.dap_model.specs.declared.projection.Projected.{Projected}
 use Rattle.dap_model.specs.declared.projection.Sent.{Sent}
@@ -21,5 +21,6 @@ returns c =
       sent = λ sends.
           let all = (Accepted-projection_of decls clauses c.args.projected.now sends).all in
           AllPairs-from_ordered StandsBefore c.args.projected.now.sent
-          (subst (λ (l : List Sent). Ordered StandsBefore l) (ap (λ (p : Projected). p.sent) all) (AllPairs-all_sent decls clauses));
+          (subst (λ (l : List Sent). Ordered StandsBefore l) (ap (λ (p : Projected). p.sent) all)
+          (AllPairs-all_sent decls clauses));
     }

@@ -1,4 +1,4 @@
--- Whole slabs leave the lengths as they are.
+-- Without a clause, declarations are sent as they stand and each part whole.
 use Rattle.std.proofs.Common.{[], List, ◌∙◌, ap, subst, sym}
 use Rattle.dap_model.specs.declared.projection.Projected.{Projected}
 use Rattle.dap_model.specs.declared.projection.Sent.{Sent}
@@ -18,8 +18,13 @@ returns c =
           let all = (Accepted-projection_of decls [] c.args.projected.now sends).all in
           sym (ap (λ (p : Projected). p.decls) all) ∙ all_sent-whole decls;
       sent = λ sends.
-          let same = ap (λ (p : Projected). p.sent) (Accepted-projection_of decls [] c.args.projected.now sends).all in (
-            λ found. (whole_sent decls sent).0 (PartSent-all_sent decls [] sent (subst (λ (l : List Sent). Has l sent) (sym same) (Has-from_contains list sent found))),
-            λ whole. contains_from_Has list sent (subst (λ (l : List Sent). Has l sent) same (Has-all_sent decls [] sent ((whole_sent decls sent).1 whole))),
+          let same =
+          ap (λ (p : Projected). p.sent) (Accepted-projection_of decls [] c.args.projected.now sends).all in (
+            λ found. (whole_sent decls sent).0
+                (PartSent-all_sent decls [] sent
+                (subst (λ (l : List Sent). Has l sent) (sym same) (Has-from_contains list sent found))),
+            λ whole. contains_from_Has list sent
+                (subst (λ (l : List Sent). Has l sent) same
+                (Has-all_sent decls [] sent ((whole_sent decls sent).1 whole))),
           );
     }

@@ -1,4 +1,4 @@
--- The first fault is the one that is found.
+-- The fault of a projection is the first of the first clause that has one.
 use Rattle.dap_model.proofs.ProjectionFaultLemmas.{IsFirstFault-first_fault, first_fault-is}
 use Rattle.dap_model.proofs.ProjectionAcceptLemmas.{first_fault-refused, refused-first_fault}
 use Rattle.dap_model.proofs.laws.projections.projection_refuses.Goals as goal

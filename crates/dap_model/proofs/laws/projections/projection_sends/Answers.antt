@@ -1,4 +1,4 @@
--- The slabs of a part are those of each clause that names it.
+-- With clauses, exactly the parts are sent that some clause names, with its slabs.
 use Rattle.std.proofs.Common.{List, ap, subst, sym}
 use Rattle.dap_model.specs.declared.projection.Projected.{Projected}
 use Rattle.dap_model.specs.declared.projection.Sent.{Sent}
@@ -15,6 +15,8 @@ returns c = λ sends.
     let accepted = Accepted-projection_of decls clauses c.args.projected.now sends in
     let same = ap (λ (p : Projected). p.sent) accepted.all in
     let asked = asked_sent decls clauses sent c.requires.some c.requires.apart accepted.faultless in (
-      λ found. asked.0 (PartSent-all_sent decls clauses sent (subst (λ (l : List Sent). Has l sent) (sym same) (Has-from_contains c.args.projected.now.sent sent found))),
-      λ whole. contains_from_Has c.args.projected.now.sent sent (subst (λ (l : List Sent). Has l sent) same (Has-all_sent decls clauses sent (asked.1 whole))),
+      λ found. asked.0 (PartSent-all_sent decls clauses sent
+          (subst (λ (l : List Sent). Has l sent) (sym same) (Has-from_contains c.args.projected.now.sent sent found))),
+      λ whole. contains_from_Has c.args.projected.now.sent sent
+          (subst (λ (l : List Sent). Has l sent) same (Has-all_sent decls clauses sent (asked.1 whole))),
     )

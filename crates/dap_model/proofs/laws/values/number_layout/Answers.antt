@@ -1,4 +1,4 @@
--- A lemma on the definitions.
+-- A number alone takes as many bytes as its kind says.
 use Rattle.dap_model.proofs.XdrLemmas.{length-number_bytes}
 use Rattle.dap_model.proofs.laws.values.number_layout.Goals as goal
 

@@ -1,4 +1,4 @@
--- A lemma on the definitions.
+-- A text takes four bytes and its own, up to a multiple of four.
 use Rattle.dap_model.proofs.XdrLemmas.{length-text_bytes}
 use Rattle.dap_model.proofs.laws.values.text_layout.Goals as goal
 

@@ -1,4 +1,4 @@
--- Lemmas on the definitions.
+-- Each text of an array stands after those before it.
 use Rattle.dap_model.proofs.TextsLemmas.{slice_get-texts_bytes}
 use Rattle.dap_model.proofs.XdrLemmas.{length-texts_bytes}
 use Rattle.dap_model.proofs.laws.values.texts_layout.Goals as goal

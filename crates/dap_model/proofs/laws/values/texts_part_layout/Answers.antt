@@ -1,4 +1,4 @@
--- A lemma on the definitions.
+-- The texts of a part are an array of the texts at its places.
 use Rattle.dap_model.proofs.TextsLemmas.{texts_part}
 use Rattle.dap_model.proofs.laws.values.texts_part_layout.Goals as goal
 

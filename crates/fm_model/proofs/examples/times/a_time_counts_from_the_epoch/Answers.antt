@@ -1,12 +1,14 @@
 -- The definitions compute.
 use Rattle.std.proofs.Common.{refl}
 use Rattle.std.specs.Int.Count.{count_trailing_zeros}
-use Rattle.fm_base.specs.Layout.{element, place_of, product, rank_in, record_size, slab_size}
+use Rattle.fm_base.specs.Layout.{element, place_of, product, rank_in, record_size, vsize}
 use Rattle.fm_base.specs.Pattern.{finite, value_of_fields}
-use Rattle.fm_base.specs.Reading.{names_record}
+use Rattle.fm_base.specs.Reading.{names_record_dim}
 use Rattle.fm_model.specs.LoadTimes.{is_instant, seconds_at, time_at, time_in_range}
 use Rattle.fm_model.proofs.examples.times.a_time_counts_from_the_epoch.Goals as goal
 
 pub returns : goal.returns
-unfolding element place_of product rank_in record_size slab_size finite value_of_fields names_record count_trailing_zeros is_instant seconds_at time_at time_in_range
+unfolding element place_of product rank_in record_size vsize finite value_of_fields names_record_dim
+    count_trailing_zeros
+    is_instant seconds_at time_at time_in_range
 returns c = refl

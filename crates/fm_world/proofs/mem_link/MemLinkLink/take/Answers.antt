@@ -3,4 +3,6 @@ use Rattle.fm_world.proofs.LinkLemmas.{after_take_more}
 use Rattle.fm_world.proofs.mem_link.MemLinkLink.take.Goals as goal
 
 pub returns-clause-taken : goal.returns-clause-taken
-returns-clause-taken c = after_take_more c.args.self.now.taken c.copy_front-count.result c.args.self.now.input c.args.self.now.output.bytes.items
+returns-clause-taken c =
+    let link = c.args.self.now in
+    after_take_more link.taken c.copy_front-count.result link.input link.output.bytes.items

@@ -1,3 +1,4 @@
+-- An empty set holds the names of no items.
 use Rattle.nc_header.proofs.NameLemmas.{HoldsNames-empty}
 use Rattle.nc_header.proofs.found.Found.new.Goals as goal
 

@@ -1,0 +1,21 @@
+//! The devices of the machine, as the traits of `fm_world`: its files, standard input and output as a link, and a
+//! standard stream as a sink. What they do stands in functions over any of std's readers and writers.
+#![tactic(auto)]
+
+mod args;
+mod content;
+mod files;
+mod link;
+mod process;
+mod sink;
+mod stream;
+#[cfg(test)]
+mod tests;
+
+pub use args::{NotText, words};
+pub use content::read_to_end;
+pub use files::RealFiles;
+pub use link::{StdLink, StreamLink};
+pub use process::{host_world, unread};
+pub use sink::{StdSink, StdStream, StreamSink};
+pub use stream::{read_some, write_some, write_whole};

@@ -1,0 +1,13 @@
+//! The program `fmrcd` again, for a second stored run: a check of a broken file.
+#![tactic(auto)]
+
+use fm_devices::{host_world, unread, words};
+use srv_run::run_process;
+use std::process::ExitCode;
+
+fn main(rt: HostRuntime) -> ExitCode {
+    match words(&rt) {
+        Ok(words) => run_process(rt.alloc(), &words, &mut host_world(rt, &words)),
+        Err(fail) => unread(&rt, fail),
+    }
+}

@@ -1,0 +1,10 @@
+-- The bytes of a variable that hold elements one after another.
+use Rattle.std.specs.Prelude.{ℕ, List, take, drop}
+use Rattle.fm_base.specs.declared.header.Header.{Header}
+use Rattle.fm_base.specs.declared.header.NcVar.{NcVar}
+use Rattle.fm_base.specs.Layout.{vsize}
+use Rattle.nc_layout.specs.Places.{part_begin}
+
+-- the bytes of a part of a variable
+abbrev pub part_bytes : List ℕ → Header → NcVar → ℕ → List ℕ
+part_bytes bytes header var k = take (vsize header var) (drop (part_begin header var k) bytes)

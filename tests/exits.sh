@@ -1,0 +1,87 @@
+#!/bin/sh
+# Runs the built program as a person would, and compares its exit statuses and which stream each line goes to.
+# Use: tests/exits.sh [PROGRAM]; by default the proved program. Ends with status 0 where all runs are as they must be.
+set -u
+top=$(cd "$(dirname "$0")/.." && pwd)
+program=${1:-$top/crates/fmrcd/out/fmrcd}
+folder=$(mktemp -d)
+trap 'rm -r "$folder"' EXIT
+failures=0
+runs=0
+
+sample=$folder/gfs_20240101_0000.nc
+cp "$top/crates/fmrcd/data/gfs_20240101_0000.nc" "$sample"
+head -c 351 "$sample" > "$folder/cut.nc"
+: > "$folder/none"
+printf 'GET /thredds/dodsC/gfs/gfs_best.ncd.dds HTTP/1.1\r\n\r\n' > "$folder/request"
+head -c 20 "$folder/request" > "$folder/begun"
+printf 'POST /\r\n\r\n' > "$folder/other"
+truncate -s 536870913 "$folder/long.nc"
+
+# Compares the last run: its name, its status, the status that is wanted, and what each stream is to hold.
+# A stream's text is "" for none, and "*" where it isn't looked at.
+compare() {
+    runs=$((runs + 1))
+    wrong=
+    [ "$2" = "$3" ] || wrong="status $2, not $3"
+    [ "$4" = "*" ] || [ "$(cat "$folder/out")" = "$4" ] || wrong="$wrong; standard output holds '$(head -c 200 "$folder/out")'"
+    [ "$5" = "*" ] || [ "$(cat "$folder/err")" = "$5" ] || wrong="$wrong; standard error holds '$(head -c 200 "$folder/err")'"
+    if [ -n "$wrong" ]; then
+        echo "$1: $wrong"
+        failures=$((failures + 1))
+    fi
+}
+
+# Runs the program with this name of the run, the wanted status and texts, the input, and the words.
+run() {
+    name=$1 wanted=$2 out=$3 err=$4 input=$5
+    shift 5
+    "$program" "$@" < "$input" > "$folder/out" 2> "$folder/err"
+    compare "$name" $? "$wanted" "$out" "$err"
+}
+
+once="once --name gfs --proto $sample put:$sample ask:1"
+
+# `check` reports to standard output.
+run "a sound file" 0 "ok CDF-1 dims 3 vars 4 records 3" "" "$folder/none" check "$sample"
+run "a file cut short" 3 "refused $folder/cut.nc code 14" "" "$folder/none" check "$folder/cut.nc"
+run "check without a file" 2 "bad words" "" "$folder/none" check
+run "no words" 2 "bad words" "" "$folder/none"
+run "a file that isn't there" 10 "no file $folder/absent" "" "$folder/none" check "$folder/absent"
+run "a file over 512 MiB" 10 "too long $folder/long.nc 536870913" "" "$folder/none" check "$folder/long.nc"
+run "a folder" 5 "file fault $folder" "" "$folder/none" check "$folder"
+run "a path through a file" 5 "file fault $sample/x" "" "$folder/none" check "$sample/x"
+
+# `once` replies to standard output and reports to standard error.
+# shellcheck disable=SC2086
+{
+run "a request" 0 "*" "" "$folder/request" $once
+[ "$(wc -c < "$folder/out")" -eq 540 ] || { echo "a request: the reply isn't 540 bytes"; failures=$((failures + 1)); }
+run "once without a step" 2 "" "bad words" "$folder/none" once --name gfs
+run "input that ends" 11 "" "input ended" "$folder/begun" $once
+run "no input" 11 "" "input ended" "$folder/none" $once
+run "another request" 3 "" "refused ask code 60" "$folder/other" $once
+run "a prototype that isn't there" 10 "" "no file $folder/absent" "$folder/none" \
+    once --name gfs --proto "$folder/absent" "put:$sample" ask:1
+run "a folder as the file" 5 "" "file fault $folder" "$folder/none" once --name gfs --proto "$sample" "put:$folder" ask:1
+run "a word that isn't text" 2 "" "bad words" "$folder/none" "$(printf '\377')"
+
+# A stream that is closed or full.
+"$program" check "$sample" > /dev/full 2> "$folder/err"; status=$?; : > "$folder/out"
+compare "a full device" $status 7 "" ""
+"$program" check "$sample" >&- 2> "$folder/err"; status=$?
+compare "standard output closed" $status 7 "" ""
+"$program" check "$folder/cut.nc" > /dev/full 2> "$folder/err"; status=$?
+compare "a full device for a line of another status" $status 3 "" ""
+"$program" $once < "$folder/request" > /dev/full 2> "$folder/err"; status=$?
+compare "a full device for a reply" $status 9 "" "link fault"
+"$program" $once < "$folder/request" >&- 2> "$folder/err"; status=$?
+compare "a reply to a closed stream" $status 9 "" "link fault"
+"$program" $once <&- > "$folder/out" 2> "$folder/err"; status=$?
+compare "input closed" $status 9 "" "link fault"
+"$program" $once < "$folder/begun" > "$folder/out" 2> /dev/full; status=$?; : > "$folder/err"
+compare "a report to a full device" $status 11 "" ""
+}
+
+echo "$runs runs, $failures wrong"
+[ "$failures" -eq 0 ]
