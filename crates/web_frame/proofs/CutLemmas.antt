@@ -12,19 +12,25 @@ use Rattle.web_frame.proofs.ScanLemmas.{end_from_after, end_from_here, place_pas
 lines_len_other : (b : ℕ) (bytes : List ℕ) → eqb b 10 ≡ false → lines_len (b ∷ bytes) ≡ option_map suc (lines_len bytes)
 unfolding lines_len
 lines_len_other b bytes other =
-    ap (λ t. if t && begins_with_empty_line bytes then Some (suc (empty_line_len bytes)) else option_map suc (lines_len bytes)) other
+    ap (λ t. if t && begins_with_empty_line bytes then Some (suc (empty_line_len bytes))
+    else option_map suc (lines_len bytes)) other
 
-lines_len_line : (bytes : List ℕ) → begins_with_empty_line bytes ≡ false → lines_len (10 ∷ bytes) ≡ option_map suc (lines_len bytes)
+lines_len_line : (bytes : List ℕ) → begins_with_empty_line bytes ≡ false
+    → lines_len (10 ∷ bytes) ≡ option_map suc (lines_len bytes)
 unfolding lines_len
-lines_len_line bytes none = ap (λ t. if t then Some (suc (empty_line_len bytes)) else option_map suc (lines_len bytes)) none
+lines_len_line bytes none =
+    ap (λ t. if t then Some (suc (empty_line_len bytes)) else option_map suc (lines_len bytes)) none
 
-head_len_text : (b : ℕ) (bytes : List ℕ) → begins_with_empty_line (b ∷ bytes) ≡ false → head_len (b ∷ bytes) ≡ lines_len (b ∷ bytes)
+head_len_text : (b : ℕ) (bytes : List ℕ) → begins_with_empty_line (b ∷ bytes) ≡ false
+    → head_len (b ∷ bytes) ≡ lines_len (b ∷ bytes)
 unfolding head_len
 head_len_text b bytes none = ap (λ t. if t then option_map suc (head_len bytes) else lines_len (b ∷ bytes)) none
 
-begins_other : (b : ℕ) (bytes : List ℕ) → eqb b 10 ≡ false → eqb b 13 ≡ false → begins_with_empty_line (b ∷ bytes) ≡ false
+begins_other : (b : ℕ) (bytes : List ℕ) → eqb b 10 ≡ false → eqb b 13 ≡ false
+    → begins_with_empty_line (b ∷ bytes) ≡ false
 unfolding begins_with_empty_line
-begins_other b bytes no_lf no_cr = ap (λ t. t || (eqb b 13 && begins_with_line_feed bytes)) no_lf ∙ ap (λ t. t && begins_with_line_feed bytes) no_cr
+begins_other b bytes no_lf no_cr =
+    ap (λ t. t || (eqb b 13 && begins_with_line_feed bytes)) no_lf ∙ ap (λ t. t && begins_with_line_feed bytes) no_cr
 
 begins_return : (b : ℕ) (bytes : List ℕ) → eqb b 10 ≡ false → begins_with_empty_line (13 ∷ b ∷ bytes) ≡ false
 unfolding begins_with_empty_line begins_with_line_feed
@@ -71,16 +77,22 @@ ends_after b bytes (other no_lf no_cr) ends =
     let none : begins_with_empty_line (b ∷ bytes) ≡ false = begins_other b bytes no_lf no_cr in
     let to_inside : (p : Place) → place_after p b ≡ Some Inside → end_from p (b ∷ bytes) ≡ lines_len (b ∷ bytes) =
     λ p is. end_from_after p Inside b bytes is ∙ ap (option_map suc) ends.inside ∙ sym text in
-    let after_return : lines_len (13 ∷ b ∷ bytes) ≡ option_map suc (lines_len (b ∷ bytes)) = lines_len_other 13 (b ∷ bytes) refl in
+    let after_return : lines_len (13 ∷ b ∷ bytes) ≡ option_map suc (lines_len (b ∷ bytes)) =
+    lines_len_other 13 (b ∷ bytes) refl in
     record {
-      before = to_inside Before (ap (λ t. Some (if t then Before else (if eqb b 13 then BeforeReturn else Inside))) no_lf ∙ ap (λ t. Some (if t then BeforeReturn else Inside)) no_cr)
+      before = to_inside Before (ap (λ t. Some
+          (if t then Before else (if eqb b 13 then BeforeReturn else Inside))) no_lf
+          ∙ ap (λ t. Some (if t then BeforeReturn else Inside)) no_cr)
           ∙ sym (head_len_text b bytes none);
       before_return = ap (option_map suc) (to_inside BeforeReturn (ap (λ t. Some (if t then Before else Inside)) no_lf))
           ∙ sym (head_len_text 13 (b ∷ bytes) (begins_return b bytes no_lf) ∙ after_return);
       inside = to_inside Inside (ap (λ t. Some (if t then LineStart else Inside)) no_lf);
-      line = ap (option_map suc) (to_inside LineStart (ap (λ t. if t then None else Some (if eqb b 13 then LineReturn else Inside)) no_lf ∙ ap (λ t. Some (if t then LineReturn else Inside)) no_cr))
+      line = ap (option_map suc) (to_inside LineStart
+          (ap (λ t. if t then None else Some (if eqb b 13 then LineReturn else Inside)) no_lf
+          ∙ ap (λ t. Some (if t then LineReturn else Inside)) no_cr))
           ∙ sym (lines_len_line (b ∷ bytes) none);
-      line_return = ap (λ o. option_map suc (option_map suc o)) (to_inside LineReturn (ap (λ t. if t then None else Some Inside) no_lf))
+      line_return = ap (λ o. option_map suc (option_map suc o))
+          (to_inside LineReturn (ap (λ t. if t then None else Some Inside) no_lf))
           ∙ sym (lines_len_line (13 ∷ b ∷ bytes) (begins_return b bytes no_lf) ∙ ap (option_map suc) after_return);
     }
 
@@ -101,7 +113,8 @@ cases_place (Some q) = inr (q, refl)
 none_after : (p : Place) (b : ℕ) (bytes : List ℕ) → place_after p b ≡ None → place_past p (b ∷ bytes) ≡ None
 unfolding place_past
 none_after p b bytes is =
-    let by : Option Place → Option Place = λ o. elim o as (λ _. Option Place) [ None ↦ None | Some next ↦ place_past next bytes ] in
+    let by : Option Place → Option Place =
+    λ o. elim o as (λ _. Option Place) [ None ↦ None | Some next ↦ place_past next bytes ] in
     ap by is
 
 suc_more : (n : ℕ) (o : Option ℕ) → option_map suc (option_map (λ m. n + m) o) ≡ option_map (λ m. suc n + m) o
@@ -125,10 +138,12 @@ end_from_past p q (b ∷ front) more is = elim (cases_place (place_after p b)) [
       cc
   | inr after ↦
       let past : place_past after.0 front ≡ Some q = sym (place_past_after p after.0 b front after.1) ∙ is in
-      end_from_after p after.0 b (front ++ more) after.1 ∙ ap (option_map suc) (end_from_past after.0 q front more past) ∙ suc_more (length front) (end_from q more)
+      end_from_after p after.0 b (front ++ more) after.1 ∙ ap (option_map suc) (end_from_past after.0 q front more past)
+      ∙ suc_more (length front) (end_from q more)
 ]
 
-pub place_past_past : (p q : Place) (front more : List ℕ) → place_past p front ≡ Some q → place_past p (front ++ more) ≡ place_past q more
+pub place_past_past : (p q : Place) (front more : List ℕ) → place_past p front ≡ Some q
+    → place_past p (front ++ more) ≡ place_past q more
 unfolding place_past
 place_past_past p q [] more is =
     let same : p ≡ q = cc in
@@ -172,7 +187,8 @@ pub head_len_fits : (bytes : List ℕ) (n : ℕ) → head_len bytes ≡ Some n �
 head_len_fits bytes n is = end_from_fits Before bytes n (end_from-before bytes ∙ is)
 
 -- bytes that follow leave the end where it is
-end_from-append : (p : Place) (bytes more : List ℕ) (n : ℕ) → end_from p bytes ≡ Some n → end_from p (bytes ++ more) ≡ Some n
+end_from-append : (p : Place) (bytes more : List ℕ) (n : ℕ) → end_from p bytes ≡ Some n
+    → end_from p (bytes ++ more) ≡ Some n
 unfolding end_from
 end_from-append p [] more n is =
     let clash : ◌≡◌ {A = Option ℕ} None (Some n) = is in
@@ -181,14 +197,17 @@ end_from-append p (b ∷ bytes) more n is = elim (cases_place (place_after p b))
   | inl ended ↦ end_from_here p b (bytes ++ more) ended ∙ sym (end_from_here p b bytes ended) ∙ is
   | inr after ↦
       let found = suc_some (end_from after.0 bytes) n (sym (end_from_after p after.0 b bytes after.1) ∙ is) in
-      end_from_after p after.0 b (bytes ++ more) after.1 ∙ ap (option_map suc) (end_from-append after.0 bytes more found.0 found.1) ∙ ap Some found.2
+      end_from_after p after.0 b (bytes ++ more) after.1
+      ∙ ap (option_map suc) (end_from-append after.0 bytes more found.0 found.1) ∙ ap Some found.2
 ]
 
 pub head_len-append : (bytes more : List ℕ) (n : ℕ) → head_len bytes ≡ Some n → head_len (bytes ++ more) ≡ Some n
-head_len-append bytes more n is = sym (end_from-before (bytes ++ more)) ∙ end_from-append Before bytes more n (end_from-before bytes ∙ is)
+head_len-append bytes more n is =
+    sym (end_from-before (bytes ++ more)) ∙ end_from-append Before bytes more n (end_from-before bytes ∙ is)
 
 -- a head that ends only with the bytes that follow is longer than those before
-end_from_later : (p : Place) (bytes more : List ℕ) (n : ℕ) → end_from p bytes ≡ None → end_from p (bytes ++ more) ≡ Some n → length bytes < n
+end_from_later : (p : Place) (bytes more : List ℕ) (n : ℕ) → end_from p bytes ≡ None
+    → end_from p (bytes ++ more) ≡ Some n → length bytes < n
 unfolding end_from
 end_from_later p [] more n none is =
     let fits = end_from_fits p more n is in
@@ -198,8 +217,10 @@ end_from_later p (b ∷ bytes) more n none is = elim (cases_place (place_after p
       let clash : ◌≡◌ {A = Option ℕ} (Some 1) None = sym (end_from_here p b bytes ended) ∙ none in
       cc
   | inr after ↦
-      let found = suc_some (end_from after.0 (bytes ++ more)) n (sym (end_from_after p after.0 b (bytes ++ more) after.1) ∙ is) in
-      let inner : end_from after.0 bytes ≡ None = suc_none (end_from after.0 bytes) (sym (end_from_after p after.0 b bytes after.1) ∙ none) in
+      let found = suc_some (end_from after.0 (bytes ++ more)) n
+      (sym (end_from_after p after.0 b (bytes ++ more) after.1) ∙ is) in
+      let inner : end_from after.0 bytes ≡ None =
+      suc_none (end_from after.0 bytes) (sym (end_from_after p after.0 b bytes after.1) ∙ none) in
       omega (arith, end_from_later after.0 bytes more found.0 inner found.1, found.2)
 ]
   where
@@ -209,16 +230,20 @@ end_from_later p (b ∷ bytes) more n none is = elim (cases_place (place_after p
         let clash : ◌≡◌ {A = Option ℕ} (Some (suc m)) None = is in
         cc
 
-pub head_len_later : (bytes more : List ℕ) (n : ℕ) → head_len bytes ≡ None → head_len (bytes ++ more) ≡ Some n → length bytes < n
-head_len_later bytes more n none is = end_from_later Before bytes more n (end_from-before bytes ∙ none) (end_from-before (bytes ++ more) ∙ is)
+pub head_len_later : (bytes more : List ℕ) (n : ℕ) → head_len bytes ≡ None → head_len (bytes ++ more) ≡ Some n
+    → length bytes < n
+head_len_later bytes more n none is =
+    end_from_later Before bytes more n (end_from-before bytes ∙ none) (end_from-before (bytes ++ more) ∙ is)
 
 -- a head that ends within the limit
 pub cut_of_whole : (bytes : List ℕ) (n : ℕ) → head_len bytes ≡ Some n → n ≤ MAX_HEAD → cut_of bytes ≡ whole n
 unfolding cut_of
-cut_of_whole bytes n is few = ap (λ o. cut_at o (length bytes)) is ∙ ap (λ t. if t then whole n else too_long) (le-leb n MAX_HEAD few)
+cut_of_whole bytes n is few =
+    ap (λ o. cut_at o (length bytes)) is ∙ ap (λ t. if t then whole n else too_long) (le-leb n MAX_HEAD few)
 
 -- the same, where all bytes are within the limit
-pub cut_found : (bytes held : List ℕ) (n : ℕ) → held ≡ bytes → Some n ≡ head_len held → length held ≤ MAX_HEAD → cut_of bytes ≡ whole n
+pub cut_found : (bytes held : List ℕ) (n : ℕ) → held ≡ bytes → Some n ≡ head_len held → length held ≤ MAX_HEAD
+    → cut_of bytes ≡ whole n
 cut_found bytes held n same is few =
     let found : head_len bytes ≡ Some n = sym (is ∙ ap head_len same) in
     let fits = head_len_fits bytes n found in

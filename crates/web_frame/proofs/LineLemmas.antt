@@ -21,27 +21,34 @@ passes_other test c b fails passes = elim (cases_eq b c) [
   | inr other ↦ ne_eqb b c other
 ]
 
-pub Lacks-from_AllPass : (test : ℕ → Bool) (c : ℕ) (bytes : List ℕ) → test c ≡ false → AllPass test bytes → Lacks c bytes
+pub Lacks-from_AllPass : (test : ℕ → Bool) (c : ℕ) (bytes : List ℕ) → test c ≡ false → AllPass test bytes
+    → Lacks c bytes
 Lacks-from_AllPass test c bytes fails pass = λ k d below. passes_other test c _ fails (pass k d below)
 
 -- the first element that passes stands behind the front that has none
-pub position_behind : {X : Type 0} (p : X → Bool) (front : List X) (x : X) (more : List X) → All (λ y. p y ≡ false) front → p x ≡ true
+pub position_behind : {X : Type 0} (p : X → Bool) (front : List X) (x : X) (more : List X)
+    → All (λ y. p y ≡ false) front → p x ≡ true
     → position_or_len p (front ++ x ∷ more) ≡ length front
 position_behind p [] x more none here = rw here refl
 position_behind {X} p (y ∷ front) x more none here =
     let first : p y ≡ false = All-head (λ (z : X). p z ≡ false) y front none in
-    let others : position_or_len p (front ++ x ∷ more) ≡ length front = position_behind p front x more (All-tail (λ (z : X). p z ≡ false) y front none) here in
+    let others : position_or_len p (front ++ x ∷ more) ≡ length front =
+    position_behind p front x more (All-tail (λ (z : X). p z ≡ false) y front none) here in
     rw first (rw others (omega arith))
 
-pub before_first_at : {X : Type 0} (p : X → Bool) (front : List X) (x : X) (more : List X) → All (λ y. p y ≡ false) front → p x ≡ true
+pub before_first_at : {X : Type 0} (p : X → Bool) (front : List X) (x : X) (more : List X)
+    → All (λ y. p y ≡ false) front → p x ≡ true
     → before_first p (front ++ x ∷ more) ≡ front
-before_first_at p front x more none here = rw (position_behind p front x more none here) (take_at front (x ∷ more) _ refl)
+before_first_at p front x more none here =
+    rw (position_behind p front x more none here) (take_at front (x ∷ more) _ refl)
 
-pub after_first_at : {X : Type 0} (p : X → Bool) (front : List X) (x : X) (more : List X) → All (λ y. p y ≡ false) front → p x ≡ true
+pub after_first_at : {X : Type 0} (p : X → Bool) (front : List X) (x : X) (more : List X) → All (λ y. p y ≡ false) front
+    → p x ≡ true
     → after_first p (front ++ x ∷ more) ≡ more
 after_first_at p front x more none here =
     rw (position_behind p front x more none here)
-    (ap (λ l. drop (length front + 1) l) (sym (append_assoc front (x ∷ []) more)) ∙ drop_at (front ++ x ∷ []) more _ (length_push front x))
+    (ap (λ l. drop (length front + 1) l) (sym (append_assoc front (x ∷ []) more))
+    ∙ drop_at (front ++ x ∷ []) more _ (length_push front x))
 
 abbrev as_line : List ℕ → LineEnd → Line
 as_line text end = record { text = text; end = end }
@@ -61,15 +68,22 @@ pub lines_of_line : (text : List ℕ) (end : LineEnd) (rest : List ℕ) → Lack
     → lines_of (text ++ (print_end end ++ rest)) ≡ record { text = text; end = end } ∷ lines_of rest
 unfolding lines_of
 lines_of_line text lf rest no_cr no_lf =
-    let split : slice_split (λ b. eqb b 10) (text ++ 10 ∷ rest) ≡ text ∷ slice_split (λ b. eqb b 10) rest = slice_split_at (λ b. eqb b 10) text 10 rest no_lf refl in
-    let line : line_back (reverse text) ≡ record { text = text; end = lf } = line_back_plain (reverse text) (Lacks-reverse 13 text no_cr) ∙ ap (λ (t : List ℕ). as_line t lf) (reverse-reverse text) in
+    let split : slice_split (λ b. eqb b 10) (text ++ 10 ∷ rest) ≡ text ∷ slice_split (λ b. eqb b 10) rest =
+    slice_split_at (λ b. eqb b 10) text 10 rest no_lf refl in
+    let line : line_back (reverse text) ≡ record { text = text; end = lf } =
+    line_back_plain (reverse text) (Lacks-reverse 13 text no_cr)
+    ∙ ap (λ (t : List ℕ). as_line t lf) (reverse-reverse text) in
     let lines : List (List ℕ) → List Line = λ parts. map (λ part. line_back (reverse part)) parts in
     ap lines split ∙ ap (λ (l : Line). l ∷ lines (slice_split (λ b. eqb b 10) rest)) line
 lines_of_line text crlf rest no_cr no_lf =
     let front : List ℕ = text ++ 13 ∷ [] in
-    let none : Lacks 10 front = All-append (λ (z : ℕ). eqb z 10 ≡ false) text (13 ∷ []) no_lf (All-cons (λ (z : ℕ). eqb z 10 ≡ false) 13 [] refl (All-nil (λ (z : ℕ). eqb z 10 ≡ false))) in
-    let split : slice_split (λ b. eqb b 10) (front ++ 10 ∷ rest) ≡ front ∷ slice_split (λ b. eqb b 10) rest = slice_split_at (λ b. eqb b 10) front 10 rest none refl in
-    let line : line_back (reverse front) ≡ record { text = text; end = crlf } = ap line_back (reverse-append text (13 ∷ [])) ∙ ap (λ (t : List ℕ). as_line t crlf) (reverse-reverse text) in
+    let none : Lacks 10 front = All-append (λ (z : ℕ). eqb z 10 ≡ false) text (13 ∷ []) no_lf
+    (All-cons (λ (z : ℕ). eqb z 10 ≡ false) 13 [] refl (All-nil (λ (z : ℕ). eqb z 10 ≡ false))) in
+    let split : slice_split (λ b. eqb b 10) (front ++ 10 ∷ rest) ≡ front ∷ slice_split (λ b. eqb b 10) rest =
+    slice_split_at (λ b. eqb b 10) front 10 rest none refl in
+    let line : line_back (reverse front) ≡ record { text = text; end = crlf } =
+    ap line_back (reverse-append text (13 ∷ [])) ∙ ap (λ (t : List ℕ). as_line t crlf) (reverse-reverse text) in
     let lines : List (List ℕ) → List Line = λ parts. map (λ part. line_back (reverse part)) parts in
     let regroup : text ++ (13 ∷ 10 ∷ rest) ≡ front ++ 10 ∷ rest = sym (append_assoc text (13 ∷ []) (10 ∷ rest)) in
-    ap (λ (l : List ℕ). lines (slice_split (λ b. eqb b 10) l)) regroup ∙ ap lines split ∙ ap (λ (l : Line). l ∷ lines (slice_split (λ b. eqb b 10) rest)) line
+    ap (λ (l : List ℕ). lines (slice_split (λ b. eqb b 10) l)) regroup ∙ ap lines split
+    ∙ ap (λ (l : Line). l ∷ lines (slice_split (λ b. eqb b 10) rest)) line

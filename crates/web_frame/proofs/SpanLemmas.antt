@@ -23,12 +23,14 @@ whole_read raw headers spans h at all =
 fields_fit : (raw : List ℕ) (headers : List HeaderSpan) (spans : RequestSpans) (h : RequestHead)
     → IsRequestAt raw headers spans h → length h.fields ≤ length headers
 fields_fit raw headers spans h at =
-    let same : length (map (header_bytes raw) (take spans.headers headers)) ≡ length (map name_and_value h.fields) = ap length at.fields in
+    let same : length (map (header_bytes raw) (take spans.headers headers)) ≡ length (map name_and_value h.fields) =
+    ap length at.fields in
     omega (arith, simp (length-map, length-take) at same)
 
 pub spans_cover : (raw : List ℕ) (headers : List HeaderSpan) (spans : RequestSpans)
     → IsRequestOf raw headers spans → spans.len ≡ length raw → IsRequestAt raw headers spans (head_of raw)
-spans_cover raw headers spans of all = subst (IsRequestAt raw headers spans) (sym (head_of_read raw of.0 (whole_read raw headers spans of.0 of.1 all))) of.1
+spans_cover raw headers spans of all = subst (IsRequestAt raw headers spans)
+    (sym (head_of_read raw of.0 (whole_read raw headers spans of.0 of.1 all))) of.1
 
 pub spans_show : (raw : List ℕ) (headers : List HeaderSpan) (spans : RequestSpans)
     → IsRequestOf raw headers spans → spans.len ≡ length raw → length headers ≡ 64 → is_head raw ≡ true
@@ -38,7 +40,8 @@ spans_show raw headers spans of all room =
 
 -- a whole head of few fields would end where the bytes do
 pub ends_there : (raw : List ℕ) (room : ℕ) (headers : List HeaderSpan) (spans : RequestSpans) (h : RequestHead)
-    → FindsRequest raw room headers (Ok (Complete spans)) → ReadsRequest raw h [] → length h.fields ≤ room → spans.len ≡ length raw
+    → FindsRequest raw room headers (Ok (Complete spans)) → ReadsRequest raw h [] → length h.fields ≤ room
+    → spans.len ≡ length raw
 ends_there raw room headers spans h found reads few =
     (found h [] reads few).len ∙ ap length (sym (reads.1 ∙ append-nil (print_request h)))
 

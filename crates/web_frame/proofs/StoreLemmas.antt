@@ -8,4 +8,5 @@ pub slice_range_later : (xs : List ℕ) (start end n : ℕ) → start ≤ end �
 slice_range_later xs start end n ordered fits =
     let most : n ≤ end - start = omega (arith, simp length-take at fits) in
     let split : end - start ≡ n + (end - (start + n)) = omega arith in
-    ap (λ l. take (end - (start + n)) l) (sym (drop-drop n start xs)) ∙ sym (drop-take n (end - (start + n)) (drop start xs)) ∙ ap (λ m. drop n (take m (drop start xs))) (sym split)
+    ap (λ l. take (end - (start + n)) l) (sym (drop-drop n start xs))
+    ∙ sym (drop-take n (end - (start + n)) (drop start xs)) ∙ ap (λ m. drop n (take m (drop start xs))) (sym split)

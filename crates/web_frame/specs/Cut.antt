@@ -1,4 +1,5 @@
--- Where the head of a request ends (RFC 9112, sections 2.1 and 2.2). A line ends in CR LF or in LF alone, empty lines may
+-- Where the head of a request ends (RFC 9112, sections 2.1 and 2.2). A line ends in CR LF or in LF alone, empty lines
+-- may
 -- stand before a head, and an empty line ends it.
 use Rattle.std.specs.Prelude.{ℕ, suc, Bool, true, false, ◌&&◌, ◌||◌, ◌==◌, nat_lt, nat_le, if◌then◌else◌, List, [], ◌∷◌, length, Option, Some, None, option_map}
 use Rattle.httparse.specs.Ascii.{line_feed, carriage_return}
@@ -21,12 +22,14 @@ empty_line_len bytes = if begins_with_line_feed bytes then 1 else 2
 -- how many bytes there are up to the end of the first line that an empty line follows, with that empty line
 unfoldable pub lines_len : List ℕ → Option ℕ
 lines_len [] = None
-lines_len (b ∷ bytes) = if b == line_feed && begins_with_empty_line bytes then Some (suc (empty_line_len bytes)) else option_map suc (lines_len bytes)
+lines_len (b ∷ bytes) = if b == line_feed && begins_with_empty_line bytes then Some (suc (empty_line_len bytes))
+    else option_map suc (lines_len bytes)
 
 -- how many bytes the first head has, with the empty lines before it and the one that ends it
 unfoldable pub head_len : List ℕ → Option ℕ
 head_len [] = None
-head_len (b ∷ bytes) = if begins_with_empty_line (b ∷ bytes) then option_map suc (head_len bytes) else lines_len (b ∷ bytes)
+head_len (b ∷ bytes) =
+    if begins_with_empty_line (b ∷ bytes) then option_map suc (head_len bytes) else lines_len (b ∷ bytes)
 
 -- the bytes after the empty lines at the front
 unfoldable pub after_blank : List ℕ → List ℕ

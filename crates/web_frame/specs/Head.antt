@@ -1,4 +1,5 @@
--- The head that some bytes are, by the grammar of `httparse`. A grammar's head is printed in one way, so the parts that a
+-- The head that some bytes are, by the grammar of `httparse`. A grammar's head is printed in one way, so the parts that
+-- a
 -- text would have as a head are cut out of it, and it is a head where they are valid and print it.
 use Rattle.std.specs.Prelude.{ℕ, ◌-◌, Bool, true, false, ◌&&◌, ◌==◌, nat_lt, nat_le, if◌then◌else◌, List, [], ◌∷◌, length, reverse, map, slice_index}
 use Rattle.std.specs.List.{before_first, after_first, slice_split, list_all}
@@ -15,7 +16,8 @@ pub record Line : Type 0 where
 -- the line whose bytes before the LF, read backwards, are these
 abbrev pub line_back : List ℕ → Line
 line_back [] = record { text = []; end = lf }
-line_back (b ∷ back) = if b == carriage_return then record { text = reverse back; end = crlf } else record { text = reverse (b ∷ back); end = lf }
+line_back (b ∷ back) = if b == carriage_return then record { text = reverse back; end = crlf }
+    else record { text = reverse (b ∷ back); end = lf }
 
 -- the lines of a text
 unfoldable pub lines_of : List ℕ → List Line
@@ -27,7 +29,12 @@ is_empty line = length line.text == 0
 
 -- a field line: a name, a colon and a value
 abbrev pub field_in : Line → Field
-field_in line = record { name = before_first (λ b. b == colon) line.text; raw = after_first (λ b. b == colon) line.text; end = line.end }
+field_in line = record {
+  name = before_first (λ b. b == colon) line.text;
+  raw = after_first
+      (λ b. b == colon) line.text;
+  end = line.end;
+}
 
 -- the field lines before the first empty line
 abbrev pub fields_in : List Line → List Field
@@ -67,7 +74,8 @@ is_field f = is_token f.name && list_all is_value_byte f.raw
 -- each part of a head is valid
 unfoldable pub is_valid : RequestHead → Bool
 is_valid h =
-    is_token h.method && (nat_lt 0 (length h.target) && (list_all is_uri_byte h.target && (is_utf8 h.target && (nat_le h.minor 1 && list_all is_field h.fields))))
+    is_token h.method && (nat_lt 0 (length h.target)
+    && (list_all is_uri_byte h.target && (is_utf8 h.target && (nat_le h.minor 1 && list_all is_field h.fields))))
 
 -- the head that the bytes would be
 unfoldable pub head_of : List ℕ → RequestHead
@@ -75,4 +83,5 @@ head_of bytes = head_in (lines_of bytes)
 
 -- the bytes are one whole head, of at most 64 field lines
 unfoldable pub is_head : List ℕ → Bool
-is_head bytes = let h = head_of bytes in is_valid h && (bytes_eq (print_request h) bytes && nat_le (length h.fields) MAX_FIELDS)
+is_head bytes =
+    let h = head_of bytes in is_valid h && (bytes_eq (print_request h) bytes && nat_le (length h.fields) MAX_FIELDS)

@@ -24,11 +24,13 @@ connection_says word lines = list_any (λ line. same_word line.0 (codes "Connect
 
 -- the connection closes after the reply: a `close`, or HTTP/1.0 without `keep-alive` (RFC 9112, section 9.3)
 unfoldable pub says_close : ℕ → List (List ℕ × List ℕ) → Bool
-says_close minor lines = connection_says (codes "close") lines || (minor == 0 && not (connection_says (codes "keep-alive") lines))
+says_close minor lines =
+    connection_says (codes "close") lines || (minor == 0 && not (connection_says (codes "keep-alive") lines))
 
 -- a line says that a body follows: a `Transfer-Encoding`, or a `Content-Length` that isn't `0` (RFC 9112, section 6.3)
 unfoldable pub announces_body : List ℕ × List ℕ → Bool
-announces_body line = same_word line.0 (codes "Transfer-Encoding") || (same_word line.0 (codes "Content-Length") && not (bytes_eq line.1 (codes "0")))
+announces_body line = same_word line.0 (codes "Transfer-Encoding")
+    || (same_word line.0 (codes "Content-Length") && not (bytes_eq line.1 (codes "0")))
 
 -- the method of a request line
 unfoldable pub method_of : List ℕ → Method
@@ -36,4 +38,7 @@ method_of bytes = if bytes_eq bytes (codes "GET") then Get else (if bytes_eq byt
 
 -- what a head says
 unfoldable pub request_of : RequestHead → Request
-request_of h = let lines = map name_and_value h.fields in record { method = method_of h.method; close = says_close h.minor lines; has_body = list_any announces_body lines }
+request_of h =
+    let lines = map name_and_value h.fields in
+    let body = list_any announces_body lines in
+    record { method = method_of h.method; close = says_close h.minor lines; has_body = body }

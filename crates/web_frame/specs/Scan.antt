@@ -20,4 +20,5 @@ place_past place (b ∷ bytes) = elim (place_after place b) [ None ↦ None | So
 -- how many bytes there are up to the end of the head
 unfoldable pub end_from : Place → List ℕ → Option ℕ
 end_from place [] = None
-end_from place (b ∷ bytes) = elim (place_after place b) [ None ↦ Some 1 | Some next ↦ option_map suc (end_from next bytes) ]
+end_from place (b ∷ bytes) =
+    elim (place_after place b) [ None ↦ Some 1 | Some next ↦ option_map suc (end_from next bytes) ]

@@ -27,8 +27,8 @@ pub enum Next {
     HeadTooLong,
 }
 
-/// The bytes of a stream that no head was read from yet, and the head that was given last. It holds at most 16,384 bytes,
-/// and takes their memory once.
+/// The bytes of a stream that no head was read from yet, and the head that was given last. It holds at most 16,384
+/// bytes, and takes their memory once.
 #[derive(Debug, Drop)]
 pub struct Frame {
     // The head that was given last, and the bytes after it.

@@ -12,7 +12,8 @@ pub enum Method {
 #[derive(Clone, Copy, Debug, PartialEq, Eq)]
 pub struct Request {
     pub method: Method,
-    /// Whether the connection ends after the reply: the head says `close`, or is of HTTP/1.0 and doesn't say `keep-alive`.
+    /// Whether the connection ends after the reply: the head says `close`, or is of HTTP/1.0 and doesn't say
+    /// `keep-alive`.
     pub close: bool,
     /// Whether a body follows the head.
     pub has_body: bool,

@@ -33,8 +33,8 @@ impl Place {
         }
     }
 
-    /// How many of the bytes there are up to the end of the head. `None` where it doesn't end in them, and then this is the
-    /// place after them.
+    /// How many of the bytes there are up to the end of the head. `None` where it doesn't end in them, and then this is
+    /// the place after them.
     pub fn find_end(&mut self, bytes: &[u8]) -> Option<usize>
         ensures end { result ≡ spec.end_from self.old bytes.now }
         ensures place { IfNone result (spec.place_past self.old bytes.now ≡ Some self.new) }

@@ -76,8 +76,8 @@ impl Unread {
         }
     }
 
-    /// How many bytes the first head has, with the empty lines before it. No byte is looked at twice until bytes are taken
-    /// off.
+    /// How many bytes the first head has, with the empty lines before it. No byte is looked at twice until bytes are
+    /// taken off.
     pub fn head_len(&mut self) -> Option<usize>
         ensures len { result ≡ spec.head_len self.old }
         ensures same { self.new ≡ self.old }

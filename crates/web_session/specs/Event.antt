@@ -1,5 +1,5 @@
 -- Where an event takes a session, and which events answer its last action.
-use Rattle.std.specs.Prelude.{ℕ, ◌+◌, ◌-◌, ◌<◌, ◌≤◌, length, take, ⊤}
+use Rattle.std.specs.Prelude.{◌+◌, ◌-◌, ◌<◌, ◌≤◌, length, take, ⊤}
 use Rattle.web_frame.specs.declared.limit.TheConstants.{MAX_HEAD}
 use Rattle.web_frame.specs.Stream.{held_len, with_bytes}
 use Rattle.web_session.specs.declared.action.End.TheVariants as ends

@@ -1,10 +1,10 @@
 -- A session: what it holds and where it stands, what it asks for next, and where an event takes it.
-use Rattle.std.specs.Prelude.{ℕ, ◌+◌, ◌-◌, Bool, true, false, ◌&&◌, ◌==◌, nat_lt, if◌then◌else◌, List, [], ◌++◌, length, drop, Option, Some, None, is_some, ⊤}
+use Rattle.std.specs.Prelude.{ℕ, ◌+◌, ◌-◌, Bool, true, false, ◌&&◌, ◌==◌, nat_lt, if◌then◌else◌, List, [], length, Option, Some, None, is_some, ⊤}
 use Rattle.web_frame.specs.declared.frame.Next.{Next}
 use Rattle.web_frame.specs.declared.frame.Next.TheVariants as next
 use Rattle.web_frame.specs.declared.limit.TheConstants.{MAX_HEAD}
 use Rattle.web_frame.specs.Cut.{after_blank}
-use Rattle.web_frame.specs.Stream.{Held, held_len, with_bytes, next_of, held_after}
+use Rattle.web_frame.specs.Stream.{Held, held_len, next_of, held_after}
 use Rattle.web_session.specs.declared.action.Action.{Action}
 use Rattle.web_session.specs.declared.action.Action.TheVariants.{Read, Ask, Send, Close}
 use Rattle.web_session.specs.declared.action.Asked.{Asked}
@@ -38,7 +38,9 @@ action_of s = action_at s.phase s.held
 
 -- how the link ends after the reply to what was asked, if it does
 abbrev pub end_after : Asked → ℕ → Option End
-end_after (asked.Head r) before = if r.close then Some ends.Asked else (if r.has_body then Some ends.BodyNotTaken else (if before + 1 == MAX_REPLIES then Some ends.RequestLimit else None))
+end_after (asked.Head r) before = if r.close then Some ends.Asked
+    else (if r.has_body then Some ends.BodyNotTaken
+    else (if before + 1 == MAX_REPLIES then Some ends.RequestLimit else None))
 end_after asked.BadHead before = Some ends.BadHead
 end_after asked.HeadTooLong before = Some ends.HeadTooLong
 

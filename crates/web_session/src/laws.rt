@@ -7,16 +7,16 @@ ghost use Rattle.web_session.specs.State.{fresh};
 use crate::event::Event;
 use crate::phase::Phase;
 
-/// A session asks for replies to the heads of the bytes that it was fed, one by one and in order, whatever happens as long
-/// as each event answers the last action.
+/// A session asks for replies to the heads of the bytes that it was fed, one by one and in order, whatever happens as
+/// long as each event answers the last action.
 #[tactic(auto, using(crate::proofs::RunLaws::runs))]
 pub fn heads_are_asked_in_order(events: &[Event<'_>])
     requires { AllAnswer fresh events.now }
     ensures { AreFirst (asks fresh events.now) (heads_of (fed fresh events.now)).items }
 {}
 
-/// A session that waits for bytes has asked for a reply to each head of those that it was fed, and holds the bytes after
-/// the last of them.
+/// A session that waits for bytes has asked for a reply to each head of those that it was fed, and holds the bytes
+/// after the last of them.
 #[tactic(auto, using(crate::proofs::RunLaws::runs))]
 pub fn all_heads_are_asked_before_it_waits(events: &[Event<'_>])
     requires { AllAnswer fresh events.now }

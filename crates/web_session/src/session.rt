@@ -165,9 +165,9 @@ impl Session {
         }
     }
 
-    /// Takes the answer to the last action, and returns the next one. An event that answers no action of that kind changes
-    /// nothing and returns the action that is due, as `Start` always does. Bytes past the room that was asked for aren't
-    /// taken.
+    /// Takes the answer to the last action, and returns the next one. An event that answers no action of that kind
+    /// changes nothing and returns the action that is due, as `Start` always does. Bytes past the room that was asked
+    /// for aren't taken.
     #[tactic(auto, unfolding(crate::specs::Event::after_event))]
     pub fn on(&mut self, event: Event<'_>) -> Action
         ensures state { self.new ≡ step.after_event self.old event.entry }

@@ -6,4 +6,5 @@ use Rattle.web_frame.specs.Said.{announces_body}
 use Rattle.web_frame.proofs.field.has_body.Given as goal
 
 abbrev pub invariant-loop-line : goal.invariant-loop-line
-invariant-loop-line l = list_any announces_body (map (header_bytes l.raw) l.lines) ≡ list_any announces_body (map (header_bytes l.raw) (drop l.line-index l.lines))
+invariant-loop-line l = list_any announces_body (map (header_bytes l.raw) l.lines) ≡ list_any announces_body
+    (map (header_bytes l.raw) (drop l.line-index l.lines))

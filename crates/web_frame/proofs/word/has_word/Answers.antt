@@ -9,4 +9,6 @@ use Rattle.web_frame.proofs.word.has_word.Goals as goal
 pub returns : goal.returns
 unfolding has_word
 returns c = any_from_yields_List (λ part. same_word (trim_ows part) c.args.word.now) _ _ _ c.any.ensures.ran
-    (YieldsList-from_slice_split _ (λ b. eqb b 44) c.args.value.now c.split.ensures.rest c.split.ensures.done c.split.ensures.closure (search rules)) (search rules)
+    (YieldsList-from_slice_split _
+    (λ b. eqb b 44) c.args.value.now c.split.ensures.rest c.split.ensures.done c.split.ensures.closure
+    (search rules)) (search rules)

@@ -15,14 +15,19 @@ pub returns-in-Some-clause-answer : goal.returns-in-Some-clause-answer
 unfolding next_of
 returns-in-Some-clause-answer c =
     let skipped : c.skip.new.self ≡ c.args.self.now.rest = c.skip.ensures ∙ ap (λ (h : Held). h.rest) c.self.view_is in
-    let cut : cut_of c.args.self.now.rest ≡ whole c.in-Some.len = cut_found c.args.self.now.rest c.skip.new.self c.in-Some.len skipped c.in-Some.ensures.len (omega (arith, c.len-held.ensures.bound)) in
-    c.give.ensures.answer ∙ ap (λ (l : List ℕ). next_by_item (item_of (take c.in-Some.len l))) (c.head_len.ensures.same ∙ skipped)
+    let cut : cut_of c.args.self.now.rest ≡ whole c.in-Some.len =
+    cut_found c.args.self.now.rest c.skip.new.self c.in-Some.len skipped c.in-Some.ensures.len
+    (omega (arith, c.len-held.ensures.bound)) in
+    c.give.ensures.answer ∙ ap (λ (l : List ℕ). next_by_item (item_of (take c.in-Some.len l)))
+    (c.head_len.ensures.same ∙ skipped)
     ∙ sym (ap (λ (k : Cut). next_by k c.args.self.now.rest) cut)
 
 pub returns-in-Some-clause-held : goal.returns-in-Some-clause-held
 unfolding held_after
 returns-in-Some-clause-held c =
     let skipped : c.skip.new.self ≡ c.args.self.now.rest = c.skip.ensures ∙ ap (λ (h : Held). h.rest) c.self.view_is in
-    let cut : cut_of c.args.self.now.rest ≡ whole c.in-Some.len = cut_found c.args.self.now.rest c.skip.new.self c.in-Some.len skipped c.in-Some.ensures.len (omega (arith, c.len-held.ensures.bound)) in
+    let cut : cut_of c.args.self.now.rest ≡ whole c.in-Some.len =
+    cut_found c.args.self.now.rest c.skip.new.self c.in-Some.len skipped c.in-Some.ensures.len
+    (omega (arith, c.len-held.ensures.bound)) in
     c.give.ensures.held ∙ ap (λ (l : List ℕ). held_by (whole c.in-Some.len) l) (c.head_len.ensures.same ∙ skipped)
     ∙ sym (ap (λ (k : Cut). held_by k c.args.self.now.rest) cut)

@@ -13,7 +13,8 @@ invariant_of-self c =
     let left = c.split_at.ensures.back ∙ ap (drop c.self.inside.scanned) c.as_slice.ensures in (
       omega arith,
       ap (λ (n : ℕ). place_past Before (take n c.self.inside.store)) c.len-held.ensures.len
-          ∙ place_past_all c.self.inside.store c.self.inside.scanned c.self.inside.place c.find_end.new.self c.self.invariant.1
+          ∙ place_past_all c.self.inside.store c.self.inside.scanned c.self.inside.place c.find_end.new.self
+          c.self.invariant.1
           (ap (place_past c.self.inside.place) (sym left) ∙ c.in-None.ensures.place),
     )
 
