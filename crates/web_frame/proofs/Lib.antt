@@ -1,0 +1,10 @@
+pub mod CutLemmas
+pub mod HeadLaws
+pub mod HeadLemmas
+pub mod ItemLaws
+pub mod ItemLemmas
+pub mod LineLemmas
+pub mod ScanLemmas
+pub mod SpanLemmas
+pub mod StoreLemmas
+pub mod UnreadLemmas

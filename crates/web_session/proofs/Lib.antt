@@ -1,0 +1,6 @@
+pub mod LookLemmas
+pub mod ReplyLemmas
+pub mod RunLaws
+pub mod RunLemmas
+pub mod SoundLemmas
+pub mod StepLemmas
