@@ -18,7 +18,7 @@ fn head_with(alloc: Global, lines: usize, len: usize) -> Result<Vec<u8>, AllocEr
         head.extend_from_slice(b"A: b\r\n")?;
     }
     head.extend_from_slice(b"A: ")?;
-    while head.len() + 4 < len {
+    for _filler in head.len() + 4..len {
         head.push(b'x')?;
     }
     head.extend_from_slice(b"\r\n\r\n")?;
