@@ -2,6 +2,8 @@
 #![tactic(auto)]
 
 mod length;
+#[cfg(test)]
+mod tests;
 mod text;
 
 pub use length::dds_len;
