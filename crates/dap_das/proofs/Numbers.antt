@@ -43,4 +43,5 @@ pub one_more_number : (kind : Kind) (values : List ℕ) (i : ℕ) → 1 ≤ i
 unfolding numbers_text
 one_more_number kind values i some =
     ap separated (map-range_with_len_more (number_at kind values) 0 i i (omega arith))
-    ∙ separated_more (map (number_at kind values) (range_with_len 0 i)) (number_at kind values i) (omega (arith, length-map-range_with_len (number_at kind values) 0 i))
+    ∙ separated_more (map (number_at kind values) (range_with_len 0 i)) (number_at kind values i)
+    (omega (arith, length-map-range_with_len (number_at kind values) 0 i))

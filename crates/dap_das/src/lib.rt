@@ -3,6 +3,7 @@
 
 mod attribute;
 mod attributes;
+pub mod laws;
 mod line;
 mod name;
 mod number;

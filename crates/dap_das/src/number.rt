@@ -69,7 +69,8 @@ pub(crate) fn put_numbers(
     out: &mut Bytes,
 ) -> Result<(), NoMemory>
     requires { 0 < spec.value_count kind values.now }
-    ensures { OnOk result (out.new ≡ out.old ++ spec.numbers_text kind values.now (spec.value_count kind values.now)) }
+    ensures { OnOk result (out.new ≡ out.old
+        ++ spec.numbers_text kind values.now (spec.value_count kind values.now)) }
 {
     let count = value_count(kind, values);
     put_number(alloc, kind, values, 0, out)?;

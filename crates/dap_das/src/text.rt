@@ -133,8 +133,8 @@ fn put_last_line(out: &mut Bytes) -> Result<(), NoMemory>
 }
 
 /// Writes the attribute text (ESE-RFC-004, DAS) of a view of this prototype's collection at the end of `out`:
-/// `Attributes {`, a container for each declaration, `NC_GLOBAL` with the prototype's global attributes, and `}`, with LF
-/// after each line. The axis, the runs and the offsets have the view's attributes, and any other variable those of the
+/// `Attributes {`, a container for each declaration, `NC_GLOBAL` with the prototype's global attributes, and `}`, with
+/// LF after each line. The axis, the runs and the offsets have the view's attributes, and any other variable those of the
 /// prototype. An attribute of characters is one quoted String without the zero bytes at its end, and one of numbers
 /// without values is left out. The caller has an epoch in the years 0 to 9999. An `Err` changes nothing.
 #[tactic(auto, unfolding(crate::specs::AttributeText::das_of))]
