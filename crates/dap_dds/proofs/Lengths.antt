@@ -1,5 +1,5 @@
 -- How long digits are, and texts of items one after the other.
-use Rattle.std.proofs.Common.{◌≡◌, ℕ, ◌+◌, ◌/◌, ◌^◌, ◌<◌, ◌≤◌, List, length, take, get_or, ap, ◌∙◌, arith, length-append}
+use Rattle.std.proofs.Common.{◌≡◌, ℕ, ◌+◌, ◌/◌, ◌^◌, ◌<◌, ◌≤◌, List, [], ◌∷◌, length, take, get_or, ap, ◌∙◌, arith, length-append}
 use Rattle.std.specs.Fmt.{decimal}
 use Rattle.std.specs.List.{flat_map}
 use Rattle.std.proofs.lemmas.Fmt.{decimal_step, decimal_nonempty, length-decimal-le}
@@ -7,9 +7,7 @@ use Rattle.std.proofs.lemmas.List.Folds.{length-flat_map-take}
 
 -- a number below ten is one digit
 pub one_digit : (n : ℕ) → n < 10 → length (decimal n) ≡ 1
-one_digit n small =
-    let most = length-decimal-le 1 n (omega arith) small (omega arith) in
-    omega (arith, decimal_nonempty n (omega arith), most)
+one_digit n small = omega (arith, decimal_nonempty n (omega arith), length-decimal-le 1 n (omega arith) small (omega arith))
 
 -- a number from ten on has one digit more than its tenth
 pub one_digit_more : (n : ℕ) → 10 ≤ n → n < 2 ^ 64 → length (decimal n) ≡ length (decimal (n / 10)) + 1
