@@ -1,0 +1,15 @@
+//! The attribute text of a view, and the attributes that it shows.
+#![tactic(auto)]
+
+mod attribute;
+mod attributes;
+pub mod laws;
+mod line;
+mod name;
+mod number;
+#[cfg(test)]
+mod tests;
+mod text;
+
+pub use attributes::{axis_attributes, offset_attributes, run_attributes};
+pub use text::das_text_of;

@@ -1,0 +1,5 @@
+-- The number gets smaller.
+use Rattle.dap_dds.proofs.length.+decimal_len.Given as goal
+
+abbrev pub decreases-decimal_len : goal.decreases-decimal_len
+decreases-decimal_len l = l.n

@@ -1,0 +1,10 @@
+//! The structure text of a dataset and its length.
+#![tactic(auto)]
+
+mod length;
+#[cfg(test)]
+mod tests;
+mod text;
+
+pub use length::dds_len;
+pub use text::dds_text;

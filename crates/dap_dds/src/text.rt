@@ -1,0 +1,192 @@
+//! The structure text.
+ghost use Rattle.std.specs.Prelude.{◌≡◌, ◌<◌, ◌++◌, OnOk, OnErr};
+ghost use Rattle.dap_model.specs.StructureText as text;
+
+use dap_model::{Array, DapKind, Decl};
+use fm_base::{Bytes, Dim, List, NoMemory, put_decimal};
+use std::alloc::Global;
+
+// The word of a kind.
+#[tactic(auto, unfolding(dap_model::specs::StructureText::kind_text))]
+fn put_kind(kind: DapKind, out: &mut Bytes) -> Result<(), NoMemory>
+    ensures { OnOk result (out.new ≡ out.old ++ text.kind_text kind) }
+{
+    match kind {
+        DapKind::Byte => out.append(b"Byte"),
+        DapKind::Int16 => out.append(b"Int16"),
+        DapKind::Int32 => out.append(b"Int32"),
+        DapKind::Float32 => out.append(b"Float32"),
+        DapKind::Float64 => out.append(b"Float64"),
+        DapKind::Text => out.append(b"String"),
+    }
+}
+
+// Four spaces for each level.
+#[tactic(auto, unfolding(dap_model::specs::StructureText::indent))]
+fn put_indent(depth: u32, out: &mut Bytes) -> Result<(), NoMemory>
+    requires { depth < 8 }
+    ensures { OnOk result (out.new ≡ out.old ++ text.indent depth) }
+{
+    for _space in 0..4 * depth {
+        out.push(b' ')?;
+    }
+    Ok(())
+}
+
+// A dimension with its length.
+#[tactic(auto, unfolding(dap_model::specs::StructureText::dim_text))]
+fn put_dim(alloc: Global, dim: &Dim, out: &mut Bytes) -> Result<(), NoMemory>
+    ensures { OnOk result (out.new ≡ out.old ++ text.dim_text dim.now) }
+{
+    out.append(b"[")?;
+    out.append(dim.name.as_slice())?;
+    out.append(b" = ")?;
+    put_decimal(alloc, i128::from(dim.size), out)?;
+    out.append(b"]")
+}
+
+// Dimensions one after the other.
+#[tactic(auto, unfolding(dap_model::specs::StructureText::dims_text))]
+fn put_dims(alloc: Global, dims: &[Dim], out: &mut Bytes) -> Result<(), NoMemory>
+    ensures { OnOk result (out.new ≡ out.old ++ text.dims_text dims.now) }
+{
+    for dim in dims {
+        put_dim(alloc, dim, out)?;
+    }
+    Ok(())
+}
+
+// The line of an array.
+#[tactic(auto, unfolding(dap_model::specs::StructureText::array_text))]
+fn put_array(alloc: Global, array: &Array, depth: u32, out: &mut Bytes) -> Result<(), NoMemory>
+    requires { depth < 8 }
+    ensures { OnOk result (out.new ≡ out.old ++ text.array_text depth array.now) }
+{
+    put_indent(depth, out)?;
+    put_kind(array.kind, out)?;
+    out.append(b" ")?;
+    out.append(array.name.as_slice())?;
+    put_dims(alloc, array.dims.as_slice(), out)?;
+    out.append(b";\n")
+}
+
+// Arrays, each on its line.
+#[tactic(auto, unfolding(dap_model::specs::StructureText::arrays_text))]
+fn put_arrays(alloc: Global, arrays: &[Array], depth: u32, out: &mut Bytes) -> Result<(), NoMemory>
+    requires { depth < 8 }
+    ensures { OnOk result (out.new ≡ out.old ++ text.arrays_text depth arrays.now) }
+{
+    for array in arrays {
+        put_array(alloc, array, depth, out)?;
+    }
+    Ok(())
+}
+
+// A line of these words.
+#[tactic(auto, unfolding(dap_model::specs::StructureText::line_text))]
+fn put_line(depth: u32, words: &[u8], out: &mut Bytes) -> Result<(), NoMemory>
+    requires { depth < 8 }
+    ensures { OnOk result (out.new ≡ out.old ++ text.line_text depth words.now) }
+{
+    put_indent(depth, out)?;
+    out.append(words)?;
+    out.append(b"\n")
+}
+
+// The line that ends a declaration of several lines.
+#[tactic(auto, unfolding(dap_model::specs::StructureText::close_text))]
+fn put_close(depth: u32, name: &[u8], out: &mut Bytes) -> Result<(), NoMemory>
+    requires { depth < 8 }
+    ensures { OnOk result (out.new ≡ out.old ++ text.close_text depth name.now) }
+{
+    put_indent(depth, out)?;
+    out.append(b"} ")?;
+    out.append(name)?;
+    out.append(b";\n")
+}
+
+// A Grid: its array and its maps, each under a line of its own.
+#[tactic(auto, unfolding(dap_model::specs::StructureText::grid_text))]
+fn put_grid(
+    alloc: Global,
+    name: &[u8],
+    array: &Array,
+    maps: &[Array],
+    depth: u32,
+    out: &mut Bytes,
+) -> Result<(), NoMemory>
+    requires { depth < 4 }
+    ensures { OnOk result (out.new ≡ out.old ++ text.grid_text depth name.now array.now maps.now) }
+{
+    put_line(depth, b"Grid {", out)?;
+    put_line(depth + 1, b"ARRAY:", out)?;
+    put_array(alloc, array, depth + 2, out)?;
+    put_line(depth + 1, b"MAPS:", out)?;
+    put_arrays(alloc, maps, depth + 2, out)?;
+    put_close(depth, name, out)
+}
+
+// A Structure and its members.
+#[tactic(auto, unfolding(dap_model::specs::StructureText::structure_text))]
+fn put_structure(
+    alloc: Global,
+    name: &[u8],
+    members: &[Array],
+    depth: u32,
+    out: &mut Bytes,
+) -> Result<(), NoMemory>
+    requires { depth < 4 }
+    ensures { OnOk result (out.new ≡ out.old ++ text.structure_text depth name.now members.now) }
+{
+    put_line(depth, b"Structure {", out)?;
+    put_arrays(alloc, members, depth + 1, out)?;
+    put_close(depth, name, out)
+}
+
+// A declaration.
+#[tactic(auto, unfolding(dap_model::specs::StructureText::decl_text))]
+fn put_decl(alloc: Global, decl: &Decl, depth: u32, out: &mut Bytes) -> Result<(), NoMemory>
+    requires { depth < 4 }
+    ensures { OnOk result (out.new ≡ out.old ++ text.decl_text depth decl.now) }
+{
+    match decl {
+        Decl::Plain(array) => put_array(alloc, array, depth, out),
+        Decl::Grid { name, array, maps } => {
+            put_grid(alloc, name.as_slice(), array, maps.as_slice(), depth, out)
+        }
+        Decl::Structure { name, members } => {
+            put_structure(alloc, name.as_slice(), members.as_slice(), depth, out)
+        }
+    }
+}
+
+// Declarations one after the other.
+#[tactic(auto, unfolding(dap_model::specs::StructureText::decls_text))]
+fn put_decls(alloc: Global, decls: &[Decl], depth: u32, out: &mut Bytes) -> Result<(), NoMemory>
+    requires { depth < 4 }
+    ensures { OnOk result (out.new ≡ out.old ++ text.decls_text depth decls.now) }
+{
+    for decl in decls {
+        put_decl(alloc, decl, depth, out)?;
+    }
+    Ok(())
+}
+
+/// Writes the structure text (ESE-RFC-004, DDS) of a dataset with this label at the end of `out`: `Dataset {`, each
+/// declaration indented by four spaces, and `} LABEL;`, with LF after each line. An `Err` changes nothing.
+#[tactic(auto, unfolding(dap_model::specs::StructureText::dds_of))]
+pub fn dds_text(
+    alloc: Global,
+    label: &[u8],
+    decls: &List<Decl>,
+    out: &mut Bytes,
+) -> Result<(), NoMemory>
+    ensures ok { OnOk result (out.new ≡ out.old ++ text.dds_of label.now decls.now) }
+    ensures err { OnErr result (out.new ≡ out.old) }
+{
+    let mut whole = Bytes::new(alloc);
+    put_line(0, b"Dataset {", &mut whole)?;
+    put_decls(alloc, decls.as_slice(), 1, &mut whole)?;
+    put_close(0, label, &mut whole)?;
+    out.append(whole.as_slice())
+}
