@@ -110,7 +110,9 @@ fn grid_len(name: &[u8], array: &Array, maps: &[Array], depth: u64) -> u64
     requires fits { length (text.grid_text depth name.now array.now maps.now) < 2 ^ 64 }
     ensures { result ≡ length (text.grid_text depth name.now array.now maps.now) }
 {
-    let lines = line_len(depth, b"Grid {") + line_len(depth + 1, b"ARRAY:") + line_len(depth + 1, b"MAPS:");
+    let lines = line_len(depth, b"Grid {")
+        + line_len(depth + 1, b"ARRAY:")
+        + line_len(depth + 1, b"MAPS:");
     let arrays = array_len(array, depth + 2) + arrays_len(maps, depth + 2);
     lines + arrays + close_len(depth, name)
 }

@@ -101,12 +101,7 @@ fn best(alloc: Global) -> Result<List<Decl>, NoMemory> {
 fn each(alloc: Global) -> Result<List<Decl>, NoMemory> {
     let mut decls = List::new(alloc);
     decls.push(Decl::Plain(array(alloc, DapKind::Byte, b"b", &[])?))?;
-    decls.push(Decl::Plain(array(
-        alloc,
-        DapKind::Int16,
-        b"s-1",
-        &[(b"x", 10)],
-    )?))?;
+    decls.push(Decl::Plain(array(alloc, DapKind::Int16, b"s-1", &[(b"x", 10)])?))?;
     let square: [(&[u8], u64); 2] = [(b"x", 10), (b"x", 10)];
     decls.push(Decl::Plain(array(alloc, DapKind::Int32, b"i", &square)?))?;
     let four: [(&[u8], u64); 4] = [(b"time", 0), (b"z", 1), (b"y", 262_144), (b"x", u64::MAX)];
@@ -146,7 +141,13 @@ fn a_best_time_series_has_a_grid_with_its_maps(rt: HostRuntime) -> Result<(), Fa
 #[test]
 fn each_kind_has_its_word_and_each_dimension_its_brackets(rt: HostRuntime) -> Result<(), Fail> {
     let decls = each(rt.alloc())?;
-    shows(&rt, rt.alloc(), b"gfs_RUN_2024-01-01T00:00:00Z", &decls, EACH)
+    shows(
+        &rt,
+        rt.alloc(),
+        b"gfs_RUN_2024-01-01T00:00:00Z",
+        &decls,
+        EACH,
+    )
 }
 
 #[test]
