@@ -27,8 +27,11 @@ const HEAD: &[u8] = b"GET /thredds/dodsC/gfs/gfs_best.ncd.dods?t%5B0:1:9%5D%5B0%
 
 const TURNS: u32 = 1_000_000;
 
-/// How many heads were read.
+// How many heads were read.
 fn frames(alloc: Global, size: usize) -> Result<u32, fm_base::NoMemory> {
+    if size == 0 {
+        return Ok(0);
+    }
     let mut frame = Frame::new(alloc)?;
     let mut count = 0u32;
     for _ in 0..TURNS {
@@ -46,7 +49,7 @@ fn main(rt: HostRuntime) -> io::Result<()> {
     for size in [HEAD.len(), 50] {
         let start = Instant::now(&rt)?;
         let count = frames(rt.alloc(), size).unwrap_or(0);
-        let took = start.elapsed(&rt)?.as_nanos() as u64 / u64::from(TURNS);
+        let took = start.elapsed(&rt)?.as_nanos() / u128::from(TURNS);
         println!(rt; "{} {} {} {}", HEAD.len(), size, count, took)?;
     }
     Ok(())
