@@ -5,7 +5,7 @@ ghost use Rattle.dap_ce.specs.Phases.{and_number, numbers_of};
 
 use dap_model::Slab;
 
-/// The numbers of a slab before the one that is read next.
+// The numbers of a slab before the one that is read next.
 #[derive(Clone, Copy, Debug)]
 pub(crate) enum Numbers {
     Zero,
@@ -13,8 +13,8 @@ pub(crate) enum Numbers {
     Two(u64, u64),
 }
 
-/// Where reading stands: at the first byte of a name; in the name that begins at a place; at the first digit of a
-/// number; in a number, with how many digits it has and its value; or behind a slab.
+// Where reading stands: at the first byte of a name; in the name that begins at a place; at the first digit of a
+// number; in a number, with how many digits it has and its value; or behind a slab.
 #[derive(Clone, Copy, Debug)]
 pub(crate) enum Phase {
     BeforeName,

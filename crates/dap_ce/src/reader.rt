@@ -13,7 +13,7 @@ use fm_base::{Bytes, Fail, List, NoMemory, is_name_byte};
 use std::alloc::Global;
 use std::mem;
 
-/// The clauses that are read, the path and the slabs of the clause that is being read, and where reading stands in it.
+// The clauses that are read, the path and the slabs of the clause that is being read, and where reading stands in it.
 #[derive(Drop)]
 pub(crate) struct Reader {
     pub(crate) clauses: List<Clause>,

@@ -6,9 +6,9 @@ use crate::digits::{put_count, put_digits};
 use fm_base::{Bytes, NoMemory};
 use std::alloc::Global;
 
-/// Writes the number `odd * 2^exponent`.
+// Writes the number `odd * 2^exponent`.
 #[tactic(auto, unfolding(crate::specs::Text::hex_text, crate::specs::Text::high_place))]
-pub fn put_hexadecimal(
+pub(crate) fn put_hexadecimal(
     alloc: Global,
     odd: u64,
     exponent: i32,
@@ -27,7 +27,7 @@ pub fn put_hexadecimal(
     )
 }
 
-/// Writes what stands below the highest bit, in whole digits, and a point before it.
+// Writes what stands below the highest bit, in whole digits, and a point before it.
 #[tactic(auto, unfolding(crate::specs::Text::hex_fraction, crate::specs::Text::high_place))]
 fn put_fraction(odd: u64, out: &mut Bytes) -> Result<(), NoMemory>
     requires { 0 < odd }
@@ -42,7 +42,7 @@ fn put_fraction(odd: u64, out: &mut Bytes) -> Result<(), NoMemory>
     put_digits(16, count, u128::from(odd) << (4 * count - width), out)
 }
 
-/// Writes an exponent with its sign.
+// Writes an exponent with its sign.
 #[tactic(auto, unfolding(crate::specs::Text::exponent_text))]
 fn put_exponent(alloc: Global, exponent: i64, out: &mut Bytes) -> Result<(), NoMemory>
     ensures { OnOk result (out.new ≡ out.old ++ exponent_text exponent) }

@@ -22,7 +22,7 @@ pub fn put_quoted(alloc: Global, text: &[u8], out: &mut Bytes) -> Result<(), NoM
     out.append(string.as_slice())
 }
 
-/// Writes one byte of a quoted String.
+// Writes one byte of a quoted String.
 #[tactic(auto, unfolding(crate::specs::Quoted::escaped))]
 fn put_escaped(byte: u8, out: &mut Bytes) -> Result<(), NoMemory>
     ensures { OnOk result (out.new ≡ out.old ++ escaped byte) }

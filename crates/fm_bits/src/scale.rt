@@ -2,8 +2,8 @@
 ghost use Rattle.std.specs.Prelude.{◌≡◌, ◌*◌, ◌/◌, ◌%◌, ◌^◌, ◌<◌, ◌≤◌};
 ghost use Rattle.std.specs.Option.{SomeIff};
 
-/// `n * 2^power`, where it is below 2^127.
-pub fn times_two(n: u128, power: u32) -> Option<u128>
+// `n * 2^power`, where it is below 2^127.
+pub(crate) fn times_two(n: u128, power: u32) -> Option<u128>
     ensures { SomeIff result (n * 2 ^ power < 2 ^ 127) (n * 2 ^ power) }
 {
     if n == 0 {
@@ -15,8 +15,8 @@ pub fn times_two(n: u128, power: u32) -> Option<u128>
     Some(n << power)
 }
 
-/// `n / 2^power`, where it is whole.
-pub fn over_two(n: u128, power: u32) -> Option<u128>
+// `n / 2^power`, where it is whole.
+pub(crate) fn over_two(n: u128, power: u32) -> Option<u128>
     ensures { SomeIff result (n % 2 ^ power ≡ 0) (n / 2 ^ power) }
 {
     if n == 0 {
@@ -28,8 +28,8 @@ pub fn over_two(n: u128, power: u32) -> Option<u128>
     Some(n >> power)
 }
 
-/// `n * 5^power`, where the power is at most 40 and the product is below 2^127.
-pub fn times_five(n: u64, power: u32) -> Option<u128>
+// `n * 5^power`, where the power is at most 40 and the product is below 2^127.
+pub(crate) fn times_five(n: u64, power: u32) -> Option<u128>
     ensures { SomeIff result ((power ≤ 40) × (n * 5 ^ power < 2 ^ 127)) (n * 5 ^ power) }
 {
     if power > 40 {

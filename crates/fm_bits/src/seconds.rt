@@ -21,7 +21,7 @@ pub fn whole_seconds(p: Pattern, per: u32) -> Option<i64>
     exact_times(value_of(p), per)
 }
 
-/// A value times `per`, where that is a whole number and fits 64 bits.
+// A value times `per`, where that is a whole number and fits 64 bits.
 fn exact_times(value: Value, per: u32) -> Option<i64>
     ensures { result ≡ whole_times value per }
 {
@@ -43,7 +43,7 @@ fn exact_times(value: Value, per: u32) -> Option<i64>
     signed(negative, whole)
 }
 
-/// A number with a sign, where it fits.
+// A number with a sign, where it fits.
 fn signed(negative: bool, n: u128) -> Option<i64>
     requires { n < 2 ^ 127 }
     ensures { result ≡ in_i64 negative n }

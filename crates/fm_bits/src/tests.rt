@@ -9,7 +9,7 @@ mod quoted;
 mod seconds;
 mod texts;
 
-/// The pattern of these bits, whose bytes are the last of the eight.
+// The pattern of these bits, whose bytes are the last of the eight.
 fn pattern(kind: Kind, bits: u64) -> Option<Pattern>
     ensures { IfSome result IsPattern }
 {

@@ -22,7 +22,7 @@ pub fn text_of(alloc: Global, p: Pattern, out: &mut Bytes) -> Result<(), NoMemor
     out.append(text.as_slice())
 }
 
-/// Writes the text of a pattern.
+// Writes the text of a pattern.
 fn put_pattern(alloc: Global, p: Pattern, out: &mut Bytes) -> Result<(), NoMemory>
     requires { IsPattern p }
     ensures { OnOk result (out.new ≡ out.old ++ pattern_text p) }
@@ -37,7 +37,7 @@ fn put_pattern(alloc: Global, p: Pattern, out: &mut Bytes) -> Result<(), NoMemor
     }
 }
 
-/// Writes the text of a value of a floating-point kind.
+// Writes the text of a value of a floating-point kind.
 fn put_value(alloc: Global, value: Value, out: &mut Bytes) -> Result<(), NoMemory>
     requires { IsReduced value }
     ensures { OnOk result (out.new ≡ out.old ++ value_text value) }
@@ -59,15 +59,15 @@ fn put_value(alloc: Global, value: Value, out: &mut Bytes) -> Result<(), NoMemor
     }
 }
 
-/// Writes the sign of a negative number.
+// Writes the sign of a negative number.
 fn put_sign(negative: bool, out: &mut Bytes) -> Result<(), NoMemory>
     ensures { OnOk result (out.new ≡ out.old ++ sign_text negative) }
 {
     if negative { out.push(b'-') } else { Ok(()) }
 }
 
-/// Writes the number `odd * 2^exponent`: all its digits where it is whole and below 2^127, all its decimals where they
-/// are at most 40 and the digits stand for less than 2^127, else in hexadecimal.
+// Writes the number `odd * 2^exponent`: all its digits where it is whole and below 2^127, all its decimals where they
+// are at most 40 and the digits stand for less than 2^127, else in hexadecimal.
 #[tactic(auto, unfolding(crate::specs::Text::magnitude_text, crate::specs::Text::whole_text, crate::specs::Text::decimals_text))]
 fn put_magnitude(alloc: Global, odd: u64, exponent: i32, out: &mut Bytes) -> Result<(), NoMemory>
     requires { IsReduced (Value.Finite false odd exponent) }

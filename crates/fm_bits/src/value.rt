@@ -5,9 +5,9 @@ ghost use Rattle.fm_base.specs.Pattern.{finite, lowest_exponent, value_of_fields
 
 use fm_base::{Kind, Pattern, Value};
 
-/// What a pattern stands for: a whole number in two's complement, or a number of IEEE 754's formats binary32 and
-/// binary64.
-pub fn value_of(p: Pattern) -> Value
+// What a pattern stands for: a whole number in two's complement, or a number of IEEE 754's formats binary32 and
+// binary64.
+pub(crate) fn value_of(p: Pattern) -> Value
     requires { IsPattern p }
     ensures value { result ≡ pattern_value p }
     ensures reduced { IsReduced result }
@@ -35,7 +35,7 @@ pub fn value_of(p: Pattern) -> Value
     }
 }
 
-/// A whole number.
+// A whole number.
 fn whole(n: i64) -> Value
     ensures value { result ≡ whole_value n }
     ensures reduced { IsReduced result }
@@ -43,7 +43,7 @@ fn whole(n: i64) -> Value
     finite(n < 0, n.unsigned_abs(), 0)
 }
 
-/// The number whose sign, biased exponent and fraction these are.
+// The number whose sign, biased exponent and fraction these are.
 #[tactic(auto, unfolding(fm_base::specs::Pattern::value_of_fields))]
 fn from_fields(width: u32, fraction_width: u32, negative: bool, biased: u64, fraction: u64) -> Value
     requires some_exponent { 1 ≤ width }
@@ -77,7 +77,7 @@ fn from_fields(width: u32, fraction_width: u32, negative: bool, biased: u64, fra
     }
 }
 
-/// The exponent of the lowest bit of a significand, whose biased exponent this is.
+// The exponent of the lowest bit of a significand, whose biased exponent this is.
 fn lowest_exponent(width: u32, fraction_width: u32, biased: u64) -> i32
     requires some_exponent { 1 ≤ width }
     requires exponent { width ≤ 11 }
@@ -90,7 +90,7 @@ fn lowest_exponent(width: u32, fraction_width: u32, biased: u64) -> i32
     biased as i32 - (bias + u64::from(fraction_width)) as i32
 }
 
-/// The number `n * 2^exponent`, written with an odd number.
+// The number `n * 2^exponent`, written with an odd number.
 #[tactic(auto, unfolding(fm_base::specs::Pattern::finite))]
 fn finite(negative: bool, n: u64, exponent: i32) -> Value
     requires { exponent ≤ℤ pos 2047 }

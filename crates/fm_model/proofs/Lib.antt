@@ -3,6 +3,7 @@ pub mod BestLemmas
 pub mod CellLemmas
 pub mod CollectionLemmas
 pub mod FindLemmas
+pub mod FitLemmas
 pub mod FullLemmas
 pub mod GridLemmas
 pub mod HeaderLemmas

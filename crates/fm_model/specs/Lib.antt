@@ -8,6 +8,7 @@ pub mod Example
 pub mod ExampleFiles
 pub mod Load
 pub mod LoadAxis
+pub mod LoadFacts
 pub mod LoadTimes
 pub mod LoadVars
 pub mod Prototype

@@ -6,7 +6,7 @@ use fm_base::{Arc, Bytes, List, NoMemory};
 use std::alloc::Global;
 use std::test::Fail;
 
-/// A file with two times and one slot.
+// A file with two times and one slot.
 fn small_file(alloc: Global) -> Result<Loaded, NoMemory> {
     let mut times = List::new(alloc);
     times.push(0)?;

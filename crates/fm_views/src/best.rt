@@ -46,8 +46,8 @@ fn note_all(
     Ok(())
 }
 
-/// The best run of each valid time that has one.
-pub fn best_runs(
+// The best run of each valid time that has one.
+pub(crate) fn best_runs(
     alloc: Global,
     edition: &Edition,
     least: Option<i64>,
@@ -81,8 +81,8 @@ fn rows_of_noted(
     Ok(rows)
 }
 
-/// One row for each valid time that has a best run, from that run.
-pub fn best_rows(
+// One row for each valid time that has a best run, from that run.
+pub(crate) fn best_rows(
     alloc: Global,
     edition: &Edition,
     least: Option<i64>,

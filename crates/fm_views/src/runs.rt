@@ -10,8 +10,8 @@ use fm_edition::Edition;
 use fm_model::Row;
 use std::alloc::Global;
 
-/// The row of a run and a valid time, where they have a cell.
-pub fn row_of(edition: &Edition, run: i64, valid: i64) -> Result<Option<Row>, NoMemory>
+// The row of a run and a valid time, where they have a cell.
+pub(crate) fn row_of(edition: &Edition, run: i64, valid: i64) -> Result<Option<Row>, NoMemory>
     ensures { IfOk result (λ row. row ≡ row_at edition.now.files run valid) }
 {
     match edition.cell(run, valid) {
@@ -36,8 +36,8 @@ fn row_after(edition: &Edition, run: i64, seconds: i64) -> Result<Option<Row>, N
     }
 }
 
-/// Whether a run has a valid time.
-pub fn has_row(edition: &Edition, run: i64, valid: i64) -> bool
+// Whether a run has a valid time.
+pub(crate) fn has_row(edition: &Edition, run: i64, valid: i64) -> bool
     ensures { result ≡ is_some (row_at edition.now.files run valid) }
 {
     match edition.cell(run, valid) {
@@ -46,8 +46,8 @@ pub fn has_row(edition: &Edition, run: i64, valid: i64) -> bool
     }
 }
 
-/// Whether a run has the valid time that many seconds after it.
-pub fn has_row_after(edition: &Edition, run: i64, seconds: i64) -> bool
+// Whether a run has the valid time that many seconds after it.
+pub(crate) fn has_row_after(edition: &Edition, run: i64, seconds: i64) -> bool
     ensures { result ≡ is_some (row_at edition.now.files run (run +ℤ seconds)) }
 {
     let _ = edition.proto();
@@ -57,8 +57,8 @@ pub fn has_row_after(edition: &Edition, run: i64, seconds: i64) -> bool
     }
 }
 
-/// Adds a row at the end, if there is one. An `Err` changes nothing.
-pub fn push_some(rows: &mut List<Row>, row: Option<Row>) -> Result<(), NoMemory>
+// Adds a row at the end, if there is one. An `Err` changes nothing.
+pub(crate) fn push_some(rows: &mut List<Row>, row: Option<Row>) -> Result<(), NoMemory>
     ensures ok { OnOk result (rows.new ≡ rows.old ++ option_to_list row) }
     ensures err { OnErr result (rows.new ≡ rows.old) }
 {
@@ -68,9 +68,9 @@ pub fn push_some(rows: &mut List<Row>, row: Option<Row>) -> Result<(), NoMemory>
     }
 }
 
-/// One row for each valid time of a run.
+// One row for each valid time of a run.
 #[tactic(auto, using(crate::proofs::RowSteps::one_more))]
-pub fn rows_of_run(alloc: Global, edition: &Edition, run: i64) -> Result<List<Row>, NoMemory>
+pub(crate) fn rows_of_run(alloc: Global, edition: &Edition, run: i64) -> Result<List<Row>, NoMemory>
     ensures { IfOk result (λ rows.
         rows ≡ filter_map (row_at edition.now.files run) (times_of_run edition.now.files run)) }
 {
@@ -82,9 +82,13 @@ pub fn rows_of_run(alloc: Global, edition: &Edition, run: i64) -> Result<List<Ro
     Ok(rows)
 }
 
-/// One row for each run that has the valid time that many seconds after it.
+// One row for each run that has the valid time that many seconds after it.
 #[tactic(auto, using(crate::proofs::RowSteps::one_more))]
-pub fn rows_at_offset(alloc: Global, edition: &Edition, seconds: i64) -> Result<List<Row>, NoMemory>
+pub(crate) fn rows_at_offset(
+    alloc: Global,
+    edition: &Edition,
+    seconds: i64,
+) -> Result<List<Row>, NoMemory>
     ensures { IfOk result (λ rows.
         rows ≡ filter_map (λ run. row_at edition.now.files run (run +ℤ seconds))
         (runs_of edition.now.files)) }
@@ -97,9 +101,13 @@ pub fn rows_at_offset(alloc: Global, edition: &Edition, seconds: i64) -> Result<
     Ok(rows)
 }
 
-/// One row for each run that has the valid time.
+// One row for each run that has the valid time.
 #[tactic(auto, using(crate::proofs::RowSteps::one_more))]
-pub fn rows_at_valid(alloc: Global, edition: &Edition, valid: i64) -> Result<List<Row>, NoMemory>
+pub(crate) fn rows_at_valid(
+    alloc: Global,
+    edition: &Edition,
+    valid: i64,
+) -> Result<List<Row>, NoMemory>
     ensures { IfOk result (λ rows.
         rows ≡ filter_map (λ run. row_at edition.now.files run valid)
         (runs_of edition.now.files)) }

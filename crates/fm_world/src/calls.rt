@@ -6,9 +6,9 @@ ghost use Rattle.fm_world.specs.Cause.{one_more};
 use crate::faults::{Failed, count_fault};
 use fm_base::List;
 
-/// The calls made so far, the numbers from 1 of those that are to fail, and how many have failed.
+// The calls made so far, the numbers from 1 of those that are to fail, and how many have failed.
 #[derive(Drop)]
-pub struct Calls {
+pub(crate) struct Calls {
     pub made: u64,
     pub failing: List<u64>,
     pub faults: u64,

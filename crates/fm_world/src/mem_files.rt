@@ -54,7 +54,7 @@ impl Files for MemFiles {
     }
 }
 
-/// What a read with a limit finds at the path.
+// What a read with a limit finds at the path.
 fn look(alloc: Global, entries: &[Entry], path: &[u8], limit: u64) -> Result<Found, NoMemory>
     ensures { IfOk result (λ found. found ≡ found_of limit (held entries.now path.now)) }
 {
@@ -68,7 +68,7 @@ fn look(alloc: Global, entries: &[Entry], path: &[u8], limit: u64) -> Result<Fou
     Ok(Found::Content(List::copy_of(alloc, content)?))
 }
 
-/// The content of the first entry with the path.
+// The content of the first entry with the path.
 fn content_at<'a>(entries: &'a [Entry], path: &[u8]) -> Option<&'a [u8]>
     ensures { option_copied result ≡ held entries.now path.now }
 {

@@ -104,7 +104,7 @@ impl MemLink {
         rest
     }
 
-    /// How many bytes one take may give now. 0 says that it comes too early.
+    // How many bytes one take may give now. 0 says that it comes too early.
     fn allowed(&self) -> usize {
         let most = self.most_taken.max(1);
         match self.hold {
@@ -152,7 +152,7 @@ impl Link for MemLink {
     }
 }
 
-/// Copies at most `most` bytes to the front of `into`, as many as there are and fit, and returns how many.
+// Copies at most `most` bytes to the front of `into`, as many as there are and fit, and returns how many.
 fn copy_front(from: &[u8], most: usize, into: &mut [u8]) -> usize
     ensures count { result ≡ min most (min (length from.now) (length into.old)) }
     ensures bytes { take result into.new ≡ take result from.now }

@@ -4,14 +4,14 @@ ghost use Rattle.std.specs.Prelude.{◌≡◌, ◌+◌, ◌-◌, ◌≤◌, ◌+
 use fm_base::NoMemory;
 use std::alloc::Global;
 
-/// Bytes, and room for some more.
+// Bytes, and room for some more.
 #[derive(Drop)]
-pub struct Room {
+pub(crate) struct Room {
     pub bytes: Vec<u8>,
 }
 
 impl Room {
-    /// No bytes yet, and room for `room` bytes.
+    // No bytes yet, and room for `room` bytes.
     pub fn new(alloc: Global, room: usize) -> Result<Room, NoMemory>
         ensures bytes { IfOk result (λ made. made.bytes.items ≡ []) }
         ensures len { IfOk result (λ made. vec_len made.bytes ≡ 0) }
@@ -21,7 +21,7 @@ impl Room {
         Ok(Room { bytes })
     }
 
-    /// Appends what fits of the bytes, and returns how many. It takes no memory.
+    // Appends what fits of the bytes, and returns how many. It takes no memory.
     pub fn append(&mut self, bytes: &[u8]) -> usize
         ensures count { result ≡ min (vec_capacity self.old.bytes - vec_len self.old.bytes) (length bytes.now) }
         ensures bytes { self.new.bytes.items ≡ self.old.bytes.items ++ take result bytes.now }
@@ -35,7 +35,7 @@ impl Room {
     }
 }
 
-/// Appends bytes for which there is room.
+// Appends bytes for which there is room.
 fn push_all(out: &mut Vec<u8>, bytes: &[u8])
     requires { vec_len out.old + length bytes.now ≤ vec_capacity out.old }
     ensures bytes { out.new.items ≡ out.old.items ++ bytes.now }

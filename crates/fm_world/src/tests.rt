@@ -5,7 +5,7 @@ use fm_base::{List, NoMemory};
 use std::alloc::Global;
 use std::test::Fail;
 
-/// The numbers of calls that are to fail.
+// The numbers of calls that are to fail.
 fn calls(alloc: Global, numbers: &[u64]) -> Result<List<u64>, NoMemory> {
     let mut list = List::new(alloc);
     for number in numbers {
@@ -129,7 +129,7 @@ fn a_failing_put_leaves_the_front_of_a_piece(rt: HostRuntime) -> Result<(), Fail
     Ok(())
 }
 
-/// What a read found, in words for a table.
+// What a read found, in words for a table.
 #[derive(Clone, Copy, Debug, PartialEq, Eq)]
 enum Seen<'a> {
     Content(&'a [u8]),
@@ -188,7 +188,7 @@ fn a_sink_keeps_the_front_that_fits(rt: HostRuntime) -> Result<(), Fail> {
     Ok(())
 }
 
-/// Answers a peer's input and reports it, over any outside.
+// Answers a peer's input and reports it, over any outside.
 fn echo<F: Files, L: Link, S: Sink>(alloc: Global, world: &mut World<F, L, S>) -> Result<(), Fail> {
     let mut buf = [0u8; 4];
     let count = world.link.take(&mut buf)?;

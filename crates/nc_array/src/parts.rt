@@ -20,8 +20,8 @@ fn part<'a>(layout: &Layout, bytes: &'a [u8], number: u32, var: &NcVar, k: u32) 
     found
 }
 
-/// Adds the parts of a variable one after another. After an `Err` some of them may stand at the end.
-pub fn append_parts(
+// Adds the parts of a variable one after another. After an `Err` some of them may stand at the end.
+pub(crate) fn append_parts(
     layout: &Layout,
     bytes: &[u8],
     number: u32,

@@ -12,7 +12,7 @@ use fm_base::{Bytes, Fail, HeaderFault, List};
 use nc_model::Attr;
 use std::alloc::Global;
 
-/// The tag of the list.
+// The tag of the list.
 const TAG: u32 = 12;
 
 #[tactic(auto, unfolding(fm_base::specs::Reading::attr_at, crate::specs::Turns::one_more))]
@@ -53,9 +53,9 @@ fn read_attrs(
     Ok(found.into_list())
 }
 
-/// Reads a list of attributes.
+// Reads a list of attributes.
 #[tactic(auto, unfolding(fm_base::specs::Reading::list_at))]
-pub fn read_attr_list(
+pub(crate) fn read_attr_list(
     alloc: Global,
     reader: &mut Reader<'_>,
 ) -> Result<List<Attr>, Fail<HeaderFault>>

@@ -12,7 +12,7 @@ use fm_base::{Bytes, Fail, HeaderFault, List};
 use nc_model::Dim;
 use std::alloc::Global;
 
-/// The tag of the list.
+// The tag of the list.
 const TAG: u32 = 10;
 
 #[tactic(auto, unfolding(fm_base::specs::Format::has_record_dim))]
@@ -69,9 +69,12 @@ fn read_dims(
     Ok(found.into_list())
 }
 
-/// Reads the list of the dimensions.
+// Reads the list of the dimensions.
 #[tactic(auto, unfolding(fm_base::specs::Reading::list_at))]
-pub fn read_dim_list(alloc: Global, reader: &mut Reader<'_>) -> Result<List<Dim>, Fail<HeaderFault>>
+pub(crate) fn read_dim_list(
+    alloc: Global,
+    reader: &mut Reader<'_>,
+) -> Result<List<Dim>, Fail<HeaderFault>>
     ensures { Reads (λ dims. dims)
         (spec.list_at DIMENSION_TAG spec.dim_at reader.old) result reader.new }
 {

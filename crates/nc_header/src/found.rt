@@ -8,8 +8,8 @@ use std::alloc::Global;
 use std::collections::BTreeSet;
 use std::marker::Model;
 
-/// What has a name.
-pub trait Named {
+// What has a name.
+pub(crate) trait Named {
     ghost use Rattle.std.specs.Prelude.{ℕ, List};
 
     ghost name_of: { Self → List ℕ };
@@ -27,9 +27,9 @@ impl Named for NcVar {
     ghost name_of = { λ var. var.name };
 }
 
-/// The items of a list so far, and their names as they stand in the file. The set is what makes a look-up short.
+// The items of a list so far, and their names as they stand in the file. The set is what makes a look-up short.
 #[derive(Drop)]
-pub struct Found<'a, T: Named> {
+pub(crate) struct Found<'a, T: Named> {
     items: Vec<T>,
     names: BTreeSet<&'a [u8]>,
 }

@@ -23,7 +23,7 @@ fn has_barred(text: &[u8]) -> bool
     text.iter().any(|byte| *byte == 0 || *byte == b'/')
 }
 
-/// Whether a text may be a name: UTF-8, not empty, without a zero byte and without a slash.
+// Whether a text may be a name: UTF-8, not empty, without a zero byte and without a slash.
 #[tactic(auto, unfolding(fm_base::specs::Format::is_name_text))]
 fn is_name(text: &[u8]) -> bool
     ensures { result ≡ is_name_text text.now }
@@ -31,9 +31,9 @@ fn is_name(text: &[u8]) -> bool
     !text.is_empty() && is_utf8(text) && !has_barred(text)
 }
 
-/// Reads a name that none of the items has.
+// Reads a name that none of the items has.
 #[tactic(auto, unfolding(fm_base::specs::Reading::name_at))]
-pub fn read_name<'a, T: Named>(
+pub(crate) fn read_name<'a, T: Named>(
     reader: &mut Reader<'a>,
     found: &Found<'_, T>,
 ) -> Result<&'a [u8], Fail<HeaderFault>>

@@ -8,9 +8,9 @@ use fm_base::{Fail, HeaderFault};
 use nc_model::Kind;
 use std::marker::Model;
 
-/// The bytes that are left, and the place of the first in the whole.
+// The bytes that are left, and the place of the first in the whole.
 #[derive(Drop)]
-pub struct Reader<'a> {
+pub(crate) struct Reader<'a> {
     at: u64,
     rest: &'a [u8],
 }
@@ -28,13 +28,13 @@ impl<'a> Model for Reader<'a> {
     ghost invariant = { λ r. r.at + length r.rest.now < 2 ^ 64 };
 }
 
-/// The first number that is no count.
+// The first number that is no count.
 const COUNT_LIMIT: u32 = 0x8000_0000;
 
-/// The number of records of a file that is still being written.
+// The number of records of a file that is still being written.
 const STREAMING: u32 = 0xffff_ffff;
 
-/// The greatest rank of a variable.
+// The greatest rank of a variable.
 const MAX_RANK: u32 = 1024;
 
 impl<'a> Reader<'a> {

@@ -2,27 +2,12 @@
 
 use super::*;
 use nc_model::{Attr, Dim, Kind, NcVar};
-use std::alloc::{AllocError, Global};
+use nc_sample::{SAMPLE, bytes_of};
+use std::alloc::Global;
 use std::test::Fail as TestFail;
 
-/// A CDF-1 file of 352 bytes, with a header of 276 bytes: the dimensions `time` (the records, three of them), `lat` and
-/// `lon` of length 2, no attributes, and the variables `time`, `lat`, `lon` and `t`.
-const FILE: [u32; 88] = [
-    0x43444601, 0x00000003, 0x0000000a, 0x00000003, 0x00000004, 0x74696d65, 0x00000000, 0x00000003,
-    0x6c617400, 0x00000002, 0x00000003, 0x6c6f6e00, 0x00000002, 0x00000000, 0x00000000, 0x0000000b,
-    0x00000004, 0x00000004, 0x74696d65, 0x00000001, 0x00000000, 0x0000000c, 0x00000001, 0x00000005,
-    0x756e6974, 0x73000000, 0x00000002, 0x00000021, 0x7365636f, 0x6e647320, 0x73696e63, 0x65203139,
-    0x37302d30, 0x312d3031, 0x2030303a, 0x30303a30, 0x30000000, 0x00000004, 0x00000004, 0x00000124,
-    0x00000003, 0x6c617400, 0x00000001, 0x00000001, 0x00000000, 0x00000000, 0x00000005, 0x00000008,
-    0x00000114, 0x00000003, 0x6c6f6e00, 0x00000001, 0x00000002, 0x00000000, 0x00000000, 0x00000005,
-    0x00000008, 0x0000011c, 0x00000001, 0x74000000, 0x00000003, 0x00000000, 0x00000001, 0x00000002,
-    0x00000000, 0x00000000, 0x00000005, 0x00000010, 0x00000128, 0x41200000, 0x41a00000, 0x41f00000,
-    0x42200000, 0x65920080, 0x3f800000, 0x40000000, 0x40400000, 0x40800000, 0x659254e0, 0x40a00000,
-    0x40c00000, 0x40e00000, 0x41000000, 0x6592a940, 0x41100000, 0x41200000, 0x41300000, 0x41400000,
-];
-
-/// A word of the file at a place, another value, and the fault that the header then has first. What lies at the end of
-/// the table are headers without a fault, whose data lies outside the file.
+// A word of the file at a place, another value, and the fault that the header then has first. What lies at the end of
+// the table are headers without a fault, whose data lies outside the file.
 const BROKEN: [(usize, u32, Option<HeaderFault>); 17] = [
     (0, 0x43444600, Some(HeaderFault::BadVersion(0))),
     (0, 0x43444605, Some(HeaderFault::BadVersion(5))),
@@ -43,8 +28,8 @@ const BROKEN: [(usize, u32, Option<HeaderFault>); 17] = [
     (48, 0x7fffffff, None),
 ];
 
-/// A CDF-2 header: the record dimension `x`, a dimension `y` of length 3, an attribute of each kind and a variable `v`
-/// over both with an empty list of attributes. Padding is not zero, and the variable's `vsize` is nonsense.
+// A CDF-2 header: the record dimension `x`, a dimension `y` of length 3, an attribute of each kind and a variable `v`
+// over both with an empty list of attributes. Padding is not zero, and the variable's `vsize` is nonsense.
 const VERSION_2: [u32; 59] = [
     0x43444602, 0x00000002, 0x0000000a, 0x00000002, 0x00000001, 0x78ffffff, 0x00000000, 0x00000001,
     0x79010203, 0x00000003, 0x0000000c, 0x00000006, 0x00000001, 0x62000000, 0x00000001, 0x00000001,
@@ -56,14 +41,6 @@ const VERSION_2: [u32; 59] = [
     0x12345678, 0x00000001, 0x00000004,
 ];
 
-fn bytes_of(alloc: Global, words: &[u32]) -> Result<Vec<u8>, AllocError> {
-    let mut bytes = Vec::new(alloc);
-    for word in words {
-        bytes.extend_from_slice(&word.to_be_bytes())?;
-    }
-    Ok(bytes)
-}
-
 fn fault_of(alloc: Global, bytes: &[u8]) -> Option<Fail<HeaderFault>> {
     read_header(alloc, bytes).err()
 }
@@ -71,7 +48,7 @@ fn fault_of(alloc: Global, bytes: &[u8]) -> Option<Fail<HeaderFault>> {
 #[test]
 fn a_changed_word_is_the_first_fault_with_its_place(rt: HostRuntime) -> Result<(), TestFail> {
     for (place, value, fault) in BROKEN {
-        let mut words = FILE;
+        let mut words = SAMPLE;
         assert!(rt; place / 4 < 88);
         words[place / 4] = value;
         let bytes = bytes_of(rt.alloc(), &words)?;
@@ -83,7 +60,7 @@ fn a_changed_word_is_the_first_fault_with_its_place(rt: HostRuntime) -> Result<(
 
 #[test]
 fn a_file_that_is_cut_lacks_the_field_at_the_cut(rt: HostRuntime) -> Result<(), TestFail> {
-    let bytes = bytes_of(rt.alloc(), &FILE)?;
+    let bytes = bytes_of(rt.alloc(), &SAMPLE)?;
     assert_eq!(rt; bytes.len(), 352);
     for len in 0..352 {
         // All fields are of four bytes, but for the name `units` and its text.
@@ -104,14 +81,14 @@ fn a_file_that_is_cut_lacks_the_field_at_the_cut(rt: HostRuntime) -> Result<(), 
     Ok(())
 }
 
-/// Whether these are the dimensions, each with its name and length.
+// Whether these are the dimensions, each with its name and length.
 fn has_dims(dims: &[Dim], wanted: &[(&str, u64)]) -> bool {
     dims.len() == wanted.len()
         && dims.iter().zip(wanted).all(|(dim, (name, size))| dim.name.as_slice() == name.as_bytes()
             && dim.size == *size)
 }
 
-/// Whether these are the attributes, each with its name, its kind and its values.
+// Whether these are the attributes, each with its name, its kind and its values.
 fn has_attrs(attrs: &[Attr], wanted: &[(&str, Kind, &[u8])]) -> bool {
     attrs.len() == wanted.len()
         && attrs.iter().zip(wanted).all(|(attr, (name, kind, values))| {
@@ -121,7 +98,7 @@ fn has_attrs(attrs: &[Attr], wanted: &[(&str, Kind, &[u8])]) -> bool {
         })
 }
 
-/// Whether these are the variables, each with its name, its dimensions, its kind and its place.
+// Whether these are the variables, each with its name, its dimensions, its kind and its place.
 fn has_vars(vars: &[NcVar], wanted: &[(&str, &[u32], Kind, u64)]) -> bool {
     vars.len() == wanted.len()
         && vars.iter().zip(wanted).all(|(var, (name, dims, kind, begin))| {
@@ -134,7 +111,7 @@ fn has_vars(vars: &[NcVar], wanted: &[(&str, &[u32], Kind, u64)]) -> bool {
 
 #[test]
 fn each_field_of_a_file_stands_in_its_header(rt: HostRuntime) -> Result<(), TestFail> {
-    let bytes = bytes_of(rt.alloc(), &FILE)?;
+    let bytes = bytes_of(rt.alloc(), &SAMPLE)?;
     let header = read_header(rt.alloc(), bytes.as_slice())?;
     assert_eq!(rt; (header.version, header.numrecs), (1, 3));
     assert!(rt;
@@ -205,7 +182,7 @@ fn a_great_count_is_no_fault_before_the_items_end(rt: HostRuntime) -> Result<(),
         0x43444601, 0, 0x0000000a, 0x7fffffff, 0x00000001, 0x61000000, 0x00000005,
     ];
     let mut bytes = bytes_of(rt.alloc(), &words)?;
-    bytes.extend_from_slice(&[0, 0])?;
+    bytes.append(&[0, 0])?;
     let found = fault_of(rt.alloc(), bytes.as_slice());
     assert_eq!(rt; found, Some(Fail::Fault(HeaderFault::Truncated(28))));
     Ok(())

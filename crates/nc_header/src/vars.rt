@@ -13,7 +13,7 @@ use fm_base::{Bytes, Fail, HeaderFault, List};
 use nc_model::{Dim, NcVar};
 use std::alloc::Global;
 
-/// The tag of the list.
+// The tag of the list.
 const TAG: u32 = 11;
 
 #[tactic(auto, unfolding(fm_base::specs::Reading::dim_id_at, fm_base::specs::Reading::names_record_dim))]
@@ -100,9 +100,9 @@ fn read_vars(
     Ok(found.into_list())
 }
 
-/// Reads the list of the variables of a file with these dimensions.
+// Reads the list of the variables of a file with these dimensions.
 #[tactic(auto, unfolding(fm_base::specs::Reading::list_at))]
-pub fn read_var_list(
+pub(crate) fn read_var_list(
     alloc: Global,
     reader: &mut Reader<'_>,
     version: u8,

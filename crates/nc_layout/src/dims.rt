@@ -17,15 +17,16 @@ pub fn size_at(header: &Header, id: u32) -> u64
     }
 }
 
+/// Whether this is the number of the record dimension.
 #[tactic(auto, unfolding(fm_base::specs::Reading::names_record_dim))]
-fn names_record_dim(dims: &[Dim], id: u32) -> bool
+pub fn names_record_dim(dims: &[Dim], id: u32) -> bool
     ensures { result ≡ names_record_dim dims.now id }
 {
     dims.get(id as usize).is_some_and(|dim| dim.size == 0)
 }
 
-/// Whether the first dimension of a variable is the record dimension.
-pub fn is_record_var(header: &Header, var: &NcVar) -> bool
+// Whether the first dimension of a variable is the record dimension.
+pub(crate) fn is_record_var(header: &Header, var: &NcVar) -> bool
     ensures { result ≡ is_record_var header.now var.now }
 {
     match var.dims.as_slice().first() {
@@ -34,9 +35,9 @@ pub fn is_record_var(header: &Header, var: &NcVar) -> bool
     }
 }
 
-/// The numbers of a variable's dimensions but for the record dimension.
+// The numbers of a variable's dimensions but for the record dimension.
 #[tactic(auto, using(crate::proofs::HeaderLemmas::shapes))]
-pub fn fixed_dims<'a>(header: &Header, var: &'a NcVar) -> &'a [u32]
+pub(crate) fn fixed_dims<'a>(header: &Header, var: &'a NcVar) -> &'a [u32]
     ensures { map (size_at header.now) result.now ≡ fixed_shape header.now var.now }
 {
     let ids = var.dims.as_slice();
@@ -48,8 +49,8 @@ pub fn fixed_dims<'a>(header: &Header, var: &'a NcVar) -> &'a [u32]
     }
 }
 
-/// In how many parts a variable's elements lie: one in each record, or one where it has no records.
-pub fn part_count_of(header: &Header, var: &NcVar) -> u32
+// In how many parts a variable's elements lie: one in each record, or one where it has no records.
+pub(crate) fn part_count_of(header: &Header, var: &NcVar) -> u32
     ensures { result ≡ part_count header.now var.now }
 {
     if is_record_var(header, var) {

@@ -23,9 +23,9 @@ fn rank(header: &Header, ids: &[u32], index: &[u64]) -> u64
     rank
 }
 
-/// The place in the file of the first byte of a part of a variable.
+// The place in the file of the first byte of a part of a variable.
 #[tactic(auto, using(crate::proofs::PlaceLemmas::parts))]
-pub fn part_begin_of(header: &Header, len: u64, recsize: u128, var: &NcVar, k: u64) -> u64
+pub(crate) fn part_begin_of(header: &Header, len: u64, recsize: u128, var: &NcVar, k: u64) -> u64
     requires recsize { recsize ≡ record_size header.now }
     requires within { IsWithin header.now len var.now }
     requires part { k < part_count header.now var.now }
@@ -60,9 +60,9 @@ fn split_index<'a>(header: &Header, var: &NcVar, index: &'a [u64]) -> (u64, &'a 
     }
 }
 
-/// The place in the file of the first byte of an element of a variable.
+// The place in the file of the first byte of an element of a variable.
 #[tactic(auto, using(crate::proofs::PlaceLemmas::places))]
-pub fn place_of(header: &Header, len: u64, recsize: u128, var: &NcVar, index: &[u64]) -> u64
+pub(crate) fn place_of(header: &Header, len: u64, recsize: u128, var: &NcVar, index: &[u64]) -> u64
     requires recsize { recsize ≡ record_size header.now }
     requires within { IsWithin header.now len var.now }
     requires index { IsIndex (shape_of header.now var.now) index.now }

@@ -24,9 +24,9 @@ fn end_of(header: &Header, recsize: u128, var: &NcVar, size: u64) -> Option<u128
     Some(u128::from(var.begin) + u128::from(count - 1) * recsize + u128::from(size))
 }
 
-/// The first variable that has an element past this length.
+// The first variable that has an element past this length.
 #[tactic(auto, unfolding(fm_base::specs::Layout::first_outside))]
-pub fn first_outside(
+pub(crate) fn first_outside(
     header: &Header,
     len: u64,
     recsize: u128,

@@ -11,6 +11,7 @@ mod layout;
 mod records;
 mod vsizes;
 
+pub use dims::{names_record_dim, size_at};
 pub use fm_base::{Fail, LayoutFault};
 pub use laying::lay_out;
 pub use layout::Layout;

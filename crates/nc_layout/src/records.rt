@@ -27,10 +27,10 @@ fn lone_len(kind: Kind, vsize: u64) -> u64
     }
 }
 
-/// How many bytes one record takes. Each variable's part is padded to a multiple of four bytes, but where there is one
-/// record variable alone and its kind is smaller than four bytes.
+// How many bytes one record takes. Each variable's part is padded to a multiple of four bytes, but where there is one
+// record variable alone and its kind is smaller than four bytes.
 #[tactic(auto, using(crate::proofs::RecordLemmas::records))]
-pub fn record_size(header: &Header, vsizes: &[u64]) -> u128
+pub(crate) fn record_size(header: &Header, vsizes: &[u64]) -> u128
     requires sizes { vsizes.now ≡ vsizes_of header.now }
     requires small { All (IsSmall header.now) header.now.vars }
     requires few { length header.now.vars < 2 ^ 32 }

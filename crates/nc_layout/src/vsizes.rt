@@ -29,9 +29,9 @@ fn checked_vsize(header: &Header, var: &NcVar) -> Option<u64>
     Some(vsize as u64)
 }
 
-/// How many bytes each variable takes in one record, or the first variable that takes too many.
+// How many bytes each variable takes in one record, or the first variable that takes too many.
 #[tactic(auto, unfolding(fm_base::specs::Layout::first_too_large))]
-pub fn vsizes(alloc: Global, header: &Header) -> Result<List<u64>, Fail<LayoutFault>>
+pub(crate) fn vsizes(alloc: Global, header: &Header) -> Result<List<u64>, Fail<LayoutFault>>
     requires { All (HasLengths header.now) header.now.vars }
     ensures { Answers (fault_or (first_too_large header.now 0 header.now.vars)
         (vsizes_of header.now)) result }

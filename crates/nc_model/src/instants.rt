@@ -7,7 +7,7 @@ use crate::shape::{ThinShape, data_begin, record_len};
 use fm_base::{List, NoMemory, be32};
 use std::alloc::Global;
 
-/// 2020-01-01T00:00:00Z in Unix seconds, from which instants are counted.
+// 2020-01-01T00:00:00Z in Unix seconds, from which instants are counted.
 const EPOCH: i64 = 1_577_836_800;
 
 // The time of record k in seconds from the epoch.

@@ -12,7 +12,7 @@ pub struct ThinShape {
     pub lons: u32,
 }
 
-/// The greatest number of times, and of latitudes and longitudes.
+// The greatest number of times, and of latitudes and longitudes.
 const MOST_TIMES: u32 = 4096;
 
 const MOST_PLACES: u32 = 1000;

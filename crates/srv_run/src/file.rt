@@ -16,14 +16,14 @@ use fm_world::{Files, Found};
 use nc_model::{ThinShape, thin_shape};
 use std::alloc::Global;
 
-/// A thin file as it was read.
+// A thin file as it was read.
 #[derive(Drop)]
 pub(crate) struct ReadFile {
     pub(crate) bytes: Bytes,
     pub(crate) shape: ThinShape,
 }
 
-/// A file over the grid of a prototype, and its run in seconds from the epoch.
+// A file over the grid of a prototype, and its run in seconds from the epoch.
 #[derive(Drop)]
 pub(crate) struct Loaded {
     pub(crate) proto: ReadFile,

@@ -3,26 +3,11 @@
 use crate::run;
 use fm_base::{Bytes, List, NoMemory};
 use fm_world::{Entry, Link, MemFiles, MemLink, MemSink, World};
+use nc_sample::SAMPLE;
 use std::alloc::Global;
 use std::test::Fail;
 
-/// The sample file as words of four bytes: three times on a grid of two by two places.
-#[rattlefmt::skip]
-const SAMPLE: [u32; 88] = [
-    0x4344_4601, 0x0000_0003, 0x0000_000a, 0x0000_0003, 0x0000_0004, 0x7469_6d65, 0x0000_0000, 0x0000_0003,
-    0x6c61_7400, 0x0000_0002, 0x0000_0003, 0x6c6f_6e00, 0x0000_0002, 0x0000_0000, 0x0000_0000, 0x0000_000b,
-    0x0000_0004, 0x0000_0004, 0x7469_6d65, 0x0000_0001, 0x0000_0000, 0x0000_000c, 0x0000_0001, 0x0000_0005,
-    0x756e_6974, 0x7300_0000, 0x0000_0002, 0x0000_0021, 0x7365_636f, 0x6e64_7320, 0x7369_6e63, 0x6520_3139,
-    0x3730_2d30, 0x312d_3031, 0x2030_303a, 0x3030_3a30, 0x3000_0000, 0x0000_0004, 0x0000_0004, 0x0000_0124,
-    0x0000_0003, 0x6c61_7400, 0x0000_0001, 0x0000_0001, 0x0000_0000, 0x0000_0000, 0x0000_0005, 0x0000_0008,
-    0x0000_0114, 0x0000_0003, 0x6c6f_6e00, 0x0000_0001, 0x0000_0002, 0x0000_0000, 0x0000_0000, 0x0000_0005,
-    0x0000_0008, 0x0000_011c, 0x0000_0001, 0x7400_0000, 0x0000_0003, 0x0000_0000, 0x0000_0001, 0x0000_0002,
-    0x0000_0000, 0x0000_0000, 0x0000_0005, 0x0000_0010, 0x0000_0128, 0x4120_0000, 0x41a0_0000, 0x41f0_0000,
-    0x4220_0000, 0x6592_0080, 0x3f80_0000, 0x4000_0000, 0x4040_0000, 0x4080_0000, 0x6592_54e0, 0x40a0_0000,
-    0x40c0_0000, 0x40e0_0000, 0x4100_0000, 0x6592_a940, 0x4110_0000, 0x4120_0000, 0x4130_0000, 0x4140_0000,
-];
-
-/// The words of the command; the path of the file follows `put:`.
+// The words of the command; the path of the file follows `put:`.
 const ONCE: [&[u8]; 7] = [
     b"once",
     b"--name",
@@ -33,16 +18,16 @@ const ONCE: [&[u8]; 7] = [
     b"ask:1",
 ];
 
-/// The path of the file.
+// The path of the file.
 const PATH: &[u8] = b"in/gfs_20240101_0000.nc";
 
-/// The request for the structure text of the best view.
+// The request for the structure text of the best view.
 const REQUEST: &[u8] = b"GET /thredds/dodsC/gfs/gfs_best.ncd.dds HTTP/1.1\r\n\r\n";
 
-/// The request for its data.
+// The request for its data.
 const DATA_REQUEST: &[u8] = b"GET /thredds/dodsC/gfs/gfs_best.ncd.dods HTTP/1.1\r\n\r\n";
 
-/// The sample file with some words changed, by their places.
+// The sample file with some words changed, by their places.
 pub(crate) fn sample(alloc: Global, changes: &[(usize, u32)]) -> Result<Bytes, NoMemory> {
     let mut bytes = Bytes::new(alloc);
     for (i, word) in SAMPLE.iter().enumerate() {
@@ -57,7 +42,7 @@ pub(crate) fn sample(alloc: Global, changes: &[(usize, u32)]) -> Result<Bytes, N
     Ok(bytes)
 }
 
-/// A world of two files, a request and calls that are to fail.
+// A world of two files, a request and calls that are to fail.
 #[derive(Drop)]
 struct Given<'a> {
     words: &'a [&'a [u8]],
@@ -70,7 +55,7 @@ struct Given<'a> {
 }
 
 impl<'a> Given<'a> {
-    /// The sample file over itself, and the whole request.
+    // The sample file over itself, and the whole request.
     fn sample() -> Given<'a> {
         Given {
             words: &ONCE,
@@ -83,7 +68,7 @@ impl<'a> Given<'a> {
         }
     }
 
-    /// The sample file at this path.
+    // The sample file at this path.
     fn at(path: &'a [u8]) -> Given<'a> {
         Given {
             path,
@@ -92,7 +77,7 @@ impl<'a> Given<'a> {
     }
 }
 
-/// What a run left.
+// What a run left.
 #[derive(Drop)]
 struct Left {
     status: u8,
@@ -109,7 +94,7 @@ pub(crate) fn numbers(alloc: Global, numbers: &[u64]) -> Result<List<u64>, NoMem
     Ok(list)
 }
 
-/// The words, with the path behind the word `put:`.
+// The words, with the path behind the word `put:`.
 fn words_of(alloc: Global, words: &[&[u8]], path: &[u8]) -> Result<List<Bytes>, NoMemory> {
     let mut list = List::new(alloc);
     for word in words {
@@ -147,7 +132,7 @@ fn ran(alloc: Global, given: &Given<'_>) -> Result<Left, Fail> {
     })
 }
 
-/// The reply to the request over the sample file.
+// The reply to the request over the sample file.
 const REPLY: &[u8] =
     b"HTTP/1.1 200 OK\r\nXDODS-Server: dods/3.2\r\nContent-Description: dods_dds\r\nContent-Type: text/plain\r\nX-Collection-Revision: 1\r\nContent-Length: 369\r\nConnection: keep-alive\r\n\r\nDataset {\n    Int32 time[time = 3];\n    Float32 lat[lat = 2];\n    Float32 lon[lon = 2];\n    Grid {\n        ARRAY:\n            Float32 t[time = 3][lat = 2][lon = 2];\n        MAPS:\n            Int32 time[time = 3];\n            Float32 lat[lat = 2];\n            Float32 lon[lon = 2];\n    } t;\n    Int32 time_run[time = 3];\n    Int32 time_offset[time = 3];\n} gfs_best.ncd;\n";
 
@@ -161,11 +146,11 @@ fn the_structure_of_the_best_view_is_sent_whole(rt: HostRuntime) -> Result<(), F
     Ok(())
 }
 
-/// The head of the reply with the data.
+// The head of the reply with the data.
 const DATA_HEAD: &[u8] =
     b"HTTP/1.1 200 OK\r\nXDODS-Server: dods/3.2\r\nContent-Description: dods_data\r\nContent-Type: application/octet-stream\r\nX-Collection-Revision: 1\r\nContent-Length: 575\r\nConnection: keep-alive\r\n\r\n";
 
-/// The data as words of four bytes: each array behind its count, which stands twice.
+// The data as words of four bytes: each array behind its count, which stands twice.
 #[rattlefmt::skip]
 const DATA: [u32; 50] = [
     3, 3, 0x0786_1f80, 0x0786_73e0, 0x0786_c840,

@@ -9,7 +9,7 @@ ghost use Rattle.srv_run.specs.Seen.{seen};
 use fm_base::{Bytes, is_name_byte};
 use fm_model::MAX_NAME;
 
-/// What `once --name NAME --proto PROTO put:PATH ask:1` asks for.
+// What `once --name NAME --proto PROTO put:PATH ask:1` asks for.
 #[derive(Clone, Copy)]
 pub(crate) struct Command<'a> {
     pub(crate) name: &'a [u8],

@@ -6,7 +6,7 @@ use jiff::civil::Date;
 
 const SECONDS_PER_DAY: i64 = 86_400;
 
-/// The days from 1970-01-01 to this day of the years 0 to 9999, where the calendar has it.
+// The days from 1970-01-01 to this day of the years 0 to 9999, where the calendar has it.
 #[tactic(auto, unfolding(fm_base::specs::Calendar::day_number))]
 pub(crate) fn day_number(year: u32, month: u32, day: u32) -> Option<i32>
     ensures { result ≡ spec.day_number year month day }
@@ -20,7 +20,7 @@ pub(crate) fn day_number(year: u32, month: u32, day: u32) -> Option<i32>
     }
 }
 
-/// A time of day.
+// A time of day.
 #[derive(Clone, Copy)]
 pub(crate) struct Time {
     pub(crate) hour: u32,
@@ -28,7 +28,7 @@ pub(crate) struct Time {
     pub(crate) second: u32,
 }
 
-/// The Unix seconds of this date and time in UTC, where both exist.
+// The Unix seconds of this date and time in UTC, where both exist.
 #[tactic(auto, unfolding(fm_base::specs::Calendar::day_number, fm_base::specs::Calendar::moment_of))]
 pub(crate) fn moment_of(year: u32, month: u32, day: u32, time: Time) -> Option<i64>
     ensures { result ≡ spec.moment_of year month day time.hour time.minute time.second }

@@ -28,7 +28,7 @@ const DAY: Digits = Digits {
     high: 99,
 };
 
-/// Reads a date as its day number.
+// Reads a date as its day number.
 #[tactic(auto, unfolding(fm_base::specs::UnitsReading::date_at))]
 pub(crate) fn date(scanner: &mut Scanner<'_>) -> Result<i32, BadPlace>
     ensures { Reads (λ day. day) (spec.date_at scanner.old) result scanner.new }

@@ -2,7 +2,7 @@
 ghost use Rattle.std.specs.Prelude.{◌≡◌, ◌+◌, ◌≤◌, length};
 ghost use Rattle.fm_base.specs.Stamp as spec;
 
-/// Whether a byte stands where a form has `sample`.
+// Whether a byte stands where a form has `sample`.
 fn is_like(sample: u8, byte: u8) -> bool
     ensures { result ≡ spec.is_like sample byte }
 {
@@ -13,7 +13,7 @@ fn is_like(sample: u8, byte: u8) -> bool
     }
 }
 
-/// Whether a text begins in a form, in which `0` stands for any digit.
+// Whether a text begins in a form, in which `0` stands for any digit.
 #[tactic(auto, using(crate::proofs::FormLemmas::turns))]
 pub(crate) fn begins_in_form(form: &[u8], text: &[u8]) -> bool
     ensures { result ≡ spec.begins_in_form form.now text.now }
@@ -26,7 +26,7 @@ pub(crate) fn begins_in_form(form: &[u8], text: &[u8]) -> bool
     true
 }
 
-/// The number that at most four decimal digits write.
+// The number that at most four decimal digits write.
 pub(crate) fn number_of(digits: &[u8]) -> u32
     requires { length digits.now ≤ 4 }
     ensures { result ≡ spec.number_of digits.now }
@@ -38,7 +38,7 @@ pub(crate) fn number_of(digits: &[u8]) -> u32
     number
 }
 
-/// The number that `count` digits write from a place on.
+// The number that `count` digits write from a place on.
 #[tactic(auto, unfolding(fm_base::specs::Stamp::number_at))]
 pub(crate) fn number_at(text: &[u8], from: usize, count: usize) -> u32
     requires short { count ≤ 4 }

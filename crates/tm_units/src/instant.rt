@@ -25,7 +25,7 @@ pub fn read_instant(text: &[u8]) -> Option<i64>
     moment_in(text)
 }
 
-/// The instant that a text writes.
+// The instant that a text writes.
 #[tactic(auto, unfolding(fm_base::specs::Instant::instant_of, fm_base::specs::Instant::instant_form))]
 fn moment_in(text: &[u8]) -> Option<i64>
     ensures { result ≡ spec.instant_of text.now }
@@ -46,14 +46,14 @@ fn moment_in(text: &[u8]) -> Option<i64>
     )
 }
 
-/// The last decimal digit of a number.
+// The last decimal digit of a number.
 fn digit(number: u32) -> u8
     ensures { result ≡ 48 + number % 10 }
 {
     b'0' + (number % 10) as u8
 }
 
-/// The text of a date and a time.
+// The text of a date and a time.
 fn spelled_instant(year: u32, month: u32, day: u32, time: Time) -> [u8; 20]
     ensures { result ≡ spec.spelled_instant year month day time.hour time.minute time.second }
 {
@@ -82,7 +82,7 @@ fn spelled_instant(year: u32, month: u32, day: u32, time: Time) -> [u8; 20]
     ]
 }
 
-/// The date of a day of the years 0 to 9999.
+// The date of a day of the years 0 to 9999.
 fn date_of(day: i64) -> Date
     requires { IsBetween (neg_ℤ (pos 719_528)) (pos 2_932_896) day }
     ensures { HasParts day (unsigned_abs result.year) result.month result.day }
@@ -93,7 +93,7 @@ fn date_of(day: i64) -> Date
     date
 }
 
-/// The text of an instant, by its day and the seconds from the midnight that begins it.
+// The text of an instant, by its day and the seconds from the midnight that begins it.
 #[tactic(auto, unfolding(fm_base::specs::Instant::text_of_day))]
 fn text_of_day(day: i64, seconds: u32) -> [u8; 20]
     requires { IsBetween (neg_ℤ (pos 719_528)) (pos 2_932_896) day }

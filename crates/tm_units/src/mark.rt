@@ -18,7 +18,7 @@ pub fn read_mark(name: &[u8], prefix: &[u8]) -> Option<i64>
     read_stamp(stamp)
 }
 
-/// The moment whose `yyyyMMdd_HHmm` a text begins with.
+// The moment whose `yyyyMMdd_HHmm` a text begins with.
 #[tactic(auto, unfolding(fm_base::specs::Stamp::stamp_of, fm_base::specs::Stamp::stamp_form))]
 fn read_stamp(text: &[u8]) -> Option<i64>
     ensures { result ≡ stamp_of text.now }

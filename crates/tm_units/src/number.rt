@@ -6,7 +6,7 @@ ghost use Rattle.tm_units.specs.Scanning.{Reads};
 use crate::form::number_of;
 use crate::scanner::{BadPlace, Scanner};
 
-/// Which numbers may stand at a place: how many digits they have, and their range.
+// Which numbers may stand at a place: how many digits they have, and their range.
 #[derive(Clone, Copy)]
 pub(crate) struct Digits {
     pub(crate) fewest: usize,
@@ -15,7 +15,7 @@ pub(crate) struct Digits {
     pub(crate) high: u32,
 }
 
-/// Reads a number, which is the longest run of digits up to the most that it may have.
+// Reads a number, which is the longest run of digits up to the most that it may have.
 #[tactic(auto, unfolding(fm_base::specs::UnitsReading::number_at))]
 pub(crate) fn number(scanner: &mut Scanner<'_>, digits: Digits) -> Result<u32, BadPlace>
     requires { digits.most ≤ 4 }
@@ -35,7 +35,7 @@ pub(crate) fn number(scanner: &mut Scanner<'_>, digits: Digits) -> Result<u32, B
     Ok(number)
 }
 
-/// Passes over these letters in either case.
+// Passes over these letters in either case.
 pub(crate) fn letters(scanner: &mut Scanner<'_>, letters: &[u8]) -> Result<(), BadPlace>
     ensures { Reads (λ u. u) (spec.letters_at letters.now scanner.old) result scanner.new }
 {

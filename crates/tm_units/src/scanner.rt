@@ -8,13 +8,13 @@ ghost use Rattle.tm_units.specs.Scanning.{Reads};
 
 use std::marker::Model;
 
-/// The text goes wrong at this place.
+// The text goes wrong at this place.
 #[derive(Clone, Copy)]
 pub(crate) struct BadPlace {
     pub(crate) at: u64,
 }
 
-/// The bytes of a text that are left, and the place of the first.
+// The bytes of a text that are left, and the place of the first.
 #[derive(Drop)]
 pub(crate) struct Scanner<'a> {
     at: u64,
@@ -34,7 +34,7 @@ impl<'a> Model for Scanner<'a> {
     ghost invariant = { λ scanner. scanner.at + length scanner.rest.now < 2 ^ 64 };
 }
 
-/// How many bytes in front are this one.
+// How many bytes in front are this one.
 fn count_of(text: &[u8], byte: u8) -> usize
     ensures count { result ≡ prefix_len (λ other. other == byte) text.now }
     ensures bound { result ≤ length text.now }
@@ -42,7 +42,7 @@ fn count_of(text: &[u8], byte: u8) -> usize
     text.iter().take_while(|other| **other == byte).count()
 }
 
-/// How many bytes in front are digits.
+// How many bytes in front are digits.
 fn count_of_digits(text: &[u8]) -> usize
     ensures count { result ≡ prefix_len is_ascii_digit text.now }
     ensures bound { result ≤ length text.now }
@@ -50,7 +50,7 @@ fn count_of_digits(text: &[u8]) -> usize
     text.iter().take_while(|byte| byte.is_ascii_digit()).count()
 }
 
-/// How many bytes in front are letters.
+// How many bytes in front are letters.
 fn count_of_letters(text: &[u8]) -> usize
     ensures count { result ≡ prefix_len is_ascii_alphabetic text.now }
     ensures bound { result ≤ length text.now }
@@ -61,28 +61,28 @@ fn count_of_letters(text: &[u8]) -> usize
 }
 
 impl<'a> Scanner<'a> {
-    /// All of a text.
+    // All of a text.
     pub(crate) fn new(text: &'a [u8]) -> Scanner<'a>
         ensures { result ≡ whole text.now }
     {
         Scanner { at: 0, rest: text }
     }
 
-    /// The place of the next byte.
+    // The place of the next byte.
     pub(crate) fn at(&self) -> u64
         ensures { result ≡ self.now.at }
     {
         self.at
     }
 
-    /// Whether the text has ended.
+    // Whether the text has ended.
     pub(crate) fn has_ended(&self) -> bool
         ensures { result ≡ spec.has_ended self.now }
     {
         self.rest.is_empty()
     }
 
-    /// Whether the next byte is this one.
+    // Whether the next byte is this one.
     pub(crate) fn next_is(&self, byte: u8) -> bool
         ensures { result ≡ spec.next_is byte self.now }
     {
@@ -92,7 +92,7 @@ impl<'a> Scanner<'a> {
         }
     }
 
-    /// Whether the next byte is this letter in either case.
+    // Whether the next byte is this letter in either case.
     pub(crate) fn next_is_letter(&self, letter: u8) -> bool
         ensures { result ≡ spec.next_is_letter letter self.now }
     {
@@ -102,7 +102,7 @@ impl<'a> Scanner<'a> {
         }
     }
 
-    /// Takes the next bytes.
+    // Takes the next bytes.
     pub(crate) fn take(&mut self, count: usize) -> &'a [u8]
         requires { count ≤ length self.old.rest }
         ensures taken { result.now ≡ take count self.old.rest }
@@ -114,7 +114,7 @@ impl<'a> Scanner<'a> {
         front
     }
 
-    /// Takes the longest run of digits, up to `most` of them.
+    // Takes the longest run of digits, up to `most` of them.
     pub(crate) fn digits(&mut self, most: usize) -> &'a [u8]
         ensures taken { let parser = spec.run_at is_ascii_digit most in
             Reads (λ digits. digits.now) (parser self.old) (Ok result) self.new }
@@ -124,7 +124,7 @@ impl<'a> Scanner<'a> {
         self.take(count_of_digits(front))
     }
 
-    /// Takes the longest run of letters.
+    // Takes the longest run of letters.
     pub(crate) fn letters(&mut self) -> &'a [u8]
         ensures { let parser = spec.run_at is_ascii_alphabetic (length self.old.rest) in
             Reads (λ letters. letters.now) (parser self.old) (Ok result) self.new }
@@ -132,7 +132,7 @@ impl<'a> Scanner<'a> {
         self.take(count_of_letters(self.rest))
     }
 
-    /// Passes over the end of the text.
+    // Passes over the end of the text.
     #[tactic(auto, unfolding(fm_base::specs::UnitsReading::end_at))]
     pub(crate) fn end(&mut self) -> Result<(), BadPlace>
         ensures { Reads (λ u. u) (spec.end_at self.old) result self.new }
@@ -144,7 +144,7 @@ impl<'a> Scanner<'a> {
         }
     }
 
-    /// Passes over this byte.
+    // Passes over this byte.
     #[tactic(auto, unfolding(fm_base::specs::UnitsReading::byte_at))]
     pub(crate) fn byte(&mut self, byte: u8) -> Result<(), BadPlace>
         ensures { Reads (λ u. u) (spec.byte_at byte self.old) result self.new }
@@ -156,7 +156,7 @@ impl<'a> Scanner<'a> {
         Ok(())
     }
 
-    /// Passes over this letter in either case.
+    // Passes over this letter in either case.
     #[tactic(auto, unfolding(fm_base::specs::UnitsReading::letter_at))]
     pub(crate) fn letter(&mut self, letter: u8) -> Result<(), BadPlace>
         ensures { Reads (λ u. u) (spec.letter_at letter self.old) result self.new }
@@ -168,7 +168,7 @@ impl<'a> Scanner<'a> {
         Ok(())
     }
 
-    /// Passes over this byte as often as it stands there.
+    // Passes over this byte as often as it stands there.
     #[tactic(auto, unfolding(fm_base::specs::UnitsReading::many_at))]
     pub(crate) fn many(&mut self, byte: u8) -> usize
         ensures { Reads (λ n. n) (spec.many_at byte self.old) (Ok result) self.new }
@@ -178,7 +178,7 @@ impl<'a> Scanner<'a> {
         count
     }
 
-    /// The same, where it stands there at least once.
+    // The same, where it stands there at least once.
     #[tactic(auto, unfolding(fm_base::specs::UnitsReading::some_at))]
     pub(crate) fn some(&mut self, byte: u8) -> Result<usize, BadPlace>
         ensures { Reads (λ n. n) (spec.some_at byte self.old) result self.new }

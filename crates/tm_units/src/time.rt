@@ -28,7 +28,7 @@ const MINUTE_OF_ZONE: Digits = Digits {
     high: 59,
 };
 
-/// Passes over a point and zeros, where there is a point.
+// Passes over a point and zeros, where there is a point.
 #[tactic(auto, unfolding(fm_base::specs::UnitsReading::fraction_at))]
 fn fraction(scanner: &mut Scanner<'_>) -> Result<usize, BadPlace>
     ensures { Reads (λ n. n) (spec.fraction_at scanner.old) result scanner.new }
@@ -40,7 +40,7 @@ fn fraction(scanner: &mut Scanner<'_>) -> Result<usize, BadPlace>
     scanner.some(b'0')
 }
 
-/// Reads the second of a time, 0 where it is left out.
+// Reads the second of a time, 0 where it is left out.
 #[tactic(auto, unfolding(fm_base::specs::UnitsReading::second_at))]
 fn second(scanner: &mut Scanner<'_>) -> Result<u32, BadPlace>
     ensures read { Reads (λ n. n) (spec.second_at scanner.old) result scanner.new }
@@ -55,7 +55,7 @@ fn second(scanner: &mut Scanner<'_>) -> Result<u32, BadPlace>
     Ok(second)
 }
 
-/// Reads a time of day as the seconds from midnight.
+// Reads a time of day as the seconds from midnight.
 #[tactic(auto, unfolding(fm_base::specs::UnitsReading::time_of_day_at))]
 fn time(scanner: &mut Scanner<'_>) -> Result<u32, BadPlace>
     ensures read { Reads (λ n. n) (spec.time_of_day_at scanner.old) result scanner.new }
@@ -68,7 +68,7 @@ fn time(scanner: &mut Scanner<'_>) -> Result<u32, BadPlace>
     Ok(hour * 3600 + minute * 60 + second)
 }
 
-/// Reads the minutes of a zone, 0 where they are left out.
+// Reads the minutes of a zone, 0 where they are left out.
 #[tactic(auto, unfolding(fm_base::specs::UnitsReading::zone_minute_at))]
 fn zone_minute(scanner: &mut Scanner<'_>) -> Result<u32, BadPlace>
     ensures read { Reads (λ n. n) (spec.zone_minute_at scanner.old) result scanner.new }
@@ -81,7 +81,7 @@ fn zone_minute(scanner: &mut Scanner<'_>) -> Result<u32, BadPlace>
     number(scanner, MINUTE_OF_ZONE)
 }
 
-/// Reads the hours and minutes of a zone as seconds.
+// Reads the hours and minutes of a zone as seconds.
 #[tactic(auto, unfolding(fm_base::specs::UnitsReading::distance_at))]
 fn distance(scanner: &mut Scanner<'_>) -> Result<u32, BadPlace>
     ensures read { Reads (λ n. n) (spec.distance_at scanner.old) result scanner.new }
@@ -92,7 +92,7 @@ fn distance(scanner: &mut Scanner<'_>) -> Result<u32, BadPlace>
     Ok(hour * 3600 + minute * 60)
 }
 
-/// Reads a zone as the seconds by which its clocks are ahead of UTC.
+// Reads a zone as the seconds by which its clocks are ahead of UTC.
 #[tactic(auto, unfolding(fm_base::specs::UnitsReading::zone_at))]
 fn zone(scanner: &mut Scanner<'_>) -> Result<i32, BadPlace>
     ensures read { Reads (λ n. n) (spec.zone_at scanner.old) result scanner.new }
@@ -114,7 +114,7 @@ fn zone(scanner: &mut Scanner<'_>) -> Result<i32, BadPlace>
     Ok(0)
 }
 
-/// Reads a zone up to the end of the text, UTC where it is left out.
+// Reads a zone up to the end of the text, UTC where it is left out.
 #[tactic(auto, unfolding(fm_base::specs::UnitsReading::last_zone_at))]
 fn last_zone(scanner: &mut Scanner<'_>) -> Result<i32, BadPlace>
     ensures read { Reads (λ n. n) (spec.last_zone_at scanner.old) result scanner.new }
@@ -130,7 +130,7 @@ fn last_zone(scanner: &mut Scanner<'_>) -> Result<i32, BadPlace>
     Ok(zone)
 }
 
-/// Reads a time and its zone up to the end of the text, as the seconds from the midnight in UTC that begins its date.
+// Reads a time and its zone up to the end of the text, as the seconds from the midnight in UTC that begins its date.
 #[tactic(auto, unfolding(fm_base::specs::UnitsReading::clock_at))]
 fn clock(scanner: &mut Scanner<'_>) -> Result<i32, BadPlace>
     ensures { Reads (λ n. n) (spec.clock_at scanner.old) result scanner.new }
@@ -140,7 +140,7 @@ fn clock(scanner: &mut Scanner<'_>) -> Result<i32, BadPlace>
     Ok(time as i32 - zone)
 }
 
-/// Reads what follows a date up to the end of the text, which is midnight in UTC where there is no time.
+// Reads what follows a date up to the end of the text, which is midnight in UTC where there is no time.
 #[tactic(auto, unfolding(fm_base::specs::UnitsReading::after_date_at))]
 pub(crate) fn after_date(scanner: &mut Scanner<'_>) -> Result<i32, BadPlace>
     ensures { Reads (λ n. n) (spec.after_date_at scanner.old) result scanner.new }

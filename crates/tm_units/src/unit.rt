@@ -5,7 +5,7 @@ ghost use Rattle.tm_units.specs.Scanning.{Reads};
 
 use crate::scanner::{BadPlace, Scanner};
 
-/// Whether two words are the same but for the case of their letters.
+// Whether two words are the same but for the case of their letters.
 #[tactic(auto, unfolding(fm_base::specs::UnitsReading::is_same_word))]
 pub(crate) fn is_same_word(word: &[u8], other: &[u8]) -> bool
     ensures { result ≡ spec.is_same_word word.now other.now }
@@ -13,7 +13,7 @@ pub(crate) fn is_same_word(word: &[u8], other: &[u8]) -> bool
     word.eq_ignore_ascii_case(other)
 }
 
-/// Whether a word names a second.
+// Whether a word names a second.
 #[tactic(auto, unfolding(fm_base::specs::UnitsReading::is_second))]
 fn is_second(word: &[u8]) -> bool
     ensures { result ≡ spec.is_second word.now }
@@ -25,7 +25,7 @@ fn is_second(word: &[u8]) -> bool
         || is_same_word(word, b"s")
 }
 
-/// Whether a word names a minute.
+// Whether a word names a minute.
 #[tactic(auto, unfolding(fm_base::specs::UnitsReading::is_minute))]
 fn is_minute(word: &[u8]) -> bool
     ensures { result ≡ spec.is_minute word.now }
@@ -36,7 +36,7 @@ fn is_minute(word: &[u8]) -> bool
         || is_same_word(word, b"mins")
 }
 
-/// Whether a word names an hour.
+// Whether a word names an hour.
 #[tactic(auto, unfolding(fm_base::specs::UnitsReading::is_hour))]
 fn is_hour(word: &[u8]) -> bool
     ensures { result ≡ spec.is_hour word.now }
@@ -48,7 +48,7 @@ fn is_hour(word: &[u8]) -> bool
         || is_same_word(word, b"h")
 }
 
-/// Whether a word names a day.
+// Whether a word names a day.
 #[tactic(auto, unfolding(fm_base::specs::UnitsReading::is_day))]
 fn is_day(word: &[u8]) -> bool
     ensures { result ≡ spec.is_day word.now }
@@ -56,7 +56,7 @@ fn is_day(word: &[u8]) -> bool
     is_same_word(word, b"day") || is_same_word(word, b"days") || is_same_word(word, b"d")
 }
 
-/// The seconds of the unit that a word names.
+// The seconds of the unit that a word names.
 #[tactic(auto, unfolding(fm_base::specs::UnitsReading::seconds_per))]
 fn seconds_per(word: &[u8]) -> Option<u32>
     ensures { result ≡ spec.seconds_per word.now }
@@ -74,7 +74,7 @@ fn seconds_per(word: &[u8]) -> Option<u32>
     }
 }
 
-/// Reads the word of a unit, which is the longest run of letters.
+// Reads the word of a unit, which is the longest run of letters.
 #[tactic(auto, unfolding(fm_base::specs::UnitsReading::unit_at))]
 pub(crate) fn unit(scanner: &mut Scanner<'_>) -> Result<u32, BadPlace>
     ensures { Reads (λ n. n) (spec.unit_at scanner.old) result scanner.new }

@@ -16,8 +16,8 @@ use jiff::civil::Date;
 
 const SECONDS_PER_DAY: i64 = 86_400;
 
-/// What a `units` text says: the seconds of the unit, the day number of the date, and the seconds from the midnight in
-/// UTC that begins that date to the origin.
+// What a `units` text says: the seconds of the unit, the day number of the date, and the seconds from the midnight in
+// UTC that begins that date to the origin.
 #[derive(Clone, Copy)]
 struct Written {
     per: u32,
@@ -25,7 +25,7 @@ struct Written {
     seconds: i32,
 }
 
-/// Reads units of time up to the end of the text.
+// Reads units of time up to the end of the text.
 #[tactic(auto, unfolding(fm_base::specs::UnitsReading::units_at))]
 fn read_written(scanner: &mut Scanner<'_>) -> Result<Written, BadPlace>
     ensures { Reads (λ w. record { per = w.per; day = w.day; seconds = w.seconds })
@@ -41,7 +41,7 @@ fn read_written(scanner: &mut Scanner<'_>) -> Result<Written, BadPlace>
     Ok(Written { per, day, seconds })
 }
 
-/// Whether the Gregorian calendar holds at every date.
+// Whether the Gregorian calendar holds at every date.
 #[tactic(auto, unfolding(fm_base::specs::Units::is_proleptic))]
 fn is_proleptic(calendar: Option<&[u8]>) -> bool
     ensures { result ≡ spec.is_proleptic (option_map (λ text. text.now) calendar.entry) }
@@ -52,7 +52,7 @@ fn is_proleptic(calendar: Option<&[u8]>) -> bool
     }
 }
 
-/// Whether the Gregorian calendar holds from 1582-10-15 on.
+// Whether the Gregorian calendar holds from 1582-10-15 on.
 #[tactic(auto, unfolding(fm_base::specs::Units::is_gregorian))]
 fn is_gregorian(calendar: Option<&[u8]>) -> bool
     ensures { result ≡ spec.is_gregorian (option_map (λ text. text.now) calendar.entry) }
@@ -67,7 +67,7 @@ fn is_gregorian(calendar: Option<&[u8]>) -> bool
     }
 }
 
-/// Whether a day lies before the first of the Gregorian calendar.
+// Whether a day lies before the first of the Gregorian calendar.
 #[tactic(auto, unfolding(fm_base::specs::Units::is_before_gregorian))]
 fn is_before_gregorian(day: i32) -> bool
     ensures { result ≡ spec.is_before_gregorian day }
@@ -75,7 +75,7 @@ fn is_before_gregorian(day: i32) -> bool
     day < Date::constant(1582, 10, 15).to_plain().to_unix_epoch_day()
 }
 
-/// The units of what a text says, in a calendar.
+// The units of what a text says, in a calendar.
 #[tactic(auto, unfolding(fm_base::specs::Units::in_calendar))]
 fn in_calendar(written: Written, calendar: Option<&[u8]>) -> Result<Units, UnitsFault>
     ensures { result ≡ spec.in_calendar (option_map (λ text. text.now) calendar.entry)
@@ -93,7 +93,7 @@ fn in_calendar(written: Written, calendar: Option<&[u8]>) -> Result<Units, Units
     })
 }
 
-/// The units of a text in a calendar.
+// The units of a text in a calendar.
 #[tactic(auto, unfolding(fm_base::specs::Units::units_of, fm_base::specs::UnitsReading::written_or_fault))]
 fn units_of(text: &[u8], calendar: Option<&[u8]>) -> Result<Units, UnitsFault>
     ensures { result ≡ spec.units_of text.now (option_map (λ text. text.now) calendar.entry) }

@@ -8,7 +8,7 @@ use crate::request::Method;
 use crate::word::{has_word, same_word};
 use httparse::spans::HeaderSpan;
 
-/// The method of a request line.
+// The method of a request line.
 #[tactic(auto, unfolding(crate::specs::Said::method_of))]
 pub(crate) fn method_of(bytes: &[u8]) -> Method
     ensures { result ≡ spec.method_of bytes.now }
@@ -22,7 +22,7 @@ pub(crate) fn method_of(bytes: &[u8]) -> Method
     }
 }
 
-/// Whether a `Connection` line has this word.
+// Whether a `Connection` line has this word.
 #[tactic(auto, unfolding(crate::specs::Said::connection_says))]
 pub(crate) fn connection_says(raw: &[u8], lines: &[HeaderSpan], word: &[u8]) -> bool
     requires { All (IsHeaderWithin (length raw.now)) lines.now }
@@ -53,7 +53,7 @@ fn announces_body(name: &[u8], value: &[u8]) -> bool
         || (same_word(name, b"Content-Length") && value != b"0".as_slice())
 }
 
-/// Whether a line says that a body follows.
+// Whether a line says that a body follows.
 pub(crate) fn has_body(raw: &[u8], lines: &[HeaderSpan]) -> bool
     requires { All (IsHeaderWithin (length raw.now)) lines.now }
     ensures { result ≡ list_any spec.announces_body (map (header_bytes raw.now) lines.now) }

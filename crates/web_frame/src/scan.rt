@@ -2,18 +2,18 @@
 ghost use Rattle.std.specs.Prelude.{◌≡◌, Option, Some, None, IfNone, MatchOption, length, take};
 ghost use Rattle.web_frame.specs.Scan as spec;
 
-/// Where a reader stands after the bytes that it has read of a head.
+// Where a reader stands after the bytes that it has read of a head.
 #[derive(Clone, Copy, Debug, PartialEq, Eq)]
-pub enum Place {
-    /// Before the head, at the start of a line.
+pub(crate) enum Place {
+    // Before the head, at the start of a line.
     Before,
-    /// There, after a CR.
+    // There, after a CR.
     BeforeReturn,
-    /// Inside a line of the head.
+    // Inside a line of the head.
     Inside,
-    /// After the LF that ended a line of the head.
+    // After the LF that ended a line of the head.
     LineStart,
-    /// There, after a CR.
+    // There, after a CR.
     LineReturn,
 }
 

@@ -6,9 +6,9 @@ use fm_base::NoMemory;
 use std::alloc::Global;
 use std::marker::Model;
 
-/// At most as many bytes as a head may have. Clauses see them as a list.
+// At most as many bytes as a head may have. Clauses see them as a list.
 #[derive(Debug, Drop)]
-pub struct Store {
+pub(crate) struct Store {
     bytes: Vec<u8>,
     start: usize,
     end: usize,

@@ -8,7 +8,7 @@ use fm_base::NoMemory;
 use std::alloc::Global;
 use std::process::Abort;
 
-/// Feeds a head cut in two at each place, and byte by byte.
+// Feeds a head cut in two at each place, and byte by byte.
 fn cut_everywhere(rt: &impl Abort, alloc: Global, head: &[u8], want: Next) -> Result<(), NoMemory> {
     for at in 0..head.len() {
         let mut frame = Frame::new(alloc)?;

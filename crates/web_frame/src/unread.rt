@@ -9,9 +9,9 @@ use fm_base::NoMemory;
 use std::alloc::Global;
 use std::marker::Model;
 
-/// A buffer, how many of its bytes were looked at, and where that leaves a reader. Clauses see its bytes.
+// A buffer, how many of its bytes were looked at, and where that leaves a reader. Clauses see its bytes.
 #[derive(Debug, Drop)]
-pub struct Unread {
+pub(crate) struct Unread {
     store: Store,
     scanned: usize,
     place: Place,

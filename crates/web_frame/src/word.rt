@@ -5,7 +5,7 @@ ghost use Rattle.httparse.specs.Ascii.{comma};
 ghost use Rattle.httparse.specs.Grammar.{skip_ows, trim_ows};
 ghost use Rattle.web_frame.specs.Said as spec;
 
-/// Whether two texts are the same but for the case of ASCII letters.
+// Whether two texts are the same but for the case of ASCII letters.
 pub(crate) fn same_word(a: &[u8], b: &[u8]) -> bool
     ensures { result ≡ spec.same_word a.now b.now }
 {
@@ -42,7 +42,7 @@ fn trimmed(bytes: &[u8]) -> &[u8]
     skip_back(skip_front(bytes))
 }
 
-/// Whether a value, cut at its commas, has this word.
+// Whether a value, cut at its commas, has this word.
 #[tactic(auto, unfolding(crate::specs::Said::has_word))]
 pub(crate) fn has_word(value: &[u8], word: &[u8]) -> bool
     ensures { result ≡ spec.has_word word.now value.now }

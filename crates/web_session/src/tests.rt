@@ -19,8 +19,8 @@ const LAST_HEAD: Asked = Asked::Head(Request {
     has_body: false,
 });
 
-/// What a session asks for over some input, of which it reads at most `most` bytes at a time. Each reply has 5 bytes,
-/// and at most 2 are sent at a time. Reads are left out.
+// What a session asks for over some input, of which it reads at most `most` bytes at a time. Each reply has 5 bytes,
+// and at most 2 are sent at a time. Reads are left out.
 fn actions(alloc: Global, input: &[u8], most: usize) -> Result<Vec<Action>, Fail> {
     let mut session = Session::new(alloc)?;
     let mut seen = Vec::new(alloc);

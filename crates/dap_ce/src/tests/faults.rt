@@ -3,7 +3,7 @@
 use crate::tests::shown::shown;
 use std::test::Fail;
 
-/// What isn't a constraint is bad at the place up to which some constraint begins so.
+// What isn't a constraint is bad at the place up to which some constraint begins so.
 #[rattlefmt::skip]
 const BAD: [(&str, &str); 60] = [
     (",", "21 at 0"),
@@ -68,7 +68,7 @@ const BAD: [(&str, &str); 60] = [
     ("t[1:2:0000000000000000003]", "21 at 24"),
 ];
 
-/// A selection begins where a constraint ends and `&` stands.
+// A selection begins where a constraint ends and `&` stands.
 #[rattlefmt::skip]
 const SELECTIONS: [(&str, &str); 12] = [
     ("&", "22 at 0"),

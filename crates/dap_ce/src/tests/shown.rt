@@ -45,7 +45,7 @@ fn put_fault(alloc: Global, fault: CeFault, out: &mut Bytes) -> Result<(), NoMem
     }
 }
 
-/// What a constraint asks for, or its fault, as a text.
+// What a constraint asks for, or its fault, as a text.
 pub(crate) fn shown(alloc: Global, text: &[u8]) -> Result<Bytes, NoMemory> {
     let mut out = List::new(alloc);
     match read_constraint(alloc, text) {

@@ -7,7 +7,7 @@ use std::alloc::Global;
 use std::process::Abort;
 use std::test::Fail;
 
-/// The text of a row is the text of its pattern, after what stood there.
+// The text of a row is the text of its pattern, after what stood there.
 fn shows(rt: &impl Abort, alloc: Global, kind: Kind, bits: u64, wanted: &str) -> Result<(), Fail> {
     let mut out = Bytes::copy_of(alloc, b"= ")?;
     let p = pattern(kind, bits).ok_or("no pattern")?;

@@ -6,7 +6,7 @@ use fm_world::{Files, Found, Link, Sink};
 use std::test::Fail;
 use std::{env, fs, process, str};
 
-/// A path of this process's own.
+// A path of this process's own.
 fn own_path(rt: &HostRuntime, name: &str) -> Result<Bytes, Fail> {
     let alloc = rt.alloc();
     let name = format!(in alloc; "fmrcd-{}-{}", process::id(rt.process()), name)?;

@@ -7,8 +7,8 @@ use std::io;
 use std::io::{Error, ErrorKind, Read, Write};
 use std::test::Fail;
 
-/// What calls do, by their numbers from 1: some are interrupted, some fail, and each other one takes at most `most`
-/// bytes.
+// What calls do, by their numbers from 1: some are interrupted, some fail, and each other one takes at most `most`
+// bytes.
 #[derive(Drop)]
 struct Plan<'a> {
     most: usize,
@@ -124,7 +124,7 @@ fn a_writer_that_takes_nothing_has_failed(rt: HostRuntime) -> Result<(), Fail> {
     Ok(())
 }
 
-/// What is read from these bytes, a thousand at a time.
+// What is read from these bytes, a thousand at a time.
 fn found(
     alloc: Global,
     bytes: &[u8],

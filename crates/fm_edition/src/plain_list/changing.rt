@@ -40,9 +40,9 @@ fn files_from(
     Ok(kept)
 }
 
-/// The files after an operation.
+// The files after an operation.
 #[tactic(auto, unfolding(fm_model::specs::Collection::after_op))]
-pub fn files_after(
+pub(crate) fn files_after(
     alloc: Global,
     files: &[Arc<Loaded>],
     op: &Op,

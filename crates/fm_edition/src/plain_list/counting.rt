@@ -38,8 +38,8 @@ fn size_in(files: &[Arc<Loaded>]) -> u64
     files.iter().map(|file| size_of(file.get())).sum()
 }
 
-/// How much some files are.
-pub fn tally_of(files: &[Arc<Loaded>]) -> Tally
+// How much some files are.
+pub(crate) fn tally_of(files: &[Arc<Loaded>]) -> Tally
     requires { IsWithin (tally files.now) }
     ensures { result ≡ tally files.now }
 {
@@ -104,8 +104,8 @@ fn first_passed(files: u64, rows: u64, size: u64) -> Option<Full>
     Some(Full { which, held, limit })
 }
 
-/// Which limit the files would pass after an operation, if any. Only a put adds to them.
-pub fn full_after(files: &[Arc<Loaded>], op: &Op) -> Option<Full>
+// Which limit the files would pass after an operation, if any. Only a put adds to them.
+pub(crate) fn full_after(files: &[Arc<Loaded>], op: &Op) -> Option<Full>
     requires { IsWithin (tally files.now) }
     ensures { result ≡ full_at files.now op.now }
 {

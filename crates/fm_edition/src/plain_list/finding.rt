@@ -10,17 +10,17 @@ use crate::offset::keeps_least_offset;
 use fm_base::Arc;
 use fm_model::{Loaded, MAX_TIMES};
 
-/// Whether a file has this name.
+// Whether a file has this name.
 #[tactic(auto, unfolding(fm_model::specs::Collection::holds))]
-pub fn has_name(files: &[Arc<Loaded>], name: &[u8]) -> bool
+pub(crate) fn has_name(files: &[Arc<Loaded>], name: &[u8]) -> bool
     ensures { result ≡ holds files.now name.now }
 {
     files.iter().any(|file| file.get().name.as_slice() == name)
 }
 
-/// Whether a file is of a run before the cutoff.
+// Whether a file is of a run before the cutoff.
 #[tactic(auto, unfolding(fm_model::specs::Collection::holds_older))]
-pub fn has_older(files: &[Arc<Loaded>], cutoff: i64) -> bool
+pub(crate) fn has_older(files: &[Arc<Loaded>], cutoff: i64) -> bool
     ensures { result ≡ holds_older files.now cutoff }
 {
     files.iter().any(|file| file.get().run < cutoff)
@@ -47,8 +47,8 @@ fn place_in(file: &Loaded, run: i64, valid: i64) -> Option<u32>
     }
 }
 
-/// The last file of a run with a valid time, and the time's place in it.
-pub fn cell_of(files: &[Arc<Loaded>], run: i64, valid: i64) -> Option<(&Arc<Loaded>, u32)>
+// The last file of a run with a valid time, and the time's place in it.
+pub(crate) fn cell_of(files: &[Arc<Loaded>], run: i64, valid: i64) -> Option<(&Arc<Loaded>, u32)>
     requires { All (λ (file : File). length file.times ≤ MAX_TIMES) files.now }
     ensures found { IfSome result (λ found. cell files.now run valid ≡ Some (found.0.now, found.1)) }
     ensures none { IsNone result → cell files.now run valid ≡ None }
@@ -91,8 +91,8 @@ fn raised(greatest: Option<i64>, file: &Loaded, valid: i64, least: Option<i64>) 
     Some(file.run)
 }
 
-/// The best run for a valid time.
-pub fn best_of(files: &[Arc<Loaded>], valid: i64, least: Option<i64>) -> Option<i64>
+// The best run for a valid time.
+pub(crate) fn best_of(files: &[Arc<Loaded>], valid: i64, least: Option<i64>) -> Option<i64>
     ensures { result ≡ best files.now valid least }
 {
     let mut greatest = None;

@@ -13,6 +13,7 @@ ghost use Rattle.fm_model.specs.declared.proto.Proto.{Proto};
 ghost use Rattle.fm_model.specs.declared.proto.ProtoVar.{ProtoVar};
 ghost use Rattle.fm_model.specs.Load.{load_of, Fits};
 ghost use Rattle.fm_model.specs.LoadAxis.{file_axis, file_header};
+ghost use Rattle.fm_model.specs.LoadFacts.{IsFit};
 ghost use Rattle.fm_model.specs.LoadTimes.{file_units, run_by_name, run_by_variable, time_at, IsInstant};
 ghost use Rattle.fm_model.specs.LoadVars.{slot_in, slotted_vars};
 ghost use Rattle.fm_model.specs.LoadVars.{IsSameGrid, IsSlotOf, LiesWithin};
@@ -105,4 +106,9 @@ pub fn slots_say_where_elements_lie()
         → place_of header var (k ∷ index)
         ≡ (slot_in header axis var).begin + k * (slot_in header axis var).step
         + size_of var.kind * rank_in (drop 1 (shape_of header var)) index }
+{}
+
+/// All that holds of a file that fits, as one record.
+pub fn a_fit_file_is_sound()
+    ensures { (file : Loaded) (proto : Proto) → IsSound proto → Fits file proto → IsFit file proto }
 {}

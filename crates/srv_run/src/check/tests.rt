@@ -7,7 +7,7 @@ use fm_world::{MemFiles, MemLink, MemSink, World};
 use std::alloc::Global;
 use std::test::Fail;
 
-/// The sample file with some words changed, cut to a length, and calls that are to fail.
+// The sample file with some words changed, cut to a length, and calls that are to fail.
 #[derive(Drop)]
 struct Given<'a> {
     words: &'a [&'a [u8]],
@@ -17,11 +17,11 @@ struct Given<'a> {
     failing_sink: &'a [u64],
 }
 
-/// The words that check the file.
+// The words that check the file.
 const CHECK: [&[u8]; 2] = [b"check", b"file.nc"];
 
 impl<'a> Given<'a> {
-    /// The sample file as it is.
+    // The sample file as it is.
     fn sample() -> Given<'a> {
         Given {
             words: &CHECK,
@@ -33,14 +33,14 @@ impl<'a> Given<'a> {
     }
 }
 
-/// The status of a run and the line that it wrote.
+// The status of a run and the line that it wrote.
 fn ran(alloc: Global, given: &Given<'_>) -> Result<(u8, Bytes), Fail> {
     let mut content = sample(alloc, given.changes)?;
     content.items.truncate(given.len);
     ran_over(alloc, given, content)
 }
 
-/// The same over this content of the file.
+// The same over this content of the file.
 fn ran_over(alloc: Global, given: &Given<'_>, content: Bytes) -> Result<(u8, Bytes), Fail> {
     let mut words = List::new(alloc);
     for word in given.words {
@@ -69,8 +69,8 @@ fn a_sound_file_is_reported_by_its_counts(rt: HostRuntime) -> Result<(), Fail> {
     Ok(())
 }
 
-/// Broken files: how many bytes of the sample file there are, its changed words by their places, and the number of the
-/// first fault.
+// Broken files: how many bytes of the sample file there are, its changed words by their places, and the number of the
+// first fault.
 #[rattlefmt::skip]
 const BROKEN: [(usize, &[(usize, u32)], &[u8]); 21] = [
     (3, &[], b"1"),
@@ -115,7 +115,7 @@ fn a_broken_file_is_refused_by_its_first_fault(rt: HostRuntime) -> Result<(), Fa
     Ok(())
 }
 
-/// Words of a check, with the status and the line that they end in.
+// Words of a check, with the status and the line that they end in.
 #[rattlefmt::skip]
 const WORDS: [(&[&[u8]], u8, &[u8]); 4] = [
     (&[b"check"], 2, b"bad words\n"),
@@ -157,7 +157,7 @@ fn a_device_that_fails_is_blamed(rt: HostRuntime) -> Result<(), Fail> {
     Ok(())
 }
 
-/// Appends numbers of four bytes.
+// Appends numbers of four bytes.
 fn put_words(words: &[u32], out: &mut Bytes) -> Result<(), NoMemory> {
     for word in words {
         out.append(&word.to_be_bytes())?;
@@ -165,7 +165,7 @@ fn put_words(words: &[u32], out: &mut Bytes) -> Result<(), NoMemory> {
     Ok(())
 }
 
-/// A file with a name and a text of 1,001 bytes, a variable of rank 1,024, one without elements and one of 70,000 bytes.
+// A file with a name and a text of 1,001 bytes, a variable of rank 1,024, one without elements and one of 70,000 bytes.
 fn large_file(alloc: Global) -> Result<Bytes, NoMemory> {
     let mut file = Bytes::copy_of(alloc, b"CDF\x01")?;
     put_words(&[0, 10, 3, 1001], &mut file)?;
@@ -191,7 +191,7 @@ fn large_file(alloc: Global) -> Result<Bytes, NoMemory> {
     Ok(file)
 }
 
-/// Where the data of the large file begins: the length of its header.
+// Where the data of the large file begins: the length of its header.
 const BEGIN: u32 = 6288;
 
 #[test]

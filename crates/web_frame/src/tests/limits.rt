@@ -11,7 +11,7 @@ const PLAIN: Next = Next::Head(Request {
     has_body: false,
 });
 
-/// A head with this many header lines, the last of them filled so that the head has this many bytes.
+// A head with this many header lines, the last of them filled so that the head has this many bytes.
 fn head_with(alloc: Global, lines: usize, len: usize) -> Result<Vec<u8>, AllocError> {
     let mut head = b"GET / HTTP/1.1\r\n".to_vec(alloc)?;
     for _ in 1..lines {
