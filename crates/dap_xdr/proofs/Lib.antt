@@ -1,0 +1,12 @@
+pub mod DataLemmas
+pub mod ElementLemmas
+pub mod ExtentLemmas
+pub mod FrontLemmas
+pub mod IndexLemmas
+pub mod LendingLemmas
+pub mod PickedLemmas
+pub mod SoFarLemmas
+pub mod StoredLemmas
+pub mod StretchLemmas
+pub mod TextsLemmas
+pub mod WidenLemmas

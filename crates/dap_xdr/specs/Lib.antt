@@ -1,0 +1,5 @@
+pub mod Content
+pub mod Front
+pub mod Portion
+pub mod Overlay
+pub mod Stretch

@@ -1,0 +1,65 @@
+-- Part that an array has one after the other and slabs pick one after the other.
+use Rattle.std.specs.Prelude.{◌≡◌, ℕ, ◌-◌, ◌%◌, ◌+◌, ◌*◌, ◌≤◌, List, [], ◌∷◌, map, take, drop, Bool, true, ◌==◌, ◌&&◌, if◌then◌else◌, All}
+use Rattle.std.specs.Int.{w16, w32, w64, to_be_bytes}
+use Rattle.std.specs.List.{flat_map}
+use Rattle.fm_base.specs.declared.header.Dim.{Dim}
+use Rattle.fm_base.specs.Layout.{rank_in, indices_of}
+use Rattle.dap_xdr.specs.declared.slabs.Extent.{Extent}
+use Rattle.dap_model.specs.Box.{box_of, slab_count}
+use Rattle.dap_model.specs.declared.declaration.Array.{Array}
+use Rattle.dap_model.specs.declared.declaration.DapKind.{DapKind}
+use Rattle.dap_model.specs.declared.declaration.DapKind.TheVariants.{Byte, Int16, Int32, Float32, Float64, Text}
+use Rattle.dap_model.specs.declared.projection.Slab.{Slab}
+use Rattle.dap_model.specs.Xdr.{AreBitsOf}
+use Rattle.dap_model.specs.ProjectionFacts.{array_lengths}
+
+-- a number as it stands in a netCDF file, the most significant byte first
+unfoldable pub stored_bytes : DapKind → ℕ → List ℕ
+stored_bytes Byte bits = bits ∷ []
+stored_bytes Int16 bits = to_be_bytes w16 bits
+stored_bytes Int32 bits = to_be_bytes w32 bits
+stored_bytes Float32 bits = to_be_bytes w32 bits
+stored_bytes Float64 bits = to_be_bytes w64 bits
+stored_bytes Text bits = []
+
+-- the bytes are those of these numbers, each of this kind
+pub record AreBytesOf (kind : DapKind) (numbers bytes : List ℕ) : Type 0 where
+  pub fit : All (AreBitsOf kind) numbers
+  pub bytes_are : bytes ≡ flat_map (stored_bytes kind) numbers
+
+-- the bytes are those of at most so many numbers of an array from an index list on, in row-major order
+pub record AreStored (array : Array) (bits : List ℕ → ℕ) (index : List ℕ) (most : ℕ) (bytes : List ℕ) : Type 0 where
+  pub count : ℕ
+  pub few : count ≤ most
+  pub bytes_are : AreBytesOf array.kind
+      (map bits (take count (drop (rank_in (array_lengths array) index) (indices_of (array_lengths array))))) bytes
+
+-- the bytes are those of at most so many of the numbers that slabs pick, from a place on
+pub record ArePicked (kind : DapKind) (bits : List ℕ → ℕ) (slabs : List Slab) (place most : ℕ) (bytes : List ℕ)
+    : Type 0 where
+  pub count : ℕ
+  pub few : count ≤ most
+  pub bytes_are : AreBytesOf kind (map bits (take count (drop place (box_of slabs)))) bytes
+
+-- a slab is the whole of a dimension of this size
+unfoldable pub is_whole : ℕ → Slab → Bool
+is_whole size slab = slab.start == 0 && slab.stride == 1 && slab.stop + 1 == size
+
+-- the extent with the slab of one dimension before it: where it has stride 1 and those after it are whole, all that it
+-- picks with them stands together
+abbrev pub extent_before : ℕ → Slab → Extent → Extent
+extent_before size slab extent = record {
+  count = slab_count slab * extent.count;
+  unit = if slab.stride == 1 && extent.whole then slab_count slab * extent.count else extent.unit;
+  whole = is_whole size slab && extent.whole;
+}
+
+-- the extent of slabs of dimensions
+unfoldable pub extent_of : List Dim → List Slab → Extent
+extent_of [] slabs = record { count = 1; unit = 1; whole = true }
+extent_of (dim ∷ dims) [] = record { count = 1; unit = 1; whole = true }
+extent_of (dim ∷ dims) (slab ∷ slabs) = extent_before dim.size slab (extent_of dims slabs)
+
+-- how many of what slabs pick stand together in the array from a place on
+abbrev pub left_at : List Dim → List Slab → ℕ → ℕ
+left_at dims slabs place = (extent_of dims slabs).unit - place % (extent_of dims slabs).unit

@@ -1,0 +1,143 @@
+//! The bytes of numbers, one after the other.
+ghost use Rattle.std.specs.Prelude.{◌≡◌, ◌≢◌, ◌+◌, ◌-◌, ◌<◌, ◌≤◌, ◌++◌, drop, length, min, take};
+ghost use Rattle.dap_model.specs.Box.{box_len, index_at};
+ghost use Rattle.dap_model.specs.declared.declaration.DapKind.{DapKind};
+ghost use Rattle.dap_model.specs.Xdr.{element_len};
+ghost use Rattle.dap_xdr.specs.Front.{IsFront};
+ghost use Rattle.dap_xdr.specs.Portion.{numbers_from, IsOf};
+ghost use Rattle.dap_xdr.specs.Overlay.{overlay};
+
+use crate::kind::{element_len, put_element};
+use crate::part::Part;
+use crate::source::Source;
+use crate::stored::put_stored;
+
+// Writes numbers from a place on, from a place among the bytes of the first one on, as they stand in a file: maybe
+// nothing. The index list of the place stands in `index`.
+fn put_in_place<S: Source>(
+    source: &S,
+    part: &Part,
+    place: u64,
+    skip: u64,
+    out: &mut [u8],
+    index: &[u64],
+) -> usize
+    requires source { IsOf (S.content source.now) part.now }
+    requires number { part.now.array.kind ≢ DapKind.Text }
+    requires place { place < box_len part.now.sent.slabs }
+    requires room { 0 < length out.old }
+    requires index { index.now ≡ index_at part.now.sent.slabs place }
+    ensures { IsFront (drop skip (numbers_from (S.content source.now) part.now place)) out.old out.new result }
+{
+    let stored = part.raw(source, place, index, out.len() as u64);
+    put_stored(part.kind(), stored, skip, out)
+}
+
+// Writes the number at a place, from a place among its bytes on. The index list of the place stands in `index`.
+fn put_first<S: Source>(
+    source: &S,
+    part: &Part,
+    place: u64,
+    skip: u64,
+    out: &mut [u8],
+    index: &[u64],
+) -> usize
+    requires source { IsOf (S.content source.now) part.now }
+    requires number { part.now.array.kind ≢ DapKind.Text }
+    requires place { place < box_len part.now.sent.slabs }
+    requires skip { skip < element_len part.now.array.kind }
+    requires room { 0 < length out.old }
+    requires index { index.now ≡ index_at part.now.sent.slabs place }
+    ensures some { 1 ≤ result }
+    ensures front { IsFront (drop skip (numbers_from (S.content source.now) part.now place)) out.old out.new result }
+{
+    let bits = part.bits(source, place, index);
+    put_element(part.kind(), bits, skip, out)
+}
+
+// Writes numbers from a place on, from a place among the bytes of the first one on: at least one byte.
+#[tactic(auto, using(crate::proofs::FrontLemmas::nothing))]
+fn put_some<S: Source>(
+    source: &S,
+    part: &Part,
+    place: u64,
+    skip: u64,
+    out: &mut [u8],
+    index: &mut [u64],
+) -> usize
+    requires source { IsOf (S.content source.now) part.now }
+    requires number { part.now.array.kind ≢ DapKind.Text }
+    requires place { place < box_len part.now.sent.slabs }
+    requires skip { skip < element_len part.now.array.kind }
+    requires room { 0 < length out.old }
+    requires index { length index.old ≡ length part.now.sent.slabs }
+    ensures some { 1 ≤ result }
+    ensures front { IsFront (drop skip (numbers_from (S.content source.now) part.now place)) out.old out.new result }
+    ensures index { length index.new ≡ length index.old }
+{
+    part.put_index(place, index);
+    let count = put_in_place(source, part, place, skip, out, index);
+    if count > 0 {
+        return count;
+    }
+    put_first(source, part, place, skip, out, index)
+}
+
+// The same behind what stands in the buffer already.
+fn put_more<S: Source>(
+    source: &S,
+    part: &Part,
+    place: u64,
+    skip: u64,
+    filled: usize,
+    out: &mut [u8],
+    index: &mut [u64],
+) -> usize
+    requires source { IsOf (S.content source.now) part.now }
+    requires number { part.now.array.kind ≢ DapKind.Text }
+    requires place { place < box_len part.now.sent.slabs }
+    requires skip { skip < element_len part.now.array.kind }
+    requires room { filled < length out.old }
+    requires index { length index.old ≡ length part.now.sent.slabs }
+    ensures some { 1 ≤ result }
+    ensures fits { filled + result ≤ length out.old }
+    ensures within { result ≤ length (drop skip (numbers_from (S.content source.now) part.now place)) }
+    ensures bytes { out.new ≡ take filled out.old
+        ++ (take result (drop skip (numbers_from (S.content source.now) part.now place)) ++ drop (filled + result)
+        out.old) }
+    ensures index { length index.new ≡ length index.old }
+{
+    let (_, rest) = out.split_at_mut(filled);
+    put_some(source, part, place, skip, rest, index)
+}
+
+// Writes the bytes of the numbers that are sent from a place among them on, as much as fits, and returns how many bytes
+// that are. The buffer `index` has room for an index list.
+pub(crate) fn put_elements<S: Source>(
+    source: &S,
+    part: &Part,
+    from: u64,
+    out: &mut [u8],
+    index: &mut [u64],
+) -> usize
+    requires source { IsOf (S.content source.now) part.now }
+    requires number { part.now.array.kind ≢ DapKind.Text }
+    requires index { length index.old ≡ length part.now.sent.slabs }
+    ensures count { result ≡ min (length out.old)
+        (length (numbers_from (S.content source.now) part.now 0) - from) }
+    ensures bytes { out.new ≡ overlay (drop from (numbers_from (S.content source.now) part.now 0)) out.old }
+    ensures index { length index.new ≡ length index.old }
+{
+    let width = element_len(part.kind());
+    let mut place = from / width;
+    let mut skip = from % width;
+    let mut filled = 0;
+    while place < part.count() && filled < out.len() {
+        let count = put_more(source, part, place, skip, filled, out, index);
+        let passed = skip + count as u64;
+        place += passed / width;
+        skip = passed % width;
+        filled += count;
+    }
+    filled
+}

@@ -1,0 +1,26 @@
+//! The data of DAP 2.0: the values of a part that is sent, as XDR, from any place.
+#![tactic(auto)]
+
+mod array;
+mod elements;
+mod find;
+mod kind;
+mod len;
+mod lending;
+mod part;
+mod piece;
+mod put;
+mod slabs;
+mod source;
+mod stored;
+mod text;
+mod texts;
+mod widen;
+
+pub use len::xdr_len;
+pub use lending::lent;
+pub use piece::xdr_piece;
+pub use source::Source;
+
+#[cfg(test)]
+mod tests;

@@ -1,0 +1,5 @@
+pub mod Code
+pub mod Escape
+pub mod Path
+pub mod Reading
+pub mod Target

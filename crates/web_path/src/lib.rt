@@ -1,0 +1,17 @@
+//! The targets of requests: which view of a collection is asked for, how, and with what constraint.
+#![tactic(auto)]
+
+mod escape;
+mod fault;
+pub mod laws;
+mod read;
+mod scan;
+mod target;
+mod view;
+
+pub use fault::PathFault;
+pub use read::read_target;
+pub use target::{Service, Target};
+
+#[cfg(test)]
+mod tests;

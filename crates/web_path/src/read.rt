@@ -1,0 +1,96 @@
+//! Reading a target.
+ghost use Rattle.std.specs.Prelude.{◌≡◌, ◌+◌, IfOk, take, drop};
+ghost use Rattle.std.specs.Path.{rsplit_once};
+ghost use Rattle.percent_encoding.specs.Percent as escapes;
+ghost use Rattle.fm_base.specs.Answer.{Answers};
+ghost use Rattle.web_path.specs.Target as spec;
+
+use crate::escape::bad_escape;
+use crate::fault::PathFault;
+use crate::scan::{first_of, last_of};
+use crate::target::{Service, Target};
+use crate::view::read_view;
+use fm_base::{Bytes, Fail, NoMemory};
+use fm_model::Site;
+use percent_encoding::percent_decode;
+use std::alloc::Global;
+
+// The bytes with each escape decoded.
+fn decoded(alloc: Global, bytes: &[u8]) -> Result<Bytes, NoMemory>
+    ensures { IfOk result (λ list. list ≡ escapes.percent_decode bytes.now) }
+{
+    let mut items = Vec::new(alloc);
+    percent_decode(bytes).append_to(&mut items)?;
+    Ok(Bytes { items })
+}
+
+// The service that the end of a path names.
+#[tactic(auto, unfolding(crate::specs::Target::service_of))]
+fn service_of(end: &[u8]) -> Option<Service>
+    ensures { result ≡ spec.service_of end.now }
+{
+    if end == b"dds".as_slice() {
+        Some(Service::Dds)
+    } else if end == b"das".as_slice() {
+        Some(Service::Das)
+    } else if end == b"dods".as_slice() {
+        Some(Service::Dods)
+    } else {
+        None
+    }
+}
+
+// What stands after the last `/` of a path.
+#[tactic(auto, unfolding(crate::specs::Target::label_of, std::specs::Path::rsplit_once))]
+fn label_of(path: &[u8]) -> &[u8]
+    ensures { result.now ≡ spec.label_of path.now }
+{
+    match last_of(b'/', path) {
+        Some(at) => &path[at + 1..],
+        None => path,
+    }
+}
+
+// What a path and a constraint ask for that are decoded.
+#[tactic(auto, unfolding(crate::specs::Target::asked_of, std::specs::Path::rsplit_once))]
+fn asked_of(
+    alloc: Global,
+    path: &[u8],
+    constraint: Bytes,
+    site: &Site,
+) -> Result<Target, Fail<PathFault>>
+    ensures { Answers (spec.asked_of site.now path.now constraint) result }
+{
+    let Some(dot) = last_of(b'.', path) else {
+        return Err(Fail::Fault(PathFault::NoSuchDataset));
+    };
+    let front = &path[..dot];
+    let Some(view) = read_view(front, site) else {
+        return Err(Fail::Fault(PathFault::NoSuchDataset));
+    };
+    let Some(service) = service_of(&path[dot + 1..]) else {
+        return Err(Fail::Fault(PathFault::NoSuchService));
+    };
+    let label = Bytes::copy_of(alloc, label_of(front))?;
+    Ok(Target {
+        view,
+        service,
+        constraint,
+        label,
+    })
+}
+
+/// What a target asks for: a view of the collection, a service, a constraint and a label. A fault is the first that the
+/// target has, in the order of the faults.
+#[tactic(auto, unfolding(crate::specs::Target::target_of))]
+pub fn read_target(alloc: Global, target: &[u8], site: &Site) -> Result<Target, Fail<PathFault>>
+    ensures { Answers (spec.target_of site.now target.now) result }
+{
+    if let Some(at) = bad_escape(target) {
+        return Err(Fail::Fault(PathFault::BadEscape(at as u64)));
+    }
+    let question = first_of(b'?', target);
+    let path = decoded(alloc, &target[..question])?;
+    let constraint = decoded(alloc, target.get(question + 1..).unwrap_or(b"".as_slice()))?;
+    asked_of(alloc, path.as_slice(), constraint, site)
+}

@@ -1,0 +1,5 @@
+//! What no clause says: that memory suffices, and targets with answers by hand.
+
+mod asked;
+mod checks;
+mod refused;
