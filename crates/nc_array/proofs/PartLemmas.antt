@@ -21,7 +21,7 @@ flat_map-flat_map f g (x ∷ xs) =
     flat_map-append f (g x) (flat_map g xs) ∙ ap (λ ys. flat_map f (g x) ++ ys) (flat_map-flat_map f g xs)
 
 -- pieces of one size, one after another
-pieces : (bytes : List ℕ) (begin size a n : ℕ)
+pub pieces : (bytes : List ℕ) (begin size a n : ℕ)
     → flat_map (λ r. take size (drop (begin + size * r) bytes)) (range_with_len a n)
     ≡ take (size * n) (drop (begin + size * a) bytes)
 pieces bytes begin size a zero =
@@ -37,7 +37,7 @@ pieces bytes begin size a (suc n) =
     ∙ ap (λ k. take k (drop (begin + size * a) bytes)) len
 
 -- the elements of a part
-elements_at : (bytes : List ℕ) (begin size : ℕ) (shape : List ℕ)
+pub elements_at : (bytes : List ℕ) (begin size : ℕ) (shape : List ℕ)
     → flat_map (λ index. take size (drop (begin + size * rank_in shape index) bytes)) (indices_of shape)
     ≡ take (size * product shape) (drop begin bytes)
 elements_at bytes begin size shape =

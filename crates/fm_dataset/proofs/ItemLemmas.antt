@@ -1,0 +1,13 @@
+-- Items of two lists by their places.
+use Rattle.std.proofs.Common.{◌≡◌, ℕ, zero, suc, List, [], ◌∷◌, Some, subst}
+use Rattle.std.specs.List.{slice_get, AllZip}
+use Rattle.std.proofs.lemmas.Option.{none-some, same_Some}
+
+-- what holds of two lists item by item holds of the items at one place
+pub zip_at : {A B : Type 0} (R : A → B → Type 0) (xs : List A) (ys : List B) (n : ℕ) (x : A) (y : B)
+    → AllZip R xs ys → slice_get xs n ≡ Some x → slice_get ys n ≡ Some y → R x y
+zip_at R [] ys n x y all e d = absurd (none-some x e)
+zip_at R (a ∷ xs) [] n x y all e d = absurd (none-some y d)
+zip_at {A} {B} R (a ∷ xs) (b ∷ ys) zero x y all e d =
+    subst (λ (z : A). R z y) (same_Some a x e) (subst (λ (z : B). R a z) (same_Some b y d) all.0)
+zip_at R (a ∷ xs) (b ∷ ys) (suc n) x y all e d = zip_at R xs ys n x y all.1 e d

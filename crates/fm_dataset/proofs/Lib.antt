@@ -1,0 +1,13 @@
+pub mod BlockLemmas
+pub mod CountLemmas
+pub mod CoordinateLemmas
+pub mod ElementLemmas
+pub mod FindLemmas
+pub mod IndexLemmas
+pub mod ItemLemmas
+pub mod LawLemmas
+pub mod PartLemmas
+pub mod PieceLemmas
+pub mod ReadLemmas
+pub mod RowLemmas
+pub mod TableLemmas

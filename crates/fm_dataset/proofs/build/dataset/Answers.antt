@@ -1,0 +1,21 @@
+use Rattle.std.proofs.Common.{ap₂, ◌∙◌, sym, subst}
+use Rattle.fm_model.specs.declared.proto.Proto.{Proto}
+use Rattle.fm_model.specs.Prototype.{IsSound}
+use Rattle.fm_model.proofs.ProtoLemmas.{IsSound-given}
+use Rattle.fm_dataset.specs.Declarations.{decls_of}
+use Rattle.fm_dataset.specs.Kept.{HasCoordinates, HasSlotNumbers}
+use Rattle.fm_dataset.specs.Rows.{AreRows}
+use Rattle.fm_dataset.proofs.build.dataset.Goals as goal
+
+pub dataset_of-requires : goal.dataset_of-requires
+dataset_of-requires c =
+    let shared = sym c.in_ok-proto.ensures in
+    record {
+      sound = subst IsSound shared (IsSound-given _ c.requires.proto);
+      rows_are = subst (λ (p : Proto). AreRows p c.args.rows) shared c.requires.rows;
+      decls_are = c.in_ok-decls.ensures ∙ ap₂ decls_of (c.get.ensures ∙ shared) c.len.ensures;
+      coordinates_are = subst (λ (p : Proto). HasCoordinates p c.in_ok-coordinates.coordinates)
+          (c.get-2.ensures ∙ shared) c.in_ok-coordinates.ensures;
+      slots_are = subst (λ (p : Proto). HasSlotNumbers p c.in_ok-slots.slots)
+          (c.get-3.ensures ∙ shared) c.in_ok-slots.ensures;
+    }

@@ -1,0 +1,10 @@
+use Rattle.std.proofs.Common.{◌≡◌, ◌+◌, ◌*◌, map, drop}
+use Rattle.fm_base.specs.Layout.{product, rank_in}
+use Rattle.fm_dataset.specs.Kept.{length_at}
+use Rattle.fm_dataset.proofs.index.rank.Given as goal
+
+abbrev pub invariant-loop-place : goal.invariant-loop-place
+invariant-loop-place l =
+    l.rank * product (map (length_at l.proto) (drop l.place l.ids))
+    + rank_in (map (length_at l.proto) (drop l.place l.ids)) (drop l.place l.index)
+    ≡ rank_in (map (length_at l.proto) l.ids) l.index

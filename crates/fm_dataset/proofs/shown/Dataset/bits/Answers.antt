@@ -1,0 +1,32 @@
+use Rattle.std.proofs.Common.{◌≡◌, ◌<◌, length, ap, sym, subst, ◌∙◌, arith}
+use Rattle.std.specs.Prelude.{slice_get, Some}
+use Rattle.fm_model.specs.declared.proto.Proto.{Proto}
+use Rattle.std.proofs.lemmas.Option.{slice_get_within}
+use Rattle.fm_dataset.specs.Values.{Shown, HasNumber}
+use Rattle.fm_dataset.proofs.ReadLemmas.{has_bits}
+use Rattle.fm_dataset.proofs.RowLemmas.{instants}
+use Rattle.fm_dataset.proofs.shown.Dataset.bits.Goals as goal
+
+pub run_bits-requires : goal.run_bits-requires
+run_bits-requires c =
+    rw c.as_slice-rows.ensures (instants _ _ c.self.invariant.sound c.self.invariant.rows_are)
+
+pub offset_bits-requires : goal.offset_bits-requires
+offset_bits-requires c =
+    rw c.as_slice-rows.ensures (instants _ _ c.self.invariant.sound c.self.invariant.rows_are)
+
+pub var_bits-requires : goal.var_bits-requires
+var_bits-requires c =
+    let there : slice_get c.as_slice-2.result.now c.number_of_part-number.result ≡ Some c.in-Some.var.now =
+    c.in-Some.ensures in
+    let asked : HasNumber _ c.args.decl c.args.part c.args.index.now =
+    subst (λ (s : Shown). HasNumber s c.args.decl c.args.part c.args.index.now) (sym c.self.view_is) c.requires in
+    let count = c.len-count.ensures ∙ ap (λ (p : Proto). length p.vars) c.get-proto.ensures in
+    let below : c.args.decl < length c.self.inside.proto.vars =
+    omega (arith, count, c.if-decl-count.false, c.if-decl-count-2.false) in
+    let stands = rw (c.as_slice-2.ensures, c.get-proto.ensures) at there in
+    let slot = rw c.as_slice-in-Some.ensures at c.number_at-slot.ensures in
+    let slot_is = slot ∙ c.self.invariant.slots_are.each _ (slice_get_within _ _ _ stands) in
+    rw (c.get-proto.ensures, c.as_slice-rows.ensures)
+    (has_bits _ c.self.invariant.sound c.self.invariant.rows_are _ _ _ _ _
+    (rw c.get-proto.ensures at c.number_of_part-number.ensures) stands _ slot_is below asked)

@@ -1,0 +1,4 @@
+pub mod Declarations
+pub mod Kept
+pub mod Rows
+pub mod Values

@@ -1,0 +1,60 @@
+//! Building the dataset of a view.
+ghost use Rattle.std.specs.Prelude.{◌≡◌, IfOk};
+ghost use Rattle.fm_model.specs.Site.{IsPrototype};
+ghost use Rattle.fm_dataset.specs.Kept.{IsKept};
+ghost use Rattle.fm_dataset.specs.Rows.{AreRows};
+
+use crate::declare::decls;
+use crate::shown::Dataset;
+use crate::table::{coordinate_numbers, slot_numbers};
+use dap_model::Decl;
+use fm_base::{Arc, Bytes, List, NoMemory};
+use fm_model::{Proto, Row, ViewName};
+use std::alloc::Global;
+
+// A dataset of these parts.
+fn dataset_of(
+    proto: Arc<Proto>,
+    rows: List<Row>,
+    view: ViewName,
+    label: Bytes,
+    decls: List<Decl>,
+    coordinates: List<usize>,
+    slots: List<usize>,
+) -> Dataset
+    requires { IsKept proto rows decls coordinates slots }
+    ensures { result ≡ record { proto = proto; rows = rows; view = view; label = label } }
+{
+    Dataset {
+        proto,
+        rows,
+        view,
+        label,
+        decls,
+        coordinates,
+        slots,
+    }
+}
+
+/// The dataset of a view: its rows over a prototype, under a label. The caller has 1 to 262,144 rows, each of a file
+/// that fits the prototype, with that file's run, a place among its times, and the time at that place as valid time.
+///
+/// The rows are moved and the prototype is shared; it takes memory and time for the declarations alone.
+pub fn dataset(
+    alloc: Global,
+    proto: &Arc<Proto>,
+    rows: List<Row>,
+    view: ViewName,
+    label: &[u8],
+) -> Result<Dataset, NoMemory>
+    requires proto { IsPrototype proto.now }
+    requires rows { AreRows proto.now rows }
+    ensures { IfOk result (λ d. d ≡ record { proto = proto.now; rows = rows; view = view; label = label.now }) }
+{
+    let label = Bytes::copy_of(alloc, label)?;
+    let decls = decls(alloc, proto.get(), rows.len() as u64)?;
+    let coordinates = coordinate_numbers(alloc, proto.get())?;
+    let slots = slot_numbers(alloc, proto.get())?;
+    let proto = proto.share()?;
+    Ok(dataset_of(proto, rows, view, label, decls, coordinates, slots))
+}

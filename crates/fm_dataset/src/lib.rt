@@ -1,0 +1,23 @@
+//! The dataset of a view of a collection: its declarations, and its values, which stand where they are in the files
+//! (ESE-RFC-004, data model; THREDDS Data Server, Forecast Model Run Collections).
+#![tactic(auto)]
+
+mod array;
+mod block;
+mod build;
+mod declare;
+mod grid;
+mod index;
+pub mod laws;
+mod part;
+mod read;
+mod shown;
+mod table;
+#[cfg(test)]
+mod tests;
+mod time;
+mod value;
+
+pub use build::dataset;
+pub use declare::decls;
+pub use shown::Dataset;

@@ -1,0 +1,75 @@
+//! The times of rows, as the axis, the runs and the offsets show them: whole seconds in 32 bits.
+ghost use Rattle.std.specs.Prelude.{◌≡◌, ◌≤ℤ◌, ◌<ℤ◌, neg_ℤ, pos, All};
+ghost use Rattle.std.specs.Int.{w32, cast_unsigned};
+ghost use Rattle.fm_dataset.specs.Kept.{HasInstants};
+ghost use Rattle.fm_dataset.specs.Values as spec;
+
+use crate::index::first_of;
+use fm_model::{Row, ViewName};
+
+// The bits of whole seconds.
+fn bits_of_seconds(seconds: i64) -> u64
+    requires low { neg_ℤ (pos 2_147_483_648) ≤ℤ seconds }
+    requires high { seconds <ℤ pos 2_147_483_648 }
+    ensures { result ≡ cast_unsigned w32 seconds }
+{
+    u64::from((seconds as i32).cast_unsigned())
+}
+
+// The time that the axis shows of a row.
+fn axis_time(view: &ViewName, row: &Row) -> i64
+    ensures { result ≡ spec.axis_time view.now row.now }
+{
+    match view {
+        ViewName::Best => row.valid,
+        ViewName::BestFrom(_) => row.valid,
+        ViewName::Run(_) => row.valid,
+        ViewName::Offset(_) => row.valid,
+        ViewName::Forecast(_) => row.run,
+    }
+}
+
+// The bits of the time that the axis shows of the row that the first index picks.
+#[tactic(auto, unfolding(crate::specs::Values::time_bits))]
+pub(crate) fn axis_bits(rows: &[Row], view: &ViewName, index: &[u64]) -> u64
+    requires { All HasInstants rows.now }
+    ensures { result ≡ spec.time_bits rows.now (spec.axis_time view.now) index.now }
+{
+    match rows.get(first_of(index) as usize) {
+        None => 0,
+        Some(row) => bits_of_seconds(axis_time(view, row)),
+    }
+}
+
+// The bits of its run.
+#[tactic(auto, unfolding(crate::specs::Values::time_bits))]
+pub(crate) fn run_bits(rows: &[Row], index: &[u64]) -> u64
+    requires { All HasInstants rows.now }
+    ensures { result ≡ spec.time_bits rows.now spec.run_time index.now }
+{
+    match rows.get(first_of(index) as usize) {
+        None => 0,
+        Some(row) => bits_of_seconds(row.run),
+    }
+}
+
+fn offset_time(row: &Row) -> i64
+    requires { HasInstants row.now }
+    ensures value { result ≡ spec.offset_time row.now }
+    ensures low { neg_ℤ (pos 2_147_483_648) ≤ℤ result }
+    ensures high { result <ℤ pos 2_147_483_648 }
+{
+    row.valid - row.run
+}
+
+// The bits of its offset.
+#[tactic(auto, unfolding(crate::specs::Values::time_bits))]
+pub(crate) fn offset_bits(rows: &[Row], index: &[u64]) -> u64
+    requires { All HasInstants rows.now }
+    ensures { result ≡ spec.time_bits rows.now spec.offset_time index.now }
+{
+    match rows.get(first_of(index) as usize) {
+        None => 0,
+        Some(row) => bits_of_seconds(offset_time(row)),
+    }
+}

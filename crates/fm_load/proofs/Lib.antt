@@ -1,0 +1,6 @@
+pub mod AcceptLemmas
+pub mod GridLemmas
+pub mod InstantLemmas
+pub mod LengthLemmas
+pub mod SlotLemmas
+pub mod TimeLemmas

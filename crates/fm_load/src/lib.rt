@@ -1,0 +1,16 @@
+//! Takes a netCDF classic file into a collection over its prototype, or says the first fault that it has.
+#![tactic(auto)]
+
+mod axis;
+mod grid;
+pub mod laws;
+mod lengths;
+mod loading;
+mod run;
+mod slots;
+#[cfg(test)]
+mod tests;
+mod times;
+mod units;
+
+pub use loading::load;

@@ -1,0 +1,150 @@
+//! Where the data of the variables along the axis lies.
+ghost use Rattle.std.specs.Prelude.{◌≡◌, ◌<◌, ◌^◌, true, length};
+ghost use Rattle.fm_base.specs.Answer.{Answers};
+ghost use Rattle.fm_base.specs.Layout.{record_size, size_at};
+ghost use Rattle.fm_model.specs.LoadVars as spec;
+ghost use Rattle.fm_model.specs.Variable.{dim_of_axis, stands_first_alone};
+ghost use Rattle.nc_layout.specs.Places.{IsVar};
+
+use crate::axis::file_var;
+use crate::grid::{is_same_kind, same_grid};
+use crate::lengths::{others, same_lengths};
+use fm_base::{Bytes, Fail, Header, List, NcVar};
+use fm_file::{dim_of_axis, is_coordinate, stands_first_alone};
+use fm_model::{LoadFault, Proto, ProtoVar, Slot};
+use nc_layout::{Layout, names_record_dim};
+use std::alloc::Global;
+
+// Whether a variable along the axis is like the prototype's: the same kind, the file's axis first, the same other
+// lengths.
+#[tactic(auto, unfolding(fm_model::specs::LoadVars::is_like_timed))]
+fn is_like_timed(
+    proto: &Proto,
+    header: &Header,
+    axis: &NcVar,
+    wanted: &ProtoVar,
+    var: &NcVar,
+) -> bool
+    ensures { result ≡ spec.is_like_timed proto.now header.now axis.now wanted.now var.now }
+{
+    is_same_kind(wanted.kind, var.kind)
+        && stands_first_alone(dim_of_axis(axis), var.dims.as_slice())
+        && same_lengths(
+            proto,
+            others(wanted.dims.as_slice()),
+            header,
+            others(var.dims.as_slice()),
+        )
+}
+
+// Where the data of a variable along the axis lies, which has this length.
+#[tactic(auto, using(crate::proofs::SlotLemmas::slots), unfolding(fm_model::specs::LoadVars::slot_in))]
+fn slot_in(layout: &Layout, axis: &NcVar, count: u32, number: u32, var: &NcVar) -> Slot
+    requires small { record_size layout.now.header < 2 ^ 64 }
+    requires count { size_at layout.now.header (dim_of_axis axis.now) ≡ count }
+    requires some { 0 < count }
+    requires var { IsVar layout.now number var.now }
+    requires along { stands_first_alone (dim_of_axis axis.now) var.now.dims ≡ true }
+    ensures { result ≡ spec.slot_in layout.now.header axis.now var.now }
+{
+    Slot {
+        begin: var.begin,
+        step: if names_record_dim(layout.header().dims.as_slice(), dim_of_axis(axis)) {
+            layout.recsize() as u64
+        } else {
+            layout.vsize(number) / u64::from(count)
+        },
+    }
+}
+
+// The slot of a variable of the prototype that lies along the axis.
+#[tactic(auto, using(crate::proofs::SlotLemmas::slots), unfolding(fm_model::specs::LoadVars::file_slot))]
+fn file_slot(
+    alloc: Global,
+    proto: &Proto,
+    layout: &Layout,
+    axis: &NcVar,
+    count: u32,
+    wanted: &ProtoVar,
+) -> Result<Slot, Fail<LoadFault>>
+    requires small { record_size layout.now.header < 2 ^ 64 }
+    requires count { size_at layout.now.header (dim_of_axis axis.now) ≡ count }
+    requires some { 0 < count }
+    ensures { Answers (spec.file_slot proto.now layout.now.header axis.now wanted.now) result }
+{
+    let name = wanted.name.as_slice();
+    let (number, var) = file_var(alloc, layout, name)?;
+    if !is_like_timed(proto, layout.header(), axis, wanted, var) {
+        let name = Bytes::copy_of(alloc, name)?;
+        return Err(Fail::Fault(LoadFault::VariableDiffers(name)));
+    }
+    Ok(slot_in(layout, axis, count, number, var))
+}
+
+// Whether files are compared in a variable of the prototype: not the axis, and along the axis or a coordinate variable.
+#[tactic(auto, unfolding(fm_model::specs::LoadVars::is_compared))]
+fn is_compared(proto: &Proto, wanted: &ProtoVar) -> bool
+    ensures { result ≡ spec.is_compared proto.now wanted.now }
+{
+    let name = wanted.name.as_slice();
+    name != proto.axis.as_slice()
+        && (wanted.timed
+            || is_coordinate(
+                proto.dims.as_slice(),
+                name,
+                wanted.kind,
+                wanted.dims.as_slice(),
+            ))
+}
+
+// The slots after one more variable: one where it lies along the axis, none where it is a coordinate variable.
+#[tactic(auto, unfolding(fm_model::specs::LoadVars::slots_after))]
+fn slots_after(
+    alloc: Global,
+    proto: &Proto,
+    bytes: &[u8],
+    layout: &Layout,
+    axis: &NcVar,
+    count: u32,
+    mut found: List<Slot>,
+    wanted: &ProtoVar,
+) -> Result<List<Slot>, Fail<LoadFault>>
+    requires length { length bytes.now ≡ layout.now.len }
+    requires small { record_size layout.now.header < 2 ^ 64 }
+    requires count { size_at layout.now.header (dim_of_axis axis.now) ≡ count }
+    requires some { 0 < count }
+    ensures { Answers (spec.slots_after proto.now bytes.now layout.now.header axis.now found wanted.now) result }
+{
+    if wanted.timed {
+        found.push(file_slot(alloc, proto, layout, axis, count, wanted)?)?;
+    } else {
+        same_grid(alloc, proto, bytes, layout, wanted)?;
+    }
+    Ok(found)
+}
+
+// The slots of a file, in the prototype's order: one for each variable along the axis but for the axis itself. On the
+// way each coordinate variable is compared.
+#[tactic(auto, unfolding(fm_model::specs::LoadVars::file_slots, fm_model::specs::LoadVars::steps_from))]
+pub(crate) fn file_slots(
+    alloc: Global,
+    proto: &Proto,
+    bytes: &[u8],
+    layout: &Layout,
+    axis: &NcVar,
+    count: u32,
+) -> Result<List<Slot>, Fail<LoadFault>>
+    requires length { length bytes.now ≡ layout.now.len }
+    requires small { record_size layout.now.header < 2 ^ 64 }
+    requires count { size_at layout.now.header (dim_of_axis axis.now) ≡ count }
+    requires some { 0 < count }
+    ensures { Answers (spec.file_slots proto.now bytes.now layout.now.header axis.now) result }
+{
+    let mut found = List::new(alloc);
+    for wanted in proto.vars.as_slice() {
+        if is_compared(proto, wanted) {
+            found = slots_after(alloc, proto, bytes, layout, axis, count, found, wanted)?;
+        }
+    }
+    Ok(found)
+}

@@ -1,0 +1,8 @@
+-- What `strip_prefix` says of bytes.
+use Rattle.std.proofs.lemmas.Bool.Decides.{Decides-eqb}
+use Rattle.std.proofs.lemmas.Slice.Eq.{strip_prefix_is}
+use Rattle.fm_proto.proofs.faults.after.Goals as goal
+
+pub returns : goal.returns
+returns c =
+    strip_prefix_is Decides-eqb c.args.name.now c.args.front.now c.strip_prefix.result c.strip_prefix.ensures.cases
