@@ -11,7 +11,7 @@ use Rattle.fm_dataset.specs.Declarations.{array_dims, array_of, dim_at, dims_in}
 use Rattle.fm_dataset.specs.Values.{shape_of_array}
 
 -- the lengths of the dimensions of these numbers
-lengths_are : (proto : Proto) (ids : List ℕ)
+pub lengths_are : (proto : Proto) (ids : List ℕ)
     → map (λ (dim : Dim). dim.size) (map (dim_at proto) ids) ≡ lengths_of proto ids
 unfolding dim_at
 lengths_are proto [] = refl

@@ -6,6 +6,7 @@ pub mod FindLemmas
 pub mod IndexLemmas
 pub mod ItemLemmas
 pub mod LawLemmas
+pub mod OrderLemmas
 pub mod PartLemmas
 pub mod PieceLemmas
 pub mod ReadLemmas

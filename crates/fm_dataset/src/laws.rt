@@ -1,6 +1,9 @@
 //! What a reader believes of the definitions, each as the contract of a call that does nothing.
-ghost use Rattle.std.specs.Prelude.{◌≡◌, ◌+◌, ◌<◌, ◌∷◌, ℕ, List, Some, Contains, length, slice_get, true};
+ghost use Rattle.std.specs.Prelude.{◌≡◌, ◌+◌, ◌<◌, ◌∷◌, ℕ, List, Some, Contains, length, slice_get, take, drop};
+ghost use Rattle.std.specs.Prelude.{min, false, true};
 ghost use Rattle.fm_base.specs.Kind.{size_of};
+ghost use Rattle.fm_base.specs.Layout.{indices_of, rank_in, IsIndex};
+ghost use Rattle.fm_model.specs.Attribute.{is_char};
 ghost use Rattle.fm_model.specs.declared.loaded.Loaded.{Loaded};
 ghost use Rattle.fm_model.specs.declared.proto.Proto.{Proto};
 ghost use Rattle.fm_model.specs.declared.proto.ProtoVar.{ProtoVar};
@@ -9,9 +12,10 @@ ghost use Rattle.fm_model.specs.declared.row.ViewName.TheVariants.{Best};
 ghost use Rattle.fm_model.specs.Prototype.{offset_name, run_name, IsSound};
 ghost use Rattle.fm_model.specs.Rows.{rows};
 ghost use Rattle.dap_model.specs.declared.declaration.Array.{Array};
-ghost use Rattle.fm_dataset.specs.Declarations.{decls_of, dims_in, rows_dim, seconds_of_rows};
+ghost use Rattle.fm_dataset.specs.Declarations.{array_of, decls_of, dims_in, rows_dim, seconds_of_rows};
 ghost use Rattle.fm_dataset.specs.Rows.{AreRows, IsOfLatestRun};
 ghost use Rattle.fm_dataset.specs.Values.{array_at, element_in, element_of, var_of_part};
+ghost use Rattle.fm_dataset.specs.Values.{indices_from, left_in_row, shape_of_array};
 ghost use Rattle.fm_dataset.specs.Values.{HasStored, IsPart, Shown};
 
 /// A view declares whole seconds of its rows three times: as its axis, as the runs and as the offsets. Each has the
@@ -54,4 +58,15 @@ pub fn an_element_is_as_long_as_its_kind()
         IsSound shown.proto → AreRows shown.proto shown.rows → HasStored shown decl part index
         → var_of_part shown.proto decl part ≡ Some var
         → length (element_of shown.proto shown.rows var index) ≡ size_of var.kind }
+{}
+
+/// The index lists that follow one in its row follow it in the array of the part, in row-major order. So the elements
+/// that `raw` lends are the array's next ones.
+pub fn what_is_lent_follows_in_the_array()
+    ensures { (proto : Proto) (count : ℕ) (var : ProtoVar) (index : List ℕ) (most : ℕ) →
+        is_char var.kind ≡ false → IsIndex (shape_of_array (array_of proto count var)) index
+        → take most (indices_from proto var index)
+        ≡ take (min most (left_in_row proto var index))
+        (drop (rank_in (shape_of_array (array_of proto count var)) index)
+        (indices_of (shape_of_array (array_of proto count var)))) }
 {}

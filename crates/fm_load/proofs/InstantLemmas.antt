@@ -1,6 +1,6 @@
 -- An instant of a collection fits eight bytes.
-use Rattle.std.proofs.Common.{◌≡◌, ◌≤ℤ◌, ℤ, pos, negsuc, neg_ℤ, Bool, true, false, not, List, [], ◌∷◌, ◌++◌, All, Ok, refl, sym, ap, ap₂, ◌∙◌, FitsSigned, w64, arith}
-use Rattle.std.specs.Prelude.{ℕ, ◌+ℤ◌, ◌-ℤ◌}
+use Rattle.std.proofs.Common.{◌≡◌, ◌≤ℤ◌, ℤ, pos, negsuc, Bool, true, false, not, List, All, Ok, refl, ap, FitsSigned, w64, arith}
+use Rattle.std.specs.Prelude.{ℕ}
 use Rattle.std.specs.List.{list_any}
 use Rattle.std.specs.Ordering.{int_eq}
 use Rattle.std.specs.Int.Signed.{le_z}
@@ -9,7 +9,6 @@ use Rattle.std.proofs.lemmas.Int.{ints}
 use Rattle.std.proofs.lemmas.List.Elements.{All-weaker}
 use Rattle.std.proofs.lemmas.List.Folds.{list_any_none}
 use Rattle.fm_base.specs.Chain.{◌>>◌, refuse_if}
-use Rattle.fm_model.specs.declared.loaded.LoadFault.{LoadFault}
 use Rattle.fm_model.specs.declared.loaded.LoadFault.TheVariants.{RunRange, TimeRange}
 use Rattle.fm_model.specs.LoadTimes.{is_instant, run_in_range, time_in_range, IsInstant}
 use Rattle.fm_model.proofs.RunLemmas.{IsInstant-from_test}

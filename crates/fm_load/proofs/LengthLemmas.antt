@@ -1,7 +1,7 @@
 -- A variable has one element exactly where each of its lengths is 1; and the lengths of one that lies along one
 -- dimension.
-use Rattle.std.proofs.Common.{◌≡◌, ℕ, zero, suc, ◌+◌, ◌*◌, ◌<◌, ◌≤◌, Bool, true, false, not, List, [], ◌∷◌, length, drop, map, get_or, refl, sym, ap, ap₂, subst, ◌∙◌, arith}
-use Rattle.std.specs.Prelude.{◌==◌, ◌&&◌, slice_index}
+use Rattle.std.proofs.Common.{◌≡◌, ℕ, zero, suc, ◌+◌, ◌*◌, ◌<◌, ◌≤◌, true, false, not, List, [], ◌∷◌, length, drop, map, get_or, refl, sym, ap, ◌∙◌, arith}
+use Rattle.std.specs.Prelude.{◌==◌, slice_index}
 use Rattle.std.proofs.lemmas.Bool.{and_parts, eqb-true, ne_eqb}
 use Rattle.std.proofs.lemmas.List.{drop_all, drop_more}
 use Rattle.fm_base.specs.declared.header.Dim.{Dim}
@@ -11,7 +11,7 @@ use Rattle.fm_base.specs.declared.kind.Kind.{Kind}
 use Rattle.fm_base.specs.Layout.{IsIndex, product, shape_of, size_at}
 use Rattle.fm_model.specs.Attribute.{is_char}
 use Rattle.fm_model.specs.LoadTimes.{is_one_number}
-use Rattle.fm_model.specs.Variable.{dim_of_axis, is_coordinate, is_named}
+use Rattle.fm_model.specs.Variable.{dim_of_axis, is_coordinate}
 
 factors : (m n : ℕ) → 0 < m * n → (0 < m) × (0 < n)
 factors zero n some = absurd (omega arith)

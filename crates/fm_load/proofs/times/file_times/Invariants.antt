@@ -1,5 +1,5 @@
 -- The times that are left, after those that were found, are what all are; none that was found is later than `latest`.
-use Rattle.std.proofs.Common.{◌≡◌, ◌≤ℤ◌, ℕ, ◌-◌, [], All, length}
+use Rattle.std.proofs.Common.{◌≡◌, ◌≤ℤ◌, ◌-◌, [], All, length}
 use Rattle.fm_model.specs.LoadTimes.{time_at, times_from}
 use Rattle.fm_load.proofs.times.file_times.Given as goal
 

@@ -1,5 +1,5 @@
 -- An instant fits eight bytes, and is what the step gives.
-use Rattle.std.proofs.Common.{◌≡◌, false, not, Ok, sym, subst, ap, ◌∙◌, FitsSigned, w64, arith}
+use Rattle.std.proofs.Common.{◌≡◌, false, not, sym, subst, FitsSigned, w64, arith}
 use Rattle.std.proofs.lemmas.Int.{to_z-of_z}
 use Rattle.fm_model.specs.LoadTimes.{is_instant}
 use Rattle.fm_load.proofs.InstantLemmas.{instant_fits, time_in_range-ok}
