@@ -1,5 +1,7 @@
 //! Small files, as words of four bytes.
 
+use nc_sample::SAMPLE;
+
 /// Which file a row of a table changes.
 #[derive(Clone, Copy)]
 pub enum File {
@@ -12,7 +14,7 @@ pub enum File {
 impl File {
     pub fn words(self) -> &'static [u32] {
         match self {
-            File::Records => &RECORDS,
+            File::Records => &SAMPLE,
             File::Fixed => &FIXED,
             File::Analysis => &ANALYSIS,
             File::Named => &NAMED,
@@ -20,23 +22,8 @@ impl File {
     }
 }
 
-/// A CDF-1 file of three times on a grid of two by two places. The axis is the record dimension.
-#[rattlefmt::skip]
-static RECORDS: [u32; 88] = [
-    0x4344_4601, 0x0000_0003, 0x0000_000a, 0x0000_0003, 0x0000_0004, 0x7469_6d65, 0x0000_0000, 0x0000_0003, 0x6c61_7400,
-    0x0000_0002, 0x0000_0003, 0x6c6f_6e00, 0x0000_0002, 0x0000_0000, 0x0000_0000, 0x0000_000b, 0x0000_0004, 0x0000_0004,
-    0x7469_6d65, 0x0000_0001, 0x0000_0000, 0x0000_000c, 0x0000_0001, 0x0000_0005, 0x756e_6974, 0x7300_0000, 0x0000_0002,
-    0x0000_0021, 0x7365_636f, 0x6e64_7320, 0x7369_6e63, 0x6520_3139, 0x3730_2d30, 0x312d_3031, 0x2030_303a, 0x3030_3a30,
-    0x3000_0000, 0x0000_0004, 0x0000_0004, 0x0000_0124, 0x0000_0003, 0x6c61_7400, 0x0000_0001, 0x0000_0001, 0x0000_0000,
-    0x0000_0000, 0x0000_0005, 0x0000_0008, 0x0000_0114, 0x0000_0003, 0x6c6f_6e00, 0x0000_0001, 0x0000_0002, 0x0000_0000,
-    0x0000_0000, 0x0000_0005, 0x0000_0008, 0x0000_011c, 0x0000_0001, 0x7400_0000, 0x0000_0003, 0x0000_0000, 0x0000_0001,
-    0x0000_0002, 0x0000_0000, 0x0000_0000, 0x0000_0005, 0x0000_0010, 0x0000_0128, 0x4120_0000, 0x41a0_0000, 0x41f0_0000,
-    0x4220_0000, 0x6592_0080, 0x3f80_0000, 0x4000_0000, 0x4040_0000, 0x4080_0000, 0x6592_54e0, 0x40a0_0000, 0x40c0_0000,
-    0x40e0_0000, 0x4100_0000, 0x6592_a940, 0x4110_0000, 0x4120_0000, 0x4130_0000, 0x4140_0000,
-];
-
-/// The same fields, as a CDF-2 file without records: the axis is a fixed dimension with times in hours, and the run is in a
-/// scalar variable in days.
+/// The fields of the sample, as a CDF-2 file without records: the axis is a fixed dimension with times in hours, and the
+/// run is in a scalar variable in days.
 #[rattlefmt::skip]
 static FIXED: [u32; 134] = [
     0x4344_4602, 0x0000_0000, 0x0000_000a, 0x0000_0003, 0x0000_0004, 0x7469_6d65, 0x0000_0003, 0x0000_0003, 0x6c61_7400,
