@@ -206,3 +206,23 @@ fn as_many_times_as_a_file_may_have_are_told_apart(rt: HostRuntime) -> Result<()
     }
     Ok(())
 }
+
+#[test]
+fn a_file_that_is_cut_is_refused_by_what_is_missing(rt: HostRuntime) -> Result<(), Fail> {
+    let alloc = rt.alloc();
+    let proto = prototype(alloc, b"time", &RECORDS_DIMS, &RECORDS_VARS)?;
+    let whole = changed(alloc, files::File::Records.words(), &[])?;
+    assert_eq!(rt; whole.len(), 352);
+    for len in 0..352 {
+        let cut = Bytes::copy_of(alloc, &whole.as_slice()[..len])?;
+        let found = loaded(alloc, &proto, cut, cases::STAMP)?;
+        let wanted = match len {
+            0..=3 => 1,
+            4..=275 => 3,
+            _ => 14,
+        };
+        let (code, ..) = said(&found);
+        assert_eq!(rt; code, wanted, "{len}");
+    }
+    Ok(())
+}

@@ -110,7 +110,7 @@ pub static RUNS: [Case; 23] = [
 
 /// Times of files.
 #[rattlefmt::skip]
-pub static TIMES: [Case; 15] = [
+pub static TIMES: [Case; 20] = [
     (Records, STAMP, &[(1, 0x0000_0000)], 52, 0, 0, NONE),
     (Analysis, STAMP, &[(1, 0x0000_0000), (44, 0x466f_7265)], 52, 0, 0, NONE),
     (Fixed, STAMP, &[(110, 0x7ff0_0000)], 46, 0, 0, NONE),
@@ -126,11 +126,17 @@ pub static TIMES: [Case; 15] = [
     (Fixed, STAMP, &[(114, 0x4018_0000)], 48, 2, 0, NONE),
     (Records, STAMP, &[(73, 0x6592_a940), (83, 0x6592_0080)], 0, 126_230_400, 126_230_400, NONE),
     (Records, STAMP, &[(78, 0x6592_a940), (83, 0x7fff_ffff)], 0, 126_230_400, 569_646_847, NONE),
+    (Fixed, STAMP, &[(114, 0x3fe0_0000)], 0, 126_252_000, 126_232_200, NONE),
+    (Fixed, STAMP, &[(110, 0x3fd5_5555), (111, 0x5555_5555)], 46, 0, 0, NONE),
+    (Records, STAMP, &[(31, 0x6520_3230), (32, 0x3230_2d30), (73, 0), (78, 1), (83, 0x3fff_ffff)], 0, 126_230_400,
+        1_073_741_823, NONE),
+    (Records, STAMP, &[(31, 0x6520_3230), (32, 0x3230_2d30), (73, 0x4000_0000)], 47, 0, 1_073_741_824, NONE),
+    (Records, STAMP, &[(31, 0x6520_3230), (32, 0x3230_2d30), (73, 5), (78, 5)], 48, 1, 0, NONE),
 ];
 
 /// Variables beside those of the prototype.
 #[rattlefmt::skip]
-pub static VARIABLES: [Case; 16] = [
+pub static VARIABLES: [Case; 17] = [
     (Records, STAMP, &[(59, 0x7500_0000)], 49, 0, 0, b"t"),
     (Fixed, STAMP, &[(89, 0x6c6f_6d00)], 49, 0, 0, b"lon"),
     (Records, STAMP, &[(41, 0x6c61_7000)], 49, 0, 0, b"lat"),
@@ -142,6 +148,7 @@ pub static VARIABLES: [Case; 16] = [
     (Fixed, STAMP, &[(101, 0x0000_0001), (102, 0x0000_0000)], 50, 0, 0, b"t"),
     (Fixed, STAMP, &[(102, 0x0000_0000)], 14, 0, 0, NONE),
     (Records, STAMP, &[(52, 0x0000_0000), (57, 0x0000_0124)], 14, 0, 0, NONE),
+    (Records, STAMP, &[(69, 0x4020_0000)], 51, 0, 16_704, b"lat"),
     (Records, STAMP, &[(69, 0x4128_0000)], 51, 1, 8_232, b"lat"),
     (Records, STAMP, &[(72, 0xc220_0000)], 51, 4, 17_090, b"lon"),
     (Fixed, STAMP, &[(119, 0x41a0_0001)], 51, 7, 1, b"lat"),
