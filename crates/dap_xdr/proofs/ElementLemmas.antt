@@ -60,7 +60,7 @@ one-front content n place skip count old within is =
     (overlay-front (drop skip one) old count
     (is ∙ ap (λ (m : ℕ). min (length old) m) (sym (length-drop skip one)))))
 
--- so many texts of one length are left out by so many times the length
+-- n texts of one length are left out by n times the length
 flat-drop : {A : Type 0} (f : A → List ℕ) (width times : ℕ) → ((x : A) → length (f x) ≡ width) → (xs : List A)
     → drop (times * width) (flat_map f xs) ≡ flat_map f (drop times xs)
 flat-drop f width zero each xs =

@@ -33,7 +33,7 @@ element_len-most Float32 = omega arith
 element_len-most Float64 = omega arith
 element_len-most Text = omega arith
 
--- so many bytes are written over the front of a buffer, and what is left begins at a place among the bytes of a number
+-- `filled` bytes are written over the front of a buffer, and what is left begins at a place among the bytes of a number
 pub record SoFar (content : Content) (n : Portion) (from filled place skip : ℕ) (old now : List ℕ) : Type 0 where
   pub below : skip < element_len n.array.kind
   pub fits : filled ≤ length old

@@ -20,7 +20,7 @@ texts_before content n place =
     to_be_bytes w32 (box_len n.sent.slabs)
     ++ flat_map text_bytes (map (text_in content n) (take place (box_of n.sent.slabs)))
 
--- the texts so far are written, as far as they fit, and so many bytes are still to be passed over
+-- the texts so far are written, as far as they fit, and `left` bytes are still to be passed over
 pub record TextsSoFar (content : Content) (n : Portion) (from filled place left : ℕ) (old now : List ℕ) : Type 0 where
   pub put_is : IsPut (drop from (texts_before content n place)) old now filled
   pub left_is : left ≡ from - length (texts_before content n place)

@@ -72,7 +72,7 @@ widen-turn number stored old out four within same is =
     ∙ sym (append_assoc front four (drop (4 * (number + 1)) old))
     ∙ ap (λ (l : List ℕ). l ++ drop (4 * (number + 1)) old) (sym next)
 
--- so many numbers widened are the front of all widened
+-- the first numbers widened are the front of all widened
 pub widened-take : (number at : ℕ) (bytes : List ℕ) → at ≡ 2 * number → at ≤ length bytes
     → widened_bytes (take at bytes) ≡ take (2 * at) (widened_bytes bytes)
 unfolding widened_bytes number_len

@@ -27,14 +27,14 @@ pub record AreBytesOf (kind : DapKind) (numbers bytes : List ℕ) : Type 0 where
   pub fit : All (AreBitsOf kind) numbers
   pub bytes_are : bytes ≡ flat_map (stored_bytes kind) numbers
 
--- the bytes are those of at most so many numbers of an array from an index list on, in row-major order
+-- the bytes are those of at most `most` numbers of an array from an index list on, in row-major order
 pub record AreStored (array : Array) (bits : List ℕ → ℕ) (index : List ℕ) (most : ℕ) (bytes : List ℕ) : Type 0 where
   pub count : ℕ
   pub few : count ≤ most
   pub bytes_are : AreBytesOf array.kind
       (map bits (take count (drop (rank_in (array_lengths array) index) (indices_of (array_lengths array))))) bytes
 
--- the bytes are those of at most so many of the numbers that slabs pick, from a place on
+-- the bytes are those of at most `most` of the numbers that slabs pick, from a place on
 pub record ArePicked (kind : DapKind) (bits : List ℕ → ℕ) (slabs : List Slab) (place most : ℕ) (bytes : List ℕ)
     : Type 0 where
   pub count : ℕ

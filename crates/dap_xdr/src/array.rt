@@ -30,7 +30,7 @@ fn count_twice(count: u64) -> [u8; 8]
     [a, b, c, d, a, b, c, d]
 }
 
-// Writes the zero bytes after so many bytes, from a place among them on.
+// Writes the zero bytes after `len` bytes, from a place among them on.
 pub(crate) fn put_zeros(len: u64, from: u64, out: &mut [u8]) -> usize
     ensures { IsPut (drop from (zeros_after len)) out.old out.new result }
 {

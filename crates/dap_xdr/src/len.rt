@@ -28,7 +28,7 @@ fn texts_len<S: Source>(source: &S, part: &Part, index: &mut [u64]) -> u128
     len
 }
 
-// How many bytes so many numbers of an array take, with their counts.
+// How many bytes `count` numbers of an array take, with their counts.
 fn numbers_len(kind: DapKind, count: u64) -> u128
     ensures { result ≡ 8 + elements_len kind count }
 {

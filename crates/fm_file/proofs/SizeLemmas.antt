@@ -19,7 +19,7 @@ use Rattle.nc_layout.specs.Meaning.{IsSmall}
 use Rattle.nc_layout.proofs.MeaningLemmas.{All-small}
 use Rattle.nc_layout.proofs.RecordLemmas.{padded_vsize}
 
--- items that take at least so many bytes each
+-- items that take at least `least` bytes each
 items-least : {A : Type 0} (S : List ℕ → A → Type 0) (least : ℕ)
     → ((text : List ℕ) (item : A) → S text item → least ≤ length text) → (text : List ℕ) (items : List A)
     → Spelled S text items → length items * least ≤ length text

@@ -179,7 +179,7 @@ fn an_axis_may_have_another_name(rt: HostRuntime) -> Result<(), Fail> {
     Ok(())
 }
 
-// A file of an axis alone, with so many times, of which each is an hour before the one before it, and then one more time.
+// A file of an axis alone, with `count` times, of which each is an hour before the one before it, and then one more time.
 fn falling(alloc: Global, count: u32, last: u32) -> Result<Bytes, Fail> {
     let mut bytes = changed(alloc, &files::TIMES, &[(1, count.wrapping_add(1))])?;
     let mut time = FIRST;

@@ -1,5 +1,6 @@
 //! What no clause says: that memory suffices, heads of the world, and the limits.
 
+mod connections;
 mod heads;
 mod limits;
 

@@ -1,4 +1,4 @@
--- The texts so far are written, as far as they fit, and so many bytes are still to be passed over.
+-- The texts so far are written, as far as they fit, and `left` bytes are still to be passed over.
 use Rattle.std.proofs.Common.{◌≡◌, ◌-◌, length}
 use Rattle.dap_model.specs.Box.{box_len}
 use Rattle.dap_xdr.proofs.TextsLemmas.{TextsSoFar}
