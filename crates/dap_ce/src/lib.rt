@@ -4,6 +4,7 @@
 mod phase;
 mod read;
 mod reader;
+mod room;
 
 pub use read::read_constraint;
 

@@ -1,2 +1,3 @@
 pub mod NameLemmas
+pub mod PrototypeLemmas
 pub mod SearchLemmas

@@ -1,7 +1,9 @@
 //! A file as a prototype.
-ghost use Rattle.std.specs.Prelude.{◌≡◌, IfOk, length};
+ghost use Rattle.std.specs.Prelude.{◌≡◌, ◌≤◌, IfOk, length};
 ghost use Rattle.fm_base.specs.Answer.{Answers, AnswersAs};
+ghost use Rattle.fm_model.specs.declared.limit.TheConstants.{MAX_FILE_BYTES};
 ghost use Rattle.fm_model.specs.Prototype as spec;
+ghost use Rattle.fm_model.specs.Site.{IsPrototype, IsSite};
 
 use crate::prototype::proto_with;
 use crate::steps::{
@@ -39,7 +41,10 @@ fn proto_header(alloc: Global, bytes: &[u8]) -> Result<Layout, Fail<ProtoFault>>
 /// Data Server, Forecast Model Run Collections; CF Conventions).
 #[tactic(auto, unfolding(fm_model::specs::Prototype::proto_of))]
 pub fn read_proto(alloc: Global, bytes: Bytes, site: Site) -> Result<Proto, Fail<ProtoFault>>
-    ensures { Answers (spec.proto_of bytes site) result }
+    ensures exact { Answers (spec.proto_of bytes site) result }
+
+    // Bytes within the limit, at a site that a collection may have, are a prototype for a collection.
+    ensures prototype { IsSite site → length bytes ≤ MAX_FILE_BYTES → IfOk result IsPrototype }
 {
     let layout = proto_header(alloc, bytes.as_slice())?;
     let header = layout.header();
