@@ -4,7 +4,6 @@
 mod phase;
 mod read;
 mod reader;
-mod room;
 
 pub use read::read_constraint;
 

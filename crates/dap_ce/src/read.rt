@@ -13,7 +13,7 @@ use std::alloc::Global;
 fn read_clauses(alloc: Global, text: &[u8]) -> Result<Projection, Fail<CeFault>>
     ensures { Answers (as_projection (read_from (before_name fresh) 0 text.now)) result }
 {
-    let mut reader = Reader::new(alloc, text)?;
+    let mut reader = Reader::new(alloc);
     for at in 0..text.len() {
         if !reader.step(alloc, text, at)? {
             return Err(Fail::Fault(reader.fault_at(at as u64, text[at])));

@@ -8,7 +8,6 @@ ghost use Rattle.dap_ce.specs.Asked.{as_projection};
 ghost use Rattle.dap_ce.specs.Phases.{begun_of, numbers_of, state_of, Fits, LeadsTo};
 
 use crate::phase::{Numbers, Phase, next_number, slab_with};
-use crate::room::{count_of, with_room};
 use dap_model::{CeFault, Clause, Projection, Slab};
 use fm_base::{Bytes, Fail, List, NoMemory, is_name_byte};
 use std::alloc::Global;
@@ -24,18 +23,17 @@ pub(crate) struct Reader {
 }
 
 impl Reader {
-    // At the first byte of the first name of a text, with room for as many clauses as its commas can part.
-    pub(crate) fn new(alloc: Global, text: &[u8]) -> Result<Reader, NoMemory>
-        ensures start { (read : List ℕ) → IfOk result (λ reader. state_of reader read ≡ before_name fresh) }
-        ensures fits { IfOk result (λ reader. Fits 0 reader.phase) }
+    // At the first byte of the first name.
+    pub(crate) fn new(alloc: Global) -> Reader
+        ensures start { (read : List ℕ) → state_of result read ≡ before_name fresh }
+        ensures fits { Fits 0 result.phase }
     {
-        let clauses = with_room(alloc, 1 + count_of(text, b','))?;
-        Ok(Reader {
-            clauses,
+        Reader {
+            clauses: List::new(alloc),
             path: List::new(alloc),
             slabs: List::new(alloc),
             phase: Phase::BeforeName,
-        })
+        }
     }
 
     // Ends the clause that is being read.
@@ -113,15 +111,11 @@ impl Reader {
         Ok(true)
     }
 
-    // Ends a name of the path. Most paths have one name, so the first takes room for no more.
+    // Ends a name of the path.
     fn end_name(&mut self, alloc: Global, name: &[u8]) -> Result<(), NoMemory>
         ensures { OnOk result (begun_of self.new ≡ with_name (begun_of self.old) name.now) }
     {
-        let name = Bytes::copy_of(alloc, name)?;
-        if self.path.is_empty() {
-            self.path = with_room(alloc, 1)?;
-        }
-        self.path.push(name)
+        self.path.push(Bytes::copy_of(alloc, name)?)
     }
 
     // Takes a byte behind some digits of a number.

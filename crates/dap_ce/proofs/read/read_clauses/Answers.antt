@@ -12,7 +12,7 @@ use Rattle.dap_ce.proofs.read.read_clauses.Goals as goal
 
 pub loop-at-init : goal.loop-at-init
 loop-at-init c =
-    (ap (λ (s : State). read_from s 0 c.args.text.now) (c.in_ok-reader.ensures.start []), c.in_ok-reader.ensures.fits)
+    (ap (λ (s : State). read_from s 0 c.args.text.now) (c.new-reader.ensures.start []), c.new-reader.ensures.fits)
 
 pub returns-then-not-branch : goal.returns-then-not-branch
 returns-then-not-branch c =
