@@ -19,12 +19,12 @@ use Rattle.fm_dataset.proofs.PieceLemmas.{elements_fit, length-taken}
 use Rattle.fm_dataset.proofs.ReadLemmas.{has_element}
 
 -- where the elements lie
-record SomeBlock (proto : Proto) (rows : List Row) (var : ProtoVar) (index : List ℕ) : Type 0 where
-  bytes : List ℕ
-  begin : ℕ
-  is : IsBlock proto rows var index bytes begin
+pub record SomeBlock (proto : Proto) (rows : List Row) (var : ProtoVar) (index : List ℕ) : Type 0 where
+  pub bytes : List ℕ
+  pub begin : ℕ
+  pub is : IsBlock proto rows var index bytes begin
 
-some_block : (proto : Proto) (rows : List Row) (var : ProtoVar) (number : ℕ) (index : List ℕ)
+pub some_block : (proto : Proto) (rows : List Row) (var : ProtoVar) (number : ℕ) (index : List ℕ)
     → HasBlock proto rows var number index → SomeBlock proto rows var index
 some_block proto rows var number index has = by_time var.timed refl
   where
@@ -57,7 +57,7 @@ some_block proto rows var number index has = by_time var.timed refl
       is = block_fixed proto rows var number index var.fixed 0 has untimed refl refl;
     }
 
-element_len : (proto : Proto) (rows : List Row) (var : ProtoVar) (number : ℕ) (index : List ℕ)
+pub element_len : (proto : Proto) (rows : List Row) (var : ProtoVar) (number : ℕ) (index : List ℕ)
     → HasElement proto rows var number index → length (element_of proto rows var index) ≡ size_of var.kind
 element_len proto rows var number index has =
     let block = some_block proto rows var number index has.block in
@@ -79,7 +79,7 @@ find_there p (x ∷ xs) y e = by_test (p x) e (λ d. find_there p xs y d)
     by_test true e later = (0, e)
     by_test false e later = let there = later e in (suc there.0, there.1)
 
-var_there : (proto : Proto) (decl part : ℕ) (var : ProtoVar) → var_of_part proto decl part ≡ Some var
+pub var_there : (proto : Proto) (decl part : ℕ) (var : ProtoVar) → var_of_part proto decl part ≡ Some var
     → (n : ℕ) × (slice_get proto.vars n ≡ Some var)
 unfolding var_of_part coordinate_of
 var_there proto decl zero var e = (decl, e)

@@ -6,9 +6,13 @@ pub mod FindLemmas
 pub mod IndexLemmas
 pub mod ItemLemmas
 pub mod LawLemmas
+pub mod LimitLemmas
 pub mod OrderLemmas
 pub mod PartLemmas
 pub mod PieceLemmas
 pub mod ReadLemmas
 pub mod RowLemmas
+pub mod SmallLemmas
 pub mod TableLemmas
+pub mod TextLemmas
+pub mod WidthLemmas

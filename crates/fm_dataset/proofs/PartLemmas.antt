@@ -15,7 +15,7 @@ use Rattle.dap_model.specs.declared.declaration.Array.{Array}
 use Rattle.dap_model.specs.declared.declaration.DapKind.TheVariants as daps
 use Rattle.dap_model.specs.declared.declaration.Decl.{Decl}
 use Rattle.dap_model.specs.Picking.{parts_of}
-use Rattle.fm_dataset.specs.Declarations.{array_dims, array_of, coordinate_of, coordinates_of, decl_of, decls_of, have_coordinates, is_grid, maps_of, seconds_of_rows}
+use Rattle.fm_dataset.specs.Declarations.{array_dims, array_of, coordinate_of, coordinates_of, decl_of, decls_of, have_coordinates, is_grid, maps_of, rows_dim, seconds_of_rows}
 use Rattle.fm_dataset.specs.Values.{array_at, var_of_part, IsPart, Shown}
 
 -- an item of the first of two lists
@@ -208,3 +208,33 @@ only_variables_have_texts shown decl part array e text = by_order (cases_order d
     by_order (inl same) = absurd (outside (omega (arith, same)))
     by_order (inr (inl below)) = below
     by_order (inr (inr over)) = absurd (outside (omega (arith, over)))
+
+-- the arrays of the runs and the offsets
+pub added_array : (shown : Shown) (decl part : ℕ) (array : Array) → length shown.proto.vars ≤ decl
+    → array_at shown decl part ≡ Some array
+    → (array.kind ≡ daps.Int32) × (array.dims ≡ rows_dim shown.proto (length shown.rows) ∷ [])
+unfolding array_at decls_of seconds_of_rows
+added_array shown decl part array most e =
+    let long = length-map shown.proto.vars (decl_of shown.proto (length shown.rows)) in
+    let same : slice_get (decls_of shown.proto (length shown.rows)) decl
+    ≡ slice_get added (decl - length shown.proto.vars) =
+    slice_get-after (map (decl_of shown.proto (length shown.rows)) shown.proto.vars) added decl
+    (omega (arith, long, most))
+    ∙ ap (slice_get added) (ap (λ (n : ℕ). decl - n) long) in
+    past (decl - length shown.proto.vars) part (rw same at e)
+  where
+    added : List Decl
+    added = seconds_of_rows shown.proto (length shown.rows) (run_name shown.proto.axis)
+        ∷ seconds_of_rows shown.proto (length shown.rows) (offset_name shown.proto.axis) ∷ []
+
+    past : (n part : ℕ) → option_and_then (λ (found : Decl). slice_get (parts_of found) part) (slice_get added n)
+        ≡ Some array → (array.kind ≡ daps.Int32) × (array.dims ≡ rows_dim shown.proto (length shown.rows) ∷ [])
+    past zero zero d =
+        let is = same_Some _ array d in
+        (ap (λ (a : Array). a.kind) (sym is), ap (λ (a : Array). a.dims) (sym is))
+    past (suc zero) zero d =
+        let is = same_Some _ array d in
+        (ap (λ (a : Array). a.kind) (sym is), ap (λ (a : Array). a.dims) (sym is))
+    past zero (suc k) d = absurd (none-some array d)
+    past (suc zero) (suc k) d = absurd (none-some array d)
+    past (suc (suc n)) part d = absurd (none-some array d)

@@ -26,7 +26,7 @@ use Rattle.fm_dataset.proofs.RowLemmas.{instants}
 use Rattle.fm_dataset.proofs.TableLemmas.{slot_found}
 
 -- a variable that is sent as a number, and isn't the axis, isn't of characters
-numeric : (proto : Proto) (var : ProtoVar) → kind_in proto var ≢ daps.Text → is_axis_of proto var ≡ false
+pub numeric : (proto : Proto) (var : ProtoVar) → kind_in proto var ≢ daps.Text → is_axis_of proto var ≡ false
     → is_char var.kind ≡ false
 unfolding kind_in
 numeric proto var number other = by_kind var.kind (λ e. number (rw other e))
@@ -74,7 +74,7 @@ unfolding array_dims
 dims_but_last var is = rw is refl
 
 -- what some parts of an option hold
-some_of : {A : Type 0} (o : Option A) (P : A → Type 0) → IsSomeAnd o P → (x : A) × (o ≡ Some x) × P x
+pub some_of : {A : Type 0} (o : Option A) (P : A → Type 0) → IsSomeAnd o P → (x : A) × (o ≡ Some x) × P x
 some_of None P holds = absurd holds
 some_of (Some x) P holds = (x, refl, holds)
 

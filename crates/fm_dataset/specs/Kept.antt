@@ -13,6 +13,7 @@ use Rattle.fm_model.specs.Attribute.{is_char}
 use Rattle.fm_model.specs.LoadTimes.{IsInstant}
 use Rattle.fm_model.specs.LoadVars.{slotted_vars}
 use Rattle.fm_model.specs.Prototype.{lengths_of, HasElements, IsSound}
+use Rattle.fm_model.specs.Site.{IsPrototype}
 use Rattle.dap_model.specs.declared.declaration.Decl.{Decl}
 use Rattle.fm_dataset.specs.Declarations.{coordinate_of, decls_of, is_axis_of}
 use Rattle.fm_dataset.specs.Rows.{AreRows, IsRowOf}
@@ -47,6 +48,7 @@ pub record HasSlotNumbers (proto : Proto) (numbers : List ℕ) : Type 0 where
 
 -- what a dataset keeps beside the prototype and the rows, so that no value has to be searched for
 pub record IsKept (proto : Proto) (rows : List Row) (decls : List Decl) (coordinates slots : List ℕ) : Type 0 where
+  pub given : IsPrototype proto
   pub sound : IsSound proto
   pub rows_are : AreRows proto rows
   pub decls_are : decls ≡ decls_of proto (length rows)

@@ -1,6 +1,6 @@
 -- Which rows a dataset may have.
 use Rattle.std.specs.Prelude.{◌≡◌, ◌<◌, ◌≤◌, List, length, slice_get, Some, All, None}
-use Rattle.fm_model.specs.declared.limit.TheConstants.{MAX_ROWS}
+use Rattle.fm_model.specs.declared.limit.TheConstants.{MAX_BYTES, MAX_ROWS}
 use Rattle.fm_model.specs.declared.loaded.Loaded.{Loaded}
 use Rattle.fm_model.specs.declared.proto.Proto.{Proto}
 use Rattle.fm_model.specs.declared.row.Row.{Row}
@@ -8,9 +8,11 @@ use Rattle.fm_model.specs.Cell.{IsBest, IsCell}
 use Rattle.fm_model.specs.Load.{Fits}
 use Rattle.fm_model.specs.Rows.{HasHeldFile}
 
--- a row is of a file that fits the prototype, with the file's run, and with the time at its place as its valid time
+-- a row is of a file that fits the prototype and is within the limit, with the file's run, and with the time at its
+-- place as its valid time
 pub record IsRowOf (proto : Proto) (row : Row) : Type 0 where
   pub fits : Fits row.file proto
+  pub small : length row.file.content ≤ MAX_BYTES
   pub run_is : row.file.run ≡ row.run
   pub time_is : slice_get row.file.times row.place ≡ Some row.valid
 

@@ -1,6 +1,6 @@
 -- The values of a dataset (ESE-RFC-004, data model; THREDDS Data Server, Forecast Model Run Collections): each is an
 -- element of the variable of that name in the file of its row, by the layout of the file's own header.
-use Rattle.std.specs.Prelude.{◌≡◌, ◌≢◌, ℕ, zero, suc, ◌-◌, ◌*◌, ◌<◌, ◌==◌, List, [], ◌∷◌, ◌++◌, length, map, take, drop, slice_get, slice_index, Some, nat_lt, if◌then◌else◌, Option, option_and_then, IsSomeAnd, IfSome, Ok, ℤ, ◌-ℤ◌, false}
+use Rattle.std.specs.Prelude.{◌≡◌, ◌≢◌, ℕ, zero, suc, ◌-◌, ◌*◌, ◌^◌, ◌<◌, ◌≤◌, ◌==◌, List, [], ◌∷◌, ◌++◌, length, map, take, drop, slice_get, slice_index, Some, nat_lt, Bool, not, ◌&&◌, if◌then◌else◌, Option, option_and_then, IsSomeAnd, IfSome, All, Ok, ℤ, ◌-ℤ◌, false}
 use Rattle.std.specs.Int.{w32, cast_unsigned, from_be_bytes}
 use Rattle.std.specs.List.{flat_map}
 use Rattle.std.specs.Option.{option_map_or}
@@ -165,6 +165,12 @@ pub record IsPart (proto : Proto) (count decl part : ℕ) (array : Array) : Type
 abbrev pub shape_of_array : Array → List ℕ
 shape_of_array array = map (λ (dim : Dim). dim.size) array.dims
 
+-- an array has few dimensions, none of them empty, and few elements
+pub record IsSmall (array : Array) : Type 0 where
+  pub rank : length array.dims ≤ 1025
+  pub sizes : All (λ (dim : Dim). 1 ≤ dim.size) array.dims
+  pub few : product (shape_of_array array) < 2 ^ 64
+
 -- an array is of numbers, and has this index
 pub record HasNumberAt (index : List ℕ) (array : Array) : Type 0 where
   pub number : array.kind ≢ Text
@@ -182,6 +188,11 @@ HasNumber shown decl part index = IsSomeAnd (array_at shown decl part) (HasNumbe
 -- a part is of texts, and has this index
 abbrev pub HasText : Shown → ℕ → ℕ → List ℕ → Type 0
 HasText shown decl part index = IsSomeAnd (array_at shown decl part) (HasTextAt index)
+
+-- whether the numbers of a part stand in files or in the prototype, as those of the axis, the runs and the offsets don't
+unfoldable pub is_stored : Shown → ℕ → ℕ → Bool
+is_stored shown decl part = nat_lt decl (length shown.proto.vars)
+    && not (option_map_or (is_axis_of shown.proto) (var_of_part shown.proto decl part) false)
 
 -- a part is of numbers that stand in files or in the prototype, as those of the axis, the runs and the offsets don't,
 -- and has this index

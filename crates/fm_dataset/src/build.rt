@@ -37,7 +37,8 @@ fn dataset_of(
 }
 
 /// The dataset of a view: its rows over a prototype, under a label. The caller has 1 to 262,144 rows, each of a file
-/// that fits the prototype, with that file's run, a place among its times, and the time at that place as valid time.
+/// that fits the prototype, of at most 3,221,225,472 bytes,
+/// with that file's run, a place among its times, and the time at that place as valid time.
 ///
 /// The rows are moved and the prototype is shared; it takes memory and time for the declarations alone.
 pub fn dataset(

@@ -1,5 +1,5 @@
 //! What a reader believes of the definitions, each as the contract of a call that does nothing.
-ghost use Rattle.std.specs.Prelude.{◌≡◌, ◌+◌, ◌<◌, ◌∷◌, ℕ, List, Some, Contains, length, slice_get, take, drop};
+ghost use Rattle.std.specs.Prelude.{◌≡◌, ◌+◌, ◌^◌, ◌<◌, ◌∷◌, ℕ, List, Some, Contains, length, slice_get, take, drop};
 ghost use Rattle.std.specs.Prelude.{min, false, true};
 ghost use Rattle.fm_base.specs.Kind.{size_of};
 ghost use Rattle.fm_base.specs.Layout.{indices_of, rank_in, IsIndex};
@@ -11,12 +11,13 @@ ghost use Rattle.fm_model.specs.declared.row.Row.{Row};
 ghost use Rattle.fm_model.specs.declared.row.ViewName.TheVariants.{Best};
 ghost use Rattle.fm_model.specs.Prototype.{offset_name, run_name, IsSound};
 ghost use Rattle.fm_model.specs.Rows.{rows};
+ghost use Rattle.fm_model.specs.Site.{IsPrototype};
 ghost use Rattle.dap_model.specs.declared.declaration.Array.{Array};
 ghost use Rattle.fm_dataset.specs.Declarations.{array_of, decls_of, dims_in, rows_dim, seconds_of_rows};
 ghost use Rattle.fm_dataset.specs.Rows.{AreRows, IsOfLatestRun};
 ghost use Rattle.fm_dataset.specs.Values.{array_at, element_in, element_of, var_of_part};
 ghost use Rattle.fm_dataset.specs.Values.{indices_from, left_in_row, shape_of_array};
-ghost use Rattle.fm_dataset.specs.Values.{HasStored, IsPart, Shown};
+ghost use Rattle.fm_dataset.specs.Values.{text_of_part, HasStored, HasText, IsPart, IsSmall, Shown};
 
 /// A view declares whole seconds of its rows three times: as its axis, as the runs and as the offsets. Each has the
 /// rows along its one dimension, which has the axis's name. So has each array along the axis, as its first dimension.
@@ -58,6 +59,20 @@ pub fn an_element_is_as_long_as_its_kind()
         IsSound shown.proto → AreRows shown.proto shown.rows → HasStored shown decl part index
         → var_of_part shown.proto decl part ≡ Some var
         → length (element_of shown.proto shown.rows var index) ≡ size_of var.kind }
+{}
+
+/// Each array of a dataset has at most 1,025 dimensions, none of them empty, and fewer than 2^64 elements: a variable of
+/// a header has at most 1,024 dimensions, there is a row, and the elements of one row lie in its file.
+pub fn each_array_is_small()
+    ensures { (shown : Shown) (decl part : ℕ) (array : Array) → IsPrototype shown.proto
+        → AreRows shown.proto shown.rows → array_at shown decl part ≡ Some array → IsSmall array }
+{}
+
+/// A text of a dataset has at most as many bytes as its last dimension has characters, which are fewer than 2^31.
+pub fn each_text_is_short()
+    ensures { (shown : Shown) (decl part : ℕ) (index : List ℕ) → IsPrototype shown.proto
+        → AreRows shown.proto shown.rows → HasText shown decl part index
+        → length (text_of_part shown decl part index) < 2 ^ 31 }
 {}
 
 /// The index lists that follow one in its row follow it in the array of the part, in row-major order. So the elements

@@ -1,6 +1,9 @@
 //! The values of a dataset, in place.
-ghost use Rattle.std.specs.Prelude.{◌≡◌, ◌*◌, IfSome, length, min};
+ghost use Rattle.std.specs.Prelude.{◌≡◌, ◌*◌, IfSome, Some, length, min};
 ghost use Rattle.fm_base.specs.Kind.{size_of};
+ghost use Rattle.dap_model.specs.declared.declaration.Array.{Array};
+ghost use Rattle.dap_model.specs.Xdr.{AreBitsOf};
+ghost use Rattle.fm_dataset.specs.Declarations.{kind_in};
 ghost use Rattle.fm_dataset.specs.Kept.{HasBits};
 ghost use Rattle.fm_dataset.specs.Values as spec;
 
@@ -12,7 +15,7 @@ use fm_bits::pattern_at;
 use fm_model::{Proto, ProtoVar, Row, ViewName};
 
 // The bits of a number of a variable.
-#[tactic(auto, unfolding(crate::specs::Values::var_bits))]
+#[tactic(auto, using(crate::proofs::WidthLemmas::widths), unfolding(crate::specs::Values::var_bits, crate::specs::Declarations::kind_in, dap_model::specs::Xdr::bits_in))]
 fn var_bits(
     proto: &Proto,
     rows: &[Row],
@@ -22,7 +25,8 @@ fn var_bits(
     index: &[u64],
 ) -> u64
     requires { HasBits proto.now rows.now var.now number index.now }
-    ensures { result ≡ spec.var_bits proto.now rows.now view.now var.now index.now }
+    ensures value { result ≡ spec.var_bits proto.now rows.now view.now var.now index.now }
+    ensures width { AreBitsOf (kind_in proto.now var.now) result }
 {
     if var.name.as_slice() == proto.axis.as_slice() {
         return axis_bits(rows, view, index);
@@ -44,7 +48,9 @@ impl Dataset {
     #[tactic(auto, unfolding(crate::specs::Values::bits_of))]
     pub fn bits(&self, decl: u32, part: u32, index: &[u64]) -> u64
         requires { spec.HasNumber self.now decl part index.now }
-        ensures { result ≡ spec.bits_of self.now decl part index.now }
+        ensures value { result ≡ spec.bits_of self.now decl part index.now }
+        ensures width { (array : Array) → spec.array_at self.now decl part ≡ Some array
+            → AreBitsOf array.kind result }
     {
         let proto = self.proto.get();
         let rows = self.rows.as_slice();
@@ -81,6 +87,23 @@ impl Dataset {
                 let slot = number_at(self.slots.as_slice(), number);
                 text_of(proto, rows, var, slot, index)
             }
+        }
+    }
+
+    /// Whether the numbers of a part stand in files or in the prototype, so that `raw` may be asked for them: those of
+    /// the axis, the runs and the offsets don't.
+    #[tactic(auto, unfolding(crate::specs::Values::is_stored))]
+    pub fn is_stored(&self, decl: u32, part: u32) -> bool
+        ensures { result ≡ spec.is_stored self.now decl part }
+    {
+        let proto = self.proto.get();
+        if decl as usize >= proto.vars.len() {
+            return false;
+        }
+        let number = number_of_part(proto, self.coordinates.as_slice(), decl, part);
+        match var_at(proto.vars.as_slice(), number) {
+            None => true,
+            Some(var) => var.name.as_slice() != proto.axis.as_slice(),
         }
     }
 

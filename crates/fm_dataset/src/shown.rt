@@ -1,6 +1,8 @@
 //! A dataset, and what it shows.
 ghost use Rattle.std.specs.Prelude.{◌≡◌, length};
+ghost use Rattle.fm_model.specs.Site.{IsPrototype};
 ghost use Rattle.fm_dataset.specs.Declarations.{decls_of};
+ghost use Rattle.fm_dataset.specs.Rows.{AreRows};
 
 use dap_model::Decl;
 use fm_base::{Arc, Bytes, List};
@@ -32,9 +34,11 @@ impl Model for Dataset {
 }
 
 impl Dataset {
-    /// The prototype.
+    /// The prototype, of whose collection the rows are.
     pub fn proto(&self) -> &Arc<Proto>
-        ensures { result.now ≡ self.now.proto }
+        ensures value { result.now ≡ self.now.proto }
+        ensures prototype { IsPrototype self.now.proto }
+        ensures rows { AreRows self.now.proto self.now.rows }
     {
         &self.proto
     }

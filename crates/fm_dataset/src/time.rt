@@ -1,5 +1,5 @@
 //! The times of rows, as the axis, the runs and the offsets show them: whole seconds in 32 bits.
-ghost use Rattle.std.specs.Prelude.{◌≡◌, ◌≤ℤ◌, ◌<ℤ◌, neg_ℤ, pos, All};
+ghost use Rattle.std.specs.Prelude.{◌≡◌, ◌^◌, ◌<◌, ◌≤ℤ◌, ◌<ℤ◌, neg_ℤ, pos, All};
 ghost use Rattle.std.specs.Int.{w32, cast_unsigned};
 ghost use Rattle.fm_dataset.specs.Kept.{HasInstants};
 ghost use Rattle.fm_dataset.specs.Values as spec;
@@ -11,7 +11,8 @@ use fm_model::{Row, ViewName};
 fn bits_of_seconds(seconds: i64) -> u64
     requires low { neg_ℤ (pos 2_147_483_648) ≤ℤ seconds }
     requires high { seconds <ℤ pos 2_147_483_648 }
-    ensures { result ≡ cast_unsigned w32 seconds }
+    ensures value { result ≡ cast_unsigned w32 seconds }
+    ensures width { result < 2 ^ 32 }
 {
     u64::from((seconds as i32).cast_unsigned())
 }
@@ -33,7 +34,8 @@ fn axis_time(view: &ViewName, row: &Row) -> i64
 #[tactic(auto, unfolding(crate::specs::Values::time_bits))]
 pub(crate) fn axis_bits(rows: &[Row], view: &ViewName, index: &[u64]) -> u64
     requires { All HasInstants rows.now }
-    ensures { result ≡ spec.time_bits rows.now (spec.axis_time view.now) index.now }
+    ensures value { result ≡ spec.time_bits rows.now (spec.axis_time view.now) index.now }
+    ensures width { result < 2 ^ 32 }
 {
     match rows.get(first_of(index) as usize) {
         None => 0,
@@ -45,7 +47,8 @@ pub(crate) fn axis_bits(rows: &[Row], view: &ViewName, index: &[u64]) -> u64
 #[tactic(auto, unfolding(crate::specs::Values::time_bits))]
 pub(crate) fn run_bits(rows: &[Row], index: &[u64]) -> u64
     requires { All HasInstants rows.now }
-    ensures { result ≡ spec.time_bits rows.now spec.run_time index.now }
+    ensures value { result ≡ spec.time_bits rows.now spec.run_time index.now }
+    ensures width { result < 2 ^ 32 }
 {
     match rows.get(first_of(index) as usize) {
         None => 0,
@@ -66,7 +69,8 @@ fn offset_time(row: &Row) -> i64
 #[tactic(auto, unfolding(crate::specs::Values::time_bits))]
 pub(crate) fn offset_bits(rows: &[Row], index: &[u64]) -> u64
     requires { All HasInstants rows.now }
-    ensures { result ≡ spec.time_bits rows.now spec.offset_time index.now }
+    ensures value { result ≡ spec.time_bits rows.now spec.offset_time index.now }
+    ensures width { result < 2 ^ 32 }
 {
     match rows.get(first_of(index) as usize) {
         None => 0,

@@ -1,6 +1,7 @@
 use Rattle.std.proofs.Common.{ap₂, ◌∙◌, sym, subst}
 use Rattle.fm_model.specs.declared.proto.Proto.{Proto}
 use Rattle.fm_model.specs.Prototype.{IsSound}
+use Rattle.fm_model.specs.Site.{IsPrototype}
 use Rattle.fm_model.proofs.ProtoLemmas.{IsSound-given}
 use Rattle.fm_dataset.specs.Declarations.{decls_of}
 use Rattle.fm_dataset.specs.Kept.{HasCoordinates, HasSlotNumbers}
@@ -11,6 +12,7 @@ pub dataset_of-requires : goal.dataset_of-requires
 dataset_of-requires c =
     let shared = sym c.in_ok-proto.ensures in
     record {
+      given = subst IsPrototype shared c.requires.proto;
       sound = subst IsSound shared (IsSound-given _ c.requires.proto);
       rows_are = subst (λ (p : Proto). AreRows p c.args.rows) shared c.requires.rows;
       decls_are = c.in_ok-decls.ensures ∙ ap₂ decls_of (c.get.ensures ∙ shared) c.len.ensures;

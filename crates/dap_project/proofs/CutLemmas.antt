@@ -1,0 +1,151 @@
+-- What clauses without a fault give to parts can be cut, and its counts fit 64 bits.
+use Rattle.std.proofs.Common.{true, false, ◌≡◌, ℕ, zero, suc, ◌+◌, ◌-◌, ◌<◌, ◌≤◌, ◌^◌, ◌/◌, List, [], ◌∷◌, ◌==◌, map, drop, slice_get, All, Option, Some, sym, ap, subst, ◌∙◌, inl, inr, arith}
+use Rattle.std.proofs.Math.Nat.{div-le_self}
+use Rattle.std.proofs.lemmas.Bool.{cases_Bool, cond-true, cond-false, eqb-false}
+use Rattle.std.proofs.lemmas.List.Elements.{All-cons, All-contains, All-drop, All-nil, All-take}
+use Rattle.std.proofs.lemmas.Option.{none-some}
+use Rattle.std.specs.List.{filter_map}
+use Rattle.std.specs.Option.{option_map_or}
+use Rattle.fm_base.specs.declared.header.Dim.{Dim}
+use Rattle.dap_model.proofs.ListLemmas.{Has, contains_from_Has, Has-slice_get, Source-filter_map}
+use Rattle.dap_model.specs.Box.{whole_slab}
+use Rattle.dap_model.specs.Picking.{Picked, nothing, every, only, given_by, or_whole, part_dims, parts_of, picked_by, slabs_for, spread, whole_slabs}
+use Rattle.dap_model.specs.Projection.{clauses_for, slabs_of, whole_clause}
+use Rattle.dap_model.specs.declared.declaration.Array.{Array}
+use Rattle.dap_model.specs.declared.declaration.Decl.{Decl}
+use Rattle.dap_model.specs.declared.projection.Clause.{Clause}
+use Rattle.dap_model.specs.declared.projection.Slab.{Slab}
+use Rattle.dap_project.specs.Checks.{AllCanBeCut, AreCuts, CanBeCut, HasCountable, IsCountable, IsCut, IsSlotCut}
+use Rattle.dap_project.specs.Notes.{note_for}
+use Rattle.dap_project.specs.declared.note.Note.{Note}
+use Rattle.dap_project.specs.declared.slot.Slot.{Slot}
+use Rattle.dap_project.specs.declared.slot.Slot.TheVariants.{Free, Taken}
+use Rattle.dap_project.proofs.NoteLemmas.{slots_of}
+use Rattle.dap_project.proofs.SentLemmas.{slabs_noted}
+use Rattle.dap_project.proofs.SlotLemmas.{slot_at, slot_from, slot_slabs}
+
+some_is : {A : Type 0} (x y : A) → Some x ≡ Some y → x ≡ y
+some_is x y h = cc
+
+-- what holds of each item holds of the one at a place
+at_place : {A : Type 0} (P : A → Type 0) (xs : List A) (place : ℕ) (x : A) → All P xs
+    → slice_get xs place ≡ Some x → P x
+at_place P [] place x all e = absurd cc
+at_place P (y ∷ xs) zero x all e = subst P (some_is y x e) (all 0 y (omega arith))
+at_place P (y ∷ xs) (suc place) x all e =
+    at_place P xs place x (λ (k : ℕ) d within. all (suc k) d (omega (arith, within))) e
+
+whole_at : (dims : List Dim) (place : ℕ) (dim : Dim) (slab : Slab) → slice_get dims place ≡ Some dim
+    → slice_get (whole_slabs dims) place ≡ Some slab → slab ≡ whole_slab dim.size
+unfolding whole_slabs
+whole_at [] place dim slab a b = absurd cc
+whole_at (first ∷ dims) zero dim slab a b =
+    sym (some_is (whole_slab first.size) slab b) ∙ ap (λ (d : Dim). whole_slab d.size) (some_is first dim a)
+whole_at (first ∷ dims) (suc place) dim slab a b = whole_at dims place dim slab a b
+
+or_whole_cuts : (dims : List Dim) (slabs : List Slab) → All IsCountable slabs → AreCuts dims (or_whole dims slabs)
+or_whole_cuts dims [] all = λ place dim slab a b. inr (whole_at dims place dim slab a b)
+or_whole_cuts dims (first ∷ slabs) all =
+    λ place dim slab a b. inl (at_place IsCountable (first ∷ slabs) place slab all b)
+
+spread_countable : (slabs : List Slab) (part : ℕ) → All IsCountable slabs → All IsCountable (spread slabs part)
+spread_countable slabs zero all = all
+spread_countable slabs (suc part) all =
+    All-take IsCountable 1 (drop part slabs) (All-drop IsCountable part slabs all)
+
+given_cuts : (decl : Decl) (clause : Clause) (part : ℕ) (slabs : List Slab) → HasCountable clause
+    → given_by decl clause part ≡ Some slabs → AreCuts (part_dims decl part) slabs
+unfolding given_by
+given_cuts decl clause part slabs countable e = go (picked_by decl clause.path) e where
+  go : (picked : Picked) → slabs_for decl clause.slabs part picked ≡ Some slabs → AreCuts (part_dims decl part) slabs
+  go nothing h = absurd cc
+  go every h =
+      subst (AreCuts (part_dims decl part)) (some_is _ slabs h)
+      (or_whole_cuts (part_dims decl part) (spread clause.slabs part) (spread_countable clause.slabs part countable))
+  go (only other) h = elim (cases_Bool (other == part)) [
+    | inl same ↦
+        subst (AreCuts (part_dims decl part)) (some_is _ slabs (sym (cond-true _ _ _ same) ∙ h))
+        (or_whole_cuts (part_dims decl part) clause.slabs countable)
+    | inr apart ↦ absurd (none-some slabs (sym (cond-false _ _ _ apart) ∙ h))
+  ]
+
+has_all : {A : Type 0} (P : A → Type 0) (xs : List A) (x : A) → All P xs → Has xs x → P x
+has_all P xs x all has = All-contains P xs x all (contains_from_Has xs x has)
+
+all_for : (clauses : List Clause) (decl : Decl) → All HasCountable clauses → All HasCountable (clauses_for clauses decl)
+all_for [] decl all = All-cons HasCountable (whole_clause decl) [] (All-nil IsCountable) (All-nil HasCountable)
+all_for (clause ∷ clauses) decl all = all
+
+map_at : {A B : Type 0} (f : A → B) (xs : List A) (place : ℕ) (x : A) (y : B) → slice_get xs place ≡ Some x
+    → slice_get (map f xs) place ≡ Some y → y ≡ f x
+map_at f [] place x y a b = absurd cc
+map_at f (z ∷ xs) zero x y a b = sym (some_is (f z) y b) ∙ ap f (some_is z x a)
+map_at f (z ∷ xs) (suc place) x y a b = map_at f xs place x y a b
+
+-- the slabs that a part is sent with
+slabs_cut : (clauses : List Clause) (decl : Decl) (part : ℕ) (slabs : List Slab) → All HasCountable clauses
+    → slabs_of clauses decl part ≡ Some slabs → AreCuts (part_dims decl part) slabs
+unfolding slabs_of
+slabs_cut clauses decl part slabs all e =
+    let given = λ (each : Clause). given_by decl each part in
+    let source =
+    Source-filter_map given (clauses_for clauses decl) slabs
+    (Has-slice_get (filter_map given (clauses_for clauses decl)) 0 slabs e) in
+    given_cuts decl source.item part slabs
+    (has_all HasCountable (clauses_for clauses decl) source.item (all_for clauses decl all) source.has)
+    source.gives
+
+slot_cut : (clauses : List Clause) (decl : Decl) (part : ℕ) (array : Array) (slot : Slot) → All HasCountable clauses
+    → slice_get (parts_of decl) part ≡ Some array
+    → slot ≡ slot_from decl part Free (clauses_for clauses decl) → IsSlotCut array slot
+slot_cut clauses decl part array Free all is_part is_slot = tt
+slot_cut clauses decl part array (Taken slabs mixed) all is_part is_slot =
+    let sent : slabs_of clauses decl part ≡ Some slabs =
+    sym (ap slot_slabs is_slot ∙ slabs_noted clauses decl part) in
+    let dims : part_dims decl part ≡ array.dims =
+    ap (λ (o : Option Array). option_map_or (λ (a : Array). a.dims) o []) is_part in
+    subst (λ (l : List Dim). AreCuts l slabs) dims (slabs_cut clauses decl part slabs all sent)
+
+slots_cut : (clauses : List Clause) (decl : Decl) → All HasCountable clauses
+    → CanBeCut (parts_of decl) (note_for clauses decl).slots
+slots_cut clauses decl all = λ part array slot is_part is_slot.
+    let there = subst (λ (l : List Slot). slice_get l part ≡ Some slot)
+    (slots_of decl (clauses_for clauses decl)) is_slot in
+    let from = slot_at decl 0 part (parts_of decl) (clauses_for clauses decl) slot there in
+    let place : 0 + part ≡ part = omega arith in
+    slot_cut clauses decl part array slot all is_part
+    (from ∙ ap (λ (n : ℕ). slot_from decl n Free (clauses_for clauses decl)) place)
+
+pub notes_cut : (clauses : List Clause) (decls : List Decl) → All HasCountable clauses
+    → AllCanBeCut decls (map (note_for clauses) decls)
+notes_cut clauses decls all = λ place decl note is_decl is_note.
+    subst (λ (n : Note). CanBeCut (parts_of decl) n.slots)
+    (sym (map_at (note_for clauses) decls place decl note is_decl is_note)) (slots_cut clauses decl all)
+
+-- ---- counts
+
+no_index : (size : ℕ) → (size == 0) ≡ true → (whole_slab size).start ≤ (whole_slab size).stop → ⊥
+unfolding whole_slab
+no_index size none some =
+    let below : 1 ≤ 0 = subst (λ (s : Slab). s.start ≤ s.stop) (cond-true _ _ _ none) some in
+    omega (arith, below)
+
+whole_countable : (size : ℕ) → (size == 0) ≡ false → size < 2 ^ 64 → IsCountable (whole_slab size)
+unfolding whole_slab
+whole_countable size more fits =
+    subst IsCountable (sym (cond-false _ _ _ more))
+    (record { stride = omega arith; few = omega (arith, fits, eqb-false size 0 more) })
+
+-- a slab that can be cut and has an index is countable
+pub countable_if : (size : ℕ) (slab : Slab) → size < 2 ^ 64 → slab.start ≤ slab.stop → IsCut size slab
+    → IsCountable slab
+countable_if size slab fits some (inl countable) = countable
+countable_if size slab fits some (inr whole) = elim (cases_Bool (size == 0)) [
+  | inl none ↦ absurd (no_index size none (subst (λ (s : Slab). s.start ≤ s.stop) whole some))
+  | inr more ↦ subst IsCountable (sym whole) (whole_countable size more fits)
+]
+
+pub few_indices : (slab : Slab) → slab.start ≤ slab.stop → IsCountable slab
+    → (slab.stop - slab.start) / slab.stride + 1 < 2 ^ 64
+few_indices slab some countable =
+    omega (arith, div-le_self (slab.stop - slab.start) slab.stride, countable.few)

@@ -1,0 +1,7 @@
+-- The parts so far are sent, and those from the number on are left.
+use Rattle.std.proofs.Common.{◌≡◌, ◌++◌, drop}
+use Rattle.dap_project.specs.Noted.{sent_slots}
+use Rattle.dap_project.proofs.sent.add_parts.Given as goal
+
+abbrev pub invariant-loop-at : goal.invariant-loop-at
+invariant-loop-at l = l.sent ++ sent_slots l.decl l.at (drop l.at l.slots) ≡ l.fn.sent ++ sent_slots l.decl 0 l.slots

@@ -1,0 +1,7 @@
+-- A note for each declaration so far.
+use Rattle.std.proofs.Common.{◌≡◌, [], map, take}
+use Rattle.dap_project.specs.Notes.{note_for}
+use Rattle.dap_project.proofs.whole.whole_notes.Given as goal
+
+abbrev pub invariant-loop-decl : goal.invariant-loop-decl
+invariant-loop-decl l = l.notes ≡ map (note_for []) (take l.decl-index l.decls)

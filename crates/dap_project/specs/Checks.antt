@@ -1,0 +1,56 @@
+-- What a check of a clause returns, and which slabs can be cut.
+use Rattle.std.specs.Prelude.{◌≡◌, ◌⊎◌, ◌-◌, ◌≤◌, ◌<◌, ◌^◌, ℕ, List, All, Option, Some, None, Result, Ok, Err, slice_get}
+use Rattle.fm_base.specs.declared.fail.Fail.{Fail}
+use Rattle.fm_base.specs.declared.fail.Fail.TheVariants as fails
+use Rattle.fm_base.specs.declared.header.Dim.{Dim}
+use Rattle.dap_model.specs.Box.{whole_slab}
+use Rattle.dap_model.specs.declared.declaration.Array.{Array}
+use Rattle.dap_model.specs.declared.projection.Clause.{Clause}
+use Rattle.dap_model.specs.declared.projection.Slab.{Slab}
+use Rattle.dap_model.specs.declared.declaration.Decl.{Decl}
+use Rattle.dap_model.specs.Picking.{parts_of}
+use Rattle.dap_project.specs.declared.note.Note.{Note}
+use Rattle.dap_project.specs.declared.slot.Slot.{Slot}
+use Rattle.dap_project.specs.declared.slot.Slot.TheVariants.{Free, Taken}
+
+-- the result is this fault, or no fault, unless memory ran out
+abbrev pub Finds : {A E : Type 0} → Option E → Result A (Fail E) → Type 0
+Finds fault (Ok done) = fault ≡ None
+Finds fault (Err fails.NoMemory) = Unit {0}
+Finds fault (Err (fails.Fault found)) = fault ≡ Some found
+
+-- a slab has a stride, and its count fits 64 bits
+pub record IsCountable (slab : Slab) : Type 0 where
+  pub stride : 1 ≤ slab.stride
+  pub few : slab.stop < 2 ^ 64 - 1
+
+-- the slabs of a clause are countable
+abbrev pub HasCountable : Clause → Type 0
+HasCountable clause = All IsCountable clause.slabs
+
+-- a slab is countable, or that of a whole dimension of this size
+abbrev pub IsCut : ℕ → Slab → Type 0
+IsCut size slab = IsCountable slab ⊎ (slab ≡ whole_slab size)
+
+-- each slab is so for the dimension at its place
+abbrev pub AreCuts : List Dim → List Slab → Type 0
+AreCuts dims slabs =
+    (place : ℕ) (dim : Dim) (slab : Slab) → slice_get dims place ≡ Some dim → slice_get slabs place ≡ Some slab
+    → IsCut dim.size slab
+
+-- the slabs of a slot are so for an array
+abbrev pub IsSlotCut : Array → Slot → Type 0
+IsSlotCut array Free = Unit {0}
+IsSlotCut array (Taken slabs mixed) = AreCuts array.dims slabs
+
+-- those of each slot are so for the array at its place
+abbrev pub CanBeCut : List Array → List Slot → Type 0
+CanBeCut arrays slots =
+    (place : ℕ) (array : Array) (slot : Slot) → slice_get arrays place ≡ Some array → slice_get slots place ≡ Some slot
+    → IsSlotCut array slot
+
+-- those of each note are so for the parts of the declaration at its place
+abbrev pub AllCanBeCut : List Decl → List Note → Type 0
+AllCanBeCut decls notes =
+    (place : ℕ) (decl : Decl) (note : Note) → slice_get decls place ≡ Some decl → slice_get notes place ≡ Some note
+    → CanBeCut (parts_of decl) note.slots

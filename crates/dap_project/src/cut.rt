@@ -1,0 +1,62 @@
+//! Arrays as long as their slabs leave them.
+ghost use Rattle.std.specs.Prelude.{◌≡◌, IfOk, map};
+ghost use Rattle.std.specs.List.{zip};
+ghost use Rattle.dap_model.specs.Box as boxes;
+ghost use Rattle.dap_model.specs.Projection as spec;
+ghost use Rattle.dap_project.specs.Checks.{AreCuts, IsCut};
+
+use dap_model::{Array, Slab};
+use fm_base::{Bytes, Dim, List, NoMemory};
+use std::alloc::Global;
+
+// How many indices a slab has that is countable, or that of a whole dimension.
+#[tactic(auto, unfolding(dap_model::specs::Box::slab_count))]
+fn slab_count(size: u64, slab: Slab) -> u64
+    requires { IsCut size slab }
+    ensures { result ≡ boxes.slab_count slab }
+{
+    if slab.start > slab.stop {
+        0
+    } else {
+        (slab.stop - slab.start) / slab.stride + 1
+    }
+}
+
+// A dimension as long as its slab has indices.
+fn cut_dim(alloc: Global, dim: &Dim, slab: Slab) -> Result<Dim, NoMemory>
+    requires { IsCut dim.now.size slab }
+    ensures { IfOk result (λ cut. cut ≡ spec.cut_dim (dim.now, slab)) }
+{
+    let size = slab_count(dim.size, slab);
+    let name = Bytes::copy_of(alloc, dim.name.as_slice())?;
+    Ok(Dim { name, size })
+}
+
+// Dimensions as long as their slabs have indices.
+fn cut_dims(alloc: Global, dims: &[Dim], slabs: &[Slab]) -> Result<List<Dim>, NoMemory>
+    requires { AreCuts dims.now slabs.now }
+    ensures { IfOk result (λ cut. cut ≡ map spec.cut_dim (zip dims.now slabs.now)) }
+{
+    let mut cut = List::new(alloc);
+    let mut at = 0;
+    while at < dims.len() && at < slabs.len() {
+        cut.push(cut_dim(alloc, &dims[at], slabs[at])?)?;
+        at += 1;
+    }
+    Ok(cut)
+}
+
+// An array with the lengths that slabs leave.
+#[tactic(auto, unfolding(dap_model::specs::Projection::cut_array))]
+pub(crate) fn cut_array(alloc: Global, array: &Array, slabs: &[Slab]) -> Result<Array, NoMemory>
+    requires { AreCuts array.now.dims slabs.now }
+    ensures { IfOk result (λ cut. cut ≡ spec.cut_array slabs.now array.now) }
+{
+    let dims = cut_dims(alloc, array.dims.as_slice(), slabs)?;
+    let name = Bytes::copy_of(alloc, array.name.as_slice())?;
+    Ok(Array {
+        name,
+        kind: array.kind,
+        dims,
+    })
+}

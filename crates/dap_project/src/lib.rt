@@ -1,0 +1,18 @@
+//! What is sent of a dataset for a constraint: its projection, or the first fault of the first clause at fault.
+#![tactic(auto)]
+
+mod check;
+mod cut;
+mod note;
+mod part;
+mod picked;
+mod projection;
+mod sent;
+mod slabs;
+mod slot;
+mod whole;
+
+pub use projection::project;
+
+#[cfg(test)]
+mod tests;

@@ -1,0 +1,137 @@
+//! What clauses ask of the declarations of a dataset, noted clause by clause.
+ghost use Rattle.std.specs.Prelude.{◌≡◌, IfOk, OnOk, length, map, None};
+ghost use Rattle.dap_model.specs.Picking as picking;
+ghost use Rattle.dap_project.specs.Notes as spec;
+
+use crate::part::part_count;
+use crate::picked::{Choice, is_every, is_picked, picked_by};
+use crate::slabs::slabs_for;
+use crate::slot::{Slot, slot_differs};
+use dap_model::{Clause, Decl, Slab};
+use fm_base::{List, NoMemory};
+use std::alloc::Global;
+
+// What the clauses so far ask of a declaration: whether one picks it or a part of it, whether one picks all of it, and
+// a slot for each part.
+#[derive(Drop)]
+pub(crate) struct Note {
+    pub(crate) picked: bool,
+    pub(crate) every: bool,
+    pub(crate) slots: List<Slot>,
+}
+
+// Slots of parts that no clause has named.
+#[tactic(auto, unfolding(crate::specs::Notes::free_slots))]
+fn free_slots(alloc: Global, decl: &Decl) -> Result<List<Slot>, NoMemory>
+    ensures { IfOk result (λ slots. slots ≡ spec.free_slots (picking.parts_of decl.now)) }
+{
+    let mut slots = List::new(alloc);
+    for _part in 0..part_count(decl) {
+        slots.push(Slot::Free)?;
+    }
+    Ok(slots)
+}
+
+// Notes what a clause gives to each part of a declaration of which it picks something.
+fn note_slots(
+    alloc: Global,
+    decl: &Decl,
+    slabs: &[Slab],
+    choice: Choice,
+    slots: &mut [Slot],
+) -> Result<(), NoMemory>
+    ensures { OnOk result (slots.new ≡ spec.slots_after
+        (λ part. picking.slabs_for decl.now slabs.now part (spec.picked_of choice)) 0 slots.old) }
+{
+    for part in 0..slots.len() {
+        let given = slabs_for(alloc, decl, slabs, part, choice)?;
+        slots[part].add(given);
+    }
+    Ok(())
+}
+
+// Whether a clause gives some part of a declaration other slabs than an earlier clause did.
+pub(crate) fn slots_differ(
+    alloc: Global,
+    decl: &Decl,
+    slabs: &[Slab],
+    choice: Choice,
+    slots: &[Slot],
+) -> Result<bool, NoMemory>
+    ensures { IfOk result (λ differ. differ ≡ spec.slots_differ
+        (λ part. picking.slabs_for decl.now slabs.now part (spec.picked_of choice)) 0 slots.now) }
+{
+    for part in 0..slots.len() {
+        let given = slabs_for(alloc, decl, slabs, part, choice)?;
+        if slot_differs(&slots[part], &given) {
+            return Ok(true);
+        }
+    }
+    Ok(false)
+}
+
+impl Note {
+    // Before the first clause.
+    #[tactic(auto, unfolding(crate::specs::Notes::fresh_note))]
+    pub(crate) fn fresh(alloc: Global, decl: &Decl) -> Result<Note, NoMemory>
+        ensures { IfOk result (λ note. note ≡ spec.fresh_note decl.now) }
+    {
+        let slots = free_slots(alloc, decl)?;
+        Ok(Note {
+            picked: false,
+            every: false,
+            slots,
+        })
+    }
+
+    // Notes what a clause asks of the declaration.
+    #[tactic(auto, unfolding(crate::specs::Notes::note_after, dap_model::specs::Picking::given_by))]
+    pub(crate) fn add(
+        &mut self,
+        alloc: Global,
+        decl: &Decl,
+        clause: &Clause,
+    ) -> Result<(), NoMemory>
+        ensures { OnOk result (self.new ≡ spec.note_after decl.now clause.now self.old) }
+    {
+        let choice = picked_by(decl, clause.path.as_slice());
+        let slots = &mut self.slots;
+        note_slots(
+            alloc,
+            decl,
+            clause.slabs.as_slice(),
+            choice,
+            slots.items.as_mut_slice(),
+        )?;
+        self.picked = self.picked || is_picked(choice);
+        self.every = self.every || is_every(choice);
+        Ok(())
+    }
+}
+
+// Notes of declarations before the first clause.
+pub(crate) fn fresh_notes(alloc: Global, decls: &[Decl]) -> Result<List<Note>, NoMemory>
+    ensures { IfOk result (λ notes. notes ≡ map spec.fresh_note decls.now) }
+{
+    let mut notes = List::new(alloc);
+    for decl in decls {
+        notes.push(Note::fresh(alloc, decl)?)?;
+    }
+    Ok(notes)
+}
+
+// Notes what a clause asks of each declaration.
+pub(crate) fn note_clause(
+    alloc: Global,
+    decls: &[Decl],
+    notes: &mut [Note],
+    clause: &Clause,
+) -> Result<(), NoMemory>
+    requires { length notes.old ≡ length decls.now }
+    ensures { OnOk result (notes.new ≡ spec.notes_after clause.now decls.now notes.old) }
+{
+    for at in 0..decls.len() {
+        notes[at].add(alloc, &decls[at], clause)?;
+    }
+    Ok(())
+}

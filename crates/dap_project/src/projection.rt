@@ -1,0 +1,84 @@
+//! The projection of a dataset.
+ghost use Rattle.std.specs.Prelude.{◌≡◌, [], List, All, OnOk, length, map};
+ghost use Rattle.fm_base.specs.Answer.{Answers};
+ghost use Rattle.dap_model.specs.ClauseFaults.{clause_fault, first_fault};
+ghost use Rattle.dap_model.specs.Projection.{projection_of};
+ghost use Rattle.dap_model.specs.declared.projection.Clause as clauses;
+ghost use Rattle.dap_project.specs.Checks.{Finds, HasCountable};
+ghost use Rattle.dap_project.specs.Noted.{notes_or_fault};
+ghost use Rattle.dap_project.specs.Notes.{note_for, note_of, notes_after};
+
+use crate::check::check_clause;
+use crate::note::{Note, fresh_notes, note_clause};
+use crate::sent::all_sent;
+use crate::whole::whole_notes;
+use dap_model::{Clause, Decl, ProjectFault, Projected, Projection};
+use fm_base::{Fail, List};
+use std::alloc::Global;
+
+// Notes what a clause asks of each declaration, unless it has a fault.
+fn add_clause(
+    alloc: Global,
+    decls: &[Decl],
+    notes: &mut List<Note>,
+    clause: &Clause,
+) -> Result<(), Fail<ProjectFault>>
+    requires { length notes.old ≡ length decls.now }
+    ensures fault { (earlier : List clauses.Clause) → notes.old ≡ map (note_of earlier) decls.now
+        → Finds (clause_fault decls.now earlier clause.now) result }
+    ensures notes { OnOk result (notes.new ≡ notes_after clause.now decls.now notes.old) }
+    ensures countable { OnOk result (HasCountable clause.now) }
+{
+    check_clause(alloc, decls, notes.as_slice(), clause)?;
+    note_clause(alloc, decls, notes.items.as_mut_slice(), clause)?;
+    Ok(())
+}
+
+// What clauses ask of each declaration, or the first fault of the first clause at fault.
+fn notes_of(
+    alloc: Global,
+    decls: &[Decl],
+    clauses: &[Clause],
+) -> Result<List<Note>, Fail<ProjectFault>>
+    ensures notes { Answers (notes_or_fault (map (note_of clauses.now) decls.now)
+        (first_fault decls.now [] clauses.now)) result }
+    ensures countable { OnOk result (All HasCountable clauses.now) }
+{
+    let mut notes = fresh_notes(alloc, decls)?;
+    for clause in clauses {
+        add_clause(alloc, decls, &mut notes, clause)?;
+    }
+    Ok(notes)
+}
+
+// The notes by which each declaration is sent, or the first fault of the first clause at fault.
+fn notes_for(
+    alloc: Global,
+    decls: &[Decl],
+    clauses: &[Clause],
+) -> Result<List<Note>, Fail<ProjectFault>>
+    ensures notes { Answers (notes_or_fault (map (note_for clauses.now) decls.now)
+        (first_fault decls.now [] clauses.now)) result }
+    ensures countable { OnOk result (All HasCountable clauses.now) }
+{
+    if clauses.is_empty() {
+        return Ok(whole_notes(alloc, decls)?);
+    }
+    notes_of(alloc, decls, clauses)
+}
+
+/// What is sent of a dataset's declarations for a constraint: the declarations that it names, in their order, with the
+/// lengths that their slabs leave, and their parts with their slabs. Without a clause all is sent whole. A fault is the
+/// first of the first clause that has one.
+///
+/// Where the number of a declaration or of a part doesn't fit 32 bits, memory is said to have run out.
+pub fn project(
+    alloc: Global,
+    decls: &[Decl],
+    asked: &Projection,
+) -> Result<Projected, Fail<ProjectFault>>
+    ensures { Answers (projection_of decls.now asked.now.clauses) result }
+{
+    let notes = notes_for(alloc, decls, asked.clauses.as_slice())?;
+    Ok(all_sent(alloc, decls, notes.as_slice())?)
+}

@@ -1,0 +1,175 @@
+//! What is sent for the notes of declarations.
+ghost use Rattle.std.specs.Prelude.{◌≡◌, ◌++◌, IfOk, OnOk, length, All};
+ghost use Rattle.dap_model.specs.Picking.{parts_of};
+ghost use Rattle.dap_model.specs.Projection.{rebuilt};
+ghost use Rattle.dap_project.specs.Checks.{AllCanBeCut, CanBeCut, IsSlotCut};
+ghost use Rattle.dap_project.specs.Noted as spec;
+
+use crate::cut::cut_array;
+use crate::note::Note;
+use crate::part::part_at;
+use crate::picked::name_of;
+use crate::slot::Slot;
+use dap_model::{Array, Decl, Projected, Sent};
+use fm_base::{Bytes, List, NoMemory};
+use std::alloc::Global;
+
+// Adds a part whose slot is taken, as an array.
+fn add_cut(
+    alloc: Global,
+    array: &Array,
+    slot: &Slot,
+    parts: &mut List<Array>,
+) -> Result<(), NoMemory>
+    requires { IsSlotCut array.now slot.now }
+    ensures { OnOk result (parts.new ≡ parts.old ++ spec.cut_of array.now slot.now) }
+{
+    match slot {
+        Slot::Free => Ok(()),
+        Slot::Taken(slabs, _) => parts.push(cut_array(alloc, array, slabs.as_slice())?),
+    }
+}
+
+// The parts of a declaration whose slots are taken, as arrays.
+#[tactic(auto, using(crate::proofs::StepLemmas::cuts))]
+fn cut_parts(alloc: Global, decl: &Decl, slots: &[Slot]) -> Result<List<Array>, NoMemory>
+    requires { CanBeCut (parts_of decl.now) slots.now }
+    ensures { IfOk result (λ parts. parts ≡ spec.cut_slots (parts_of decl.now) slots.now) }
+{
+    let mut parts = List::new(alloc);
+    for part in 0..slots.len() {
+        let Some(array) = part_at(decl, part) else {
+            return Ok(parts);
+        };
+        add_cut(alloc, array, &slots[part], &mut parts)?;
+    }
+    Ok(parts)
+}
+
+// A declaration of these parts: a Grid only where all of it is asked for.
+fn rebuilt(alloc: Global, every: bool, decl: &Decl, parts: List<Array>) -> Result<Decl, NoMemory>
+    ensures { IfOk result (λ sent. sent ≡ rebuilt every decl.now parts) }
+{
+    let mut maps = parts;
+    let name = Bytes::copy_of(alloc, name_of(decl))?;
+    if maps.is_empty() {
+        return Ok(Decl::Structure {
+            name,
+            members: maps,
+        });
+    }
+    match decl {
+        Decl::Plain(_) => Ok(Decl::Plain(maps.items.remove(0))),
+        Decl::Grid { .. } if every => {
+            let array = maps.items.remove(0);
+            Ok(Decl::Grid { name, array, maps })
+        }
+        _ => Ok(Decl::Structure {
+            name,
+            members: maps,
+        }),
+    }
+}
+
+// A declaration as it is sent.
+#[tactic(auto, unfolding(crate::specs::Noted::noted_decl))]
+fn decl_sent(alloc: Global, decl: &Decl, note: &Note) -> Result<Decl, NoMemory>
+    requires { CanBeCut (parts_of decl.now) note.now.slots }
+    ensures { IfOk result (λ sent. sent ≡ spec.noted_decl decl.now note.now) }
+{
+    let parts = cut_parts(alloc, decl, note.slots.as_slice())?;
+    rebuilt(alloc, note.every, decl, parts)
+}
+
+// Adds a declaration, where something of it is picked.
+fn add_decl(alloc: Global, decl: &Decl, note: &Note, sent: &mut List<Decl>) -> Result<(), NoMemory>
+    requires { CanBeCut (parts_of decl.now) note.now.slots }
+    ensures { OnOk result (sent.new ≡ sent.old ++ spec.decl_of decl.now note.now) }
+{
+    if note.picked {
+        sent.push(decl_sent(alloc, decl, note)?)?;
+    }
+    Ok(())
+}
+
+// The declarations that are sent.
+#[tactic(auto, using(crate::proofs::StepLemmas::decls))]
+fn decls_sent(alloc: Global, decls: &[Decl], notes: &[Note]) -> Result<List<Decl>, NoMemory>
+    requires count { length notes.now ≡ length decls.now }
+    requires cuts { AllCanBeCut decls.now notes.now }
+    ensures { IfOk result (λ sent. sent ≡ spec.noted_decls decls.now notes.now) }
+{
+    let mut sent = List::new(alloc);
+    for at in 0..notes.len() {
+        add_decl(alloc, &decls[at], &notes[at], &mut sent)?;
+    }
+    Ok(sent)
+}
+
+// Adds a part whose slot is taken, by the place of its declaration and its own number.
+fn add_part(
+    alloc: Global,
+    decl: u32,
+    at: usize,
+    slot: &Slot,
+    sent: &mut List<Sent>,
+) -> Result<(), NoMemory>
+    ensures { OnOk result (sent.new ≡ sent.old ++ spec.sent_of_slot decl at slot.now) }
+{
+    match slot {
+        Slot::Free => Ok(()),
+        Slot::Taken(slabs, _) => {
+            let Ok(part) = u32::try_from(at) else {
+                return Err(NoMemory);
+            };
+            let items = Vec::from_slice(alloc, slabs.as_slice())?;
+            sent.push(Sent {
+                decl,
+                part,
+                slabs: List { items },
+            })
+        }
+    }
+}
+
+// Adds the parts of a declaration whose slots are taken, by the place of the declaration.
+#[tactic(auto, using(crate::proofs::StepLemmas::sent))]
+fn add_parts(
+    alloc: Global,
+    decl: u32,
+    slots: &[Slot],
+    sent: &mut List<Sent>,
+) -> Result<(), NoMemory>
+    ensures { OnOk result (sent.new ≡ sent.old ++ spec.sent_slots decl 0 slots.now) }
+{
+    for at in 0..slots.len() {
+        add_part(alloc, decl, at, &slots[at], sent)?;
+    }
+    Ok(())
+}
+
+// The parts that are sent.
+#[tactic(auto, using(crate::proofs::StepLemmas::noted))]
+fn parts_sent(alloc: Global, notes: &[Note]) -> Result<List<Sent>, NoMemory>
+    ensures { IfOk result (λ sent. sent ≡ spec.noted_sent 0 notes.now) }
+{
+    let mut sent = List::new(alloc);
+    for at in 0..notes.len() {
+        let Ok(decl) = u32::try_from(at) else {
+            return Err(NoMemory);
+        };
+        add_parts(alloc, decl, notes[at].slots.as_slice(), &mut sent)?;
+    }
+    Ok(sent)
+}
+
+// What is sent for notes. Where a part's number doesn't fit 32 bits, memory is said to have run out.
+pub(crate) fn all_sent(alloc: Global, decls: &[Decl], notes: &[Note]) -> Result<Projected, NoMemory>
+    requires count { length notes.now ≡ length decls.now }
+    requires cuts { AllCanBeCut decls.now notes.now }
+    ensures { IfOk result (λ sent. sent ≡ spec.noted_all decls.now notes.now) }
+{
+    let sent = parts_sent(alloc, notes)?;
+    let decls = decls_sent(alloc, decls, notes)?;
+    Ok(Projected { decls, sent })
+}

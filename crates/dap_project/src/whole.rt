@@ -1,0 +1,44 @@
+//! The notes by which all declarations are sent whole.
+ghost use Rattle.std.specs.Prelude.{◌≡◌, [], ◌∷◌, IfOk, map};
+ghost use Rattle.dap_model.specs.Projection.{whole_clause};
+ghost use Rattle.dap_project.specs.Notes.{note_for, note_of};
+
+use crate::note::Note;
+use crate::picked::name_of;
+use dap_model::{Clause, Decl};
+use fm_base::{Bytes, List, NoMemory};
+use std::alloc::Global;
+
+// The clause that asks for the whole of a declaration.
+fn whole_clause(alloc: Global, decl: &Decl) -> Result<Clause, NoMemory>
+    ensures { IfOk result (λ clause. clause ≡ whole_clause decl.now) }
+{
+    let mut path = List::new(alloc);
+    path.push(Bytes::copy_of(alloc, name_of(decl))?)?;
+    Ok(Clause {
+        path,
+        slabs: List::new(alloc),
+    })
+}
+
+// What that clause asks of the declaration.
+#[tactic(auto, unfolding(crate::specs::Notes::note_from))]
+fn whole_note(alloc: Global, decl: &Decl) -> Result<Note, NoMemory>
+    ensures { IfOk result (λ note. note ≡ note_of (whole_clause decl.now ∷ []) decl.now) }
+{
+    let whole = whole_clause(alloc, decl)?;
+    let mut note = Note::fresh(alloc, decl)?;
+    note.add(alloc, decl, &whole)?;
+    Ok(note)
+}
+
+// The notes of all declarations where there is no clause.
+pub(crate) fn whole_notes(alloc: Global, decls: &[Decl]) -> Result<List<Note>, NoMemory>
+    ensures { IfOk result (λ notes. notes ≡ map (note_for []) decls.now) }
+{
+    let mut notes = List::new(alloc);
+    for decl in decls {
+        notes.push(whole_note(alloc, decl)?)?;
+    }
+    Ok(notes)
+}
