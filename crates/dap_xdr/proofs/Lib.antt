@@ -1,4 +1,5 @@
 pub mod DataLemmas
+pub mod DatasetLemmas
 pub mod ElementLemmas
 pub mod ExtentLemmas
 pub mod FrontLemmas

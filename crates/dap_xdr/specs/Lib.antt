@@ -1,4 +1,5 @@
 pub mod Content
+pub mod Datasets
 pub mod Front
 pub mod Portion
 pub mod Overlay

@@ -2,6 +2,7 @@
 #![tactic(auto)]
 
 mod array;
+mod dataset;
 mod elements;
 mod find;
 mod kind;
