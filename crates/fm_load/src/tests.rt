@@ -199,6 +199,7 @@ fn as_many_times_as_a_file_may_have_are_told_apart(rt: HostRuntime) -> Result<()
         (4_095, 1_800_000_000, 0, 126_230_400, 222_163_200),
         (4_095, FIRST, 48, 4_095, 0),
         (4_096, 0, 53, 4_097, 0),
+        (4_097, 1_800_000_000, 53, 4_098, 0),
     ] {
         let found = loaded(alloc, &proto, falling(alloc, count, last)?, cases::STAMP)?;
         let name = b"".as_slice();
