@@ -1,0 +1,158 @@
+-- The data of parts, one after the other, written over the front of a buffer.
+use Rattle.std.proofs.Common.{◌≡◌, ℕ, suc, ◌+◌, ◌-◌, ◌<◌, ◌≤◌, List, [], ◌∷◌, ◌++◌, length, get_or, min, take, drop, refl, sym, ap, subst, ◌∙◌, arith}
+use Rattle.std.specs.List.{flat_map}
+use Rattle.std.proofs.Math.Seq.{drop-append-add, take-suc}
+use Rattle.std.proofs.lemmas.Grind.{flat_map-append}
+use Rattle.std.proofs.lemmas.List.{append-nil, append_assoc, drop_all, drop-append-le, length-append, length-drop, length-take, take_all, take-append-drop, take-append-le}
+use Rattle.dap_model.specs.declared.projection.Sent.{Sent}
+use Rattle.dap_xdr.specs.Content.{data_of, part_data, Content}
+use Rattle.dap_xdr.specs.Overlay.{overlay, IsPut}
+use Rattle.dap_xdr.proofs.FrontLemmas.{drop-both, put-behind, put-full, put-long}
+
+-- the data of the parts before a place
+abbrev pub data_before : Content → List Sent → ℕ → List ℕ
+data_before content sent place = data_of content (take place sent)
+
+-- the data so far is written, as far as it fits, and `left` bytes are still to be passed over
+pub record DataSoFar (content : Content) (sent : List Sent) (from filled place left : ℕ) (old now : List ℕ)
+    : Type 0 where
+  pub put_is : IsPut (drop from (data_before content sent place)) old now filled
+  pub left_is : left ≡ from - length (data_before content sent place)
+
+-- one part more
+pub data-more : (content : Content) (sent : List Sent) (place : ℕ) (part : Sent) → place < length sent
+    → part ≡ get_or sent place part
+    → data_before content sent (place + 1) ≡ data_before content sent place ++ part_data content part
+unfolding data_of
+data-more content sent place part within is =
+    let next : place + 1 ≡ suc place = omega arith in
+    ap (λ (n : ℕ). flat_map (part_data content) (take n sent)) next
+    ∙ ap (flat_map (part_data content)) (take-suc sent place part within)
+    ∙ flat_map-append (part_data content) (take place sent) (get_or sent place part ∷ [])
+    ∙ ap (λ (l : List ℕ). data_before content sent place ++ l)
+    (append-nil (part_data content (get_or sent place part)) ∙ ap (part_data content) (sym is))
+
+-- all data is that of the parts before a place and of those from there on
+pub data-split : (content : Content) (sent : List Sent) (place : ℕ)
+    → data_of content sent ≡ data_before content sent place ++ data_of content (drop place sent)
+unfolding data_of
+data-split content sent place =
+    ap (flat_map (part_data content)) (sym (take-append-drop place sent))
+    ∙ flat_map-append (part_data content) (take place sent) (drop place sent)
+
+-- the data of all parts
+pub data-whole : (content : Content) (sent : List Sent) (place : ℕ) → length sent ≤ place
+    → data_before content sent place ≡ data_of content sent
+data-whole content sent place past = ap (data_of content) (take_all place sent past)
+
+-- the data of a part is no longer than that of all
+pub part-small : (content : Content) (sent : List Sent) (place bound : ℕ) (part : Sent) → place < length sent
+    → part ≡ get_or sent place part → length (data_of content sent) < bound
+    → length (part_data content part) < bound
+part-small content sent place bound part within is small =
+    omega (
+      arith,
+      small,
+      ap length (data-split content sent (place + 1)),
+      length-append (data_before content sent (place + 1)) (data_of content (drop (place + 1) sent)),
+      ap length (data-more content sent place part within is),
+      length-append (data_before content sent place) (part_data content part),
+    )
+
+-- nothing is left of the data of a part behind its end
+pub part-past : (bytes old : List ℕ) (from : ℕ) → length bytes ≤ from → IsPut (drop from bytes) old old 0
+unfolding overlay
+part-past bytes old from past =
+    let none : drop from bytes ≡ [] = drop_all from bytes past in
+    subst (λ (l : List ℕ). IsPut l old old 0) (sym none) (record {
+      count_is = omega arith;
+      new_is = ap (λ (l : List ℕ). l ++ old) (sym (take_all (length old) [] (omega arith)));
+    })
+
+-- before the first part nothing is written
+pub data-first : (content : Content) (sent : List Sent) (from : ℕ) (old : List ℕ)
+    → DataSoFar content sent from 0 0 from old old
+unfolding data_of
+data-first content sent from old = record { put_is = part-past [] old from (omega arith); left_is = omega arith }
+
+-- the next part
+pub data-next : (content : Content) (sent : List Sent) (from filled place left count len next_left : ℕ) (part : Sent)
+    (old now front back rest : List ℕ)
+    → DataSoFar content sent from filled place left old now → place < length sent → part ≡ get_or sent place part
+    → now ≡ front ++ back → length front ≡ filled → len ≡ length (part_data content part)
+    → IsPut (drop left (part_data content part)) back rest count → next_left ≡ left - len
+    → DataSoFar content sent from (filled + count) (place + 1) next_left old (front ++ rest)
+data-next content sent from filled place left count len next_left part old now front back rest so within is split long
+    len_is put passed =
+    let before = data_before content sent place in
+    let more : before ++ part_data content part ≡ data_before content sent (place + 1) =
+    sym (data-more content sent place part within is) in
+    let many : filled ≡ min (length old) (length before - from) =
+    so.put_is.count_is ∙ ap (λ (m : ℕ). min (length old) m) (length-drop from before) in
+    record {
+      put_is = subst (λ (l : List ℕ). IsPut (drop from l) old (front ++ rest) (filled + count)) more
+          (put-behind before (part_data content part) old now front back rest from filled count left many
+          so.put_is.new_is split long so.left_is put);
+      left_is = omega (
+        arith,
+        passed,
+        len_is,
+        so.left_is,
+        ap length more,
+        length-append before (part_data content part),
+      );
+    }
+
+-- where the buffer is full
+pub data-full : (content : Content) (sent : List Sent) (from filled place left : ℕ) (old now : List ℕ)
+    → DataSoFar content sent from filled place left old now → length now ≤ filled
+    → IsPut (drop from (data_of content sent)) old now filled
+data-full content sent from filled place left old now so full =
+    subst (λ (l : List ℕ). IsPut l old now filled)
+    (sym (ap (drop from) (data-split content sent place)
+    ∙ drop-both (data_before content sent place) (data_of content (drop place sent)) from))
+    (put-full (drop from (data_before content sent place)) _ old now filled so.put_is
+    (subst (λ (m : ℕ). m ≤ filled) (put-long _ old now filled so.put_is) full))
+
+-- where no part is left
+pub data-done : (content : Content) (sent : List Sent) (from filled place left : ℕ) (old now : List ℕ)
+    → DataSoFar content sent from filled place left old now → length sent ≤ place
+    → IsPut (drop from (data_of content sent)) old now filled
+data-done content sent from filled place left old now so past =
+    subst (λ (l : List ℕ). IsPut (drop from l) old now filled) (data-whole content sent place past) so.put_is
+
+-- before the first part there is no data
+pub data-none : (content : Content) (sent : List Sent) → length (data_before content sent 0) ≡ 0
+unfolding data_of
+data-none content sent = refl
+
+-- the data with one part more
+pub data-longer : (content : Content) (sent : List Sent) (place len : ℕ) (part : Sent) → place < length sent
+    → part ≡ get_or sent place part → len ≡ length (part_data content part)
+    → length (data_before content sent (place + 1)) ≡ length (data_before content sent place) + len
+data-longer content sent place len part within is len_is = omega (
+  arith,
+  len_is,
+  ap length (data-more content sent place part within is),
+  length-append (data_before content sent place) (part_data content part),
+)
+
+-- what is left of the data within a part begins with what is left of the part
+pub data-lent : (content : Content) (sent : List Sent) (place from left : ℕ) (part : Sent) (lent : List ℕ)
+    → place < length sent → part ≡ get_or sent place part
+    → left + length (data_before content sent place) ≡ from → left ≤ length (part_data content part)
+    → take (length lent) (drop left (part_data content part)) ≡ lent
+    → take (length lent) (drop from (data_of content sent)) ≡ lent
+data-lent content sent place from left part lent within is passed inside front =
+    let before = data_before content sent place in
+    let bytes = part_data content part in
+    let after = data_of content (drop (place + 1) sent) in
+    let all : data_of content sent ≡ before ++ (bytes ++ after) =
+    data-split content sent (place + 1) ∙ ap (λ (l : List ℕ). l ++ after) (data-more content sent place part within is)
+    ∙ append_assoc before bytes after in
+    let reached : drop from (data_of content sent) ≡ drop left bytes ++ after =
+    ap (drop from) all ∙ ap (λ (n : ℕ). drop n (before ++ (bytes ++ after))) (omega (arith, passed))
+    ∙ drop-append-add before (bytes ++ after) left ∙ drop-append-le left bytes after inside in
+    let short : length lent ≤ length (drop left bytes) =
+    omega (arith, ap length front, length-take (length lent) (drop left bytes)) in
+    ap (take (length lent)) reached ∙ take-append-le (length lent) (drop left bytes) after short ∙ front

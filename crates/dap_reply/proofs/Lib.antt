@@ -1,0 +1,11 @@
+pub mod AnswerLemmas
+pub mod DataLemmas
+pub mod LimitLemmas
+pub mod MapLemmas
+pub mod MessageLemmas
+pub mod NameLemmas
+pub mod PlanLemmas
+pub mod ReplyLemmas
+pub mod ScriptLemmas
+pub mod SentLemmas
+pub mod ServedLemmas

@@ -1,0 +1,104 @@
+-- What is sent of a dataset is part of it, with slabs that lie within it.
+use Rattle.std.proofs.Common.{◌≡◌, ℕ, ◌<◌, ◌≤◌, List, [], length, get_or, Some, None, All, ap, subst, sym, ◌∙◌, ⊎_elim, arith, refl, Result, Ok, Err}
+use Rattle.std.specs.Prelude.{slice_get, option_and_then, IsSomeAnd}
+use Rattle.std.specs.List.{AllZip}
+use Rattle.std.specs.Option.{option_map_or}
+use Rattle.std.proofs.lemmas.Option.{same_Some, slice_get_cases}
+use Rattle.fm_base.specs.declared.header.Dim.{Dim}
+use Rattle.fm_model.specs.Site.{IsPrototype}
+use Rattle.fm_model.proofs.ProtoLemmas.{IsSound-given}
+use Rattle.dap_model.specs.declared.declaration.Array.{Array}
+use Rattle.dap_model.specs.declared.declaration.Decl.{Decl}
+use Rattle.dap_model.specs.declared.projection.Clause.{Clause}
+use Rattle.dap_model.specs.declared.projection.Projected.{Projected}
+use Rattle.dap_model.specs.declared.projection.Sent.{Sent}
+use Rattle.dap_model.specs.Picking.{part_dims, parts_of}
+use Rattle.dap_model.specs.Projection.{projection_of}
+use Rattle.dap_model.specs.ProjectionFacts.{FitsDim, FitsPart}
+use Rattle.dap_model.proofs.ListLemmas.{Has, Has-at}
+use Rattle.dap_model.proofs.ProjectionAcceptLemmas.{Accepted-projection_of}
+use Rattle.dap_model.proofs.ProjectionSentLemmas.{FitsPart-sent, PartSent, PartSent-all_sent}
+use Rattle.fm_dataset.specs.Declarations.{decls_of}
+use Rattle.fm_dataset.specs.Values.{Shown}
+use Rattle.fm_base.proofs.ChainLemmas.{same_Ok}
+use Rattle.fm_base.specs.Chain.{◌>>=◌, fault_as}
+use Rattle.dap_ce.specs.Asked.{asked_by}
+use Rattle.dap_model.specs.declared.fault.CeFault.{CeFault}
+use Rattle.dap_model.specs.declared.fault.ProjectFault.{ProjectFault}
+use Rattle.dap_model.specs.declared.projection.Projection.{Projection as Asks}
+use Rattle.dap_reply.specs.declared.fault.DapFault.TheVariants.{Constraint, Projection}
+use Rattle.dap_reply.specs.Body.{projected_of}
+use Rattle.dap_xdr.specs.Content.{array_in, FitsArray}
+use Rattle.dap_reply.specs.Parts.{IsSentOf}
+use Rattle.dap_reply.proofs.MapLemmas.{gridded}
+use Rattle.dap_reply.proofs.NameLemmas.{named-apart}
+
+-- a part that is there, with slabs that fit it
+part-fits : (decls : List Decl) (clauses : List Clause) (sent : Sent) → PartSent decls clauses sent
+    → FitsPart decls sent → IsSomeAnd (array_in decls sent.decl sent.part) (FitsArray sent)
+unfolding array_in
+part-fits decls clauses sent part fits = ⊎_elim there past (slice_get_cases (parts_of part.decl) sent.part).1
+  where
+    Fits : List Dim → Type 0
+    Fits dims = AllZip FitsDim dims sent.slabs
+
+    same : fits.decl ≡ part.decl
+    same = same_Some fits.decl part.decl (sym fits.decl_is ∙ part.decl_is)
+
+    there : ((array : Array) × (sent.part < length (parts_of part.decl))
+        × (slice_get (parts_of part.decl) sent.part ≡ Some array) × (get_or (parts_of part.decl) sent.part array ≡ array))
+        → IsSomeAnd (option_and_then (λ (found : Decl). slice_get (parts_of found) sent.part)
+        (slice_get decls sent.decl)) (FitsArray sent)
+    there found = rw (part.decl_is, found.2) (subst Fits (ap (λ o. option_map_or (λ (array : Array). array.dims) o [])
+        found.2) (subst (λ d. Fits (part_dims d sent.part)) same fits.fits))
+
+    past : ((length (parts_of part.decl) ≤ sent.part) × (slice_get (parts_of part.decl) sent.part ≡ None))
+        → IsSomeAnd (option_and_then (λ (found : Decl). slice_get (parts_of found) sent.part)
+        (slice_get decls sent.decl)) (FitsArray sent)
+    past beyond = absurd (omega (arith, beyond.0, part.within))
+
+pub sent-fits : (shown : Shown) (clauses : List Clause) (projected : Projected) → IsPrototype shown.proto
+    → projection_of (decls_of shown.proto (length shown.rows)) clauses ≡ Ok projected
+    → All (IsSentOf shown) projected.sent
+sent-fits shown clauses projected prototype is = λ k d within.
+    let decls = decls_of shown.proto (length shown.rows) in
+    let sound = IsSound-given shown.proto prototype in
+    let accepted = Accepted-projection_of decls clauses projected is in
+    let same = ap (λ (p : Projected). p.sent) accepted.all in
+    let has = subst (λ (l : List Sent). Has l (get_or projected.sent k d)) (sym same) (Has-at projected.sent k d within) in
+    let part = PartSent-all_sent decls clauses (get_or projected.sent k d) has in
+    part-fits decls clauses (get_or projected.sent k d) part
+    (FitsPart-sent decls clauses (get_or projected.sent k d) (named-apart shown.proto (length shown.rows) sound)
+    (gridded shown.proto (length shown.rows) sound) accepted.faultless part)
+
+-- a fault is no value
+not-ok : {A E : Type 0} {fault : E} {value : A} → Err fault ≡ Ok value → ⊥
+not-ok {A} {E} same = subst is_value same tt
+  where
+    is_value : Result A E → Type 0
+    is_value (Ok value) = ⊥
+    is_value (Err fault) = Unit {0}
+
+-- what is sent for a constraint
+pub all-sent : (shown : Shown) (constraint : List ℕ) (projected : Projected) → IsPrototype shown.proto
+    → projected_of (decls_of shown.proto (length shown.rows)) constraint ≡ Ok projected
+    → All (IsSentOf shown) projected.sent
+unfolding projected_of
+all-sent shown constraint projected prototype is = by_asked (asked_by constraint) is
+  where
+    by_projection : (clauses : List Clause) (found : Result Projected ProjectFault)
+        → projection_of (decls_of shown.proto (length shown.rows)) clauses ≡ found
+        → fault_as Projection found ≡ Ok projected → All (IsSentOf shown) projected.sent
+    by_projection clauses (Ok other) found same =
+        subst (λ (p : Projected). All (IsSentOf shown) p.sent) (same_Ok other projected same) (sent-fits shown clauses other prototype found)
+    by_projection clauses (Err fault) found same = absurd (not-ok same)
+
+    by_asked : (asked : Result Asks CeFault)
+        → (fault_as Constraint asked >>= (λ asks. fault_as Projection
+        (projection_of (decls_of shown.proto (length shown.rows)) asks.clauses))) ≡ Ok projected
+        → All (IsSentOf shown) projected.sent
+    by_asked (Ok asks) same = by_projection asks.clauses
+        (projection_of (decls_of shown.proto (length shown.rows)) asks.clauses) refl same
+    by_asked (Err fault) same = absurd (not-ok same)
+
+pub ruleset sent = (all-sent)

@@ -1,0 +1,16 @@
+-- Each turn counts one part.
+use Rattle.std.proofs.Common.{sym, arith}
+use Rattle.dap_xdr.specs.Datasets.{content_of}
+use Rattle.dap_reply.proofs.DataLemmas.{data-longer, data-none}
+use Rattle.dap_reply.proofs.data.data_len.Goals as goal
+
+pub loop-part-init : goal.loop-part-init
+loop-part-init c = sym (data-none (content_of c.args.source.now) c.args.sent.now)
+
+pub loop-part-preserved : goal.loop-part-preserved
+loop-part-preserved c = omega (
+  arith,
+  c.loop-part.invariant,
+  data-longer (content_of c.args.source.now) c.args.sent.now c.loop-part.part-index c.xdr_len-more.result
+      c.part-item.result c.loop-part-test.true c.part-item.is c.xdr_len-more.ensures,
+)

@@ -1,0 +1,11 @@
+pub mod Asked
+pub mod Body
+pub mod Fault
+pub mod Head
+pub mod Kind
+pub mod Order
+pub mod Parts
+pub mod Planned
+pub mod Reply
+pub mod Script
+pub mod Served

@@ -1,0 +1,191 @@
+//! The body that a target asks for.
+ghost use Rattle.std.specs.Prelude.{◌≡◌, ◌++◌, All, IfOk, Some, codes, length};
+ghost use Rattle.fm_base.specs.Answer.{Answers};
+ghost use Rattle.fm_model.specs.Rows as views;
+ghost use Rattle.fm_dataset.specs.Declarations.{decls_of};
+ghost use Rattle.dap_reply.specs.declared.body.BodyKind.{BodyKind as Kind};
+ghost use Rattle.dap_reply.specs.Body.{attributes_asked, body_of, data_asked, projected_of, some_rows, some_shown, structure_asked};
+ghost use Rattle.dap_reply.specs.Body.{structure_of, text_body, within_limit};
+ghost use Rattle.dap_reply.specs.Parts.{IsSentOf};
+
+use crate::body::{Body, BodyKind};
+use crate::data::data_len;
+use crate::fault::DapFault;
+use crate::parts::Plan;
+use dap_ce::read_constraint;
+use dap_das::das_text_of;
+use dap_dds::dds_text;
+use dap_model::{Decl, Projected, Sent};
+use dap_project::project;
+use fm_base::{Bytes, Fail, List, NoMemory};
+use fm_dataset::{Dataset, decls};
+use fm_edition::Edition;
+use fm_model::Proto;
+use fm_shown::shown;
+use fm_views::row_count;
+use std::alloc::Global;
+use web_path::{Service, Target};
+
+/// The most bytes that a body may have.
+pub const MAX_BODY: u64 = 536_870_912;
+
+// How many rows a view has, of which there is one.
+#[tactic(auto, unfolding(crate::specs::Body::some_rows))]
+fn count_rows(alloc: Global, edition: &Edition, target: &Target) -> Result<u64, Fail<DapFault>>
+    ensures { Answers (some_rows (length (views.rows edition.now.files target.now.view))) result }
+{
+    match row_count(alloc, edition, &target.view)? {
+        0 => Err(Fail::Fault(DapFault::NoRows)),
+        count => Ok(count),
+    }
+}
+
+// The dataset of a target, whose view has rows.
+#[tactic(auto, unfolding(crate::specs::Body::some_shown))]
+fn dataset_asked(
+    alloc: Global,
+    edition: &Edition,
+    target: &Target,
+) -> Result<Dataset, Fail<DapFault>>
+    ensures { Answers (some_shown edition.now.proto edition.now.files target.now) result }
+{
+    match shown(alloc, edition, &target.view, target.label.as_slice()) {
+        Ok(source) => Ok(source),
+        Err(Fail::NoMemory) => Err(Fail::NoMemory),
+        Err(Fail::Fault(_)) => Err(Fail::Fault(DapFault::NoRows)),
+    }
+}
+
+// What is sent of declarations for the constraint of a target.
+#[tactic(auto, unfolding(crate::specs::Body::projected_of))]
+fn projected_of(alloc: Global, decls: &[Decl], target: &Target) -> Result<Projected, Fail<DapFault>>
+    ensures { Answers (projected_of decls.now target.now.constraint) result }
+{
+    let asked = match read_constraint(alloc, target.constraint.as_slice()) {
+        Ok(asked) => asked,
+        Err(Fail::NoMemory) => return Err(Fail::NoMemory),
+        Err(Fail::Fault(fault)) => return Err(Fail::Fault(DapFault::Constraint(fault))),
+    };
+    match project(alloc, decls, &asked) {
+        Ok(projected) => Ok(projected),
+        Err(Fail::NoMemory) => Err(Fail::NoMemory),
+        Err(Fail::Fault(fault)) => Err(Fail::Fault(DapFault::Projection(fault))),
+    }
+}
+
+// A body that is a text, within the limit.
+#[tactic(auto, using(crate::proofs::LimitLemmas::texts))]
+fn text_body(alloc: Global, kind: BodyKind, text: Bytes) -> Result<Body, Fail<DapFault>>
+    ensures { Answers (within_limit (text_body kind text)) result }
+{
+    let len = text.len() as u64;
+    if len > MAX_BODY {
+        return Err(Fail::Fault(DapFault::TooLarge {
+            len,
+            limit: MAX_BODY,
+        }));
+    }
+    Ok(Body {
+        kind,
+        bytes: Plan::ready(alloc, text),
+    })
+}
+
+// The structure text of what is sent.
+#[tactic(auto, unfolding(crate::specs::Body::structure_of))]
+fn structure_of(alloc: Global, target: &Target, projected: &Projected) -> Result<Bytes, NoMemory>
+    ensures { IfOk result (λ text. text ≡ structure_of target.now projected.now) }
+{
+    let mut text = Bytes::new(alloc);
+    dds_text(alloc, target.label.as_slice(), &projected.decls, &mut text)?;
+    Ok(text)
+}
+
+// The structure text that a target asks for.
+#[tactic(auto, unfolding(crate::specs::Body::structure_asked))]
+fn structure_asked(
+    alloc: Global,
+    edition: &Edition,
+    target: &Target,
+) -> Result<Body, Fail<DapFault>>
+    ensures { Answers (structure_asked edition.now.proto edition.now.files target.now) result }
+{
+    let count = count_rows(alloc, edition, target)?;
+    let decls = decls(alloc, edition.proto().get(), count)?;
+    let projected = projected_of(alloc, decls.as_slice(), target)?;
+    let text = structure_of(alloc, target, &projected)?;
+    text_body(alloc, BodyKind::Structure, text)
+}
+
+// The attribute text that a target asks for.
+#[tactic(auto, unfolding(crate::specs::Body::attributes_asked))]
+fn attributes_asked(
+    alloc: Global,
+    edition: &Edition,
+    target: &Target,
+) -> Result<Body, Fail<DapFault>>
+    ensures { Answers (attributes_asked edition.now.proto edition.now.files target.now) result }
+{
+    let _count = count_rows(alloc, edition, target)?;
+    let mut text = Bytes::new(alloc);
+    das_text_of(alloc, edition.proto().get(), &target.view, &mut text)?;
+    text_body(alloc, BodyKind::Attributes, text)
+}
+
+// A body that is data, within the limit. Where its length doesn't fit 64 bits, memory is said to have run out.
+fn data_body(front: Bytes, source: Dataset, sent: List<Sent>) -> Result<Body, Fail<DapFault>>
+    requires { All (IsSentOf source) sent }
+    ensures { Answers (within_limit (record {
+      kind = Kind.Data;
+      bytes = record { front = front; source = Some source; sent = sent };
+    })) result }
+{
+    let Some(behind) = data_len(&source, sent.as_slice()) else {
+        return Err(Fail::NoMemory);
+    };
+    let begin = front.len() as u64;
+    if behind > u64::MAX - begin {
+        return Err(Fail::NoMemory);
+    }
+    let len = behind + begin;
+    if len > MAX_BODY {
+        return Err(Fail::Fault(DapFault::TooLarge {
+            len,
+            limit: MAX_BODY,
+        }));
+    }
+    let bytes = Plan::with_data(front, source, sent, len);
+    Ok(Body {
+        kind: BodyKind::Data,
+        bytes,
+    })
+}
+
+// The data that a target asks for.
+#[tactic(auto, unfolding(crate::specs::Body::data_asked), using(crate::proofs::SentLemmas::sent))]
+fn data_asked(alloc: Global, edition: &Edition, target: &Target) -> Result<Body, Fail<DapFault>>
+    ensures { Answers (data_asked edition.now.proto edition.now.files target.now) result }
+{
+    let source = dataset_asked(alloc, edition, target)?;
+    let _proto = source.proto();
+    let projected = projected_of(alloc, source.decls().as_slice(), target)?;
+    let mut front = structure_of(alloc, target, &projected)?;
+    front.append(b"Data:\n")?;
+    data_body(front, source, projected.sent)
+}
+
+// The body that a target asks for over an edition.
+#[tactic(auto, unfolding(crate::specs::Body::body_of))]
+pub(crate) fn body_of(
+    alloc: Global,
+    edition: &Edition,
+    target: &Target,
+) -> Result<Body, Fail<DapFault>>
+    ensures { Answers (body_of edition.now.proto edition.now.files target.now) result }
+{
+    match target.service {
+        Service::Dds => structure_asked(alloc, edition, target),
+        Service::Das => attributes_asked(alloc, edition, target),
+        Service::Dods => data_asked(alloc, edition, target),
+    }
+}

@@ -1,0 +1,30 @@
+//! Replies: what a request is answered with, over the collection of one moment.
+#![tactic(auto)]
+
+mod asked;
+mod body;
+mod data;
+pub mod examples;
+mod fault;
+mod head;
+pub mod laws;
+mod message;
+mod ordering;
+mod parts;
+mod put;
+mod query;
+mod replying;
+mod served;
+mod status;
+mod wanted;
+
+pub use asked::MAX_BODY;
+pub use body::{Answer, Body, BodyKind};
+pub use fault::DapFault;
+pub use head::Head;
+pub use ordering::order;
+pub use parts::Plan;
+pub use replying::{plan, refusal};
+pub use served::{Mark, Stop};
+pub use status::Status;
+pub use wanted::{Dap, Order};

@@ -1,0 +1,127 @@
+//! The bytes of a reply, of which the data stays in the files.
+ghost use Rattle.std.specs.Prelude.{◌≡◌, ◌≤◌, ◌-◌, ◌++◌, All, IfOk, Some, drop, length, min, take};
+ghost use Rattle.dap_xdr.specs.Overlay.{overlay};
+ghost use Rattle.dap_reply.specs.Parts.{bytes_of, ready, IsSentOf};
+
+use crate::data::{lent_data, put_data};
+use crate::put::put;
+use dap_model::Sent;
+use fm_base::{Bytes, List, NoMemory};
+use fm_dataset::Dataset;
+use std::alloc::Global;
+use std::marker::Model;
+
+/// The bytes of a reply: those before the first byte of its data, and what is sent of a dataset behind them. It holds
+/// the files that it needs, and no data.
+#[derive(Drop)]
+pub struct Plan {
+    /// The bytes before the data.
+    pub front: Bytes,
+    /// The dataset whose data is sent.
+    pub source: Option<Dataset>,
+    /// What is sent of it; nothing where there is none.
+    pub sent: List<Sent>,
+    pub(crate) len: u64,
+}
+
+impl Model for Plan {
+    ghost use Rattle.dap_reply.specs.Parts.{IsPlan, Parts};
+
+    ghost Value = { Parts };
+
+    ghost view = { λ plan. record { front = plan.front; source = plan.source; sent = plan.sent } };
+
+    ghost invariant = { λ plan. IsPlan (record { front = plan.front; source = plan.source; sent = plan.sent }) plan.len };
+}
+
+impl Plan {
+    // The bytes all stand ready.
+    pub(crate) fn ready(alloc: Global, front: Bytes) -> Plan
+        ensures { result ≡ ready front }
+    {
+        let len = front.len() as u64;
+        Plan {
+            front,
+            source: None,
+            sent: List::new(alloc),
+            len,
+        }
+    }
+
+    // Some bytes stand ready, and behind them is the data of what is sent of a dataset, `len` bytes with them.
+    pub(crate) fn with_data(front: Bytes, source: Dataset, sent: List<Sent>, len: u64) -> Plan
+        requires sent { All (IsSentOf source) sent }
+        requires len { len ≡ length (bytes_of (record { front = front; source = Some source; sent = sent })) }
+        ensures { result ≡ record { front = front; source = Some source; sent = sent } }
+    {
+        Plan {
+            front,
+            source: Some(source),
+            sent,
+            len,
+        }
+    }
+
+    // The same bytes behind others.
+    pub(crate) fn behind(self, mut front: Bytes) -> Result<Plan, NoMemory>
+        ensures { IfOk result (λ plan. plan ≡ record {
+          front = front ++ self.front;
+          source = self.source;
+          sent = self.sent;
+        }) }
+    {
+        let begin = front.len() as u64;
+        if self.len > u64::MAX - begin {
+            return Err(NoMemory);
+        }
+        let len = begin + self.len;
+        front.append(self.front.as_slice())?;
+        Ok(Plan {
+            front,
+            source: self.source,
+            sent: self.sent,
+            len,
+        })
+    }
+
+    /// How many bytes there are.
+    pub fn len(&self) -> u64
+        ensures { result ≡ length (bytes_of self.now) }
+    {
+        self.len
+    }
+
+    /// Writes the bytes from a place on over the front of a buffer, as many as fit, and returns how many that are. It
+    /// takes no memory. The caller has a place among the bytes or right after them.
+    pub fn piece(&self, from: u64, out: &mut [u8]) -> usize
+        requires { from ≤ length (bytes_of self.now) }
+        ensures count { result ≡ min (length out.old) (length (bytes_of self.now) - from) }
+        ensures bytes { out.new ≡ overlay (drop from (bytes_of self.now)) out.old }
+    {
+        let count = put(self.front.as_slice(), from, out);
+        match &self.source {
+            None => count,
+            Some(source) => {
+                let from = from.saturating_sub(self.front.len() as u64);
+                let (_, rest) = out.split_at_mut(count);
+                count + put_data(source, self.sent.as_slice(), from, rest)
+            }
+        }
+    }
+
+    /// Lends the longest stretch from a place on that stands in the front or in a file as it is sent. It may be empty,
+    /// and is a front of the bytes from that place on. It takes no memory.
+    pub fn lent(&self, from: u64) -> &[u8]
+        ensures { take (length result.now) (drop from (bytes_of self.now)) ≡ result.now }
+    {
+        let ready = self.front.len() as u64;
+        if from < ready {
+            let (_, rest) = self.front.as_slice().split_at(from as usize);
+            return rest;
+        }
+        match &self.source {
+            None => &[],
+            Some(source) => lent_data(source, self.sent.as_slice(), from - ready),
+        }
+    }
+}
