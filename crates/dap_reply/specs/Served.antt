@@ -29,7 +29,8 @@ pub record IsAtRest (session : State) : Type 0 where
   pub held_is : session.held ≡ held_after (held_bytes session)
 
 -- what a call that serves a link found and left: what was seen of the collection, the session, the bytes that were taken
--- from the link and written to it, how often calls of the link had failed, and what the call returned
+-- from the link and written to it, whether the link said that its input is over, how often its calls had failed, and what
+-- the call returned
 pub record LinkCall : Type 0 where
   pub proto : Proto
   pub still : Bool
@@ -41,6 +42,7 @@ pub record LinkCall : Type 0 where
   pub session_after : State
   pub taken : List ℕ
   pub written : List ℕ
+  pub over : Bool
   pub faults : ℕ
   pub faults_after : ℕ
   pub most : ℕ
@@ -168,9 +170,9 @@ pub record HasEnough (call : LinkCall) : Type 0 where
   pub left : ReadsTo (input_of call) (take call.most (items_of call)) (held_bytes call.session_after)
   pub counted : call.session_after.before ≡ call.session.before + call.most
 
--- where input ended with these bytes left, a link ends so
+-- where input is over and these bytes are left, a link ends so
 abbrev pub InputEnds : LinkCall → End → Type 0
-InputEnds call end = AnswersAll call × (end ≡ end_of_input (heads_of (input_of call)).rest)
+InputEnds call end = (call.over ≡ true) × AnswersAll call × (end ≡ end_of_input (heads_of (input_of call)).rest)
 
 -- a link ends so only where this holds
 unfoldable pub EndsBy : LinkCall → End → Type 0
