@@ -11,7 +11,6 @@ pub mod laws;
 mod message;
 mod ordering;
 mod parts;
-mod put;
 mod query;
 mod replying;
 mod served;
@@ -28,3 +27,6 @@ pub use replying::{plan, refusal};
 pub use served::{Mark, Stop};
 pub use status::Status;
 pub use wanted::{Dap, Order};
+
+#[cfg(test)]
+mod tests;

@@ -4,8 +4,8 @@ ghost use Rattle.dap_xdr.specs.Overlay.{overlay};
 ghost use Rattle.dap_reply.specs.Parts.{bytes_of, ready, IsSentOf};
 
 use crate::data::{lent_data, put_data};
-use crate::put::put;
 use dap_model::Sent;
+use dap_xdr::put;
 use fm_base::{Bytes, List, NoMemory};
 use fm_dataset::Dataset;
 use std::alloc::Global;

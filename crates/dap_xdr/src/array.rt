@@ -10,7 +10,7 @@ ghost use Rattle.dap_xdr.specs.Overlay.{overlay, IsPut};
 use crate::elements::put_elements;
 use crate::kind::element_len;
 use crate::part::Part;
-use crate::put::put;
+use crate::writing::put;
 use crate::source::Source;
 
 // A count in four bytes.

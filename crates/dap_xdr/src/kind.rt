@@ -3,7 +3,7 @@ ghost use Rattle.std.specs.Prelude.{◌≡◌, ◌-◌, drop, length, min};
 ghost use Rattle.dap_model.specs.Xdr.{element_bytes, element_len, number_bytes, number_len, AreBitsOf};
 ghost use Rattle.dap_xdr.specs.Overlay.{overlay};
 
-use crate::put::put;
+use crate::writing::put;
 use dap_model::DapKind;
 
 // How many bytes an element of an array takes.

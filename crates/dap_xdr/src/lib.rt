@@ -10,18 +10,19 @@ mod len;
 mod lending;
 mod part;
 mod piece;
-mod put;
 mod slabs;
 mod source;
 mod stored;
 mod text;
 mod texts;
 mod widen;
+mod writing;
 
 pub use len::xdr_len;
 pub use lending::lent;
 pub use piece::xdr_piece;
 pub use source::Source;
+pub use writing::put;
 
 #[cfg(test)]
 mod tests;

@@ -5,7 +5,7 @@ ghost use Rattle.dap_model.specs.Xdr.{element_bytes};
 ghost use Rattle.dap_xdr.specs.Front.{IsFront};
 ghost use Rattle.dap_xdr.specs.Stretch.{AreBytesOf};
 
-use crate::put::put;
+use crate::writing::put;
 use crate::widen::widen;
 use dap_model::DapKind;
 

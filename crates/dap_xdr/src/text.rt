@@ -4,7 +4,7 @@ ghost use Rattle.dap_model.specs.Xdr.{text_bytes, text_len, zeros_after};
 ghost use Rattle.dap_xdr.specs.Overlay.{IsPut};
 
 use crate::array::{count_bytes, put_zeros};
-use crate::put::put;
+use crate::writing::put;
 
 // Writes a text's bytes and the zero bytes after them from a place among them on.
 fn put_padded(text: &[u8], from: u64, out: &mut [u8]) -> usize

@@ -6,7 +6,7 @@ ghost use Rattle.dap_xdr.specs.Portion.{texts_of, IsOf};
 
 use crate::array::count_bytes;
 use crate::part::Part;
-use crate::put::put;
+use crate::writing::put;
 use crate::source::Source;
 use crate::text::{put_text, text_len};
 

@@ -25,7 +25,8 @@ use Rattle.fm_dataset.proofs.ElementLemmas.{some_block, var_there}
 use Rattle.fm_dataset.proofs.PartLemmas.{added_array, part_is}
 use Rattle.fm_dataset.proofs.PieceLemmas.{characters_are}
 use Rattle.fm_dataset.proofs.ReadLemmas.{has_characters}
-use Rattle.fm_dataset.proofs.SmallLemmas.{limits, small_array, small_by, HasLimits}
+use Rattle.fm_dataset.proofs.PrototypeLimits.{limits, HasLimits}
+use Rattle.fm_dataset.proofs.SmallLemmas.{small_array, small_by}
 
 -- the array of each part is small
 pub small_arrays : (shown : Shown) (decl part : ℕ) (array : Array) → IsPrototype shown.proto

@@ -1,5 +1,5 @@
 //! The values of a dataset, in place.
-ghost use Rattle.std.specs.Prelude.{◌≡◌, ◌*◌, IfSome, Some, length, min};
+ghost use Rattle.std.specs.Prelude.{◌≡◌, ◌*◌, ℕ, List, IfSome, IsTrue, Some, length, min};
 ghost use Rattle.fm_base.specs.Kind.{size_of};
 ghost use Rattle.dap_model.specs.declared.declaration.Array.{Array};
 ghost use Rattle.dap_model.specs.Xdr.{AreBitsOf};
@@ -94,7 +94,9 @@ impl Dataset {
     /// the axis, the runs and the offsets don't.
     #[tactic(auto, unfolding(crate::specs::Values::is_stored))]
     pub fn is_stored(&self, decl: u32, part: u32) -> bool
-        ensures { result ≡ spec.is_stored self.now decl part }
+        ensures value { result ≡ spec.is_stored self.now decl part }
+        ensures asked { IsTrue result → (index : List ℕ) → spec.HasNumber self.now decl part index
+            → spec.HasStored self.now decl part index }
     {
         let proto = self.proto.get();
         if decl as usize >= proto.vars.len() {

@@ -5,6 +5,8 @@
 mod look;
 mod plain;
 mod query;
+#[cfg(test)]
+mod tests;
 
 pub use look::Look;
 pub use plain::Plain;

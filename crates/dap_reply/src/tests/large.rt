@@ -1,0 +1,130 @@
+//! A reply over the limit, one variable of which is within it: 128 variables of 1,048,576 numbers, which all have the same
+//! bytes of one file of 4 MB.
+
+use super::asking::{collection_over, get, in_pieces, plan_for, put_run};
+use fm_base::{List, NoMemory};
+use fm_sample::SAMPLE;
+use std::alloc::Global;
+use std::test::Fail;
+
+// The words of the file: the header, the first time of the sample, and 4,194,304 zero bytes.
+fn words(alloc: Global) -> Result<List<u32>, NoMemory> {
+    let mut words = List::new(alloc);
+    for word in [
+        0x4344_4601,
+        0,
+        0xa,
+        2,
+        4,
+        0x7469_6d65,
+        1,
+        1,
+        0x6e00_0000,
+        1_048_576,
+        0,
+        0,
+        0xb,
+        129,
+    ] {
+        words.push(word)?;
+    }
+    let (front, _) = SAMPLE.split_at(39);
+    let (_, time) = front.split_at(17);
+    for word in time {
+        words.push(*word)?;
+    }
+    words.push(5_268)?;
+    for number in 0..128 {
+        put_variable(number, &mut words)?;
+    }
+    words.push(SAMPLE[73])?;
+    for _zero in 0..1_048_576 {
+        words.push(0)?;
+    }
+    Ok(words)
+}
+
+// The variable of a number, from byte 5,272 of the file on.
+fn put_variable(number: u32, words: &mut List<u32>) -> Result<(), NoMemory> {
+    let digits = (number / 100 % 10) * 0x1_0000 + (number / 10 % 10) * 0x100 + number % 10;
+    for word in [
+        4,
+        digits.wrapping_add(0x7630_3030),
+        2,
+        0,
+        1,
+        0,
+        0,
+        5,
+        4_194_304,
+        5_272,
+    ] {
+        words.push(word)?;
+    }
+    Ok(())
+}
+
+#[test]
+fn a_body_over_the_limit_is_refused_and_one_variable_of_it_is_sent(
+    rt: HostRuntime,
+) -> Result<(), Fail> {
+    let alloc = rt.alloc();
+    let words = words(alloc)?;
+    let mut plain = collection_over(alloc, words.as_slice())?;
+    put_run(
+        &rt,
+        alloc,
+        &mut plain,
+        b"gfs_20240101_0000.nc",
+        words.as_slice(),
+    )?;
+    let all = plan_for(
+        alloc,
+        &mut plain,
+        get(),
+        b"/thredds/dodsC/gfs/gfs_best.ncd.dods",
+    )?;
+    assert!(&rt; all.front.as_slice() == TOO_LARGE.as_bytes());
+    let one = plan_for(
+        alloc,
+        &mut plain,
+        get(),
+        b"/thredds/dodsC/gfs/gfs_best.ncd.dods?v000",
+    )?;
+    assert!(&rt; one.front.as_slice() == ONE.as_bytes());
+    assert_eq!(&rt; one.lent(ONE.len() as u64 + 8).len(), 4_194_304);
+    let bytes = in_pieces(alloc, &one, 8_192)?;
+    assert!(&rt; in_pieces(alloc, &one, 7)?.as_slice() == bytes.as_slice());
+    assert_eq!(&rt; bytes.len(), ONE.len() + 4_194_312);
+    Ok(())
+}
+
+// The reply with all variables.
+const TOO_LARGE: &str = "HTTP/1.1 413 Content Too Large\r
+XDODS-Server: dods/3.2\r
+Content-Description: dods_error\r
+Content-Type: text/plain\r
+X-Collection-Revision: 1\r
+Content-Length: 85\r
+Connection: keep-alive\r
+\r
+Error {
+    code = 34;
+    message = \"body of 536877341 bytes is over 536870912\";
+};
+";
+
+// The reply with one variable, up to its data.
+const ONE: &str = "HTTP/1.1 200 OK\r
+XDODS-Server: dods/3.2\r
+Content-Description: dods_data\r
+Content-Type: application/octet-stream\r
+X-Collection-Revision: 1\r
+Content-Length: 4194385\r
+Connection: keep-alive\r
+\r
+Dataset {
+    Float32 v000[time = 1][n = 1048576];
+} gfs_best.ncd;
+Data:
+";

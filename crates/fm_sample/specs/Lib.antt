@@ -1,0 +1,2 @@
+pub mod Taking
+pub use Rattle.fm_edition.specs.Held
