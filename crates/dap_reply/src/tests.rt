@@ -2,12 +2,14 @@
 
 mod asking;
 mod large;
+mod overlap;
 mod rows;
 
 use asking::{asked, collection, get, plan_for, put_run, shown};
 use fm_sample::{LATER, SAMPLE};
+use overlap::AFTER_BOTH;
 use pub_plain::Plain;
-use rows::{AFTER_BOTH, AFTER_FIRST, BEST, NO_ROWS, STRUCTURE};
+use rows::{AFTER_FIRST, BEST, NO_ROWS, STRUCTURE};
 use std::alloc::Global;
 use std::process::Abort;
 use std::test::Fail;

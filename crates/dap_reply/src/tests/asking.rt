@@ -1,4 +1,5 @@
 //! Requests of a collection, and the bytes of replies.
+ghost use Rattle.std.specs.Prelude.{◌≡◌};
 
 use crate::{Order, Plan, order, refusal};
 use fm_base::{Arc, Bytes, NoMemory};
