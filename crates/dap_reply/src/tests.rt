@@ -1,6 +1,7 @@
 //! What no clause says: that memory suffices; and replies worked out by hand, byte for byte.
 
 mod asking;
+mod bytes;
 mod large;
 mod overlap;
 mod rows;

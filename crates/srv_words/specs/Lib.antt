@@ -1,5 +1,0 @@
-pub mod Command
-pub mod Jobs
-pub mod Reads
-pub mod Steps
-pub mod Values
