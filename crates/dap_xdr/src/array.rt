@@ -10,8 +10,8 @@ ghost use Rattle.dap_xdr.specs.Overlay.{overlay, IsPut};
 use crate::elements::put_elements;
 use crate::kind::element_len;
 use crate::part::Part;
-use crate::writing::put;
 use crate::source::Source;
+use crate::writing::put;
 
 // A count in four bytes.
 pub(crate) fn count_bytes(count: u64) -> [u8; 4]

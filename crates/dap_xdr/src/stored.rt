@@ -5,8 +5,8 @@ ghost use Rattle.dap_model.specs.Xdr.{element_bytes};
 ghost use Rattle.dap_xdr.specs.Front.{IsFront};
 ghost use Rattle.dap_xdr.specs.Stretch.{AreBytesOf};
 
-use crate::writing::put;
 use crate::widen::widen;
+use crate::writing::put;
 use dap_model::DapKind;
 
 // Writes numbers that stand in a file, from a place among their bytes on, as much as can be written at once: maybe

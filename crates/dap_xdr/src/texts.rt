@@ -6,9 +6,9 @@ ghost use Rattle.dap_xdr.specs.Portion.{texts_of, IsOf};
 
 use crate::array::count_bytes;
 use crate::part::Part;
-use crate::writing::put;
 use crate::source::Source;
 use crate::text::{put_text, text_len};
+use crate::writing::put;
 
 // Writes an array of texts from a place among its bytes on, as much as fits. The texts before that place are passed
 // over one by one. The buffer `index` has room for an index list.
