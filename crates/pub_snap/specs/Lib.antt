@@ -1,5 +1,0 @@
-pub mod Book
-pub mod Opening
-pub mod Rule
-pub use Rattle.pub_plain.specs.History
-pub use Rattle.fm_edition.specs.Log
