@@ -101,6 +101,23 @@ fn a_body_over_the_limit_is_refused(rt: HostRuntime) -> Result<(), Fail> {
     Ok(())
 }
 
+// How many bytes of data a plan has.
+fn data_len(plan: &Plan) -> Option<u64> {
+    plan.len().checked_sub(plan.front.len() as u64)
+}
+
+// How many bytes a plan lends behind the counts of its first array.
+fn lent_len(plan: &Plan) -> usize {
+    let begin = plan.front.len() as u64;
+    plan.lent(begin.saturating_add(8)).len()
+}
+
+// Whether the bytes of a plan are the same in pieces of 7 and of 8,192 bytes.
+fn is_same_in_pieces(alloc: Global, plan: &Plan) -> Result<bool, NoMemory> {
+    let bytes = in_pieces(alloc, plan, 8_192)?;
+    Ok(in_pieces(alloc, plan, 7)?.as_slice() == bytes.as_slice())
+}
+
 #[test]
 fn one_variable_of_it_is_sent(rt: HostRuntime) -> Result<(), Fail> {
     let alloc = rt.alloc();
@@ -112,11 +129,9 @@ fn one_variable_of_it_is_sent(rt: HostRuntime) -> Result<(), Fail> {
         b"/thredds/dodsC/gfs/gfs_best.ncd.dods?v000",
     )?;
     assert!(&rt; begins(&one, ONE));
-    let begin = one.front.len() as u64;
-    assert_eq!(&rt; one.len().checked_sub(begin), Some(4_194_312));
-    assert_eq!(&rt; one.lent(begin.saturating_add(8)).len(), 4_194_304);
-    let bytes = in_pieces(alloc, &one, 8_192)?;
-    assert!(&rt; in_pieces(alloc, &one, 7)?.as_slice() == bytes.as_slice());
+    assert!(&rt; data_len(&one) == Some(4_194_312));
+    assert!(&rt; lent_len(&one) == 4_194_304);
+    assert!(&rt; is_same_in_pieces(alloc, &one)?);
     Ok(())
 }
 
