@@ -83,7 +83,7 @@ fn texts_go_without_their_zero_bytes(rt: HostRuntime) -> Result<(), Fail> {
         alloc,
         &mut plain,
         get(),
-        b"/thredds/dodsC/gfs/gfs_best.ncd.dods?c2",
+        b"/thredds/dodsC/gfs/gfs_best.ncd.dods?c2.c2",
     )?;
     assert!(&rt; shown(&rt, alloc, &plan)?.as_slice() == TEXTS.as_bytes());
     Ok(())
@@ -111,11 +111,13 @@ XDODS-Server: dods/3.2\r
 Content-Description: dods_data\r
 Content-Type: application/octet-stream\r
 X-Collection-Revision: 1\r
-Content-Length: 74\r
+Content-Length: 104\r
 Connection: keep-alive\r
 \r
 Dataset {
-    String c2[y = 2];
+    Structure {
+        String c2[y = 2];
+    } c2;
 } gfs_best.ncd;
 Data:
 00000002 00000002 61620000 00000004 63646566
