@@ -6,7 +6,7 @@ set -eu
 top=$(cd "$(dirname "$0")/.." && pwd)
 folder=$(mktemp -d)
 trap 'rm -r "$folder"' EXIT
-crates='fm_base fm_bits fm_model nc_sample nc_model nc_header nc_layout nc_array tm_units fm_file fm_proto fm_load'
+crates='fm_base fm_bits fm_model nc_sample nc_header nc_layout nc_array tm_units fm_file fm_proto fm_load'
 mkdir -p "$folder/crates/load_file/src"
 for crate in $crates; do
     cp -r "$top/crates/$crate" "$folder/crates/$crate"

@@ -11,12 +11,12 @@ top=$(cd "$(dirname "$0")/.." && pwd)
 folder=$(mktemp -d)
 trap 'rm -r "$folder"' EXIT
 mkdir -p "$folder/crates/copy_elements/src"
-for crate in fm_base nc_model nc_header nc_layout nc_array; do
+for crate in fm_base nc_header nc_layout nc_array; do
     cp -r "$top/crates/$crate" "$folder/crates/$crate"
 done
 {
-    grep -E '^(fm_base|nc_model|nc_header|nc_layout|nc_array):' "$top/crates.txt"
-    echo 'copy_elements: fm_base nc_model nc_header nc_layout nc_array'
+    grep -E '^(fm_base|nc_header|nc_layout|nc_array):' "$top/crates.txt"
+    echo 'copy_elements: fm_base nc_header nc_layout nc_array'
 } > "$folder/crates.txt"
 cat > "$folder/crates/copy_elements/src/main.rt" << 'PROGRAM'
 //! `PROGRAM copy FILE` copies the elements of the last variable of a file, and as many bytes from the file's front, and

@@ -16,6 +16,7 @@ head -c 351 "$sample" > "$folder/cut.nc"
 printf 'GET /thredds/dodsC/gfs/gfs_best.ncd.dds HTTP/1.1\r\n\r\n' > "$folder/request"
 head -c 20 "$folder/request" > "$folder/begun"
 printf 'POST /\r\n\r\n' > "$folder/other"
+cp "$sample" "$folder/none.nc"
 truncate -s 536870913 "$folder/long.nc"
 
 # Compares the last run: its name, its status, the status that is wanted, and what each stream is to hold.
@@ -60,7 +61,11 @@ run "a request" 0 "*" "" "$folder/request" $once
 run "once without a step" 2 "" "bad words" "$folder/none" once --name gfs
 run "input that ends" 11 "" "input ended" "$folder/begun" $once
 run "no input" 11 "" "input ended" "$folder/none" $once
-run "another request" 3 "" "refused ask code 60" "$folder/other" $once
+run "a head that is none" 0 "*" "" "$folder/other" $once
+grep -q '^HTTP/1.1 400 Bad Request' "$folder/out" || { echo "a head that is none: not refused"; failures=$((failures + 1)); }
+run "a name without a run" 3 "" "refused $folder/none.nc code 45" "$folder/request" \
+    once --name gfs --proto "$sample" "put:$folder/none.nc" ask:1
+run "options behind the steps" 0 "*" "" "$folder/request" once "put:$sample" ask:1 --proto "$sample" --name=gfs
 run "a prototype that isn't there" 10 "" "no file $folder/absent" "$folder/none" \
     once --name gfs --proto "$folder/absent" "put:$sample" ask:1
 run "a folder as the file" 5 "" "file fault $folder" "$folder/none" once --name gfs --proto "$sample" "put:$folder" ask:1

@@ -1,5 +1,5 @@
 //! A reader of constraints, which takes one byte after the other.
-ghost use Rattle.std.specs.Prelude.{◌≡◌, ◌⊎◌, ℕ, ◌+◌, ◌^◌, ◌<◌, ◌≤◌, List, Some, None, length, drop, take, slice_index};
+ghost use Rattle.std.specs.Prelude.{◌≡◌, ◌⊎◌, ◌∷◌, [], ℕ, ◌+◌, ◌^◌, ◌<◌, ◌≤◌, List, Some, None, length, drop, take, slice_index};
 ghost use Rattle.std.specs.Prelude.{true, false, IfOk, IsTrue, OnOk};
 ghost use Rattle.fm_base.specs.Answer.{Answers};
 ghost use Rattle.dap_model.specs.ConstraintReading.{before_name, clauses_at, ended_at, fault_at, fresh, next_clause};
@@ -20,6 +20,15 @@ pub(crate) struct Reader {
     pub(crate) path: List<Bytes>,
     pub(crate) slabs: List<Slab>,
     pub(crate) phase: Phase,
+}
+
+// A path of one name, without room for another.
+fn alone(alloc: Global, name: Bytes) -> Result<List<Bytes>, NoMemory>
+    ensures { IfOk result (λ path. path ≡ name ∷ []) }
+{
+    let mut items = Vec::with_capacity(alloc, 1)?;
+    items.push(name)?;
+    Ok(List { items })
 }
 
 impl Reader {
@@ -111,11 +120,16 @@ impl Reader {
         Ok(true)
     }
 
-    // Ends a name of the path.
+    // Ends a name of the path. The first takes room for itself alone, since most paths have one name.
     fn end_name(&mut self, alloc: Global, name: &[u8]) -> Result<(), NoMemory>
         ensures { OnOk result (begun_of self.new ≡ with_name (begun_of self.old) name.now) }
     {
-        self.path.push(Bytes::copy_of(alloc, name)?)
+        let name = Bytes::copy_of(alloc, name)?;
+        if self.path.is_empty() {
+            self.path = alone(alloc, name)?;
+            return Ok(());
+        }
+        self.path.push(name)
     }
 
     // Takes a byte behind some digits of a number.

@@ -1,6 +1,6 @@
 -- What one call that serves a link does: the replies to the requests that it reads, in order and each whole, over
 -- collections that never get older.
-use Rattle.std.specs.Prelude.{◌≡◌, ◌≢◌, ◌⊎◌, ℕ, ◌+◌, ◌<◌, ◌≤◌, List, [], ◌∷◌, ◌++◌, length, take, slice_get, Bool, true, false, if◌then◌else◌, Some, is_ok}
+use Rattle.std.specs.Prelude.{◌≡◌, ◌≢◌, ◌⊎◌, ℕ, ◌+◌, ◌-◌, ◌^◌, ◌<◌, ◌≤◌, min, List, [], ◌∷◌, ◌++◌, length, take, slice_get, Bool, true, false, if◌then◌else◌, Some, is_ok}
 use Rattle.fm_model.specs.declared.op.Op.{Op}
 use Rattle.fm_model.specs.declared.proto.Proto.{Proto}
 use Rattle.fm_model.specs.Collection.{coll}
@@ -48,6 +48,10 @@ pub record LinkCall : Type 0 where
   pub most : ℕ
   pub stop : Stop
   pub trail : List Mark
+
+-- a call of the link failed: its count rose, or stands at its greatest number
+abbrev pub HasFailed : LinkCall → Type 0
+HasFailed call = min (call.faults + 1) (2 ^ 64 - 1) ≤ call.faults_after
 
 -- the bytes to read: those that the session held, and those that were taken
 abbrev pub input_of : LinkCall → List ℕ
@@ -127,7 +131,7 @@ pub record WritesReplies (call : LinkCall) : Type 0 where
       → slice_get (items_of call) place ≡ Some item → IsWholeOrCut call place mark item
   pub only_short : call.stop ≢ stops.Ended ends.NoMemory → farewell ≡ []
   pub front : farewell ≡ take (length farewell) no_memory_reply
-  pub said : call.stop ≡ stops.Ended ends.NoMemory → call.faults ≡ call.faults_after → farewell ≡ no_memory_reply
+  pub said : call.stop ≡ stops.Ended ends.NoMemory → (farewell ≡ no_memory_reply) ⊎ HasFailed call
 
 -- there is one look for each request that a collection is looked at for, in order, at its revision; where memory ran out
 -- one more may follow
@@ -178,7 +182,7 @@ InputEnds call end = (call.over ≡ true) × AnswersAll call × (end ≡ end_of_
 unfoldable pub EndsBy : LinkCall → End → Type 0
 EndsBy call ends.Closed = InputEnds call ends.Closed
 EndsBy call (ends.Cut left) = InputEnds call (ends.Cut left)
-EndsBy call ends.LinkFault = call.faults < call.faults_after
+EndsBy call ends.LinkFault = HasFailed call
 EndsBy call ends.NoMemory = Unit {0}
 EndsBy call end = EndsAfterReply call end
 

@@ -2,12 +2,13 @@
 
 mod asking;
 mod bytes;
+mod expired;
 mod large;
 mod overlap;
 mod rows;
 
-use asking::{asked, collection, get, plan_for, put_run, shown};
-use fm_sample::{LATER, SAMPLE};
+use asking::{asked, both_runs, collection, first_run, get, plan_for, put_first, shown};
+use fm_sample::File;
 use overlap::AFTER_BOTH;
 use pub_plain::Plain;
 use rows::{AFTER_FIRST, BEST, NO_ROWS, STRUCTURE};
@@ -50,7 +51,7 @@ fn a_collection_without_runs_has_no_rows(rt: HostRuntime) -> Result<(), Fail> {
     let alloc = rt.alloc();
     let mut plain = collection(alloc)?;
     assert!(&rt; answers(&rt, alloc, &mut plain, get(), BEST, NO_ROWS)?);
-    put_run(&rt, alloc, &mut plain, b"gfs_20240101_0000.nc", &SAMPLE)?;
+    put_first(&rt, alloc, &mut plain, File::Sample)?;
     assert!(&rt; answers(&rt, alloc, &mut plain, get(), BEST, STRUCTURE)?);
     Ok(())
 }
@@ -58,8 +59,7 @@ fn a_collection_without_runs_has_no_rows(rt: HostRuntime) -> Result<(), Fail> {
 #[test]
 fn a_run_is_shown_and_what_is_asked_wrongly_is_refused(rt: HostRuntime) -> Result<(), Fail> {
     let alloc = rt.alloc();
-    let mut plain = collection(alloc)?;
-    put_run(&rt, alloc, &mut plain, b"gfs_20240101_0000.nc", &SAMPLE)?;
+    let mut plain = first_run(&rt, alloc)?;
     assert_eq!(&rt; first_other(&rt, alloc, &mut plain, &AFTER_FIRST)?, None);
     Ok(())
 }
@@ -67,9 +67,7 @@ fn a_run_is_shown_and_what_is_asked_wrongly_is_refused(rt: HostRuntime) -> Resul
 #[test]
 fn the_later_run_counts_where_two_overlap(rt: HostRuntime) -> Result<(), Fail> {
     let alloc = rt.alloc();
-    let mut plain = collection(alloc)?;
-    put_run(&rt, alloc, &mut plain, b"gfs_20240101_0000.nc", &SAMPLE)?;
-    put_run(&rt, alloc, &mut plain, b"gfs_20240101_0600.nc", &LATER)?;
+    let mut plain = both_runs(&rt, alloc)?;
     assert_eq!(&rt; first_other(&rt, alloc, &mut plain, &AFTER_BOTH)?, None);
     Ok(())
 }
@@ -77,8 +75,7 @@ fn the_later_run_counts_where_two_overlap(rt: HostRuntime) -> Result<(), Fail> {
 #[test]
 fn head_gets_the_head_alone(rt: HostRuntime) -> Result<(), Fail> {
     let alloc = rt.alloc();
-    let mut plain = collection(alloc)?;
-    put_run(&rt, alloc, &mut plain, b"gfs_20240101_0000.nc", &SAMPLE)?;
+    let mut plain = first_run(&rt, alloc)?;
     let request = asked(Method::Head, false, false);
     let plan = plan_for(alloc, &mut plain, request, BEST.as_bytes())?;
     let (head, _) = STRUCTURE.as_bytes().split_at(171);
@@ -94,7 +91,7 @@ fn what_is_refused_before_a_look_says_how_many_operations_were_seen(
     let mut plain = collection(alloc)?;
     let post = asked(Method::Other, false, true);
     assert!(&rt; answers(&rt, alloc, &mut plain, post, BEST, NOT_ALLOWED)?);
-    put_run(&rt, alloc, &mut plain, b"gfs_20240101_0000.nc", &SAMPLE)?;
+    put_first(&rt, alloc, &mut plain, File::Sample)?;
     assert!(&rt; answers(&rt, alloc, &mut plain, Asked::HeadTooLong, "", TOO_LONG)?);
     Ok(())
 }

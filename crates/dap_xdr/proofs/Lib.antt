@@ -2,6 +2,7 @@ pub mod DataLemmas
 pub mod DatasetLemmas
 pub mod ElementLemmas
 pub mod ExtentLemmas
+pub mod FitLemmas
 pub mod FrontLemmas
 pub mod IndexLemmas
 pub mod LendingLemmas

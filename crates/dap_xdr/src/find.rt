@@ -8,7 +8,7 @@ use crate::source::Source;
 use dap_model::{Array, Decl, Sent};
 
 // The part of a declaration of this number.
-fn part_of(decl: &Decl, part: usize) -> Option<&Array>
+pub(crate) fn part_of(decl: &Decl, part: usize) -> Option<&Array>
     ensures { MatchOption result (slice_get (parts_of decl.now) part ≡ None)
         (λ array. slice_get (parts_of decl.now) part ≡ Some array.now) }
 {

@@ -5,6 +5,7 @@ mod array;
 mod dataset;
 mod elements;
 mod find;
+mod fit;
 mod kind;
 mod len;
 mod lending;
@@ -18,6 +19,7 @@ mod texts;
 mod widen;
 mod writing;
 
+pub use fit::fits;
 pub use len::xdr_len;
 pub use lending::lent;
 pub use piece::xdr_piece;

@@ -1,4 +1,10 @@
-//! What no clause says: the bytes of numbers and texts as they were worked out by hand from RFC 4506.
+//! What no clause says: the bytes of numbers, of texts and of parts of datasets, as they were worked out by hand from RFC
+//! 4506.
+
+mod datasets;
+mod parts;
+mod pieces;
+mod wide;
 
 use crate::kind::{put_element, put_number};
 use crate::text::put_text;

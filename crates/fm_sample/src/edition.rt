@@ -5,7 +5,6 @@ ghost use Rattle.fm_model.specs.Example.{site};
 ghost use Rattle.fm_model.specs.Load.{Fits};
 ghost use Rattle.fm_model.specs.Site.{IsPrototype};
 ghost use Rattle.fm_sample.specs.Taking as spec;
-ghost use Rattle.nc_sample.specs.Words.{bytes_of};
 
 use crate::untaken::Untaken;
 use fm_base::{Arc, Bytes, Fail, NoMemory};
@@ -13,7 +12,6 @@ use fm_edition::Edition;
 use fm_load::load;
 use fm_model::{Loaded, MAX_FILE_BYTES, Op, Proto, Site};
 use fm_proto::read_proto;
-use nc_sample::bytes_of;
 use std::alloc::Global;
 
 // The collection `gfs`, whose epoch is the beginning of 2020.
@@ -64,26 +62,26 @@ fn taken_file(
     }
 }
 
-/// The edition without files over the prototype that the bytes of some words are, or why they are none.
+/// The edition without files over the prototype that some bytes are, or why they are none.
 #[tactic(auto, unfolding(crate::specs::Taking::empty_over))]
-pub fn edition_of(alloc: Global, words: &[u32]) -> Result<Edition, Fail<Untaken>>
-    ensures { Answers (spec.empty_over (bytes_of words.now)) result }
+pub fn edition_of(alloc: Global, bytes: Bytes) -> Result<Edition, Fail<Untaken>>
+    ensures { Answers (spec.empty_over bytes) result }
 {
-    let proto = taken_proto(alloc, bytes_of(alloc, words)?)?;
+    let proto = taken_proto(alloc, bytes)?;
     Ok(Edition::empty(alloc, Arc::new(alloc, proto)?)?)
 }
 
-/// The edition with one more file, of this name and the bytes of these words, or why it isn't taken.
+/// The edition with one more file, of this name and these bytes, or why it isn't taken.
 #[tactic(auto, unfolding(crate::specs::Taking::edition_with))]
 pub fn edition_with(
     alloc: Global,
     edition: &Edition,
     name: &[u8],
-    words: &[u32],
+    bytes: Bytes,
 ) -> Result<Edition, Fail<Untaken>>
-    ensures { Answers (spec.edition_with edition.now name.now (bytes_of words.now)) result }
+    ensures { Answers (spec.edition_with edition.now name.now bytes) result }
 {
-    let file = taken_file(alloc, edition.proto().get(), name, bytes_of(alloc, words)?)?;
+    let file = taken_file(alloc, edition.proto().get(), name, bytes)?;
     let op = Op::Put(Arc::new(alloc, file)?);
     match edition.after(alloc, &op) {
         Ok(next) => Ok(next),

@@ -1,11 +1,12 @@
-//! Small collections for tests: an edition of some files, each as words of four bytes.
+//! Small collections for tests: an edition of some files, and small files for it.
 #![tactic(auto)]
 
+mod collections;
 mod edition;
 mod files;
 mod untaken;
 
+pub use collections::{collection, kinds, runs};
 pub use edition::{edition_of, edition_with};
-pub use files::{KINDS, KINDS_LATER, LATER};
-pub use nc_sample::SAMPLE;
+pub use files::File;
 pub use untaken::Untaken;

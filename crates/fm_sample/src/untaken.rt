@@ -2,8 +2,8 @@
 
 use fm_model::{Full, LoadFault, ProtoFault};
 
-/// Why some words make no edition: their bytes are more than a file may have, they are no prototype, they don't fit it,
-/// or the edition would hold too much.
+/// Why some bytes make no edition: they are more than a file may have, they are no prototype, they don't fit it, or the
+/// edition would hold too much.
 #[derive(Debug, Drop)]
 pub enum Untaken {
     TooLong,

@@ -2,8 +2,8 @@
 
 use crate::whole;
 use fm_base::Bytes;
+use nc_header::read_header;
 use nc_layout::lay_out;
-use nc_model::thin_header;
 use nc_sample::{SAMPLE, bytes_of};
 use std::alloc::Global;
 use std::test::Fail;
@@ -34,7 +34,7 @@ const ELEMENTS: [&[u32]; 4] = [
 fn all_elements_of_a_file_that_was_read(rt: HostRuntime) -> Result<(), Fail> {
     let alloc = rt.alloc();
     let bytes = bytes_of(alloc, &SAMPLE)?;
-    let header = thin_header(alloc, bytes.as_slice())?.ok_or("thin")?;
+    let header = read_header(alloc, bytes.as_slice())?;
     let layout = lay_out(alloc, header, bytes.len() as u64)?;
     assert!(rt; layout.header().vars.len() == 4);
     for (var, words) in ELEMENTS.iter().enumerate() {

@@ -8,8 +8,7 @@ ghost use Rattle.nc_header.specs.Turns.{one_more};
 use crate::found::Found;
 use crate::names::read_name;
 use crate::reader::Reader;
-use fm_base::{Bytes, Fail, HeaderFault, List};
-use nc_model::Dim;
+use fm_base::{Bytes, Dim, Fail, HeaderFault, List};
 use std::alloc::Global;
 
 // The tag of the list.

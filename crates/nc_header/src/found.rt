@@ -2,8 +2,7 @@
 ghost use Rattle.std.specs.Prelude.{◌≡◌, [], ◌∷◌, ◌++◌, map, OnOk, OnErr};
 ghost use Rattle.fm_base.specs.Format.{has_name};
 
-use fm_base::{List, NoMemory};
-use nc_model::{Attr, Dim, NcVar};
+use fm_base::{Attr, Dim, List, NcVar, NoMemory};
 use std::alloc::Global;
 use std::collections::BTreeSet;
 use std::marker::Model;

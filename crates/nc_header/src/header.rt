@@ -10,8 +10,7 @@ use crate::attrs::read_attr_list;
 use crate::dims::read_dim_list;
 use crate::reader::Reader;
 use crate::vars::read_var_list;
-use fm_base::{Fail, HeaderFault};
-use nc_model::Header;
+use fm_base::{Fail, Header, HeaderFault};
 use std::alloc::Global;
 
 #[tactic(auto, unfolding(fm_base::specs::Reading::header_at))]

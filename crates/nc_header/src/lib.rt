@@ -10,10 +10,9 @@ mod names;
 mod reader;
 mod vars;
 
-pub use fm_base::{Fail, HeaderFault};
+pub use fm_base::{Fail, Header, HeaderFault};
 pub use header::read_header;
 pub use laws::a_fault_is_settled_by_its_field;
-pub use nc_model::Header;
 
 #[cfg(test)]
 mod tests;

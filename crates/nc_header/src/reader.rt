@@ -4,8 +4,7 @@ ghost use Rattle.fm_base.specs.Input.{whole};
 ghost use Rattle.fm_base.specs.Reading as spec;
 ghost use Rattle.fm_base.specs.Reading.{Reads};
 
-use fm_base::{Fail, HeaderFault};
-use nc_model::Kind;
+use fm_base::{Fail, HeaderFault, Kind};
 use std::marker::Model;
 
 // The bytes that are left, and the place of the first in the whole.

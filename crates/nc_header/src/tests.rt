@@ -1,7 +1,7 @@
 //! What no clause says: worked files and their faults from outside, and that memory suffices.
 
 use super::*;
-use nc_model::{Attr, Dim, Kind, NcVar};
+use fm_base::{Attr, Dim, Kind, NcVar};
 use nc_sample::{SAMPLE, bytes_of};
 use std::alloc::Global;
 use std::test::Fail as TestFail;

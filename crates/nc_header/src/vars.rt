@@ -9,8 +9,7 @@ use crate::attrs::read_attr_list;
 use crate::found::Found;
 use crate::names::read_name;
 use crate::reader::Reader;
-use fm_base::{Bytes, Fail, HeaderFault, List};
-use nc_model::{Dim, NcVar};
+use fm_base::{Bytes, Dim, Fail, HeaderFault, List, NcVar};
 use std::alloc::Global;
 
 // The tag of the list.

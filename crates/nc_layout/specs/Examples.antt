@@ -1,10 +1,11 @@
 -- Headers of small files.
 use Rattle.std.specs.Prelude.{ℕ, List, [], ◌∷◌, ◌++◌, map, codes}
+use Rattle.fm_base.specs.declared.header.Attr.{Attr}
+use Rattle.fm_base.specs.declared.header.Dim.{Dim}
 use Rattle.fm_base.specs.declared.header.Header.{Header}
 use Rattle.fm_base.specs.declared.header.NcVar.{NcVar}
-use Rattle.fm_base.specs.declared.kind.Kind.TheVariants.{Short}
+use Rattle.fm_base.specs.declared.kind.Kind.TheVariants.{Char, Float, Int, Short}
 use Rattle.fm_base.specs.Layout.{shape_of, place_of, indices_of}
-use Rattle.nc_model.specs.Thin.{header_of, dims_of, time_var, float_var}
 
 -- the places of all elements of a variable, in row-major order
 abbrev pub places_of : Header → NcVar → List ℕ
@@ -30,28 +31,50 @@ two_shorts = three_records (short_at 100 ∷ short_at 104 ∷ [])
 abbrev pub no_record : Header
 no_record = record one_short { numrecs = 0 }
 
+-- the records and the places of a grid, with so many latitudes and longitudes
+abbrev pub grid_dims : ℕ → ℕ → List Dim
+grid_dims lats lons = record { name = codes "time"; size = 0 } ∷ record { name = codes "lat"; size = lats }
+    ∷ record { name = codes "lon"; size = lons } ∷ []
+
+-- the attribute that says from when times are counted
+abbrev pub units_attr : Attr
+units_attr = record { name = codes "units"; kind = Char; values = codes "seconds since 1970-01-01 00:00:00" }
+
+-- the times, whose data begins behind 292 bytes
+abbrev pub time_var : NcVar
+time_var = record { name = codes "time"; dims = 0 ∷ []; attrs = units_attr ∷ []; kind = Int; begin = 292 }
+
+-- a variable of 32-bit floats without attributes
+abbrev pub float_var : List ℕ → List ℕ → ℕ → NcVar
+float_var name dims begin = record { name = name; dims = dims; attrs = []; kind = Float; begin = begin }
+
+-- the times, the places of a grid from these dimensions and bytes, and a field from this byte
+abbrev pub grid_vars : List ℕ → List ℕ → ℕ → List NcVar
+grid_vars lats lons field = time_var ∷ float_var (codes "lat") lats 276 ∷ float_var (codes "lon") lons 284
+    ∷ float_var (codes "t") (0 ∷ 1 ∷ 2 ∷ []) field ∷ []
+
 -- a file of 352 bytes: three times on a grid of two by two places
 abbrev pub sample : Header
-sample = header_of (record { times = 3; lats = 2; lons = 2 })
+sample = record {
+  version = 1;
+  numrecs = 3;
+  dims = grid_dims 2 2;
+  attrs = [];
+  vars = grid_vars (1 ∷ []) (2 ∷ []) 296;
+}
 
 -- the same, with the field at the end of the first 4 GiB
 abbrev pub field_far_away : Header
-field_far_away =
-    record sample {
-      vars = time_var (record { times = 3; lats = 2; lons = 2 }) ∷ float_var (codes "lat")
-          (1 ∷ []) 276 ∷ float_var (codes "lon") (2 ∷ []) 284 ∷ float_var (codes "t") (0 ∷ 1 ∷ 2 ∷ []) 0xffff_ffff ∷ [];
-    }
+field_far_away = record sample { vars = grid_vars (1 ∷ []) (2 ∷ []) 0xffff_ffff }
 
 -- the same, with the longest dimension that a file can have
 abbrev pub longest : Header
-longest = record sample { dims = dims_of (record { times = 3; lats = 2; lons = 0x7fff_ffff }) }
+longest = record sample { dims = grid_dims 2 0x7fff_ffff }
 
 -- two such dimensions, no records, and the latitudes and longitudes as variables over the records
 abbrev pub longest_field : Header
 longest_field = record sample {
   numrecs = 0;
-  dims = dims_of (record { times = 0; lats = 0x7fff_ffff; lons = 0x7fff_ffff });
-  vars =
-      time_var (record { times = 3; lats = 2; lons = 2 }) ∷ float_var (codes "lat") (0 ∷ []) 276 ∷ float_var
-      (codes "lon") (0 ∷ []) 284 ∷ float_var (codes "t") (0 ∷ 1 ∷ 2 ∷ []) 296 ∷ [];
+  dims = grid_dims 0x7fff_ffff 0x7fff_ffff;
+  vars = grid_vars (0 ∷ []) (0 ∷ []) 296;
 }

@@ -2,7 +2,7 @@
 
 use crate::{Fail, Layout, LayoutFault, lay_out};
 use fm_base::Bytes;
-use nc_model::{Header, thin_header};
+use nc_header::{Header, read_header};
 use nc_sample::{SAMPLE, bytes_of};
 use std::alloc::Global;
 use std::test::Fail as TestFail;
@@ -12,7 +12,7 @@ use std::test::Fail as TestFail;
 fn a_file_that_was_read_is_laid_out(rt: HostRuntime) -> Result<(), TestFail> {
     let alloc = rt.alloc();
     let bytes = bytes_of(alloc, &SAMPLE)?;
-    let header = thin_header(alloc, bytes.as_slice())?.ok_or("thin")?;
+    let header = read_header(alloc, bytes.as_slice())?;
     let layout = lay_out(alloc, header, 352)?;
     assert_eq!(rt; layout.recsize(), 20);
     assert!(rt; layout.header().vars.len() == 4);
@@ -29,7 +29,7 @@ fn a_file_that_is_cut_after_its_header_has_data_outside(rt: HostRuntime) -> Resu
     let alloc = rt.alloc();
     let bytes = bytes_of(alloc, &SAMPLE)?;
     for len in [276, 335, 336, 351] {
-        let header = thin_header(alloc, bytes.as_slice())?.ok_or("thin")?;
+        let header = read_header(alloc, bytes.as_slice())?;
         let (var, end) = if len < 336 { (0, 336) } else { (3, 352) };
         assert_eq!(rt;
             lay_out(alloc, header, len).err(),

@@ -3,8 +3,7 @@ use Rattle.std.proofs.Common.{◌≡◌, ◌≤◌, ℕ, List, length, take, Res
 use Rattle.fm_world.specs.Cause.{HasCause, one_more}
 use Rattle.fm_world.specs.Shown.{SinkShown}
 use Rattle.fm_world.specs.Sink.{after_append}
-use Rattle.srv_run.specs.Report.{Appends}
-use Rattle.srv_run.specs.Run.{Reports, WritesLine, CutsLine}
+use Rattle.srv_run.specs.Report.{Appends, Reports, WritesLine, CutsLine}
 
 -- a line that was put is written whole, or cut where the sink failed
 pub Reports-put : {X E : Type 0} (line : List ℕ) (sink sink' : SinkShown) (result : Result X E)

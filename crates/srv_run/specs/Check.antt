@@ -1,27 +1,22 @@
 -- What the command `check FILE` does: it reads the header of a file, sees that all the data lies in the file, and says
 -- how many dimensions, variables and records there are.
-use Rattle.std.specs.Prelude.{ℕ, List, [], ◌∷◌, ◌++◌, length, codes, decimal, Option, Some, None, Result, Ok, Err, if◌then◌else◌}
-use Rattle.std.specs.Str.{bytes_eq}
+use Rattle.std.specs.Prelude.{◌≡◌, ℕ, List, ◌++◌, length, codes, decimal, Option, Result, Ok, Err, IfSome, IfErr}
 use Rattle.fm_base.specs.declared.header.Header.{Header}
 use Rattle.fm_base.specs.Chain.{◌>>=◌, fault_as}
 use Rattle.fm_base.specs.Sound.{format_fault_code, sound_header}
+use Rattle.fm_world.specs.Shown.{FilesShown, SinkShown}
 use Rattle.srv_run.specs.declared.end.End.{End}
-use Rattle.srv_run.specs.declared.end.End.TheVariants.{Refused}
-use Rattle.srv_run.specs.declared.end.Subject.TheVariants.{File}
-use Rattle.srv_run.specs.Once.{file_or_end}
-
--- the path of the file that the words `check FILE` name
-unfoldable pub checked_path : List (List ℕ) → Option (List ℕ)
-checked_path (first ∷ path ∷ []) = if bytes_eq first (codes "check") then Some path else None
-checked_path words = None
+use Rattle.srv_run.specs.declared.end.End.TheVariants.{Done, Refused, SinkFault}
+use Rattle.srv_run.specs.Reading.{file_or_end, file_faults_after, Gives, IsEndAtFile}
+use Rattle.srv_run.specs.Report.{CutsLine, line_of, Reports, WritesLine}
 
 -- the header of a file that has no fault, else the refusal by its first fault
 unfoldable pub sound_or_refusal : List ℕ → Result Header End
-sound_or_refusal bytes = fault_as (λ fault. Refused File (format_fault_code fault)) (sound_header bytes)
+sound_or_refusal bytes = fault_as (λ fault. Refused (format_fault_code fault)) (sound_header bytes)
 
 -- what a path holds is read whole and has no fault, or the check ends
 unfoldable pub checked_or_end : Option (List ℕ) → Result Header End
-checked_or_end held = file_or_end File held >>= sound_or_refusal
+checked_or_end held = file_or_end held >>= sound_or_refusal
 
 -- the line of a file without fault
 unfoldable pub sound_line : Header → List ℕ
@@ -30,3 +25,21 @@ sound_line header =
     ++ codes " dims " ++ decimal (length header.dims)
     ++ codes " vars " ++ decimal (length header.vars)
     ++ codes " records " ++ decimal header.numrecs ++ codes "\n"
+
+-- How a check ended and what was written: the line of a sound file, or a front of it where the sink failed; else the
+-- line of what was found.
+abbrev pub EndsCheck : List ℕ → Result Header End → End → SinkShown → SinkShown → Type 0
+EndsCheck path (Ok header) Done sink sink' = WritesLine (sound_line header) sink sink'
+EndsCheck path (Ok header) SinkFault sink sink' = CutsLine (sound_line header) sink sink'
+EndsCheck path (Ok header) end sink sink' = ⊥
+EndsCheck path (Err found) end sink sink' = (end ≡ found) × Reports (line_of found path) sink sink'
+
+-- A file was checked up to this end: the check found a header or an end, as defined where the content is known. The
+-- files are blamed where their call failed.
+pub record ChecksFile (path : List ℕ) (end : End) (files files' : FilesShown) (sink sink' : SinkShown) : Type 0 where
+  pub checked : Result Header End
+  pub found : IfSome files.held (λ held. Gives (λ header. header) checked (checked_or_end (held path)))
+  pub at_file : IfErr checked IsEndAtFile
+  pub ends : EndsCheck path checked end sink sink'
+  pub held : files'.held ≡ files.held
+  pub file_faults : files'.faults ≡ file_faults_after files.faults end

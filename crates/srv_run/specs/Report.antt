@@ -1,11 +1,48 @@
 -- What a program says of how it ended: its status and a line.
-use Rattle.std.specs.Prelude.{◌≡◌, ℕ, ◌≤◌, List, [], ◌++◌, length, take, codes, decimal, Option, Result, MatchResult}
+use Rattle.std.specs.Prelude.{◌≡◌, ◌⊎◌, ℕ, ◌≤◌, List, [], ◌++◌, length, take, codes, decimal, Option, Result, MatchResult}
+use Rattle.fm_world.specs.Cause.{one_more}
+use Rattle.fm_world.specs.Shown.{SinkShown}
 use Rattle.fm_world.specs.Sink.{after_append}
 use Rattle.srv_run.specs.declared.end.End.{End}
 use Rattle.srv_run.specs.declared.end.End.TheVariants.{Done, BadWords, Refused, NoMemory, FileFault, SinkFault, LinkFault, NoFile, TooLong, InputEnded}
-use Rattle.srv_run.specs.declared.end.Subject.{Subject as Matter}
-use Rattle.srv_run.specs.declared.end.Subject.TheVariants.{Prototype, File, Request}
-use Rattle.srv_run.specs.Words.{Command}
+
+-- the status of a program that ended so
+abbrev pub status_of : End → ℕ
+status_of Done = 0
+status_of BadWords = 2
+status_of (Refused code) = 3
+status_of NoMemory = 4
+status_of FileFault = 5
+status_of SinkFault = 7
+status_of LinkFault = 9
+status_of NoFile = 10
+status_of (TooLong len) = 10
+status_of InputEnded = 11
+
+unfoldable pub refused_line : List ℕ → ℕ → List ℕ
+refused_line path code = codes "refused " ++ path ++ codes " code " ++ decimal code ++ codes "\n"
+
+unfoldable pub too_long_line : List ℕ → ℕ → List ℕ
+too_long_line path len = codes "too long " ++ path ++ codes " " ++ decimal len ++ codes "\n"
+
+unfoldable pub file_fault_line : List ℕ → List ℕ
+file_fault_line path = codes "file fault " ++ path ++ codes "\n"
+
+unfoldable pub no_file_line : List ℕ → List ℕ
+no_file_line path = codes "no file " ++ path ++ codes "\n"
+
+-- the line of an end at a file; none where every step was done, or where the line of what was done failed
+unfoldable pub line_of : End → List ℕ → List ℕ
+line_of Done path = []
+line_of BadWords path = codes "bad words\n"
+line_of (Refused code) path = refused_line path code
+line_of NoMemory path = codes "no memory\n"
+line_of FileFault path = file_fault_line path
+line_of SinkFault path = []
+line_of LinkFault path = codes "link fault\n"
+line_of NoFile path = no_file_line path
+line_of (TooLong len) path = too_long_line path len
+line_of InputEnded path = codes "input ended\n"
 
 -- All of the bytes were appended to a sink, or the first n of them where it failed.
 abbrev pub Appends : {X E : Type 0} → List ℕ → Option (List ℕ) → Option (List ℕ) → Result X E → Type 0
@@ -13,46 +50,18 @@ Appends bytes before after result = MatchResult result
     (λ _. after ≡ after_append bytes before)
     (λ _. (count : ℕ) × (count ≤ length bytes) × (after ≡ after_append (take count bytes) before))
 
--- the status of a program that ended so
-abbrev pub status_of : End → ℕ
-status_of Done = 0
-status_of BadWords = 2
-status_of (Refused subject code) = 3
-status_of NoMemory = 4
-status_of (FileFault subject) = 5
-status_of SinkFault = 7
-status_of LinkFault = 9
-status_of (NoFile subject) = 10
-status_of (TooLong subject len) = 10
-status_of InputEnded = 11
+-- The whole line was written, and no call of the sink failed.
+pub record WritesLine (line : List ℕ) (sink sink' : SinkShown) : Type 0 where
+  pub put : sink'.held ≡ after_append line sink.held
+  pub faults : sink'.faults ≡ sink.faults
 
--- what a line calls its subject: the path of a file as it was given, or `ask`
-unfoldable pub subject_text : Command → Matter → List ℕ
-subject_text command Prototype = command.proto
-subject_text command File = command.path
-subject_text command Request = codes "ask"
+-- The first n bytes of the line were written, and then one call of the sink failed.
+pub record CutsLine (line : List ℕ) (sink sink' : SinkShown) : Type 0 where
+  pub count : ℕ
+  pub within : count ≤ length line
+  pub put : sink'.held ≡ after_append (take count line) sink.held
+  pub faults : sink'.faults ≡ one_more sink.faults
 
-unfoldable pub refused_line : List ℕ → ℕ → List ℕ
-refused_line subject code = codes "refused " ++ subject ++ codes " code " ++ decimal code ++ codes "\n"
-
-unfoldable pub too_long_line : List ℕ → ℕ → List ℕ
-too_long_line subject len = codes "too long " ++ subject ++ codes " " ++ decimal len ++ codes "\n"
-
-unfoldable pub file_fault_line : List ℕ → List ℕ
-file_fault_line subject = codes "file fault " ++ subject ++ codes "\n"
-
-unfoldable pub no_file_line : List ℕ → List ℕ
-no_file_line subject = codes "no file " ++ subject ++ codes "\n"
-
--- the line of an end; none where every step was done, or where the line of what was done failed
-unfoldable pub line_of : Command → End → List ℕ
-line_of command Done = []
-line_of command BadWords = codes "bad words\n"
-line_of command (Refused subject code) = refused_line (subject_text command subject) code
-line_of command NoMemory = codes "no memory\n"
-line_of command (FileFault subject) = file_fault_line (subject_text command subject)
-line_of command SinkFault = []
-line_of command LinkFault = codes "link fault\n"
-line_of command (NoFile subject) = no_file_line (subject_text command subject)
-line_of command (TooLong subject len) = too_long_line (subject_text command subject) len
-line_of command InputEnded = codes "input ended\n"
+-- The line was written whole, or it was cut.
+abbrev pub Reports : List ℕ → SinkShown → SinkShown → Type 0
+Reports line sink sink' = WritesLine line sink sink' ⊎ CutsLine line sink sink'

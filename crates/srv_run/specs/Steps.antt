@@ -1,76 +1,129 @@
--- What the steps of a run return.
-use Rattle.std.specs.Prelude.{◌≡◌, ⊤, ℕ, Result, Ok, Err, MatchResult}
-use Rattle.fm_world.specs.Cause.{one_more}
+-- The steps of `once`, and how each takes a run on or ends it.
+use Rattle.std.specs.Prelude.{◌≡◌, ◌⊎◌, ℕ, ◌<◌, List, [], ◌∷◌, length, true}
+use Rattle.fm_world.specs.Shown.{FilesShown, LinkShown}
+use Rattle.pub_plain.specs.History.{History}
+use Rattle.web_session.specs.declared.action.End.{End as LinkEnd}
+use Rattle.web_session.specs.declared.action.End.TheVariants as ends
+use Rattle.web_session.specs.declared.phase.Phase.TheVariants.{Ended}
+use Rattle.web_session.specs.State.{State}
+use Rattle.dap_reply.specs.Served.{IsAtRest}
+use Rattle.dap_reply.specs.declared.served.Mark.{Mark}
+use Rattle.dap_reply.specs.declared.served.Stop.{Stop}
+use Rattle.dap_reply.specs.declared.served.Stop.TheVariants as stops
+use Rattle.srv_conn.specs.Serves.{Moment, Serves}
+use Rattle.srv_words.specs.declared.job.Step.{Step}
+use Rattle.srv_words.specs.declared.job.Step.TheVariants.{Put, Expire, Retract, Ask}
 use Rattle.srv_run.specs.declared.end.End.{End}
-use Rattle.srv_run.specs.declared.end.End.TheVariants.{Done, BadWords, Refused, NoMemory, FileFault, SinkFault, LinkFault, NoFile, TooLong, InputEnded}
-use Rattle.srv_run.specs.declared.end.Subject.{Subject as Matter}
-use Rattle.srv_run.specs.declared.end.Subject.TheVariants.{File, Request}
-use Rattle.srv_run.specs.declared.file.Loaded.{Loaded}
-use Rattle.srv_run.specs.declared.file.ReadFile.{ReadFile}
-use Rattle.srv_run.specs.Once.{AccordsFiles}
+use Rattle.srv_run.specs.declared.end.End.TheVariants.{Done, NoMemory, LinkFault, InputEnded}
+use Rattle.srv_run.specs.Publishing.{EndsPut, expired, Puts, retracted}
 
--- A step returns the defined value or end, unless memory ran out or a device failed.
-abbrev pub Gives : {X Y : Type 0} → (X → Y) → Result X End → Result Y End → Type 0
-Gives view (Ok x) defined = defined ≡ Ok (view x)
-Gives view (Err NoMemory) defined = ⊤
-Gives view (Err (FileFault subject)) defined = ⊤
-Gives view (Err end) defined = defined ≡ Err end
+-- a connection and what it is served from: what the link shows, what was published and looked at, and the session
+pub record Line : Type 0 where
+  pub link : LinkShown
+  pub history : History
+  pub session : State
 
--- A run may end so where this file is read.
-abbrev pub IsEndOfRead : Matter → End → Type 0
-IsEndOfRead subject NoMemory = ⊤
-IsEndOfRead subject (Refused named code) = named ≡ subject
-IsEndOfRead subject (FileFault named) = named ≡ subject
-IsEndOfRead subject (NoFile named) = named ≡ subject
-IsEndOfRead subject (TooLong named len) = named ≡ subject
-IsEndOfRead subject end = ⊥
+abbrev pub line : History → State → LinkShown → Line
+line history session link = record { link = link; history = history; session = session }
 
--- A run may end so where the content of a file is looked at.
-abbrev pub IsEndOfTake : End → Type 0
-IsEndOfTake NoMemory = ⊤
-IsEndOfTake (Refused File code) = ⊤
-IsEndOfTake end = ⊥
+-- A session has ended.
+abbrev pub HasEnded : State → Type 0
+HasEnded session = (how : LinkEnd) × (session.phase ≡ Ended how)
 
--- A run of `once` that ended so hasn't come to its request.
-abbrev pub IsBeforeRequest : End → Type 0
-IsBeforeRequest Done = ⊥
-IsBeforeRequest InputEnded = ⊥
-IsBeforeRequest LinkFault = ⊥
-IsBeforeRequest (Refused Request code) = ⊥
-IsBeforeRequest SinkFault = ⊥
-IsBeforeRequest BadWords = ⊥
-IsBeforeRequest end = ⊤
+-- A session rests, unless it has ended.
+abbrev pub RestsUnlessEnded : State → Type 0
+RestsUnlessEnded session = IsAtRest session ⊎ HasEnded session
 
--- A run of `once` that ended so has come to its request, or memory ran out.
-abbrev pub IsFromRequest : End → Type 0
-IsFromRequest Done = ⊤
-IsFromRequest InputEnded = ⊤
-IsFromRequest LinkFault = ⊤
-IsFromRequest NoMemory = ⊤
-IsFromRequest (Refused Request code) = code ≡ 60
-IsFromRequest end = ⊥
+-- a connection as a call that serves the link sees it
+abbrev pub seen_as : Line → List Mark → Moment
+seen_as at trail = record {
+  link = at.link;
+  seen = at.history.seen;
+  looks = at.history.looks;
+  session = at.session;
+  trail = trail;
+}
 
--- Both files were loaded as defined, or the run ended for a reason that accords with what the files hold.
-abbrev pub Loads : Result Loaded End → Result ReadFile End → Result Loaded End → Type 0
-Loads (Ok found) proto loaded = loaded ≡ Ok found
-Loads (Err end) proto loaded = AccordsFiles end proto loaded
+-- The link was served, by looks at the collection as it is.
+pub record Asks (count : ℕ) (before after : Line) (stop : Stop) (trail : List Mark) : Type 0 where
+  pub serves : Serves before.history.proto true (seen_as before []) (seen_as after trail) count stop
+  pub proto_is : after.history.proto ≡ before.history.proto
 
--- A run of `once` may end so, where its words are the command.
-abbrev pub IsEndOfOnce : End → Type 0
-IsEndOfOnce SinkFault = ⊥
-IsEndOfOnce BadWords = ⊥
-IsEndOfOnce end = ⊤
+-- how a run ends whose link stopped so before all replies were written
+abbrev pub end_of_stop : Stop → End
+end_of_stop (stops.Ended ends.LinkFault) = LinkFault
+end_of_stop (stops.Ended ends.NoMemory) = NoMemory
+end_of_stop stop = InputEnded
 
--- how many calls of the files have failed after a run that ended so
-abbrev pub file_faults_after : ℕ → End → ℕ
-file_faults_after count (FileFault subject) = one_more count
-file_faults_after count end = count
+-- The replies that were asked for were written whole; the link goes on, or it ended after the last of them.
+pub record Answers (count : ℕ) (before after : Line) : Type 0 where
+  pub stop : Stop
+  pub trail : List Mark
+  pub asks : Asks count before after stop trail
+  pub all : length trail ≡ count
+  pub calm : end_of_stop stop ≡ InputEnded
 
--- how many calls of the link have failed after a run that ended so
-abbrev pub link_faults_after : ℕ → End → ℕ
-link_faults_after count LinkFault = one_more count
-link_faults_after count end = count
+-- The link ended before the replies that were asked for were written whole.
+pub record StopsShort (count : ℕ) (before after : Line) (end : End) : Type 0 where
+  pub stop : Stop
+  pub trail : List Mark
+  pub asks : Asks count before after stop trail
+  pub end_is : end ≡ end_of_stop stop
+  pub short : end ≡ InputEnded → length trail < count
 
--- No call of the files failed in a step that went on, and where the step ended the run, only the one that is blamed.
-abbrev pub BlamesFiles : {X : Type 0} → ℕ → ℕ → Result X End → Type 0
-BlamesFiles before now result = MatchResult result (λ _. now ≡ before) (λ end. now ≡ file_faults_after before end)
+-- The link had ended before.
+pub record IsOver (before after : Line) (end : End) : Type 0 where
+  pub ended : HasEnded before.session
+  pub same : after ≡ before
+  pub end_is : end ≡ InputEnded
+
+-- The replies that were asked for weren't written.
+abbrev pub EndsAsk : ℕ → Line → Line → End → Type 0
+EndsAsk count before after end = StopsShort count before after end ⊎ IsOver before after end
+
+-- where a run of `once` stands: what the files show, and the connection
+pub record Progress : Type 0 where
+  pub files : FilesShown
+  pub at : Line
+
+abbrev pub progress : FilesShown → History → State → LinkShown → Progress
+progress files history session link = record { files = files; at = line history session link }
+
+-- the same but for what was published and looked at
+abbrev pub with_history : Progress → History → Progress
+with_history at history = progress at.files history at.at.session at.at.link
+
+-- The link and the session are as they were.
+pub record LeavesLink (before after : Line) : Type 0 where
+  pub link_is : after.link ≡ before.link
+  pub session_is : after.session ≡ before.session
+
+-- A step is done.
+abbrev pub IsDone : Step → Progress → Progress → Type 0
+IsDone (Put path) before after =
+    Puts path before.files after.files before.at.history after.at.history × LeavesLink before.at after.at
+IsDone (Expire cutoff) before after = after ≡ with_history before (expired cutoff before.at.history)
+IsDone (Retract name) before after = after ≡ with_history before (retracted name before.at.history)
+IsDone (Ask count) before after = Answers count before.at after.at × (after.files ≡ before.files)
+
+-- A step isn't done, and the run ends so.
+abbrev pub EndsAt : Step → Progress → Progress → End → Type 0
+EndsAt (Put path) before after end =
+    EndsPut path before.files after.files before.at.history after.at.history end × LeavesLink before.at after.at
+EndsAt (Expire cutoff) before after end = (after ≡ before) × (end ≡ NoMemory)
+EndsAt (Retract name) before after end = (after ≡ before) × (end ≡ NoMemory)
+EndsAt (Ask count) before after end = EndsAsk count before.at after.at end × (after.files ≡ before.files)
+
+-- the path of the file that a step reads
+abbrev pub path_of : Step → List ℕ
+path_of (Put path) = path
+path_of (Expire cutoff) = []
+path_of (Retract name) = []
+path_of (Ask count) = []
+
+-- The steps are done in their order up to the first that isn't, which ends the run.
+unfoldable pub Does : List Step → Progress → Progress → End → List ℕ → Type 0
+Does [] before after end path = (after ≡ before) × (end ≡ Done) × (path ≡ [])
+Does (step ∷ steps) before after end path =
+    ((next : Progress) × IsDone step before next × Does steps next after end path)
+    ⊎ (EndsAt step before after end × (path ≡ path_of step))

@@ -2,47 +2,35 @@
 ghost use Rattle.std.specs.Prelude.{◌≡◌};
 ghost use Rattle.srv_run.specs.Report as spec;
 
-/// What a report names: the file of the prototype, the file that is put, or the request.
-#[derive(Clone, Copy, Debug, PartialEq, Eq)]
-pub enum Subject {
-    Prototype,
-    File,
-    Request,
-}
+use fm_base::NoMemory;
 
-/// How a run ended.
+/// How a run ended, beside the path of the file that it ended at.
 #[derive(Clone, Copy, Debug, PartialEq, Eq)]
 pub enum End {
     /// Every step was done.
     Done,
     /// The words aren't those of a command.
     BadWords,
-    /// A file or a request was refused, with the number of the refusal.
-    Refused(Subject, u16),
+    /// A file was refused, with the number of the refusal.
+    Refused(u16),
     /// Memory ran out.
     NoMemory,
     /// A file couldn't be read.
-    FileFault(Subject),
+    FileFault,
     /// The line of what was done couldn't be written.
     SinkFault,
     /// The link failed.
     LinkFault,
     /// No file lies at the path.
-    NoFile(Subject),
+    NoFile,
     /// The length of the file in bytes, which is over the limit.
-    TooLong(Subject, u64),
-    /// The input ended before the request did.
+    TooLong(u64),
+    /// The link ended before a step had its replies.
     InputEnded,
 }
 
-// The number of the refusal of what isn't read yet: a file of another form, or another request.
-pub(crate) const NOT_YET_READ: u16 = 60;
-
-// The number of the refusal of a file whose name marks no run.
-pub(crate) const NO_RUN_TIME: u16 = 45;
-
-// The number of the refusal of a file whose run is no instant.
-pub(crate) const RUN_OUT_OF_RANGE: u16 = 55;
+// The number of the refusal of a file for which a collection has no room.
+pub(crate) const NO_ROOM: u16 = 61;
 
 impl End {
     /// The status of a program that ends so.
@@ -52,13 +40,24 @@ impl End {
         match self {
             End::Done => 0,
             End::BadWords => 2,
-            End::Refused(_, _) => 3,
+            End::Refused(_) => 3,
             End::NoMemory => 4,
-            End::FileFault(_) => 5,
+            End::FileFault => 5,
             End::SinkFault => 7,
             End::LinkFault => 9,
-            End::NoFile(_) | End::TooLong(_, _) => 10,
+            End::NoFile | End::TooLong(_) => 10,
             End::InputEnded => 11,
         }
+    }
+}
+
+impl From<NoMemory> for End {
+    ghost use Rattle.std.specs.Prelude.{◌≡◌};
+    ghost use Rattle.srv_run.specs.declared.end.End.TheVariants as ends;
+
+    ghost from_gives = { λ _ end. end ≡ ends.NoMemory };
+
+    fn from(_error: NoMemory) -> End {
+        End::NoMemory
     }
 }

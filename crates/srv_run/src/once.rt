@@ -1,71 +1,130 @@
-//! The command that reads a prototype and a file, and replies to one request over the collection of that file.
-ghost use Rattle.std.specs.Prelude.{◌≡◌, Ok, IfSome};
-ghost use Rattle.srv_run.specs.Best.{IsLoaded, reply_to};
+//! The command that does steps on a collection, and serves it on one connection.
+ghost use Rattle.std.specs.Prelude.{◌≡◌, ◌≤◌, ◌⊎◌, IfErr, IfOk, OnOk, length};
+ghost use Rattle.fm_model.specs.Site.{IsPrototype, IsSite};
+ghost use Rattle.fm_world.specs.Shown.{world_shown};
+ghost use Rattle.web_session.specs.State.{fresh};
 ghost use Rattle.srv_run.specs.Once as spec;
-ghost use Rattle.srv_run.specs.Request.{asked_by};
-ghost use Rattle.srv_run.specs.Seen.{seen};
-ghost use Rattle.srv_run.specs.Steps.{IsEndOfOnce, IsFromRequest, file_faults_after, link_faults_after};
+ghost use Rattle.srv_run.specs.Steps.{Does, path_of, progress, RestsUnlessEnded};
 
-use crate::best::reply_over;
-use crate::end::{End, NOT_YET_READ, Subject};
-use crate::file::{Loaded, load};
-use crate::request::{Asked, take_asked};
-use crate::words::Command;
-use fm_base::Fail;
-use fm_world::{Files, Link, put_all};
+use crate::end::End;
+use crate::reading::{content_of, proto_of};
+use crate::report::report;
+use crate::service::Service;
+use fm_base::{Arc, NoMemory};
+use fm_model::{Proto, Site};
+use fm_world::{Files, Link, Sink, World};
+use pub_plain::Plain;
+use srv_words::Step;
 use std::alloc::Global;
+use web_session::Session;
 
-// Takes the request and sends the reply.
-fn ask<L: Link>(alloc: Global, name: &[u8], loaded: &Loaded, link: &mut L) -> End
-    requires { IsLoaded loaded.now }
-    ensures from { IsFromRequest result }
-    ensures input { IfSome (L.shown link.old).held (λ wire.
-        spec.AccordsInput result (asked_by name.now wire.left)) }
-    ensures exchanged { IfSome (L.shown link.old).held (λ wire.
-        spec.Exchanged result name.now
-        (reply_to name.now (asked_by name.now wire.left) (Ok loaded.now)) wire (L.shown link.new).held) }
-    ensures cause { (L.shown link.new).faults ≡ link_faults_after (L.shown link.old).faults result }
+// Reads the file at a path as the prototype of a collection.
+fn read_prototype<F: Files>(
+    alloc: Global,
+    files: &mut F,
+    site: Site,
+    path: &[u8],
+) -> Result<Proto, End>
+    requires { IsSite site }
+    ensures opens { IfOk result (spec.Opens site path.now (F.shown files.old)) }
+    ensures same { OnOk result (F.shown files.new ≡ F.shown files.old) }
+    ensures sound { IfOk result IsPrototype }
+    ensures ends { IfErr result (spec.EndsOpening site path.now (F.shown files.old) (F.shown files.new)) }
 {
-    let content = match take_asked(alloc, name, link) {
-        Ok(Asked::Whole(content)) => content,
-        Ok(Asked::Ended) => return End::InputEnded,
-        Ok(Asked::Differs) => return End::Refused(Subject::Request, NOT_YET_READ),
-        Err(Fail::NoMemory) => return End::NoMemory,
-        Err(Fail::Fault(_failed)) => return End::LinkFault,
-    };
-    let Ok(reply) = reply_over(alloc, name, content, loaded) else {
-        return End::NoMemory;
-    };
-    let Ok(()) = put_all(link, reply.as_slice()) else {
-        return End::LinkFault;
-    };
-    End::Done
+    let bytes = content_of(alloc, files, path)?;
+    proto_of(alloc, bytes, site)
 }
 
-// Does what the command asks for.
-#[tactic(auto, using(crate::proofs::EndLemmas::ends))]
-pub(crate) fn once<F: Files, L: Link>(
+// The collection over a prototype to which nothing was published, and a connection at its start.
+#[tactic(auto, using(crate::proofs::SessionLemmas::sessions))]
+fn service_over(alloc: Global, proto: Proto) -> Result<Service, NoMemory>
+    requires { IsPrototype proto }
+    ensures proto { IfOk result (λ service. service.proto ≡ proto) }
+    ensures plain { IfOk result (λ service. service.plain ≡ spec.opened proto) }
+    ensures session { IfOk result (λ service. service.session ≡ fresh) }
+    ensures rests { IfOk result (λ service. RestsUnlessEnded service.session) }
+{
+    let proto = Arc::new(alloc, proto)?;
+    let plain = Plain::open(alloc, proto.share()?)?;
+    let session = Session::new(alloc)?;
+    Ok(Service {
+        proto,
+        plain,
+        session,
+    })
+}
+
+// The path of the file that a step reads.
+fn step_path(step: &Step) -> &[u8]
+    ensures { result.now ≡ path_of step.now }
+{
+    match step {
+        Step::Put(path) => path.as_slice(),
+        Step::Expire(_) | Step::Retract(_) | Step::Ask(_) => b"",
+    }
+}
+
+// Does the steps in their order up to the first that isn't done, and returns how that ends and the path of its file.
+fn do_steps<'a, F: Files, L: Link>(
     alloc: Global,
-    command: &Command<'_>,
+    service: &mut Service,
+    steps: &'a [Step],
     files: &mut F,
     link: &mut L,
-) -> End
-    ensures files { IfSome (F.shown files.old).held (λ held.
-        spec.AccordsFiles result (spec.read_or_end Subject.Prototype (held command.now.proto.now))
-        (spec.loaded_or_end (seen command.now) held)) }
-    ensures input { IfSome (L.shown link.old).held (λ wire.
-        spec.AccordsInput result (asked_by command.now.name.now wire.left)) }
-    ensures exchanged { IfSome (F.shown files.old).held (λ held. IfSome (L.shown link.old).held (λ wire.
-        spec.Exchanged result command.now.name.now
-        (reply_to command.now.name.now (asked_by command.now.name.now wire.left)
-        (spec.loaded_or_end (seen command.now) held)) wire (L.shown link.new).held)) }
-    ensures same { (F.shown files.new).held ≡ (F.shown files.old).held }
-    ensures file_cause { (F.shown files.new).faults ≡ file_faults_after (F.shown files.old).faults result }
-    ensures link_cause { (L.shown link.new).faults ≡ link_faults_after (L.shown link.old).faults result }
-    ensures end { IsEndOfOnce result }
+) -> (End, &'a [u8])
+    requires { RestsUnlessEnded service.old.session }
+    ensures { Does steps.entry.now
+        (progress (F.shown files.old) service.old.plain service.old.session (L.shown link.old))
+        (progress (F.shown files.new) service.new.plain service.new.session (L.shown link.new))
+        result.0 result.1.now }
 {
-    match load(alloc, files, command) {
-        Ok(loaded) => ask(alloc, command.name, &loaded, link),
-        Err(end) => end,
+    for step in steps {
+        if let Err(end) = service.step(alloc, step, files, link) {
+            return (end, step_path(step));
+        }
     }
+    (End::Done, b"")
+}
+
+// Reads the prototype and does the steps, and returns how that ends and the path of the file at which it does.
+#[tactic(auto, using(crate::proofs::OnceLemmas::runs))]
+fn run_steps<'a, F: Files, L: Link>(
+    alloc: Global,
+    site: Site,
+    path: &'a [u8],
+    steps: &'a [Step],
+    files: &mut F,
+    link: &mut L,
+) -> (End, &'a [u8])
+    requires { IsSite site }
+    ensures { spec.RunsSteps site path.entry.now steps.entry.now (F.shown files.old) (F.shown files.new)
+        (L.shown link.old) (L.shown link.new) result.0 result.1.now
+        ⊎ spec.EndsAtPrototype site path.entry.now (F.shown files.old) (F.shown files.new)
+        (L.shown link.old) (L.shown link.new) result.0 result.1.now }
+{
+    let proto = match read_prototype(alloc, files, site, path) {
+        Ok(proto) => proto,
+        Err(end) => return (end, path),
+    };
+    let Ok(mut service) = service_over(alloc, proto) else {
+        return (End::NoMemory, path);
+    };
+    do_steps(alloc, &mut service, steps, files, link)
+}
+
+// Runs `once`, and writes the line of how it ended.
+pub(crate) fn once<F: Files, L: Link, S: Sink>(
+    alloc: Global,
+    site: Site,
+    path: &[u8],
+    steps: &[Step],
+    world: &mut World<F, L, S>,
+) -> End
+    requires { IsSite site }
+    ensures { let shown = world_shown F.shown L.shown S.shown in
+        spec.RunsOnce site path.now steps.now result (shown world.old) (shown world.new) }
+{
+    let (end, at) = run_steps(alloc, site, path, steps, &mut world.files, &mut world.link);
+    let _written = report(&mut world.sink, end, at);
+    end
 }

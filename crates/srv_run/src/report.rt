@@ -4,10 +4,8 @@ ghost use Rattle.std.specs.List.{flat_map};
 ghost use Rattle.fm_world.specs.Cause.{HasCause};
 ghost use Rattle.srv_run.specs.Report as spec;
 ghost use Rattle.srv_run.specs.Report.{Appends};
-ghost use Rattle.srv_run.specs.Seen.{seen};
 
-use crate::end::{End, Subject};
-use crate::words::Command;
+use crate::end::End;
 use fm_world::{Failed, Sink};
 use itoa::Buffer;
 
@@ -24,20 +22,9 @@ pub(crate) fn put_pieces<S: Sink>(sink: &mut S, pieces: &[&[u8]]) -> Result<(), 
     Ok(())
 }
 
-#[tactic(auto, unfolding(crate::specs::Report::subject_text))]
-fn subject_of<'a>(command: &Command<'a>, subject: Subject) -> &'a [u8]
-    ensures { result.now ≡ spec.subject_text (seen command.now) subject }
-{
-    match subject {
-        Subject::Prototype => command.proto,
-        Subject::File => command.path,
-        Subject::Request => b"ask",
-    }
-}
-
 #[tactic(auto, unfolding(crate::specs::Report::refused_line))]
-fn put_refused<S: Sink>(sink: &mut S, subject: &[u8], code: u16) -> Result<(), Failed>
-    ensures put { Appends (spec.refused_line subject.now code) (S.shown sink.old).held (S.shown sink.new).held result }
+fn put_refused<S: Sink>(sink: &mut S, path: &[u8], code: u16) -> Result<(), Failed>
+    ensures put { Appends (spec.refused_line path.now code) (S.shown sink.old).held (S.shown sink.new).held result }
     ensures cause { HasCause (S.shown sink.old).faults (S.shown sink.new).faults result }
 {
     let mut digits = Buffer::new();
@@ -46,7 +33,7 @@ fn put_refused<S: Sink>(sink: &mut S, subject: &[u8], code: u16) -> Result<(), F
         sink,
         &[
             b"refused ".as_slice(),
-            subject,
+            path,
             b" code ".as_slice(),
             code,
             b"\n".as_slice(),
@@ -55,8 +42,8 @@ fn put_refused<S: Sink>(sink: &mut S, subject: &[u8], code: u16) -> Result<(), F
 }
 
 #[tactic(auto, unfolding(crate::specs::Report::too_long_line))]
-fn put_too_long<S: Sink>(sink: &mut S, subject: &[u8], len: u64) -> Result<(), Failed>
-    ensures put { Appends (spec.too_long_line subject.now len) (S.shown sink.old).held (S.shown sink.new).held result }
+fn put_too_long<S: Sink>(sink: &mut S, path: &[u8], len: u64) -> Result<(), Failed>
+    ensures put { Appends (spec.too_long_line path.now len) (S.shown sink.old).held (S.shown sink.new).held result }
     ensures cause { HasCause (S.shown sink.old).faults (S.shown sink.new).faults result }
 {
     let mut digits = Buffer::new();
@@ -65,7 +52,7 @@ fn put_too_long<S: Sink>(sink: &mut S, subject: &[u8], len: u64) -> Result<(), F
         sink,
         &[
             b"too long ".as_slice(),
-            subject,
+            path,
             b" ".as_slice(),
             len,
             b"\n".as_slice(),
@@ -74,39 +61,36 @@ fn put_too_long<S: Sink>(sink: &mut S, subject: &[u8], len: u64) -> Result<(), F
 }
 
 #[tactic(auto, unfolding(crate::specs::Report::file_fault_line))]
-fn put_file_fault<S: Sink>(sink: &mut S, subject: &[u8]) -> Result<(), Failed>
-    ensures put { Appends (spec.file_fault_line subject.now) (S.shown sink.old).held (S.shown sink.new).held result }
+fn put_file_fault<S: Sink>(sink: &mut S, path: &[u8]) -> Result<(), Failed>
+    ensures put { Appends (spec.file_fault_line path.now) (S.shown sink.old).held (S.shown sink.new).held result }
     ensures cause { HasCause (S.shown sink.old).faults (S.shown sink.new).faults result }
 {
-    put_pieces(
-        sink,
-        &[b"file fault ".as_slice(), subject, b"\n".as_slice()],
-    )
+    put_pieces(sink, &[b"file fault ".as_slice(), path, b"\n".as_slice()])
 }
 
 #[tactic(auto, unfolding(crate::specs::Report::no_file_line))]
-fn put_no_file<S: Sink>(sink: &mut S, subject: &[u8]) -> Result<(), Failed>
-    ensures put { Appends (spec.no_file_line subject.now) (S.shown sink.old).held (S.shown sink.new).held result }
+fn put_no_file<S: Sink>(sink: &mut S, path: &[u8]) -> Result<(), Failed>
+    ensures put { Appends (spec.no_file_line path.now) (S.shown sink.old).held (S.shown sink.new).held result }
     ensures cause { HasCause (S.shown sink.old).faults (S.shown sink.new).faults result }
 {
-    put_pieces(sink, &[b"no file ".as_slice(), subject, b"\n".as_slice()])
+    put_pieces(sink, &[b"no file ".as_slice(), path, b"\n".as_slice()])
 }
 
-// Writes the line of an end, or its first bytes where the sink fails. It takes no memory.
+// Writes the line of an end at the file at a path, or its first bytes where the sink fails. It takes no memory.
 #[tactic(auto, unfolding(crate::specs::Report::line_of))]
-pub(crate) fn report<S: Sink>(sink: &mut S, command: &Command<'_>, end: End) -> Result<(), Failed>
-    ensures put { Appends (spec.line_of (seen command.now) end) (S.shown sink.old).held (S.shown sink.new).held result }
+pub(crate) fn report<S: Sink>(sink: &mut S, end: End, path: &[u8]) -> Result<(), Failed>
+    ensures put { Appends (spec.line_of end path.now) (S.shown sink.old).held (S.shown sink.new).held result }
     ensures cause { HasCause (S.shown sink.old).faults (S.shown sink.new).faults result }
 {
     match end {
         End::Done | End::SinkFault => Ok(()),
         End::BadWords => sink.put(b"bad words\n"),
-        End::Refused(subject, code) => put_refused(sink, subject_of(command, subject), code),
+        End::Refused(code) => put_refused(sink, path, code),
         End::NoMemory => sink.put(b"no memory\n"),
-        End::FileFault(subject) => put_file_fault(sink, subject_of(command, subject)),
+        End::FileFault => put_file_fault(sink, path),
         End::LinkFault => sink.put(b"link fault\n"),
-        End::NoFile(subject) => put_no_file(sink, subject_of(command, subject)),
-        End::TooLong(subject, len) => put_too_long(sink, subject_of(command, subject), len),
+        End::NoFile => put_no_file(sink, path),
+        End::TooLong(len) => put_too_long(sink, path, len),
         End::InputEnded => sink.put(b"input ended\n"),
     }
 }

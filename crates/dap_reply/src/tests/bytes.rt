@@ -1,74 +1,28 @@
 //! Bytes and texts, whose data isn't of whole words.
 
-use super::asking::{collection_over, get, plan_for, put_run, shown};
-use fm_base::{List, NoMemory};
-use fm_sample::{KINDS, SAMPLE};
+use super::asking::{collection_over, get, plan_for, put_first, shown};
+use fm_sample::File;
+use pub_plain::Plain;
 use std::alloc::Global;
+use std::process::Abort;
 use std::test::Fail;
 
-// The words of a file: the variable `time` as in the sample with its first time alone, and five bytes, `b`.
-fn words(alloc: Global) -> Result<List<u32>, NoMemory> {
-    let mut words = List::new(alloc);
-    for word in [
-        0x4344_4601,
-        0,
-        0xa,
-        2,
-        4,
-        0x7469_6d65,
-        1,
-        1,
-        0x7800_0000,
-        5,
-        0,
-        0,
-        0xb,
-        2,
-    ] {
-        words.push(word)?;
-    }
-    let (front, _) = SAMPLE.split_at(39);
-    let (_, time) = front.split_at(17);
-    for word in time {
-        words.push(*word)?;
-    }
-    for word in [
-        184,
-        1,
-        0x6200_0000,
-        1,
-        1,
-        0,
-        0,
-        1,
-        8,
-        188,
-        SAMPLE[73],
-        0x0102_0304,
-        0xff00_0000,
-    ] {
-        words.push(word)?;
-    }
-    Ok(words)
+// The collection of each kind, with its first run.
+fn kinds(rt: &impl Abort, alloc: Global) -> Result<Plain, Fail> {
+    let mut plain = collection_over(alloc, File::Kinds.bytes(alloc)?)?;
+    put_first(rt, alloc, &mut plain, File::Kinds)?;
+    Ok(plain)
 }
 
 #[test]
 fn an_array_of_bytes_ends_in_zero_bytes(rt: HostRuntime) -> Result<(), Fail> {
     let alloc = rt.alloc();
-    let words = words(alloc)?;
-    let mut plain = collection_over(alloc, words.as_slice())?;
-    put_run(
-        &rt,
-        alloc,
-        &mut plain,
-        b"gfs_20240101_0000.nc",
-        words.as_slice(),
-    )?;
+    let mut plain = kinds(&rt, alloc)?;
     let plan = plan_for(
         alloc,
         &mut plain,
         get(),
-        b"/thredds/dodsC/gfs/gfs_best.ncd.dods?b",
+        b"/thredds/dodsC/gfs/gfs_best.ncd.dods?five",
     )?;
     assert!(&rt; shown(&rt, alloc, &plan)?.as_slice() == BYTES.as_bytes());
     Ok(())
@@ -77,8 +31,7 @@ fn an_array_of_bytes_ends_in_zero_bytes(rt: HostRuntime) -> Result<(), Fail> {
 #[test]
 fn texts_go_without_their_zero_bytes(rt: HostRuntime) -> Result<(), Fail> {
     let alloc = rt.alloc();
-    let mut plain = collection_over(alloc, &KINDS)?;
-    put_run(&rt, alloc, &mut plain, b"gfs_20240101_0000.nc", &KINDS)?;
+    let mut plain = kinds(&rt, alloc)?;
     let plan = plan_for(
         alloc,
         &mut plain,
@@ -95,11 +48,11 @@ XDODS-Server: dods/3.2\r
 Content-Description: dods_data\r
 Content-Type: application/octet-stream\r
 X-Collection-Revision: 1\r
-Content-Length: 67\r
+Content-Length: 70\r
 Connection: keep-alive\r
 \r
 Dataset {
-    Byte b[x = 5];
+    Byte five[m = 5];
 } gfs_best.ncd;
 Data:
 00000005 00000005 01020304 ff000000

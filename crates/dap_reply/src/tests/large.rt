@@ -1,10 +1,10 @@
 //! A reply over the limit, one variable of which is within it: 128 variables of 1,048,576 numbers, which all have the same
 //! bytes of one file of 4 MB.
 
-use super::asking::{collection_over, get, in_pieces, plan_for, put_run};
+use super::asking::{collection_over, get, in_pieces, plan_for, put_bytes};
 use crate::Plan;
-use fm_base::{List, NoMemory};
-use fm_sample::SAMPLE;
+use fm_base::{Bytes, List, NoMemory};
+use nc_sample::{SAMPLE, bytes_of};
 use pub_plain::Plain;
 use std::alloc::Global;
 use std::process::Abort;
@@ -67,17 +67,16 @@ fn put_variable(number: u32, words: &mut List<u32>) -> Result<(), NoMemory> {
     Ok(())
 }
 
+// The bytes of the file.
+fn file(alloc: Global) -> Result<Bytes, NoMemory> {
+    let words = words(alloc)?;
+    bytes_of(alloc, words.as_slice())
+}
+
 // The collection with this file as its prototype and its run.
 fn collection(rt: &impl Abort, alloc: Global) -> Result<Plain, Fail> {
-    let words = words(alloc)?;
-    let mut plain = collection_over(alloc, words.as_slice())?;
-    put_run(
-        rt,
-        alloc,
-        &mut plain,
-        b"gfs_20240101_0000.nc",
-        words.as_slice(),
-    )?;
+    let mut plain = collection_over(alloc, file(alloc)?)?;
+    put_bytes(rt, alloc, &mut plain, b"gfs_20240101_0000.nc", file(alloc)?)?;
     Ok(plain)
 }
 

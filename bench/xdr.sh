@@ -1,0 +1,253 @@
+#!/bin/sh
+# Shows how fast whole parts of 100 MiB are written as XDR in pieces of 8,192 bytes, beside a plain copy of as many bytes in
+# such pieces: of numbers of four and eight bytes, which may fall to 0.7 of the copy's speed, and of two bytes, which are
+# widened, and may fall to 0.4. Then it shows what one piece costs at places from the front of a part to its end.
+# Use: bench/xdr.sh.
+set -eu
+top=$(cd "$(dirname "$0")/.." && pwd)
+folder=$(mktemp -d)
+trap 'rm -r "$folder"' EXIT
+crates='fm_base fm_bits nc_sample nc_header nc_layout nc_array tm_units dap_model dap_dds fm_model fm_edition
+fm_views fm_file fm_proto fm_load fm_sample fm_dataset fm_shown dap_xdr'
+mkdir -p "$folder/crates/send_parts/src"
+for crate in $crates; do
+    cp -r "$top/crates/$crate" "$folder/crates/$crate"
+    grep -E "^$crate:" "$top/crates.txt" >> "$folder/crates.txt"
+done
+echo send_parts: $crates >> "$folder/crates.txt"
+cat > "$folder/crates/send_parts/src/main.rt" << 'PROGRAM'
+//! `PROGRAM PROTO FILE PLAIN` makes the best time series of a file over a prototype. Of each declaration after the axis, but
+//! for the runs and the offsets, it says how many microseconds all of its array takes in pieces, and how many a plain copy of
+//! the bytes of the last file takes; and then how many nanoseconds a thousand pieces take at five places.
+#![tactic(auto)]
+ghost use Rattle.std.specs.Prelude.{◌<◌, ◌^◌, IsSomeAnd, length};
+ghost use Rattle.dap_xdr.specs.Content.{array_in, part_data, FitsArray};
+ghost use Rattle.dap_xdr.specs.Datasets.{content_of};
+
+use dap_model::{Array, Decl, Sent, Slab};
+use dap_xdr::{fits, xdr_len, xdr_piece};
+use fm_base::{Bytes, List, NoMemory};
+use fm_dataset::Dataset;
+use fm_model::ViewName;
+use fm_sample::{edition_of, edition_with};
+use fm_shown::shown;
+use std::alloc::Global;
+use std::rt::Clock;
+use std::time::Instant;
+use std::{env, fs, io};
+
+const PIECE: usize = 8_192;
+
+// The best time series of a file over a prototype.
+fn best(alloc: Global, proto: Bytes, file: Bytes) -> Option<Dataset> {
+    let empty = edition_of(alloc, proto).ok()?;
+    let edition = edition_with(alloc, &empty, b"gfs_20240101_0000.nc", file).ok()?;
+    shown(alloc, &edition, &ViewName::Best, b"gfs_best.ncd").ok()
+}
+
+fn array_of(decl: &Decl) -> Option<&Array> {
+    match decl {
+        Decl::Plain(array) => Some(array),
+        Decl::Grid { array, .. } => Some(array),
+        Decl::Structure { .. } => None,
+    }
+}
+
+// All of an array.
+fn whole_of(alloc: Global, decl: u32, array: &Array) -> Result<Sent, NoMemory> {
+    let mut slabs = List::new(alloc);
+    for dim in array.dims.as_slice() {
+        slabs.push(Slab {
+            start: 0,
+            stride: 1,
+            stop: dim.size.wrapping_sub(1),
+        })?;
+    }
+    Ok(Sent {
+        decl,
+        part: 0,
+        slabs,
+    })
+}
+
+// Writes a part in pieces.
+fn in_pieces<R: Print + Clock>(rt: &R, set: &Dataset, sent: &Sent, len: u64) -> io::Result<()>
+    requires part { IsSomeAnd (array_in (content_of set.now).decls sent.now.decl sent.now.part)
+        (FitsArray sent.now) }
+    requires small { length (part_data (content_of set.now) sent.now) < 2 ^ 64 }
+{
+    let mut room = [0; PIECE];
+    let mut sum = 0_u64;
+    let mut from = 0_u64;
+    let start = Instant::now(rt)?;
+    for _ in 0..=len / PIECE as u64 {
+        let count = xdr_piece(set, sent, from, &mut room);
+        from = from.wrapping_add(count as u64);
+        sum = sum.wrapping_add(u64::from(room[7]));
+    }
+    let took = start.elapsed(rt)?;
+    println!(rt; "pieces {} {from} {} {sum}", sent.decl, took.as_micros())
+}
+
+// Writes one piece of a part a thousand times.
+fn one_piece<R: Print + Clock>(rt: &R, set: &Dataset, sent: &Sent, from: u64) -> io::Result<()>
+    requires part { IsSomeAnd (array_in (content_of set.now).decls sent.now.decl sent.now.part)
+        (FitsArray sent.now) }
+    requires small { length (part_data (content_of set.now) sent.now) < 2 ^ 64 }
+{
+    let mut room = [0; PIECE];
+    let mut sum = 0_u64;
+    let start = Instant::now(rt)?;
+    for _ in 0..1_000 {
+        let count = xdr_piece(set, sent, from, &mut room);
+        sum = sum.wrapping_add(count as u64).wrapping_add(u64::from(room[7]));
+    }
+    let took = start.elapsed(rt)?;
+    println!(rt; "piece {} {from} {} {sum}", sent.decl, took.as_nanos())
+}
+
+// Copies some bytes in pieces.
+fn plain<R: Print + Clock>(rt: &R, bytes: &[u8]) -> io::Result<()> {
+    let mut room = [0; PIECE];
+    let mut sum = 0_u64;
+    let mut rest = bytes;
+    let start = Instant::now(rt)?;
+    for _ in 0..bytes.len() / PIECE {
+        if rest.len() < PIECE {
+            break;
+        }
+        let (piece, more) = rest.split_at(PIECE);
+        room.copy_from_slice(piece);
+        sum = sum.wrapping_add(u64::from(room[7]));
+        rest = more;
+    }
+    let took = start.elapsed(rt)?;
+    println!(rt; "plain 0 {} {} {sum}", bytes.len().wrapping_sub(rest.len()), took.as_micros())
+}
+
+fn measured<R: Print + Clock>(rt: &R, set: &Dataset, sent: &Sent, copy: &[u8]) -> io::Result<()> {
+    if !fits(set, sent) {
+        return println!(rt; "no part");
+    }
+    let len = xdr_len(set, sent);
+    if len > u128::from(u64::MAX) {
+        return println!(rt; "too long");
+    }
+    let len = len as u64;
+    for _ in 0..5 {
+        in_pieces(rt, set, sent, len)?;
+        plain(rt, copy)?;
+        for place in 0..5_u64 {
+            one_piece(rt, set, sent, (len / 4).wrapping_sub(PIECE as u64).wrapping_mul(place))?;
+        }
+    }
+    Ok(())
+}
+
+fn all_measured<R: Print + Clock>(
+    rt: &R,
+    alloc: Global,
+    set: &Dataset,
+    copy: &[u8],
+) -> io::Result<()> {
+    let decls = set.decls().as_slice();
+    let count = decls.len().saturating_sub(2);
+    for (number, decl) in decls.iter().take(count).enumerate().skip(1) {
+        let Some(array) = array_of(decl) else {
+            return println!(rt; "no array");
+        };
+        let Ok(sent) = whole_of(alloc, number as u32, array) else {
+            return println!(rt; "no memory");
+        };
+        measured(rt, set, &sent, copy)?;
+    }
+    Ok(())
+}
+
+fn main(rt: HostRuntime) -> io::Result<()> {
+    let mut files = Vec::new(rt.alloc());
+    for path in env::args(&rt)?.skip(1) {
+        let items = fs::read(&rt, path.as_str())?;
+        files.push(Bytes { items })?;
+    }
+    let (Some(copy), Some(file), Some(proto)) = (files.pop(), files.pop(), files.pop()) else {
+        return println!(&rt; "three files");
+    };
+    match best(rt.alloc(), proto, file) {
+        Some(set) => all_measured(&rt, rt.alloc(), &set, copy.as_slice()),
+        None => println!(&rt; "no dataset"),
+    }
+}
+PROGRAM
+(cd "$folder/crates/send_parts" && rt run > "$folder/build.log" 2>&1) || {
+    cat "$folder/build.log" >&2
+    exit 1
+}
+
+# A file of 100 records of a time and four variables, each of which is sent as 1 MiB, and one of one record that is the
+# prototype. The variables are holes of the file.
+python3 - "$folder" << 'PYTHON'
+import struct
+import sys
+
+VARS = ((b"f\0\0\0", 5, 256, 4), (b"i\0\0\0", 4, 256, 4), (b"d\0\0\0", 6, 128, 8), (b"s\0\0\0", 3, 256, 2))
+
+
+def words(*numbers):
+    return struct.pack(">%dI" % len(numbers), *numbers)
+
+
+def write(path, records):
+    begin = 0
+    for _ in range(2):
+        dims = words(10, 4, 4) + b"time" + words(0, 1) + b"y\0\0\0" + words(256, 1) + b"h\0\0\0" + words(128)
+        dims += words(1) + b"x\0\0\0" + words(1024)
+        units = words(12, 1, 5) + b"units\0\0\0" + words(2, 33) + b"seconds since 2020-01-01 00:00:00\0\0\0"
+        head = b"CDF\1" + words(records) + dims + words(0, 0, 11, 5)
+        head += words(4) + b"time" + words(1, 0) + units + words(4, 4, begin)
+        at = begin + 4
+        for name, kind, height, size in VARS:
+            head += words(1) + name + words(3, 0, 1 if height == 256 else 2, 3, 0, 0, kind, height * 1024 * size, at)
+            at += height * 1024 * size
+        begin = len(head)
+    with open(path, "wb") as file:
+        file.write(head)
+        for record in range(records):
+            file.write(words(3600 * record))
+            file.seek(sum(height * 1024 * size for _, _, height, size in VARS), 1)
+        file.truncate(file.tell())
+
+
+write(sys.argv[1] + "/proto.nc", 1)
+write(sys.argv[1] + "/large.nc", 100)
+with open(sys.argv[1] + "/plain", "wb") as file:
+    file.truncate(100 * 1024 * 1024)
+PYTHON
+
+"$folder/crates/send_parts/out/send_parts" "$folder/proto.nc" "$folder/large.nc" "$folder/plain" \
+    > "$folder/figures"
+python3 - "$folder" << 'PYTHON'
+import sys
+
+KINDS = {"1": ("Float", 0.7), "2": ("Int", 0.7), "3": ("Double", 0.7), "4": ("Short", 0.4)}
+pieces, places, plain = {}, {}, []
+for line in open(sys.argv[1] + "/figures"):
+    words = line.split()
+    if len(words) != 5:
+        sys.exit(line)
+    what, decl, count, took = words[0], words[1], int(words[2]), int(words[3])
+    if what == "plain":
+        plain.append(took)
+    elif what == "pieces":
+        pieces.setdefault(decl, []).append((took, count))
+    else:
+        places.setdefault(decl, {}).setdefault(count, []).append(took)
+bad = False
+for decl, (kind, least) in KINDS.items():
+    took, count = min(pieces[decl])
+    ratio = min(plain) / took
+    bad = bad or ratio < least or count != 104857608
+    print("%s: %d bytes in pieces in %d us, plain copy in %d us, %.2f of its speed" % (kind, count, took, min(plain), ratio))
+    print("    a piece at " + ", ".join("%d: %d ns" % (at, min(each) / 1000) for at, each in sorted(places[decl].items())))
+sys.exit(bad)
+PYTHON

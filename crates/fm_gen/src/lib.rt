@@ -1,0 +1,10 @@
+//! Large netCDF files that are made of two numbers.
+#![tactic(auto)]
+
+mod fields;
+mod file;
+#[cfg(test)]
+mod tests;
+mod values;
+
+pub use file::make_file;

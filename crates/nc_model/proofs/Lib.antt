@@ -1,5 +1,0 @@
-pub mod InstantLemmas
-pub mod SmallShape
-pub mod SoundThin
-pub mod SpellingOfThin
-pub mod ThinLemmas

@@ -1,0 +1,38 @@
+-- Beginnings of one list.
+use Rattle.std.proofs.Common.{◌≡◌, ◌≤◌, List, [], ◌∷◌, ◌++◌, length, refl, ap, sym, ◌∙◌, arith, append_assoc}
+use Rattle.std.proofs.lemmas.List.{append-nil}
+use mathlib.Core.List.{IsPrefix}
+use Rattle.fm_model.specs.declared.op.Op.{Op}
+use Rattle.pub_plain.specs.History.{Continues}
+
+pub continues_itself : (xs : List Op) → Continues xs xs
+continues_itself xs = ([], sym (append-nil xs))
+
+pub continues_on : (xs ys zs : List Op) → Continues xs ys → Continues ys zs → Continues xs zs
+continues_on xs ys zs p q = (p.0 ++ q.0, q.1 ∙ (ap (λ w. w ++ q.0) p.1 ∙ append_assoc xs p.0 q.0))
+
+-- a list that another begins goes on from it
+pub continues : (xs ys : List Op) → IsPrefix xs ys → Continues xs ys
+continues xs ys p = (p.0, sym p.1)
+
+-- of two beginnings of one list the shorter begins the longer
+pub shorter_begins : {A : Type 0} (xs ys zs : List A) → IsPrefix xs zs → IsPrefix ys zs → length xs ≤ length ys
+    → IsPrefix xs ys
+shorter_begins [] ys zs p q le = (ys, refl)
+shorter_begins (x ∷ xs) [] zs p q le = absurd (omega arith)
+shorter_begins (x ∷ xs) (y ∷ ys) [] p q le = absurd (cc (p.1))
+shorter_begins (x ∷ xs) (y ∷ ys) (z ∷ zs) p q le =
+    let heads : x ≡ y = cc (p.1, q.1) in
+    let rest = shorter_begins xs ys zs (p.0, cc (p.1)) (q.0, cc (q.1)) (omega arith) in
+    (rest.0, cc (heads, rest.1))
+
+-- a beginning as long as the whole is the whole
+pub whole : {A : Type 0} (xs ys : List A) → IsPrefix xs ys → length ys ≤ length xs → xs ≡ ys
+whole [] [] p le = refl
+whole [] (y ∷ ys) p le = absurd (omega arith)
+whole (x ∷ xs) [] p le = absurd (cc (p.1))
+whole (x ∷ xs) (y ∷ ys) p le = let rest = whole xs ys (p.0, cc (p.1)) (omega arith) in cc (p.1, rest)
+
+-- of two lists of one length that one begins, both are the same
+pub same_length : (xs ys : List Op) → Continues xs ys → length ys ≡ length xs → ys ≡ xs
+same_length xs ys p e = sym (whole xs ys (p.0, sym p.1) (omega (arith, e)))

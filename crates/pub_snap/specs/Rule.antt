@@ -1,0 +1,91 @@
+-- The rule of a publication (`IsKept`), which each step keeps: first its parts, then the rule, then what a step does.
+use Rattle.std.specs.Prelude.{◌≡◌, ℕ, List, [], ◌∷◌, ◌++◌, length, nat_lt, if◌then◌else◌}
+use mathlib.Core.Option.{some}
+use lib.ListN.{get_elem?}
+use Rattle.logbook.specs.Pages.{Book}
+use Rattle.fm_model.specs.declared.op.Op.{Op}
+use Rattle.fm_model.specs.declared.proto.Proto.{Proto}
+use Rattle.fm_edition.specs.Held.{Held}
+use Rattle.fm_edition.specs.Log.{IsLog}
+use Rattle.pub_plain.specs.History.{Continues, Keeps}
+use Rattle.pub_snap.specs.declared.rule.Known.{Known}
+
+-- a copy: an edition, and the beginning of the log that it stands for
+pub record Copy : Type 0 where
+  pub held : Held
+  pub book : Book
+  pub log : List Op
+
+-- all that the seats at the two copies have seen are beginnings of a log
+abbrev pub AllBegin : List Op → List Known → Type 0
+AllBegin log seats = (seat : ℕ) (known : Known) → get_elem? seats seat ≡ some known → Continues known.seen log
+
+-- the copy that readers enter is of this desk and has its prototype, and whatever a seat has seen is a beginning of the
+-- log that it stands for
+pub record IsShown (book : Book) (proto : Proto) (shown : Copy) (seats : List Known) : Type 0 where
+  pub same : shown.book ≡ book
+  pub over : shown.held.proto ≡ proto
+  pub begin : AllBegin shown.log seats
+
+-- the desk's log: each operation could be done to what those before it left, the copy that readers enter stands for all
+-- of it, the writer has seen all of it, and the ledger has a unit for each operation
+pub record IsAtDesk (proto : Proto) (log : List Op) (shown : Copy) (writer : Known) (booked : ℕ) : Type 0 where
+  pub sound : IsLog proto log
+  pub over : shown.held.proto ≡ proto
+  pub whole : shown.log ≡ log
+  pub seen : writer.seen ≡ log
+  pub counted : booked ≡ length log
+
+-- what a pass or a receipt knows is of this desk, and each operation could be done to what those before it left
+pub record IsOf (book : Book) (proto : Proto) (known : Book) (log : List Op) : Type 0 where
+  pub same : known ≡ book
+  pub sound : IsLog proto log
+
+-- each of some lists is a beginning of a log
+abbrev pub AllKnown : List Op → List (List Op) → Type 0
+AllKnown log lists = (i : ℕ) (list : List Op) → get_elem? lists i ≡ some list → Continues list log
+
+-- what stands between two calls of the desk: the log, the copy that readers enter and the other, what the writer and
+-- all seats have seen, what passes have learnt and receipts say, and the total of the ledger
+pub record Publication : Type 0 where
+  pub log : List Op
+  pub shown : Copy
+  pub other : Copy
+  pub writer : Known
+  pub seats : List Known
+  pub learnt : List (List Op)
+  pub booked : ℕ
+
+-- The rule. There is one log, and each of its operations could be done to what those before it left. The copy that
+-- readers enter stands for all of it, the writer has seen all of it, and the ledger has a unit for each operation
+-- (`desk`). That copy is of this desk, and what each seat has seen is a beginning of the log (`readers`). It holds what
+-- the log leaves (`stands`), and the other copy what a beginning of the log leaves (`other`, `before`). What each pass
+-- has learnt and what each receipt says are beginnings of the log (`learnt`).
+pub record IsKept (book : Book) (proto : Proto) (now : Publication) : Type 0 where
+  pub desk : IsAtDesk proto now.log now.shown now.writer now.booked
+  pub readers : IsShown book proto now.shown now.seats
+  pub stands : Keeps now.shown.held now.shown.log
+  pub other : Keeps now.other.held now.other.log
+  pub before : Continues now.other.log now.log
+  pub learnt : AllKnown now.log now.learnt
+
+-- entering: the seat has seen all that the copy stands for, which goes on from what it had seen
+pub record Enters (book : Book) (proto : Proto) (before : Known) (shown : Copy) (after : Known) : Type 0 where
+  pub same : shown.book ≡ book
+  pub over : shown.held.proto ≡ proto
+  pub later : Continues before.seen shown.log
+  pub seen : after.seen ≡ shown.log
+
+-- a copy may be shown after another: it is of this desk, and its log goes on from the other's
+pub record Follows (book : Book) (proto : Proto) (shown next : Copy) : Type 0 where
+  pub same : next.book ≡ book
+  pub over : next.held.proto ≡ proto
+  pub later : Continues shown.log next.log
+
+-- the last of some copies
+abbrev pub EndsWith : List Copy → Copy → Type 0
+EndsWith copies last = (before : List Copy) × (copies ≡ before ++ last ∷ [])
+
+-- the longer of two lists, and the first where they have one length
+abbrev pub longer : List Op → List Op → List Op
+longer own other = if nat_lt (length own) (length other) then other else own

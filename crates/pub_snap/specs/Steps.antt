@@ -1,0 +1,61 @@
+-- The steps of a publication, each as what stands after it.
+use Rattle.std.specs.Prelude.{◌+◌, ℕ, List, [], ◌∷◌, ◌++◌, slice_set}
+use Rattle.logbook.specs.Pages.{Book}
+use Rattle.fm_model.specs.declared.op.Op.{Op}
+use Rattle.fm_model.specs.declared.proto.Proto.{Proto}
+use Rattle.fm_edition.specs.Log.{held_of}
+use Rattle.pub_snap.specs.declared.rule.Known.{Known}
+use Rattle.pub_snap.specs.Rule.{longer, Copy, Publication}
+
+-- the copy of what a log leaves
+abbrev pub copy_of : Book → Proto → List Op → Copy
+copy_of book proto log = record { held = held_of proto log; book = book; log = log }
+
+-- a seat that has seen nothing
+abbrev pub unseated : Known
+unseated = record { seen = []; looks = [] }
+
+-- what is opened, with no seat but the writer's yet
+abbrev pub opened : Book → Proto → Publication
+opened book proto = record {
+  log = [];
+  shown = copy_of book proto [];
+  other = copy_of book proto [];
+  writer = unseated;
+  seats = unseated ∷ [];
+  learnt = [];
+  booked = 0;
+}
+
+-- a pass is made
+abbrev pub with_seat : Publication → Publication
+with_seat now = record now { seats = now.seats ++ unseated ∷ [] }
+
+-- a seat enters the copy that is shown
+abbrev pub entered : Publication → ℕ → List ℕ → Publication
+entered now seat looks =
+    record now { seats = slice_set now.seats seat (record { seen = now.shown.log; looks = looks }) }
+
+-- what the writer has seen once an operation is published
+abbrev pub writer_after : Publication → Op → Known
+writer_after now op = record { seen = now.log ++ op ∷ []; looks = now.writer.looks }
+
+-- the writer, at its seat, adds an operation to the log, shows the copy of what it leaves, and books it
+abbrev pub published : Book → Proto → Publication → ℕ → Op → Publication
+published book proto now seat op = record {
+  log = now.log ++ op ∷ [];
+  shown = copy_of book proto (now.log ++ op ∷ []);
+  other = now.shown;
+  writer = writer_after now op;
+  seats = slice_set now.seats seat (writer_after now op);
+  learnt = now.learnt;
+  booked = now.booked + 1;
+}
+
+-- a receipt is made of the whole log
+abbrev pub receipted : Publication → Publication
+receipted now = record now { learnt = now.learnt ++ now.log ∷ [] }
+
+-- a pass that knows one list learns another
+abbrev pub with_learnt : Publication → ℕ → List Op → List Op → Publication
+with_learnt now place own told = record now { learnt = slice_set now.learnt place (longer own told) }

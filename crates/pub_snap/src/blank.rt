@@ -1,0 +1,141 @@
+//! Opening a desk with its passes and shares.
+ghost use Rattle.std.specs.Prelude.{◌≡◌, ◌≤◌, [], replicate, IfOk};
+ghost use Rattle.fm_model.specs.Site.{IsPrototype};
+ghost use Rattle.pub_snap.specs.Opening.{unused, IsNamed};
+ghost use Rattle.pub_snap.specs.Rule.{IsOf};
+
+use crate::desk::Desk;
+use crate::log::{Front, Page, open};
+use crate::name::Name;
+use crate::pass::Pass;
+use crate::share::{Share, cut};
+use crate::shown::Shown;
+use crate::swap::Board;
+use fm_base::{Arc, List, NoMemory};
+use fm_edition::Edition;
+use fm_model::Proto;
+use left_right::writer::Writer;
+use std::alloc::Global;
+use std::marker::Model;
+use std::sync::ledger;
+
+/// A desk that has no name yet.
+#[derive(Drop)]
+pub struct Blank {
+    page: Page,
+    first: Shown,
+    passes: u32,
+    shares: u32,
+    ledger: ledger::Blank,
+}
+
+impl Model for Blank {
+    ghost use Rattle.std.specs.Prelude.{◌≡◌, ◌<◌, ◌≤◌, []};
+    ghost use Rattle.pub_snap.specs.Opening.{Opening};
+
+    ghost Value = { Opening };
+
+    ghost view = { λ blank. record {
+      book = blank.first.book;
+      ledger = blank.ledger.name;
+      proto = blank.first.held.proto;
+      passes = blank.passes;
+      shares = blank.shares;
+    } };
+
+    ghost invariant = { λ blank. (blank.page.head.book ≡ blank.first.book) × (blank.first.log ≡ [])
+        × (blank.ledger.parts ≡ blank.shares) × (0 < blank.passes) × (blank.passes ≤ 25) };
+}
+
+/// Takes what a desk of the empty collection over a prototype needs, for so many passes and shares.
+pub fn prepare(
+    alloc: Global,
+    proto: Arc<Proto>,
+    passes: u32,
+    shares: u32,
+) -> Result<Blank, NoMemory>
+    requires proto { IsPrototype proto }
+    requires passes { (1 ≤ passes) × (passes ≤ 25) }
+    requires shares { (1 ≤ shares) × (shares ≤ 9) }
+    ensures proto { IfOk result (λ blank. blank.proto ≡ proto) }
+    ensures passes { IfOk result (λ blank. blank.passes ≡ passes) }
+    ensures shares { IfOk result (λ blank. blank.shares ≡ shares) }
+{
+    let edition = Edition::empty(alloc, proto)?;
+    let edition = Arc::new(alloc, edition)?;
+    let (page, front) = open();
+    Ok(Blank {
+        page,
+        first: Shown::of(edition, front),
+        passes,
+        shares,
+        ledger: ledger::Blank::new(u64::from(shares)),
+    })
+}
+
+impl Blank {
+    /// The desk, its passes and its shares, under a name that stands for this blank.
+    pub fn open<N: Name>(
+        self,
+        alloc: Global,
+    ) -> Result<(Desk<N>, List<Pass<N>>, List<Share<N>>), NoMemory>
+        requires { IsNamed self N.book N.name N.proto N.parts }
+        ensures desk { IfOk result (λ opened. opened.0 ≡ []) }
+        ensures passes { IfOk result (λ opened. opened.1 ≡ replicate self.passes (unused N.proto)) }
+        ensures shares { IfOk result (λ opened. opened.2 ≡ replicate self.shares 0) }
+    {
+        let Blank {
+            page,
+            first,
+            passes,
+            shares,
+            ledger,
+        } = self;
+        let (total, mut rest) = ledger.open::<N>();
+        let shares = cut(alloc, &mut rest, shares)?;
+        let mut seats = unseated(alloc, first.front(), passes)?;
+        let front = first.front().again();
+        let second = first.again()?;
+        let last = first.again()?;
+        // A writer ends by waiting alone, so nothing may fail once it is there.
+        let mut board = Writer::new(alloc, first, second, passes as usize)?;
+        make_room(&mut board, &last);
+        seat_all(&board, seats.items.as_mut_slice());
+        let desk = Desk::of(board, page, front, total, rest, List::new(alloc));
+        Ok((desk, seats, shares))
+    }
+}
+
+// So many passes without a seat.
+fn unseated<N: Name>(alloc: Global, front: &Front, count: u32) -> Result<List<Pass<N>>, NoMemory>
+    requires known { IsOf N.book N.proto front.now.seen.book front.now.seen.log }
+    requires empty { front.now.seen.log ≡ [] }
+    ensures { IfOk result (λ passes. passes ≡ replicate count (unused N.proto)) }
+{
+    let mut passes = List::new(alloc);
+    for _made in 0..count {
+        passes.push(Pass::unseated(front.again()))?;
+    }
+    Ok(passes)
+}
+
+// Gives each pass a seat.
+fn seat_all<N: Name>(board: &Board<N>, passes: &mut [Pass<N>])
+    ensures { passes.new ≡ passes.old }
+{
+    for i in 0..passes.len() {
+        passes[i].sit(board.factory());
+    }
+}
+
+// The queue of a writer never shrinks, so what is appended now is room for later.
+fn make_room<N: Name>(board: &mut Board<N>, last: &Shown)
+    ensures { board.new.desk ≡ board.old.desk }
+{
+    for _ in 0..4 {
+        let Ok(next) = last.again() else {
+            return;
+        };
+        let _full = board.append(next);
+    }
+}

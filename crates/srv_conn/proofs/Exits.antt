@@ -1,0 +1,161 @@
+-- A link is served where enough replies were written, or where it ends while it is read from.
+use Rattle.std.proofs.Common.{◌≡◌, ◌<◌, ⊎_elim, ℕ, ◌+◌, List, [], ◌++◌, length, take, drop, Bool, true, false, cond, Some, refl, sym, ap, subst, ◌∙◌, append-nil, arith}
+use Rattle.std.specs.Prelude.{slice_get}
+use Rattle.std.proofs.lemmas.Option.{slice_get_within}
+use Rattle.fm_model.specs.declared.proto.Proto.{Proto}
+use Rattle.fm_world.specs.Cause.{one_more}
+use Rattle.fm_world.specs.Shown.{LinkShown}
+use Rattle.web_frame.specs.Items.{heads_of, Heads, Item, ReadsTo}
+use Rattle.web_session.specs.declared.action.End.{End}
+use Rattle.web_session.specs.declared.action.End.TheVariants as ends
+use Rattle.web_session.specs.State.{end_of_input, State}
+use Rattle.web_session.proofs.LookLemmas.{first_read}
+use Rattle.dap_reply.specs.declared.served.Stop.TheVariants as stops
+use Rattle.dap_reply.specs.Reply.{is_last}
+use Rattle.dap_reply.specs.Served.{held_bytes, items_of, number_at, AnswersAll, EndsBy, HasFailed, LinkCall, StopsBy}
+use Rattle.srv_conn.specs.Moved.{IsOver}
+use Rattle.srv_conn.specs.Serves.{call_of, Moment, Serves}
+use Rattle.srv_conn.specs.Turn.{FindsNone}
+use Rattle.srv_conn.proofs.EachLemmas.{Each, Each-item, Each-map}
+use Rattle.srv_conn.proofs.HeadLemmas.{none-left, rest_of}
+use Rattle.srv_conn.proofs.Ran.{moves_of, no-farewell, serves-so, Ran-begun}
+use Rattle.srv_conn.proofs.ServedParts.{ended-of, ends-input, failed, front-at, Answered}
+use Rattle.srv_conn.proofs.Serving.{reads-more, with_taken, Begun, Begun-takes, GoesOn, Serving}
+use Rattle.srv_conn.proofs.SessionLemmas.{rests-at, waiting-cut}
+
+-- no reply that goes on is a connection's last
+goes-on-at : (call : LinkCall) (done others : List Item) → items_of call ≡ done ++ others
+    → length call.trail ≡ length done
+    → Each (GoesOn call.proto call.seen_after) call.trail done (call.session.before + 1)
+    → (place : ℕ) (item : Item) → place < length call.trail → slice_get (items_of call) place ≡ Some item
+    → is_last item (number_at call place) ≡ false
+goes-on-at call done others items count each place item below is =
+    let here : slice_get done place ≡ Some item = front-at done others place item (omega (arith, count, below))
+    (ap (λ (l : List Item). slice_get l place) (sym items) ∙ is) in
+    let number : call.session.before + 1 + place ≡ number_at call place = omega arith in
+    subst (λ (n : ℕ). is_last item n ≡ false) number
+    (Each-item (λ n i. is_last i n ≡ false) call.trail done (call.session.before + 1) place item count
+    (Each-map (GoesOn call.proto call.seen_after) (λ n _ i. is_last i n ≡ false) call.trail done
+    (call.session.before + 1) (λ n mark i goes. goes.2) each) here)
+
+-- ---- enough
+
+pub serves-enough : (proto : Proto) (still : Bool) (start now : Moment) (most : ℕ) → Serving proto still start now
+    → length now.trail ≡ most → Serves proto still start now most stops.Enough
+unfolding StopsBy
+serves-enough proto still start now most s all =
+    serves-so proto still start now s.taken s.written [] [] false most stops.Enough s.done others
+    (Ran-begun proto still start now s.taken s.written s.done s.begun)
+    (record {
+      items_are = items;
+      count = s.begun.count;
+      few = omega (arith, all);
+      each = ended-of call now.trail s.done (start.session.before + 1) s.each;
+    })
+    (no-farewell call (λ is. absurd (cc)))
+    (record {
+      all = all;
+      goes_on = goes-on-at call s.done others items s.begun.count s.each;
+      rests = rests-at now.session (held_bytes now.session) (start.session.before + length s.done) s.session_is;
+      left = subst (λ (l : List Item). ReadsTo (held_bytes start.session ++ s.taken) l (held_bytes now.session))
+          (sym (ap (λ (n : ℕ). take n (items_of call)) counted ∙ first_read s.reads)) s.reads;
+      counted = ap (λ (x : State). x.before) s.session_is ∙ ap (λ (n : ℕ). start.session.before + n) (sym counted);
+    })
+    (λ over. absurd (cc))
+    (λ _ _. s.faults_are)
+  where
+    call : LinkCall
+    call = call_of proto still start now (moves_of s.taken (s.written ++ []) false) most stops.Enough
+
+    others : List Item
+    others = drop (length s.done) (items_of call)
+
+    items : items_of call ≡ s.done ++ others
+    items = rest_of s.done (items_of call) (first_read s.reads)
+
+    counted : most ≡ length s.done
+    counted = sym all ∙ s.begun.count
+
+-- ---- no more requests
+
+-- memory that runs out ends no input
+not-short : (left : List ℕ) → end_of_input left ≡ ends.NoMemory → ⊥
+unfolding end_of_input
+not-short left is = by_test _ _ is
+  where
+    by_test : (none : Bool) (count : ℕ) → cond none ends.Closed (ends.Cut count) ≡ ends.NoMemory → ⊥
+    by_test true count same = cc
+    by_test false count same = cc
+
+-- the session has ended where reading ended
+pub serves-none : (proto : Proto) (still : Bool) (start now : Moment) (link : LinkShown) (session : State) (most : ℕ)
+    (end : End) → Serving proto still start now → length now.trail < most
+    → FindsNone now.link link now.session session end
+    → Serves proto still start (with_taken now link session) most (stops.Ended end)
+unfolding StopsBy EndsBy
+serves-none proto still start now link session most end s more f = ⊎_elim at_fault at_end f.why
+  where
+    after : Moment
+    after = with_taken now link session
+
+    taken : List ℕ
+    taken = s.taken ++ f.taken
+
+    call : Bool → LinkCall
+    call over = call_of proto still start after (moves_of taken (s.written ++ []) over) most (stops.Ended end)
+
+    left : List ℕ
+    left = held_bytes now.session ++ f.taken
+
+    heads : heads_of (held_bytes start.session ++ taken) ≡ record { items = s.done; rest = left }
+    heads = none-left (held_bytes start.session ++ taken) left s.done
+        (reads-more start.session now.session s.taken f.taken s.done s.reads) (waiting-cut left f.waiting)
+
+    items : (over : Bool) → items_of (call over) ≡ s.done ++ []
+    items over = ap (λ (h : Heads). h.items) heads ∙ sym (append-nil s.done)
+
+    answered : (over : Bool) → Answered (call over) s.done []
+    answered over = record {
+      items_are = items over;
+      count = s.begun.count;
+      few = omega (arith, more);
+      each = ended-of (call over) now.trail s.done (start.session.before + 1) s.each;
+    }
+
+    ran : Begun proto still start after taken s.written s.done
+    ran = Begun-takes proto still start now link session s.taken f.taken s.written s.done s.begun f.moved_is f.next
+
+    at_fault : (end ≡ ends.LinkFault) × (link.faults ≡ one_more now.link.faults)
+        → Serves proto still start after most (stops.Ended end)
+    at_fault why =
+        let has : HasFailed (call false) = failed (call false) (why.1 ∙ ap one_more s.faults_are) in
+        serves-so proto still start after taken s.written [] [] false most (stops.Ended end) s.done []
+        (Ran-begun proto still start after taken s.written s.done ran) (answered false)
+        (no-farewell (call false) (λ _. has))
+        (f.ended, subst (EndsBy (call false)) (sym why.0) has)
+        (λ over. absurd (cc))
+        (λ no _. absurd (no (ap stops.Ended why.0)))
+
+    at_end : (end ≡ end_of_input left) × (link.faults ≡ now.link.faults) × IsOver link.held
+        → Serves proto still start after most (stops.Ended end)
+    at_end why =
+        let every : length now.trail ≡ length (items_of (call true)) =
+        s.begun.count ∙ ap length (sym (ap (λ (h : Heads). h.items) heads)) in
+        let all : AnswersAll (call true) = record {
+          all = every;
+          more = more;
+          goes_on = λ place item is.
+              goes-on-at (call true) s.done [] (items true) s.begun.count s.each place item
+              (omega (arith, every, slice_get_within (items_of (call true)) place item is)) is;
+        } in
+        let rest : (heads_of (held_bytes start.session ++ taken)).rest ≡ left = ap (λ (h : Heads). h.rest) heads in
+        serves-so proto still start after taken s.written [] [] true most (stops.Ended end) s.done []
+        (Ran-begun proto still start after taken s.written s.done ran) (answered true)
+        (no-farewell (call true) (λ is. let same : end ≡ ends.NoMemory = cc in
+        absurd (not-short left (sym why.0 ∙ same)))) (
+          f.ended,
+          subst (EndsBy (call true)) (sym why.0)
+              (ends-input (call true) left (refl, all, ap end_of_input (sym rest))),
+        )
+        (λ _. why.2)
+        (λ _ _. why.1 ∙ s.faults_are)

@@ -1,0 +1,16 @@
+-- What is put is a front of the bytes that are left.
+use Rattle.std.proofs.Common.{drop, arith}
+use Rattle.std.proofs.lemmas.List.{length-drop}
+use Rattle.dap_reply.specs.Parts.{bytes_of}
+use Rattle.srv_conn.proofs.DeliveryLemmas.{put-piece, room-front}
+use Rattle.srv_conn.proofs.delivery.put_next.Goals as goal
+
+pub returns-clause-put : goal.returns-clause-put
+returns-clause-put g c =
+    let bytes = drop c.args.from (bytes_of c.args.plan.now) in
+    put-piece c.put-2.result bytes c.split_at.result.0.now (g.L.Link.shown c.args.link.now).held
+    (g.L.Link.shown c.put-2.new.self).held
+    (room-front bytes c.args.room.now c.piece-count.new.out c.split_at.result.0.now c.piece-count.result
+    (omega (arith, c.piece-count.ensures.count, length-drop c.args.from (bytes_of c.args.plan.now)))
+    c.piece-count.ensures.bytes c.split_at.ensures.front)
+    c.put-2.ensures.within c.put-2.ensures.put

@@ -1,0 +1,5 @@
+pub mod Answered
+pub mod Moved
+pub mod Serves
+pub mod Turn
+pub use Rattle.dap_reply.specs.Served

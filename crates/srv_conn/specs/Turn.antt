@@ -1,0 +1,128 @@
+-- The turns of a served link: reading until a session asks for a reply, and replying.
+use Rattle.std.specs.Prelude.{◌≡◌, ◌⊎◌, ℕ, ◌+◌, ◌≤◌, List, [], ◌∷◌, ◌++◌, length, take, Bool, true, false, if◌then◌else◌, Option, Some, None, is_ok}
+use Rattle.fm_model.specs.declared.proto.Proto.{Proto}
+use Rattle.fm_world.specs.Cause.{one_more}
+use Rattle.fm_world.specs.Link.{after_put}
+use Rattle.fm_world.specs.Shown.{LinkShown}
+use Rattle.pub_plain.specs.History.{Continues, MayHaveLooked}
+use Rattle.web_frame.specs.Items.{Item}
+use Rattle.web_frame.specs.Stream.{held_after, next_of}
+use Rattle.web_session.specs.declared.action.Action.{Action}
+use Rattle.web_session.specs.declared.action.Action.TheVariants.{Read, Ask, Send, Close}
+use Rattle.web_session.specs.declared.action.Asked.{Asked}
+use Rattle.web_session.specs.declared.action.End.{End}
+use Rattle.web_session.specs.declared.action.End.TheVariants as ends
+use Rattle.web_session.specs.declared.phase.Phase.TheVariants.{Waiting, Asking, Ended}
+use Rattle.web_session.specs.Run.{item_asked}
+use Rattle.web_session.specs.State.{end_after, end_of_input, phase_after, replied, State}
+use Rattle.dap_reply.specs.declared.served.Mark.{Mark}
+use Rattle.dap_reply.specs.Head.{no_memory_reply}
+use Rattle.dap_reply.specs.Reply.{asked_by}
+use Rattle.dap_reply.specs.Served.{held_bytes, marked_reply}
+use Rattle.srv_conn.specs.Moved.{moved, AreNext, IsOver}
+use Rattle.srv_conn.specs.Serves.{Moment}
+
+-- a session that rests with these bytes, after so many replies
+abbrev pub resting : List ℕ → ℕ → State
+resting bytes before =
+    record { phase = phase_after (next_of bytes); held = held_after bytes; before = before }
+
+-- the end that an action says
+abbrev pub end_said : Action → Option End
+end_said (Close end) = Some end
+end_said (Read count) = None
+end_said (Ask asked) = None
+end_said (Send from) = None
+
+-- these bytes were taken from a link, no call failed, and the session that rested has them too
+pub record Takes (before after : LinkShown) (session session_after : State) (taken : List ℕ) : Type 0 where
+  pub moved_is : after.held ≡ moved taken [] before.held
+  pub next : AreNext taken before.held
+  pub faults_are : after.faults ≡ before.faults
+  pub session_is : session_after ≡ resting (held_bytes session ++ taken) session.before
+
+-- a link that was read from ends a session: a call failed, or input is over and these bytes are left
+abbrev pub EndsReading : LinkShown → LinkShown → List ℕ → End → Type 0
+EndsReading before after left end =
+    ((end ≡ ends.LinkFault) × (after.faults ≡ one_more before.faults))
+    ⊎ ((end ≡ end_of_input left) × (after.faults ≡ before.faults) × IsOver after.held)
+
+-- bytes were taken until a session asks for a reply
+pub record Finds (before after : LinkShown) (session session_after : State) (asked : Asked) : Type 0 where
+  pub taken : List ℕ
+  pub takes : Takes before after session session_after taken
+  pub asking : session_after.phase ≡ Asking asked
+
+-- bytes were taken, and a session ends that waits for more
+pub record FindsNone (before after : LinkShown) (session session_after : State) (end : End) : Type 0 where
+  pub taken : List ℕ
+  pub moved_is : after.held ≡ moved taken [] before.held
+  pub next : AreNext taken before.held
+  pub waiting : phase_after (next_of (held_bytes session ++ taken)) ≡ Waiting
+  pub ended : session_after.phase ≡ Ended end
+  pub why : EndsReading before after (held_bytes session ++ taken) end
+
+-- a giver of looks was asked for the answer to an item, or wasn't
+pub record Looks (proto : Proto) (still : Bool) (before after : Moment) (item : Item) : Type 0 where
+  pub grows : Continues before.seen after.seen
+  pub stays : still ≡ true → after.seen ≡ before.seen
+  pub looks_are : after.looks
+      ≡ before.looks ++ (if is_ok (asked_by proto.site item) then length after.seen ∷ [] else [])
+  pub unwanted : is_ok (asked_by proto.site item) ≡ false → after.seen ≡ before.seen
+
+-- the item that a session asks a reply for
+abbrev pub item_of_turn : Moment → Asked → Item
+item_of_turn before asked = item_asked asked before.session.held
+
+-- the reply to it that a mark speaks of
+abbrev pub reply_of_turn : Proto → Moment → Moment → Asked → Mark → List ℕ
+reply_of_turn proto before after asked mark =
+    marked_reply proto after.seen mark (item_of_turn before asked) (before.session.before + 1)
+
+-- a reply was begun, and written as far as its mark says
+pub record Replies (proto : Proto) (still : Bool) (before after : Moment) (asked : Asked) (mark : Mark) : Type 0 where
+  pub looks : Looks proto still before after (item_of_turn before asked)
+  pub trail_is : after.trail ≡ before.trail ++ mark ∷ []
+  pub revision_is : mark.revision ≡ length after.seen
+  pub put_is : after.link.held
+      ≡ after_put (take mark.sent (reply_of_turn proto before after asked mark)) before.link.held
+
+-- a reply was written whole, and the session goes on or ends
+pub record IsWhole (proto : Proto) (still : Bool) (before after : Moment) (asked : Asked) (end : Option End)
+    : Type 0 where
+  pub mark : Mark
+  pub replies : Replies proto still before after asked mark
+  pub whole : mark.sent ≡ length (reply_of_turn proto before after asked mark)
+  pub faults_are : after.link.faults ≡ before.link.faults
+  pub session_is : after.session ≡ replied before.session asked
+  pub end_is : end ≡ end_after asked before.session.before
+
+-- the link failed within a reply
+pub record IsCut (proto : Proto) (still : Bool) (before after : Moment) (asked : Asked) (end : Option End)
+    : Type 0 where
+  pub mark : Mark
+  pub replies : Replies proto still before after asked mark
+  pub cut : mark.sent ≤ length (reply_of_turn proto before after asked mark)
+  pub faults_are : after.link.faults ≡ one_more before.link.faults
+  pub ended : after.session.phase ≡ Ended ends.LinkFault
+  pub end_is : end ≡ Some ends.LinkFault
+
+-- memory ran out, and the text that says so was written, or a front of it where the link failed
+pub record IsShort (still : Bool) (before after : Moment) (end : Option End) : Type 0 where
+  pub grows : Continues before.seen after.seen
+  pub stays : still ≡ true → after.seen ≡ before.seen
+  pub looks_are : MayHaveLooked before.looks (length after.seen) after.looks
+  pub trail_is : after.trail ≡ before.trail
+  pub said : ℕ
+  pub within : said ≤ length no_memory_reply
+  pub put_is : after.link.held ≡ after_put (take said no_memory_reply) before.link.held
+  pub whole : ((said ≡ length no_memory_reply) × (after.link.faults ≡ before.link.faults))
+      ⊎ (after.link.faults ≡ one_more before.link.faults)
+  pub ended : after.session.phase ≡ Ended ends.NoMemory
+  pub end_is : end ≡ Some ends.NoMemory
+
+-- what a session asked for was replied to, in one of these ways
+pub data Turn (proto : Proto) (still : Bool) (before after : Moment) (asked : Asked) (end : Option End) : Type 0 where
+  whole : IsWhole proto still before after asked end → Turn proto still before after asked end
+  cut : IsCut proto still before after asked end → Turn proto still before after asked end
+  short : IsShort still before after end → Turn proto still before after asked end

@@ -1,0 +1,25 @@
+//! What a reader believes of served links, each as the contract of a call that does nothing.
+ghost use Rattle.std.specs.Prelude.{◌≡◌, ◌≢◌, ◌<◌, ℕ, length, slice_get, Some};
+ghost use Rattle.web_frame.specs.Items.{Item};
+ghost use Rattle.web_session.specs.declared.action.End.TheVariants.{NoMemory};
+ghost use Rattle.dap_reply.specs.declared.served.Mark.{Mark};
+ghost use Rattle.dap_reply.specs.declared.served.Stop.TheVariants.{Ended};
+ghost use Rattle.dap_reply.specs.Served.{items_of, marked_reply, number_at, HasFailed, LinkCall, Served};
+ghost use Rattle.srv_conn.specs.Answered.{GoesOnBefore, IsAnswered};
+
+/// Where no call of the link failed and memory didn't run out, each of the first `most` requests that were read has its
+/// whole reply, up to the one after which the connection ends.
+#[tactic(auto, using(crate::proofs::LawLemmas::laws))]
+pub fn each_request_that_is_read_has_its_whole_reply()
+    ensures { (call : LinkCall) → Served call → ¬ (HasFailed call) → call.stop ≢ Ended NoMemory
+        → (place : ℕ) (item : Item) → place < call.most → slice_get (items_of call) place ≡ Some item
+        → GoesOnBefore call place → IsAnswered call place item }
+{}
+
+/// A reply that was begun is written whole, unless a call of the link failed. Memory that runs out cuts none.
+#[tactic(auto, using(crate::proofs::LawLemmas::laws))]
+pub fn a_reply_that_is_begun_is_whole_unless_the_link_fails()
+    ensures { (call : LinkCall) → Served call → ¬ (HasFailed call) → (place : ℕ) (mark : Mark) (item : Item)
+        → slice_get call.trail place ≡ Some mark → slice_get (items_of call) place ≡ Some item
+        → mark.sent ≡ length (marked_reply call.proto call.seen_after mark item (number_at call place)) }
+{}

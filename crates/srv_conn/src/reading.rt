@@ -1,0 +1,70 @@
+//! Reading from a link until a session asks for a reply.
+ghost use Rattle.std.specs.Prelude.{◌≡◌, ◌<◌, ◌≤◌, ◌⊎◌, [], length, take, IfOk, IfErr};
+ghost use Rattle.web_session.specs.declared.action.Action.TheVariants.{Read};
+ghost use Rattle.web_session.specs.declared.phase.Phase.TheVariants.{Ended};
+ghost use Rattle.web_session.specs.State.{action_of};
+ghost use Rattle.dap_reply.specs.Served.{held_bytes, IsAtRest};
+ghost use Rattle.srv_conn.specs.Turn.{EndsReading, Finds, FindsNone, Takes};
+
+use fm_world::Link;
+use web_session::{Action, Asked, End, Event, Session};
+
+// Reads the next bytes, at most `count`, and tells the session. Returns how many they are, or the end of the session.
+fn read_more<L: Link>(
+    link: &mut L,
+    session: &mut Session,
+    room: &mut [u8],
+    count: usize,
+) -> Result<usize, End>
+    requires rests { IsAtRest session.old }
+    requires reads { action_of session.old ≡ Read count }
+    requires some { 0 < count }
+    requires room { 0 < length room.old }
+    ensures some { IfOk result (λ read. 0 < length (take read room.new)) }
+    ensures takes { IfOk result (λ read.
+        Takes (L.shown link.old) (L.shown link.new) session.old session.new (take read room.new)) }
+    ensures ended { IfErr result (λ end. session.new.phase ≡ Ended end) }
+    ensures held { IfErr result (λ end. (L.shown link.new).held ≡ (L.shown link.old).held) }
+    ensures why { IfErr result (EndsReading (L.shown link.old) (L.shown link.new) (held_bytes session.old)) }
+{
+    let (front, _) = room.split_at_mut(count.min(room.len()));
+    match link.take(front) {
+        Ok(0) => match session.on(Event::EndOfInput) {
+            Action::Close(end) => Err(end),
+            _ => unreachable!(),
+        },
+        Ok(read) => {
+            let (bytes, _) = front.split_at(read);
+            session.on(Event::Bytes(bytes));
+            Ok(read)
+        }
+        Err(_) => {
+            session.on(Event::Fault);
+            Err(End::LinkFault)
+        }
+    }
+}
+
+/// Reads until the session asks for a reply, and returns what it asks for, or its end.
+pub(crate) fn next_asked<L: Link>(
+    link: &mut L,
+    session: &mut Session,
+    room: &mut [u8],
+) -> Result<Asked, End>
+    requires rests { IsAtRest session.old }
+    requires room { 0 < length room.old }
+    ensures found { IfOk result (Finds (L.shown link.old) (L.shown link.new) session.old session.new) }
+    ensures none { IfErr result (FindsNone (L.shown link.old) (L.shown link.new) session.old session.new) }
+{
+    loop {
+        match session.on(Event::Start) {
+            Action::Read(count) => {
+                if let Err(end) = read_more(link, session, room, count) {
+                    return Err(end);
+                }
+            }
+            Action::Ask(asked) => return Ok(asked),
+            _ => unreachable!(),
+        }
+    }
+}

@@ -1,7 +1,0 @@
--- The text of the dimensions before the index was appended.
-use Rattle.std.proofs.Common.{◌≡◌, ◌++◌, take}
-use Rattle.dap_model.specs.StructureText.{dims_text}
-use Rattle.srv_run.proofs.structure.put_dims.Given as goal
-
-abbrev pub invariant-loop-dim : goal.invariant-loop-dim
-invariant-loop-dim l = l.out ≡ l.fn.out ++ dims_text (take l.dim-index l.dims)

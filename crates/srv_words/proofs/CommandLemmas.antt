@@ -1,0 +1,57 @@
+-- The command is one of which `clap` says exactly which words it takes.
+use Rattle.std.proofs.Common.{◌≡◌, ◌==◌, ◌⊎◌, ◌∙◌, ◌||◌, Bool, inl, inr, true, false, List, [], ◌∷◌, length, Result, Ok, Err, IfOk, refl, ap, subst, arith}
+use Rattle.std.proofs.lemmas.Bool.{and_parts, cases_Bool, eqb-true}
+use Rattle.clap.specs.Kinds.{FailsBy, IsAmong, Kinds}
+use Rattle.clap.specs.declared.error.Error.{Error}
+use Rattle.clap.specs.declared.error.kind.ErrorKind.{ErrorKind}
+use Rattle.clap.specs.declared.error.kind.ErrorKind.TheVariants as kind
+use Rattle.clap.specs.declared.parser.matches.ArgMatches.{ArgMatches}
+use Rattle.clap.specs.Faults.{fault_of, is_free_app, is_simple_and_free}
+use Rattle.clap.specs.Simple.{App, HasMatchesOf, built, is_simple, subcommand_of, subcommand_rows_of}
+use Rattle.clap.specs.Walk.{Text}
+use Rattle.srv_words.specs.Command.{check, fmrcd, load, once, used, with_site}
+
+-- a result whose value is seen as one thing is seen as what equals it
+pub ok_as : {A E : Type 0} {x y : App} (f : A → App) (r : Result A E) → x ≡ y → IfOk r (λ k. f k ≡ x)
+    → IfOk r (λ k. f k ≡ y)
+ok_as f r is seen = subst (λ (z : App). IfOk r (λ k. f k ≡ z)) is seen
+
+pub neither : (a b c : Bool) → c ≡ (a || b) → a ≡ false → b ≡ false → c ≡ false
+neither a b c is first second = is ∙ ap (λ (x : Bool). x || b) first ∙ second
+
+pub fmrcd_is_free : is_simple_and_free fmrcd ≡ true
+unfolding fmrcd once check load with_site
+fmrcd_is_free = refl
+
+pub fmrcd_is_simple : is_simple fmrcd ≡ true
+fmrcd_is_simple = (and_parts (is_simple fmrcd) (is_free_app (built fmrcd)) fmrcd_is_free).0
+
+-- what a command like it matches in words is what it matches
+pub used_by : (a : App) (words : List Text) (r : Result ArgMatches Error) → a ≡ fmrcd → IfOk r (HasMatchesOf a words)
+    → IfOk r (λ m. subcommand_rows_of m ≡ used words)
+unfolding used
+used_by a words (Ok m) is has =
+    (has (ap is_simple is ∙ fmrcd_is_simple)).1 ∙ ap (λ (b : App). subcommand_of b words) is
+used_by a words (Err e) is has = tt
+
+-- and it fails as it does
+pub fails_by : (a : App) (words : List Text) (r : Result ArgMatches Error) → a ≡ fmrcd
+    → (is_simple_and_free a ≡ true → FailsBy (fault_of a words) r) → FailsBy (fault_of fmrcd words) r
+fails_by a words r is has =
+    subst (λ (b : App). FailsBy (fault_of b words) r) is (has (ap is_simple_and_free is ∙ fmrcd_is_free))
+
+-- where an error of the words is none of these, there was one
+pub some_kind : (kinds : Kinds) (k : ErrorKind) → (k ≡ kind.OutOfMemory) ⊎ IsAmong k kinds → (k ≡ kind.OutOfMemory → ⊥)
+    → (length kinds == 0) ≡ false
+some_kind [] k among other =
+    elim among [
+      | inl is ↦ absurd (other is)
+      | inr never ↦ absurd never
+    ]
+some_kind (first ∷ kinds) k among other =
+    elim (cases_Bool (length (first ∷ kinds) == 0)) [
+      | inl is ↦ absurd (let none : length (first ∷ kinds) ≡ 0 = eqb-true _ 0 is in omega (arith, none))
+      | inr is ↦ is
+    ]
+
+pub ruleset kinds = (some_kind)

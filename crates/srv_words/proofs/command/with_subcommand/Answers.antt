@@ -1,0 +1,5 @@
+-- What `clap` says of a command with one more subcommand.
+use Rattle.srv_words.proofs.command.with_subcommand.Goals as goal
+
+pub returns : goal.returns
+returns c = c.in_ok-subcommand.ensures.shape c.requires.plain

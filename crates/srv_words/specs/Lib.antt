@@ -1,0 +1,5 @@
+pub mod Command
+pub mod Jobs
+pub mod Reads
+pub mod Steps
+pub mod Values

@@ -1,0 +1,41 @@
+//! What the words ask for.
+
+use fm_base::{Bytes, List};
+use fm_model::Site;
+
+/// The words are no command of this program.
+#[derive(Clone, Copy, Debug, PartialEq, Eq)]
+pub struct BadWords;
+
+/// A step of `once`.
+#[derive(Debug, Drop)]
+pub enum Step {
+    /// The file at this path comes into the collection.
+    Put(Bytes),
+    /// The files whose run is below this instant go, in seconds from the collection's epoch.
+    Expire(i64),
+    /// The file of this name is taken back.
+    Retract(Bytes),
+    /// So many requests are answered.
+    Ask(u32),
+}
+
+/// What the words ask for. Paths are as they stand in the words.
+#[derive(Debug, Drop)]
+pub enum Job {
+    /// The steps are done in their order, on a collection over the prototype at a path.
+    Once {
+        site: Site,
+        proto: Bytes,
+        steps: List<Step>,
+    },
+    /// The file at a path is checked.
+    Check {
+        path: Bytes,
+    },
+    /// So many files are made from a seed, taken into a collection and read.
+    Load {
+        seed: u32,
+        files: u32,
+    },
+}

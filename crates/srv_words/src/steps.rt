@@ -1,0 +1,66 @@
+//! The steps of `once`.
+ghost use Rattle.std.specs.Prelude.{◌≡◌, IfOk, map};
+ghost use Rattle.srv_words.specs.Reads.{Reads};
+ghost use Rattle.srv_words.specs.Steps as spec;
+
+use crate::job::{BadWords, Step};
+use crate::number::number_in;
+use crate::values::{from_epoch, rest_of};
+use fm_base::{Bytes, Fail, List};
+use std::alloc::Global;
+use tm_units::read_instant;
+
+/// The most requests that a step answers.
+pub(crate) const MAX_ASKED: u32 = 10_000;
+
+// The cutoff of `expire:INSTANT`, in seconds from the epoch.
+#[tactic(auto, unfolding(crate::specs::Steps::cutoff_of))]
+fn cutoff_of(epoch: i64, word: &[u8]) -> Option<i64>
+    ensures { result ≡ spec.cutoff_of epoch word.now }
+{
+    from_epoch(epoch, read_instant(rest_of(b"expire:", word)?)?)
+}
+
+// The number of `ask:NUMBER`.
+#[tactic(auto, unfolding(crate::specs::Steps::asked_of))]
+fn asked_of(word: &[u8]) -> Option<u32>
+    ensures { result ≡ spec.asked_of word.now }
+{
+    number_in(1, MAX_ASKED, rest_of(b"ask:", word)?)
+}
+
+// The step that a word is.
+#[tactic(auto, unfolding(crate::specs::Steps::step_of))]
+fn step_of(alloc: Global, epoch: i64, word: &[u8]) -> Result<Step, Fail<BadWords>>
+    ensures { Reads (spec.step_of epoch word.now) result }
+{
+    if let Some(path) = rest_of(b"put:", word) {
+        return Ok(Step::Put(Bytes::copy_of(alloc, path)?));
+    }
+    if let Some(cutoff) = cutoff_of(epoch, word) {
+        return Ok(Step::Expire(cutoff));
+    }
+    if let Some(name) = rest_of(b"retract:", word) {
+        return Ok(Step::Retract(Bytes::copy_of(alloc, name)?));
+    }
+    match asked_of(word) {
+        Some(count) => Ok(Step::Ask(count)),
+        None => Err(Fail::Fault(BadWords)),
+    }
+}
+
+// The steps that words are, one after the other.
+#[tactic(auto, using(crate::proofs::StepLemmas::steps), unfolding(crate::specs::Steps::steps_of, crate::specs::Steps::steps_from))]
+pub(crate) fn steps_of(
+    alloc: Global,
+    epoch: i64,
+    words: &[&str],
+) -> Result<List<Step>, Fail<BadWords>>
+    ensures { Reads (spec.steps_of epoch (map (λ word. word.now) words.now)) result }
+{
+    let mut steps = List::new(alloc);
+    for word in words {
+        steps.push(step_of(alloc, epoch, word.as_bytes())?)?;
+    }
+    Ok(steps)
+}
