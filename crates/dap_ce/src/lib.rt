@@ -6,6 +6,3 @@ mod read;
 mod reader;
 
 pub use read::read_constraint;
-
-#[cfg(test)]
-mod tests;

@@ -7,8 +7,6 @@ pub mod laws;
 mod line;
 mod name;
 mod number;
-#[cfg(test)]
-mod tests;
 mod text;
 
 pub use attributes::{axis_attributes, offset_attributes, run_attributes};

@@ -2,8 +2,6 @@
 #![tactic(auto)]
 
 mod length;
-#[cfg(test)]
-mod tests;
 mod text;
 
 pub use length::dds_len;

@@ -13,6 +13,3 @@ mod slot;
 mod whole;
 
 pub use projection::project;
-
-#[cfg(test)]
-mod tests;

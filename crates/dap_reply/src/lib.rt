@@ -27,6 +27,3 @@ pub use replying::{plan, refusal};
 pub use served::{Mark, Stop};
 pub use status::Status;
 pub use wanted::{Dap, Order};
-
-#[cfg(test)]
-mod tests;

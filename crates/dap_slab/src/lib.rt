@@ -6,6 +6,3 @@ mod walk;
 
 pub use count::{slab_count, slab_len};
 pub use walk::Walk;
-
-#[cfg(test)]
-mod tests;

@@ -25,6 +25,3 @@ pub use lending::lent;
 pub use piece::xdr_piece;
 pub use source::Source;
 pub use writing::put;
-
-#[cfg(test)]
-mod tests;

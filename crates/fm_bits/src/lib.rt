@@ -8,8 +8,6 @@ mod pattern;
 mod quoted;
 mod scale;
 mod seconds;
-#[cfg(test)]
-mod tests;
 mod text;
 mod value;
 

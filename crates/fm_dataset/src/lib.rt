@@ -13,8 +13,6 @@ mod part;
 mod read;
 mod shown;
 mod table;
-#[cfg(test)]
-mod tests;
 mod time;
 mod value;
 

@@ -8,8 +8,6 @@ mod lengths;
 mod loading;
 mod run;
 mod slots;
-#[cfg(test)]
-mod tests;
 mod times;
 mod units;
 

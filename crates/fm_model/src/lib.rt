@@ -12,8 +12,6 @@ mod op;
 mod proto;
 mod row;
 mod site;
-#[cfg(test)]
-mod tests;
 
 pub use full::{Full, Tally, Which};
 pub use limit::{MAX_BYTES, MAX_FILE_BYTES, MAX_FILES, MAX_INSTANT, MAX_NAME, MAX_ROWS, MAX_TIMES};

@@ -7,7 +7,5 @@ mod kept;
 mod prototype;
 mod read;
 mod steps;
-#[cfg(test)]
-mod tests;
 
 pub use read::read_proto;

@@ -6,6 +6,3 @@ mod parts;
 
 pub use elements::{element, whole};
 pub use nc_layout::Layout;
-
-#[cfg(test)]
-mod tests;

@@ -13,6 +13,3 @@ mod vars;
 pub use fm_base::{Fail, Header, HeaderFault};
 pub use header::read_header;
 pub use laws::a_fault_is_settled_by_its_field;
-
-#[cfg(test)]
-mod tests;

@@ -15,6 +15,3 @@ pub use dims::{names_record_dim, size_at};
 pub use fm_base::{Fail, LayoutFault};
 pub use laying::lay_out;
 pub use layout::Layout;
-
-#[cfg(test)]
-mod tests;

@@ -8,8 +8,6 @@ pub mod laws;
 mod reading;
 mod replying;
 mod serve;
-#[cfg(test)]
-mod tests;
 mod trail;
 
 pub use serve::serve_link;

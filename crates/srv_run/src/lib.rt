@@ -12,6 +12,3 @@ mod service;
 
 pub use end::End;
 pub use program::{run, run_check, run_once, run_process};
-
-#[cfg(test)]
-mod tests;

@@ -17,6 +17,3 @@ pub use fm_base::{Units, UnitsFault};
 pub use instant::{instant_text, read_instant};
 pub use mark::read_mark;
 pub use units::read_units;
-
-#[cfg(test)]
-mod tests;

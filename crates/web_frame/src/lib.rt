@@ -10,8 +10,6 @@ mod limit;
 mod request;
 mod scan;
 mod store;
-#[cfg(test)]
-mod tests;
 mod unread;
 mod word;
 

@@ -12,6 +12,3 @@ mod view;
 pub use fault::PathFault;
 pub use read::read_target;
 pub use target::{Service, Target};
-
-#[cfg(test)]
-mod tests;

@@ -7,8 +7,6 @@ mod event;
 pub mod laws;
 mod phase;
 mod session;
-#[cfg(test)]
-mod tests;
 
 pub use action::{Action, Asked, End};
 pub use event::Event;
