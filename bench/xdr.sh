@@ -151,12 +151,12 @@ fn all_measured<R: Print + Clock>(
     copy: &[u8],
 ) -> io::Result<()> {
     let decls = set.decls().as_slice();
-    let count = decls.len().saturating_sub(2);
-    for (number, decl) in decls.iter().take(count).enumerate().skip(1) {
-        let Some(array) = array_of(decl) else {
+    let count = decls.len().saturating_sub(2).min(9) as u32;
+    for number in 1..count {
+        let Some(array) = decls.get(number as usize).and_then(array_of) else {
             return println!(rt; "no array");
         };
-        let Ok(sent) = whole_of(alloc, number as u32, array) else {
+        let Ok(sent) = whole_of(alloc, number, array) else {
             return println!(rt; "no memory");
         };
         measured(rt, set, &sent, copy)?;

@@ -9,7 +9,7 @@ use std::alloc::Global;
 use std::test::Fail;
 
 // The elements of the four variables, as words of four bytes: the times, the latitudes, the longitudes, the fields.
-const ELEMENTS: [&[u32]; 4] = [
+static ELEMENTS: [&[u32]; 4] = [
     &[0x6592_0080, 0x6592_54e0, 0x6592_a940],
     &[0x4120_0000, 0x41a0_0000],
     &[0x41f0_0000, 0x4220_0000],

@@ -8,7 +8,7 @@ use std::test::Fail as TestFail;
 
 // A word of the file at a place, another value, and the fault that the header then has first. What lies at the end of
 // the table are headers without a fault, whose data lies outside the file.
-const BROKEN: [(usize, u32, Option<HeaderFault>); 17] = [
+static BROKEN: [(usize, u32, Option<HeaderFault>); 17] = [
     (0, 0x43444600, Some(HeaderFault::BadVersion(0))),
     (0, 0x43444605, Some(HeaderFault::BadVersion(5))),
     (4, 0xffffffff, Some(HeaderFault::Streaming)),
@@ -47,7 +47,8 @@ fn fault_of(alloc: Global, bytes: &[u8]) -> Option<Fail<HeaderFault>> {
 
 #[test]
 fn a_changed_word_is_the_first_fault_with_its_place(rt: HostRuntime) -> Result<(), TestFail> {
-    for (place, value, fault) in BROKEN {
+    for row in &BROKEN {
+        let (place, value, fault) = *row;
         let mut words = SAMPLE;
         assert!(rt; place / 4 < 88);
         words[place / 4] = value;

@@ -2,7 +2,7 @@
 //! hexadecimal digits.
 
 /// After the first run and the one six hours later.
-pub const AFTER_BOTH: [(&str, &str); 6] = [
+pub static AFTER_BOTH: [(&str, &str); 6] = [
     (
         "/thredds/dodsC/gfs/gfs_best.ncd.dods?t%5B1%5D%5B0%5D%5B0%5D",
         "HTTP/1.1 200 OK\r

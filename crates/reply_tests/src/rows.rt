@@ -45,7 +45,7 @@ Error {
 ";
 
 /// After the first run.
-pub const AFTER_FIRST: [(&str, &str); 12] = [
+pub static AFTER_FIRST: [(&str, &str); 12] = [
     (
         "/thredds/dodsC/gfs/gfs_best.ncd.dods?time%5B0:2:2%5D",
         "HTTP/1.1 200 OK\r

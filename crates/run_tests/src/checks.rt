@@ -81,7 +81,7 @@ fn a_sound_file_is_reported_by_its_counts(rt: HostRuntime) -> Result<(), Fail> {
 // Broken files: how many bytes of the sample file there are, its changed words by their places, and the number of the
 // first fault.
 #[rattlefmt::skip]
-const BROKEN: [(usize, &[(usize, u32)], &[u8]); 21] = [
+static BROKEN: [(usize, &[(usize, u32)], &[u8]); 21] = [
     (3, &[], b"1"),
     (352, &[(0, 0x4344_4605)], b"2"),
     (4, &[], b"3"),
@@ -126,7 +126,7 @@ fn a_broken_file_is_refused_by_its_first_fault(rt: HostRuntime) -> Result<(), Fa
 
 // Words of a check, with the status and the line that they end in.
 #[rattlefmt::skip]
-const WORDS: [(&[&[u8]], u8, &[u8]); 4] = [
+static WORDS: [(&[&[u8]], u8, &[u8]); 4] = [
     (&[b"check"], 2, b"bad words\n"),
     (&[b"check", b"file.nc", b"file.nc"], 2, b"bad words\n"),
     (&[b"check", b"nofile"], 10, b"no file nofile\n"),

@@ -13,7 +13,7 @@ const STEPS: [&[u8]; 3] = [
 ];
 
 // The call of the files that fails, with the line.
-const READS: [(u64, &[u8]); 3] = [
+static READS: [(u64, &[u8]); 3] = [
     (1, b"file fault A\n"),
     (2, b"file fault in/gfs_20240101_0000.nc\n"),
     (3, b"file fault in/gfs_20240101_0600.nc\n"),
@@ -21,8 +21,8 @@ const READS: [(u64, &[u8]); 3] = [
 
 #[test]
 fn a_read_that_fails_names_its_file(rt: HostRuntime) -> Result<(), Fail> {
-    for (call, line) in READS {
-        let failing = [call];
+    for (call, line) in &READS {
+        let failing = [*call];
         let given = Given {
             input: STRUCTURE,
             failing_reads: &failing,
@@ -30,7 +30,7 @@ fn a_read_that_fails_names_its_file(rt: HostRuntime) -> Result<(), Fail> {
         };
         let left = ran_once(rt.alloc(), &given)?;
         assert_eq!(rt; left.status, 5);
-        assert_eq!(rt; left.line.as_slice(), line);
+        assert_eq!(rt; left.line.as_slice(), *line);
         assert!(rt; left.output.is_empty());
     }
     Ok(())

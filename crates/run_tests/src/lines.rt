@@ -6,7 +6,7 @@ use std::test::Fail;
 
 // Words that end a run before it has an output, with the status and the line.
 #[rattlefmt::skip]
-const ENDS: [(&[&[u8]], u8, &[u8]); 8] = [
+static ENDS: [(&[&[u8]], u8, &[u8]); 8] = [
     (&[b"once", b"--name", b"gfs"], 2, b"bad words\n"),
     (&[b"load", b"1", b"1"], 2, b"bad words\n"),
     (&[b"once", b"--name", b"gfs", b"--proto", b"nofile", b"ask:1"], 10, b"no file nofile\n"),
@@ -20,12 +20,12 @@ const ENDS: [(&[&[u8]], u8, &[u8]); 8] = [
 #[test]
 fn each_end_has_its_status_and_its_line(rt: HostRuntime) -> Result<(), Fail> {
     let alloc = rt.alloc();
-    for (words, status, line) in ENDS {
+    for (words, status, line) in &ENDS {
         let given = Given::of(words);
         let words = words_of(alloc, words)?;
         let left = ran(alloc, &given, &words)?;
-        assert_eq!(rt; left.status, status);
-        assert_eq!(rt; left.line.as_slice(), line);
+        assert_eq!(rt; left.status, *status);
+        assert_eq!(rt; left.line.as_slice(), *line);
         assert!(rt; left.output.is_empty());
     }
     Ok(())

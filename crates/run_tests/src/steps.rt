@@ -7,7 +7,7 @@ use std::test::Fail;
 
 // Steps with the times that the best view has after them: the data of the reply to one request behind them.
 #[rattlefmt::skip]
-const AFTER: [(&[&[u8]], &[u32]); 4] = [
+static AFTER: [(&[&[u8]], &[u32]); 4] = [
     (&[b"put:in/gfs_20240101_0600.nc", b"put:in/gfs_20240101_0000.nc", b"ask:1"],
         &[4, 4, 0x0786_1f80, 0x0786_73e0, 0x0786_c840, 0x0787_1ca0]),
     (&[b"put:in/gfs_20240101_0000.nc", b"put:in/gfs_20240101_0600.nc", b"expire:2024-01-01T06:00:00Z",
@@ -23,7 +23,7 @@ const AFTER: [(&[&[u8]], &[u32]); 4] = [
 #[test]
 fn a_reply_is_over_what_the_steps_before_it_left(rt: HostRuntime) -> Result<(), Fail> {
     let alloc = rt.alloc();
-    for (steps, times) in AFTER {
+    for (steps, times) in &AFTER {
         let given = Given {
             input: TIMES,
             ..Given::of(steps)

@@ -4,7 +4,7 @@ use crate::constraints::shown::shown;
 use std::test::Fail;
 
 #[rattlefmt::skip]
-const ASKED: [(&str, &str); 34] = [
+static ASKED: [(&str, &str); 34] = [
     ("", ""),
     ("t", "t"),
     ("0", "0"),

@@ -5,7 +5,7 @@ use std::test::Fail;
 
 // What isn't a constraint is bad at the place up to which some constraint begins so.
 #[rattlefmt::skip]
-const BAD: [(&str, &str); 60] = [
+static BAD: [(&str, &str); 60] = [
     (",", "21 at 0"),
     (".", "21 at 0"),
     ("[0]", "21 at 0"),
@@ -70,7 +70,7 @@ const BAD: [(&str, &str); 60] = [
 
 // A selection begins where a constraint ends and `&` stands.
 #[rattlefmt::skip]
-const SELECTIONS: [(&str, &str); 12] = [
+static SELECTIONS: [(&str, &str); 12] = [
     ("&", "22 at 0"),
     ("&&", "22 at 0"),
     ("&x>1", "22 at 0"),

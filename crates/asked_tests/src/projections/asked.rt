@@ -6,7 +6,7 @@ use std::test::Fail;
 
 // Declarations with their lengths, and then the parts with their slabs.
 #[rattlefmt::skip]
-const FORECAST: [(&str, &str); 30] = [
+static FORECAST: [(&str, &str); 30] = [
     ("",
         "time[time=3]; lat[lat=2]; lon[lon=2]; Grid t(t[time=3][lat=2][lon=2], time[time=3], lat[lat=2], \
          lon[lon=2]); time_run[time=3]; time_offset[time=3] | 0.0 0:1:2, 1.0 0:1:1, 2.0 0:1:1, 3.0 0:1:2 0:1:1 \
@@ -66,7 +66,7 @@ const FORECAST: [(&str, &str); 30] = [
 
 // A value without dimensions, a dimension without an index, and a Structure; with faults.
 #[rattlefmt::skip]
-const KINDS: [(&str, &str); 10] = [
+static KINDS: [(&str, &str); 10] = [
     ("", "alone; none[x=0]; Structure s(a[x=2], b) | 0.0, 1.0 1:1:0, 2.0 0:1:1, 2.1"),
     ("alone", "alone | 0.0"),
     ("none", "none[x=0] | 1.0 1:1:0"),

@@ -6,7 +6,7 @@ use std::test::Fail;
 
 // A fault by its number, with its name and numbers.
 #[rattlefmt::skip]
-const FAULTS: [(&str, &str); 34] = [
+static FAULTS: [(&str, &str); 34] = [
     ("q", "23 q"),
     ("T", "23 T"),
     ("t.q", "23 t.q"),

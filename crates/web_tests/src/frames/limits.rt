@@ -49,22 +49,24 @@ fn a_head_may_have_64_lines_and_no_more(rt: HostRuntime) -> Result<(), Fail> {
     Ok(())
 }
 
+// Line ends, and whether the lines are a head.
+static ENDS: [(&[u8], Next); 10] = [
+    (b"GET / HTTP/1.1\n\n", PLAIN),
+    (b"GET / HTTP/1.1\n\r\n", PLAIN),
+    (b"GET / HTTP/1.1\r\n\n", PLAIN),
+    (b"GET / HTTP/1.1\nA: b\n\r\n", PLAIN),
+    (b"\nGET / HTTP/1.1\r\n\r\n", PLAIN),
+    (b"\r\n\n\r\nGET / HTTP/1.1\r\n\r\n", PLAIN),
+    (b"\rGET / HTTP/1.1\r\n\r\n", Next::BadHead),
+    (b"\r\r\nGET / HTTP/1.1\r\n\r\n", Next::BadHead),
+    (b"GET / HTTP/1.1\r\nA: b\r\r\n\r\n", Next::BadHead),
+    (b" \r\n\r\n", Next::BadHead),
+];
+
 #[test]
 fn lines_end_in_lf_or_cr_lf(rt: HostRuntime) -> Result<(), Fail> {
-    let rows: [(&[u8], Next); 10] = [
-        (b"GET / HTTP/1.1\n\n", PLAIN),
-        (b"GET / HTTP/1.1\n\r\n", PLAIN),
-        (b"GET / HTTP/1.1\r\n\n", PLAIN),
-        (b"GET / HTTP/1.1\nA: b\n\r\n", PLAIN),
-        (b"\nGET / HTTP/1.1\r\n\r\n", PLAIN),
-        (b"\r\n\n\r\nGET / HTTP/1.1\r\n\r\n", PLAIN),
-        (b"\rGET / HTTP/1.1\r\n\r\n", Next::BadHead),
-        (b"\r\r\nGET / HTTP/1.1\r\n\r\n", Next::BadHead),
-        (b"GET / HTTP/1.1\r\nA: b\r\r\n\r\n", Next::BadHead),
-        (b" \r\n\r\n", Next::BadHead),
-    ];
-    for (head, want) in rows {
-        cut_everywhere(&rt, rt.alloc(), head, want)?;
+    for (head, want) in &ENDS {
+        cut_everywhere(&rt, rt.alloc(), head, *want)?;
     }
     Ok(())
 }

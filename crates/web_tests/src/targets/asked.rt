@@ -8,7 +8,7 @@ use web_path::Service::{Das, Dds, Dods};
 // The targets of a pair of requests on one link are among them: a structure, and every second time of a slab whose
 // brackets are escaped.
 #[rattlefmt::skip]
-const ASKED: [Row; 34] = [
+static ASKED: [Row; 34] = [
     (b"/thredds/dodsC/gfs/gfs_best.ncd.dds", Best, Dds, b"", b"gfs_best.ncd"),
     (b"/thredds/dodsC/gfs/gfs_best.ncd.das", Best, Das, b"", b"gfs_best.ncd"),
     (b"/thredds/dodsC/gfs/gfs_best.ncd.dods", Best, Dods, b"", b"gfs_best.ncd"),
@@ -59,7 +59,7 @@ const ASKED: [Row; 34] = [
 
 #[test]
 fn a_target_is_read_as_what_it_asks_for(rt: HostRuntime) -> Result<(), Fail> {
-    for row in ASKED {
+    for row in &ASKED {
         asks(&rt, rt.alloc(), row)?;
     }
     Ok(())

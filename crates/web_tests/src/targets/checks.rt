@@ -28,7 +28,7 @@ fn read(alloc: Global, target: &[u8], epoch: i64) -> Result<Target, Fail<PathFau
 }
 
 // The target asks for that.
-pub(crate) fn asks(rt: &impl Abort, alloc: Global, row: Row) -> Result<(), NoMemory> {
+pub(crate) fn asks(rt: &impl Abort, alloc: Global, row: &Row) -> Result<(), NoMemory> {
     match read(alloc, row.0, EPOCH) {
         Ok(target) => {
             assert_eq!(rt; target.view, row.1);

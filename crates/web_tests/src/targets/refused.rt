@@ -6,7 +6,7 @@ use web_path::PathFault::{BadEscape, NoSuchDataset, NoSuchService};
 
 // The place of the first `%` without two hexadecimal digits after it.
 #[rattlefmt::skip]
-const BAD_ESCAPES: [(&[u8], u64); 12] = [
+static BAD_ESCAPES: [(&[u8], u64); 12] = [
     (b"%", 0),
     (b"%2", 0),
     (b"%2G", 0),
@@ -22,7 +22,7 @@ const BAD_ESCAPES: [(&[u8], u64); 12] = [
 ];
 
 #[rattlefmt::skip]
-const NO_VIEWS: [&[u8]; 43] = [
+static NO_VIEWS: [&[u8]; 43] = [
     b"",
     b"/",
     b"?",
@@ -69,7 +69,7 @@ const NO_VIEWS: [&[u8]; 43] = [
 ];
 
 #[rattlefmt::skip]
-const NO_SERVICES: [&[u8]; 6] = [
+static NO_SERVICES: [&[u8]; 6] = [
     b"/thredds/dodsC/gfs/gfs_best.ncd.",
     b"/thredds/dodsC/gfs/gfs_best.ncd.html",
     b"/thredds/dodsC/gfs/gfs_best.ncd.DDS",
@@ -80,15 +80,15 @@ const NO_SERVICES: [&[u8]; 6] = [
 
 #[test]
 fn a_bad_escape_is_refused_with_its_place(rt: HostRuntime) -> Result<(), Fail> {
-    for (target, at) in BAD_ESCAPES {
-        has_fault(&rt, rt.alloc(), target, EPOCH, BadEscape(at))?;
+    for (target, at) in &BAD_ESCAPES {
+        has_fault(&rt, rt.alloc(), target, EPOCH, BadEscape(*at))?;
     }
     Ok(())
 }
 
 #[test]
 fn a_path_of_no_view_is_refused(rt: HostRuntime) -> Result<(), Fail> {
-    for target in NO_VIEWS {
+    for target in &NO_VIEWS {
         has_fault(&rt, rt.alloc(), target, EPOCH, NoSuchDataset)?;
     }
     Ok(())
@@ -96,7 +96,7 @@ fn a_path_of_no_view_is_refused(rt: HostRuntime) -> Result<(), Fail> {
 
 #[test]
 fn a_path_of_no_service_is_refused(rt: HostRuntime) -> Result<(), Fail> {
-    for target in NO_SERVICES {
+    for target in &NO_SERVICES {
         has_fault(&rt, rt.alloc(), target, EPOCH, NoSuchService)?;
     }
     Ok(())
