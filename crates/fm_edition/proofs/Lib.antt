@@ -1,5 +1,14 @@
 pub mod BestSteps
 pub mod CellSteps
+pub mod ChangeLemmas
+pub mod CountLemmas
 pub mod EditionLemmas
+pub mod PageLemmas
+pub mod EntryLemmas
+pub mod IndexLemmas
+pub mod KeyLemmas
 pub mod OrderLemmas
+pub mod PartLemmas
+pub mod RowLemmas
 pub mod TallyLemmas
+pub mod WalkLemmas

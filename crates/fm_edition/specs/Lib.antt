@@ -1,5 +1,7 @@
+pub mod Change
 pub mod Found
 pub mod Held
+pub mod Indexes
 pub mod Log
 pub use Rattle.fm_model.specs.Collection
 pub use Rattle.fm_model.specs.Cell

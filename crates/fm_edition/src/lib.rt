@@ -2,9 +2,10 @@
 #![tactic(auto)]
 
 pub mod laws;
+mod maps;
 mod offset;
 pub mod plain_list;
 
 pub use fm_model::{Full, Tally, Which};
+pub use maps::Edition;
 pub use offset::keeps_least_offset;
-pub use plain_list::Edition;

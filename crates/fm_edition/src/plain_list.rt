@@ -1,18 +1,21 @@
 //! An edition that is a list of its files. Look-ups go through the list.
 ghost use Rattle.std.specs.Prelude.{◌≡◌, [], IfOk, IfSome, IsNone, None, Some};
+ghost use Rattle.std.specs.List.{filter_map};
 ghost use Rattle.fm_base.specs.Answer.{Answers};
-ghost use Rattle.fm_model.specs.Cell.{best, cell, runs_of, times_of_run};
+ghost use Rattle.fm_model.specs.Cell.{best, cell, runs_of, times_of, times_of_run};
 ghost use Rattle.fm_model.specs.Collection.{full_at, holds, holds_older, tally};
+ghost use Rattle.fm_model.specs.Rows.{best_row};
 ghost use Rattle.fm_model.specs.Site.{IsPrototype};
 ghost use Rattle.fm_edition.specs.Held.{next_or_full, IsEdition, OpFits};
 
-mod changing;
-mod counting;
-mod finding;
-mod instants;
+pub(crate) mod best;
+pub(crate) mod changing;
+pub(crate) mod counting;
+pub(crate) mod finding;
+pub(crate) mod instants;
 
 use fm_base::{Arc, Fail, List, NoMemory};
-use fm_model::{Full, Loaded, Op, Proto, Tally};
+use fm_model::{Full, Loaded, Op, Proto, Row, Tally};
 use std::alloc::Global;
 use std::marker::Model;
 
@@ -115,6 +118,14 @@ impl Edition {
         ensures { result ≡ best self.now.files valid least }
     {
         finding::best_of(self.files.as_slice(), valid, least)
+    }
+
+    /// One row for each valid time that has a best run, from that run.
+    pub fn best_rows(&self, alloc: Global, least: Option<i64>) -> Result<List<Row>, NoMemory>
+        ensures { IfOk result (λ rows.
+            rows ≡ filter_map (best_row self.now.files least) (times_of self.now.files)) }
+    {
+        best::best_rows(alloc, self.files.as_slice(), least)
     }
 
     /// The prototype, and what every edition keeps.

@@ -1,3 +1,1 @@
-pub mod EntryLemmas
-pub mod NotedLemmas
 pub mod RowSteps

@@ -1,10 +1,7 @@
--- One more row, and how many rows there are where each look-up finds one.
-use Rattle.std.proofs.Common.{◌≡◌, ℕ, ◌+◌, ◌<◌, Bool, true, false, cond, List, [], ◌∷◌, ◌++◌, length, get_or, take, Option, Some, None, ℤ, refl, sym, ap, ◌∙◌, arith, rules, SFits, w64}
+-- How many rows there are where each look-up finds one, and which instants have none.
+use Rattle.std.proofs.Common.{◌≡◌, cond, List, [], ◌∷◌, length, Option, Some, None, ℤ, refl, arith, rules, SFits, w64}
 use Rattle.std.specs.Prelude.{filter, is_some, IsSome}
 use Rattle.std.specs.List.{filter_map, cons_option}
-use Rattle.std.specs.Option.{option_to_list}
-use Rattle.std.proofs.lemmas.List.{take_more}
-use Rattle.std.proofs.lemmas.List.Elements.{filter_map-append}
 use Rattle.fm_model.specs.declared.loaded.Loaded.{Loaded}
 use Rattle.fm_model.specs.Cell.{cell, times_of_run}
 use Rattle.fm_model.specs.Rows.{row_at}
@@ -16,39 +13,6 @@ use Rattle.fm_model.specs.Load.{Fits}
 use Rattle.fm_model.specs.LoadTimes.{IsInstant}
 use Rattle.fm_edition.specs.Held.{Held, IsEdition}
 use Rattle.fm_model.specs.Cell.{HasCell}
-
-pub filter_map-more : {A B : Type 0} (make : A → Option B) (items : List A) (i : ℕ) (d : A) → i < length items
-    → filter_map make (take (i + 1) items) ≡ filter_map make (take i items) ++ option_to_list (make (get_or items i d))
-filter_map-more {A} {B} make items i d lt =
-    ap (filter_map make) (take_more items i d lt) ∙ filter_map-append make (take i items) (get_or items i d ∷ [])
-    ∙ ap (λ l. filter_map make (take i items) ++ l) (alone (make (get_or items i d)))
-  where
-    alone : (o : Option B) → cons_option o [] ≡ option_to_list o
-    alone None = refl
-    alone (Some x) = refl
-
--- one more item may make one more
-pub one_more : {A B : Type 0} (make : A → Option B) (made : List B) (o : Option B) (items : List A) (i : ℕ) (d : A)
-    → i < length items
-    → made ≡ filter_map make (take i items) → o ≡ make (get_or items i d) → made ++ option_to_list o
-    ≡ filter_map make (take (i + 1) items)
-one_more make made o items i d lt before is = cc (filter_map-more make items i d lt, before, is)
-
--- what is made of the items so far and of those that are left, with one item more
-pub one_taken : {A B : Type 0} (make : A
-    → Option B) (made : List B) (o : Option B) (item : A) (rest before : List A) (whole : List B) → before
-    ≡ item ∷ rest
-    → made ++ filter_map make before ≡ whole → o ≡ make item → (made ++ option_to_list o) ++ filter_map make rest
-    ≡ whole
-one_taken {A} {B} make made o item rest before whole is sum found =
-    joined made o (filter_map make rest) ∙ ap (λ x. made ++ cons_option x (filter_map make rest)) found
-    ∙ ap (λ l. made ++ filter_map make l) (sym is) ∙ sum
-  where
-    joined : (made : List B) (o : Option B) (more : List B) → (made ++ option_to_list o) ++ more
-        ≡ made ++ cons_option o more
-    joined [] None more = refl
-    joined [] (Some x) more = refl
-    joined (x ∷ made) o more = ap (λ l. x ∷ l) (joined made o more)
 
 -- those that make something are as many as what is made
 pub length-filter_map : {A B : Type 0} (make : A → Option B) (items : List A) → length (filter_map make items)
@@ -86,19 +50,6 @@ length-filter_map_all make (item ∷ items) each =
     let made = value-from_some (make item) each.0 in
     let more = length-filter_map_all make items each.1 in
     rw made.1 (omega (arith, more))
-
--- what makes nothing may be left out
-pub filter_map-filter : {A B : Type 0} (make : A → Option B) (test : A → Bool)
-    → ((item : A) → test item ≡ false → make item ≡ None) → (items : List A)
-    → filter_map make (filter test items) ≡ filter_map make items
-filter_map-filter make test none [] = refl
-filter_map-filter {A} {B} make test none (item ∷ items) = by_test (test item) refl
-    (filter_map-filter make test none items)
-  where
-    by_test : (b : Bool) → test item ≡ b → filter_map make (filter test items) ≡ filter_map make items
-        → filter_map make (cond b (item ∷ filter test items) (filter test items)) ≡ filter_map make (item ∷ items)
-    by_test true is same = ap (cons_option (make item)) same
-    by_test false is same = rw (none item is) same
 
 -- a cell has its row
 pub IsSome-row_at : (files : List Loaded) (run valid : ℤ) → IsSome (cell files run valid)

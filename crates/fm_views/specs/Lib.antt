@@ -1,2 +1,1 @@
-pub mod Noted
 pub use Rattle.fm_model.specs.Rows

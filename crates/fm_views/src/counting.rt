@@ -3,7 +3,6 @@ ghost use Rattle.std.specs.Prelude.{◌≡◌, ◌+ℤ◌, IfOk, filter, is_some
 ghost use Rattle.fm_model.specs.Cell.{runs_of};
 ghost use Rattle.fm_model.specs.Rows as views;
 
-use crate::best::best_runs;
 use crate::runs::{has_row, has_row_after};
 use fm_base::NoMemory;
 use fm_edition::Edition;
@@ -54,8 +53,8 @@ pub fn row_count(alloc: Global, edition: &Edition, view: &ViewName) -> Result<u6
     ensures { IfOk result (λ count. count ≡ length (views.rows edition.now.files view.now)) }
 {
     let count = match view {
-        ViewName::Best => best_runs(alloc, edition, None)?.len(),
-        ViewName::BestFrom(least) => best_runs(alloc, edition, Some(*least))?.len(),
+        ViewName::Best => edition.best_count(None),
+        ViewName::BestFrom(least) => edition.best_count(Some(*least)),
         ViewName::Run(run) => edition.times_of(alloc, *run)?.len(),
         ViewName::Offset(seconds) => count_at_offset(alloc, edition, *seconds)?,
         ViewName::Forecast(valid) => count_at_valid(alloc, edition, *valid)?,

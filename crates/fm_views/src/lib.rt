@@ -2,7 +2,6 @@
 //! offset and of a constant forecast time (THREDDS Data Server, Forecast Model Run Collections).
 #![tactic(auto)]
 
-mod best;
 mod counting;
 mod runs;
 mod view;

@@ -69,7 +69,7 @@ pub(crate) fn push_some(rows: &mut List<Row>, row: Option<Row>) -> Result<(), No
 }
 
 // One row for each valid time of a run.
-#[tactic(auto, using(crate::proofs::RowSteps::one_more))]
+#[tactic(auto, using(fm_edition::proofs::WalkLemmas::one_more))]
 pub(crate) fn rows_of_run(alloc: Global, edition: &Edition, run: i64) -> Result<List<Row>, NoMemory>
     ensures { IfOk result (λ rows.
         rows ≡ filter_map (row_at edition.now.files run) (times_of_run edition.now.files run)) }
@@ -83,7 +83,7 @@ pub(crate) fn rows_of_run(alloc: Global, edition: &Edition, run: i64) -> Result<
 }
 
 // One row for each run that has the valid time that many seconds after it.
-#[tactic(auto, using(crate::proofs::RowSteps::one_more))]
+#[tactic(auto, using(fm_edition::proofs::WalkLemmas::one_more))]
 pub(crate) fn rows_at_offset(
     alloc: Global,
     edition: &Edition,
@@ -102,7 +102,7 @@ pub(crate) fn rows_at_offset(
 }
 
 // One row for each run that has the valid time.
-#[tactic(auto, using(crate::proofs::RowSteps::one_more))]
+#[tactic(auto, using(fm_edition::proofs::WalkLemmas::one_more))]
 pub(crate) fn rows_at_valid(
     alloc: Global,
     edition: &Edition,

@@ -3,7 +3,6 @@ ghost use Rattle.std.specs.Prelude.{◌≡◌, ◌≢◌, [], IfOk};
 ghost use Rattle.fm_base.specs.Answer.{OnFault};
 ghost use Rattle.fm_model.specs.Rows as views;
 
-use crate::best::best_rows;
 use crate::runs::{rows_at_offset, rows_at_valid, rows_of_run};
 use fm_base::{Fail, List, NoMemory};
 use fm_edition::Edition;
@@ -32,8 +31,8 @@ fn all_rows(alloc: Global, edition: &Edition, view: &ViewName) -> Result<List<Ro
     ensures { IfOk result (λ list. list ≡ views.rows edition.now.files view.now) }
 {
     match view {
-        ViewName::Best => best_rows(alloc, edition, None),
-        ViewName::BestFrom(least) => best_rows(alloc, edition, Some(*least)),
+        ViewName::Best => edition.best_rows(alloc, None),
+        ViewName::BestFrom(least) => edition.best_rows(alloc, Some(*least)),
         ViewName::Run(run) => rows_of_run(alloc, edition, *run),
         ViewName::Offset(seconds) => rows_at_offset(alloc, edition, *seconds),
         ViewName::Forecast(valid) => rows_at_valid(alloc, edition, *valid),

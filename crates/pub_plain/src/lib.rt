@@ -5,8 +5,6 @@
 mod look;
 mod plain;
 mod query;
-#[cfg(test)]
-mod tests;
 
 pub use look::Look;
 pub use plain::Plain;

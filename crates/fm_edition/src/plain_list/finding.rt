@@ -1,5 +1,5 @@
 //! Which files have a name, a run or a valid time.
-ghost use Rattle.std.specs.Prelude.{◌≡◌, ◌≤◌, [], ◌∷◌, ◌++◌, All, IfSome, IsNone, List, None, Some, length, position};
+ghost use Rattle.std.specs.Prelude.{◌≡◌, ◌≤◌, [], ◌∷◌, ◌++◌, All, IfSome, IsNone, List, None, Some, length, position, true};
 ghost use Rattle.std.specs.Ordering.{int_eq};
 ghost use Rattle.fm_model.specs.declared.loaded.Loaded.{Loaded as File};
 ghost use Rattle.fm_model.specs.Cell.{best, cell, has_time};
@@ -27,7 +27,7 @@ pub(crate) fn has_older(files: &[Arc<Loaded>], cutoff: i64) -> bool
 }
 
 // The first place of a valid time among some times.
-fn place_of(times: &[i64], valid: i64) -> Option<usize>
+pub(crate) fn place_of(times: &[i64], valid: i64) -> Option<usize>
     ensures { result ≡ position (λ time. int_eq time valid) times.now }
 {
     times.iter().position(|time| *time == valid)
@@ -66,14 +66,20 @@ pub(crate) fn cell_of(files: &[Arc<Loaded>], run: i64, valid: i64) -> Option<(&A
 
 // Whether a file has a valid time.
 #[tactic(auto, unfolding(fm_model::specs::Cell::has_time))]
-fn has_valid(file: &Loaded, valid: i64) -> bool
+pub(crate) fn has_valid(file: &Loaded, valid: i64) -> bool
     ensures { result ≡ has_time valid file.now }
 {
     file.times.as_slice().iter().any(|time| *time == valid)
 }
 
-// The best run of some files and one more, where `greatest` is that of the others.
-fn raised(greatest: Option<i64>, file: &Loaded, valid: i64, least: Option<i64>) -> Option<i64>
+// The best run of some files and one more that has the valid time, where `greatest` is that of the others.
+pub(crate) fn raised_by(
+    greatest: Option<i64>,
+    file: &Loaded,
+    valid: i64,
+    least: Option<i64>,
+) -> Option<i64>
+    requires { has_time valid file.now ≡ true }
     ensures { (others : List File) → best others valid least ≡ greatest
         → best (others ++ file.now ∷ []) valid least ≡ result }
 {
@@ -85,10 +91,18 @@ fn raised(greatest: Option<i64>, file: &Loaded, valid: i64, least: Option<i64>) 
     if !keeps_least_offset(least, file.run, valid) {
         return greatest;
     }
+    Some(file.run)
+}
+
+// The best run of some files and one more, where `greatest` is that of the others.
+fn raised(greatest: Option<i64>, file: &Loaded, valid: i64, least: Option<i64>) -> Option<i64>
+    ensures { (others : List File) → best others valid least ≡ greatest
+        → best (others ++ file.now ∷ []) valid least ≡ result }
+{
     if !has_valid(file, valid) {
         return greatest;
     }
-    Some(file.run)
+    raised_by(greatest, file, valid, least)
 }
 
 // The best run for a valid time.

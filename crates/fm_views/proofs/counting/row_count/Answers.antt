@@ -1,38 +1,27 @@
--- Each entry, each time of a run, and each run that is counted has its row.
-use Rattle.std.proofs.Common.{◌+ℤ◌, None, Some, rules, sym, ap, length, ◌∙◌, SFits, w64}
+-- Each time of a run, and each run that is counted, has its row.
+use Rattle.std.proofs.Common.{◌+ℤ◌, rules, sym, ap, length, ◌∙◌, SFits, w64}
 use Rattle.std.proofs.lemmas.Int.{to_z-of_z}
 use Rattle.fm_model.specs.Cell.{runs_of}
 use Rattle.fm_model.specs.Rows.{row_at, rows}
-use Rattle.fm_views.proofs.EntryLemmas.{AreBest, length-best_rows}
 use Rattle.fm_views.proofs.RowSteps.{length-filter_map, length-rows_of_run}
 use Rattle.fm_views.proofs.counting.row_count.Goals as goal
 
-pub returns-in_ok-best_runs-in-Best : goal.returns-in_ok-best_runs-in-Best
+pub returns-in-Best : goal.returns-in-Best
 unfolding rows
-returns-in_ok-best_runs-in-Best c =
-    let entries = c.in_ok-best_runs-in-Best.field-0.entries in
-    let are : AreBest c.args.edition.now.files None entries = record
-    { sorted = c.len-count.ensures.ordered; found = c.in_ok-best_runs-in-Best.ensures } in
-    rw c.in-Best.is (c.len-count.ensures.len ∙ sym (length-best_rows c.args.edition.now.files None entries are))
+returns-in-Best c = rw c.in-Best.is c.best_count-count.ensures
 
-pub returns-in_ok-best_runs-in-BestFrom : goal.returns-in_ok-best_runs-in-BestFrom
+pub returns-in-BestFrom : goal.returns-in-BestFrom
 unfolding rows
-returns-in_ok-best_runs-in-BestFrom c =
+returns-in-BestFrom c =
     let a : SFits w64 c.in-BestFrom.least = search rules in
-    let entries = c.in_ok-best_runs-in-BestFrom.field-0.entries in
-    let found = simp to_z-of_z at c.in_ok-best_runs-in-BestFrom.ensures in
-    let are : AreBest c.args.edition.now.files
-    (Some c.in-BestFrom.least) entries = record
-    { sorted = c.len-count-in-BestFrom.ensures.ordered; found = found } in
-    rw c.in-BestFrom.is (c.len-count-in-BestFrom.ensures.len
-    ∙ sym (length-best_rows c.args.edition.now.files (Some c.in-BestFrom.least) entries are))
+    rw c.in-BestFrom.is (simp to_z-of_z at c.best_count-count-in-BestFrom.ensures)
 
 pub returns-in_ok-times_of-in-Run : goal.returns-in_ok-times_of-in-Run
 unfolding rows
 returns-in_ok-times_of-in-Run c =
     let a : SFits w64 c.in-Run.run' = search rules in
     let times = simp to_z-of_z at c.in_ok-times_of-in-Run.ensures in
-    rw c.in-Run.is (c.len-count-in-Run.ensures ∙ ap length times
+    rw c.in-Run.is (c.len-count.ensures ∙ ap length times
     ∙ sym (length-rows_of_run c.args.edition.now.files c.in-Run.run'))
 
 pub returns-in_ok-count-in-Offset : goal.returns-in_ok-count-in-Offset

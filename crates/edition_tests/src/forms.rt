@@ -1,0 +1,149 @@
+//! An edition over ordered maps against one that is a list of its files, after the same operations.
+ghost use Rattle.std.specs.Prelude.{IfOk};
+ghost use Rattle.fm_edition.specs.Held.{OpFits};
+
+use crate::made::{NAMES, file, hours, name, run_of};
+use fm_base::Arc;
+use fm_edition::{Edition, plain_list};
+use fm_model::{Loaded, Op, Proto, Row};
+use fm_sample::{File, edition_of};
+use std::alloc::Global;
+use std::process::Abort;
+use std::test::Fail;
+
+// The number of operations that are done.
+const OPERATIONS: u32 = 1_000;
+
+// Least offsets: none, at the run, at six hours, and a second more.
+const LEAST: [Option<i64>; 4] = [None, Some(0), Some(21_600), Some(21_601)];
+
+// The same files in both forms.
+#[derive(Drop)]
+struct Both {
+    maps: Edition,
+    list: plain_list::Edition,
+}
+
+// The operation of a number over a prototype: one of sixteen lets runs expire, three take a name back, the others put
+// a file.
+fn op_of(rt: &impl Abort, alloc: Global, proto: &Proto, x: u32) -> Result<Op, Fail>
+    ensures { IfOk result (OpFits proto.now) }
+{
+    let [kind, how, which, _] = x.to_be_bytes();
+    let k = which % NAMES;
+    if kind % 16 == 0 {
+        return Ok(Op::Expire(run_of(k)));
+    }
+    if kind % 16 < 4 {
+        return Ok(Op::Retract(name(alloc, k)?));
+    }
+    Ok(Op::Put(file(rt, alloc, proto, k, how % 8)?))
+}
+
+// The next number of a recurrence.
+fn next(x: u32) -> u32 {
+    x.wrapping_mul(1_664_525).wrapping_add(1_013_904_223)
+}
+
+// Both forms after the operation of a number.
+fn after(rt: &impl Abort, alloc: Global, both: &Both, x: u32) -> Result<Both, Fail> {
+    let op = op_of(rt, alloc, both.maps.proto().get(), x)?;
+    let maps = both.maps.after(alloc, &op)?;
+    let op = op_of(rt, alloc, both.list.proto().get(), x)?;
+    let list = both.list.after(alloc, &op)?;
+    Ok(Both { maps, list })
+}
+
+// Two files have the same name and times.
+fn same_file(one: &Loaded, other: &Loaded) -> bool {
+    one.name.as_slice() == other.name.as_slice() && one.times.as_slice() == other.times.as_slice()
+}
+
+fn same_row(one: &Row, other: &Row) -> bool {
+    (one.valid, one.run, one.place) == (other.valid, other.run, other.place)
+        && same_file(one.file.get(), other.file.get())
+}
+
+// The two have the same cell, or none.
+fn same_cell(one: Option<(&Arc<Loaded>, u32)>, other: Option<(&Arc<Loaded>, u32)>) -> bool {
+    match (one, other) {
+        (Some((file, place)), Some((same, there))) => {
+            place == there && same_file(file.get(), same.get())
+        }
+        (None, None) => true,
+        _ => false,
+    }
+}
+
+// Both hold a name, or a run before its run, or neither does.
+fn same_names(rt: &impl Abort, alloc: Global, both: &Both, k: u8) -> Result<(), Fail> {
+    let (name, run) = (name(alloc, k)?, run_of(k));
+    assert_eq!(rt;
+        both.maps.holds(name.as_slice()),
+        both.list.holds(name.as_slice())
+    );
+    assert_eq!(rt; both.maps.older_than(run), both.list.older_than(run));
+    Ok(())
+}
+
+// The cells and the valid times of a run agree.
+fn same_run(rt: &impl Abort, alloc: Global, both: &Both, run: i64) -> Result<(), Fail> {
+    let times = both.maps.times_of(alloc, run)?;
+    assert_eq!(rt;
+        times.as_slice(),
+        both.list.times_of(alloc, run)?.as_slice()
+    );
+    for valid in hours() {
+        assert!(rt; same_cell(both.maps.cell(run, valid), both.list.cell(run, valid)));
+    }
+    Ok(())
+}
+
+// The best runs agree, and the rows of the best time series and their number.
+fn same_best(rt: &impl Abort, alloc: Global, both: &Both, least: Option<i64>) -> Result<(), Fail> {
+    for valid in hours() {
+        let run = both.maps.best_run(valid, least);
+        assert_eq!(rt; run, both.list.best_run(valid, least));
+    }
+    let rows = both.maps.best_rows(alloc, least)?;
+    let others = both.list.best_rows(alloc, least)?;
+    assert_eq!(rt; rows.len(), others.len());
+    assert_eq!(rt; rows.len(), both.maps.best_count(least));
+    for (row, other) in rows.as_slice().iter().zip(others.as_slice()) {
+        assert!(rt; same_row(row, other));
+    }
+    Ok(())
+}
+
+// Both forms answer alike.
+fn compare(rt: &impl Abort, alloc: Global, both: &Both) -> Result<(), Fail> {
+    assert_eq!(rt; both.maps.tally(), both.list.tally());
+    let held = both.maps.runs(alloc)?;
+    assert_eq!(rt; held.as_slice(), both.list.runs(alloc)?.as_slice());
+    for k in 0..NAMES {
+        same_names(rt, alloc, both, k)?;
+        same_run(rt, alloc, both, run_of(k))?;
+    }
+    for least in LEAST {
+        same_best(rt, alloc, both, least)?;
+    }
+    Ok(())
+}
+
+#[test]
+fn both_forms_agree_after_each_of_1000_operations(rt: HostRuntime) -> Result<(), Fail> {
+    let alloc = rt.alloc();
+    let maps = edition_of(alloc, File::Sample.bytes(alloc)?)?;
+    let list = plain_list::Edition::empty(alloc, maps.proto().share()?)?;
+    let mut both = Both { maps, list };
+    let mut most = 0;
+    let mut x = 7;
+    for _ in 0..OPERATIONS {
+        x = next(x);
+        both = after(&rt, alloc, &both, x)?;
+        compare(&rt, alloc, &both)?;
+        most = both.maps.tally().files.max(most);
+    }
+    assert!(rt; most > 10);
+    Ok(())
+}

@@ -1,0 +1,65 @@
+-- What every edition keeps of its maps: at the start, and after an operation.
+use Rattle.std.proofs.Common.{◌≡◌, Bool, true, false, cond, List, [], Option, None, ℤ, refl}
+use Rattle.std.specs.BTreeMap.{BTreeMap, IsOrdered}
+use Rattle.std.specs.Ordering.{int_cmp, int_eq}
+use Rattle.std.proofs.lemmas.List.Elements.{All-nil}
+use Rattle.fm_model.specs.declared.full.Tally.{Tally}
+use Rattle.fm_model.specs.declared.loaded.Loaded.{Loaded}
+use Rattle.fm_model.specs.declared.op.Op.{Op}
+use Rattle.fm_model.specs.declared.proto.Proto.{Proto}
+use Rattle.fm_model.specs.Collection.{after_op, tally}
+use Rattle.fm_model.specs.Site.{IsPrototype}
+use Rattle.fm_edition.specs.declared.maps.by.By.{By}
+use Rattle.fm_edition.specs.declared.maps.by.By.TheVariants.{Run, Time}
+use Rattle.fm_edition.specs.Change.{changed}
+use Rattle.fm_edition.specs.Held.{Held, held_after}
+use Rattle.fm_edition.specs.Indexes.{in_page, instants, page_of, page_set, part, shown_in, AreOrdered, AreParts, IsIndexed, Pages}
+use Rattle.fm_edition.specs.Log.{CanFollow}
+use Rattle.fm_edition.proofs.EditionLemmas.{IsEdition-after, IsEdition-none}
+use Rattle.fm_edition.proofs.PageLemmas.{AreParts-after}
+
+-- pages without entries are those of no files
+AreParts-none : (by : By) (pages : Pages) → pages.entries ≡ [] → IsOrdered int_cmp pages → AreParts by [] pages
+unfolding shown_in part
+AreParts-none by pages none ordered = record {
+  ordered = record {
+    numbers = ordered;
+    each = rw none (All-nil (λ (page : BTreeMap ℤ (List Loaded)). IsOrdered int_cmp page));
+  };
+  shown = λ number key. rw none (nothing (int_eq (page_of key) number));
+}
+  where
+    nothing : (a : Bool) → ◌≡◌ {A = Option (List Loaded)} None (cond a None None)
+    nothing true = refl
+    nothing false = refl
+
+-- the maps of no files
+pub IsIndexed-none : (proto : Proto) (count : Tally) (by_run by_time : Pages) → IsPrototype proto
+    → count ≡ record { files = 0; rows = 0; size = 0 } → by_run.entries ≡ [] → IsOrdered int_cmp by_run
+    → by_time.entries ≡ [] → IsOrdered int_cmp by_time
+    → IsIndexed (record { proto = proto; files = [] }) count by_run by_time
+unfolding tally
+IsIndexed-none proto count by_run by_time is none no_run run_order no_time time_order = record {
+  sound = IsEdition-none proto is;
+  counted = none;
+  of_runs = AreParts-none Run by_run no_run run_order;
+  of_times = AreParts-none Time by_time no_time time_order;
+}
+
+-- pages that an operation was done to
+pub record IsDone (by : By) (files : List Loaded) (op : Op) (pages next : Pages) : Type 0 where
+  pub ordered : AreOrdered next
+  pub set : (number key : ℤ) → in_page next number key
+      ≡ page_set by (instants by (changed files op)) op (in_page pages) number key
+
+-- the maps after an operation
+pub IsIndexed-after : (held : Held) (op : Op) (before count : Tally) (by_run by_time next_run next_time : Pages)
+    → IsIndexed held before by_run by_time → CanFollow held.proto held.files op
+    → count ≡ tally (after_op held.files op) → IsDone Run held.files op by_run next_run
+    → IsDone Time held.files op by_time next_time → IsIndexed (held_after held op) count next_run next_time
+IsIndexed-after held op before count by_run by_time next_run next_time is can counted runs times = record {
+  sound = IsEdition-after held op is.sound can;
+  counted = counted;
+  of_runs = AreParts-after Run held.files op by_run next_run is.of_runs runs.ordered runs.set;
+  of_times = AreParts-after Time held.files op by_time next_time is.of_times times.ordered times.set;
+}

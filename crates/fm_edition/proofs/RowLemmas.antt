@@ -1,0 +1,70 @@
+-- The rows of the entries by valid times.
+use Rattle.std.proofs.Common.{◌≡◌, ℕ, List, [], ◌∷◌, Option, Some, None, ℤ, refl, sym, ap, subst, ◌∙◌}
+use Rattle.std.specs.Prelude.{All, option_and_then}
+use Rattle.std.specs.Option.{option_map}
+use Rattle.std.specs.List.{filter_map, cons_option}
+use Rattle.std.specs.Map.{keys_of}
+use Rattle.fm_model.specs.declared.loaded.Loaded.{Loaded}
+use Rattle.fm_model.specs.declared.row.Row.{Row}
+use Rattle.fm_model.specs.Cell.{best, cell, runs_of, times_of}
+use Rattle.fm_model.specs.Rows.{best_row, row_at}
+use Rattle.fm_model.proofs.Members.{Each, All-from_each, Each-weaker}
+use Rattle.fm_edition.specs.declared.maps.by.By.TheVariants.{Run, Time}
+use Rattle.fm_edition.specs.Indexes.{entries_of, entry_row, instants, part, AreFew, AreParts, HaveTime, IsTimed, Pages}
+use Rattle.fm_edition.proofs.EntryLemmas.{entry_files}
+use Rattle.fm_edition.proofs.KeyLemmas.{keys_are}
+use Rattle.fm_edition.proofs.PartLemmas.{best-part, cell-part, few-part, have-part}
+
+-- the files by a valid time have the row of its best run
+best_row-part : (files : List Loaded) (valid : ℤ) (least : Option ℤ)
+    → best_row (part Time files valid) least valid ≡ best_row files least valid
+unfolding best_row row_at
+best_row-part files valid least = rw (best-part files valid least) (by_best (best files valid least))
+  where
+    row : Loaded × ℕ → ℤ → Row
+    row found run = record { valid = valid; run = run; file = found.0; place = found.1 }
+
+    own : ℤ → Option Row
+    own run = option_map (λ (found : Loaded × ℕ). row found run) (cell (part Time files valid) run valid)
+
+    all : ℤ → Option Row
+    all run = option_map (λ (found : Loaded × ℕ). row found run) (cell files run valid)
+
+    by_best : (o : Option ℤ) → option_and_then own o ≡ option_and_then all o
+    by_best None = refl
+    by_best (Some run) = ap (option_map (λ (found : Loaded × ℕ). row found run)) (cell-part files run valid)
+
+rows_by_entries : (files : List Loaded) (least : Option ℤ) (entries : List (ℤ × List Loaded))
+    → Each (λ (entry : ℤ × List Loaded). part Time files entry.0 ≡ entry.1) entries
+    → filter_map (entry_row least) entries ≡ filter_map (best_row files least) (keys_of entries)
+rows_by_entries files least [] each = refl
+rows_by_entries files least (entry ∷ entries) each =
+    let first : entry_row least entry ≡ best_row files least entry.0 =
+    ap (λ held. best_row held least entry.0) (sym each.0) ∙ best_row-part files entry.0 least in
+    ap (λ o. cons_option o (filter_map (entry_row least) entries)) first
+    ∙ ap (cons_option (best_row files least entry.0)) (rows_by_entries files least entries each.1)
+
+-- the rows of all entries are those of the best time series
+pub rows-from_pages : (files : List Loaded) (least : Option ℤ) (pages : Pages) → AreParts Time files pages
+    → filter_map (entry_row least) (entries_of pages) ≡ filter_map (best_row files least) (times_of files)
+unfolding instants
+rows-from_pages files least pages are =
+    rows_by_entries files least (entries_of pages) (entry_files Time files pages are)
+    ∙ ap (filter_map (best_row files least)) (keys_are Time files pages are)
+
+-- the keys by runs are the runs
+pub runs-from_pages : (files : List Loaded) (pages : Pages) → AreParts Run files pages
+    → keys_of (entries_of pages) ≡ runs_of files
+unfolding instants
+runs-from_pages files pages are = keys_are Run files pages are
+
+-- the files of each entry have its valid time, and few times
+pub entries_timed : (files : List Loaded) (pages : Pages) → AreParts Time files pages → AreFew files
+    → All IsTimed (entries_of pages)
+entries_timed files pages are few = All-from_each IsTimed (entries_of pages)
+    (Each-weaker (λ (entry : ℤ × List Loaded). part Time files entry.0 ≡ entry.1) IsTimed
+    (λ entry own. record {
+      have = subst (HaveTime entry.0) own (have-part files entry.0);
+      few = subst AreFew own (few-part Time files entry.0 few);
+    })
+    (entries_of pages) (entry_files Time files pages are))

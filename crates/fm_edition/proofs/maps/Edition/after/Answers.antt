@@ -1,0 +1,46 @@
+-- What an operation leaves is an edition where no limit is passed.
+use Rattle.std.proofs.Common.{◌≡◌, None, sym, ap, subst, ◌∙◌}
+use Rattle.fm_model.specs.Collection.{after_op, full_at, tally}
+use Rattle.fm_model.proofs.FullLemmas.{full_at-none}
+use Rattle.fm_edition.specs.declared.maps.by.By.TheVariants.{Run, Time}
+use Rattle.fm_edition.specs.Change.{changed}
+use Rattle.fm_edition.specs.Held.{Held, OpFits}
+use Rattle.fm_edition.specs.Log.{CanFollow}
+use Rattle.fm_edition.proofs.IndexLemmas.{IsDone, IsIndexed-after}
+use Rattle.fm_edition.proofs.maps.Edition.after.Goals as goal
+
+pub tally_of-tally-requires : goal.tally_of-tally-requires
+tally_of-tally-requires c =
+    let op = c.args.op.now in
+    let files_are : c.in_ok-files.files ≡ after_op c.self.inside.files op = c.in_ok-files.ensures
+    ∙ ap (λ l. after_op l op) c.as_slice-old.ensures in
+    let within : full_at c.self.inside.files op ≡ None = subst (λ (h : Held). full_at h.files op ≡ None)
+    (sym c.self.view_is) (sym c.full_at.ensures ∙ c.in_default.is) in
+    rw (c.as_slice.ensures ∙ files_are) ((full_at-none c.self.inside.files op).0 within)
+
+pub invariant_of-result : goal.invariant_of-result
+invariant_of-result c =
+    let op = c.args.op.now in
+    let held : Held = record { proto = c.self.inside.proto; files = c.self.inside.files } in
+    let can : CanFollow held.proto held.files op = record {
+      fits = subst (λ (h : Held). OpFits h.proto op) (sym c.self.view_is) c.requires;
+      within = subst (λ (h : Held). full_at h.files op ≡ None) (sym c.self.view_is)
+          (sym c.full_at.ensures ∙ c.in_default.is);
+    } in
+    let changed_is : c.in_ok-changed.changed ≡ changed held.files op = c.in_ok-changed.ensures
+    ∙ ap (λ l. changed l op) c.as_slice-old.ensures in
+    let files_are : c.in_ok-files.files ≡ after_op held.files op = c.in_ok-files.ensures
+    ∙ ap (λ l. after_op l op) c.as_slice-old.ensures in
+    let count : c.tally_of-tally.result ≡ tally (after_op held.files op) = c.tally_of-tally.ensures
+    ∙ ap tally (c.as_slice.ensures ∙ files_are) in
+    let runs : IsDone Run held.files op c.self.inside.by_run c.in_ok-by_run.by_run = record {
+      ordered = c.in_ok-by_run.ensures.ordered;
+      set = rw (← (c.as_slice-2.ensures ∙ changed_is)) c.in_ok-by_run.ensures.set;
+    } in
+    let times : IsDone Time held.files op c.self.inside.by_time c.in_ok-by_time.by_time = record {
+      ordered = c.in_ok-by_time.ensures.ordered;
+      set = rw (← (c.as_slice-3.ensures ∙ changed_is)) c.in_ok-by_time.ensures.set;
+    } in
+    rw (c.in_ok-proto.ensures, files_are)
+    (IsIndexed-after held op c.self.inside.tally c.tally_of-tally.result c.self.inside.by_run c.self.inside.by_time
+    c.in_ok-by_run.by_run c.in_ok-by_time.by_time c.self.invariant can count runs times)

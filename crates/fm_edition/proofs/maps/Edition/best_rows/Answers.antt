@@ -1,0 +1,15 @@
+-- The rows of all entries are those of the best time series.
+use Rattle.fm_edition.proofs.EditionLemmas.{times_are_few}
+use Rattle.fm_edition.proofs.RowLemmas.{entries_timed, rows-from_pages}
+use Rattle.fm_edition.proofs.maps.Edition.best_rows.Goals as goal
+
+pub best_rows-requires : goal.best_rows-requires
+best_rows-requires c = entries_timed c.self.inside.files c.self.inside.by_time c.self.invariant.of_times
+    (times_are_few c.self.inside.proto c.self.inside.files c.self.invariant.sound.fit)
+
+pub returns : goal.returns
+returns c = rw (
+  ← c.self.view_is,
+  ← rows-from_pages c.self.inside.files c.args.least c.self.inside.by_time
+      c.self.invariant.of_times,
+) c.best_rows.ensures

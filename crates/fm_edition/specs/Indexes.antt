@@ -1,0 +1,118 @@
+-- What the maps of an edition hold, each as a function of its list of files.
+use Rattle.std.specs.Prelude.{◌≡◌, ◌≤◌, ◌++◌, All, length, ◌&&◌, filter, Bool, List, [], ◌∷◌, Option, None, Some, option_and_then, ℤ, pos, if◌then◌else◌, true}
+use Rattle.std.specs.BTreeMap.{BTreeMap, get, values, IsOrdered}
+use Rattle.std.specs.Int.{int_div_euclid}
+use Rattle.std.specs.List.{flat_map, list_any}
+use Rattle.std.specs.Ordering.{int_cmp, int_eq}
+use Rattle.fm_model.specs.declared.full.Tally.{Tally}
+use Rattle.fm_model.specs.declared.limit.TheConstants.{MAX_TIMES}
+use Rattle.fm_model.specs.declared.loaded.Loaded.{Loaded}
+use Rattle.fm_model.specs.declared.op.Op.{Op}
+use Rattle.fm_model.specs.declared.row.Row.{Row}
+use Rattle.fm_model.specs.Cell.{has_time, runs_of, times_of}
+use Rattle.fm_model.specs.Collection.{tally}
+use Rattle.fm_model.specs.Rows.{best_row}
+use Rattle.fm_edition.specs.declared.maps.by.By.{By}
+use Rattle.fm_edition.specs.declared.maps.by.By.TheVariants.{Run, Time}
+use Rattle.fm_edition.specs.Change.{added, keeps}
+use Rattle.fm_edition.specs.Held.{Held, IsEdition}
+
+-- a list, unless it is empty
+abbrev pub some_of : {A : Type 0} → List A → Option (List A)
+some_of [] = None
+some_of (item ∷ items) = Some (item ∷ items)
+
+-- the items of a list, and none where there is no list
+abbrev pub or_none : {A : Type 0} → Option (List A) → List A
+or_none None = []
+or_none (Some items) = items
+
+-- whether an instant is one of these
+abbrev pub is_among : List ℤ → ℤ → Bool
+is_among instants instant = list_any (λ other. int_eq other instant) instants
+
+-- a value for each key, but for one key
+abbrev pub updated : {A : Type 0} → ℤ → Option A → (ℤ → Option A) → ℤ → Option A
+updated key value held other = if int_eq key other then value else held other
+
+-- whether a file is of a run, or has a valid time
+unfoldable pub selects : By → ℤ → Loaded → Bool
+selects Run run file = int_eq file.run run
+selects Time valid file = has_time valid file
+
+-- the runs of some files, or their valid times
+unfoldable pub instants : By → List Loaded → List ℤ
+instants Run files = runs_of files
+instants Time files = times_of files
+
+-- the files of a run, or those that have a valid time, in the list's order
+unfoldable pub part : By → List Loaded → ℤ → List Loaded
+part by files key = filter (selects by key) files
+
+-- such files after an operation
+unfoldable pub part_after : By → ℤ → Op → List Loaded → List Loaded
+part_after by key op files = filter (keeps op) files ++ filter (selects by key) (added op)
+
+-- the number of the page of an instant
+unfoldable pub page_of : ℤ → ℤ
+page_of key = int_div_euclid key (pos 1_048_576)
+
+-- pages of files by an instant
+abbrev pub Pages : Type 0
+Pages = BTreeMap ℤ (BTreeMap ℤ (List Loaded))
+
+-- what stands at an instant in the page of a number
+abbrev pub in_page : Pages → ℤ → ℤ → Option (List Loaded)
+in_page pages number key = option_and_then (λ page. get int_cmp page key) (get int_cmp pages number)
+
+-- what stands there after an operation that touches some instants
+unfoldable pub page_set : By → List ℤ → Op → (ℤ → ℤ → Option (List Loaded)) → ℤ → ℤ → Option (List Loaded)
+page_set by touched op held number key =
+    if int_eq (page_of key) number && is_among touched key
+    then some_of (part_after by key op (or_none (held number key))) else held number key
+
+-- an instant stands in its page, with its files, where there are any
+unfoldable pub shown_in : By → List Loaded → ℤ → ℤ → Option (List Loaded)
+shown_in by files number key = if int_eq (page_of key) number then some_of (part by files key) else None
+
+-- the numbers of the pages rise, and the instants of each page
+pub record AreOrdered (pages : Pages) : Type 0 where
+  pub numbers : IsOrdered int_cmp pages
+  pub each : All (λ page. IsOrdered int_cmp page) (values pages)
+
+-- the pages have the files by each instant
+pub record AreParts (by : By) (files : List Loaded) (pages : Pages) : Type 0 where
+  pub ordered : AreOrdered pages
+  pub shown : (number key : ℤ) → in_page pages number key ≡ shown_in by files number key
+
+-- the entries of some pages, page after page
+abbrev pub entries_in : List (ℤ × BTreeMap ℤ (List Loaded)) → List (ℤ × List Loaded)
+entries_in pages = flat_map (λ (page : ℤ × BTreeMap ℤ (List Loaded)). page.1.entries) pages
+
+-- the entries of all pages
+abbrev pub entries_of : Pages → List (ℤ × List Loaded)
+entries_of pages = entries_in pages.entries
+
+-- the row of a valid time from the best run of the files that have it
+abbrev pub entry_row : Option ℤ → ℤ × List Loaded → Option Row
+entry_row least entry = best_row entry.1 least entry.0
+
+-- each file has few times
+abbrev pub AreFew : List Loaded → Type 0
+AreFew files = All (λ (file : Loaded). length file.times ≤ MAX_TIMES) files
+
+-- each of some files has a valid time
+abbrev pub HaveTime : ℤ → List Loaded → Type 0
+HaveTime valid files = All (λ (file : Loaded). has_time valid file ≡ true) files
+
+-- the files by a valid time have it, and few times each
+pub record IsTimed (entry : ℤ × List Loaded) : Type 0 where
+  pub have : HaveTime entry.0 entry.1
+  pub few : AreFew entry.1
+
+-- what every edition keeps, also of its tally and its maps
+pub record IsIndexed (held : Held) (count : Tally) (by_run by_time : Pages) : Type 0 where
+  pub sound : IsEdition held
+  pub counted : count ≡ tally held.files
+  pub of_runs : AreParts Run held.files by_run
+  pub of_times : AreParts Time held.files by_time

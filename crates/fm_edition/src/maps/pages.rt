@@ -1,0 +1,157 @@
+//! The files by an instant, in pages of some days that editions share.
+ghost use Rattle.std.specs.Prelude.{◌≡◌, ◌<◌, ◌≤◌, ℤ, IfOk, OnOk, false, if◌then◌else◌, length, take};
+ghost use Rattle.std.specs.BTreeMap as tree;
+ghost use Rattle.std.specs.List.{slice_index_or};
+ghost use Rattle.std.specs.Ordering.{int_cmp, int_eq};
+ghost use Rattle.fm_edition.specs.Indexes as spec;
+
+use crate::maps::by::By;
+use crate::maps::part::part_after;
+use crate::maps::shared::Shared;
+use fm_base::{Arc, List, NoMemory};
+use fm_model::{Loaded, Op};
+use std::alloc::Global;
+use std::collections::BTreeMap;
+
+/// The files by each instant of a page.
+pub(crate) type Page = BTreeMap<i64, Shared<List<Arc<Loaded>>>>;
+
+/// The pages by their number.
+pub(crate) type Pages = BTreeMap<i64, Shared<Page>>;
+
+// The number of the page of an instant.
+#[tactic(auto, unfolding(crate::specs::Indexes::page_of))]
+fn page_of(key: i64) -> i64
+    ensures { result ≡ spec.page_of key }
+{
+    key.div_euclid(1_048_576)
+}
+
+// The files by an instant.
+pub(crate) fn files_at(pages: &Pages, key: i64) -> &[Arc<Loaded>]
+    ensures { result.now ≡ spec.or_none (spec.in_page pages.now (spec.page_of key) key) }
+{
+    match pages.get(&page_of(key)) {
+        Some(page) => match page.get().get(&key) {
+            Some(files) => files.get().as_slice(),
+            None => &[],
+        },
+        None => &[],
+    }
+}
+
+// Sets the files by an instant of a page.
+fn set_part(
+    alloc: Global,
+    page: &mut Page,
+    key: i64,
+    files: List<Arc<Loaded>>,
+) -> Result<(), NoMemory>
+    ensures set { OnOk result ((other : ℤ) → tree.get int_cmp page.new other
+        ≡ spec.updated key (spec.some_of files) (tree.get int_cmp page.old) other) }
+    ensures ordered { OnOk result (tree.IsOrdered int_cmp page.new) }
+{
+    if files.is_empty() {
+        page.remove(&key);
+    } else {
+        page.insert(key, Shared::new(alloc, files)?)?;
+    }
+    Ok(())
+}
+
+// Sets the page of a number. A page without instants isn't kept.
+fn set_page(alloc: Global, pages: &mut Pages, number: i64, page: Page) -> Result<(), NoMemory>
+    requires page { tree.IsOrdered int_cmp page }
+    requires pages { spec.AreOrdered pages.old }
+    ensures ordered { OnOk result (spec.AreOrdered pages.new) }
+    ensures set { OnOk result ((other key : ℤ) → spec.in_page pages.new other key
+        ≡ if int_eq number other then tree.get int_cmp page key else spec.in_page pages.old other key) }
+{
+    if page.is_empty() {
+        pages.remove(&number);
+    } else {
+        pages.insert(number, Shared::new(alloc, page)?)?;
+    }
+    Ok(())
+}
+
+// The page of a number, to be changed.
+fn opened(alloc: Global, pages: &Pages, number: i64) -> Result<Page, NoMemory>
+    requires { spec.AreOrdered pages.now }
+    ensures ordered { IfOk result (tree.IsOrdered int_cmp) }
+    ensures found { IfOk result (λ page. (key : ℤ) → tree.get int_cmp page key
+        ≡ spec.in_page pages.now number key) }
+{
+    match pages.get(&number) {
+        Some(page) => Ok(page.get().clone()?),
+        None => Ok(BTreeMap::new(alloc)),
+    }
+}
+
+/// An operation, by what its files are looked up, and the instants that it touches.
+#[derive(Clone, Copy)]
+pub(crate) struct Change<'a> {
+    pub by: By,
+    pub op: &'a Op,
+    pub touched: &'a [i64],
+}
+
+// Does an operation to the instants of one page, from a place among those that it touches, and returns the place
+// after them.
+fn page_after(
+    alloc: Global,
+    page: &mut Page,
+    number: i64,
+    pages: &Pages,
+    change: &Change<'_>,
+    from: usize,
+) -> Result<usize, NoMemory>
+    requires place { from < length change.now.touched.now }
+    requires ordered { tree.IsOrdered int_cmp page.old }
+    requires first { spec.page_of (slice_index_or change.now.touched.now from number) ≡ number }
+    requires done { (key : ℤ) → tree.get int_cmp page.old key
+        ≡ spec.page_set change.now.by (take from change.now.touched.now) change.now.op.now
+        (spec.in_page pages.now) number key }
+    ensures ordered { OnOk result (tree.IsOrdered int_cmp page.new) }
+    ensures place { IfOk result (λ at. (from < at) × (at ≤ length change.now.touched.now)) }
+    ensures done { IfOk result (λ at. (key : ℤ) → tree.get int_cmp page.new key
+        ≡ spec.page_set change.now.by (take at change.now.touched.now) change.now.op.now
+        (spec.in_page pages.now) number key) }
+    ensures others { IfOk result (λ at. (other key : ℤ) → int_eq number other ≡ false →
+        spec.page_set change.now.by (take at change.now.touched.now) change.now.op.now
+        (spec.in_page pages.now) other key
+        ≡ spec.page_set change.now.by (take from change.now.touched.now) change.now.op.now
+        (spec.in_page pages.now) other key) }
+{
+    let touched = change.touched;
+    let mut at = from;
+    while at < touched.len() && page_of(touched[at]) == number {
+        let key = touched[at];
+        let files = part_after(alloc, change.by, key, files_at(pages, key), change.op)?;
+        set_part(alloc, page, key, files)?;
+        at += 1;
+    }
+    Ok(at)
+}
+
+// The pages after an operation.
+pub(crate) fn pages_after(
+    alloc: Global,
+    pages: &Pages,
+    change: &Change<'_>,
+) -> Result<Pages, NoMemory>
+    requires { spec.AreOrdered pages.now }
+    ensures ordered { IfOk result spec.AreOrdered }
+    ensures set { IfOk result (λ next. (number key : ℤ) → spec.in_page next number key
+        ≡ spec.page_set change.now.by change.now.touched.now change.now.op.now (spec.in_page pages.now) number key) }
+{
+    let mut next = pages.clone()?;
+    let mut at = 0;
+    while at < change.touched.len() {
+        let number = page_of(change.touched[at]);
+        let mut page = opened(alloc, &next, number)?;
+        at = page_after(alloc, &mut page, number, pages, change, at)?;
+        set_page(alloc, &mut next, number, page)?;
+    }
+    Ok(next)
+}
