@@ -1,8 +1,15 @@
 pub mod AskLemmas
+pub mod AskedLemmas
 pub mod BlameLemmas
 pub mod OnceLemmas
+pub mod OpenLemmas
 pub mod PieceLemmas
 pub mod ReadingLemmas
 pub mod ReportLemmas
+pub mod RequestLemmas
 pub mod SessionLemmas
+pub mod StepBlameLemmas
 pub mod StepLemmas
+pub mod TakenLemmas
+pub mod UsedLemmas
+pub mod WellUsedLemmas

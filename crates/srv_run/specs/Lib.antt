@@ -5,3 +5,4 @@ pub mod Reading
 pub mod Report
 pub mod Run
 pub mod Steps
+pub mod WellFormed

@@ -1,7 +1,7 @@
 -- What comes of a path where a file is read, and of the file's bytes: a prototype, or a file of the collection.
 use Rattle.std.specs.Prelude.{◌≡◌, ⊤, ℕ, ◌==◌, List, Option, Some, None, Result, Ok, Err, MatchResult}
 use Rattle.std.specs.List.{after_last}
-use Rattle.fm_base.specs.Chain.{◌>>=◌, fault_as}
+use Rattle.fm_base.specs.Chain.{fault_as}
 use Rattle.fm_model.specs.declared.full.Full.{Full as TooMany}
 use Rattle.fm_model.specs.declared.limit.TheConstants.{MAX_FILE_BYTES}
 use Rattle.fm_model.specs.declared.loaded.Loaded.{Loaded}

@@ -3,6 +3,7 @@
 
 mod check;
 mod end;
+pub mod laws;
 mod once;
 mod program;
 mod put;
