@@ -1,5 +1,5 @@
 #!/bin/sh
-# Shows how fast whole parts of 100 MiB are written as XDR in pieces of 8,192 bytes, beside a plain copy of as many bytes in
+# Shows how fast whole parts of 100 MiB are written as XDR in pieces of 8,192 bytes, beside a plain copy in C of as many bytes in
 # such pieces: of numbers of four and eight bytes, which may fall to 0.7 of the copy's speed, and of two bytes, which are
 # widened, and may fall to 0.4. Then it shows what one piece costs at places from the front of a part to its end.
 # Use: bench/xdr.sh.
@@ -7,7 +7,7 @@ set -eu
 top=$(cd "$(dirname "$0")/.." && pwd)
 folder=$(mktemp -d)
 trap 'rm -r "$folder"' EXIT
-crates='fm_base fm_bits nc_sample nc_header nc_layout nc_array tm_units dap_model dap_dds fm_model fm_edition
+crates='fm_base fm_bits nc_sample nc_header nc_layout nc_array tm_units dap_model fm_model fm_edition
 fm_views fm_file fm_proto fm_load fm_sample fm_dataset fm_shown dap_xdr'
 mkdir -p "$folder/crates/send_parts/src"
 for crate in $crates; do
@@ -16,9 +16,9 @@ for crate in $crates; do
 done
 echo send_parts: $crates >> "$folder/crates.txt"
 cat > "$folder/crates/send_parts/src/main.rt" << 'PROGRAM'
-//! `PROGRAM PROTO FILE PLAIN` makes the best time series of a file over a prototype. Of each declaration after the axis, but
-//! for the runs and the offsets, it says how many microseconds all of its array takes in pieces, and how many a plain copy of
-//! the bytes of the last file takes; and then how many nanoseconds a thousand pieces take at five places.
+//! `PROGRAM PROTO FILE` makes the best time series of a file over a prototype. Of each declaration after the axis, but for
+//! the runs and the offsets, it says how many microseconds all of its array takes in pieces, and then how many nanoseconds a
+//! thousand pieces take at five places.
 #![tactic(auto)]
 ghost use Rattle.std.specs.Prelude.{◌<◌, ◌^◌, IsSomeAnd, length};
 ghost use Rattle.dap_xdr.specs.Content.{array_in, part_data, FitsArray};
@@ -106,26 +106,7 @@ fn one_piece<R: Print + Clock>(rt: &R, set: &Dataset, sent: &Sent, from: u64) ->
     println!(rt; "piece {} {from} {} {sum}", sent.decl, took.as_nanos())
 }
 
-// Copies some bytes in pieces.
-fn plain<R: Print + Clock>(rt: &R, bytes: &[u8]) -> io::Result<()> {
-    let mut room = [0; PIECE];
-    let mut sum = 0_u64;
-    let mut rest = bytes;
-    let start = Instant::now(rt)?;
-    for _ in 0..bytes.len() / PIECE {
-        if rest.len() < PIECE {
-            break;
-        }
-        let (piece, more) = rest.split_at(PIECE);
-        room.copy_from_slice(piece);
-        sum = sum.wrapping_add(u64::from(room[7]));
-        rest = more;
-    }
-    let took = start.elapsed(rt)?;
-    println!(rt; "plain 0 {} {} {sum}", bytes.len().wrapping_sub(rest.len()), took.as_micros())
-}
-
-fn measured<R: Print + Clock>(rt: &R, set: &Dataset, sent: &Sent, copy: &[u8]) -> io::Result<()> {
+fn measured<R: Print + Clock>(rt: &R, set: &Dataset, sent: &Sent) -> io::Result<()> {
     if !fits(set, sent) {
         return println!(rt; "no part");
     }
@@ -136,7 +117,6 @@ fn measured<R: Print + Clock>(rt: &R, set: &Dataset, sent: &Sent, copy: &[u8]) -
     let len = len as u64;
     for _ in 0..5 {
         in_pieces(rt, set, sent, len)?;
-        plain(rt, copy)?;
         for place in 0..5_u64 {
             one_piece(rt, set, sent, (len / 4).wrapping_sub(PIECE as u64).wrapping_mul(place))?;
         }
@@ -148,7 +128,6 @@ fn all_measured<R: Print + Clock>(
     rt: &R,
     alloc: Global,
     set: &Dataset,
-    copy: &[u8],
 ) -> io::Result<()> {
     let decls = set.decls().as_slice();
     let count = decls.len().saturating_sub(2).min(9) as u32;
@@ -159,7 +138,7 @@ fn all_measured<R: Print + Clock>(
         let Ok(sent) = whole_of(alloc, number, array) else {
             return println!(rt; "no memory");
         };
-        measured(rt, set, &sent, copy)?;
+        measured(rt, set, &sent)?;
     }
     Ok(())
 }
@@ -170,11 +149,11 @@ fn main(rt: HostRuntime) -> io::Result<()> {
         let items = fs::read(&rt, path.as_str())?;
         files.push(Bytes { items })?;
     }
-    let (Some(copy), Some(file), Some(proto)) = (files.pop(), files.pop(), files.pop()) else {
-        return println!(&rt; "three files");
+    let (Some(file), Some(proto)) = (files.pop(), files.pop()) else {
+        return println!(&rt; "two files");
     };
     match best(rt.alloc(), proto, file) {
-        Some(set) => all_measured(&rt, rt.alloc(), &set, copy.as_slice()),
+        Some(set) => all_measured(&rt, rt.alloc(), &set),
         None => println!(&rt; "no dataset"),
     }
 }
@@ -220,12 +199,38 @@ def write(path, records):
 
 write(sys.argv[1] + "/proto.nc", 1)
 write(sys.argv[1] + "/large.nc", 100)
-with open(sys.argv[1] + "/plain", "wb") as file:
-    file.truncate(100 * 1024 * 1024)
 PYTHON
+cat > "$folder/copy.c" << 'C'
+#include <stdio.h>
+#include <stdlib.h>
+#include <string.h>
+#include <time.h>
 
-"$folder/crates/send_parts/out/send_parts" "$folder/proto.nc" "$folder/large.nc" "$folder/plain" \
-    > "$folder/figures"
+static char room[8192];
+
+// Copies the first 100 MiB of a file, which it holds, in pieces of 8,192 bytes, and says how many microseconds that takes.
+int main(int count, char **words) {
+    size_t len = 100u << 20;
+    char *bytes = malloc(len);
+    FILE *file = count == 2 ? fopen(words[1], "rb") : NULL;
+    if (!bytes || !file || fread(bytes, 1, len, file) != len)
+        return 1;
+    for (int turn = 0; turn < 20; turn++) {
+        struct timespec start, end;
+        clock_gettime(CLOCK_MONOTONIC, &start);
+        for (size_t from = 0; from < len; from += sizeof room) {
+            memcpy(room, bytes + from, sizeof room);
+            __asm__ volatile("" : : "r"(room) : "memory");
+        }
+        clock_gettime(CLOCK_MONOTONIC, &end);
+        printf("plain 0 %zu %ld 0\n", len, (end.tv_sec - start.tv_sec) * 1000000 + (end.tv_nsec - start.tv_nsec) / 1000);
+    }
+}
+C
+cc -O2 -o "$folder/copy" "$folder/copy.c"
+
+"$folder/crates/send_parts/out/send_parts" "$folder/proto.nc" "$folder/large.nc" > "$folder/figures"
+"$folder/copy" "$folder/large.nc" >> "$folder/figures"
 python3 - "$folder" << 'PYTHON'
 import sys
 
