@@ -1,0 +1,7 @@
+-- The bytes before the index were added.
+use Rattle.std.proofs.Common.{◌≡◌, ◌+◌, ◌%◌, ◌^◌, take}
+use Rattle.std.specs.Prelude.{sum}
+use Rattle.srv_load.proofs.summing.added.Given as goal
+
+abbrev pub invariant-loop-byte : goal.invariant-loop-byte
+invariant-loop-byte l = l.total ≡ (l.start + sum (take l.byte-index l.bytes)) % 2 ^ 32

@@ -1,0 +1,4 @@
+pub mod Asked
+pub mod Made
+pub mod Name
+pub mod Summary
