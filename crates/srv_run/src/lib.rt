@@ -3,6 +3,8 @@
 
 mod check;
 mod end;
+mod job;
+mod load;
 mod once;
 mod program;
 mod put;
@@ -11,7 +13,7 @@ mod report;
 mod service;
 
 pub use end::End;
-pub use program::{run, run_check, run_once, run_process};
+pub use program::{run, run_check, run_load, run_once, run_process};
 
 #[cfg(test)]
 mod tests;
