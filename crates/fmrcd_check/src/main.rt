@@ -7,7 +7,13 @@ use std::process::ExitCode;
 
 fn main(rt: HostRuntime) -> ExitCode {
     match words(&rt) {
-        Ok(words) => run_process(rt.alloc(), &words, &mut host_world(rt, &words)),
+        Ok(words) => {
+            let (code, told) = run_process(rt.alloc(), &words, &mut host_world(rt, &words));
+            if let Some(text) = told {
+                let _ = rt.eprintln(text.as_str());
+            }
+            code
+        }
         Err(fail) => unread(&rt, fail),
     }
 }

@@ -10,6 +10,7 @@ use Rattle.srv_words.specs.declared.job.Step.{Step}
 use Rattle.srv_run.specs.declared.end.End.{End}
 use Rattle.srv_run.specs.declared.end.End.TheVariants.{Done, BadWords, NoMemory, FileFault, SinkFault, LinkFault}
 use Rattle.srv_run.specs.Check.{EndsCheck}
+use Rattle.srv_run.specs.Load.{EndsLoad}
 use Rattle.srv_run.specs.Once.{RunsSteps, EndsAtPrototype}
 use Rattle.srv_run.specs.Reading.{file_faults_after, IsEndAtFile}
 use Rattle.srv_run.specs.Report.{line_of, status_of}
@@ -74,13 +75,23 @@ check_blamed path (Err found) end world world' at ends faults =
       link = λ is. absurd (file.link (sym ends.0 ∙ is));
     }
 
+load_blamed : (seed files : ℕ) (end : End) (world world' : WorldShown) → EndsLoad seed files end world.sink world'.sink
+    → BlamedIn end world world'
+load_blamed seed files Done world world' ends =
+    record { words = λ e. cc; files = λ e. absurd cc; sink = λ e. absurd cc; link = λ e. absurd cc }
+load_blamed seed files SinkFault world world' ends =
+    record { words = λ e. cc; files = λ e. absurd cc; sink = λ e. ends.faults; link = λ e. absurd cc }
+load_blamed seed files NoMemory world world' ends =
+    record { words = λ e. cc; files = λ e. absurd cc; sink = λ e. absurd cc; link = λ e. absurd cc }
+load_blamed seed files end world world' ends = absurd ends
+
 job_blamed : (job : Job) (end : End) (world world' : WorldShown) → DoesJob (Some job) end world world'
     → BlamedIn end world world'
 job_blamed (Once site path steps) end world world' does =
     once_blamed site path steps end world world' does.at does.runs
 job_blamed (Check path) end world world' does =
     check_blamed path does.checks.checked end world world' does.checks.at_file does.checks.ends does.checks.file_faults
-job_blamed (Load seed files) end world world' does = absurd does
+job_blamed (Load seed files) end world world' does = load_blamed seed files end world world' does.ends
 
 -- a run blames a device where its last call failed
 blames : (job : Option Job) (status : ℕ) (end : End) (world world' : WorldShown) → status ≡ status_of end

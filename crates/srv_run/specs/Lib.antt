@@ -1,4 +1,5 @@
 pub mod Check
+pub mod Load
 pub mod Once
 pub mod Publishing
 pub mod Reading

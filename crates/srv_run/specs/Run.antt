@@ -7,6 +7,7 @@ use Rattle.srv_words.specs.declared.job.Job.TheVariants.{Once, Check, Load}
 use Rattle.srv_run.specs.declared.end.End.{End}
 use Rattle.srv_run.specs.declared.end.End.TheVariants.{BadWords, NoMemory}
 use Rattle.srv_run.specs.Check.{ChecksFile}
+use Rattle.srv_run.specs.Load.{EndsLoad}
 use Rattle.srv_run.specs.Once.{RunsOnce}
 use Rattle.srv_run.specs.Report.{line_of, Reports, status_of}
 
@@ -21,25 +22,24 @@ pub record RunsCheck (path : List ℕ) (end : End) (world world' : WorldShown) :
   pub checks : ChecksFile path end world.files world'.files world.sink world'.sink
   pub unused : world'.link ≡ world.link
 
+-- A run of `load` ended so; no file was read, and the link wasn't used.
+pub record RunsLoad (seed files : ℕ) (end : End) (world world' : WorldShown) : Type 0 where
+  pub ends : EndsLoad seed files end world.sink world'.sink
+  pub unread : world'.files ≡ world.files
+  pub unused : world'.link ≡ world.link
+
 -- A run for a job ended so. Without a job only the line that says so was written.
 abbrev pub DoesJob : Option Job → End → WorldShown → WorldShown → Type 0
 DoesJob None end world world' = (end ≡ BadWords) × Says (line_of BadWords []) world world'
 DoesJob (Some (Once site proto steps)) end world world' = RunsOnce site proto steps end world world'
 DoesJob (Some (Check path)) end world world' = RunsCheck path end world world'
-DoesJob (Some (Load seed files)) end world world' = ⊥
+DoesJob (Some (Load seed files)) end world world' = RunsLoad seed files end world world'
 
 -- A run for a job ended with this status, or memory ran out before the words were read.
 pub record Runs (job : Option Job) (status : ℕ) (world world' : WorldShown) : Type 0 where
   pub end : End
   pub status_is : status ≡ status_of end
   pub does : DoesJob job end world world' ⊎ ((end ≡ NoMemory) × Says (line_of NoMemory []) world world')
-
--- the job, where the program does it: `load` isn't built yet
-abbrev pub known : Option Job → Option Job
-known None = None
-known (Some (Once site proto steps)) = Some (Once site proto steps)
-known (Some (Check path)) = Some (Check path)
-known (Some (Load seed files)) = None
 
 -- the job, where it is `once`
 abbrev pub once_alone : Option Job → Option Job
@@ -50,6 +50,11 @@ once_alone job = None
 abbrev pub check_alone : Option Job → Option Job
 check_alone (Some (Check path)) = Some (Check path)
 check_alone job = None
+
+-- the job, where it is `load`
+abbrev pub load_alone : Option Job → Option Job
+load_alone (Some (Load seed files)) = Some (Load seed files)
+load_alone job = None
 
 -- There is this job, or a run ends so without one: there is none, or memory ran out.
 abbrev pub IsJobOrEnd : Option Job → Result Job End → Type 0

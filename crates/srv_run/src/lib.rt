@@ -3,7 +3,9 @@
 
 mod check;
 mod end;
+mod job;
 pub mod laws;
+mod load;
 mod once;
 mod program;
 mod put;
@@ -12,4 +14,4 @@ mod report;
 mod service;
 
 pub use end::End;
-pub use program::{run, run_check, run_once, run_process};
+pub use program::{run, run_check, run_load, run_once, run_process};

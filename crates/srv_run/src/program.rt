@@ -1,120 +1,17 @@
 //! The top call of the program, and a call for each of its commands.
-ghost use Rattle.std.specs.Prelude.{◌≡◌, [], IfOk, Option, Some};
+ghost use Rattle.std.specs.Prelude.{◌≡◌};
 ghost use Rattle.std.specs.Process.{exit_status};
 ghost use Rattle.fm_world.specs.Shown.{world_shown};
-ghost use Rattle.srv_words.specs.declared.job.Job.{Job as Work};
-ghost use Rattle.srv_words.specs.Jobs.{IsJob, job_of};
-ghost use Rattle.srv_run.specs.Report.{line_of};
+ghost use Rattle.srv_words.specs.Jobs.{job_of};
 ghost use Rattle.srv_run.specs.Run as spec;
 
-use crate::check::check;
 use crate::end::End;
-use crate::once::once;
-use crate::report::report;
-use fm_base::{Bytes, Fail, List};
+use crate::job::{check_or_end, do_found, job_or_end, load_or_end, once_or_end};
+use fm_base::{Bytes, List};
 use fm_world::{Files, Link, Sink, World};
-use srv_words::{Job, read_job};
+use srv_words::usage_of;
 use std::alloc::Global;
 use std::process::ExitCode;
-
-// Writes the line of an end at which no file is named.
-fn say<F: Files, L: Link, S: Sink>(world: &mut World<F, L, S>, end: End) -> End
-    ensures end { result ≡ end }
-    ensures says { let shown = world_shown F.shown L.shown S.shown in
-        spec.Says (line_of end []) (shown world.old) (shown world.new) }
-{
-    let _written = report(&mut world.sink, end, b"");
-    end
-}
-
-// Runs `check`.
-fn check_path<F: Files, L: Link, S: Sink>(
-    alloc: Global,
-    path: &[u8],
-    world: &mut World<F, L, S>,
-) -> End
-    ensures { let shown = world_shown F.shown L.shown S.shown in
-        spec.RunsCheck path.now result (shown world.old) (shown world.new) }
-{
-    check(alloc, &mut world.files, &mut world.sink, path)
-}
-
-// Does a job.
-fn do_job<F: Files, L: Link, S: Sink>(alloc: Global, job: Job, world: &mut World<F, L, S>) -> End
-    requires sound { IsJob job }
-    requires known { spec.known (Some job) ≡ Some job }
-    ensures { let shown = world_shown F.shown L.shown S.shown in
-        spec.DoesJob (Some job) result (shown world.old) (shown world.new) }
-{
-    match job {
-        Job::Once { site, proto, steps } => {
-            once(alloc, site, proto.as_slice(), steps.as_slice(), world)
-        }
-        Job::Check { path } => check_path(alloc, path.as_slice(), world),
-        Job::Load { .. } => unreachable!(),
-    }
-}
-
-// The job that the words are, where the program does it, or how a run ends without one.
-fn job_or_end(alloc: Global, words: &List<Bytes>) -> Result<Job, End>
-    ensures job { spec.IsJobOrEnd (spec.known (job_of words.now)) result }
-    ensures sound { IfOk result IsJob }
-    ensures known { IfOk result (λ job. spec.known (Some job) ≡ Some job) }
-{
-    match read_job(alloc, words) {
-        Ok(Job::Load { .. }) => Err(End::BadWords),
-        Ok(job) => Ok(job),
-        Err(Fail::NoMemory) => Err(End::NoMemory),
-        Err(Fail::Fault(_)) => Err(End::BadWords),
-    }
-}
-
-// The same, where it is `once`.
-fn once_or_end(alloc: Global, words: &List<Bytes>) -> Result<Job, End>
-    ensures job { spec.IsJobOrEnd (spec.once_alone (job_of words.now)) result }
-    ensures sound { IfOk result IsJob }
-    ensures known { IfOk result (λ job. spec.known (Some job) ≡ Some job) }
-{
-    let job = job_or_end(alloc, words)?;
-    if matches!(&job, Job::Once { .. }) {
-        Ok(job)
-    } else {
-        Err(End::BadWords)
-    }
-}
-
-// The same, where it is `check`.
-fn check_or_end(alloc: Global, words: &List<Bytes>) -> Result<Job, End>
-    ensures job { spec.IsJobOrEnd (spec.check_alone (job_of words.now)) result }
-    ensures sound { IfOk result IsJob }
-    ensures known { IfOk result (λ job. spec.known (Some job) ≡ Some job) }
-{
-    let job = job_or_end(alloc, words)?;
-    if matches!(&job, Job::Check { .. }) {
-        Ok(job)
-    } else {
-        Err(End::BadWords)
-    }
-}
-
-// Does the job that was found, or says why there is none, and returns the status of the program.
-fn do_found<F: Files, L: Link, S: Sink>(
-    alloc: Global,
-    found: Result<Job, End>,
-    world: &mut World<F, L, S>,
-) -> u8
-    requires sound { IfOk found IsJob }
-    requires known { IfOk found (λ job. spec.known (Some job) ≡ Some job) }
-    ensures { let shown = world_shown F.shown L.shown S.shown in
-        (job : Option Work) → spec.IsJobOrEnd job found
-        → spec.Runs job result (shown world.old) (shown world.new) }
-{
-    let end = match found {
-        Ok(job) => do_job(alloc, job, world),
-        Err(end) => say(world, end),
-    };
-    end.status()
-}
 
 /// Runs `once --name NAME --proto PROTO [--epoch INSTANT] [--mark MARK] STEP..`: reads the prototype PROTO, and does the
 /// steps in their order on an empty collection over it and one connection over the link. Returns the status of the
@@ -183,6 +80,35 @@ pub fn run_check<F: Files, L: Link, S: Sink>(
     do_found(alloc, found, world)
 }
 
+/// Runs `load SEED FILES`: makes the first FILES files of a seed, puts them one after the other in a collection whose
+/// prototype is the first of them, and reads four of its views whole. Returns the status of the program.
+///
+/// | Status | Line | Comes |
+/// |---|---|---|
+/// | 0 | `files F rows R best B run U offset O forecast C sum S` | the views were read, and the line was written |
+/// | 2 | `bad words` | exactly where the words aren't the command |
+/// | 4 | `no memory` | at any time |
+/// | 7 | the first bytes of the line of 0 | only where a call of the sink failed |
+///
+/// F and R are the files and the times that the collection holds; B, U, O and C the rows of the best time series, of the
+/// dataset of the first run, of the offset 0, and of the forecast at the last run; S is the sum of the bytes of their data
+/// modulo 2^32. A line of another status that can't be written changes no status. No file is read, and the link isn't
+/// used.
+#[tactic(auto, using(crate::proofs::BlameLemmas::runs))]
+pub fn run_load<F: Files, L: Link, S: Sink>(
+    alloc: Global,
+    words: &List<Bytes>,
+    world: &mut World<F, L, S>,
+) -> u8
+    ensures runs { let shown = world_shown F.shown L.shown S.shown in
+        spec.Runs (spec.load_alone (job_of words.now)) result (shown world.old) (shown world.new) }
+    ensures blames { let shown = world_shown F.shown L.shown S.shown in
+        spec.Blames (spec.load_alone (job_of words.now)) result (shown world.old) (shown world.new) }
+{
+    let found = load_or_end(alloc, words);
+    do_found(alloc, found, world)
+}
+
 /// Does what the words ask for, without the program's own name, reports how it ended, and returns the status of the
 /// program: as the call of the command that the words name, whose other calls have the same answers for bad words.
 #[tactic(auto, using(crate::proofs::BlameLemmas::runs))]
@@ -192,22 +118,34 @@ pub fn run<F: Files, L: Link, S: Sink>(
     world: &mut World<F, L, S>,
 ) -> u8
     ensures runs { let shown = world_shown F.shown L.shown S.shown in
-        spec.Runs (spec.known (job_of words.now)) result (shown world.old) (shown world.new) }
+        spec.Runs (job_of words.now) result (shown world.old) (shown world.new) }
     ensures blames { let shown = world_shown F.shown L.shown S.shown in
-        spec.Blames (spec.known (job_of words.now)) result (shown world.old) (shown world.new) }
+        spec.Blames (job_of words.now) result (shown world.old) (shown world.new) }
 {
     let found = job_or_end(alloc, words);
     do_found(alloc, found, world)
 }
 
-/// As [`run`], for a process that ends with the status.
+// What a person is told after a run with this status: what is wrong with the words, where they are bad. No clause speaks of
+// the text.
+fn told(alloc: Global, words: &List<Bytes>, status: u8) -> Option<String> {
+    if status == End::BadWords.status() {
+        usage_of(alloc, words).ok()
+    } else {
+        None
+    }
+}
+
+/// As [`run`], for a process that ends with the status; and what a person is told beside the line where the words are bad:
+/// what `clap` says of them, with the usage. No clause speaks of that text.
 pub fn run_process<F: Files, L: Link, S: Sink>(
     alloc: Global,
     words: &List<Bytes>,
     world: &mut World<F, L, S>,
-) -> ExitCode
+) -> (ExitCode, Option<String>)
     ensures { let shown = world_shown F.shown L.shown S.shown in
-        spec.Runs (spec.known (job_of words.now)) (exit_status result) (shown world.old) (shown world.new) }
+        spec.Runs (job_of words.now) (exit_status result.0) (shown world.old) (shown world.new) }
 {
-    ExitCode::from(run(alloc, words, world))
+    let status = run(alloc, words, world);
+    (ExitCode::from(status), told(alloc, words, status))
 }
