@@ -1,5 +1,5 @@
 -- What is known where the link was served for a step.
-use Rattle.std.proofs.Common.{◌≡◌, ◌≤◌, ◌<◌, ℕ, true, length, refl, sym, ◌∙◌, inl, inr, Result, Ok, Err, OnOk, IfErr, List, []}
+use Rattle.std.proofs.Common.{◌≡◌, ◌≤◌, ◌<◌, ℕ, true, length, inl, inr, Result, Ok, Err, OnOk, IfErr, List, []}
 use Rattle.fm_model.specs.declared.proto.Proto.{Proto}
 use Rattle.dap_reply.specs.declared.served.Mark.{Mark}
 use Rattle.dap_reply.specs.declared.served.Stop.{Stop}
@@ -8,7 +8,7 @@ use Rattle.dap_reply.specs.Served.{StopsBy}
 use Rattle.srv_conn.specs.Serves.{Moment, Serves}
 use Rattle.srv_run.specs.declared.end.End.{End}
 use Rattle.srv_run.specs.declared.end.End.TheVariants.{InputEnded}
-use Rattle.srv_run.specs.Steps.{Answers, Asks, end_of_stop, EndsAsk, Line, RestsUnlessEnded, seen_as, StopsShort}
+use Rattle.srv_run.specs.Steps.{Answers, end_of_stop, EndsAsk, Line, RestsUnlessEnded, seen_as}
 
 -- a served session rests or has ended
 pub rests-Serves : (proto : Proto) (before after : Moment) (most : ℕ) (stop : Stop)

@@ -1,5 +1,5 @@
 -- A run of `once` whose memory runs out before the first step.
-use Rattle.std.proofs.Common.{◌≡◌, List, ℕ, refl, sym, ap, subst, Option, Some, None, IfSome, Ok, Err}
+use Rattle.std.proofs.Common.{◌≡◌, List, ℕ, ap, Option, Some, None, IfSome}
 use Rattle.fm_model.specs.declared.site.Site.{Site}
 use Rattle.fm_base.specs.Chain.{◌>>=◌}
 use Rattle.fm_world.specs.Shown.{FilesShown}

@@ -1,6 +1,6 @@
 -- A file that is refused ends the check with its line.
-use Rattle.std.proofs.Common.{Ok, Err, refl}
-use Rattle.srv_run.proofs.ReportLemmas.{Reports-put, Writes-put, Cuts-put}
+use Rattle.std.proofs.Common.{Err, refl}
+use Rattle.srv_run.proofs.ReportLemmas.{Reports-put}
 use Rattle.srv_run.proofs.check.check.Goals as goal
 
 pub returns-in-Err : goal.returns-in-Err
