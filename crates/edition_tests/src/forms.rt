@@ -2,7 +2,7 @@
 ghost use Rattle.std.specs.Prelude.{IfOk};
 ghost use Rattle.fm_edition.specs.Held.{OpFits};
 
-use crate::made::{NAMES, file, hours, name, run_of};
+use crate::made::{HOURS, NAMES, file, hour, name, run_of};
 use fm_base::Arc;
 use fm_edition::{Edition, plain_list};
 use fm_model::{Loaded, Op, Proto, Row};
@@ -24,29 +24,32 @@ struct Both {
     list: plain_list::Edition,
 }
 
-// The operation of a number over a prototype: one of sixteen lets runs expire, three take a name back, the others put
+// The operation of some numbers over a prototype: one of sixteen lets runs expire, three take a name back, the others put
 // a file.
-fn op_of(rt: &impl Abort, alloc: Global, proto: &Proto, x: u32) -> Result<Op, Fail>
+fn op_of(rt: &impl Abort, alloc: Global, proto: &Proto, x: [u8; 3]) -> Result<Op, Fail>
     ensures { IfOk result (OpFits proto.now) }
 {
-    let [kind, how, which, _] = x.to_be_bytes();
-    let k = which % NAMES;
-    if kind % 16 == 0 {
+    let [a, b, c] = x;
+    let (kind, how, k) = (c / 16, b / 32, (a ^ c) % NAMES);
+    if kind == 0 {
         return Ok(Op::Expire(run_of(k)));
     }
-    if kind % 16 < 4 {
+    if kind < 4 {
         return Ok(Op::Retract(name(alloc, k)?));
     }
-    Ok(Op::Put(file(rt, alloc, proto, k, how % 8)?))
+    Ok(Op::Put(file(rt, alloc, proto, k, how)?))
 }
 
-// The next number of a recurrence.
-fn next(x: u32) -> u32 {
-    x.wrapping_mul(1_664_525).wrapping_add(1_013_904_223)
+// The next numbers of a recurrence.
+fn next(x: [u8; 3]) -> [u8; 3] {
+    let [a, b, c] = x;
+    let a = a.wrapping_mul(5).wrapping_add(17);
+    let b = b.wrapping_add(a);
+    [a, b, c.wrapping_add(b)]
 }
 
-// Both forms after the operation of a number.
-fn after(rt: &impl Abort, alloc: Global, both: &Both, x: u32) -> Result<Both, Fail> {
+// Both forms after the operation of some numbers.
+fn after(rt: &impl Abort, alloc: Global, both: &Both, x: [u8; 3]) -> Result<Both, Fail> {
     let op = op_of(rt, alloc, both.maps.proto().get(), x)?;
     let maps = both.maps.after(alloc, &op)?;
     let op = op_of(rt, alloc, both.list.proto().get(), x)?;
@@ -93,7 +96,8 @@ fn same_run(rt: &impl Abort, alloc: Global, both: &Both, run: i64) -> Result<(),
         times.as_slice(),
         both.list.times_of(alloc, run)?.as_slice()
     );
-    for valid in hours() {
+    for i in 0..HOURS {
+        let valid = hour(i);
         assert!(rt; same_cell(both.maps.cell(run, valid), both.list.cell(run, valid)));
     }
     Ok(())
@@ -101,7 +105,8 @@ fn same_run(rt: &impl Abort, alloc: Global, both: &Both, run: i64) -> Result<(),
 
 // The best runs agree, and the rows of the best time series and their number.
 fn same_best(rt: &impl Abort, alloc: Global, both: &Both, least: Option<i64>) -> Result<(), Fail> {
-    for valid in hours() {
+    for i in 0..HOURS {
+        let valid = hour(i);
         let run = both.maps.best_run(valid, least);
         assert_eq!(rt; run, both.list.best_run(valid, least));
     }
@@ -137,7 +142,7 @@ fn both_forms_agree_after_each_of_1000_operations(rt: HostRuntime) -> Result<(),
     let list = plain_list::Edition::empty(alloc, maps.proto().share()?)?;
     let mut both = Both { maps, list };
     let mut most = 0;
-    let mut x = 7;
+    let mut x = [7, 0, 0];
     for _ in 0..OPERATIONS {
         x = next(x);
         both = after(&rt, alloc, &both, x)?;

@@ -21,33 +21,32 @@ const FIRST: u32 = 1_704_067_200;
 
 /// The run of a name: two names have each run, and the runs are six hours apart.
 pub fn run_of(k: u8) -> i64 {
-    FIRST_RUN + 21_600 * i64::from(k / 2)
+    FIRST_RUN.wrapping_add(i64::from(k / 2).wrapping_mul(21_600))
 }
 
-/// Each third hour, from the first time that a file may have to some after the last.
-pub fn hours() -> [i64; 32] {
-    let mut hours = [0; 32];
-    let mut next = FIRST_RUN - 21_600;
-    for hour in &mut hours {
-        *hour = next;
-        next = next.wrapping_add(10_800);
-    }
-    hours
+/// Each third hour by its number, the first six hours before the first run: the times that a file may have, and some
+/// after the last.
+pub fn hour(i: u8) -> i64 {
+    FIRST_RUN.wrapping_add(i64::from(i).wrapping_sub(2).wrapping_mul(10_800))
 }
+
+/// The number of these hours.
+pub const HOURS: u8 = 32;
 
 // Adds a number of two digits.
 fn put_two(out: &mut Bytes, number: u8) -> Result<(), NoMemory> {
-    out.append(&[b'0' + number / 10 % 10, b'0' + number % 10])
+    let (tens, ones) = (number / 10 % 10, number % 10);
+    out.append(&[b'0'.wrapping_add(tens), b'0'.wrapping_add(ones)])
 }
 
 /// The name of a number: the moment of its run, and a letter.
 pub fn name(alloc: Global, k: u8) -> Result<Bytes, NoMemory> {
     let mut name = Bytes::copy_of(alloc, b"gfs_202401")?;
-    put_two(&mut name, k / 8 + 1)?;
+    put_two(&mut name, (k / 8).wrapping_add(1))?;
     name.append(b"_")?;
-    put_two(&mut name, k / 2 % 4 * 6)?;
+    put_two(&mut name, (k / 2 % 4).wrapping_mul(6))?;
     name.append(b"00-")?;
-    name.append(&[b'a' + k % 2])?;
+    name.append(&[b'a'.wrapping_add(k % 2)])?;
     name.append(b".nc")?;
     Ok(name)
 }
@@ -55,9 +54,9 @@ pub fn name(alloc: Global, k: u8) -> Result<Bytes, NoMemory> {
 // The bytes of the file of a name: three times six hours apart, the first `3 * step - 6` hours after its run. Those of
 // an odd name fall.
 fn bytes(alloc: Global, k: u8, step: u8) -> Result<Bytes, NoMemory> {
-    let run = FIRST.wrapping_add(u32::from(k / 2) * 21_600);
+    let run = FIRST.wrapping_add(u32::from(k / 2).wrapping_mul(21_600));
     let first = run
-        .wrapping_add(u32::from(step) * 10_800)
+        .wrapping_add(u32::from(step).wrapping_mul(10_800))
         .wrapping_sub(21_600);
     let second = first.wrapping_add(21_600);
     let third = second.wrapping_add(21_600);
