@@ -4,4 +4,5 @@ mod checks;
 mod devices;
 mod given;
 mod lines;
+mod loads;
 mod steps;
