@@ -41,24 +41,41 @@ run() {
     compare "$name" $? "$wanted" "$out" "$err"
 }
 
+# Sees that standard error of the last run has this text.
+tells() {
+    grep -qF "$2" "$folder/err" || { echo "$1: standard error doesn't say '$2'"; failures=$((failures + 1)); }
+}
+
 once="once --name gfs --proto $sample put:$sample ask:1"
 
 # `check` reports to standard output.
 run "a sound file" 0 "ok CDF-1 dims 3 vars 4 records 3" "" "$folder/none" check "$sample"
 run "a file cut short" 3 "refused $folder/cut.nc code 14" "" "$folder/none" check "$folder/cut.nc"
-run "check without a file" 2 "bad words" "" "$folder/none" check
-run "no words" 2 "bad words" "" "$folder/none"
+run "check without a file" 2 "bad words" "*" "$folder/none" check
+tells "check without a file" 'Usage: fmrcd check <FILE>'
+run "no words" 2 "bad words" "*" "$folder/none"
+tells "no words" 'Usage: fmrcd <COMMAND>'
 run "a file that isn't there" 10 "no file $folder/absent" "" "$folder/none" check "$folder/absent"
 run "a file over 512 MiB" 10 "too long $folder/long.nc 536870913" "" "$folder/none" check "$folder/long.nc"
 run "a folder" 5 "file fault $folder" "" "$folder/none" check "$folder"
 run "a path through a file" 5 "file fault $sample/x" "" "$folder/none" check "$sample/x"
+
+# `load` reports to standard output. The sums are those of a slow program that was written from the definitions alone.
+run "one made file" 0 "files 1 rows 65 best 65 run 65 offset 1 forecast 1 sum 4478978" "" "$folder/none" load 1 1
+run "40 made files" 0 "files 40 rows 2600 best 299 run 65 offset 40 forecast 11 sum 13936700" "" "$folder/none" load 1 40
+run "400 made files" 0 "files 400 rows 26000 best 2459 run 65 offset 400 forecast 11 sum 98319914" "" "$folder/none" \
+    load 7 400
+run "no made file" 2 "bad words" "*" "$folder/none" load 1 0
+tells "no made file" 'Usage: fmrcd load <SEED> <FILES>'
 
 # `once` replies to standard output and reports to standard error.
 # shellcheck disable=SC2086
 {
 run "a request" 0 "*" "" "$folder/request" $once
 [ "$(wc -c < "$folder/out")" -eq 540 ] || { echo "a request: the reply isn't 540 bytes"; failures=$((failures + 1)); }
-run "once without a step" 2 "" "bad words" "$folder/none" once --name gfs
+run "once without a step" 2 "" "*" "$folder/none" once --name gfs
+[ "$(head -n 1 "$folder/err")" = "bad words" ] || { echo "once without a step: no line"; failures=$((failures + 1)); }
+tells "once without a step" 'Usage: fmrcd once'
 run "input that ends" 11 "" "input ended" "$folder/begun" $once
 run "no input" 11 "" "input ended" "$folder/none" $once
 run "a head that is none" 0 "*" "" "$folder/other" $once
@@ -74,6 +91,8 @@ run "a word that isn't text" 2 "" "bad words" "$folder/none" "$(printf '\377')"
 # A stream that is closed or full.
 "$program" check "$sample" > /dev/full 2> "$folder/err"; status=$?; : > "$folder/out"
 compare "a full device" $status 7 "" ""
+"$program" load 1 1 > /dev/full 2> "$folder/err"; status=$?
+compare "a full device for the line of a load" $status 7 "" ""
 "$program" check "$sample" >&- 2> "$folder/err"; status=$?
 compare "standard output closed" $status 7 "" ""
 "$program" check "$folder/cut.nc" > /dev/full 2> "$folder/err"; status=$?

@@ -11,4 +11,6 @@ mod given;
 #[cfg(test)]
 mod lines;
 #[cfg(test)]
+mod loads;
+#[cfg(test)]
 mod steps;

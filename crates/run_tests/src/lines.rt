@@ -8,7 +8,7 @@ use std::test::Fail;
 #[rattlefmt::skip]
 static ENDS: [(&[&[u8]], u8, &[u8]); 8] = [
     (&[b"once", b"--name", b"gfs"], 2, b"bad words\n"),
-    (&[b"load", b"1", b"1"], 2, b"bad words\n"),
+    (&[b"load", b"1", b"401"], 2, b"bad words\n"),
     (&[b"once", b"--name", b"gfs", b"--proto", b"nofile", b"ask:1"], 10, b"no file nofile\n"),
     (&[b"once", b"--name", b"gfs", b"--proto", b"none", b"ask:1"], 3, b"refused none code 1\n"),
     (&[b"once", b"--name", b"gfs", b"--proto", b"A", b"put:none"], 3, b"refused none code 1\n"),
