@@ -4,7 +4,7 @@ use crate::given::{Given, ran, words_of};
 use std::test::Fail;
 
 // How many files, and the line. The sums were computed from the definitions by a slow program outside of the repository.
-const LINES: [(&[u8], &[u8]); 2] = [
+static LINES: [(&[u8], &[u8]); 2] = [
     (
         b"1",
         b"files 1 rows 65 best 65 run 65 offset 1 forecast 1 sum 4478978\n",
@@ -18,11 +18,11 @@ const LINES: [(&[u8], &[u8]); 2] = [
 #[test]
 fn a_made_collection_has_the_sum_that_another_program_gives(rt: HostRuntime) -> Result<(), Fail> {
     let alloc = rt.alloc();
-    for (files, line) in LINES {
+    for (files, line) in &LINES {
         let words: [&[u8]; 3] = [b"load", b"1", files];
         let left = ran(alloc, &Given::of(&[]), &words_of(alloc, &words)?)?;
         assert_eq!(rt; left.status, 0);
-        assert_eq!(rt; left.line.as_slice(), line);
+        assert_eq!(rt; left.line.as_slice(), *line);
         assert!(rt; left.output.is_empty());
     }
     Ok(())
