@@ -1,0 +1,381 @@
+-- What a connection shows after each thing that happens to it.
+use Rattle.std.proofs.Common.{◌≡◌, ◌≤◌, ◌<◌, zero, suc, ℕ, ◌+◌, ◌-◌, max, Bool, true, false, not, ◌&&◌, ◌||◌, cond, leb, ltb, Bor, List, [], ◌∷◌, ◌++◌, length, take, drop, Option, Some, None, refl, sym, ap, ap₂, subst, ◌∙◌, arith, append-nil, length-append, take-add}
+use Rattle.std.specs.Prelude.{is_none}
+use Rattle.std.specs.List.{All}
+use Rattle.std.proofs.lemmas.Bool.{lt-ltb, le-leb, ltb-true, ltb-false, lt-leb}
+use Rattle.std.proofs.lemmas.List.{take-append-le, take_all}
+use Rattle.std.proofs.lemmas.List.Elements.{All-append, All-cons, All-nil}
+use Rattle.std.proofs.Math.Seq.{drop-append-add, take-append-add}
+use Rattle.fm_model.specs.declared.op.Op.{Op}
+use Rattle.fm_model.specs.declared.proto.Proto.{Proto}
+use Rattle.fm_model.specs.Collection.{coll}
+use Rattle.web_frame.specs.declared.limit.TheConstants.{MAX_HEAD}
+use Rattle.web_frame.specs.Items.{Item}
+use Rattle.web_frame.specs.Stream.{held_after}
+use Rattle.web_session.specs.declared.action.End.{End as Ending}
+use Rattle.web_session.specs.declared.event.Event.TheVariants as step
+use Rattle.web_session.specs.declared.phase.Phase.TheVariants.{Ended}
+use Rattle.web_session.specs.Event.{after_event}
+use Rattle.web_session.specs.State.{State}
+use Rattle.dap_reply.specs.Parts.{bytes_of, Parts}
+use Rattle.dap_reply.specs.Reply.{is_last, reply_of}
+use Rattle.pub_core.specs.declared.connection.Connection.{Connection}
+use Rattle.pub_core.specs.declared.event.Event.{Event}
+use Rattle.pub_core.specs.declared.event.Event.TheVariants.{Look, Learn, Bytes, Sent, End, Fault}
+use Rattle.pub_core.specs.Happening.{after, begun, closed, effect_of, is_last_before, is_possible_to, settled}
+use Rattle.pub_core.specs.Shown.{resting, sending, IsShown, Shows, Stands}
+use Rattle.pub_core.specs.Shown.Stands.{at_end, at_rest, in_reply}
+use Rattle.pub_core.specs.Standing.{first_item, Replies, Rests}
+use Rattle.pub_core.specs.World.{asks, is_due, is_idle, is_refused_at, is_wanted_at, items_fed, next_item, output_of, rests, script_in, sends, unsent, waits, SessionState}
+use Rattle.pub_core.proofs.MachineLemmas.{begins-machine, feeds-machine, sends-last-machine, sends-part-machine, sends-whole-machine}
+use Rattle.pub_core.proofs.OneSession.{all-le, all-more}
+use Rattle.pub_core.proofs.Replying.{closed-reply, due-reply, sent_more, send-part, send-whole, sends-reply}
+use Rattle.pub_core.proofs.Resting.{begin-rest, closed-rest, feed-rest, few-rest, next-rest, waits-rest}
+use Rattle.pub_core.proofs.SoFar.{fed_more, script-begun, script-fed, some-reply, with_reply}
+use Rattle.pub_core.proofs.Steps.{after-no, after-yes, begun-no, due-ended, sends-last, sends-part, sends-whole}
+use Rattle.pub_core.proofs.ShownLemmas.{with_machine, Asks, Reads, Sends}
+
+stands-rest : {proto : Proto} {log : List Op} {s : SessionState} {left : List ℕ} {machine : State}
+    {plan : Option Parts} → Rests proto log s left → machine ≡ resting left (length s.revs)
+    → Stands proto log s machine plan
+stands-rest {left = left} r is = at_rest left r (is ∙ ap (resting left) r.count)
+
+stands-reply : {proto : Proto} {log : List Op} {s : SessionState} {left before : List ℕ} {item : Item} {reply : Parts}
+    {from : ℕ} {machine : State} {plan : Option Parts} (place : ℕ)
+    → Replies proto log s left item before (bytes_of reply) from → plan ≡ Some reply → length s.revs ≡ place + 1
+    → machine ≡ sending left place item from (length (bytes_of reply)) → Stands proto log s machine plan
+stands-reply {left = left} {before = before} {item = item} {reply = reply} {from = from} place r plan number is =
+    let same : place ≡ length r.done = omega (arith, number, r.count) in
+    in_reply left item before reply from r plan
+    (is ∙ ap (λ (n : ℕ). sending left n item from (length (bytes_of reply))) same)
+
+-- ---- bytes are fed
+
+output-same : (proto : Proto) (log : List Op) (s : SessionState) (piece : List ℕ)
+    → length s.revs ≤ length (items_fed s) → output_of proto log (fed_more s piece) ≡ output_of proto log s
+unfolding output_of
+output-same proto log s piece few = ap (take s.sent) (script-fed proto log s piece few)
+
+pub shows-feed : {proto : Proto} {log : List Op} {c : Connection} {s : SessionState} {room : ℕ}
+    (piece : Bor (List ℕ)) (machine : State) → Shows proto log c s → (r : Reads proto log c s room)
+    → length piece.now ≤ room → machine ≡ after_event c.session (step.Bytes piece)
+    → Shows proto log (with_machine c machine) (fed_more s piece.now)
+shows-feed {proto} {log} {c} {s} piece machine shows r fits is = record {
+  output_is = shows.output_is ∙ sym (output-same proto log s piece.now (few-rest r.rests));
+  seen_is = shows.seen_is;
+  seen_within = shows.seen_within;
+  revs_within = shows.revs_within;
+  stands = stands-rest (feed-rest piece.now r.rests)
+      (is ∙ ap (λ (m : State). after_event m (step.Bytes piece)) r.machine_is
+      ∙ feeds-machine r.left (length r.rests.done) piece r.none (omega (arith, fits, r.room_is))
+      ∙ ap (resting (r.left ++ piece.now)) (sym r.rests.count));
+}
+
+-- ---- a reply is begun
+
+output-begun : (proto : Proto) (log : List Op) (s : SessionState) (revision seen : ℕ) (item : Item)
+    → next_item s ≡ Some item → s.sent ≤ length (script_in proto log s)
+    → output_of proto log (with_reply s revision seen) ≡ output_of proto log s
+unfolding output_of
+output-begun proto log s revision seen item is within =
+    ap (take s.sent) (script-begun proto log s revision seen item is)
+    ∙ take-append-le s.sent (script_in proto log s)
+    (reply_of proto (coll (take revision log)) revision item (length s.revs + 1)) within
+
+pub shown-with-reply : {proto : Proto} {log : List Op} {c : Connection} {s : SessionState} {asked : _}
+    (now : Connection) (reply : Parts) (revision : ℕ) → Shows proto log c s → (a : Asks proto log c s asked)
+    → bytes_of reply ≡ reply_of proto (coll (take revision log)) revision a.item (length a.rests.done + 1)
+    → revision ≤ length log → now.seen ≤ length log
+    → now.session ≡ after_event c.session (step.Answer (length (bytes_of reply)))
+    → now.plan ≡ Some reply → now.output ≡ c.output
+    → IsShown proto log now (with_reply s revision now.seen)
+shown-with-reply {proto} {log} {c} {s} now reply revision shows a bytes known within machine plan output =
+    let number : length a.rests.done + 1 ≡ length s.revs + 1 = omega (arith, a.rests.count) in
+    let same : bytes_of reply ≡ reply_of proto (coll (take revision log)) revision a.item (length s.revs + 1) =
+    bytes ∙ ap (reply_of proto (coll (take revision log)) revision a.item) number in
+    let some : 0 < length (bytes_of reply) =
+    omega (
+      arith,
+      ap length same,
+      some-reply proto (coll (take revision log)) revision a.item (length s.revs + 1),
+    ) in
+    let begins : Replies proto log (with_reply s revision now.seen) a.left a.item (script_in proto log s)
+    (reply_of proto (coll (take revision log)) revision a.item (length s.revs + 1)) 0 =
+    begin-rest a.item revision now.seen a.rests a.item_is
+    (some-reply proto (coll (take revision log)) revision a.item (length s.revs + 1)) in
+    record {
+      shows = record {
+        output_is = output ∙ shows.output_is ∙ sym (output-begun proto log s revision now.seen a.item
+            (next-rest a.rests ∙ a.item_is) (omega (arith, a.rests.all_sent)));
+        seen_is = refl;
+        seen_within = within;
+        revs_within = All-append (λ (n : ℕ). n ≤ length log) s.revs (revision ∷ []) shows.revs_within
+            (All-cons (λ (n : ℕ). n ≤ length log) revision [] known (All-nil (λ (n : ℕ). n ≤ length log)));
+        stands = stands-begun same begins some;
+      };
+      due = due-reply begins;
+    }
+  where
+    stands-begun : {front : List ℕ} → bytes_of reply ≡ front
+        → Replies proto log (with_reply s revision now.seen) a.left a.item (script_in proto log s) front 0
+        → 0 < length (bytes_of reply) → Stands proto log (with_reply s revision now.seen) now.session now.plan
+    stands-begun {front} same begins some =
+        let r : Replies proto log (with_reply s revision now.seen) a.left a.item (script_in proto log s)
+        (bytes_of reply) 0 =
+        subst (λ (l : List ℕ). Replies proto log (with_reply s revision now.seen) a.left a.item
+        (script_in proto log s) l 0) (sym same) begins in
+        stands-reply (length a.rests.done) r plan
+        (omega (arith, a.rests.count, length-append s.revs (revision ∷ [])))
+        (machine ∙ ap (λ (m : State). after_event m (step.Answer (length (bytes_of reply)))) a.machine_is
+        ∙ begins-machine a.left (length a.rests.done) (length (bytes_of reply)) a.item a.item_is some)
+
+-- ---- bytes of it are sent
+
+-- what a session is after bytes are sent, before a reply that is due is begun
+pub record Sending (proto : Proto) (log : List Op) (now : Connection) (s after_it : SessionState) : Type 0 where
+  pub here : SessionState
+  pub shows : Shows proto log now here
+  pub after_is : after_it ≡ begun proto log here
+
+output-more : {proto : Proto} {log : List Op} {s : SessionState} {left before reply : List ℕ} {item : Item}
+    {from : ℕ} (count : ℕ) → Replies proto log s left item before reply from
+    → output_of proto log (sent_more s count) ≡ output_of proto log s ++ take count (drop from reply)
+unfolding output_of script_in
+output-more {proto} {log} {s} {before = before} {reply = reply} {from = from} count r =
+    take-add s.sent count (script_in proto log s)
+    ∙ ap (λ (l : List ℕ). take s.sent (script_in proto log s) ++ take count l)
+    (ap₂ drop r.sent_is r.script_is ∙ drop-append-add before reply from)
+
+-- a connection that was sent so much more
+pub record Given (proto : Proto) (log : List Op) (c now : Connection) (s : SessionState) (from count : ℕ)
+    (r : Sends proto log c s from) : Type 0 where
+  pub output_is : now.output ≡ c.output ++ take count (drop from (bytes_of r.reply))
+  pub plan_is : now.plan ≡ c.plan
+  pub seen_is : now.seen ≡ c.seen
+  pub machine_is : now.session ≡ after_event c.session (step.Sent count)
+
+shows-sent-by : {proto : Proto} {log : List Op} {c : Connection} {s : SessionState} {from : ℕ} (now : Connection)
+    (count : ℕ) → Shows proto log c s → (r : Sends proto log c s from) → Given proto log c now s from count r
+    → Stands proto log (sent_more s count) now.session now.plan → Shows proto log now (sent_more s count)
+shows-sent-by {proto} {log} {c} {s} {from} now count shows r given stands = record {
+  output_is = given.output_is
+      ∙ ap (λ (l : List ℕ). l ++ take count (drop from (bytes_of r.reply))) shows.output_is
+      ∙ sym (output-more count r.replies);
+  seen_is = given.seen_is ∙ shows.seen_is;
+  seen_within = shows.seen_within;
+  revs_within = shows.revs_within;
+  stands = stands;
+}
+
+machine-sent : {proto : Proto} {log : List Op} {c now : Connection} {s : SessionState} {from count : ℕ}
+    (r : Sends proto log c s from) → Given proto log c now s from count r
+    → now.session ≡ after_event (sending r.left (length r.replies.done) r.item from (length (bytes_of r.reply)))
+    (step.Sent count)
+machine-sent {count = count} r given =
+    given.machine_is ∙ ap (λ (m : State). after_event m (step.Sent count)) r.machine_is
+
+sent-part : {proto : Proto} {log : List Op} {c : Connection} {s : SessionState} {from : ℕ} (now : Connection)
+    (number count : ℕ) → Shows proto log c s → (r : Sends proto log c s from) → Given proto log c now s from count r
+    → 0 < count → from + count < length (bytes_of r.reply)
+    → Sending proto log now s (after proto log (Sent number count) s)
+sent-part {proto} {log} {c} {s} {from} now number count shows r given some below =
+    let part : Replies proto log (sent_more s count) r.left r.item r.before (bytes_of r.reply) (from + count) =
+    send-part count r.replies below in
+    record {
+      here = sent_more s count;
+      shows = shows-sent-by now count shows r given
+          (stands-reply (length r.replies.done) part (given.plan_is ∙ r.plan_is) (omega (arith, r.replies.count))
+          (machine-sent r given
+          ∙ sends-part-machine r.left (length r.replies.done) count from (length (bytes_of r.reply)) r.item below));
+      after_is = sends-part number count r.replies some below
+          ∙ sym (begun-no proto log (sent_more s count) (due-reply part));
+    }
+
+ended-same : (proto : Proto) (log : List Op) (s : SessionState) (ended : Bool)
+    → output_of proto log (record s { ended = ended }) ≡ output_of proto log s
+unfolding output_of script_in
+ended-same proto log s ended = refl
+
+-- a connection whose machine ended shows a session that did
+shows-ended : {proto : Proto} {log : List Op} (c : Connection) (s : SessionState) (end : Ending) (machine : State)
+    → c.output ≡ output_of proto log s → c.seen ≡ s.seen → s.seen ≤ length log
+    → All (λ (revision : ℕ). revision ≤ length log) s.revs
+    → machine.phase ≡ Ended end → Shows proto log (with_machine c machine) (record s { ended = true })
+shows-ended {proto} {log} c s end machine output seen known revs phase = record {
+  output_is = output ∙ sym (ended-same proto log s true);
+  seen_is = seen;
+  seen_within = known;
+  revs_within = revs;
+  stands = at_end end phase refl;
+}
+
+sent-last : {proto : Proto} {log : List Op} {c : Connection} {s : SessionState} {from : ℕ} (now : Connection)
+    (number count : ℕ) → Shows proto log c s → (r : Sends proto log c s from) → Given proto log c now s from count r
+    → 0 < count → from + count ≡ length (bytes_of r.reply) → is_last r.item (length s.revs) ≡ true
+    → Sending proto log now s (after proto log (Sent number count) s)
+sent-last {proto} {log} {c} {s} {from} now number count shows r given some all last =
+    let place : length s.revs ≡ length r.replies.done + 1 = omega (arith, r.replies.count) in
+    let ends = sends-last-machine r.left (length r.replies.done) count from (length (bytes_of r.reply)) r.item
+    (omega (arith, all)) (ap (is_last r.item) (sym place) ∙ last) in
+    let output : now.output ≡ output_of proto log (sent_more s count) =
+    given.output_is ∙ ap (λ (l : List ℕ). l ++ take count (drop from (bytes_of r.reply))) shows.output_is
+    ∙ sym (output-more count r.replies) in
+    record {
+      here = record s { sent = s.sent + count; ended = true };
+      shows = shows-ended now (sent_more s count) ends.0 now.session output
+          (given.seen_is ∙ shows.seen_is) shows.seen_within shows.revs_within (ap (λ (m : State). m.phase)
+          (machine-sent r given) ∙ ends.1);
+      after_is = sends-last number count r.replies some all last
+          ∙ sym (begun-no proto log (record s { sent = s.sent + count; ended = true })
+          (due-ended proto log (record s { sent = s.sent + count; ended = true }) refl));
+    }
+
+sent-whole : {proto : Proto} {log : List Op} {c : Connection} {s : SessionState} {from : ℕ} (now : Connection)
+    (number count : ℕ) → Shows proto log c s → (r : Sends proto log c s from) → Given proto log c now s from count r
+    → 0 < count → from + count ≡ length (bytes_of r.reply) → is_last r.item (length s.revs) ≡ false
+    → Sending proto log now s (after proto log (Sent number count) s)
+sent-whole {proto} {log} {c} {s} {from} now number count shows r given some all goes =
+    let place : length s.revs ≡ length r.replies.done + 1 = omega (arith, r.replies.count) in
+    record {
+      here = sent_more s count;
+      shows = shows-sent-by now count shows r given
+          (stands-rest (send-whole count r.replies all goes)
+          (machine-sent r given
+          ∙ sends-whole-machine r.left (length r.replies.done) count from (length (bytes_of r.reply)) r.item
+          (omega (arith, all)) (ap (is_last r.item) (sym place) ∙ goes)
+          ∙ ap (resting (held_after r.left).rest) (sym place)));
+      after_is = sends-whole number count r.replies some all goes;
+    }
+
+sent-by : {proto : Proto} {log : List Op} {c : Connection} {s : SessionState} {from : ℕ} (now : Connection)
+    (number count : ℕ) (part last : Bool) → Shows proto log c s → (r : Sends proto log c s from)
+    → Given proto log c now s from count r → 0 < count → count ≤ length (bytes_of r.reply) - from
+    → ltb (from + count) (length (bytes_of r.reply)) ≡ part → is_last r.item (length s.revs) ≡ last
+    → Sending proto log now s (after proto log (Sent number count) s)
+sent-by {from = from} now number count true last shows r given some within part_is last_is =
+    sent-part now number count shows r given some (ltb-true (from + count) (length (bytes_of r.reply)) part_is)
+sent-by {from = from} now number count false true shows r given some within part_is last_is =
+    sent-last now number count shows r given some
+    (omega (arith, within, ltb-false (from + count) (length (bytes_of r.reply)) part_is, r.replies.some)) last_is
+sent-by {from = from} now number count false false shows r given some within part_is last_is =
+    sent-whole now number count shows r given some
+    (omega (arith, within, ltb-false (from + count) (length (bytes_of r.reply)) part_is, r.replies.some)) last_is
+
+pub shows-sent : {proto : Proto} {log : List Op} {c : Connection} {s : SessionState} {from : ℕ} (now : Connection)
+    (number count : ℕ) → Shows proto log c s → (r : Sends proto log c s from) → Given proto log c now s from count r
+    → 0 < count → count ≤ length (bytes_of r.reply) - from
+    → Sending proto log now s (after proto log (Sent number count) s)
+shows-sent {s = s} {from = from} now number count shows r given some within =
+    sent-by now number count (ltb (from + count) (length (bytes_of r.reply))) (is_last r.item (length s.revs)) shows r
+    given some within refl refl
+
+-- ---- a session ends
+
+cond-same : {A : Type 0} (b : Bool) (a : A) → cond b a a ≡ a
+cond-same true a = refl
+cond-same false a = refl
+
+settled-ended : (proto : Proto) (log : List Op) (s : SessionState)
+    → settled proto log (record s { ended = true }) ≡ record s { ended = true }
+unfolding settled closed
+settled-ended proto log s =
+    let ended : SessionState = record s { ended = true } in
+    ap (begun proto log)
+    (cond-same (rests proto log ended && is_last_before (items_fed ended) (length ended.revs)) ended)
+    ∙ begun-no proto log ended (due-ended proto log ended refl)
+
+-- an event that ends a session, where it is possible
+pub shown-ended : {proto : Proto} {log : List Op} {c : Connection} {s : SessionState} (event : Event) (end : Ending)
+    (machine : State) → Shows proto log c s → is_possible_to proto log event s ≡ true
+    → effect_of log event s ≡ record s { ended = true } → machine.phase ≡ Ended end
+    → IsShown proto log (with_machine c machine) (after proto log event s)
+shown-ended {proto} {log} {c} {s} event end machine shows possible effect phase =
+    let ended : SessionState = record s { ended = true } in
+    subst (IsShown proto log (with_machine c machine))
+    (sym (after-yes proto log event s possible ∙ ap (settled proto log) effect ∙ settled-ended proto log s))
+    (record {
+      shows = shows-ended c s end machine shows.output_is shows.seen_is shows.seen_within shows.revs_within phase;
+      due = due-ended proto log ended refl;
+    })
+
+-- an event that isn't possible
+pub shown-same : {proto : Proto} {log : List Op} {c : Connection} {s : SessionState} (event : Event)
+    → IsShown proto log c s → is_possible_to proto log event s ≡ false → IsShown proto log c (after proto log event s)
+shown-same {proto} {log} {c} {s} event shown not_so =
+    subst (IsShown proto log c) (sym (after-no proto log event s not_so)) shown
+
+-- ---- a session learns
+
+knowing : SessionState → ℕ → SessionState
+knowing s n = record s { seen = n }
+
+script-knowing : (proto : Proto) (log : List Op) (s : SessionState) (n : ℕ)
+    → script_in proto log (knowing s n) ≡ script_in proto log s
+unfolding script_in knowing
+script-knowing proto log s n = refl
+
+stands-knowing : {proto : Proto} {log : List Op} {s : SessionState} {machine : State} {plan : Option Parts} (n : ℕ)
+    → Stands proto log s machine plan → Stands proto log (knowing s n) machine plan
+unfolding knowing
+stands-knowing {proto} {log} {s} n (at_rest left r is) = stands-rest (record {
+  done = r.done;
+  reads = r.reads;
+  count = r.count;
+  all_sent = r.all_sent ∙ ap length (sym (script-knowing proto log s n));
+  goes_on = r.goes_on;
+  stays = r.stays;
+}) (is ∙ ap (resting left) (sym r.count))
+stands-knowing {proto} {log} {s} n (in_reply left item before reply from r plan is) =
+    stands-reply (length r.done) (record {
+      done = r.done;
+      reads = r.reads;
+      item_is = r.item_is;
+      count = r.count;
+      script_is = script-knowing proto log s n ∙ r.script_is;
+      sent_is = r.sent_is;
+      some = r.some;
+      stays = r.stays;
+    }) plan (omega (arith, r.count)) is
+stands-knowing n (at_end end phase ended) = at_end end phase ended
+
+closed-stands : {proto : Proto} {log : List Op} {s : SessionState} {machine : State} {plan : Option Parts}
+    → Stands proto log s machine plan → closed proto log s ≡ s
+unfolding closed
+closed-stands (at_rest left r is) = closed-rest r
+closed-stands (in_reply left item before reply from r plan is) = closed-reply r
+closed-stands {proto} {log} {s} (at_end end phase ended) =
+    let same : record s { ended = true } ≡ s = ap (λ (b : Bool). record s { ended = b }) (sym ended) in
+    ap (λ (x : SessionState). cond (rests proto log s && is_last_before (items_fed s) (length s.revs)) x s) same
+    ∙ cond-same (rests proto log s && is_last_before (items_fed s) (length s.revs)) s
+
+due-knowing : (proto : Proto) (log : List Op) (s : SessionState) (n : ℕ)
+    → is_due proto log (knowing s n) ≡ is_due proto log s
+unfolding is_due is_idle rests next_item script_in knowing
+due-knowing proto log s n = refl
+
+output-knowing : (proto : Proto) (log : List Op) (s : SessionState) (n : ℕ)
+    → output_of proto log (knowing s n) ≡ output_of proto log s
+unfolding output_of script_in knowing
+output-knowing proto log s n = refl
+
+pub shown-learnt : {proto : Proto} {log : List Op} {c : Connection} {s : SessionState} (number count seen : ℕ)
+    → IsShown proto log c s → count ≤ length log → seen ≡ max c.seen count
+    → IsShown proto log (record c { seen = seen }) (after proto log (Learn number count) s)
+unfolding is_possible_to effect_of settled knowing
+shown-learnt {proto} {log} {c} {s} number count seen shown known is =
+    let n : ℕ = max s.seen count in
+    let stands : Stands proto log (knowing s n) c.session c.plan = stands-knowing n shown.shows.stands in
+    let due : is_due proto log (knowing s n) ≡ false = due-knowing proto log s n ∙ shown.due in
+    subst (IsShown proto log (record c { seen = seen }))
+    (sym (after-yes proto log (Learn number count) s (le-leb count (length log) known)
+    ∙ ap (begun proto log) (closed-stands stands) ∙ begun-no proto log (knowing s n) due))
+    (record {
+      shows = record {
+        output_is = shown.shows.output_is ∙ sym (output-knowing proto log s n);
+        seen_is = is ∙ ap (λ (k : ℕ). max k count) shown.shows.seen_is;
+        seen_within = omega (arith, known, shown.shows.seen_within);
+        revs_within = shown.shows.revs_within;
+        stands = stands;
+      };
+      due = due;
+    })

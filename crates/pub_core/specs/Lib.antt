@@ -1,0 +1,10 @@
+pub mod Apart
+pub mod Happening
+pub mod Machine
+pub mod Outcome
+pub mod Running
+pub mod Shown
+pub mod Standing
+pub mod World
+pub use Rattle.dap_reply.specs.Script
+pub use Rattle.dap_reply.specs.Served
