@@ -41,9 +41,16 @@ run() {
     compare "$name" $? "$wanted" "$out" "$err"
 }
 
-# Sees that standard error of the last run has this text.
+# Sees that a run on a terminal, with these words behind a name and a text, says the text after the line.
 tells() {
-    grep -qF "$2" "$folder/err" || { echo "$1: standard error doesn't say '$2'"; failures=$((failures + 1)); }
+    name=$1 text=$2
+    shift 2
+    runs=$((runs + 1))
+    script -qec "'$program' $*" /dev/null < "$folder/none" > "$folder/screen" 2>&1
+    grep -qF "bad words" "$folder/screen" && grep -qF "$text" "$folder/screen" || {
+        echo "$name: a person isn't told '$text'"
+        failures=$((failures + 1))
+    }
 }
 
 once="once --name gfs --proto $sample put:$sample ask:1"
@@ -51,10 +58,10 @@ once="once --name gfs --proto $sample put:$sample ask:1"
 # `check` reports to standard output.
 run "a sound file" 0 "ok CDF-1 dims 3 vars 4 records 3" "" "$folder/none" check "$sample"
 run "a file cut short" 3 "refused $folder/cut.nc code 14" "" "$folder/none" check "$folder/cut.nc"
-run "check without a file" 2 "bad words" "*" "$folder/none" check
-tells "check without a file" 'Usage: fmrcd check <FILE>'
-run "no words" 2 "bad words" "*" "$folder/none"
-tells "no words" 'Usage: fmrcd <COMMAND>'
+run "check without a file" 2 "bad words" "" "$folder/none" check
+tells "check without a file on a terminal" 'Usage: fmrcd check <FILE>' check
+run "no words" 2 "bad words" "" "$folder/none"
+tells "no words on a terminal" 'Usage: fmrcd <COMMAND>'
 run "a file that isn't there" 10 "no file $folder/absent" "" "$folder/none" check "$folder/absent"
 run "a file over 512 MiB" 10 "too long $folder/long.nc 536870913" "" "$folder/none" check "$folder/long.nc"
 run "a folder" 5 "file fault $folder" "" "$folder/none" check "$folder"
@@ -65,17 +72,16 @@ run "one made file" 0 "files 1 rows 65 best 65 run 65 offset 1 forecast 1 sum 44
 run "40 made files" 0 "files 40 rows 2600 best 299 run 65 offset 40 forecast 11 sum 13936700" "" "$folder/none" load 1 40
 run "400 made files" 0 "files 400 rows 26000 best 2459 run 65 offset 400 forecast 11 sum 98319914" "" "$folder/none" \
     load 7 400
-run "no made file" 2 "bad words" "*" "$folder/none" load 1 0
-tells "no made file" 'Usage: fmrcd load <SEED> <FILES>'
+run "no made file" 2 "bad words" "" "$folder/none" load 1 0
+tells "no made file on a terminal" 'Usage: fmrcd load <SEED> <FILES>' load 1 0
 
 # `once` replies to standard output and reports to standard error.
 # shellcheck disable=SC2086
 {
 run "a request" 0 "*" "" "$folder/request" $once
 [ "$(wc -c < "$folder/out")" -eq 540 ] || { echo "a request: the reply isn't 540 bytes"; failures=$((failures + 1)); }
-run "once without a step" 2 "" "*" "$folder/none" once --name gfs
-[ "$(head -n 1 "$folder/err")" = "bad words" ] || { echo "once without a step: no line"; failures=$((failures + 1)); }
-tells "once without a step" 'Usage: fmrcd once'
+run "once without a step" 2 "" "bad words" "$folder/none" once --name gfs
+tells "once without a step on a terminal" 'Usage: fmrcd once' once --name gfs
 run "input that ends" 11 "" "input ended" "$folder/begun" $once
 run "no input" 11 "" "input ended" "$folder/none" $once
 run "a head that is none" 0 "*" "" "$folder/other" $once

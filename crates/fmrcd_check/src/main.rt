@@ -3,14 +3,18 @@
 
 use fm_devices::{host_world, unread, words};
 use srv_run::run_process;
+use std::io::IsTerminal;
 use std::process::ExitCode;
 
 fn main(rt: HostRuntime) -> ExitCode {
     match words(&rt) {
         Ok(words) => {
             let (code, told) = run_process(rt.alloc(), &words, &mut host_world(rt, &words));
-            if let Some(text) = told {
-                let _ = rt.eprintln(text.as_str());
+            match told {
+                Some(text) if rt.stderr().is_terminal() => {
+                    let _ = rt.eprintln(text.as_str());
+                }
+                _ => {}
             }
             code
         }
