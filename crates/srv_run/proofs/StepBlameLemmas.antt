@@ -108,13 +108,10 @@ record Calm (before after : Progress) : Type 0 where
 
 calm_stop : (stop : Stop) → end_of_stop stop ≡ InputEnded
     → (stop ≡ stops.Ended ends.LinkFault → ⊥) × (stop ≡ stops.Ended ends.NoMemory → ⊥)
-calm_stop stop is = (λ e. absurd (apart_fault (sym (ap end_of_stop e) ∙ is)), λ e. absurd (apart_memory (sym (ap end_of_stop e) ∙ is)))
-  where
-    apart_fault : LinkFault ≡ InputEnded → ⊥
-    apart_fault e = cc
-
-    apart_memory : NoMemory ≡ InputEnded → ⊥
-    apart_memory e = cc
+calm_stop stop is = (
+  λ e. let same : LinkFault ≡ InputEnded = sym (ap end_of_stop e) ∙ is in cc,
+  λ e. let same : NoMemory ≡ InputEnded = sym (ap end_of_stop e) ∙ is in cc,
+)
 
 calm_step : (step : Step) (before after : Progress) → IsDone step before after → Calm before after
 calm_step (Put path) before after done = record {
