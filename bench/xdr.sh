@@ -115,7 +115,7 @@ fn measured<R: Print + Clock>(rt: &R, set: &Dataset, sent: &Sent) -> io::Result<
         return println!(rt; "too long");
     }
     let len = len as u64;
-    for _ in 0..5 {
+    for _ in 0..20 {
         in_pieces(rt, set, sent, len)?;
         for place in 0..5_u64 {
             one_piece(rt, set, sent, (len / 4).wrapping_sub(PIECE as u64).wrapping_mul(place))?;

@@ -14,7 +14,7 @@ pub enum Event {
     Learn(u32, u64),
     /// The session is fed bytes.
     Bytes(u32, Bytes),
-    /// So many bytes more of the session's present reply are sent.
+    /// This many more bytes of the session's present reply are sent.
     Sent(u32, u64),
     /// The session's input ends.
     End(u32),
