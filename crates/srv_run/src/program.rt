@@ -92,8 +92,7 @@ pub fn run_check<F: Files, L: Link, S: Sink>(
 ///
 /// F and R are the files and the times that the collection holds; B, U, O and C the rows of the best time series, of the
 /// dataset of the first run, of the offset 0, and of the forecast at the last run; S is the sum of the bytes of their data
-/// modulo 2^32. A line of another status that can't be written changes no status. No file is read, and the link isn't
-/// used.
+/// modulo 2^32. A line of another status that can't be written changes no status. No file is read, nor is the link used.
 #[tactic(auto, using(crate::proofs::BlameLemmas::runs))]
 pub fn run_load<F: Files, L: Link, S: Sink>(
     alloc: Global,
