@@ -11,3 +11,6 @@ mod running;
 pub use event::Event;
 pub use outcome::Outcome;
 pub use running::run_all;
+
+#[cfg(test)]
+mod tests;
