@@ -1,10 +1,9 @@
 -- What a connection shows after each step of its code, whose first step asks for the action that is due.
-use Rattle.std.proofs.Common.{◌≡◌, ◌≤◌, ◌<◌, zero, suc, ℕ, ◌+◌, ◌-◌, max, Bool, true, false, not, ◌&&◌, ◌||◌, leb, ltb, Bor, List, [], ◌∷◌, ◌++◌, length, take, drop, Option, Some, None, refl, sym, ap, ap₂, subst, ◌∙◌, arith}
+use Rattle.std.proofs.Common.{◌≡◌, ◌≤◌, ◌<◌, ℕ, ◌-◌, Bool, true, false, ◌&&◌, ◌||◌, leb, ltb, Bor, List, ◌++◌, length, take, drop, Option, Some, None, refl, sym, ap, ap₂, subst, ◌∙◌, arith}
 use Rattle.std.specs.Prelude.{is_none}
 use Rattle.std.proofs.lemmas.Bool.{lt-leb}
 use Rattle.fm_model.specs.declared.op.Op.{Op}
 use Rattle.fm_model.specs.declared.proto.Proto.{Proto}
-use Rattle.web_frame.specs.declared.limit.TheConstants.{MAX_HEAD}
 use Rattle.web_session.specs.declared.action.Action.{Action}
 use Rattle.web_session.specs.declared.action.Action.TheVariants.{Read, Ask, Send}
 use Rattle.web_session.specs.declared.action.Asked.{Asked}
@@ -13,17 +12,15 @@ use Rattle.web_session.specs.Event.{after_event}
 use Rattle.web_session.specs.State.{action_of, State}
 use Rattle.dap_reply.specs.Parts.{bytes_of, Parts}
 use Rattle.pub_core.specs.declared.connection.Connection.{Connection}
-use Rattle.pub_core.specs.declared.event.Event.{Event}
 use Rattle.pub_core.specs.declared.event.Event.TheVariants.{Look, Learn, Bytes, Sent, End, Fault}
 use Rattle.pub_core.specs.Happening.{after, begun, effect_of, is_possible_to}
 use Rattle.pub_core.specs.Shown.{IsShown, Shows}
-use Rattle.pub_core.specs.Standing.{first_item}
-use Rattle.pub_core.specs.World.{asks, sends, waits, SessionState}
+use Rattle.pub_core.specs.World.{sends, waits, SessionState}
 use Rattle.pub_core.proofs.MachineLemmas.{ends-machine, fails-reading, fails-sending, start-same}
 use Rattle.pub_core.proofs.Replying.{sends-reply}
 use Rattle.pub_core.proofs.Resting.{waits-rest}
 use Rattle.pub_core.proofs.ShownLemmas.{asks-none, reading, restarted, sending-so, sends-none, shown-begun, waits-none, with_machine, Reads, Sends}
-use Rattle.pub_core.proofs.ShownSteps.{shown-ended, shown-learnt, shown-same, shows-feed, shows-sent, Given, Sending}
+use Rattle.pub_core.proofs.ShownSteps.{shown-ended, shown-same, shows-feed, shows-sent, Given, Sending}
 use Rattle.pub_core.proofs.SoFar.{fed_more}
 use Rattle.pub_core.proofs.Steps.{feed-no, feed-unfit, feeds, look-no, send-no, send-unfit}
 

@@ -1,5 +1,5 @@
 -- What a session was sent, once bytes of a reply were sent.
-use Rattle.std.proofs.Common.{◌≡◌, ◌≤◌, ◌<◌, ◌⊎◌, inl, inr, zero, suc, ℕ, ◌+◌, ◌-◌, Bool, true, false, not, ◌&&◌, cond, ltb, List, [], ◌∷◌, ◌++◌, length, take, drop, Option, Some, None, refl, sym, ap, ap₂, subst, ◌∙◌, arith, length-append, append_assoc, append-nil}
+use Rattle.std.proofs.Common.{◌≡◌, ◌≤◌, ◌<◌, zero, suc, ℕ, ◌+◌, Bool, true, false, cond, ltb, List, [], ◌∷◌, ◌++◌, length, take, Option, Some, None, refl, sym, ap, ap₂, ◌∙◌, arith}
 use Rattle.std.proofs.lemmas.Bool.{lt-ltb, ltb-true, ltb-false}
 use Rattle.std.proofs.lemmas.List.{take_all, take-append-le}
 use Rattle.std.proofs.Math.Seq.{take-append-add}
@@ -7,18 +7,17 @@ use Rattle.fm_model.specs.declared.op.Op.{Op}
 use Rattle.fm_model.specs.declared.proto.Proto.{Proto}
 use Rattle.fm_model.specs.Collection.{coll}
 use Rattle.web_frame.specs.Items.{Item}
-use Rattle.web_frame.specs.Stream.{held_after}
 use Rattle.dap_reply.specs.declared.served.Mark.{Mark}
-use Rattle.dap_reply.specs.Reply.{asked_by, is_last, reply_of}
+use Rattle.dap_reply.specs.Reply.{is_last, reply_of}
 use Rattle.pub_core.specs.declared.event.Event.TheVariants.{Sent}
-use Rattle.pub_core.specs.World.{is_refused_at, output_of, script_in, SessionState, World}
-use Rattle.pub_core.specs.Happening.{after, begun, happens, run}
+use Rattle.pub_core.specs.World.{is_refused_at, output_of, script_in, SessionState}
+use Rattle.pub_core.specs.Happening.{after, begun, run}
 use Rattle.pub_core.specs.Running.{first_output, sending}
 use Rattle.pub_core.specs.Standing.{first_item, Replies, Rests}
 use Rattle.pub_core.proofs.OneSession.{happens-sent, one, output-one, run-none, run-one}
 use Rattle.pub_core.proofs.Replying.{sent_more, send-whole}
 use Rattle.pub_core.proofs.Resting.{due-rest, next-rest}
-use Rattle.pub_core.proofs.SoFar.{script-begun, with_reply}
+use Rattle.pub_core.proofs.SoFar.{script-begun}
 use Rattle.pub_core.proofs.Steps.{begins, begun-no, sends-last, sends-part, sends-whole}
 
 -- ---- a session that rests was sent all

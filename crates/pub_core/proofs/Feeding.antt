@@ -1,23 +1,21 @@
 -- A session is fed byte by byte until a request is whole.
-use Rattle.std.proofs.Common.{◌≡◌, ◌≤◌, ◌<◌, zero, suc, ℕ, ◌+◌, ◌-◌, Bool, true, false, not, ◌&&◌, cond, List, [], ◌∷◌, ◌++◌, length, take, drop, Option, Some, None, refl, sym, ap, ap₂, subst, ◌∙◌, arith, length-append, append_assoc, append-nil}
-use Rattle.std.specs.Prelude.{is_none, is_ok}
+use Rattle.std.proofs.Common.{◌≡◌, ◌≤◌, ℕ, ◌+◌, ◌-◌, Bool, true, false, cond, List, [], ◌∷◌, ◌++◌, length, take, drop, Option, Some, None, refl, sym, ap, ◌∙◌, arith, append_assoc, append-nil}
+use Rattle.std.specs.Prelude.{is_none}
 use Rattle.fm_model.specs.declared.op.Op.{Op}
 use Rattle.fm_model.specs.declared.proto.Proto.{Proto}
 use Rattle.fm_model.specs.Collection.{coll}
 use Rattle.web_frame.specs.declared.limit.TheConstants.{MAX_HEAD}
 use Rattle.web_frame.specs.Items.{Item}
-use Rattle.dap_reply.specs.Reply.{asked_by, reply_of}
 use Rattle.pub_core.specs.declared.event.Event.{Event}
-use Rattle.pub_core.specs.declared.event.Event.TheVariants.{Bytes}
 use Rattle.pub_core.specs.World.{is_refused_at, script_in, waits, SessionState, World}
-use Rattle.pub_core.specs.Happening.{after, begun, happens, run}
+use Rattle.pub_core.specs.Happening.{begun, happens, run}
 use Rattle.pub_core.specs.Running.{feed_byte, feeding, first_waits}
-use Rattle.pub_core.specs.Standing.{first_item, Replies, Rests}
+use Rattle.pub_core.specs.Standing.{first_item, Rests}
 use Rattle.pub_core.proofs.ItemLemmas.{first-stays, room-none}
 use Rattle.pub_core.proofs.OneSession.{happens-feed, one, run-cons, run-none, waits-one}
 use Rattle.pub_core.proofs.Replying.{waits-reply}
 use Rattle.pub_core.proofs.Resting.{begin-rest, due-rest, feed-rest, few-rest, waits-rest}
-use Rattle.pub_core.proofs.SoFar.{fed_more, script-fed, some-reply, with_reply}
+use Rattle.pub_core.proofs.SoFar.{fed_more, script-fed, some-reply}
 use Rattle.pub_core.proofs.Steps.{begins, begun-no, feeds}
 
 -- where a session was fed so: a request is whole, and nothing was begun but what was due

@@ -1,10 +1,10 @@
 -- The requests of the bytes that a session was fed, one by one.
-use Rattle.std.proofs.Common.{◌≡◌, ◌≤◌, ◌<◌, zero, suc, ℕ, ◌+◌, Bool, true, false, List, [], ◌∷◌, ◌++◌, length, take, drop, Option, Some, None, refl, sym, ap, subst, ◌∙◌, append-nil, arith}
+use Rattle.std.proofs.Common.{◌≡◌, ◌<◌, zero, suc, ℕ, true, false, List, [], ◌∷◌, ◌++◌, length, take, drop, Some, None, refl, sym, ap, subst, ◌∙◌, append-nil, arith}
 use Rattle.std.specs.Prelude.{slice_get}
 use Rattle.std.proofs.lemmas.List.{take-append-drop}
 use Rattle.web_frame.specs.declared.limit.TheConstants.{MAX_HEAD}
 use Rattle.web_frame.specs.Cut.{cut_of, Cut, none_yet, whole, too_long}
-use Rattle.web_frame.specs.Items.{bad_head, head_too_long, heads_by, heads_of, item_before, item_of, items_before, request, AreFirst, Heads, Item, ReadsTo}
+use Rattle.web_frame.specs.Items.{bad_head, head_too_long, heads_of, item_before, item_of, items_before, request, Heads, Item, ReadsTo}
 use Rattle.web_frame.specs.Stream.{held_after, held_by, Held}
 use Rattle.web_frame.proofs.ItemLemmas.{cut_none_yet, heads_of-cut, items_first, ReadsTo-item}
 use Rattle.web_session.proofs.LookLemmas.{held_after-cut}

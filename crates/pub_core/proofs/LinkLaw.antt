@@ -1,22 +1,21 @@
 -- The events of a served link lead to a session that was sent what was written to the link.
-use Rattle.std.proofs.Common.{◌≡◌, ◌≤◌, ◌<◌, ◌⊎◌, inl, inr, zero, suc, ℕ, ◌+◌, ◌-◌, max, Bool, true, false, not, ◌&&◌, cond, ltb, List, [], ◌∷◌, ◌++◌, length, map, take, drop, Option, Some, None, refl, sym, ap, ap₂, subst, ◌∙◌, arith, length-append, length-take, append_assoc, append-nil}
-use Rattle.std.specs.Prelude.{slice_get, is_ok}
+use Rattle.std.proofs.Common.{◌≡◌, ◌≤◌, ◌<◌, suc, ℕ, ◌+◌, false, List, [], ◌∷◌, ◌++◌, length, take, drop, Some, refl, sym, ap, ap₂, subst, ◌∙◌, arith, length-append, length-take, append_assoc, append-nil}
+use Rattle.std.specs.Prelude.{slice_get}
 use Rattle.std.specs.List.{All}
-use Rattle.std.proofs.lemmas.List.{take_all, take-append-drop}
+use Rattle.std.proofs.lemmas.List.{take_all}
 use Rattle.fm_model.specs.declared.op.Op.{Op}
 use Rattle.fm_model.specs.declared.proto.Proto.{Proto}
-use Rattle.fm_model.specs.Collection.{coll}
-use Rattle.web_frame.specs.Items.{heads_of, items_before, Heads, Item, ReadsTo}
+use Rattle.web_frame.specs.Items.{heads_of, Heads, Item, ReadsTo}
 use Rattle.web_frame.specs.Stream.{held_after}
 use Rattle.web_frame.proofs.ItemLemmas.{ReadsTo-start}
 use Rattle.dap_reply.specs.declared.served.Mark.{Mark}
-use Rattle.dap_reply.specs.Reply.{asked_by, is_last}
+use Rattle.dap_reply.specs.Reply.{is_last}
 use Rattle.dap_reply.specs.Served.{marked_reply, sent_by, RepeatsUnwanted, Rises}
 use Rattle.pub_core.specs.declared.event.Event.{Event}
 use Rattle.pub_core.specs.World.{script_in, SessionState, World}
 use Rattle.pub_core.specs.Happening.{begun, run}
 use Rattle.pub_core.specs.Running.{feeding, first_output, left_after, looking, replies, replying, sending, AreTakenInTurn}
-use Rattle.pub_core.specs.Standing.{first_item, Replies, Rests}
+use Rattle.pub_core.specs.Standing.{Rests}
 use Rattle.pub_core.proofs.Delivery.{output-begun, output-marked, whole-marked}
 use Rattle.pub_core.proofs.Feeding.{fed, Fed}
 use Rattle.pub_core.proofs.ItemLemmas.{first-there, passes}

@@ -1,17 +1,13 @@
 -- The machine that reads requests, at rest and while it sends.
-use Rattle.std.proofs.Common.{◌≡◌, ◌≤◌, ◌<◌, zero, suc, ℕ, ◌+◌, ◌-◌, Bool, true, false, cond, ltb, Bor, List, [], ◌∷◌, ◌++◌, length, take, drop, Option, Some, None, refl, sym, ap, ap₂, subst, ◌∙◌, arith}
+use Rattle.std.proofs.Common.{◌≡◌, ◌≤◌, ◌<◌, ℕ, ◌+◌, ◌-◌, Bool, true, false, cond, Bor, List, [], ◌++◌, length, take, Option, Some, None, refl, sym, ap, subst, ◌∙◌, arith}
 use Rattle.std.specs.Prelude.{is_some}
 use Rattle.std.proofs.lemmas.Bool.{lt-ltb, le-ltb}
 use Rattle.std.proofs.lemmas.List.{take_all}
-use Rattle.web_frame.specs.declared.frame.Next.{Next}
 use Rattle.web_frame.specs.declared.limit.TheConstants.{MAX_HEAD}
 use Rattle.web_frame.specs.Cut.{cut_of, Cut, none_yet, whole, too_long}
 use Rattle.web_frame.specs.Items.{bad_head, head_too_long, item_of, request, Item}
 use Rattle.web_frame.specs.Stream.{held_after, held_by, held_len, next_by, next_by_item, next_of, target_of, Held}
-use Rattle.web_session.specs.declared.action.Action.{Action}
-use Rattle.web_session.specs.declared.action.Action.TheVariants.{Read, Ask, Send, Close}
-use Rattle.web_session.specs.declared.action.Asked.{Asked}
-use Rattle.web_session.specs.declared.action.Asked.TheVariants as says
+use Rattle.web_session.specs.declared.action.Action.TheVariants.{Read, Ask, Send}
 use Rattle.web_session.specs.declared.action.End.{End}
 use Rattle.web_session.specs.declared.event.Event.TheVariants.{Start, Bytes, Answer, Sent, EndOfInput, Fault}
 use Rattle.web_session.specs.declared.phase.Phase.{Phase}

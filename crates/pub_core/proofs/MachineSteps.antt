@@ -1,6 +1,6 @@
 -- A machine stands for a world, also after something was published or happened to a session.
 use Rattle.std.proofs.Common.{◌≡◌, ℕ, List, [], ◌∷◌, ◌++◌, map, replicate, take, length, get_or, ◌<◌, ◌≤◌, ◌+◌, IfOk, Option, Some, None, Result, Ok, Err, Bool, false, cond, refl, sym, ap, ap₂, subst, ◌∙◌}
-use Rattle.std.specs.Prelude.{is_none, fold}
+use Rattle.std.specs.Prelude.{is_none}
 use Rattle.std.proofs.lemmas.List.Sums.{fold-append, fold_more}
 use Rattle.std.proofs.lemmas.List.{take_all}
 use Rattle.fm_model.specs.declared.full.Full.{Full as TooMany}
@@ -18,7 +18,7 @@ use Rattle.pub_core.specs.Happening.{after_at, happens, happens_to, published, r
 use Rattle.pub_core.specs.Machine.{IsMachine}
 use Rattle.pub_core.specs.Outcome.{outcome_of}
 use Rattle.pub_core.specs.Shown.{AreShown}
-use Rattle.pub_core.specs.World.{output_of, start, untouched, SessionState, World}
+use Rattle.pub_core.specs.World.{start, untouched, World}
 use Rattle.pub_core.proofs.ManyShown.{all-published, outputs-shown, seen-shown}
 
 coll-more : (log : List Op) (op : Op) → coll (log ++ op ∷ []) ≡ after_op (coll log) op

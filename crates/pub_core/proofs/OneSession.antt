@@ -1,6 +1,6 @@
 -- A world of one session: what is published, and what happens to the session.
-use Rattle.std.proofs.Common.{◌≡◌, ◌≤◌, ◌<◌, zero, suc, ℕ, ◌+◌, ◌-◌, Bool, true, false, not, ◌&&◌, cond, List, [], ◌∷◌, ◌++◌, length, map, take, drop, Option, Some, None, refl, sym, ap, ap₂, subst, ◌∙◌, arith, length-append, append_assoc, append-nil, fold}
-use Rattle.std.specs.Prelude.{is_none, slice_range}
+use Rattle.std.proofs.Common.{◌≡◌, ◌≤◌, ℕ, cond, List, [], ◌∷◌, ◌++◌, length, map, Option, None, refl, sym, ap, ◌∙◌, arith, append_assoc, append-nil}
+use Rattle.std.specs.Prelude.{is_none}
 use Rattle.std.specs.List.{All}
 use Rattle.std.proofs.lemmas.List.Sums.{fold-append}
 use Rattle.std.proofs.lemmas.List.Elements.{All-append, All-cons, All-nil}
@@ -10,7 +10,7 @@ use Rattle.fm_model.specs.declared.proto.Proto.{Proto}
 use Rattle.fm_model.specs.Collection.{coll, full_at}
 use Rattle.pub_core.specs.declared.event.Event.{Event}
 use Rattle.pub_core.specs.declared.event.Event.TheVariants.{Publish, Look, Learn, Bytes, Sent}
-use Rattle.pub_core.specs.World.{output_of, script_in, waits, SessionState, World}
+use Rattle.pub_core.specs.World.{output_of, waits, SessionState, World}
 use Rattle.pub_core.specs.Happening.{after, after_at, happens, happens_to, published, run}
 use Rattle.pub_core.specs.Running.{first_output, first_waits, AreTakenInTurn}
 use Rattle.pub_core.specs.Standing.{Rests}

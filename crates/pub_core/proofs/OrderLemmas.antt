@@ -1,5 +1,5 @@
 -- The reply that is begun is the one to the next request.
-use Rattle.std.proofs.Common.{◌≡◌, ◌≤◌, ◌<◌, zero, suc, ℕ, ◌+◌, Bool, true, false, not, List, length, take, Option, Some, None, Result, Ok, Err, refl, sym, ap, ap₂, subst, ◌∙◌, arith}
+use Rattle.std.proofs.Common.{◌≡◌, ℕ, ◌+◌, Bool, true, false, not, List, length, take, Some, Result, Ok, Err, refl, sym, ap, ap₂, subst, ◌∙◌, arith}
 use Rattle.std.specs.Prelude.{is_ok}
 use Rattle.std.proofs.lemmas.List.{take_all}
 use Rattle.fm_base.specs.Chain.{◌>>=◌}
@@ -8,10 +8,8 @@ use Rattle.fm_model.specs.declared.op.Op.{Op}
 use Rattle.fm_model.specs.declared.proto.Proto.{Proto}
 use Rattle.fm_model.specs.declared.site.Site.{Site}
 use Rattle.fm_model.specs.Collection.{coll}
-use Rattle.fm_edition.specs.Held.{Held}
 use Rattle.fm_edition.specs.Log.{held_of}
 use Rattle.web_frame.specs.Items.{Item}
-use Rattle.web_frame.specs.Stream.{held_after}
 use Rattle.web_path.specs.declared.target.Target.{Target}
 use Rattle.web_session.specs.declared.action.Action.{Action}
 use Rattle.web_session.specs.declared.action.Action.TheVariants.{Ask}
@@ -22,7 +20,6 @@ use Rattle.web_session.specs.Event.{after_event}
 use Rattle.web_session.specs.Run.{item_asked}
 use Rattle.web_session.specs.State.{is_last as ends_link, State}
 use Rattle.dap_reply.specs.declared.body.Answer.{Answer}
-use Rattle.dap_reply.specs.declared.body.Body.{Body}
 use Rattle.dap_reply.specs.declared.fault.DapFault.{DapFault}
 use Rattle.dap_reply.specs.declared.wanted.Dap.{Dap}
 use Rattle.dap_reply.specs.declared.wanted.Order.{Order}
@@ -32,22 +29,20 @@ use Rattle.dap_reply.specs.Order.{order_by, order_of}
 use Rattle.dap_reply.specs.Parts.{bytes_of, Parts}
 use Rattle.dap_reply.specs.Planned.{answer_over}
 use Rattle.dap_reply.specs.Reply.{answer_to, answered, asked_by, has_head_alone, is_last, refusal_of, reply_of, reply_text}
-use Rattle.dap_reply.specs.Served.{asked_of}
 use Rattle.dap_reply.proofs.ServedLemmas.{last-ends}
 use Rattle.pub_core.specs.declared.connection.Connection.{Connection}
 use Rattle.pub_core.specs.declared.event.Event.TheVariants.{Look}
 use Rattle.pub_core.specs.Happening.{after, begun}
 use Rattle.pub_core.specs.Shown.{resting, IsShown, Shows}
 use Rattle.pub_core.specs.Standing.{first_item}
-use Rattle.pub_core.specs.World.{asks, is_due, is_refused_at, is_wanted_at, SessionState}
+use Rattle.pub_core.specs.World.{is_refused_at, is_wanted_at, SessionState}
 use Rattle.pub_core.proofs.ConnectionLemmas.{due-action, on-machine, Started}
 use Rattle.pub_core.proofs.MachineLemmas.{item-said, phase-of, start-same}
-use Rattle.pub_core.proofs.Replying.{due-reply}
 use Rattle.pub_core.proofs.Resting.{asks-rest, due-rest}
 use Rattle.pub_core.proofs.ShownLemmas.{asking, shown-begun, with_machine, Asks}
 use Rattle.pub_core.proofs.ShownSteps.{shown-with-reply}
 use Rattle.pub_core.proofs.SoFar.{with_reply}
-use Rattle.pub_core.proofs.Steps.{begins, begun-no, due-ended, look-no, looks}
+use Rattle.pub_core.proofs.Steps.{begins, look-no, looks}
 
 -- ---- what an order is of
 

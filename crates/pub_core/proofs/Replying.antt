@@ -1,15 +1,15 @@
 -- A session that sends a reply, and what can happen to it.
-use Rattle.std.proofs.Common.{◌≡◌, ◌≤◌, ◌<◌, zero, suc, ℕ, ◌+◌, ◌-◌, Bool, true, false, not, ◌&&◌, ◌||◌, cond, List, [], ◌∷◌, ◌++◌, length, take, drop, Option, Some, None, refl, sym, ap, ap₂, subst, ◌∙◌, arith, length-append, append_assoc}
+use Rattle.std.proofs.Common.{◌≡◌, ◌<◌, suc, ℕ, ◌+◌, ◌-◌, Bool, true, false, not, ◌&&◌, cond, List, [], ◌∷◌, ◌++◌, length, Option, Some, None, refl, sym, ap, ap₂, ◌∙◌, arith, length-append}
 use Rattle.std.specs.Prelude.{slice_get, is_none}
 use Rattle.std.proofs.lemmas.Bool.{le-leb, lt-leb}
 use Rattle.fm_model.specs.declared.op.Op.{Op}
 use Rattle.fm_model.specs.declared.proto.Proto.{Proto}
-use Rattle.web_frame.specs.Items.{heads_of, items_before, Heads, Item, ReadsTo}
+use Rattle.web_frame.specs.Items.{Item}
 use Rattle.web_frame.specs.Stream.{held_after}
 use Rattle.dap_reply.specs.Reply.{is_last}
 use Rattle.pub_core.specs.World.{asks, is_due, is_idle, is_refused_at, is_wanted_at, items_fed, next_item, rests, script_in, sends, unsent, waits, SessionState}
-use Rattle.pub_core.specs.Happening.{begun, closed, is_last_before, settled}
-use Rattle.pub_core.specs.Standing.{first_item, Replies, Rests}
+use Rattle.pub_core.specs.Happening.{closed, is_last_before}
+use Rattle.pub_core.specs.Standing.{Replies, Rests}
 use Rattle.pub_core.proofs.ItemLemmas.{next-there, passes}
 
 -- how many bytes there are in all

@@ -1,18 +1,17 @@
 -- A session that rests, and what can happen to it.
-use Rattle.std.proofs.Common.{◌≡◌, ◌≤◌, ◌<◌, zero, suc, ℕ, ◌+◌, ◌-◌, Bool, true, false, not, ◌&&◌, ◌||◌, cond, List, [], ◌∷◌, ◌++◌, length, take, drop, Option, Some, None, refl, sym, ap, ap₂, subst, ◌∙◌, arith, length-append, codes}
+use Rattle.std.proofs.Common.{◌≡◌, ◌≤◌, ◌<◌, ℕ, ◌+◌, Bool, true, false, not, ◌&&◌, cond, List, [], ◌∷◌, ◌++◌, length, take, Option, Some, refl, sym, ap, ap₂, ◌∙◌, arith, length-append}
 use Rattle.std.specs.Prelude.{slice_get, is_none}
-use Rattle.std.proofs.lemmas.Bool.{le-leb, lt-leb}
+use Rattle.std.proofs.lemmas.Bool.{le-leb}
 use Rattle.fm_model.specs.declared.op.Op.{Op}
 use Rattle.fm_model.specs.declared.proto.Proto.{Proto}
 use Rattle.fm_model.specs.Collection.{coll}
-use Rattle.web_frame.specs.Items.{heads_of, items_before, Heads, Item, ReadsTo}
-use Rattle.web_frame.specs.Stream.{held_after}
+use Rattle.web_frame.specs.Items.{heads_of, Heads, Item}
 use Rattle.web_frame.proofs.ItemLemmas.{ReadsTo-feed}
-use Rattle.dap_reply.specs.Reply.{is_last, reply_of}
-use Rattle.pub_core.specs.World.{asks, is_due, is_idle, is_refused_at, is_wanted_at, items_fed, next_item, rest_fed, rests, script_in, sends, unsent, waits, SessionState}
-use Rattle.pub_core.specs.Happening.{begun, closed, is_last_before, settled}
+use Rattle.dap_reply.specs.Reply.{reply_of}
+use Rattle.pub_core.specs.World.{asks, is_due, is_idle, is_refused_at, is_wanted_at, items_fed, next_item, rests, script_in, sends, waits, SessionState}
+use Rattle.pub_core.specs.Happening.{closed}
 use Rattle.pub_core.specs.Standing.{first_item, Replies, Rests}
-use Rattle.pub_core.proofs.ItemLemmas.{heads-read, next-there, passes, rest-none}
+use Rattle.pub_core.proofs.ItemLemmas.{heads-read, next-there}
 use Rattle.pub_core.proofs.SoFar.{fed_more, last-fed, script-begun, script-fed, with_reply}
 
 and-false : (b : Bool) → (b && false) ≡ false

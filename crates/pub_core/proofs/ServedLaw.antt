@@ -1,7 +1,5 @@
 -- A served link is a run: its events lead to a session that was sent what was written to the link.
-use Rattle.std.proofs.Common.{◌≡◌, ◌≤◌, ◌<◌, ◌⊎◌, inl, inr, zero, suc, ℕ, ◌+◌, max, Bool, true, false, cond, List, [], ◌∷◌, ◌++◌, length, map, take, drop, Some, refl, sym, ap, ap₂, subst, ◌∙◌, arith, length-append, length-take}
-use Rattle.std.specs.Prelude.{slice_get}
-use Rattle.std.specs.List.{All}
+use Rattle.std.proofs.Common.{◌≡◌, ◌≤◌, ◌<◌, inl, inr, ℕ, ◌+◌, max, List, [], ◌∷◌, ◌++◌, length, map, take, drop, refl, sym, ap, ap₂, subst, ◌∙◌, arith, length-append, length-take}
 use Rattle.std.proofs.lemmas.Bool.{le-leb}
 use Rattle.std.proofs.lemmas.List.{take-append-drop}
 use Rattle.std.proofs.lemmas.List.Elements.{All-nil}
@@ -11,7 +9,6 @@ use Rattle.web_frame.specs.Items.{heads_of, Item}
 use Rattle.web_frame.proofs.ItemLemmas.{ReadsTo-start}
 use Rattle.web_session.specs.State.{fresh, State}
 use Rattle.dap_reply.specs.declared.served.Mark.{Mark}
-use Rattle.dap_reply.specs.Reply.{is_last}
 use Rattle.dap_reply.specs.Script.{script_of}
 use Rattle.dap_reply.specs.Served.{input_of, items_of, marked_reply, number_at, sent_by, IsWholeOrCut, LinkCall, Served}
 use Rattle.pub_core.specs.declared.event.Event.TheVariants.{Learn, Publish}

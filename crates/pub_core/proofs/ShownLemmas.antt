@@ -1,19 +1,10 @@
 -- What a connection shows, where something happens to it.
-use Rattle.std.proofs.Common.{◌≡◌, ◌≤◌, ◌<◌, zero, suc, ℕ, ◌+◌, ◌-◌, max, Bool, true, false, not, ◌&&◌, ◌||◌, cond, leb, ltb, Bor, List, [], ◌∷◌, ◌++◌, length, take, drop, Option, Some, None, refl, sym, ap, ap₂, subst, ◌∙◌, arith, append-nil, length-append}
+use Rattle.std.proofs.Common.{◌≡◌, ℕ, ◌-◌, Bool, true, false, not, ◌&&◌, List, length, Option, Some, None, refl, sym, ap, subst, ◌∙◌}
 use Rattle.std.specs.Prelude.{is_none}
-use Rattle.std.specs.List.{All}
-use Rattle.std.proofs.lemmas.Bool.{lt-ltb, ltb-true, ltb-false}
-use Rattle.std.proofs.lemmas.List.{take-append-le}
-use Rattle.std.proofs.lemmas.List.Elements.{All-append, All-cons, All-nil}
-use Rattle.std.proofs.Common.{take-add}
-use Rattle.std.proofs.Math.Seq.{drop-append-add}
 use Rattle.fm_model.specs.declared.op.Op.{Op}
 use Rattle.fm_model.specs.declared.proto.Proto.{Proto}
-use Rattle.fm_model.specs.Collection.{coll}
 use Rattle.web_frame.specs.declared.limit.TheConstants.{MAX_HEAD}
 use Rattle.web_frame.specs.Items.{Item}
-use Rattle.web_frame.specs.Stream.{held_after}
-use Rattle.web_session.specs.declared.action.Action.{Action}
 use Rattle.web_session.specs.declared.action.Action.TheVariants.{Read, Ask, Send, Close}
 use Rattle.web_session.specs.declared.action.Asked.{Asked}
 use Rattle.web_session.specs.declared.action.End.{End as Ending}
@@ -23,20 +14,17 @@ use Rattle.web_session.specs.declared.phase.Phase.TheVariants.{Ended}
 use Rattle.web_session.specs.Event.{after_event}
 use Rattle.web_session.specs.State.{action_at, action_of, State}
 use Rattle.dap_reply.specs.Parts.{bytes_of, Parts}
-use Rattle.dap_reply.specs.Reply.{is_last, reply_of}
 use Rattle.dap_reply.specs.Served.{asked_of}
 use Rattle.pub_core.specs.declared.connection.Connection.{Connection}
-use Rattle.pub_core.specs.declared.event.Event.TheVariants.{Look, Learn, Bytes, Sent, End, Fault}
-use Rattle.pub_core.specs.Happening.{after, begun, closed, effect_of, is_possible_to, settled}
+use Rattle.pub_core.specs.Happening.{begun}
 use Rattle.pub_core.specs.Shown.{resting, sending, IsShown, Shows, Stands}
 use Rattle.pub_core.specs.Shown.Stands.{at_end, at_rest, in_reply}
 use Rattle.pub_core.specs.Standing.{first_item, Replies, Rests}
-use Rattle.pub_core.specs.World.{asks, is_due, is_idle, is_refused_at, is_wanted_at, next_item, output_of, rests, script_in, sends, unsent, waits, SessionState}
-use Rattle.pub_core.proofs.MachineLemmas.{acts-rest, asks-rest-for, begins-machine, feeds-machine, reads-rest, start-same}
+use Rattle.pub_core.specs.World.{asks, is_due, is_idle, is_refused_at, is_wanted_at, next_item, rests, sends, waits, SessionState}
+use Rattle.pub_core.proofs.MachineLemmas.{asks-rest-for, reads-rest, start-same}
 use Rattle.pub_core.proofs.Replying.{asks-reply, due-reply, waits-reply}
 use Rattle.pub_core.proofs.Resting.{asks-rest, due-rest, sends-rest, waits-rest}
-use Rattle.pub_core.proofs.SoFar.{fed_more, script-begun, script-fed, some-reply, with_reply}
-use Rattle.pub_core.proofs.Steps.{begun-no, due-ended, feeds, feed-no, feed-unfit}
+use Rattle.pub_core.proofs.Steps.{begun-no, due-ended}
 
 -- a connection whose machine stands so
 abbrev pub with_machine : Connection → State → Connection

@@ -1,15 +1,13 @@
 -- What a connection shows after each thing that happens to it.
-use Rattle.std.proofs.Common.{◌≡◌, ◌≤◌, ◌<◌, zero, suc, ℕ, ◌+◌, ◌-◌, max, Bool, true, false, not, ◌&&◌, ◌||◌, cond, leb, ltb, Bor, List, [], ◌∷◌, ◌++◌, length, take, drop, Option, Some, None, refl, sym, ap, ap₂, subst, ◌∙◌, arith, append-nil, length-append, take-add}
-use Rattle.std.specs.Prelude.{is_none}
+use Rattle.std.proofs.Common.{◌≡◌, ◌≤◌, ◌<◌, ℕ, ◌+◌, ◌-◌, max, Bool, true, false, ◌&&◌, cond, ltb, Bor, List, [], ◌∷◌, ◌++◌, length, take, drop, Option, Some, refl, sym, ap, ap₂, subst, ◌∙◌, arith, length-append, take-add}
 use Rattle.std.specs.List.{All}
-use Rattle.std.proofs.lemmas.Bool.{lt-ltb, le-leb, ltb-true, ltb-false, lt-leb}
-use Rattle.std.proofs.lemmas.List.{take-append-le, take_all}
+use Rattle.std.proofs.lemmas.Bool.{le-leb, ltb-true, ltb-false}
+use Rattle.std.proofs.lemmas.List.{take-append-le}
 use Rattle.std.proofs.lemmas.List.Elements.{All-append, All-cons, All-nil}
-use Rattle.std.proofs.Math.Seq.{drop-append-add, take-append-add}
+use Rattle.std.proofs.Math.Seq.{drop-append-add}
 use Rattle.fm_model.specs.declared.op.Op.{Op}
 use Rattle.fm_model.specs.declared.proto.Proto.{Proto}
 use Rattle.fm_model.specs.Collection.{coll}
-use Rattle.web_frame.specs.declared.limit.TheConstants.{MAX_HEAD}
 use Rattle.web_frame.specs.Items.{Item}
 use Rattle.web_frame.specs.Stream.{held_after}
 use Rattle.web_session.specs.declared.action.End.{End as Ending}
@@ -21,16 +19,15 @@ use Rattle.dap_reply.specs.Parts.{bytes_of, Parts}
 use Rattle.dap_reply.specs.Reply.{is_last, reply_of}
 use Rattle.pub_core.specs.declared.connection.Connection.{Connection}
 use Rattle.pub_core.specs.declared.event.Event.{Event}
-use Rattle.pub_core.specs.declared.event.Event.TheVariants.{Look, Learn, Bytes, Sent, End, Fault}
+use Rattle.pub_core.specs.declared.event.Event.TheVariants.{Learn, Sent}
 use Rattle.pub_core.specs.Happening.{after, begun, closed, effect_of, is_last_before, is_possible_to, settled}
 use Rattle.pub_core.specs.Shown.{resting, sending, IsShown, Shows, Stands}
 use Rattle.pub_core.specs.Shown.Stands.{at_end, at_rest, in_reply}
-use Rattle.pub_core.specs.Standing.{first_item, Replies, Rests}
-use Rattle.pub_core.specs.World.{asks, is_due, is_idle, is_refused_at, is_wanted_at, items_fed, next_item, output_of, rests, script_in, sends, unsent, waits, SessionState}
+use Rattle.pub_core.specs.Standing.{Replies, Rests}
+use Rattle.pub_core.specs.World.{is_due, is_idle, items_fed, next_item, output_of, rests, script_in, SessionState}
 use Rattle.pub_core.proofs.MachineLemmas.{begins-machine, feeds-machine, sends-last-machine, sends-part-machine, sends-whole-machine}
-use Rattle.pub_core.proofs.OneSession.{all-le, all-more}
-use Rattle.pub_core.proofs.Replying.{closed-reply, due-reply, sent_more, send-part, send-whole, sends-reply}
-use Rattle.pub_core.proofs.Resting.{begin-rest, closed-rest, feed-rest, few-rest, next-rest, waits-rest}
+use Rattle.pub_core.proofs.Replying.{closed-reply, due-reply, sent_more, send-part, send-whole}
+use Rattle.pub_core.proofs.Resting.{begin-rest, closed-rest, feed-rest, few-rest, next-rest}
 use Rattle.pub_core.proofs.SoFar.{fed_more, script-begun, script-fed, some-reply, with_reply}
 use Rattle.pub_core.proofs.Steps.{after-no, after-yes, begun-no, due-ended, sends-last, sends-part, sends-whole}
 use Rattle.pub_core.proofs.ShownLemmas.{with_machine, Asks, Reads, Sends}

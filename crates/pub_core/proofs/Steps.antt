@@ -1,20 +1,19 @@
 -- What each event does to a session, by where it stands.
-use Rattle.std.proofs.Common.{◌≡◌, ◌≤◌, ◌<◌, zero, suc, ℕ, ◌+◌, ◌-◌, max, Bool, true, false, not, ◌&&◌, ◌||◌, cond, leb, ltb, List, [], ◌∷◌, ◌++◌, length, take, drop, Option, Some, None, refl, sym, ap, ap₂, subst, ◌∙◌, arith}
-use Rattle.std.specs.Prelude.{slice_get, is_none}
-use Rattle.std.proofs.lemmas.Bool.{le-leb, lt-leb, lt-ltb}
+use Rattle.std.proofs.Common.{◌≡◌, ◌≤◌, ◌<◌, ℕ, ◌+◌, ◌-◌, Bool, true, false, not, ◌&&◌, cond, leb, ltb, List, [], ◌∷◌, ◌++◌, length, take, Option, Some, None, refl, ap, ap₂, ◌∙◌, arith}
+use Rattle.std.specs.Prelude.{is_none}
+use Rattle.std.proofs.lemmas.Bool.{le-leb, lt-ltb}
 use Rattle.fm_model.specs.declared.op.Op.{Op}
 use Rattle.fm_model.specs.declared.proto.Proto.{Proto}
 use Rattle.fm_model.specs.Collection.{coll}
 use Rattle.web_frame.specs.declared.limit.TheConstants.{MAX_HEAD}
 use Rattle.web_frame.specs.Items.{Item}
-use Rattle.web_frame.specs.Stream.{held_after}
-use Rattle.dap_reply.specs.Reply.{is_last, reply_of}
+use Rattle.dap_reply.specs.Reply.{is_last}
 use Rattle.pub_core.specs.declared.event.Event.{Event}
-use Rattle.pub_core.specs.declared.event.Event.TheVariants.{Publish, Look, Learn, Bytes, Sent, End, Fault}
+use Rattle.pub_core.specs.declared.event.Event.TheVariants.{Look, Bytes, Sent}
 use Rattle.pub_core.specs.World.{asks, is_due, is_idle, is_refused_at, is_wanted_at, next_item, rest_fed, rests, sends, unsent, waits, SessionState}
-use Rattle.pub_core.specs.Happening.{after, begun, closed, effect_of, is_possible_to, settled}
+use Rattle.pub_core.specs.Happening.{after, begun, effect_of, is_possible_to, settled}
 use Rattle.pub_core.specs.Standing.{first_item, Replies, Rests}
-use Rattle.pub_core.proofs.ItemLemmas.{rest-none, room-none}
+use Rattle.pub_core.proofs.ItemLemmas.{rest-none}
 use Rattle.pub_core.proofs.SoFar.{fed_more, some-reply, with_reply}
 use Rattle.pub_core.proofs.Resting.{asks-rest, begin-rest, closed-rest, due-rest, feed-rest, waits-rest}
 use Rattle.pub_core.proofs.Replying.{closed-reply, due-reply, sent_more, send-last, send-part, send-whole, sends-reply, unsent-reply}

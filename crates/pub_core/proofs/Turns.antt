@@ -1,28 +1,25 @@
 -- One reply of a served link, in a world of one session: a request is read, its reply is begun, and bytes are sent.
-use Rattle.std.proofs.Common.{◌≡◌, ◌≤◌, ◌<◌, ◌⊎◌, inl, inr, zero, suc, ℕ, ◌+◌, ◌-◌, Bool, true, false, not, ◌&&◌, cond, ltb, List, [], ◌∷◌, ◌++◌, length, map, take, drop, Option, Some, None, refl, sym, ap, ap₂, subst, ◌∙◌, arith, length-append, length-take, take-add, append_assoc, append-nil}
-use Rattle.std.specs.Prelude.{is_none, is_ok, slice_range}
+use Rattle.std.proofs.Common.{◌≡◌, ◌≤◌, ℕ, ◌+◌, ◌-◌, Bool, true, false, not, cond, List, [], ◌∷◌, ◌++◌, length, map, take, drop, Some, refl, sym, ap, subst, ◌∙◌, arith, length-take, take-add}
+use Rattle.std.specs.Prelude.{is_ok, slice_range}
 use Rattle.std.specs.List.{All}
-use Rattle.std.proofs.lemmas.Bool.{lt-ltb}
 use Rattle.std.proofs.lemmas.List.{take_all, take-append-drop}
 use Rattle.fm_model.specs.declared.op.Op.{Op}
 use Rattle.fm_model.specs.declared.proto.Proto.{Proto}
 use Rattle.fm_model.specs.Collection.{coll}
 use Rattle.web_frame.specs.Items.{Item}
-use Rattle.web_frame.specs.Stream.{held_after}
 use Rattle.dap_reply.specs.declared.served.Mark.{Mark}
-use Rattle.dap_reply.specs.Reply.{asked_by, is_last, reply_of}
+use Rattle.dap_reply.specs.Reply.{asked_by, reply_of}
 use Rattle.dap_reply.specs.Served.{marked_reply}
 use Rattle.pub_core.specs.declared.event.Event.{Event}
-use Rattle.pub_core.specs.declared.event.Event.TheVariants.{Publish, Look, Sent}
-use Rattle.pub_core.specs.World.{is_refused_at, is_wanted_at, output_of, script_in, SessionState, World}
-use Rattle.pub_core.specs.Happening.{after, begun, happens, run}
-use Rattle.pub_core.specs.Running.{looking, sending, AreTakenInTurn}
+use Rattle.pub_core.specs.declared.event.Event.TheVariants.{Publish, Look}
+use Rattle.pub_core.specs.World.{is_refused_at, is_wanted_at, script_in, SessionState, World}
+use Rattle.pub_core.specs.Happening.{begun, run}
+use Rattle.pub_core.specs.Running.{looking, AreTakenInTurn}
 use Rattle.pub_core.specs.Standing.{first_item, Replies, Rests}
-use Rattle.pub_core.proofs.OneSession.{all-le, happens-look, happens-sent, one, publishes, rest-published, run-append, run-none, run-one}
-use Rattle.pub_core.proofs.Replying.{sent_more, send-whole}
+use Rattle.pub_core.proofs.OneSession.{all-le, happens-look, one, publishes, rest-published, run-append, run-none, run-one}
 use Rattle.pub_core.proofs.Resting.{begin-rest, due-rest}
-use Rattle.pub_core.proofs.SoFar.{script-begun, script-published, some-reply, with_reply}
-use Rattle.pub_core.proofs.Steps.{begins, begun-no, looks, sends-last, sends-part, sends-whole}
+use Rattle.pub_core.proofs.SoFar.{some-reply, with_reply}
+use Rattle.pub_core.proofs.Steps.{begins, begun-no, looks}
 
 -- the operations up to a number, which are all published
 pub fronts : (ops : List Op) (n m : ℕ) → n ≤ m → take n ops ++ slice_range ops n m ≡ take m ops

@@ -1,5 +1,5 @@
 -- What is told of a run, and which events it may be of.
-use Rattle.std.specs.Prelude.{ℕ, List, map}
+use Rattle.std.specs.Prelude.{map}
 use Rattle.fm_model.specs.declared.proto.Proto.{Proto}
 use Rattle.fm_edition.specs.Held.{OpFits}
 use Rattle.pub_core.specs.declared.event.Event.{Event}

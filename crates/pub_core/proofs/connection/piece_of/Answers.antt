@@ -1,5 +1,5 @@
 -- The piece fills what it is written over.
-use Rattle.std.proofs.Common.{◌≡◌, length, arith}
+use Rattle.std.proofs.Common.{arith}
 use Rattle.dap_reply.specs.Parts.{bytes_of}
 use Rattle.pub_core.proofs.PieceLemmas.{piece-whole}
 use Rattle.pub_core.proofs.connection.piece_of.Goals as goal

@@ -1,5 +1,5 @@
 -- The same, where the connections are a list.
-use Rattle.std.proofs.Common.{◌≡◌, List, length, sym, subst, ◌∙◌, arith}
+use Rattle.std.proofs.Common.{◌≡◌, List, sym, subst, ◌∙◌, arith}
 use Rattle.dap_reply.proofs.MessageLemmas.{on_ok}
 use Rattle.pub_core.specs.declared.connection.Connection.{Connection}
 use Rattle.pub_core.specs.Happening.{after_at}

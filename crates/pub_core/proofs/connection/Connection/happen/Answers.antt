@@ -1,5 +1,5 @@
 -- One event of a session.
-use Rattle.std.proofs.Common.{◌≡◌, List, ℕ, sym, ap, subst, ◌∙◌}
+use Rattle.std.proofs.Common.{sym, ap, subst, ◌∙◌}
 use Rattle.fm_model.specs.declared.proto.Proto.{Proto}
 use Rattle.dap_reply.proofs.MessageLemmas.{on_ok}
 use Rattle.pub_core.specs.declared.event.Event.{Event}

@@ -1,5 +1,5 @@
 -- What is told of the world.
-use Rattle.std.proofs.Common.{List, map, ap, ◌∙◌}
+use Rattle.std.proofs.Common.{map, ap, ◌∙◌}
 use Rattle.pub_core.specs.declared.connection.Connection.{Connection}
 use Rattle.pub_core.proofs.MachineSteps.{machine-outcome}
 use Rattle.pub_core.proofs.machine.Machine.outcome.Goals as goal

@@ -1,5 +1,5 @@
 -- An operation is published, or nothing is.
-use Rattle.std.proofs.Common.{List, [], ◌∷◌, ◌++◌, ap, ◌∙◌}
+use Rattle.std.proofs.Common.{[], ◌∷◌, ◌++◌, ap, ◌∙◌}
 use Rattle.fm_model.specs.declared.op.Op.{Op}
 use Rattle.pub_core.proofs.MachineSteps.{machine-full, machine-published}
 use Rattle.pub_core.proofs.machine.Machine.publish.Goals as goal

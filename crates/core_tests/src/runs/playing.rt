@@ -1,0 +1,131 @@
+//! Steps over small files, as events.
+ghost use Rattle.std.specs.Prelude.{◌≡◌, All, IfOk};
+ghost use Rattle.fm_model.specs.Load.{Fits};
+ghost use Rattle.fm_model.specs.Site.{IsPrototype};
+ghost use Rattle.pub_core.specs.Outcome.{EventFits};
+
+use fm_base::{Arc, Bytes, List, NoMemory};
+use fm_load::load;
+use fm_model::{Loaded, Op, Proto};
+use fm_sample::{File, edition_of};
+use pub_core::{Event, Outcome, run_all};
+use std::alloc::Global;
+use std::process::Abort;
+use std::test::Fail;
+
+/// The names of the run of 00:00 and of the run of 06:00.
+pub const FIRST: &[u8] = b"gfs_20240101_0000.nc";
+
+pub const SECOND: &[u8] = b"gfs_20240101_0600.nc";
+
+/// An event: the first run is put, or the second, runs expire, the first is taken back, or something happens to the session
+/// of a number.
+#[derive(Clone, Copy, Debug)]
+pub enum Step {
+    First,
+    Second,
+    Expire(i64),
+    Retract,
+    Look(u32),
+    Learn(u32, u64),
+    Bytes(u32, &'static [u8]),
+    Sent(u32, u64),
+    End(u32),
+    Fault(u32),
+}
+
+/// The prototype of the sample.
+pub fn proto_of(alloc: Global) -> Result<Arc<Proto>, Fail>
+    ensures { IfOk result IsPrototype }
+{
+    match edition_of(alloc, File::Sample.bytes(alloc)?) {
+        Ok(edition) => Ok(edition.proto().share()?),
+        Err(_) => Err(Fail::from("the bytes are no prototype")),
+    }
+}
+
+/// A file of the collection over a prototype.
+pub fn file_of(
+    rt: &impl Abort,
+    alloc: Global,
+    proto: &Proto,
+    name: &[u8],
+    file: File,
+) -> Result<Arc<Loaded>, Fail>
+    ensures { IfOk result (λ made. Fits made proto.now) }
+{
+    let bytes = file.bytes(alloc)?;
+    assert!(rt; bytes.len() <= 536_870_912);
+    let made = load(alloc, name, bytes, proto)?;
+    Ok(Arc::new(alloc, made)?)
+}
+
+// What a step publishes or does.
+fn event_of(
+    alloc: Global,
+    proto: &Proto,
+    first: &Arc<Loaded>,
+    second: &Arc<Loaded>,
+    step: Step,
+) -> Result<Event, NoMemory>
+    requires first { Fits first.now proto.now }
+    requires second { Fits second.now proto.now }
+    ensures { IfOk result (EventFits proto.now) }
+{
+    match step {
+        Step::First => Ok(Event::Publish(Op::Put(first.share()?))),
+        Step::Second => Ok(Event::Publish(Op::Put(second.share()?))),
+        Step::Expire(cutoff) => Ok(Event::Publish(Op::Expire(cutoff))),
+        Step::Retract => Ok(Event::Publish(Op::Retract(Bytes::copy_of(alloc, FIRST)?))),
+        Step::Look(number) => Ok(Event::Look(number)),
+        Step::Learn(number, count) => Ok(Event::Learn(number, count)),
+        Step::Bytes(number, piece) => Ok(Event::Bytes(number, Bytes::copy_of(alloc, piece)?)),
+        Step::Sent(number, count) => Ok(Event::Sent(number, count)),
+        Step::End(number) => Ok(Event::End(number)),
+        Step::Fault(number) => Ok(Event::Fault(number)),
+    }
+}
+
+// What some steps publish or do.
+fn events_of(
+    alloc: Global,
+    proto: &Proto,
+    first: &Arc<Loaded>,
+    second: &Arc<Loaded>,
+    steps: &[Step],
+) -> Result<List<Event>, NoMemory>
+    requires first { Fits first.now proto.now }
+    requires second { Fits second.now proto.now }
+    ensures { IfOk result (All (EventFits proto.now)) }
+{
+    let mut events = List::new(alloc);
+    for step in steps {
+        events.push(event_of(alloc, proto, first, second, *step)?)?;
+    }
+    Ok(events)
+}
+
+/// Runs some steps over so many sessions.
+pub fn play(
+    rt: &impl Abort,
+    alloc: Global,
+    sessions: u32,
+    steps: &[Step],
+) -> Result<Outcome, Fail> {
+    let proto = proto_of(alloc)?;
+    let first = file_of(rt, alloc, proto.get(), FIRST, File::Sample)?;
+    let second = file_of(rt, alloc, proto.get(), SECOND, File::Later)?;
+    let events = events_of(alloc, proto.get(), &first, &second, steps)?;
+    Ok(run_all(alloc, proto, sessions, &events)?)
+}
+
+/// What the session of a number was sent, and how many operations it has seen.
+pub fn told(outcome: &Outcome, number: usize) -> (&[u8], u64) {
+    match (
+        outcome.outputs.as_slice().get(number),
+        outcome.seen.as_slice().get(number),
+    ) {
+        (Some(output), Some(seen)) => (output.as_slice(), *seen),
+        _ => (b"", u64::MAX),
+    }
+}
