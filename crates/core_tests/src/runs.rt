@@ -2,6 +2,7 @@
 
 mod playing;
 mod random;
+mod requests;
 mod second;
 
 use playing::{Step, play, told};

@@ -1,4 +1,4 @@
--- Events of one session make no difference to another.
+-- Events of one session make no difference to another. It is long, since each kind of event is a case.
 use Rattle.std.proofs.Common.{◌≡◌, zero, suc, ℕ, Bool, true, false, cond, ◌==◌, List, [], ◌∷◌, ◌++◌, set, filter, fold, Option, Some, None, refl, sym, ap, ap₂, subst, ◌∙◌}
 use Rattle.std.specs.Prelude.{is_none, slice_get, option_map}
 use Rattle.std.proofs.lemmas.Bool.{eqb-true, eqb-false}

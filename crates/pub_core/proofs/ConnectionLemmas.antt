@@ -1,4 +1,5 @@
--- What a connection shows after each step of its code, whose first step asks for the action that is due.
+-- What a connection shows after each step of its code, whose first step asks for the action that is due. It is long,
+-- since there is one statement for each return of the code.
 use Rattle.std.proofs.Common.{◌≡◌, ◌≤◌, ◌<◌, ℕ, ◌-◌, Bool, true, false, ◌&&◌, ◌||◌, leb, ltb, Bor, List, ◌++◌, length, take, drop, Option, Some, None, refl, sym, ap, ap₂, subst, ◌∙◌, arith}
 use Rattle.std.specs.Prelude.{is_none}
 use Rattle.std.proofs.lemmas.Bool.{lt-leb}
@@ -44,7 +45,8 @@ other-than make c machine action st other a is = other a (due-action c machine a
 
 -- ---- nothing is due
 
-pub settle-none : (proto : Proto) (log : List Op) (c : Connection) (s : SessionState) (machine : State) (action : Action)
+pub settle-none : (proto : Proto) (log : List Op) (c : Connection) (s : SessionState) (machine : State)
+    (action : Action)
     → Started c machine action → ((asked : Asked) → action ≡ Ask asked → ⊥) → Shows proto log c s
     → IsShown proto log (with_machine c machine) (begun proto log s)
 settle-none proto log c s machine action st other shows =
@@ -141,7 +143,8 @@ pub send-fit : (proto : Proto) (log : List Op) (c now : Connection) (s : Session
     → now.output ≡ c.output ++ take count (drop from (bytes_of reply)) → now.plan ≡ c.plan → now.seen ≡ c.seen
     → now.session ≡ after_event machine (step.Sent count)
     → IsShown proto log c s → Sending proto log now s (after proto log (Sent number count) s)
-send-fit proto log c now s number count from reply machine action st is plan some fits output same_plan seen then shown =
+send-fit proto log c now s number count from reply machine action st is plan some fits output same_plan seen then
+    shown =
     let r : Sends proto log c s from = sent-so c machine action st is shown in
     let same : r.reply ≡ reply = some-same (sym r.plan_is ∙ plan) in
     let given : Given proto log c now s from count r = record {

@@ -45,7 +45,8 @@ output-by {proto} {log} {s} (Some item) true r first is =
 -- also where a reply that is due is begun
 pub output-begun : {proto : Proto} {log : List Op} {s : SessionState} {left : List ℕ} → Rests proto log s left
     → output_of proto log (begun proto log s) ≡ script_in proto log s
-output-begun {proto} {left = left} r = output-by (first_item left) (is_refused_at proto.site (first_item left)) r refl refl
+output-begun {proto} {left = left} r =
+    output-by (first_item left) (is_refused_at proto.site (first_item left)) r refl refl
 
 -- ---- bytes of a reply are sent
 

@@ -1,4 +1,5 @@
--- The events of a served link lead to a session that was sent what was written to the link.
+-- The events of a served link lead to a session that was sent what was written to the link. It is long, since one
+-- induction over the replies needs all that holds where a reply is whole.
 use Rattle.std.proofs.Common.{◌≡◌, ◌≤◌, ◌<◌, suc, ℕ, ◌+◌, false, List, [], ◌∷◌, ◌++◌, length, take, drop, Some, refl, sym, ap, ap₂, subst, ◌∙◌, arith, length-append, length-take, append_assoc, append-nil}
 use Rattle.std.specs.Prelude.{slice_get}
 use Rattle.std.specs.List.{All}
@@ -160,7 +161,8 @@ leads-last proto ops mark item items taken n s left input ready =
     (append-nil (replying proto ops (here proto ops n s) n input mark item))
     ∙ ap (first_output proto) t.run_is
     ∙ output-marked mark t.begun_so.replies within
-    ∙ ap₂ (λ (l : List ℕ) (k : ℕ). l ++ take mark.sent (marked_reply proto ops mark item (k + 1))) t.script_is t.number_is
+    ∙ ap₂ (λ (l : List ℕ) (k : ℕ). l ++ take mark.sent (marked_reply proto ops mark item (k + 1))) t.script_is
+    t.number_is
     ∙ ap (λ (l : List ℕ). script ++ l) (sym (append-nil (take mark.sent (marked_reply proto ops mark item
     (length s.revs + 1)))))
 

@@ -1,4 +1,4 @@
--- The machine that reads requests, at rest and while it sends.
+-- The machine that reads requests, at rest and while it sends. It is long, since it has one fact for each event.
 use Rattle.std.proofs.Common.{◌≡◌, ◌≤◌, ◌<◌, ℕ, ◌+◌, ◌-◌, Bool, true, false, cond, Bor, List, [], ◌++◌, length, take, Option, Some, None, refl, sym, ap, subst, ◌∙◌, arith}
 use Rattle.std.specs.Prelude.{is_some}
 use Rattle.std.proofs.lemmas.Bool.{lt-ltb, le-ltb}

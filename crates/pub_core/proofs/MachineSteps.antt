@@ -1,4 +1,5 @@
--- A machine stands for a world, also after something was published or happened to a session.
+-- A machine stands for a world, also after something was published or happened to a session. It is long by
+-- a few lines, since a statement is made for each function of the machine.
 use Rattle.std.proofs.Common.{◌≡◌, ℕ, List, [], ◌∷◌, ◌++◌, map, replicate, take, length, get_or, ◌<◌, ◌≤◌, ◌+◌, IfOk, Option, Some, None, Result, Ok, Err, Bool, false, cond, refl, sym, ap, ap₂, subst, ◌∙◌}
 use Rattle.std.specs.Prelude.{is_none}
 use Rattle.std.proofs.lemmas.List.Sums.{fold-append, fold_more}
@@ -130,7 +131,8 @@ pub machine-more : (proto : Proto) (m now : Machine) (world : World) (events : L
     → IsMachine proto now (run proto world (take (place + 1) events))
 machine-more proto m now world events place event is event_is below leads =
     let own : (w : World) → IsMachine proto m w → IsMachine proto now (happens proto w event) =
-    subst (λ (p : Proto). (w : World) → IsMachine p m w → IsMachine p now (happens p w event)) (machine-proto is) leads in
+    subst (λ (p : Proto). (w : World) → IsMachine p m w → IsMachine p now (happens p w event)) (machine-proto is)
+    leads in
     subst (IsMachine proto now)
     (ap (happens proto (run proto world (take place events))) event_is
     ∙ sym (run-more proto world events place event below))

@@ -1,4 +1,4 @@
--- Connections that show sessions, one by one.
+-- Connections that show sessions, one by one. It is long, since each fact goes down two lists at once.
 use Rattle.std.proofs.Common.{◌≡◌, ◌≤◌, ◌<◌, zero, suc, ℕ, not, ◌&&◌, List, [], ◌∷◌, ◌++◌, leb, length, length-append, map, take, set, get_or, Option, Some, None, refl, sym, ap, ap₂, subst, ◌∙◌, arith}
 use Rattle.std.specs.Prelude.{slice_get}
 use Rattle.std.specs.List.{All}

@@ -1,4 +1,5 @@
--- The reply that is begun is the one to the next request.
+-- The reply that is begun is the one to the next request. It is long, since a refusal and an answer are shown
+-- apart, each for what is begun and for what is left.
 use Rattle.std.proofs.Common.{◌≡◌, ℕ, ◌+◌, Bool, true, false, not, List, length, take, Some, Result, Ok, Err, refl, sym, ap, ap₂, subst, ◌∙◌, arith}
 use Rattle.std.specs.Prelude.{is_ok}
 use Rattle.std.proofs.lemmas.List.{take_all}
@@ -138,7 +139,8 @@ ordered {proto} {asked = asked} site machine order a same start is =
     ap₂ (λ (w : Asked) (m : State). item_asked w m.held) (sym a.asked_is) here ∙ item-said a.left a.item a.item_is in
     let last : ends_link machine.phase machine.before ≡ is_last a.item (length a.rests.done + 1) =
     ap (λ (m : State). ends_link m.phase m.before) here ∙ last-rest a.left (length a.rests.done) a.item a.item_is in
-    is ∙ ap (λ (x : Site). order_of x (item_asked asked machine.held) (ends_link machine.phase machine.before)) (sym same)
+    is
+    ∙ ap (λ (x : Site). order_of x (item_asked asked machine.held) (ends_link machine.phase machine.before)) (sym same)
     ∙ ap₂ (order_of proto.site) said last
 
 -- ---- a refusal that is due

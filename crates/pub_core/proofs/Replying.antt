@@ -24,17 +24,20 @@ unfolding rests
 rests-reply {proto} {log} {s} r =
     lt-leb (length (script_in proto log s)) s.sent (omega (arith, long-reply r, r.sent_is, r.some))
 
-pub idle-reply : {proto : Proto} {log : List Op} {s : SessionState} {left before reply : List ℕ} {item : Item} {from : ℕ}
+pub idle-reply : {proto : Proto} {log : List Op} {s : SessionState} {left before reply : List ℕ}
+    {item : Item} {from : ℕ}
     → Replies proto log s left item before reply from → is_idle proto log s ≡ false
 unfolding is_idle
 idle-reply {proto} {log} {s} r = ap (λ (a : Bool). a && not s.ended) (rests-reply r)
 
-pub waits-reply : {proto : Proto} {log : List Op} {s : SessionState} {left before reply : List ℕ} {item : Item} {from : ℕ}
+pub waits-reply : {proto : Proto} {log : List Op} {s : SessionState} {left before reply : List ℕ}
+    {item : Item} {from : ℕ}
     → Replies proto log s left item before reply from → waits proto log s ≡ false
 unfolding waits
 waits-reply {proto} {log} {s} r = ap (λ (a : Bool). a && is_none (next_item s)) (idle-reply r)
 
-pub asks-reply : {proto : Proto} {log : List Op} {s : SessionState} {left before reply : List ℕ} {item : Item} {from : ℕ}
+pub asks-reply : {proto : Proto} {log : List Op} {s : SessionState} {left before reply : List ℕ}
+    {item : Item} {from : ℕ}
     → Replies proto log s left item before reply from → asks proto log s ≡ false
 unfolding asks
 asks-reply {proto} {log} {s} r = ap (λ (a : Bool). a && is_wanted_at proto.site (next_item s)) (idle-reply r)
@@ -44,16 +47,19 @@ pub due-reply : {proto : Proto} {log : List Op} {s : SessionState} {left before 
 unfolding is_due
 due-reply {proto} {log} {s} r = ap (λ (a : Bool). a && is_refused_at proto.site (next_item s)) (idle-reply r)
 
-pub sends-reply : {proto : Proto} {log : List Op} {s : SessionState} {left before reply : List ℕ} {item : Item} {from : ℕ}
+pub sends-reply : {proto : Proto} {log : List Op} {s : SessionState} {left before reply : List ℕ}
+    {item : Item} {from : ℕ}
     → Replies proto log s left item before reply from → sends proto log s ≡ true
 unfolding sends
 sends-reply r = ap₂ (λ (a b : Bool). not a && not b) (rests-reply r) r.stays
 
-pub unsent-reply : {proto : Proto} {log : List Op} {s : SessionState} {left before reply : List ℕ} {item : Item} {from : ℕ}
+pub unsent-reply : {proto : Proto} {log : List Op} {s : SessionState} {left before reply : List ℕ}
+    {item : Item} {from : ℕ}
     → Replies proto log s left item before reply from → unsent proto log s ≡ length reply - from
 unsent-reply r = omega (arith, long-reply r, r.sent_is)
 
-pub closed-reply : {proto : Proto} {log : List Op} {s : SessionState} {left before reply : List ℕ} {item : Item} {from : ℕ}
+pub closed-reply : {proto : Proto} {log : List Op} {s : SessionState} {left before reply : List ℕ}
+    {item : Item} {from : ℕ}
     → Replies proto log s left item before reply from → closed proto log s ≡ s
 unfolding closed
 closed-reply {proto} {log} {s} r =
@@ -61,7 +67,8 @@ closed-reply {proto} {log} {s} r =
     (rests-reply r)
 
 -- whether the reply is a connection's last
-pub last-reply : {proto : Proto} {log : List Op} {s : SessionState} {left before reply : List ℕ} {item : Item} {from : ℕ}
+pub last-reply : {proto : Proto} {log : List Op} {s : SessionState} {left before reply : List ℕ}
+    {item : Item} {from : ℕ}
     → Replies proto log s left item before reply from
     → is_last_before (items_fed s) (length s.revs) ≡ is_last item (length s.revs)
 last-reply {s = s} {item = item} r =
@@ -114,7 +121,8 @@ send-last {proto} {log} {s} count r all last =
     (rests-whole count r all) (last-reply r ∙ last)
 
 -- after another one it rests with the bytes behind the request
-pub send-whole : {proto : Proto} {log : List Op} {s : SessionState} {left before reply : List ℕ} {item : Item} {from : ℕ}
+pub send-whole : {proto : Proto} {log : List Op} {s : SessionState} {left before reply : List ℕ}
+    {item : Item} {from : ℕ}
     (count : ℕ) → Replies proto log s left item before reply from → from + count ≡ length reply
     → is_last item (length s.revs) ≡ false
     → Rests proto log (sent_more s count) (held_after left).rest

@@ -88,7 +88,8 @@ known call served =
     omega (arith, ap length grows.1, length-append call.seen grows.0)
 
 ready : (call : LinkCall) → Served call → call.session.before ≡ 0 → (input : List ℕ) → input_of call ≡ input
-    → Ready call.proto call.seen_after (length call.seen) (knowing (length call.seen)) [] input call.trail (items_of call)
+    → Ready call.proto call.seen_after (length call.seen) (knowing (length call.seen)) [] input call.trail
+    (items_of call)
 unfolding knowing
 ready call served first input is = record {
   rests = rests-knowing call.proto (take (length call.seen) call.seen_after) (length call.seen);

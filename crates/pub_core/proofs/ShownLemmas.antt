@@ -1,4 +1,5 @@
--- What a connection shows, where something happens to it.
+-- What a connection shows, where something happens to it. It is long, since each action is told apart from
+-- the others.
 use Rattle.std.proofs.Common.{◌≡◌, ℕ, ◌-◌, Bool, true, false, not, ◌&&◌, List, length, Option, Some, None, refl, sym, ap, subst, ◌∙◌}
 use Rattle.std.specs.Prelude.{is_none}
 use Rattle.fm_model.specs.declared.op.Op.{Op}
@@ -236,7 +237,8 @@ pub waits-none : {proto : Proto} {log : List Op} (c : Connection) {s : SessionSt
 waits-none c shows other = waits-by c shows.stands other
 
 -- one whose machine doesn't send sends nothing
-sends-none-by : {proto : Proto} {log : List Op} (c : Connection) {s : SessionState} → Stands proto log s c.session c.plan
+sends-none-by : {proto : Proto} {log : List Op} (c : Connection) {s : SessionState}
+    → Stands proto log s c.session c.plan
     → ((from : ℕ) → action_of c.session ≡ Send from → ⊥) → sends proto log s ≡ false
 sends-none-by c (at_rest left r machine) other = sends-rest r
 sends-none-by c (in_reply left item before reply from r plan machine) other =

@@ -1,4 +1,4 @@
--- What a connection shows after each thing that happens to it.
+-- What a connection shows after each thing that happens to it. It is long, since there is a part for each event.
 use Rattle.std.proofs.Common.{◌≡◌, ◌≤◌, ◌<◌, ℕ, ◌+◌, ◌-◌, max, Bool, true, false, ◌&&◌, cond, ltb, Bor, List, [], ◌∷◌, ◌++◌, length, take, drop, Option, Some, refl, sym, ap, ap₂, subst, ◌∙◌, arith, length-append, take-add}
 use Rattle.std.specs.List.{All}
 use Rattle.std.proofs.lemmas.Bool.{le-leb, ltb-true, ltb-false}

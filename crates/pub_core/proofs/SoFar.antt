@@ -82,7 +82,8 @@ unfolding script_in next_item
 script-begun proto log s revision seen item is =
     let same : 0 + length s.revs ≡ length s.revs = omega arith in
     script-append proto log s.revs (revision ∷ []) (items_fed s) 0
-    ∙ ap (λ (n : ℕ). script_in proto log s ++ script_of proto log (revision ∷ []) (drop (length s.revs) (items_fed s)) n)
+    ∙ ap (λ (n : ℕ). script_in proto log s
+    ++ script_of proto log (revision ∷ []) (drop (length s.revs) (items_fed s)) n)
     same
     ∙ ap (λ (l : List Item). script_in proto log s ++ script_of proto log (revision ∷ []) l (length s.revs))
     (drop-get (items_fed s) (length s.revs) item is)

@@ -1,4 +1,4 @@
--- What each event does to a session, by where it stands.
+-- What each event does to a session, by where it stands. It is long, since there is a part for each event.
 use Rattle.std.proofs.Common.{◌≡◌, ◌≤◌, ◌<◌, ℕ, ◌+◌, ◌-◌, Bool, true, false, not, ◌&&◌, cond, leb, ltb, List, [], ◌∷◌, ◌++◌, length, take, Option, Some, None, refl, ap, ap₂, ◌∙◌, arith}
 use Rattle.std.specs.Prelude.{is_none}
 use Rattle.std.proofs.lemmas.Bool.{le-leb, lt-ltb}
@@ -48,7 +48,8 @@ pub settled-rest : {proto : Proto} {log : List Op} {s : SessionState} {left : Li
 unfolding settled
 settled-rest {proto} {log} r = ap (begun proto log) (closed-rest r)
 
-pub settled-reply : {proto : Proto} {log : List Op} {s : SessionState} {left before reply : List ℕ} {item : Item} {from : ℕ}
+pub settled-reply : {proto : Proto} {log : List Op} {s : SessionState} {left before reply : List ℕ}
+    {item : Item} {from : ℕ}
     → Replies proto log s left item before reply from → settled proto log s ≡ s
 unfolding settled
 settled-reply {proto} {log} {s} r =
@@ -129,7 +130,8 @@ send-no proto log s number count busy =
     after-no proto log (Sent number count) s
     (ap (λ (b : Bool). b && (ltb 0 count && leb count (unsent proto log s))) busy)
 
-pub send-unfit : {proto : Proto} {log : List Op} {s : SessionState} {left before reply : List ℕ} {item : Item} {from : ℕ}
+pub send-unfit : {proto : Proto} {log : List Op} {s : SessionState} {left before reply : List ℕ}
+    {item : Item} {from : ℕ}
     (number count : ℕ) → Replies proto log s left item before reply from
     → (ltb 0 count && leb count (length reply - from)) ≡ false → after proto log (Sent number count) s ≡ s
 unfolding is_possible_to
@@ -147,13 +149,15 @@ send-yes {proto} {log} {s} {left} {before} {reply} {item} {from} number count r 
     after-yes proto log (Sent number count) s
     (ap₂ (λ (b : Bool) (n : ℕ). b && (ltb 0 count && leb count n)) (sends-reply r) (unsent-reply r) ∙ fit)
 
-pub sends-part : {proto : Proto} {log : List Op} {s : SessionState} {left before reply : List ℕ} {item : Item} {from : ℕ}
+pub sends-part : {proto : Proto} {log : List Op} {s : SessionState} {left before reply : List ℕ}
+    {item : Item} {from : ℕ}
     (number count : ℕ) → Replies proto log s left item before reply from → 0 < count → from + count < length reply
     → after proto log (Sent number count) s ≡ sent_more s count
 sends-part number count r some below =
     send-yes number count r some (omega arith) ∙ settled-reply (send-part count r below)
 
-pub sends-last : {proto : Proto} {log : List Op} {s : SessionState} {left before reply : List ℕ} {item : Item} {from : ℕ}
+pub sends-last : {proto : Proto} {log : List Op} {s : SessionState} {left before reply : List ℕ}
+    {item : Item} {from : ℕ}
     (number count : ℕ) → Replies proto log s left item before reply from → 0 < count → from + count ≡ length reply
     → is_last item (length s.revs) ≡ true
     → after proto log (Sent number count) s ≡ record s { sent = s.sent + count; ended = true }
@@ -164,7 +168,8 @@ sends-last {proto} {log} {s} number count r some all last =
     ∙ begun-no proto log (record s { sent = s.sent + count; ended = true })
     (due-ended proto log (record s { sent = s.sent + count; ended = true }) refl)
 
-pub sends-whole : {proto : Proto} {log : List Op} {s : SessionState} {left before reply : List ℕ} {item : Item} {from : ℕ}
+pub sends-whole : {proto : Proto} {log : List Op} {s : SessionState} {left before reply : List ℕ}
+    {item : Item} {from : ℕ}
     (number count : ℕ) → Replies proto log s left item before reply from → 0 < count → from + count ≡ length reply
     → is_last item (length s.revs) ≡ false
     → after proto log (Sent number count) s ≡ begun proto log (sent_more s count)

@@ -55,7 +55,8 @@ begin-front : (proto : Proto) (ops : List Op) (s : SessionState) (left : List â„
 begin-front proto ops s left mark item events world r first is =
     let number : â„• = length s.revs + 1 in
     let begun : Replies proto (take mark.revision ops) (with_reply s mark.revision mark.revision) left item
-    (script_in proto (take mark.revision ops) s) (reply_of proto (coll (take mark.revision (take mark.revision ops))) mark.revision item number) 0 =
+    (script_in proto (take mark.revision ops) s)
+    (reply_of proto (coll (take mark.revision (take mark.revision ops))) mark.revision item number) 0 =
     begin-rest item mark.revision mark.revision r first
     (some-reply proto (coll (take mark.revision (take mark.revision ops))) mark.revision item number) in
     record {

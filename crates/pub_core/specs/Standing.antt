@@ -26,8 +26,8 @@ pub record Rests (proto : Proto) (log : List Op) (s : SessionState) (left : List
   pub goes_on : is_last_before (items_fed s) (length s.revs) ≡ false
   pub stays : s.ended ≡ false
 
--- a session replies to the request at the front of these bytes; behind the replies before it, the reply is sent as far as
--- that
+-- a session replies to the request at the front of these bytes; behind the replies before it, the reply is sent as far
+-- as that
 pub record Replies (proto : Proto) (log : List Op) (s : SessionState) (left : List ℕ) (item : Item)
     (before reply : List ℕ) (from : ℕ) : Type 0 where
   pub done : List Item

@@ -8,8 +8,8 @@ use Rattle.web_frame.specs.Items.{heads_of, Item}
 use Rattle.dap_reply.specs.Reply.{asked_by}
 use Rattle.dap_reply.specs.Script.{script_of}
 
--- a session: the bytes that it was fed, the revisions of the replies that were begun, how many bytes were sent, how many
--- operations it knows of, and whether it ended
+-- a session: the bytes that it was fed, the revisions of the replies that were begun, how many bytes were sent, how
+-- many operations it has seen, and whether it ended
 pub record SessionState : Type 0 where
   pub fed : List ℕ
   pub revs : List ℕ

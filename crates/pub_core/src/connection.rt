@@ -79,7 +79,8 @@ impl Connection {
     // What is to be done for the present request.
     fn order(&self, alloc: Global, asked: Asked, site: &Site) -> Result<Order, NoMemory>
         ensures { IfOk result (λ order. order
-            ≡ order_of site.now (item_asked asked self.now.session.held) (is_last self.now.session.phase self.now.session.before)) }
+            ≡ order_of site.now (item_asked asked self.now.session.held)
+            (is_last self.now.session.phase self.now.session.before)) }
     {
         order(
             alloc,
@@ -107,8 +108,9 @@ impl Connection {
 
     // The collection is looked at for the present request.
     fn look(&mut self, alloc: Global, edition: &Edition, revision: u64) -> Result<(), NoMemory>
-        ensures { OnOk result ((log : List Op) (s : SessionState) (number : ℕ) → edition.now ≡ held_of edition.now.proto log
-            → revision ≡ length log → IsShown edition.now.proto log self.old s
+        ensures { OnOk result ((log : List Op) (s : SessionState) (number : ℕ)
+            → edition.now ≡ held_of edition.now.proto log → revision ≡ length log
+            → IsShown edition.now.proto log self.old s
             → IsShown edition.now.proto log self.new (after edition.now.proto log (events.Look number) s)) }
     {
         let Action::Ask(asked) = self.session.on(Step::Start) else {
@@ -125,7 +127,8 @@ impl Connection {
     // Bytes are fed, as many as there is room for.
     fn feed(&mut self, alloc: Global, site: &Site, piece: &[u8]) -> Result<(), NoMemory>
         ensures { OnOk result ((proto : Proto) (log : List Op) (s : SessionState) (number : ℕ) → proto.site ≡ site.now
-            → IsShown proto log self.old s → IsShown proto log self.new (after proto log (events.Bytes number piece.now) s)) }
+            → IsShown proto log self.old s
+            → IsShown proto log self.new (after proto log (events.Bytes number piece.now) s)) }
     {
         let Action::Read(room) = self.session.on(Step::Start) else {
             return Ok(());
@@ -140,7 +143,8 @@ impl Connection {
     // Bytes of the present reply are sent.
     fn send(&mut self, alloc: Global, site: &Site, count: u64) -> Result<(), NoMemory>
         ensures { OnOk result ((proto : Proto) (log : List Op) (s : SessionState) (number : ℕ) → proto.site ≡ site.now
-            → IsShown proto log self.old s → IsShown proto log self.new (after proto log (events.Sent number count) s)) }
+            → IsShown proto log self.old s
+            → IsShown proto log self.new (after proto log (events.Sent number count) s)) }
     {
         let Action::Send { from } = self.session.on(Step::Start) else {
             return Ok(());
@@ -187,7 +191,8 @@ impl Connection {
     // The session learns that so many operations were published.
     fn learn(&mut self, count: u64, published: u64)
         ensures { (proto : Proto) (log : List Op) (s : SessionState) (number : ℕ) → published ≡ length log
-            → IsShown proto log self.old s → IsShown proto log self.new (after proto log (events.Learn number count) s) }
+            → IsShown proto log self.old s
+            → IsShown proto log self.new (after proto log (events.Learn number count) s) }
     {
         if count <= published {
             self.seen = self.seen.max(count);

@@ -12,8 +12,8 @@ ghost use Rattle.pub_core.specs.Happening.{run};
 ghost use Rattle.pub_core.specs.Running.{first_output, world_of, AreTakenInTurn};
 ghost use Rattle.pub_core.specs.World.{output_of, start, SessionState};
 
-/// A session's output is a front of the replies to the requests that it was fed, over revisions that never fall. None of
-/// them passes the number that the session has seen, and that doesn't pass the length of the log.
+/// A session's output is a front of the replies to the requests that it was fed, over revisions that never fall. None
+/// of them passes the number that the session has seen, and that doesn't pass the length of the log.
 #[tactic(auto, using(crate::proofs::Rising::rising))]
 pub fn an_output_is_a_script_over_revisions_that_never_fall()
     ensures output { (proto : Prototype) (log : List Operation) (s : SessionState) → output_of proto log s
@@ -38,8 +38,8 @@ pub fn other_sessions_make_no_difference()
 {}
 
 /// The law of running: a served link is a run. Where the session was fresh and each operation seen could be published
-/// after those before it, the events of the call lead to a session whose output is what was written to the link, but for
-/// the text that says that memory ran out.
+/// after those before it, the events of the call lead to a session whose output is what was written to the link, but
+/// for the text that says that memory ran out.
 #[tactic(auto, using(crate::proofs::ServedLaw::running))]
 pub fn a_served_link_is_a_run()
     ensures { (call : LinkCall) (served : Served call) → call.session ≡ fresh

@@ -18,8 +18,8 @@ pub const FIRST: &[u8] = b"gfs_20240101_0000.nc";
 
 pub const SECOND: &[u8] = b"gfs_20240101_0600.nc";
 
-/// An event: the first run is put, or the second, runs expire, the first is taken back, or something happens to the session
-/// of a number.
+/// An event: the first run is put, or the second, runs expire, the first is taken back, or something happens to the
+/// session of a number.
 #[derive(Clone, Copy, Debug)]
 pub enum Step {
     First,

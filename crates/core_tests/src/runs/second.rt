@@ -1,7 +1,9 @@
-//! A slow second machine, by the definition: each question about a session is answered from all the bytes that it was fed.
+//! A slow second machine, by the definition: each question about a session is answered from all the bytes that it was
+//! fed.
 ghost use Rattle.std.specs.Prelude.{◌≡◌};
 
 use super::playing::{FIRST, SECOND, Step, file_of, proto_of};
+use super::requests::{Requests, is_last, requests_in};
 use dap_reply::{Order, Plan, order, refusal};
 use fm_base::{Arc, Bytes, NoMemory};
 use fm_edition::Edition;
@@ -11,8 +13,7 @@ use pub_plain::{Look, Plain, Query};
 use std::alloc::Global;
 use std::process::Abort;
 use std::test::Fail;
-use web_frame::{Frame, MAX_HEAD, Next};
-use web_session::{Asked, MAX_REPLIES};
+use web_frame::MAX_HEAD;
 
 // A question whose answer is the collection's prototype.
 struct ItsProto;
@@ -32,20 +33,6 @@ impl Query for ItsProto {
     }
 }
 
-// A request: what a reply is asked for, and its target.
-#[derive(Drop)]
-struct Request {
-    asked: Asked,
-    target: Bytes,
-}
-
-// All requests in some bytes, and how many bytes are left after them.
-#[derive(Drop)]
-struct Requests {
-    all: Vec<Request>,
-    rest: usize,
-}
-
 /// A session: all that it was fed and the requests in it, all replies that were begun, and how many there are.
 #[derive(Drop)]
 pub struct Talk {
@@ -63,50 +50,6 @@ pub struct Talk {
 pub struct Second {
     pub plain: Plain,
     pub talks: Vec<Talk>,
-}
-
-// Takes the requests that a frame holds. Whether more can follow.
-fn take(alloc: Global, frame: &mut Frame, all: &mut Vec<Request>) -> Result<bool, NoMemory> {
-    for _ in 0..MAX_HEAD {
-        let asked = match frame.next() {
-            Next::Need => return Ok(true),
-            Next::Head(request) => Asked::Head(request),
-            Next::BadHead => Asked::BadHead,
-            Next::HeadTooLong => Asked::HeadTooLong,
-        };
-        let target = Bytes::copy_of(alloc, frame.target())?;
-        all.push(Request { asked, target })?;
-        if !matches!(asked, Asked::Head(_)) {
-            return Ok(false);
-        }
-    }
-    Ok(false)
-}
-
-// The requests in some bytes.
-fn requests_in(alloc: Global, fed: &[u8]) -> Result<Requests, NoMemory> {
-    let mut frame = Frame::new(alloc)?;
-    let mut all = Vec::new(alloc);
-    let mut left = fed;
-    for _ in 0..fed.len() {
-        let (_, rest) = left.split_at(frame.feed(left).min(left.len()));
-        left = rest;
-        if !take(alloc, &mut frame, &mut all)? || left.is_empty() {
-            break;
-        }
-    }
-    let rest = MAX_HEAD.saturating_sub(frame.room());
-    Ok(Requests { all, rest })
-}
-
-// Whether a connection ends after the reply to a request, by its number from 1.
-fn is_last(asked: Asked, number: usize) -> bool {
-    match asked {
-        Asked::Head(request) => {
-            request.close || request.has_body || number == MAX_REPLIES as usize
-        }
-        _ => true,
-    }
 }
 
 // Adds all bytes of a plan.
