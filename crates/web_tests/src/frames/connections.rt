@@ -1,6 +1,6 @@
 //! Heads that keep a connection or end it, each with the answer of the parser of node (llhttp).
 
-use super::heads::{Row, check};
+use super::heads::{Row, reads};
 use std::test::Fail;
 use web_frame::Method::{Get, Head, Other};
 
@@ -44,7 +44,7 @@ static CLOSING: [Row; 30] = [
 #[test]
 fn connections_close_where_those_of_node_do(rt: HostRuntime) -> Result<(), Fail> {
     for row in &CLOSING {
-        check(&rt, rt.alloc(), row)?;
+        assert!(rt; reads(rt.alloc(), row)?);
     }
     Ok(())
 }

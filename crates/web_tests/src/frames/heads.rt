@@ -1,9 +1,8 @@
 //! Heads of the plain form, each with the answer of the parser of node (llhttp).
 
-use crate::frames::cut_everywhere;
+use crate::frames::{next, reads_everywhere};
 use fm_base::NoMemory;
 use std::alloc::Global;
-use std::process::Abort;
 use std::test::Fail;
 use web_frame::Method::{self, Get, Head, Other};
 use web_frame::{Frame, Next, Request};
@@ -11,20 +10,25 @@ use web_frame::{Frame, Next, Request};
 // A head, its method, its target, whether the connection ends after it, and whether it has a body.
 pub(crate) type Row = (&'static [u8], Method, &'static [u8], bool, bool);
 
-// The head is read as the row says, whole and cut.
-pub(crate) fn check(rt: &impl Abort, alloc: Global, row: &Row) -> Result<(), NoMemory> {
-    let (head, method, target, close, has_body) = *row;
-    let want = Next::Head(Request {
-        method,
-        close,
-        has_body,
-    });
+// What a row says of its head.
+fn want(row: &Row) -> Next {
+    Next::Head(Request {
+        method: row.1,
+        close: row.3,
+        has_body: row.4,
+    })
+}
+
+// Whether a head that is fed whole is read as the row says, and nothing after it.
+fn reads_whole(alloc: Global, row: &Row) -> Result<bool, NoMemory> {
     let mut frame = Frame::new(alloc)?;
-    frame.feed(head);
-    assert_eq!(rt; frame.next(), want);
-    assert_eq!(rt; frame.target(), target);
-    assert_eq!(rt; frame.next(), Next::Need);
-    cut_everywhere(rt, alloc, head, want)
+    frame.feed(row.0);
+    Ok(next(&mut frame) == want(row) && frame.target() == row.2 && next(&mut frame) == Next::Need)
+}
+
+// Whether a head is read as the row says, whole and cut.
+pub(crate) fn reads(alloc: Global, row: &Row) -> Result<bool, NoMemory> {
+    Ok(reads_whole(alloc, row)? && reads_everywhere(alloc, row.0, want(row))?)
 }
 
 // Heads of each method, with and without a body.
@@ -78,7 +82,7 @@ static READ: [Row; 34] = [
 #[test]
 fn heads_have_the_method_and_target_that_node_reads(rt: HostRuntime) -> Result<(), Fail> {
     for row in &READ {
-        check(&rt, rt.alloc(), row)?;
+        assert!(rt; reads(rt.alloc(), row)?);
     }
     Ok(())
 }
@@ -99,7 +103,7 @@ static REFUSED: [&[u8]; 9] = [
 #[test]
 fn what_node_refuses_is_no_head(rt: HostRuntime) -> Result<(), Fail> {
     for head in &REFUSED {
-        cut_everywhere(&rt, rt.alloc(), head, Next::BadHead)?;
+        assert!(rt; reads_everywhere(rt.alloc(), head, Next::BadHead)?);
     }
     Ok(())
 }

@@ -60,7 +60,7 @@ static ASKED: [Row; 34] = [
 #[test]
 fn a_target_is_read_as_what_it_asks_for(rt: HostRuntime) -> Result<(), Fail> {
     for row in &ASKED {
-        asks(&rt, rt.alloc(), row)?;
+        assert!(rt; asks(rt.alloc(), row)?);
     }
     Ok(())
 }

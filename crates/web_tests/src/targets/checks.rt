@@ -3,7 +3,6 @@
 use fm_base::{Bytes, Fail, NoMemory};
 use fm_model::{Site, ViewName};
 use std::alloc::Global;
-use std::process::Abort;
 use web_path::{PathFault, Service, Target, read_target};
 
 // 2020-01-01T00:00:00Z, the epoch of the collection of the tests.
@@ -27,41 +26,33 @@ fn read(alloc: Global, target: &[u8], epoch: i64) -> Result<Target, Fail<PathFau
     read_target(alloc, target, &site)
 }
 
-// The target asks for that.
-pub(crate) fn asks(rt: &impl Abort, alloc: Global, row: &Row) -> Result<(), NoMemory> {
-    match read(alloc, row.0, EPOCH) {
-        Ok(target) => {
-            assert_eq!(rt; target.view, row.1);
-            assert_eq!(rt; target.service, row.2);
-            assert_eq!(rt; target.constraint.as_slice(), row.3);
-            assert_eq!(rt; target.label.as_slice(), row.4);
-            Ok(())
-        }
+// Whether a target was read as the row says.
+fn is_asked(target: &Target, row: &Row) -> bool {
+    target.view == row.1
+        && target.service == row.2
+        && target.constraint.as_slice() == row.3
+        && target.label.as_slice() == row.4
+}
+
+// Whether the target asks for that.
+pub(crate) fn asks(alloc: Global, row: &Row) -> Result<bool, NoMemory> {
+    match &read(alloc, row.0, EPOCH) {
+        Ok(target) => Ok(is_asked(target, row)),
         Err(Fail::NoMemory) => Err(NoMemory),
-        Err(Fail::Fault(_)) => {
-            assert!(rt; false);
-            Ok(())
-        }
+        Err(Fail::Fault(_)) => Ok(false),
     }
 }
 
-// The target has that fault, in a collection of that epoch.
+// Whether the target has that fault, in a collection of that epoch.
 pub(crate) fn has_fault(
-    rt: &impl Abort,
     alloc: Global,
     target: &[u8],
     epoch: i64,
     want: PathFault,
-) -> Result<(), NoMemory> {
-    match read(alloc, target, epoch) {
-        Ok(_) => {
-            assert!(rt; false);
-            Ok(())
-        }
+) -> Result<bool, NoMemory> {
+    match &read(alloc, target, epoch) {
+        Ok(_) => Ok(false),
         Err(Fail::NoMemory) => Err(NoMemory),
-        Err(Fail::Fault(fault)) => {
-            assert_eq!(rt; fault, want);
-            Ok(())
-        }
+        Err(Fail::Fault(fault)) => Ok(*fault == want),
     }
 }

@@ -81,7 +81,7 @@ static NO_SERVICES: [&[u8]; 6] = [
 #[test]
 fn a_bad_escape_is_refused_with_its_place(rt: HostRuntime) -> Result<(), Fail> {
     for (target, at) in &BAD_ESCAPES {
-        has_fault(&rt, rt.alloc(), target, EPOCH, BadEscape(*at))?;
+        assert!(rt; has_fault(rt.alloc(), target, EPOCH, BadEscape(*at))?);
     }
     Ok(())
 }
@@ -89,7 +89,7 @@ fn a_bad_escape_is_refused_with_its_place(rt: HostRuntime) -> Result<(), Fail> {
 #[test]
 fn a_path_of_no_view_is_refused(rt: HostRuntime) -> Result<(), Fail> {
     for target in &NO_VIEWS {
-        has_fault(&rt, rt.alloc(), target, EPOCH, NoSuchDataset)?;
+        assert!(rt; has_fault(rt.alloc(), target, EPOCH, NoSuchDataset)?);
     }
     Ok(())
 }
@@ -97,22 +97,21 @@ fn a_path_of_no_view_is_refused(rt: HostRuntime) -> Result<(), Fail> {
 #[test]
 fn a_path_of_no_service_is_refused(rt: HostRuntime) -> Result<(), Fail> {
     for target in &NO_SERVICES {
-        has_fault(&rt, rt.alloc(), target, EPOCH, NoSuchService)?;
+        assert!(rt; has_fault(rt.alloc(), target, EPOCH, NoSuchService)?);
     }
     Ok(())
 }
 
+static WHOLE: [u8; 35] = *b"/thredds/dodsC/gfs/gfs_best.ncd.dds";
+
 // What is cut inside the first 31 bytes is no view, and what is cut behind them, but before the end, is no service.
 #[test]
 fn a_target_that_is_cut_short_is_refused(rt: HostRuntime) -> Result<(), Fail> {
-    let whole: &[u8] = b"/thredds/dodsC/gfs/gfs_best.ncd.dds";
-    for len in 0..35 {
-        let fault = if len < 32 {
-            NoSuchDataset
-        } else {
-            NoSuchService
-        };
-        has_fault(&rt, rt.alloc(), &whole[..len], EPOCH, fault)?;
+    for len in 0..32 {
+        assert!(rt; has_fault(rt.alloc(), &WHOLE[..len], EPOCH, NoSuchDataset)?);
+    }
+    for len in 32..35 {
+        assert!(rt; has_fault(rt.alloc(), &WHOLE[..len], EPOCH, NoSuchService)?);
     }
     Ok(())
 }
@@ -120,6 +119,6 @@ fn a_target_that_is_cut_short_is_refused(rt: HostRuntime) -> Result<(), Fail> {
 #[test]
 fn a_run_too_far_from_the_epoch_is_refused(rt: HostRuntime) -> Result<(), Fail> {
     let target = b"/thredds/dodsC/gfs/runs/gfs_RUN_20200101T000000Z.dds";
-    has_fault(&rt, rt.alloc(), target, i64::MIN, NoSuchDataset)?;
+    assert!(rt; has_fault(rt.alloc(), target, i64::MIN, NoSuchDataset)?);
     Ok(())
 }
