@@ -27,8 +27,8 @@ fn filled(
     Ok(bytes)
 }
 
-// Whether some bytes stand among others.
-fn has(bytes: &[u8], part: &[u8]) -> bool {
+/// Whether some bytes stand among others.
+pub fn has(bytes: &[u8], part: &[u8]) -> bool {
     !part.is_empty() && bytes.windows(part.len()).any(|place| place == part)
 }
 

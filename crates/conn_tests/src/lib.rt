@@ -7,6 +7,8 @@ mod by_lines;
 #[cfg(test)]
 mod connections;
 #[cfg(test)]
+mod doors;
+#[cfg(test)]
 mod heads;
 #[cfg(test)]
 mod serving;

@@ -1,5 +1,7 @@
 //! A collection of one run, served over a link.
 ghost use Rattle.std.specs.Prelude.{◌≡◌, IfOk};
+ghost use Rattle.fm_doors.specs.Door.{IsFresh};
+ghost use Rattle.fm_model.specs.Site.{IsPrototype};
 
 use dap_reply::{Mark, Stop};
 use fm_base::{Arc, Bytes, List, NoMemory};
@@ -20,7 +22,9 @@ pub fn link_of(
     input: &[u8],
     room: usize,
     failing: &[u64],
-) -> Result<MemLink, NoMemory> {
+) -> Result<MemLink, NoMemory>
+    ensures { IfOk result (λ link. IsFresh (⟦<MemLink as Link>⟧.shown link)) }
+{
     let mut calls = List::new(alloc);
     for call in failing {
         calls.push(*call)?;
@@ -28,20 +32,36 @@ pub fn link_of(
     MemLink::new(alloc, Bytes::copy_of(alloc, input)?, room, calls)
 }
 
-// A collection with the first run, and its prototype.
-fn collection(rt: &impl Abort, alloc: Global) -> Result<(Plain, Arc<Proto>), Fail>
-    ensures { IfOk result (λ made. made.0.proto ≡ made.1) }
+/// Publishes the file of the first run.
+pub fn publish_run(
+    rt: &impl Abort,
+    alloc: Global,
+    plain: &mut Plain,
+    proto: &Arc<Proto>,
+) -> Result<(), Fail>
+    requires same { plain.old.proto ≡ proto.now }
+    requires prototype { IsPrototype proto.now }
+    ensures { plain.new.proto ≡ plain.old.proto }
+{
+    let bytes = File::Sample.bytes(alloc)?;
+    assert!(rt; bytes.len() <= 536_870_912);
+    let file = load(alloc, b"gfs_20240101_0000.nc", bytes, proto.get())?;
+    plain.publish(alloc, Op::Put(Arc::new(alloc, file)?))?;
+    Ok(())
+}
+
+/// A collection with the first run, and its prototype.
+pub fn collection(rt: &impl Abort, alloc: Global) -> Result<(Plain, Arc<Proto>), Fail>
+    ensures same { IfOk result (λ made. made.0.proto ≡ made.1) }
+    ensures prototype { IfOk result (λ made. IsPrototype made.1) }
 {
     let edition = match edition_of(alloc, File::Sample.bytes(alloc)?) {
         Ok(edition) => edition,
         Err(_) => return Err(Fail::from("the words are no prototype")),
     };
     let proto = edition.proto().share()?;
-    let bytes = File::Sample.bytes(alloc)?;
-    assert!(rt; bytes.len() <= 536_870_912);
-    let file = load(alloc, b"gfs_20240101_0000.nc", bytes, proto.get())?;
     let mut plain = Plain::open(alloc, proto.share()?)?;
-    plain.publish(alloc, Op::Put(Arc::new(alloc, file)?))?;
+    publish_run(rt, alloc, &mut plain, &proto)?;
     Ok((plain, proto))
 }
 

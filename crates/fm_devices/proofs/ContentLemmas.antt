@@ -1,5 +1,5 @@
 -- A content that is shorter than what was asked for is all that there was.
-use Rattle.std.proofs.Common.{◌≡◌, ◌+◌, ◌-◌, ◌^◌, ◌<◌, ◌≤◌, ℕ, List, length, take, length-take, min, sym, ap, ◌∙◌, arith, rules}
+use Rattle.std.proofs.Common.{◌≡◌, ◌<◌, ℕ, List, length, take, length-take, ap, ◌∙◌, arith}
 use Rattle.std.proofs.lemmas.List.{take_all}
 
 pub short_take : (most : ℕ) (bytes content : List ℕ) → content ≡ take most bytes → length content < most

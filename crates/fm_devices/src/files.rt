@@ -43,8 +43,8 @@ impl<R: rt::Files + Drop> Files for RealFiles<R> {
     }
 }
 
-// The file at a path. A folder is a fault, and a path that isn't text too.
-fn read_file<R: rt::Files>(
+/// The file at a path. A folder is a fault, and a path that isn't text too.
+pub fn read_file<R: rt::Files>(
     rt: &R,
     alloc: Global,
     path: &[u8],

@@ -14,8 +14,8 @@ mod tests;
 
 pub use args::{NotText, words};
 pub use content::read_to_end;
-pub use files::RealFiles;
+pub use files::{RealFiles, read_file};
 pub use link::{StdLink, StreamLink};
-pub use process::{host_world, unread};
+pub use process::unread;
 pub use sink::{StdSink, StdStream, StreamSink};
-pub use stream::{read_some, write_some, write_whole};
+pub use stream::{counted, read_some, write_some, write_whole};

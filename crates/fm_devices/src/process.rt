@@ -1,33 +1,11 @@
-//! A process: the world that it runs over, and how it ends where its words can't be read.
+//! How a process ends where its words can't be read.
 ghost use Rattle.std.specs.Prelude.{◌≡◌};
 ghost use Rattle.std.specs.Process.{exit_status};
-ghost use Rattle.fm_devices.specs.Process.{is_errors, names_once, unread_status};
+ghost use Rattle.fm_devices.specs.Process.{unread_status};
 
 use crate::args::NotText;
-use crate::files::RealFiles;
-use crate::link::StdLink;
-use crate::sink::{StdSink, StdStream};
-use fm_base::{Bytes, Fail, List};
-use fm_world::{Files, Link, Sink, World};
+use fm_base::Fail;
 use std::process::ExitCode;
-
-/// The world of a run with these words: the machine's files, standard input and output as the link, and the sink that
-/// [`StdStream::of_words`] picks. No call has failed.
-pub fn host_world(
-    rt: HostRuntime,
-    words: &List<Bytes>,
-) -> World<RealFiles<HostRuntime>, StdLink, StdSink>
-    ensures files { (⟦<RealFiles<HostRuntime> as Files>⟧.shown result.files).faults ≡ 0 }
-    ensures link { (⟦<StdLink as Link>⟧.shown result.link).faults ≡ 0 }
-    ensures sink { (⟦<StdSink as Sink>⟧.shown result.sink).faults ≡ 0 }
-    ensures stream { is_errors result.sink.output ≡ names_once words.now }
-{
-    World {
-        files: RealFiles::new(rt),
-        link: StdLink::new(rt.stdin(), rt.stdout()),
-        sink: StdSink::new(StdStream::of_words(words.as_slice(), rt.stdout(), rt.stderr())),
-    }
-}
 
 /// Ends a process whose words couldn't be read: its line goes to standard error, where that takes it. The exit status
 /// is 4 where memory ran out, and else 2.

@@ -64,8 +64,8 @@ pub fn write_whole<W: Write>(writer: &mut W, bytes: &[u8]) -> Result<(), Failed>
     Ok(())
 }
 
-// Counts a call that failed, and returns what it did.
-pub(crate) fn counted<T>(faults: &mut u64, done: Result<T, Failed>) -> Result<T, Failed>
+/// Counts a call that failed, and returns what it did.
+pub fn counted<T>(faults: &mut u64, done: Result<T, Failed>) -> Result<T, Failed>
     ensures same { result ≡ done }
     ensures cause { HasCause faults.old faults.new result }
 {

@@ -1,7 +1,6 @@
 -- What a device shows.
 use Rattle.std.specs.Prelude.{ℕ, List, Option}
 use Rattle.fm_world.specs.Link.{Wire}
-use Rattle.fm_world.specs.declared.world.World.{World}
 
 -- what a device shows: what it holds, where it is known, and how many of its calls have failed
 pub record Shown (H : Type 0) : Type 0 where
@@ -19,18 +18,3 @@ LinkShown = Shown Wire
 -- of a sink, all the bytes that were appended
 abbrev pub SinkShown : Type 0
 SinkShown = Shown (List ℕ)
-
--- what the devices of a world show
-pub record WorldShown : Type 0 where
-  pub files : FilesShown
-  pub link : LinkShown
-  pub sink : SinkShown
-
--- what a world shows, by what each of its devices does
-abbrev pub world_shown : {F L S : Type 0} → (F → FilesShown) → (L → LinkShown) → (S → SinkShown) → World F L S
-    → WorldShown
-world_shown files link sink world = record {
-  files = files world.files;
-  link = link world.link;
-  sink = sink world.sink;
-}

@@ -6,9 +6,10 @@ ghost use Rattle.fm_world.specs.Cause.{one_more};
 use crate::faults::{Failed, count_fault};
 use fm_base::List;
 
-// The calls made so far, the numbers from 1 of those that are to fail, and how many have failed.
+/// The calls of a device in memory: how many were made so far, the numbers from 1 of those that are to fail, and how many
+/// have failed. The first and the last stand still at their greatest number.
 #[derive(Drop)]
-pub(crate) struct Calls {
+pub struct Calls {
     pub made: u64,
     pub failing: List<u64>,
     pub faults: u64,

@@ -11,17 +11,14 @@ mod mem_link;
 mod mem_sink;
 mod room;
 mod sink;
-#[cfg(test)]
-mod tests;
 mod whole;
-mod world;
 
+pub use calls::Calls;
 pub use faults::{Failed, count_fault};
 pub use files::{Files, Found};
 pub use link::Link;
-pub use mem_files::{Entry, MemFiles};
+pub use mem_files::{Entry, MemFiles, look_up};
 pub use mem_link::{Hold, MemLink};
 pub use mem_sink::MemSink;
 pub use sink::Sink;
 pub use whole::put_all;
-pub use world::World;

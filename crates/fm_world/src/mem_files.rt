@@ -50,12 +50,12 @@ impl Files for MemFiles {
         if self.calls.due() {
             return Err(Fail::Fault(self.calls.fail()));
         }
-        Ok(look(alloc, self.entries.as_slice(), path, limit)?)
+        Ok(look_up(alloc, self.entries.as_slice(), path, limit)?)
     }
 }
 
-// What a read with a limit finds at the path.
-fn look(alloc: Global, entries: &[Entry], path: &[u8], limit: u64) -> Result<Found, NoMemory>
+/// What a read with a limit finds at the path. Where a path is repeated, its first entry counts.
+pub fn look_up(alloc: Global, entries: &[Entry], path: &[u8], limit: u64) -> Result<Found, NoMemory>
     ensures { IfOk result (λ found. found ≡ found_of limit (held entries.now path.now)) }
 {
     let Some(content) = content_at(entries, path) else {

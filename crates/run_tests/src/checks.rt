@@ -1,8 +1,8 @@
 //! What no clause says of a check: that it succeeds with ample memory, and its lines as a user sees them.
 
-use crate::given::{entry, numbers, words_of};
+use crate::given::{entry, numbers, words_of, world_of};
 use fm_base::{Bytes, List, NoMemory};
-use fm_world::{MemFiles, MemLink, MemSink, World};
+use fm_world::{MemFiles, MemLink, MemSink};
 use nc_sample::{SAMPLE, bytes_of};
 use srv_run::run;
 use std::alloc::Global;
@@ -57,11 +57,12 @@ fn ran_over(alloc: Global, given: &Given<'_>, content: Bytes) -> Result<(u8, Byt
     let words = words_of(alloc, given.words)?;
     let mut entries = List::new(alloc);
     entries.push(entry(alloc, b"file.nc", content)?)?;
-    let mut world = World {
-        files: MemFiles::new(entries, numbers(alloc, given.failing_reads)?),
-        link: MemLink::new(alloc, Bytes::new(alloc), 0, List::new(alloc))?,
-        sink: MemSink::new(alloc, 4096, numbers(alloc, given.failing_sink)?)?,
-    };
+    let mut world = world_of(
+        alloc,
+        MemFiles::new(entries, numbers(alloc, given.failing_reads)?),
+        MemLink::new(alloc, Bytes::new(alloc), 0, List::new(alloc))?,
+        MemSink::new(alloc, 4096, numbers(alloc, given.failing_sink)?)?,
+    );
     let status = run(alloc, &words, &mut world);
     let line = Bytes::copy_of(alloc, world.sink.bytes())?;
     Ok((status, line))

@@ -1,8 +1,9 @@
 //! What a run is given, and what it leaves.
 
 use fm_base::{Bytes, List, NoMemory};
+use fm_doors::{MemClock, MemDoor, MemInbox, MemOpener, OpenGate, World};
 use fm_sample::File;
-use fm_world::{Entry, MemFiles, MemLink, MemSink, World};
+use fm_world::{Entry, MemFiles, MemLink, MemSink};
 use srv_run::run;
 use std::alloc::Global;
 use std::test::Fail;
@@ -96,17 +97,35 @@ fn entries(alloc: Global) -> Result<List<Entry>, NoMemory> {
     Ok(entries)
 }
 
-// The files, the link and the sink of a run.
-pub(crate) fn world(
-    alloc: Global,
-    given: &Given<'_>,
-) -> Result<World<MemFiles, MemLink, MemSink>, NoMemory> {
+// A world in memory.
+pub(crate) type MemWorld = World<MemOpener, MemFiles, MemLink, MemSink, OpenGate>;
+
+// A world in memory without anything to open.
+pub(crate) fn world_of(alloc: Global, files: MemFiles, link: MemLink, sink: MemSink) -> MemWorld {
+    let doors: List<MemDoor> = List::new(alloc);
+    let inboxes: List<MemInbox> = List::new(alloc);
+    let clocks: List<MemClock> = List::new(alloc);
+    World {
+        opener: MemOpener::new(alloc, doors, inboxes, clocks, List::new(alloc)),
+        doors: List::new(alloc),
+        inboxes: List::new(alloc),
+        clocks: List::new(alloc),
+        files,
+        link,
+        sink,
+        gate: OpenGate,
+    }
+}
+
+// The world of a run.
+pub(crate) fn world(alloc: Global, given: &Given<'_>) -> Result<MemWorld, NoMemory> {
     let input = Bytes::copy_of(alloc, given.input)?;
-    Ok(World {
-        files: MemFiles::new(entries(alloc)?, numbers(alloc, given.failing_reads)?),
-        link: MemLink::new(alloc, input, 16_384, numbers(alloc, given.failing_link)?)?,
-        sink: MemSink::new(alloc, 4_096, numbers(alloc, given.failing_sink)?)?,
-    })
+    Ok(world_of(
+        alloc,
+        MemFiles::new(entries(alloc)?, numbers(alloc, given.failing_reads)?),
+        MemLink::new(alloc, input, 16_384, numbers(alloc, given.failing_link)?)?,
+        MemSink::new(alloc, 4_096, numbers(alloc, given.failing_sink)?)?,
+    ))
 }
 
 // Runs the words.

@@ -3,7 +3,7 @@ use Rattle.std.proofs.Common.{◌≡◌, ◌⊎◌, ◌≤◌, ℕ, List, [], re
 use Rattle.fm_base.specs.declared.header.Header.{Header}
 use Rattle.fm_model.specs.declared.site.Site.{Site}
 use Rattle.fm_world.specs.Cause.{one_more}
-use Rattle.fm_world.specs.Shown.{WorldShown}
+use Rattle.fm_doors.specs.World.{WorldShown}
 use Rattle.srv_words.specs.declared.job.Job.{Job}
 use Rattle.srv_words.specs.declared.job.Job.TheVariants.{Once, Check, Load}
 use Rattle.srv_words.specs.declared.job.Step.{Step}

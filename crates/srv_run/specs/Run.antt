@@ -1,7 +1,7 @@
 -- What a run of the program says of its words, its world and its status.
 use Rattle.std.specs.Prelude.{◌≡◌, ◌⊎◌, ◌≤◌, ℕ, List, [], ⊤, Option, Some, None, Result, Ok, Err}
 use Rattle.fm_world.specs.Cause.{one_more}
-use Rattle.fm_world.specs.Shown.{WorldShown}
+use Rattle.fm_doors.specs.World.{WorldShown}
 use Rattle.srv_words.specs.declared.job.Job.{Job}
 use Rattle.srv_words.specs.declared.job.Job.TheVariants.{Once, Check, Load}
 use Rattle.srv_run.specs.declared.end.End.{End}

@@ -1,6 +1,6 @@
 //! Jobs: what the words ask for, and how each is done.
 ghost use Rattle.std.specs.Prelude.{◌≡◌, ◌<◌, ◌≤◌, [], IfOk, Option, Some};
-ghost use Rattle.fm_world.specs.Shown.{world_shown};
+ghost use Rattle.fm_doors.specs.World.{world_shown};
 ghost use Rattle.srv_words.specs.declared.job.Job.{Job as Work};
 ghost use Rattle.srv_words.specs.Jobs.{IsJob, job_of};
 ghost use Rattle.srv_run.specs.Report.{line_of};
@@ -12,12 +12,16 @@ use crate::load::load;
 use crate::once::once;
 use crate::report::report;
 use fm_base::{Bytes, Fail, List};
-use fm_world::{Files, Link, Sink, World};
+use fm_doors::{Gate, Opener, World};
+use fm_world::{Files, Link, Sink};
 use srv_words::{Job, read_job};
 use std::alloc::Global;
 
 // Writes the line of an end at which no file is named.
-fn say<F: Files, L: Link, S: Sink>(world: &mut World<F, L, S>, end: End) -> End
+fn say<O: Opener, F: Files, L: Link, S: Sink, G: Gate>(
+    world: &mut World<O, F, L, S, G>,
+    end: End,
+) -> End
     ensures end { result ≡ end }
     ensures says { let shown = world_shown F.shown L.shown S.shown in
         spec.Says (line_of end []) (shown world.old) (shown world.new) }
@@ -27,10 +31,10 @@ fn say<F: Files, L: Link, S: Sink>(world: &mut World<F, L, S>, end: End) -> End
 }
 
 // Runs `check`.
-fn check_path<F: Files, L: Link, S: Sink>(
+fn check_path<O: Opener, F: Files, L: Link, S: Sink, G: Gate>(
     alloc: Global,
     path: &[u8],
-    world: &mut World<F, L, S>,
+    world: &mut World<O, F, L, S, G>,
 ) -> End
     ensures { let shown = world_shown F.shown L.shown S.shown in
         spec.RunsCheck path.now result (shown world.old) (shown world.new) }
@@ -39,11 +43,11 @@ fn check_path<F: Files, L: Link, S: Sink>(
 }
 
 // Runs `load`.
-fn load_files<F: Files, L: Link, S: Sink>(
+fn load_files<O: Opener, F: Files, L: Link, S: Sink, G: Gate>(
     alloc: Global,
     seed: u32,
     files: u32,
-    world: &mut World<F, L, S>,
+    world: &mut World<O, F, L, S, G>,
 ) -> End
     requires some { 0 < files }
     requires few { files ≤ 400 }
@@ -54,7 +58,11 @@ fn load_files<F: Files, L: Link, S: Sink>(
 }
 
 // Does a job.
-fn do_job<F: Files, L: Link, S: Sink>(alloc: Global, job: Job, world: &mut World<F, L, S>) -> End
+fn do_job<O: Opener, F: Files, L: Link, S: Sink, G: Gate>(
+    alloc: Global,
+    job: Job,
+    world: &mut World<O, F, L, S, G>,
+) -> End
     requires { IsJob job }
     ensures { let shown = world_shown F.shown L.shown S.shown in
         spec.DoesJob (Some job) result (shown world.old) (shown world.new) }
@@ -120,10 +128,10 @@ pub(crate) fn load_or_end(alloc: Global, words: &List<Bytes>) -> Result<Job, End
 }
 
 // Does the job that was found, or says why there is none, and returns the status of the program.
-pub(crate) fn do_found<F: Files, L: Link, S: Sink>(
+pub(crate) fn do_found<O: Opener, F: Files, L: Link, S: Sink, G: Gate>(
     alloc: Global,
     found: Result<Job, End>,
-    world: &mut World<F, L, S>,
+    world: &mut World<O, F, L, S, G>,
 ) -> u8
     requires { IfOk found IsJob }
     ensures { let shown = world_shown F.shown L.shown S.shown in

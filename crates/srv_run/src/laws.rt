@@ -1,7 +1,7 @@
 //! What a reader believes of runs, each as the contract of a call that does nothing.
 ghost use Rattle.std.specs.Prelude.{◌≡◌, ◌⊎◌, ℕ, List, Some};
 ghost use Rattle.fm_model.specs.declared.site.Site.{Site};
-ghost use Rattle.fm_world.specs.Shown.{WorldShown};
+ghost use Rattle.fm_doors.specs.World.{WorldShown};
 ghost use Rattle.srv_words.specs.declared.job.Job.TheVariants.{Once};
 ghost use Rattle.srv_words.specs.declared.job.Step.{Step};
 ghost use Rattle.srv_run.specs.declared.end.End.{End};

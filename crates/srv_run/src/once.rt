@@ -1,7 +1,7 @@
 //! The command that does steps on a collection, and serves it on one connection.
 ghost use Rattle.std.specs.Prelude.{◌≡◌, ◌≤◌, ◌⊎◌, IfErr, IfOk, OnOk, length};
 ghost use Rattle.fm_model.specs.Site.{IsPrototype, IsSite};
-ghost use Rattle.fm_world.specs.Shown.{world_shown};
+ghost use Rattle.fm_doors.specs.World.{world_shown};
 ghost use Rattle.web_session.specs.State.{fresh};
 ghost use Rattle.srv_run.specs.Once as spec;
 ghost use Rattle.srv_run.specs.Steps.{Does, path_of, progress, RestsUnlessEnded};
@@ -11,8 +11,9 @@ use crate::reading::{content_of, proto_of};
 use crate::report::report;
 use crate::service::Service;
 use fm_base::{Arc, NoMemory};
+use fm_doors::{Gate, Opener, World};
 use fm_model::{Proto, Site};
-use fm_world::{Files, Link, Sink, World};
+use fm_world::{Files, Link, Sink};
 use pub_plain::Plain;
 use srv_words::Step;
 use std::alloc::Global;
@@ -113,12 +114,12 @@ fn run_steps<'a, F: Files, L: Link>(
 }
 
 // Runs `once`, and writes the line of how it ended.
-pub(crate) fn once<F: Files, L: Link, S: Sink>(
+pub(crate) fn once<O: Opener, F: Files, L: Link, S: Sink, G: Gate>(
     alloc: Global,
     site: Site,
     path: &[u8],
     steps: &[Step],
-    world: &mut World<F, L, S>,
+    world: &mut World<O, F, L, S, G>,
 ) -> End
     requires { IsSite site }
     ensures { let shown = world_shown F.shown L.shown S.shown in

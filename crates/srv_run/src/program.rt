@@ -1,14 +1,15 @@
 //! The top call of the program, and a call for each of its commands.
 ghost use Rattle.std.specs.Prelude.{◌≡◌};
 ghost use Rattle.std.specs.Process.{exit_status};
-ghost use Rattle.fm_world.specs.Shown.{world_shown};
+ghost use Rattle.fm_doors.specs.World.{world_shown};
 ghost use Rattle.srv_words.specs.Jobs.{job_of};
 ghost use Rattle.srv_run.specs.Run as spec;
 
 use crate::end::End;
 use crate::job::{check_or_end, do_found, job_or_end, load_or_end, once_or_end};
 use fm_base::{Bytes, List};
-use fm_world::{Files, Link, Sink, World};
+use fm_doors::{Gate, Opener, World};
+use fm_world::{Files, Link, Sink};
 use srv_words::usage_of;
 use std::alloc::Global;
 use std::process::ExitCode;
@@ -37,10 +38,10 @@ use std::process::ExitCode;
 ///
 /// The first step that isn't done ends the run. A line that can't be written changes no status.
 #[tactic(auto, using(crate::proofs::BlameLemmas::runs))]
-pub fn run_once<F: Files, L: Link, S: Sink>(
+pub fn run_once<O: Opener, F: Files, L: Link, S: Sink, G: Gate>(
     alloc: Global,
     words: &List<Bytes>,
-    world: &mut World<F, L, S>,
+    world: &mut World<O, F, L, S, G>,
 ) -> u8
     ensures runs { let shown = world_shown F.shown L.shown S.shown in
         spec.Runs (spec.once_alone (job_of words.now)) result (shown world.old) (shown world.new) }
@@ -66,10 +67,10 @@ pub fn run_once<F: Files, L: Link, S: Sink>(
 ///
 /// A line of another status that can't be written changes no status. The link isn't used.
 #[tactic(auto, using(crate::proofs::BlameLemmas::runs))]
-pub fn run_check<F: Files, L: Link, S: Sink>(
+pub fn run_check<O: Opener, F: Files, L: Link, S: Sink, G: Gate>(
     alloc: Global,
     words: &List<Bytes>,
-    world: &mut World<F, L, S>,
+    world: &mut World<O, F, L, S, G>,
 ) -> u8
     ensures runs { let shown = world_shown F.shown L.shown S.shown in
         spec.Runs (spec.check_alone (job_of words.now)) result (shown world.old) (shown world.new) }
@@ -94,10 +95,10 @@ pub fn run_check<F: Files, L: Link, S: Sink>(
 /// dataset of the first run, of the offset 0, and of the forecast at the last run; S is the sum of the bytes of their data
 /// modulo 2^32. A line of another status that can't be written changes no status. No file is read, nor is the link used.
 #[tactic(auto, using(crate::proofs::BlameLemmas::runs))]
-pub fn run_load<F: Files, L: Link, S: Sink>(
+pub fn run_load<O: Opener, F: Files, L: Link, S: Sink, G: Gate>(
     alloc: Global,
     words: &List<Bytes>,
-    world: &mut World<F, L, S>,
+    world: &mut World<O, F, L, S, G>,
 ) -> u8
     ensures runs { let shown = world_shown F.shown L.shown S.shown in
         spec.Runs (spec.load_alone (job_of words.now)) result (shown world.old) (shown world.new) }
@@ -111,10 +112,10 @@ pub fn run_load<F: Files, L: Link, S: Sink>(
 /// Does what the words ask for, without the program's own name, reports how it ended, and returns the status of the
 /// program: as the call of the command that the words name, whose other calls have the same answers for bad words.
 #[tactic(auto, using(crate::proofs::BlameLemmas::runs))]
-pub fn run<F: Files, L: Link, S: Sink>(
+pub fn run<O: Opener, F: Files, L: Link, S: Sink, G: Gate>(
     alloc: Global,
     words: &List<Bytes>,
-    world: &mut World<F, L, S>,
+    world: &mut World<O, F, L, S, G>,
 ) -> u8
     ensures runs { let shown = world_shown F.shown L.shown S.shown in
         spec.Runs (job_of words.now) result (shown world.old) (shown world.new) }
@@ -137,10 +138,10 @@ fn told(alloc: Global, words: &List<Bytes>, status: u8) -> Option<String> {
 
 /// As [`run`], for a process that ends with the status; and what a person is told beside the line where the words are bad:
 /// what `clap` says of them, with the usage. No clause speaks of that text.
-pub fn run_process<F: Files, L: Link, S: Sink>(
+pub fn run_process<O: Opener, F: Files, L: Link, S: Sink, G: Gate>(
     alloc: Global,
     words: &List<Bytes>,
-    world: &mut World<F, L, S>,
+    world: &mut World<O, F, L, S, G>,
 ) -> (ExitCode, Option<String>)
     ensures { let shown = world_shown F.shown L.shown S.shown in
         spec.Runs (job_of words.now) (exit_status result.0) (shown world.old) (shown world.new) }

@@ -1,5 +1,4 @@
 -- Reads that were interrupted consumed nothing.
-use Rattle.std.proofs.Common.{◌≡◌, length}
 use Rattle.std.specs.Io.KnownBytes.{Keeps}
 use Rattle.fm_devices.proofs.stream.read_some.Given as goal
 

@@ -1,0 +1,5 @@
+pub mod Clock
+pub mod Door
+pub mod Inbox
+pub mod Opener
+pub mod World

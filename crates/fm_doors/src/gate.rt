@@ -1,0 +1,25 @@
+//! A gate, at which tests hold a door.
+
+use std::marker::Sync;
+
+/// Where a door is, by the door's number.
+#[derive(Clone, Copy, Debug, PartialEq, Eq)]
+pub enum Place {
+    /// A link was accepted, and isn't served yet.
+    Accepted(u32),
+    /// A link was served and given back.
+    Finished(u32),
+}
+
+/// A gate that each door passes. Outside tests it does nothing.
+pub trait Gate: Sync {
+    fn pass(&self, place: Place);
+}
+
+/// The gate that does nothing.
+#[derive(Clone, Copy, Debug, PartialEq, Eq)]
+pub struct OpenGate;
+
+impl Gate for OpenGate {
+    fn pass(&self, _place: Place) {}
+}

@@ -1,0 +1,95 @@
+-- What a desk was asked for, and its log, as a pass then sees it.
+use Rattle.std.proofs.Common.{◌≡◌, ℕ, ◌+◌, ◌≤◌, Bool, true, false, List, [], ◌∷◌, ◌++◌, length, slice_get, Some, None, refl, sym, ap, subst, ◌∙◌, append-nil, length-append, arith, lt-ltb, if◌then◌else◌}
+use Rattle.std.proofs.lemmas.Option.{none-some}
+use Rattle.fm_model.specs.declared.op.Op.{Op}
+use Rattle.pub_plain.specs.History.{Continues, History}
+use Rattle.pub_snap.specs.Rule.{longer}
+use Rattle.srv_ingest.specs.declared.attempt.Attempt.{Attempt}
+use Rattle.srv_ingest.specs.declared.attempt.Attempt.TheVariants.{Done}
+use Rattle.srv_ingest.specs.Attempts.{OnlyLearnt, Tried}
+use Rattle.srv_ingest.specs.Verdicts.{IsNumbered}
+
+-- the last of a list
+slice_get-last : {A : Type 0} (xs : List A) (x : A) → slice_get (xs ++ x ∷ []) (length xs) ≡ Some x
+slice_get-last [] x = refl
+slice_get-last (first ∷ more) x = slice_get-last more x
+
+-- the last operation has the length for its number
+IsNumbered-last : (ops : List Op) (op : Op) → IsNumbered (ops ++ op ∷ []) (length (ops ++ op ∷ [])) op
+IsNumbered-last ops op =
+    record { place = length ops; number_is = length-append ops (op ∷ []); op_is = slice_get-last ops op }
+
+-- a log with one operation more is the longer of it and a list that isn't longer than the log
+longer-more : (own ops : List Op) (op : Op) → length own ≤ length ops
+    → longer own (ops ++ op ∷ []) ≡ ops ++ op ∷ []
+longer-more own ops op within = ap (λ b. if b then ops ++ op ∷ [] else own)
+    (lt-ltb (length own) (length (ops ++ op ∷ [])) (omega (arith, within, length-append ops (op ∷ []))))
+
+-- a pass after it learnt a log
+abbrev pub learnt_by : History → List Op → History
+learnt_by pass log = record { proto = pass.proto; seen = longer pass.seen log; looks = pass.looks }
+
+-- an operation was published, and the pass learnt the log
+pub Tried-learnt : (op : Op) (pass pass' : History) (log log' : List Op) (share share' : ℕ) (result : Attempt)
+    → length pass.seen ≤ length log → log' ≡ log ++ op ∷ [] → share' ≡ share + 1 → result ≡ Done (length log')
+    → pass' ≡ learnt_by pass log' → Tried op pass pass' share share' result
+Tried-learnt op pass pass' log log' share share' result within log_is counted result_is pass_is =
+    let seen_is : pass'.seen ≡ log ++ op ∷ [] = ap (λ (h : History). h.seen) pass_is
+    ∙ ap (λ (l : List Op). longer pass.seen l) log_is ∙ longer-more pass.seen log op within in
+    let more : length (log ++ op ∷ []) ≡ length log + 1 = length-append log (op ∷ []) in
+    subst (λ (r : Attempt). Tried op pass pass' share share' r)
+    (sym (result_is ∙ ap (λ (l : List Op). Done (length l)) log_is)) (
+      subst (λ (l : List Op). IsNumbered l (length (log ++ op ∷ [])) op) (sym seen_is) (IsNumbered-last log op),
+      omega (arith, within, more),
+      counted,
+    )
+
+-- the pass saw more
+pub OnlyLearnt-learnt : (pass pass' : History) (log : List Op) → pass' ≡ learnt_by pass log
+    → Continues pass.seen pass'.seen → OnlyLearnt pass pass'
+OnlyLearnt-learnt pass pass' log is later = record {
+  proto = ap (λ (h : History). h.proto) is;
+  later = later;
+  looks = ap (λ (h : History). h.looks) is;
+}
+
+-- nothing was learnt
+pub OnlyLearnt-none : (pass : History) → OnlyLearnt pass pass
+OnlyLearnt-none pass = record { proto = refl; later = ([], sym (append-nil pass.seen)); looks = refl }
+
+-- what is chosen by a test that is true, and by one that is false
+pub chosen-true : {A : Type 0} (b : Bool) (x y z : A) → true ≡ b → z ≡ (if b then x else y) → z ≡ x
+chosen-true {A} b x y z is chosen = chosen ∙ ap (λ (t : Bool). if t then x else y) (sym is)
+
+pub chosen-false : {A : Type 0} (b : Bool) (x y z : A) → false ≡ b → z ≡ (if b then x else y) → z ≡ y
+chosen-false {A} b x y z is chosen = chosen ∙ ap (λ (t : Bool). if t then x else y) (sym is)
+
+-- a test by whose choice there is something is true
+pub test-true : {A : Type 0} (b : Bool) (x y : A) → Some x ≡ (if b then Some y else None) → true ≡ b
+test-true true x y is = refl
+test-true false x y is = absurd (none-some x (sym is))
+
+-- a test by whose choice there is nothing is false
+pub test-false : {A : Type 0} (b : Bool) (y : A) → None ≡ (if b then Some y else None) → false ≡ b
+test-false true y is = absurd (none-some y is)
+test-false false y is = refl
+
+-- the same, where the operation was published under a test
+pub Tried-chosen : (op : Op) (pass pass' : History) (log log' : List Op) (share share' : ℕ) (b : Bool)
+    (result : Attempt) → length pass.seen ≤ length log → true ≡ b → log' ≡ (if b then log ++ op ∷ [] else log)
+    → share' ≡ (if b then share + 1 else share) → result ≡ Done (length log')
+    → pass' ≡ learnt_by pass log' → Tried op pass pass' share share' result
+Tried-chosen op pass pass' log log' share share' b result within is log_is counted result_is pass_is =
+    Tried-learnt op pass pass' log log' share share' result within
+    (chosen-true b (log ++ op ∷ []) log log' is log_is) (chosen-true b (share + 1) share share' is counted)
+    result_is pass_is
+
+pub ruleset attempts = (
+  Tried-learnt,
+  Tried-chosen,
+  OnlyLearnt-learnt,
+  OnlyLearnt-none,
+  chosen-false,
+  test-true,
+  test-false,
+)

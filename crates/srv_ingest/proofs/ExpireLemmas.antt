@@ -1,0 +1,127 @@
+-- The moments that were settled so far, and one more.
+use Rattle.std.proofs.Common.{◌≡◌, ℕ, ℤ, ◌+◌, if◌then◌else◌, All, List, [], ◌∷◌, ◌++◌, length, map, drop, Option, Some, None, IfSome, IsSomeAnd, count_by, refl, sym, ap, ap₂, subst, ◌∙◌, append_assoc, append-nil}
+use Rattle.std.proofs.lemmas.List.{map-append}
+use Rattle.std.proofs.lemmas.List.Elements.{All-append, All-cons, All-nil, All-weaker}
+use Rattle.std.proofs.lemmas.Option.{none-some, same_Some}
+use Rattle.fm_doors.specs.declared.clock.Expiry.{Expiry}
+use Rattle.fm_doors.specs.Clock.{after_moment, after_verdict, Moments}
+use Rattle.fm_doors.specs.Door.{first_of}
+use Rattle.fm_world.specs.Cause.{one_more}
+use Rattle.pub_plain.specs.History.{History}
+use Rattle.srv_ingest.specs.Attempts.{expired_number, idle_number, Sees}
+use Rattle.srv_ingest.specs.Expires.{expired_numbers, idle_numbers, is_expired, IsRightAt, is_short_moment, SettledMoment}
+use Rattle.srv_ingest.specs.Ingests.{counted}
+use Rattle.srv_ingest.specs.Turns.{SettlesMoment}
+use Rattle.srv_ingest.specs.Verdicts.{cutoff_at}
+use Rattle.srv_ingest.proofs.LaterLemmas.{IsExpiry-later}
+use Rattle.srv_ingest.proofs.SeesLemmas.{Sees-itself, Sees-then}
+use Rattle.srv_ingest.proofs.MomentCounts.{count-more, expired-one, numbers-more, short-one}
+
+-- these moments were the next of a clock, and were settled
+pub record MovesOn (moments moments' : Moments) (settled : List SettledMoment) : Type 0 where
+  pub left_is : moments.left ≡ map (λ it. it.moment) settled ++ moments'.left
+  pub verdicts_are : moments'.verdicts ≡ moments.verdicts ++ map (λ it. it.verdict) settled
+  pub asked_is : moments'.asked ≡ moments.asked
+
+-- the same, where it is known what a clock holds
+abbrev pub MovesOnIn : Option Moments → Option Moments → List SettledMoment → Type 0
+MovesOnIn clock clock' settled =
+    IfSome clock (λ moments. IsSomeAnd clock' (λ moments'. MovesOn moments moments' settled))
+
+-- all moments that a clock gave so far were settled, and are counted
+pub record MomentsSoFar (keep : ℕ) (epoch : ℤ) (clock clock' : Option Moments) (pass pass' : History)
+    (expired short : ℕ) : Type 0 where
+  pub settled : List SettledMoment
+  pub moves : MovesOnIn clock clock' settled
+  pub each : All (IsRightAt keep epoch pass'.seen) settled
+  pub sees : Sees pass pass' (expired_numbers settled) (idle_numbers settled)
+  pub expired_is : expired ≡ count_by (λ it. is_expired it.verdict) settled
+  pub short_is : short ≡ counted (count_by (λ it. is_short_moment it.verdict) settled)
+
+-- no moment was settled yet
+pub MomentsSoFar-none : (keep : ℕ) (epoch : ℤ) (clock : Option Moments) (pass : History)
+    → MomentsSoFar keep epoch clock clock pass pass 0 0
+MomentsSoFar-none keep epoch clock pass = record {
+  settled = [];
+  moves = none_moved clock;
+  each = All-nil (IsRightAt keep epoch pass.seen);
+  sees = Sees-itself pass;
+  expired_is = refl;
+  short_is = refl;
+}
+  where
+    none_moved : (c : Option Moments) → MovesOnIn c c []
+    none_moved None = tt
+    none_moved (Some moments) =
+        record { left_is = refl; verdicts_are = sym (append-nil moments.verdicts); asked_is = refl }
+
+-- a list with a first moment
+first-is : (moments : List ℤ) (moment : ℤ) → first_of moments ≡ Some moment → moments ≡ moment ∷ drop 1 moments
+first-is [] moment is = absurd (none-some moment is)
+first-is (x ∷ moments) moment is = ap (λ (m : ℤ). m ∷ moments) (same_Some x moment is)
+
+-- the moments that are left, with one more settled
+left-more : (settled : List SettledMoment) (it : SettledMoment) (left left' : List ℤ)
+    → left ≡ map (λ it. it.moment) settled ++ left' → first_of left' ≡ Some it.moment
+    → left ≡ map (λ it. it.moment) (settled ++ it ∷ []) ++ drop 1 left'
+left-more settled it left left' is first =
+    let moment : SettledMoment → ℤ = λ it. it.moment in
+    is ∙ ap (λ (l : List ℤ). map moment settled ++ l) (first-is left' it.moment first)
+    ∙ sym (append_assoc (map moment settled) (it.moment ∷ []) (drop 1 left'))
+    ∙ ap (λ (l : List ℤ). l ++ drop 1 left') (sym (map-append moment settled (it ∷ [])))
+
+-- one more moment was the next
+MovesOnIn-more : (a b c : Option Moments) (settled : List SettledMoment) (it : SettledMoment) → MovesOnIn a b settled
+    → IfSome b (λ moments. first_of moments.left ≡ Some it.moment)
+    → c ≡ after_verdict it.verdict (after_moment (Some it.moment) b) → MovesOnIn a c (settled ++ it ∷ [])
+MovesOnIn-more None b c settled it moves first is = tt
+MovesOnIn-more (Some p) None c settled it moves first is = absurd moves
+MovesOnIn-more (Some p) (Some q) c settled it moves first is =
+    let verdict : SettledMoment → Expiry = λ it. it.verdict in
+    subst (λ (h : Option Moments). IsSomeAnd h (λ r. MovesOn p r (settled ++ it ∷ []))) (sym is) (record {
+      left_is = left-more settled it p.left q.left moves.left_is first;
+      verdicts_are = ap (λ (l : List Expiry). l ++ it.verdict ∷ []) moves.verdicts_are
+          ∙ append_assoc p.verdicts (map verdict settled) (it.verdict ∷ [])
+          ∙ ap (λ (l : List Expiry). p.verdicts ++ l) (sym (map-append verdict settled (it ∷ [])));
+      asked_is = moves.asked_is;
+    })
+
+-- one more moment was settled
+pub MomentsSoFar-more : (keep : ℕ) (epoch : ℤ) (a b c : Option Moments) (pass pass' pass'' : History)
+    (share share' expired expired' short short' : ℕ) (verdict : Expiry)
+    → MomentsSoFar keep epoch a b pass pass' expired short
+    → SettlesMoment keep epoch b c pass' pass'' share share' verdict
+    → expired' ≡ expired + length (expired_number verdict)
+    → short' ≡ (if is_short_moment verdict then one_more short else short)
+    → MomentsSoFar keep epoch a c pass pass'' expired' short'
+MomentsSoFar-more keep epoch a b c pass pass' pass'' share share' expired expired' short short' verdict far next
+    expired_is short_is = record {
+      settled = far.settled ++ it ∷ [];
+      moves = MovesOnIn-more a b c far.settled it far.moves next.next next.clock_is;
+      each = All-append P far.settled (it ∷ []) (All-weaker (IsRightAt keep epoch pass'.seen) P
+          (λ x right. IsExpiry-later pass'.seen pass''.seen (cutoff_at x.moment keep epoch) x.verdict
+          next.decides.sees.later right) far.settled far.each) (All-cons P it [] next.is (All-nil P));
+      sees = subst (λ (l : List ℕ). Sees pass pass'' l (idle_numbers (far.settled ++ it ∷ [])))
+          (numbers-more expired_number far.settled it)
+          (subst (λ (l : List ℕ). Sees pass pass'' (expired_numbers far.settled ++ expired_number verdict) l)
+          (numbers-more idle_number far.settled it)
+          (Sees-then pass pass' pass'' (expired_numbers far.settled) (expired_number verdict) (idle_numbers far.settled)
+          (idle_number verdict) far.sees next.decides.sees));
+      expired_is = expired_is ∙ ap₂ (λ (n m : ℕ). n + m) far.expired_is (expired-one verdict)
+          ∙ sym (count-more is_expired far.settled it);
+      short_is = short_is
+          ∙ short-one verdict short (count_by (λ it. is_short_moment it.verdict) far.settled) far.short_is
+          ∙ ap counted (sym (count-more is_short_moment far.settled it));
+    }
+  where
+    it : SettledMoment
+    it = record { moment = next.moment; verdict = verdict }
+
+    P : SettledMoment → Type 0
+    P = IsRightAt keep epoch pass''.seen
+
+-- the share counts a moment at which runs went
+pub share-settled : (keep : ℕ) (epoch : ℤ) (b c : Option Moments) (pass' pass'' : History) (share share' : ℕ)
+    (verdict : Expiry) → SettlesMoment keep epoch b c pass' pass'' share share' verdict
+    → share' ≡ share + length (expired_number verdict)
+share-settled keep epoch b c pass' pass'' share share' verdict next = next.decides.counted

@@ -1,0 +1,127 @@
+-- The names that were settled so far, and one more.
+use Rattle.std.proofs.Common.{◌≡◌, ℕ, List, [], ◌∷◌, ◌++◌, map, Option, Some, None, IfSome, IsSomeAnd, option_to_list, flat_map, refl, sym, ap, ap₂, subst, ◌∙◌, append_assoc, append-nil}
+use Rattle.std.proofs.lemmas.List.{map-append}
+use Rattle.std.proofs.lemmas.List.Elements.{All-append, All-cons, All-nil, All-weaker}
+use Rattle.std.proofs.lemmas.Grind.{flat_map-append}
+use Rattle.fm_doors.specs.declared.inbox.Arrival.TheVariants as arrivals
+use Rattle.fm_doors.specs.declared.inbox.Verdict.{Verdict}
+use Rattle.fm_doors.specs.Door.{first_of}
+use Rattle.fm_doors.specs.Inbox.{after_next, after_settle, InboxShown, Post}
+use Rattle.fm_model.specs.declared.op.Op.{Op}
+use Rattle.fm_model.specs.declared.proto.Proto.{Proto}
+use Rattle.pub_plain.specs.History.{Continues, History}
+use Rattle.srv_ingest.specs.Attempts.{looked_number, published_number, Sees}
+use Rattle.srv_ingest.specs.Ingests.{AllRight, IsRight, looked_numbers, Moves, MovesIn, published_numbers, Settled, Settlement}
+use Rattle.srv_ingest.specs.Verdicts.{taken_back}
+use Rattle.srv_ingest.proofs.LaterLemmas.{IsVerdict-later}
+use Rattle.srv_ingest.proofs.SeesLemmas.{Sees-itself, Sees-then}
+use Rattle.srv_ingest.proofs.TurnLemmas.{first-is, MovesIn-itself}
+
+-- the names that are left, where some were settled and then others
+left-then : (xs ys : List Settlement) (end names names' names'' : List (List ℕ))
+    → names ≡ (map (λ it. it.name) xs ++ []) ++ names' → names' ≡ (map (λ it. it.name) ys ++ end) ++ names''
+    → names ≡ (map (λ it. it.name) (xs ++ ys) ++ end) ++ names''
+left-then xs ys end names names' names'' first second =
+    let name : Settlement → List ℕ = λ it. it.name in
+    first ∙ ap₂ (λ (f g : List (List ℕ)). f ++ g) (append-nil (map name xs)) second
+    ∙ sym (append_assoc (map name xs) (map name ys ++ end) names'')
+    ∙ ap (λ (l : List (List ℕ)). l ++ names'') (sym (append_assoc (map name xs) (map name ys) end)
+    ∙ ap (λ (l : List (List ℕ)). l ++ end) (sym (map-append name xs ys)))
+
+-- the verdicts, where some were given and then others
+verdicts-then : (xs ys : List Settlement) (given given' given'' : List Verdict)
+    → given' ≡ given ++ map (λ it. it.verdict) xs → given'' ≡ given' ++ map (λ it. it.verdict) ys
+    → given'' ≡ given ++ map (λ it. it.verdict) (xs ++ ys)
+verdicts-then xs ys given given' given'' first second =
+    let verdict : Settlement → Verdict = λ it. it.verdict in
+    second ∙ ap (λ (l : List Verdict). l ++ map verdict ys) first
+    ∙ append_assoc given (map verdict xs) (map verdict ys)
+    ∙ ap (λ (l : List Verdict). given ++ l) (sym (map-append verdict xs ys))
+
+-- some names were settled, and then others
+pub MovesIn-then : (a b c : Option Post) (xs ys : List Settlement) (unsettled : Option (List ℕ))
+    → MovesIn a b xs None → MovesIn b c ys unsettled → MovesIn a c (xs ++ ys) unsettled
+MovesIn-then None b c xs ys unsettled first second = tt
+MovesIn-then (Some p) None c xs ys unsettled first second = absurd first
+MovesIn-then (Some p) (Some q) None xs ys unsettled first second = absurd second
+MovesIn-then (Some p) (Some q) (Some r) xs ys unsettled first second = record {
+  left_is = left-then xs ys (option_to_list unsettled) p.left q.left r.left first.left_is second.left_is;
+  verdicts_are = verdicts-then xs ys p.verdicts q.verdicts r.verdicts first.verdicts_are second.verdicts_are;
+  content_is = second.content_is ∙ first.content_is;
+  asked_is = second.asked_is ∙ first.asked_is;
+}
+
+-- one name was settled
+MovesIn-one : (held held' : Option Post) (it : Settlement)
+    → IfSome held (λ post. first_of post.left ≡ Some it.name)
+    → held' ≡ after_settle it.verdict (after_next (arrivals.Name it.name) held) → MovesIn held held' (it ∷ []) None
+MovesIn-one None held' it first is = tt
+MovesIn-one (Some post) held' it first is =
+    subst (λ (h : Option Post). IsSomeAnd h (λ post'. Moves post post' (it ∷ []) None)) (sym is) (record {
+      left_is = first-is post.left it.name first;
+      verdicts_are = refl;
+      content_is = refl;
+      asked_is = refl;
+    })
+
+-- verdicts stay right
+pub AllRight-later : (proto : Proto) (held : Option Post) (ops ops' : List Op) (settled : List Settlement)
+    → Continues ops ops' → AllRight proto held ops settled → AllRight proto held ops' settled
+AllRight-later proto None ops ops' settled later all = tt
+AllRight-later proto (Some post) ops ops' settled later all =
+    All-weaker (IsRight proto post.content ops) (IsRight proto post.content ops')
+    (λ it right. IsVerdict-later proto ops ops' post.content it.name (taken_back it.name) it.verdict later right)
+    settled all
+
+-- one more verdict is right
+AllRight-more : (proto : Proto) (a b : Option Post) (ops : List Op) (settled : List Settlement) (it : Settlement)
+    → MovesIn a b settled None → AllRight proto a ops settled
+    → IfSome b (λ post. IsRight proto post.content ops it) → AllRight proto a ops (settled ++ it ∷ [])
+AllRight-more proto None b ops settled it moves all right = tt
+AllRight-more proto (Some p) None ops settled it moves all right = absurd moves
+AllRight-more proto (Some p) (Some q) ops settled it moves all right =
+    let P : Settlement → Type 0 = IsRight proto p.content ops in
+    All-append P settled (it ∷ []) all (All-cons P it [] (subst (λ (c : List ℕ → Option (List ℕ)).
+    IsRight proto c ops it) moves.content_is right) (All-nil P))
+
+-- no name was settled yet
+pub Settled-none : (proto : Proto) (held : Option Post) (pass : History) → Settled proto held held pass pass [] None
+Settled-none proto held pass = record {
+  moves = MovesIn-itself held held refl;
+  each = none-right held;
+  sees = Sees-itself pass;
+}
+  where
+    none-right : (h : Option Post) → AllRight proto h pass.seen []
+    none-right None = tt
+    none-right (Some post) = All-nil (IsRight proto post.content pass.seen)
+
+-- the numbers of one name more
+pub numbers-more : (number : Verdict → List ℕ) (settled : List Settlement) (it : Settlement)
+    → flat_map (λ it. number it.verdict) settled ++ number it.verdict
+    ≡ flat_map (λ it. number it.verdict) (settled ++ it ∷ [])
+numbers-more number settled it =
+    let of : Settlement → List ℕ = λ it. number it.verdict in
+    ap (λ (l : List ℕ). flat_map of settled ++ l) (sym (append-nil (of it)))
+    ∙ sym (flat_map-append of settled (it ∷ []))
+
+-- one more name was settled
+pub Settled-more : (proto : Proto) (a b c : InboxShown) (pass pass' pass'' : History) (settled : List Settlement)
+    (it : Settlement) → Settled proto a.held b.held pass pass' settled None
+    → IfSome b.held (λ post. first_of post.left ≡ Some it.name)
+    → IfSome b.held (λ post. IsRight proto post.content pass''.seen it)
+    → Sees pass' pass'' (published_number it.verdict) (looked_number it.verdict)
+    → c.held ≡ after_settle it.verdict (after_next (arrivals.Name it.name) b.held)
+    → Settled proto a.held c.held pass pass'' (settled ++ it ∷ []) None
+Settled-more proto a b c pass pass' pass'' settled it is first right sees held_is = record {
+  moves = MovesIn-then a.held b.held c.held settled (it ∷ []) None is.moves
+      (MovesIn-one b.held c.held it first held_is);
+  each = AllRight-more proto a.held b.held pass''.seen settled it is.moves
+      (AllRight-later proto a.held pass'.seen pass''.seen settled sees.later is.each) right;
+  sees = subst (λ (l : List ℕ). Sees pass pass'' l (looked_numbers (settled ++ it ∷ [])))
+      (numbers-more published_number settled it)
+      (subst (λ (l : List ℕ). Sees pass pass'' (published_numbers settled ++ published_number it.verdict) l)
+      (numbers-more looked_number settled it)
+      (Sees-then pass pass' pass'' (published_numbers settled) (published_number it.verdict) (looked_numbers settled)
+      (looked_number it.verdict) is.sees sees));
+}

@@ -1,0 +1,96 @@
+-- A verdict stays right as more operations are seen.
+use Rattle.std.proofs.Common.{◌≡◌, ℕ, zero, suc, ℤ, ◌≤◌, List, [], ◌∷◌, ◌++◌, length, take, slice_get, Option, Some, None, Result, Ok, Err, IsSome, false, inl, inr, sym, ap, subst, ◌∙◌, arith}
+use Rattle.std.proofs.lemmas.List.{take-append-le}
+use Rattle.std.proofs.lemmas.Option.{none-some}
+use Rattle.fm_doors.specs.declared.clock.Expiry.{Expiry}
+use Rattle.fm_doors.specs.declared.clock.Expiry.TheVariants as expiries
+use Rattle.fm_doors.specs.declared.inbox.Verdict.{Verdict}
+use Rattle.fm_doors.specs.declared.inbox.Verdict.TheVariants as verdicts
+use Rattle.fm_model.specs.declared.loaded.Loaded.{Loaded}
+use Rattle.fm_model.specs.declared.op.Op.{Op}
+use Rattle.fm_model.specs.declared.op.Op.TheVariants.{Expire, Put, Retract}
+use Rattle.fm_model.specs.declared.limit.TheConstants.{MAX_FILE_BYTES}
+use Rattle.fm_model.specs.declared.proto.Proto.{Proto}
+use Rattle.fm_model.specs.Collection.{coll, full_at, holds, holds_older}
+use Rattle.fm_world.specs.Files.{found_of}
+use Rattle.pub_plain.specs.History.{Continues}
+use Rattle.srv_ingest.specs.Verdicts.{file_or_verdict, IsExpiry, IsNumbered, IsVerdict, IsVerdictOnFile, IsVerdictOnRetraction}
+use Rattle.srv_ingest.proofs.SeesLemmas.{Continues-length}
+
+-- what a list has at a place, a longer one has there
+slice_get-front : {A : Type 0} (xs ys : List A) (place : ℕ) (x : A) → slice_get xs place ≡ Some x
+    → slice_get (xs ++ ys) place ≡ Some x
+slice_get-front [] ys place x is = absurd (none-some x is)
+slice_get-front (y ∷ xs) ys zero x is = is
+slice_get-front (y ∷ xs) ys (suc place) x is = slice_get-front xs ys place x is
+
+-- an operation keeps its number
+pub IsNumbered-later : (ops ops' : List Op) (number : ℕ) (op : Op) → Continues ops ops' → IsNumbered ops number op
+    → IsNumbered ops' number op
+IsNumbered-later ops ops' number op later is = record {
+  place = is.place;
+  number_is = is.number_is;
+  op_is = ap (λ (l : List Op). slice_get l is.place) later.1 ∙ slice_get-front ops later.0 is.place op is.op_is;
+}
+
+-- the first operations stay the first
+take-later : (ops ops' : List Op) (count : ℕ) → Continues ops ops' → count ≤ length ops
+    → take count ops ≡ take count ops'
+take-later ops ops' count later within =
+    sym (ap (λ (l : List Op). take count l) later.1 ∙ take-append-le count ops later.0 within)
+
+-- no fewer operations are seen
+within-later : (ops ops' : List Op) (count : ℕ) → Continues ops ops' → count ≤ length ops → count ≤ length ops'
+within-later ops ops' count later within = omega (arith, within, Continues-length ops ops' later)
+
+-- a verdict on a file stays right
+IsVerdictOnFile-later : (ops ops' : List Op) (found : Result Loaded Verdict) (verdict : Verdict) → Continues ops ops'
+    → IsVerdictOnFile ops found verdict → IsVerdictOnFile ops' found verdict
+IsVerdictOnFile-later ops ops' (Err given) verdict later is = is
+IsVerdictOnFile-later ops ops' (Ok file) (verdicts.Published number) later is =
+    IsNumbered-later ops ops' number (Put file) later is
+IsVerdictOnFile-later ops ops' (Ok file) (verdicts.Full count) later is = (
+  within-later ops ops' count later is.0,
+  subst (λ (l : List Op). IsSome (full_at (coll l) (Put file)))
+      (take-later ops ops' count later is.0) is.1,
+)
+IsVerdictOnFile-later ops ops' (Ok file) verdict later is = absurd is
+
+-- a verdict on a retraction stays right
+IsVerdictOnRetraction-later : (ops ops' : List Op) (name : List ℕ) (verdict : Verdict) → Continues ops ops'
+    → IsVerdictOnRetraction ops name verdict → IsVerdictOnRetraction ops' name verdict
+IsVerdictOnRetraction-later ops ops' name (verdicts.Published number) later is =
+    IsNumbered-later ops ops' number (Retract name) later is
+IsVerdictOnRetraction-later ops ops' name (verdicts.NotHeld count) later is = (
+  within-later ops ops' count later is.0,
+  subst (λ (l : List Op). holds (coll l) name ≡ false)
+      (take-later ops ops' count later is.0) is.1,
+)
+IsVerdictOnRetraction-later ops ops' name verdict later is = absurd is
+
+-- a verdict on a name stays right
+pub IsVerdict-later : (proto : Proto) (ops ops' : List Op) (content : List ℕ → Option (List ℕ)) (name : List ℕ)
+    (back : Option (List ℕ)) (verdict : Verdict) → Continues ops ops'
+    → IsVerdict proto ops content name back verdict → IsVerdict proto ops' content name back verdict
+unfolding IsVerdict
+IsVerdict-later proto ops ops' content name (Some back) verdict later is = elim is [
+  | inl short ↦ inl short
+  | inr right ↦ inr (IsVerdictOnRetraction-later ops ops' back verdict later right)
+]
+IsVerdict-later proto ops ops' content name None verdict later is = elim is [
+  | inl short ↦ inl short
+  | inr right ↦ inr (IsVerdictOnFile-later ops ops'
+      (file_or_verdict proto name (found_of MAX_FILE_BYTES (content name))) verdict later right)
+]
+
+-- a verdict on a moment stays right
+pub IsExpiry-later : (ops ops' : List Op) (cutoff : ℤ) (verdict : Expiry) → Continues ops ops'
+    → IsExpiry ops cutoff verdict → IsExpiry ops' cutoff verdict
+IsExpiry-later ops ops' cutoff (expiries.Expired number) later is =
+    IsNumbered-later ops ops' number (Expire cutoff) later is
+IsExpiry-later ops ops' cutoff (expiries.Idle count) later is = (
+  within-later ops ops' count later is.0,
+  subst (λ (l : List Op). holds_older (coll l) cutoff ≡ false)
+      (take-later ops ops' count later is.0) is.1,
+)
+IsExpiry-later ops ops' cutoff expiries.Short later is = is

@@ -1,0 +1,17 @@
+pub mod AcceptedLemmas
+pub mod AttemptLemmas
+pub mod CountLemmas
+pub mod DecidingLemmas
+pub mod ExpireEnd
+pub mod ExpireLemmas
+pub mod IngestLemmas
+pub mod LaterLemmas
+pub mod LookLemmas
+pub mod MomentCounts
+pub mod MomentLemmas
+pub mod NextLemmas
+pub mod ReportLemmas
+pub mod SeesLemmas
+pub mod SoFar
+pub mod TurnLemmas
+pub mod VerdictLemmas

@@ -1,0 +1,140 @@
+-- The turn of one name.
+use Rattle.std.proofs.Common.{◌≡◌, ℕ, List, [], ◌∷◌, drop, Option, Some, None, IfSome, IsSomeAnd, refl, sym, ap, subst, ◌∙◌, append-nil}
+use Rattle.std.proofs.lemmas.Option.{none-some, same_Some}
+use Rattle.fm_doors.specs.declared.inbox.Arrival.TheVariants as arrivals
+use Rattle.fm_doors.specs.declared.inbox.Verdict.{Verdict}
+use Rattle.fm_doors.specs.Door.{first_of}
+use Rattle.fm_doors.specs.Inbox.{after_next, after_settle, InboxShown, Post}
+use Rattle.fm_model.specs.declared.proto.Proto.{Proto}
+use Rattle.fm_world.specs.Cause.{one_more}
+use Rattle.pub_plain.specs.History.{History}
+use Rattle.srv_ingest.specs.declared.report.IngestEnd.{IngestEnd}
+use Rattle.srv_ingest.specs.declared.report.IngestEnd.TheVariants as ends
+use Rattle.srv_ingest.specs.declared.report.IngestReport.{IngestReport}
+use Rattle.srv_ingest.specs.Attempts.{DecidesName, FailsBefore, looked_number, published_number, Sees}
+use Rattle.srv_ingest.specs.Ingests.{EndsIngest, IsRight, Moves, MovesIn}
+use Rattle.srv_ingest.specs.Turns.{GrowsByOne, SettlesNext, StopsNext, with_published, with_settled}
+use Rattle.srv_ingest.specs.Verdicts.{IsVerdict, taken_back}
+use Rattle.srv_ingest.proofs.SeesLemmas.{Sees-itself, Sees-unsaid}
+use Rattle.srv_ingest.proofs.ReportLemmas.{GrowsByOne-itself, GrowsByOne-published, operations-published, operations-settled}
+
+-- an inbox of which nothing was taken
+pub MovesIn-itself : (held held' : Option Post) → held' ≡ held → MovesIn held held' [] None
+MovesIn-itself None held' is = tt
+MovesIn-itself (Some post) held' is =
+    subst (λ (h : Option Post). IsSomeAnd h (λ post'. Moves post post' [] None)) (sym is) (record {
+      left_is = refl;
+      verdicts_are = sym (append-nil post.verdicts);
+      content_is = refl;
+      asked_is = refl;
+    })
+
+-- a list with a first item
+pub first-is : (names : List (List ℕ)) (name : List ℕ) → first_of names ≡ Some name → names ≡ name ∷ drop 1 names
+first-is [] name is = absurd (none-some name is)
+first-is (x ∷ names) name is = ap (λ (n : List ℕ). n ∷ names) (same_Some x name is)
+
+-- an inbox of which one name was taken
+MovesIn-taken : (held held' : Option Post) (name : List ℕ) → held' ≡ after_next (arrivals.Name name) held
+    → IfSome held (λ post. first_of post.left ≡ Some name) → MovesIn held held' [] (Some name)
+MovesIn-taken None held' name is first = tt
+MovesIn-taken (Some post) held' name is first =
+    subst (λ (h : Option Post). IsSomeAnd h (λ post'. Moves post post' [] (Some name))) (sym is) (record {
+      left_is = first-is post.left name first;
+      verdicts_are = sym (append-nil post.verdicts);
+      content_is = refl;
+      asked_is = refl;
+    })
+
+-- the name that was given last is the one to settle
+pub settles-last : (held held' held'' : Option Post) (name : List ℕ) → held' ≡ after_next (arrivals.Name name) held
+    → held'' ≡ held' → IfSome held'' (λ post. post.last ≡ Some name)
+settles-last None held' held'' name is same =
+    subst (λ (h : Option Post). IfSome h (λ post. post.last ≡ Some name)) (sym (same ∙ is)) tt
+settles-last (Some post) held' held'' name is same =
+    subst (λ (h : Option Post). IfSome h (λ post. post.last ≡ Some name)) (sym (same ∙ is)) refl
+
+-- no name was given
+pub StopsNext-none : (inbox inbox' : InboxShown) (pass : History) (report : IngestReport) (end : IngestEnd)
+    → inbox'.held ≡ inbox.held → EndsIngest inbox inbox' end
+    → StopsNext inbox inbox' pass pass report report end
+StopsNext-none inbox inbox' pass report end held_is so = record {
+  unsettled = None;
+  moves = MovesIn-itself inbox.held inbox'.held held_is;
+  sees = Sees-itself pass;
+  grows = GrowsByOne-itself report;
+  same = λ _. refl;
+  whole = λ _. refl;
+  ends_so = so;
+}
+
+-- the inbox failed before there was a verdict
+pub StopsNext-unfound : (inbox inbox' inbox'' : InboxShown) (pass pass' : History) (share share' : ℕ)
+    (report : IngestReport) (name : List ℕ) → inbox'.held ≡ after_next (arrivals.Name name) inbox.held
+    → inbox'.faults ≡ inbox.faults → IfSome inbox.held (λ post. first_of post.left ≡ Some name)
+    → FailsBefore inbox' inbox'' pass pass' share share'
+    → StopsNext inbox inbox'' pass pass' report report ends.InboxFault
+unfolding EndsIngest
+StopsNext-unfound inbox inbox' inbox'' pass pass' share share' report name held_is faults_are first fails = record {
+  unsettled = Some name;
+  moves = MovesIn-taken inbox.held inbox''.held name (fails.held_is ∙ held_is) first;
+  sees = subst (λ (h : History). Sees pass h [] []) (sym fails.pass_is) (Sees-itself pass);
+  grows = GrowsByOne-itself report;
+  same = λ _. refl;
+  whole = λ other. absurd (other refl);
+  ends_so = fails.faults_are ∙ ap one_more faults_are;
+}
+
+-- the inbox did not take the verdict
+pub StopsNext-untaken : (proto : Proto) (inbox inbox' inbox'' inbox''' : InboxShown) (pass pass' : History)
+    (share share' : ℕ) (report report' : IngestReport) (name : List ℕ) (verdict : Verdict)
+    → inbox'.held ≡ after_next (arrivals.Name name) inbox.held
+    → inbox'.faults ≡ inbox.faults → IfSome inbox.held (λ post. first_of post.left ≡ Some name)
+    → DecidesName proto name inbox' inbox'' pass pass' share share' verdict
+    → report' ≡ with_published report (taken_back name) verdict
+    → inbox'''.held ≡ inbox''.held → inbox'''.faults ≡ one_more inbox''.faults
+    → StopsNext inbox inbox''' pass pass' report report' ends.InboxFault
+unfolding EndsIngest
+StopsNext-untaken proto inbox inbox' inbox'' inbox''' pass pass' share share' report report' name verdict held_is
+    faults_are first decides report_is held_same fails = record {
+      unsettled = Some name;
+      moves = MovesIn-taken inbox.held inbox'''.held name (held_same ∙ decides.held_is ∙ held_is) first;
+      sees = Sees-unsaid pass pass' (published_number verdict) (looked_number verdict) decides.decides.sees;
+      grows = subst (λ (r : IngestReport). GrowsByOne report r) (sym report_is)
+          (GrowsByOne-published report (taken_back name) verdict);
+      same = λ none. absurd (none-some name (sym none));
+      whole = λ other. absurd (other refl);
+      ends_so = fails ∙ ap one_more (decides.faults_are ∙ faults_are);
+    }
+
+-- what holds of what a name holds, by an inbox that gave the name
+right-before : (proto : Proto) (name : List ℕ) (verdict : Verdict) (pass : History) (held held' : Option Post)
+    → held' ≡ after_next (arrivals.Name name) held
+    → IfSome held' (λ post. IsVerdict proto pass.seen post.content name (taken_back name) verdict)
+    → IfSome held (λ post. IsRight proto post.content pass.seen (record { name = name; verdict = verdict }))
+right-before proto name verdict pass None held' is right = tt
+right-before proto name verdict pass (Some post) held' is right = subst (λ (h : Option Post).
+    IfSome h (λ it. IsVerdict proto pass.seen it.content name (taken_back name) verdict)) is right
+
+-- the inbox took the verdict
+pub SettlesNext-taken : (proto : Proto) (inbox inbox' inbox'' inbox''' : InboxShown) (pass pass' : History)
+    (share share' : ℕ) (report report' report'' : IngestReport) (name : List ℕ) (verdict : Verdict)
+    → inbox'.held ≡ after_next (arrivals.Name name) inbox.held
+    → inbox'.faults ≡ inbox.faults → IfSome inbox.held (λ post. first_of post.left ≡ Some name)
+    → DecidesName proto name inbox' inbox'' pass pass' share share' verdict
+    → report' ≡ with_published report (taken_back name) verdict
+    → inbox'''.held ≡ after_settle verdict inbox''.held → inbox'''.faults ≡ inbox''.faults
+    → report'' ≡ with_settled report' verdict
+    → SettlesNext proto inbox inbox''' pass pass' report report''
+SettlesNext-taken proto inbox inbox' inbox'' inbox''' pass pass' share share' report report' report'' name verdict
+    held_is faults_are first decides report_is held_same faults_same report_is' = record {
+      it = record { name = name; verdict = verdict };
+      next = first;
+      is = right-before proto name verdict pass' inbox.held inbox'.held held_is decides.is;
+      sees = decides.decides.sees;
+      held_is = held_same ∙ ap (λ (h : Option Post). after_settle verdict h) (decides.held_is ∙ held_is);
+      faults_are = faults_same ∙ decides.faults_are ∙ faults_are;
+      report_is = report_is' ∙ ap (λ (r : IngestReport). with_settled r verdict) report_is;
+    }
+
+pub ruleset turns = (settles-last, operations-published, operations-settled, StopsNext-none)

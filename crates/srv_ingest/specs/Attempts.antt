@@ -1,0 +1,122 @@
+-- What a desk was asked for under its lock, and what finding a verdict on one name or moment did.
+use Rattle.std.specs.Prelude.{◌≡◌, ◌⊎◌, ℕ, ◌+◌, ◌<◌, ◌≤◌, List, [], ◌∷◌, ◌++◌, length, Option, Some, None, IfSome, Result, Ok, Err, MatchResult}
+use Rattle.fm_model.specs.declared.op.Op.{Op}
+use Rattle.fm_model.specs.declared.proto.Proto.{Proto}
+use Rattle.fm_world.specs.Cause.{one_more}
+use Rattle.fm_doors.specs.declared.clock.Expiry.{Expiry}
+use Rattle.fm_doors.specs.declared.clock.Expiry.TheVariants as expiries
+use Rattle.fm_doors.specs.declared.inbox.Verdict.{Verdict}
+use Rattle.fm_doors.specs.declared.inbox.Verdict.TheVariants as verdicts
+use Rattle.fm_doors.specs.Inbox.{InboxShown}
+use Rattle.pub_plain.specs.History.{Continues, History}
+use Rattle.srv_ingest.specs.declared.attempt.Attempt.{Attempt}
+use Rattle.srv_ingest.specs.declared.attempt.Attempt.TheVariants.{Done, Again, Short}
+use Rattle.srv_ingest.specs.Verdicts.{IsNumbered, IsVerdict, taken_back}
+
+-- an attempt to have an operation as the next of the log: it is one that the pass had not seen and now has, and one
+-- more is counted; or nothing changed
+abbrev pub Tried : Op → History → History → ℕ → ℕ → Attempt → Type 0
+Tried op pass pass' share share' (Done number) =
+    IsNumbered pass'.seen number op × (length pass.seen < number) × (share' ≡ share + 1)
+Tried op pass pass' share share' Again = (pass' ≡ pass) × (share' ≡ share)
+Tried op pass pass' share share' Short = (pass' ≡ pass) × (share' ≡ share)
+
+-- a pass saw more and looked at nothing
+pub record OnlyLearnt (pass pass' : History) : Type 0 where
+  pub proto : pass'.proto ≡ pass.proto
+  pub later : Continues pass.seen pass'.seen
+  pub looks : pass'.looks ≡ pass.looks
+
+-- some are picked from a list, in its order
+unfoldable pub IsPickedFrom : List ℕ → List ℕ → Type 0
+IsPickedFrom picked [] = picked ≡ []
+IsPickedFrom picked (x ∷ more) =
+    IsPickedFrom picked more ⊎ ((rest : List ℕ) × (picked ≡ x ∷ rest) × IsPickedFrom rest more)
+
+-- the numbers rise, from above one bound up to another
+unfoldable pub RiseBetween : ℕ → ℕ → List ℕ → Type 0
+RiseBetween low high [] = low ≤ high
+RiseBetween low high (number ∷ more) = (low < number) × RiseBetween number high more
+
+-- What was seen only grew. The operations that were published have these numbers, which rise from above what had been
+-- seen before, and each was seen. The looks that are spoken of, by how many operations each showed, are looks that were
+-- made, each one of its own.
+pub record Sees (pass pass' : History) (published looked : List ℕ) : Type 0 where
+  pub proto : pass'.proto ≡ pass.proto
+  pub later : Continues pass.seen pass'.seen
+  pub rise : RiseBetween (length pass.seen) (length pass'.seen) published
+  pub more : List ℕ
+  pub looks : pass'.looks ≡ pass.looks ++ more
+  pub picked : IsPickedFrom looked more
+
+-- the number of the operation that a name became, if it became one
+abbrev pub published_number : Verdict → List ℕ
+published_number (verdicts.Published number) = number ∷ []
+published_number verdict = []
+
+-- the number of operations at the look that a verdict speaks of, if it speaks of one
+abbrev pub looked_number : Verdict → List ℕ
+looked_number (verdicts.Full count) = count ∷ []
+looked_number (verdicts.NotHeld count) = count ∷ []
+looked_number verdict = []
+
+-- the number of the operation by which runs went, if any did
+abbrev pub expired_number : Expiry → List ℕ
+expired_number (expiries.Expired number) = number ∷ []
+expired_number verdict = []
+
+-- the number of operations at the look that showed no run too old, if one did
+abbrev pub idle_number : Expiry → List ℕ
+idle_number (expiries.Idle count) = count ∷ []
+idle_number verdict = []
+
+-- the number of operations at a look, if one was found that shows what was looked for
+abbrev pub found_number : {E : Type 0} → Result (Option ℕ) E → List ℕ
+found_number (Ok (Some count)) = count ∷ []
+found_number (Ok None) = []
+found_number (Err e) = []
+
+-- the numbers of a verdict on a name, where there is one yet
+abbrev pub published_by : Option Verdict → List ℕ
+published_by None = []
+published_by (Some verdict) = published_number verdict
+
+abbrev pub looked_by : Option Verdict → List ℕ
+looked_by None = []
+looked_by (Some verdict) = looked_number verdict
+
+-- the numbers of a verdict on a moment, where there is one yet
+abbrev pub expired_by : Option Expiry → List ℕ
+expired_by None = []
+expired_by (Some verdict) = expired_number verdict
+
+abbrev pub idle_by : Option Expiry → List ℕ
+idle_by None = []
+idle_by (Some verdict) = idle_number verdict
+
+-- a verdict was found: each operation that was published is counted
+pub record Decides (pass pass' : History) (share share' : ℕ) (published looked : List ℕ) : Type 0 where
+  pub sees : Sees pass pass' published looked
+  pub counted : share' ≡ share + length published
+
+-- a verdict was found on a name, and the inbox is as before
+pub record DecidesName (proto : Proto) (name : List ℕ) (inbox inbox' : InboxShown) (pass pass' : History)
+    (share share' : ℕ) (verdict : Verdict) : Type 0 where
+  pub is : IfSome inbox.held (λ post. IsVerdict proto pass'.seen post.content name (taken_back name) verdict)
+  pub decides : Decides pass pass' share share' (published_number verdict) (looked_number verdict)
+  pub held_is : inbox'.held ≡ inbox.held
+  pub faults_are : inbox'.faults ≡ inbox.faults
+
+-- the inbox failed before there was a verdict, and nothing else changed
+pub record FailsBefore (inbox inbox' : InboxShown) (pass pass' : History) (share share' : ℕ) : Type 0 where
+  pub pass_is : pass' ≡ pass
+  pub share_is : share' ≡ share
+  pub held_is : inbox'.held ≡ inbox.held
+  pub faults_are : inbox'.faults ≡ one_more inbox.faults
+
+-- a verdict was found on a name, or the inbox failed before
+abbrev pub FindsVerdict : {E : Type 0} → Proto → List ℕ → InboxShown → InboxShown → History → History → ℕ → ℕ
+    → Result Verdict E → Type 0
+FindsVerdict proto name inbox inbox' pass pass' share share' result =
+    MatchResult result (DecidesName proto name inbox inbox' pass pass' share share')
+    (λ _. FailsBefore inbox inbox' pass pass' share share')

@@ -1,0 +1,57 @@
+-- What letting all runs go that get too old does.
+use Rattle.std.specs.Prelude.{◌≡◌, ℕ, ℤ, All, Bool, true, false, List, [], ◌++◌, map, Option, IfSome, IsSomeAnd}
+use Rattle.std.specs.List.{count_by, flat_map}
+use Rattle.fm_model.specs.declared.op.Op.{Op}
+use Rattle.fm_doors.specs.declared.clock.Expiry.{Expiry}
+use Rattle.fm_doors.specs.declared.clock.Expiry.TheVariants as kinds
+use Rattle.fm_doors.specs.Clock.{Moments}
+use Rattle.pub_plain.specs.History.{History}
+use Rattle.srv_ingest.specs.declared.report.ExpireReport.{ExpireReport}
+use Rattle.srv_ingest.specs.Attempts.{expired_number, idle_number, Sees}
+use Rattle.srv_ingest.specs.Ingests.{counted}
+use Rattle.srv_ingest.specs.Verdicts.{cutoff_at, IsExpiry}
+
+-- a moment that a clock gave, and its verdict
+pub record SettledMoment : Type 0 where
+  pub moment : ℤ
+  pub verdict : Expiry
+
+-- the verdict on a moment is right, by the operations that were seen
+abbrev pub IsRightAt : ℕ → ℤ → List Op → SettledMoment → Type 0
+IsRightAt keep epoch ops it = IsExpiry ops (cutoff_at it.moment keep epoch) it.verdict
+
+-- these are the moments that a clock had left, in order, and their verdicts are the new ones of the clock
+pub record AreAll (moments moments' : Moments) (settled : List SettledMoment) : Type 0 where
+  pub moments_are : map (λ it. it.moment) settled ≡ moments.left
+  pub none_left : moments'.left ≡ []
+  pub verdicts_are : moments'.verdicts ≡ moments.verdicts ++ map (λ it. it.verdict) settled
+  pub asked_is : moments'.asked ≡ moments.asked
+
+-- the numbers of the operations by which runs went
+abbrev pub expired_numbers : List SettledMoment → List ℕ
+expired_numbers settled = flat_map (λ it. expired_number it.verdict) settled
+
+-- how many operations there were at the looks that showed no run too old
+abbrev pub idle_numbers : List SettledMoment → List ℕ
+idle_numbers settled = flat_map (λ it. idle_number it.verdict) settled
+
+-- whether a verdict says that runs went
+unfoldable pub is_expired : Expiry → Bool
+is_expired (kinds.Expired number) = true
+is_expired verdict = false
+
+-- whether a verdict says that memory ran out
+unfoldable pub is_short_moment : Expiry → Bool
+is_short_moment kinds.Short = true
+is_short_moment verdict = false
+
+-- all moments of a clock were settled, once each and in order, by what has been seen by the end, and the report counts
+-- them
+pub record AllSettledWith (keep : ℕ) (epoch : ℤ) (clock clock' : Option Moments) (pass pass' : History)
+    (report : ExpireReport) : Type 0 where
+  pub settled : List SettledMoment
+  pub all : IfSome clock (λ moments. IsSomeAnd clock' (λ moments'. AreAll moments moments' settled))
+  pub each : All (IsRightAt keep epoch pass'.seen) settled
+  pub sees : Sees pass pass' (expired_numbers settled) (idle_numbers settled)
+  pub expired_is : report.expired ≡ count_by (λ it. is_expired it.verdict) settled
+  pub short_is : report.short ≡ counted (count_by (λ it. is_short_moment it.verdict) settled)

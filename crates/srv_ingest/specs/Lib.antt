@@ -1,0 +1,6 @@
+pub mod Accepted
+pub mod Attempts
+pub mod Expires
+pub mod Ingests
+pub mod Turns
+pub mod Verdicts

@@ -1,0 +1,101 @@
+-- The turn of one name or moment.
+use Rattle.std.specs.Prelude.{◌≡◌, ◌≢◌, ℕ, ℤ, ◌+◌, ◌≤◌, List, [], Option, Some, None, IfSome, Result, MatchOption, MatchResult}
+use Rattle.fm_model.specs.declared.proto.Proto.{Proto}
+use Rattle.fm_doors.specs.declared.clock.Expiry.{Expiry}
+use Rattle.fm_doors.specs.declared.inbox.Arrival.TheVariants as arrivals
+use Rattle.fm_doors.specs.declared.inbox.Verdict.{Verdict}
+use Rattle.fm_doors.specs.declared.inbox.Verdict.TheVariants as kinds
+use Rattle.fm_doors.specs.Clock.{after_moment, after_verdict, Moments}
+use Rattle.fm_doors.specs.Door.{first_of}
+use Rattle.fm_doors.specs.Inbox.{after_next, after_settle, InboxShown}
+use Rattle.fm_world.specs.Cause.{one_more}
+use Rattle.pub_plain.specs.History.{History}
+use Rattle.srv_ingest.specs.declared.report.IngestEnd.{IngestEnd}
+use Rattle.srv_ingest.specs.declared.report.IngestEnd.TheVariants as ends
+use Rattle.srv_ingest.specs.declared.report.IngestReport.{IngestReport}
+use Rattle.srv_ingest.specs.Attempts.{Decides, expired_number, idle_number, looked_number, published_number, Sees}
+use Rattle.srv_ingest.specs.Ingests.{EndsIngest, IsRight, MovesIn, Settlement}
+use Rattle.srv_ingest.specs.Verdicts.{cutoff_at, IsExpiry, taken_back}
+
+-- the next name was given, or why there is none
+abbrev pub NextName : InboxShown → InboxShown → Result (List ℕ) IngestEnd → Type 0
+NextName inbox inbox' result = MatchResult result
+    (λ name. (inbox'.held ≡ after_next (arrivals.Name name) inbox.held) × (inbox'.faults ≡ inbox.faults)
+    × IfSome inbox.held (λ post. first_of post.left ≡ Some name))
+    (λ end. (inbox'.held ≡ inbox.held) × EndsIngest inbox inbox' end)
+
+-- a report with one more name that became an operation
+unfoldable pub with_published : IngestReport → Option (List ℕ) → Verdict → IngestReport
+with_published report (Some back) (kinds.Published number) = record report { retracted = report.retracted + 1 }
+with_published report None (kinds.Published number) = record report { published = report.published + 1 }
+with_published report back verdict = report
+
+-- a report with one more name whose verdict the inbox took
+unfoldable pub with_settled : IngestReport → Verdict → IngestReport
+with_settled report (kinds.Refused code) = record report { refused = one_more report.refused }
+with_settled report (kinds.Full count) = record report { refused = one_more report.refused }
+with_settled report kinds.Short = record report { short = one_more report.short }
+with_settled report verdict = report
+
+-- how many operations a report counts
+abbrev pub operations : IngestReport → ℕ
+operations report = report.published + report.retracted
+
+-- the next name of an inbox was settled
+pub record SettlesNext (proto : Proto) (inbox inbox' : InboxShown) (pass pass' : History)
+    (report report' : IngestReport) : Type 0 where
+  pub it : Settlement
+  pub next : IfSome inbox.held (λ post. first_of post.left ≡ Some it.name)
+  pub is : IfSome inbox.held (λ post. IsRight proto post.content pass'.seen it)
+  pub sees : Sees pass pass' (published_number it.verdict) (looked_number it.verdict)
+  pub held_is : inbox'.held ≡ after_settle it.verdict (after_next (arrivals.Name it.name) inbox.held)
+  pub faults_are : inbox'.faults ≡ inbox.faults
+  pub report_is : report' ≡ with_settled (with_published report (taken_back it.name) it.verdict) it.verdict
+
+-- a report counts at most one operation more, and else nothing
+pub record GrowsByOne (report report' : IngestReport) : Type 0 where
+  pub refused_is : report'.refused ≡ report.refused
+  pub short_is : report'.short ≡ report.short
+  pub published_least : report.published ≤ report'.published
+  pub retracted_least : report.retracted ≤ report'.retracted
+  pub most : operations report' ≤ operations report + 1
+
+-- taking in stopped before the next name was settled: none was taken, or one that got no verdict
+pub record StopsNext (inbox inbox' : InboxShown) (pass pass' : History) (report report' : IngestReport)
+    (end : IngestEnd) : Type 0 where
+  pub unsettled : Option (List ℕ)
+  pub moves : MovesIn inbox.held inbox'.held [] unsettled
+  pub sees : Sees pass pass' [] []
+  pub grows : GrowsByOne report report'
+  pub same : unsettled ≡ None → report' ≡ report
+  pub whole : end ≢ ends.InboxFault → unsettled ≡ None
+  pub ends_so : EndsIngest inbox inbox' end
+
+-- the next name was settled, or taking in stopped before
+abbrev pub TakesNext : Proto → InboxShown → InboxShown → History → History → IngestReport → IngestReport
+    → Option IngestEnd → Type 0
+TakesNext proto inbox inbox' pass pass' report report' result =
+    MatchOption result (SettlesNext proto inbox inbox' pass pass' report report')
+    (StopsNext inbox inbox' pass pass' report report')
+
+-- the next moment of a clock was settled
+pub record SettlesMoment (keep : ℕ) (epoch : ℤ) (clock clock' : Option Moments) (pass pass' : History)
+    (share share' : ℕ) (verdict : Expiry) : Type 0 where
+  pub moment : ℤ
+  pub next : IfSome clock (λ moments. first_of moments.left ≡ Some moment)
+  pub is : IsExpiry pass'.seen (cutoff_at moment keep epoch) verdict
+  pub decides : Decides pass pass' share share' (expired_number verdict) (idle_number verdict)
+  pub clock_is : clock' ≡ after_verdict verdict (after_moment (Some moment) clock)
+
+-- a clock had no moment left, and nothing changed
+pub record HasNoMoment (clock clock' : Option Moments) (pass pass' : History) (share share' : ℕ) : Type 0 where
+  pub none_left : IfSome clock (λ moments. moments.left ≡ [])
+  pub clock_is : clock' ≡ clock
+  pub pass_is : pass' ≡ pass
+  pub share_is : share' ≡ share
+
+-- the next moment was settled, or none was left
+abbrev pub TakesMoment : ℕ → ℤ → Option Moments → Option Moments → History → History → ℕ → ℕ → Option Expiry → Type 0
+TakesMoment keep epoch clock clock' pass pass' share share' result =
+    MatchOption result (HasNoMoment clock clock' pass pass' share share')
+    (SettlesMoment keep epoch clock clock' pass pass' share share')

@@ -1,0 +1,81 @@
+-- What was said of names that arrived, and of moments at which runs were too old.
+use Rattle.std.specs.Prelude.{◌≡◌, ◌⊎◌, ℕ, ℤ, ◌+◌, ◌-◌, ◌≤◌, neg_ℤ, List, length, take, drop, slice_get, false, if◌then◌else◌, Option, Some, None, IsSome, codes, Result, Ok, Err, ◌-ℤ◌, pos}
+use Rattle.std.specs.Int.{int_max, int_min}
+use Rattle.std.specs.Str.{bytes_eq}
+use Rattle.fm_model.specs.declared.limit.TheConstants.{MAX_FILE_BYTES, MAX_INSTANT}
+use Rattle.fm_model.specs.declared.loaded.Loaded.{Loaded}
+use Rattle.fm_model.specs.declared.loaded.LoadFault.{LoadFault}
+use Rattle.fm_model.specs.declared.op.Op.{Op}
+use Rattle.fm_model.specs.declared.op.Op.TheVariants.{Put, Expire, Retract}
+use Rattle.fm_model.specs.declared.proto.Proto.{Proto}
+use Rattle.fm_model.specs.Code.{load_code}
+use Rattle.fm_model.specs.Collection.{coll, full_at, holds, holds_older}
+use Rattle.fm_model.specs.Load.{load_of}
+use Rattle.fm_world.specs.declared.files.Found.{Found}
+use Rattle.fm_world.specs.declared.files.Found.TheVariants as found
+use Rattle.fm_world.specs.Files.{found_of}
+use Rattle.fm_doors.specs.declared.clock.Expiry.{Expiry}
+use Rattle.fm_doors.specs.declared.clock.Expiry.TheVariants as expiries
+use Rattle.fm_doors.specs.declared.inbox.Verdict.{Verdict}
+use Rattle.fm_doors.specs.declared.inbox.Verdict.TheVariants as verdicts
+use Rattle.srv_ingest.specs.declared.file.TheConstants.{TOO_LONG}
+
+-- an operation is the one of this number, counted from 1
+pub record IsNumbered (ops : List Op) (number : ℕ) (op : Op) : Type 0 where
+  pub place : ℕ
+  pub number_is : number ≡ place + 1
+  pub op_is : slice_get ops place ≡ Some op
+
+-- the name of the file that is taken back, where a name ends in `.retract`
+unfoldable pub taken_back : List ℕ → Option (List ℕ)
+taken_back name =
+    if bytes_eq (drop (length name - 8) name) (codes ".retract") then Some (take (length name - 8) name) else None
+
+-- the file that was loaded, or the verdict that it was refused
+abbrev pub unless_refused : Result Loaded LoadFault → Result Loaded Verdict
+unless_refused (Ok file) = Ok file
+unless_refused (Err fault) = Err (verdicts.Refused (load_code fault))
+
+-- the file of the collection that is found under a name, or the verdict where there is none
+unfoldable pub file_or_verdict : Proto → List ℕ → Found → Result Loaded Verdict
+file_or_verdict proto name found.Absent = Err verdicts.Gone
+file_or_verdict proto name (found.TooLong len) = Err (verdicts.Refused TOO_LONG)
+file_or_verdict proto name (found.Content bytes) = unless_refused (load_of name bytes proto)
+
+-- a call gave the file or the verdict, or memory ran out
+abbrev pub GivesFile : Result Loaded Verdict → Result Loaded Verdict → Type 0
+GivesFile wanted (Ok file) = wanted ≡ Ok file
+GivesFile wanted (Err verdict) = (verdict ≡ verdicts.Short) ⊎ (wanted ≡ Err verdict)
+
+-- the verdict on a file, or on a name without one, by the operations that were seen
+abbrev pub IsVerdictOnFile : List Op → Result Loaded Verdict → Verdict → Type 0
+IsVerdictOnFile ops (Err given) verdict = verdict ≡ given
+IsVerdictOnFile ops (Ok file) (verdicts.Published number) = IsNumbered ops number (Put file)
+IsVerdictOnFile ops (Ok file) (verdicts.Full count) =
+    (count ≤ length ops) × IsSome (full_at (coll (take count ops)) (Put file))
+IsVerdictOnFile ops (Ok file) verdict = ⊥
+
+-- the verdict on a name that is taken back, by the operations that were seen
+abbrev pub IsVerdictOnRetraction : List Op → List ℕ → Verdict → Type 0
+IsVerdictOnRetraction ops name (verdicts.Published number) = IsNumbered ops number (Retract name)
+IsVerdictOnRetraction ops name (verdicts.NotHeld count) =
+    (count ≤ length ops) × (holds (coll (take count ops)) name ≡ false)
+IsVerdictOnRetraction ops name verdict = ⊥
+
+-- the verdict on a name by what it holds; memory may run out at any name
+unfoldable pub IsVerdict : Proto → List Op → (List ℕ → Option (List ℕ)) → List ℕ → Option (List ℕ) → Verdict → Type 0
+IsVerdict proto ops content name (Some back) verdict =
+    (verdict ≡ verdicts.Short) ⊎ IsVerdictOnRetraction ops back verdict
+IsVerdict proto ops content name None verdict = (verdict ≡ verdicts.Short)
+    ⊎ IsVerdictOnFile ops (file_or_verdict proto name (found_of MAX_FILE_BYTES (content name))) verdict
+
+-- the cutoff at a moment, from the collection's epoch: what is older than `keep` seconds goes
+abbrev pub cutoff_at : ℤ → ℕ → ℤ → ℤ
+cutoff_at moment keep epoch = int_max (neg_ℤ MAX_INSTANT) (int_min MAX_INSTANT (moment -ℤ pos keep -ℤ epoch))
+
+-- the verdict on a moment with this cutoff, by the operations that were seen; memory may run out at any moment
+abbrev pub IsExpiry : List Op → ℤ → Expiry → Type 0
+IsExpiry ops cutoff (expiries.Expired number) = IsNumbered ops number (Expire cutoff)
+IsExpiry ops cutoff (expiries.Idle count) =
+    (count ≤ length ops) × (holds_older (coll (take count ops)) cutoff ≡ false)
+IsExpiry ops cutoff expiries.Short = Unit {0}

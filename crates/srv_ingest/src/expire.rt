@@ -1,0 +1,123 @@
+//! Letting runs go that get too old.
+ghost use Rattle.std.specs.Prelude.{◌≡◌, ◌+◌, ◌≤◌, ◌-ℤ◌, length, neg_ℤ, pos, if◌then◌else◌};
+ghost use Rattle.std.specs.Int.{int_max, int_min};
+ghost use Rattle.fm_world.specs.Cause.{one_more};
+ghost use Rattle.pub_plain.specs.History.{Continues};
+ghost use Rattle.srv_ingest.specs.Attempts.{expired_number};
+ghost use Rattle.srv_ingest.specs.Expires.{AllSettledWith, is_short_moment};
+ghost use Rattle.srv_ingest.specs.Turns.{TakesMoment};
+ghost use Rattle.srv_ingest.specs.Verdicts.{cutoff_at};
+
+use crate::deciding::expire_runs;
+use crate::report::ExpireReport;
+use fm_doors::{Clock, Expiry};
+use fm_model::{MAX_INSTANT, Site};
+use pub_snap::{Desk, Name, Pass, Share};
+use std::alloc::Global;
+use std::sync::{Mutex, Wait};
+
+// A number of seconds, held to the range of instants.
+fn to_instant(seconds: i128) -> i64
+    ensures { result ≡ int_max (neg_ℤ MAX_INSTANT) (int_min MAX_INSTANT seconds) }
+{
+    let most = i128::from(MAX_INSTANT);
+    if seconds < -most {
+        -MAX_INSTANT
+    } else if most < seconds {
+        MAX_INSTANT
+    } else {
+        seconds as i64
+    }
+}
+
+// The seconds from the collection's epoch to so long before a moment.
+fn seconds_before(moment: i64, keep: u32, epoch: i64) -> i128
+    ensures { result ≡ moment -ℤ pos keep -ℤ epoch }
+{
+    i128::from(moment) - i128::from(keep) - i128::from(epoch)
+}
+
+// The cutoff at a moment, from the collection's epoch.
+fn cutoff_at(moment: i64, keep: u32, epoch: i64) -> i64
+    ensures { result ≡ cutoff_at moment keep epoch }
+{
+    to_instant(seconds_before(moment, keep, epoch))
+}
+
+// Takes the next moment, finds the verdict on it and settles it. `None` where no moment is left.
+#[tactic(auto, using(crate::proofs::MomentLemmas::moment_turns))]
+fn take_moment<N: Name, R: Wait, C: Clock>(
+    rt: &R,
+    alloc: Global,
+    desk: &Mutex<Desk<N>>,
+    pass: &mut Pass<N>,
+    clock: &mut C,
+    keep: u32,
+    site: &Site,
+    share: &mut Share<N>,
+) -> Option<Expiry>
+    ensures { TakesMoment keep site.now.epoch (C.shown clock.old) (C.shown clock.new) pass.old pass.new
+        share.old share.new result }
+{
+    let moment = clock.next()?;
+    let cutoff = cutoff_at(moment, keep, site.epoch);
+    let verdict = expire_runs(rt, alloc, desk, pass, share, cutoff);
+    clock.settle(verdict);
+    Some(verdict)
+}
+
+// The number of moments at which runs went, after this verdict. The share has counted it too, so the sum fits.
+fn count_expired<N: Name>(expired: u64, verdict: Expiry, share: &Share<N>) -> u64
+    requires { expired + length (expired_number verdict) ≤ share.now }
+    ensures { result ≡ expired + length (expired_number verdict) }
+{
+    match verdict {
+        Expiry::Expired(_) => {
+            let _most = share.count();
+            expired + 1
+        }
+        Expiry::Idle(_) | Expiry::Short => expired,
+    }
+}
+
+// The number of moments at which memory ran out, after this verdict. It stands still at its greatest number.
+#[tactic(auto, unfolding(crate::specs::Expires::is_short_moment))]
+fn count_short(short: u64, verdict: Expiry) -> u64
+    ensures { result ≡ (if is_short_moment verdict then one_more short else short) }
+{
+    match verdict {
+        Expiry::Short => short.saturating_add(1),
+        Expiry::Expired(_) | Expiry::Idle(_) => short,
+    }
+}
+
+/// Lets all runs go that are more than `keep` seconds old, at each moment that the clock gives, and returns once it gives
+/// no more. It waits for the clock, for the desk, and for readers that are inside the copy that is changed.
+#[tactic(auto, using(crate::proofs::ExpireEnd::moments))]
+pub fn expire_all<N: Name, R: Wait, C: Clock>(
+    rt: &R,
+    alloc: Global,
+    desk: &Mutex<Desk<N>>,
+    pass: &mut Pass<N>,
+    clock: &mut C,
+    keep: u32,
+    site: &Site,
+    share: &mut Share<N>,
+) -> ExpireReport
+    ensures settles { AllSettledWith keep site.now.epoch (C.shown clock.old) (C.shown clock.new)
+        pass.old pass.new result }
+    ensures counted { share.new ≡ share.old + result.expired }
+    ensures later { Continues pass.old.seen pass.new.seen }
+    ensures same_proto { pass.new.proto ≡ pass.old.proto }
+{
+    let mut expired = 0u64;
+    let mut short = 0u64;
+    for _ in rt.forever() {
+        let Some(verdict) = take_moment(rt, alloc, desk, pass, clock, keep, site, share) else {
+            return ExpireReport { expired, short };
+        };
+        expired = count_expired(expired, verdict, share);
+        short = count_short(short, verdict);
+    }
+    unreachable!()
+}
