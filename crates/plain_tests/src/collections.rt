@@ -152,31 +152,50 @@ fn times_of(did: &[Did], what: Did) -> usize {
     did.iter().filter(|one| **one == what).count()
 }
 
-#[test]
-fn every_answer_agrees_with_a_second_computation(rt: HostRuntime) -> Result<(), Fail> {
-    let alloc = rt.alloc();
-    let mut plain = collection(&rt, alloc)?;
+// Whether every answer agrees.
+fn agrees(alloc: Global, plain: &mut Plain, held: &Held) -> Result<bool, NoMemory> {
+    let revision = plain.seen();
+    let (differs, found) = plain.ask(alloc, &Compare { held })?;
+    Ok(differs.is_none() && found == revision && plain.tally() == held.tally())
+}
+
+// What the operations did, up to the first after which an answer differs.
+fn tried(rt: &impl Abort, alloc: Global, did: &mut Vec<Did>) -> Result<(), Fail> {
+    let mut plain = collection(rt, alloc)?;
     let mut held = Held::new(alloc);
-    let mut did = Vec::new(alloc);
     let mut x = 9;
     for _ in 0..OPERATIONS {
         x = next(x);
-        did.push(step(&rt, alloc, &mut plain, &mut held, x)?)?;
-        let revision = plain.seen();
-        let (differs, found) = plain.ask(alloc, &Compare { held: &held })?;
-        assert_eq!(rt; (differs, found), (None, revision));
-        assert_eq!(rt; plain.tally(), held.tally());
+        did.push(step(rt, alloc, &mut plain, &mut held, x)?)?;
+        if !agrees(alloc, &mut plain, &held)? {
+            return Ok(());
+        }
     }
-    for (what, times) in [
-        (Did::Arrived, 101),
-        (Did::ArrivedAgain, 119),
-        (Did::Expired, 15),
-        (Did::NothingExpired, 8),
-        (Did::Retracted, 27),
-        (Did::NothingRetracted, 30),
-    ] {
-        assert_eq!(rt; times_of(did.as_slice(), what), times);
-    }
+    Ok(())
+}
+
+// How often the operations did each.
+const TIMES: [(Did, usize); 6] = [
+    (Did::Arrived, 101),
+    (Did::ArrivedAgain, 119),
+    (Did::Expired, 15),
+    (Did::NothingExpired, 8),
+    (Did::Retracted, 27),
+    (Did::NothingRetracted, 30),
+];
+
+// Whether the operations did each as often.
+fn are_as_many(did: &[Did]) -> bool {
+    TIMES
+        .iter()
+        .all(|(what, times)| times_of(did, *what) == *times)
+}
+
+#[test]
+fn every_answer_agrees_with_a_second_computation(rt: HostRuntime) -> Result<(), Fail> {
+    let mut did = Vec::new(rt.alloc());
+    tried(&rt, rt.alloc(), &mut did)?;
+    assert!(rt; are_as_many(did.as_slice()));
     Ok(())
 }
 
@@ -189,39 +208,62 @@ fn numbered(alloc: Global, number: u32) -> Result<Bytes, NoMemory> {
     Ok(name)
 }
 
-#[test]
-fn one_name_more_than_4096_is_too_many_and_a_held_name_is_not(rt: HostRuntime) -> Result<(), Fail> {
-    let alloc = rt.alloc();
-    let mut plain = collection(&rt, alloc)?;
+// Puts the file of a name and a step, and returns the answer.
+fn put_named(
+    rt: &impl Abort,
+    alloc: Global,
+    plain: &mut Plain,
+    name: &[u8],
+    step: u8,
+) -> Result<Result<u64, Failure<Full>>, Fail> {
+    put(rt, alloc, plain, name, bytes(alloc, 0, step)?)
+}
+
+// Puts 4,096 files of different names. Whether each is the next operation.
+fn is_filled(rt: &impl Abort, alloc: Global, plain: &mut Plain) -> Result<bool, Fail> {
     for number in 0..4_096 {
         let name = numbered(alloc, number)?;
-        let answer = put(&rt, alloc, &mut plain, name.as_slice(), bytes(alloc, 0, 2)?)?;
-        assert_eq!(rt; answer.ok(), number.checked_add(1).map(u64::from));
+        let answer = put_named(rt, alloc, plain, name.as_slice(), 2)?;
+        if answer.ok() != number.checked_add(1).map(u64::from) {
+            return Ok(false);
+        }
     }
+    Ok(true)
+}
+
+// Whether a collection has seen so many operations, and holds 4,096 files.
+fn holds_all(plain: &Plain, seen: u64) -> bool {
     let full = Tally {
         files: 4_096,
         rows: 12_288,
         size: 1_441_792,
     };
-    assert_eq!(rt; plain.tally(), full);
-    let more = put(
-        &rt,
-        alloc,
-        &mut plain,
-        b"gfs_20240101_0000-4096",
-        bytes(alloc, 0, 2)?,
-    )?;
-    assert!(rt; is_full(&more));
-    assert_eq!(rt; (plain.seen(), plain.tally()), (4_096, full));
-    let again = put(
-        &rt,
-        alloc,
-        &mut plain,
-        b"gfs_20240101_0000-0017",
-        bytes(alloc, 0, 3)?,
-    )?;
-    assert_eq!(rt; again.ok(), Some(4_097));
-    assert_eq!(rt; plain.tally(), full);
+    plain.seen() == seen && plain.tally() == full
+}
+
+// Whether one name more is refused, and a held name isn't.
+fn is_bounded(rt: &impl Abort, alloc: Global, plain: &mut Plain) -> Result<bool, Fail> {
+    let more = put_named(rt, alloc, plain, b"gfs_20240101_0000-4096", 2)?;
+    if !is_full(&more) || !holds_all(plain, 4_096) {
+        return Ok(false);
+    }
+    let again = put_named(rt, alloc, plain, b"gfs_20240101_0000-0017", 3)?;
+    Ok(again.ok() == Some(4_097) && holds_all(plain, 4_097))
+}
+
+// Whether a collection takes 4,096 names, and no more.
+fn is_limited(rt: &impl Abort, alloc: Global) -> Result<bool, Fail> {
+    let mut plain = collection(rt, alloc)?;
+    Ok(
+        is_filled(rt, alloc, &mut plain)?
+            && holds_all(&plain, 4_096)
+            && is_bounded(rt, alloc, &mut plain)?,
+    )
+}
+
+#[test]
+fn one_name_more_than_4096_is_too_many_and_a_held_name_is_not(rt: HostRuntime) -> Result<(), Fail> {
+    assert!(rt; is_limited(&rt, rt.alloc())?);
     Ok(())
 }
 

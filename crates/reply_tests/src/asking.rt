@@ -6,7 +6,7 @@ use fm_base::{Arc, Bytes, NoMemory};
 use fm_edition::Edition;
 use fm_load::load;
 use fm_model::{Op, Proto};
-use fm_sample::{File, edition_of};
+use fm_sample::edition_of;
 use pub_plain::{Look, Plain, Query};
 use std::alloc::Global;
 use std::process::Abort;
@@ -32,11 +32,6 @@ impl Query for ItsProto {
     }
 }
 
-/// The empty collection over the sample.
-pub fn collection(alloc: Global) -> Result<Plain, Fail> {
-    collection_over(alloc, File::Sample.bytes(alloc)?)
-}
-
 /// The empty collection whose prototype is of these bytes.
 pub fn collection_over(alloc: Global, bytes: Bytes) -> Result<Plain, Fail> {
     match edition_of(alloc, bytes) {
@@ -58,37 +53,6 @@ pub fn put_bytes(
     let file = load(alloc, name, bytes, proto.get())?;
     plain.publish(alloc, Op::Put(Arc::new(alloc, file)?))?;
     Ok(())
-}
-
-/// Puts the run of 2024-01-01T00:00:00Z of a file.
-pub fn put_first(
-    rt: &impl Abort,
-    alloc: Global,
-    plain: &mut Plain,
-    file: File,
-) -> Result<(), Fail> {
-    put_bytes(
-        rt,
-        alloc,
-        plain,
-        b"gfs_20240101_0000.nc",
-        file.bytes(alloc)?,
-    )
-}
-
-/// The collection over the sample with its run of 00:00.
-pub fn first_run(rt: &impl Abort, alloc: Global) -> Result<Plain, Fail> {
-    let mut plain = collection(alloc)?;
-    put_first(rt, alloc, &mut plain, File::Sample)?;
-    Ok(plain)
-}
-
-/// The same with the run of 06:00.
-pub fn both_runs(rt: &impl Abort, alloc: Global) -> Result<Plain, Fail> {
-    let mut plain = first_run(rt, alloc)?;
-    let bytes = File::Later.bytes(alloc)?;
-    put_bytes(rt, alloc, &mut plain, b"gfs_20240101_0600.nc", bytes)?;
-    Ok(plain)
 }
 
 /// A request with this method; whether the connection ends after it, and whether it has a body.

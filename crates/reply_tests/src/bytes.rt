@@ -1,44 +1,17 @@
 //! Bytes and texts, whose data isn't of whole words.
 
-use crate::asking::{collection_over, get, plan_for, put_first, shown};
+use crate::tables::{State, Table, first_other};
 use fm_sample::File;
-use pub_plain::Plain;
-use std::alloc::Global;
-use std::process::Abort;
 use std::test::Fail;
 
-// The collection of each kind, with its first run.
-fn kinds(rt: &impl Abort, alloc: Global) -> Result<Plain, Fail> {
-    let mut plain = collection_over(alloc, File::Kinds.bytes(alloc)?)?;
-    put_first(rt, alloc, &mut plain, File::Kinds)?;
-    Ok(plain)
-}
-
 #[test]
-fn an_array_of_bytes_ends_in_zero_bytes(rt: HostRuntime) -> Result<(), Fail> {
-    let alloc = rt.alloc();
-    let mut plain = kinds(&rt, alloc)?;
-    let plan = plan_for(
-        alloc,
-        &mut plain,
-        get(),
-        b"/thredds/dodsC/gfs/gfs_best.ncd.dods?five",
-    )?;
-    assert!(&rt; shown(&rt, alloc, &plan)?.as_slice() == BYTES.as_bytes());
-    Ok(())
-}
-
-#[test]
-fn texts_go_without_their_zero_bytes(rt: HostRuntime) -> Result<(), Fail> {
-    let alloc = rt.alloc();
-    let mut plain = kinds(&rt, alloc)?;
-    let plan = plan_for(
-        alloc,
-        &mut plain,
-        get(),
-        b"/thredds/dodsC/gfs/gfs_best.ncd.dods?c2.c2",
-    )?;
-    assert!(&rt; shown(&rt, alloc, &plan)?.as_slice() == TEXTS.as_bytes());
+fn bytes_end_in_zero_bytes_and_texts_go_without_theirs(rt: HostRuntime) -> Result<(), Fail> {
+    let rows = [
+        ("/thredds/dodsC/gfs/gfs_best.ncd.dods?five", BYTES),
+        ("/thredds/dodsC/gfs/gfs_best.ncd.dods?c2.c2", TEXTS),
+    ];
+    let table = Table::of(State::First(File::Kinds), &rows);
+    assert_eq!(&rt; first_other(&rt, rt.alloc(), table)?, None);
     Ok(())
 }
 

@@ -16,3 +16,5 @@ mod overlap;
 mod replies;
 #[cfg(test)]
 mod rows;
+#[cfg(test)]
+mod tables;

@@ -29,6 +29,17 @@ Dataset {
 } gfs_best.ncd;
 ";
 
+/// The front of that reply up to the structure text.
+pub const STRUCTURE_HEAD: &str = "HTTP/1.1 200 OK\r
+XDODS-Server: dods/3.2\r
+Content-Description: dods_dds\r
+Content-Type: text/plain\r
+X-Collection-Revision: 1\r
+Content-Length: 369\r
+Connection: keep-alive\r
+\r
+";
+
 /// The reply before any run.
 pub const NO_ROWS: &str = "HTTP/1.1 404 Not Found\r
 XDODS-Server: dods/3.2\r
