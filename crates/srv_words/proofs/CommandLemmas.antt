@@ -9,7 +9,7 @@ use Rattle.clap.specs.declared.parser.matches.ArgMatches.{ArgMatches}
 use Rattle.clap.specs.Faults.{fault_of, is_free_app, is_simple_and_free}
 use Rattle.clap.specs.Simple.{App, HasMatchesOf, built, is_simple, subcommand_of, subcommand_rows_of}
 use Rattle.clap.specs.Walk.{Text}
-use Rattle.srv_words.specs.Command.{check, fmrcd, load, once, used, with_site}
+use Rattle.srv_words.specs.Command.{check, fmrcd, load, once, serve, used, with_clock, with_door, with_site}
 
 -- a result whose value is seen as one thing is seen as what equals it
 pub ok_as : {A E : Type 0} {x y : App} (f : A → App) (r : Result A E) → x ≡ y → IfOk r (λ k. f k ≡ x)
@@ -20,7 +20,7 @@ pub neither : (a b c : Bool) → c ≡ (a || b) → a ≡ false → b ≡ false 
 neither a b c is first second = is ∙ ap (λ (x : Bool). x || b) first ∙ second
 
 pub fmrcd_is_free : is_simple_and_free fmrcd ≡ true
-unfolding fmrcd once check load with_site
+unfolding fmrcd once check load serve with_site with_door with_clock
 fmrcd_is_free = refl
 
 pub fmrcd_is_simple : is_simple fmrcd ≡ true

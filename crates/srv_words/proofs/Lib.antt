@@ -2,7 +2,11 @@ pub mod CommandLemmas
 pub mod FoundLemmas
 pub mod JobLemmas
 pub mod NumberLemmas
+pub mod OnceLemmas
 pub mod RowLemmas
+pub mod ServeLemmas
+pub mod SiteLemmas
+pub mod SomeLemmas
 pub mod StepLemmas
 pub mod TextLemmas
 pub mod ValueLemmas

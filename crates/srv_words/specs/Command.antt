@@ -23,6 +23,15 @@ unfoldable pub with_site : App → App
 with_site a = with_rule (with_rule (with_rule (with_rule a (option (codes "name") true)) (option (codes "proto") true))
     (option (codes "epoch") false)) (option (codes "mark") false)
 
+-- with the options of a door: `--listen ADDRESS [--workers K] [--connections C]`
+unfoldable pub with_door : App → App
+with_door a = with_rule (with_rule (with_rule a (option (codes "listen") true)) (option (codes "workers") false))
+    (option (codes "connections") false)
+
+-- with the options of a clock: `[--keep S] [--ticks T]`
+unfoldable pub with_clock : App → App
+with_clock a = with_rule (with_rule a (option (codes "keep") false)) (option (codes "ticks") false)
+
 -- `once --name NAME --proto PROTO [--epoch INSTANT] [--mark MARK] STEP..`
 unfoldable pub once : App
 once = with_rule (with_site (new_app (codes "once"))) (words (codes "STEP"))
@@ -35,13 +44,17 @@ check = with_rule (new_app (codes "check")) (word (codes "FILE"))
 unfoldable pub load : App
 load = with_rule (with_rule (new_app (codes "load")) (word (codes "SEED"))) (word (codes "FILES"))
 
+-- `serve` with the options of a collection, a door and a clock, and then `INBOX..`
+unfoldable pub serve : App
+serve = with_rule (with_clock (with_door (with_site (new_app (codes "serve"))))) (words (codes "INBOX"))
+
 -- a command that wants a subcommand, and is given the words after the program's name
 abbrev pub top : App
 top = on_top (λ s. record s { no_binary_name = true; subcommand_required = true }) (new_app (codes "fmrcd"))
 
 -- one of these subcommands
 unfoldable pub fmrcd : App
-fmrcd = with_subcommand (with_subcommand (with_subcommand top once.top) check.top) load.top
+fmrcd = with_subcommand (with_subcommand (with_subcommand (with_subcommand top once.top) check.top) load.top) serve.top
 
 -- whether the command takes the words
 unfoldable pub is_taken : List Text → Bool

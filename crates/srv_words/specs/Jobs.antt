@@ -7,10 +7,11 @@ use Rattle.clap.specs.Walk.{Row, Text, all_of, first_of}
 use Rattle.fm_model.specs.declared.site.Site.{Site}
 use Rattle.fm_model.specs.Site.{IsSite}
 use Rattle.srv_words.specs.declared.job.Job.{Job}
-use Rattle.srv_words.specs.declared.job.Job.TheVariants.{Once, Check, Load}
+use Rattle.srv_words.specs.declared.job.Job.TheVariants.{Once, Check, Load, Serve}
 use Rattle.srv_words.specs.declared.load.TheConstants.{MAX_MADE, MAX_SEED}
 use Rattle.srv_words.specs.Command.{is_taken, used}
 use Rattle.srv_words.specs.Reads.{◌>>=◌, if_so}
+use Rattle.srv_words.specs.Serve.{IsServing, doors_of, inboxes_of, serving_of, ticking_of}
 use Rattle.srv_words.specs.Steps.{IsStep, steps_of}
 use Rattle.srv_words.specs.Values.{epoch_of, is_collection_name, mark_of, number_in}
 
@@ -54,11 +55,22 @@ load_of rows = do
   files ← option_and_then (number_in 1 MAX_MADE) (first_of (codes "FILES") rows)
   Some (Load seed files)
 
+-- what `serve` does
+unfoldable pub serve_of : List Row → Option Job
+serve_of rows = do
+  site ← site_of rows
+  proto ← first_of (codes "proto") rows
+  doors ← doors_of rows
+  ticking ← ticking_of rows
+  inboxes ← inboxes_of rows
+  Some (Serve (serving_of site proto doors ticking inboxes))
+
 -- what a subcommand does with its matches
 unfoldable pub job_in : Text → List Row → Option Job
 job_in name rows = if bytes_eq name (codes "once") then once_of rows
     else (if bytes_eq name (codes "check") then check_of rows
-    else (if bytes_eq name (codes "load") then load_of rows else None))
+    else (if bytes_eq name (codes "load") then load_of rows
+    else (if bytes_eq name (codes "serve") then serve_of rows else None)))
 
 -- the job that the words are: they are UTF-8, the command takes them, and each value has its form
 unfoldable pub job_of : List (List ℕ) → Option Job
@@ -66,8 +78,9 @@ job_of words = if list_all is_utf8 words && is_taken words
     then option_and_then (λ (found : Text × List Row). job_in found.0 found.1) (used words) else None
 
 -- a job has a site that a collection may have, with a mark of at most 65 bytes, and one step at least; or it makes 1 to
--- 400 files
+-- 400 files; or it serves what may be served
 abbrev pub IsJob : Job → Type 0
 IsJob (Once site proto steps) = IsSite site × (length site.mark ≤ 65) × (0 < length steps) × All IsStep steps
 IsJob (Check path) = Unit {0}
 IsJob (Load seed files) = (seed < 2 ^ 32) × (0 < files) × (files ≤ MAX_MADE)
+IsJob (Serve serving) = IsServing serving

@@ -5,36 +5,14 @@ ghost use Rattle.clap.specs.Walk.{rule_of};
 ghost use Rattle.clap.specs.declared.builder.command.Command.TheViews.{out-Command};
 ghost use Rattle.srv_words.specs.Command as spec;
 
+use crate::help::{
+    CHECK_HELP, CONNECTIONS_HELP, EPOCH_HELP, FILE_HELP, FILES_HELP, INBOX_HELP, KEEP_HELP,
+    LISTEN_HELP, LOAD_HELP, MARK_HELP, NAME_HELP, ONCE_HELP, PROTO_HELP, SEED_HELP, SERVE_HELP,
+    STEP_HELP, TICKS_HELP, WORKERS_HELP,
+};
 use clap::{Arg, ArgAction, Command};
 use fm_base::NoMemory;
 use std::alloc::Global;
-
-const NAME_HELP: &str = "The collection's name: 1 to 64 letters, digits, `_` and `-`";
-
-const PROTO_HELP: &str = "The path of the file that says what the views look like";
-
-const EPOCH_HELP: &str =
-    "YYYY-MM-DDThh:mm:ssZ, of the years 100 to 9900 [default: 2020-01-01T00:00:00Z]";
-
-const MARK_HELP: &str =
-    "What stands in a file's name before its run: at most 64 bytes [default: the name and `_`]";
-
-const STEP_HELP: &str =
-    "put:PATH, expire:YYYY-MM-DDThh:mm:ssZ, retract:NAME or ask:NUMBER, of 1 to 10000 requests";
-
-const FILE_HELP: &str = "The path of a netCDF classic file";
-
-const SEED_HELP: &str = "A number from 0 to 4294967295";
-
-const FILES_HELP: &str = "How many files: a number from 1 to 400";
-
-const ONCE_HELP: &str =
-    "Does the steps in order on a collection, with requests from standard input";
-
-const CHECK_HELP: &str = "Says whether a file is one that can be read, or its first fault";
-
-const LOAD_HELP: &str =
-    "Makes files from a seed, reads them through four views, and sums the bytes";
 
 // An option's word, and what the help calls its value.
 fn named<'a>(arg: Arg<'a>, id: &'a str, value: &'a str) -> Arg<'a>
@@ -116,6 +94,29 @@ fn with_site<'a>(alloc: Global, command: Command<'a>) -> Result<Command<'a>, NoM
     with_option(alloc, command, "mark", "MARK", MARK_HELP, false)
 }
 
+// The options of a door.
+#[tactic(auto, unfolding(crate::specs::Command::with_door))]
+fn with_door<'a>(alloc: Global, command: Command<'a>) -> Result<Command<'a>, NoMemory>
+    requires { (out-Command command).has_globals ≡ false }
+    ensures app { IfOk result (λ c. app_of c ≡ spec.with_door (app_of command.entry)) }
+    ensures plain { IfOk result (λ c. (out-Command c).has_globals ≡ false) }
+{
+    let command = with_option(alloc, command, "listen", "ADDRESS", LISTEN_HELP, true)?;
+    let command = with_option(alloc, command, "workers", "K", WORKERS_HELP, false)?;
+    with_option(alloc, command, "connections", "C", CONNECTIONS_HELP, false)
+}
+
+// The options of a clock.
+#[tactic(auto, unfolding(crate::specs::Command::with_clock))]
+fn with_clock<'a>(alloc: Global, command: Command<'a>) -> Result<Command<'a>, NoMemory>
+    requires { (out-Command command).has_globals ≡ false }
+    ensures app { IfOk result (λ c. app_of c ≡ spec.with_clock (app_of command.entry)) }
+    ensures plain { IfOk result (λ c. (out-Command c).has_globals ≡ false) }
+{
+    let command = with_option(alloc, command, "keep", "S", KEEP_HELP, false)?;
+    with_option(alloc, command, "ticks", "T", TICKS_HELP, false)
+}
+
 #[tactic(auto, unfolding(crate::specs::Command::once))]
 fn once<'a>(alloc: Global) -> Result<Command<'a>, NoMemory>
     ensures app { IfOk result (λ c. app_of c ≡ spec.once) }
@@ -143,6 +144,18 @@ fn load<'a>(alloc: Global) -> Result<Command<'a>, NoMemory>
     let command = Command::new(alloc, "load").about(LOAD_HELP);
     let command = with_arg(command, word(alloc, "SEED", SEED_HELP))?;
     with_arg(command, word(alloc, "FILES", FILES_HELP))
+}
+
+#[tactic(auto, unfolding(crate::specs::Command::serve))]
+fn serve<'a>(alloc: Global) -> Result<Command<'a>, NoMemory>
+    ensures app { IfOk result (λ c. app_of c ≡ spec.serve) }
+    ensures plain { IfOk result (λ c. (out-Command c).has_globals ≡ false) }
+{
+    let command = Command::new(alloc, "serve").about(SERVE_HELP);
+    let command = with_site(alloc, command)?;
+    let command = with_door(alloc, command)?;
+    let command = with_clock(alloc, command)?;
+    with_arg(command, words(alloc, "INBOX", INBOX_HELP))
 }
 
 // A command with one more subcommand.
@@ -179,5 +192,6 @@ pub(crate) fn fmrcd<'a>(alloc: Global) -> Result<Command<'a>, NoMemory>
 {
     let command = with_subcommand(top(alloc)?, once(alloc)?)?;
     let command = with_subcommand(command, check(alloc)?)?;
-    with_subcommand(command, load(alloc)?)
+    let command = with_subcommand(command, load(alloc)?)?;
+    with_subcommand(command, serve(alloc)?)
 }

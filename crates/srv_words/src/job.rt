@@ -20,6 +20,25 @@ pub enum Step {
     Ask(u32),
 }
 
+/// What `serve` is asked for. Paths, folders and the address are as they stand in the words.
+#[derive(Debug, Drop)]
+pub struct Serving {
+    pub site: Site,
+    /// The path of the prototype.
+    pub proto: Bytes,
+    /// The address at which requests are taken.
+    pub listen: Bytes,
+    pub workers: u32,
+    /// After how many connections a worker ends; 0 is without end.
+    pub connections: u32,
+    /// For how many seconds a run is kept; there is no clock where that isn't said.
+    pub keep: Option<u32>,
+    /// After how many ticks the clock ends; 0 is without end.
+    pub ticks: u32,
+    /// The folders that new files come into.
+    pub inboxes: List<Bytes>,
+}
+
 /// What the words ask for. Paths are as they stand in the words.
 #[derive(Debug, Drop)]
 pub enum Job {
@@ -38,4 +57,6 @@ pub enum Job {
         seed: u32,
         files: u32,
     },
+    /// A collection is served.
+    Serve(Serving),
 }

@@ -3,16 +3,19 @@
 
 mod check;
 mod command;
+mod help;
 mod job;
 mod load;
 mod matches;
 mod number;
 mod once;
 mod read;
+mod serve;
+mod site;
 mod steps;
 mod usage;
 mod values;
 
-pub use job::{BadWords, Job, Step};
+pub use job::{BadWords, Job, Serving, Step};
 pub use read::read_job;
 pub use usage::usage_of;

@@ -14,6 +14,7 @@ use crate::job::{BadWords, Job};
 use crate::load::load_job;
 use crate::matches::{parsed, subcommand_of};
 use crate::once::once_job;
+use crate::serve::serve_job;
 use clap::ArgMatches;
 use fm_base::{Bytes, Fail, List};
 use std::alloc::Global;
@@ -49,6 +50,8 @@ fn job_in(alloc: Global, name: &str, matches: &ArgMatches<'_>) -> Result<Job, Fa
         check_job(alloc, matches)
     } else if name == "load" {
         load_job(matches)
+    } else if name == "serve" {
+        serve_job(alloc, matches)
     } else {
         Err(Fail::Fault(BadWords))
     }

@@ -1,7 +1,8 @@
 //! Checks of command lines. `|` stands between two words.
 
 use fm_base::{Bytes, Fail, List, NoMemory, put_decimal};
-use srv_words::{Job, Step, read_job};
+use fm_model::Site;
+use srv_words::{Job, Serving, Step, read_job};
 use std::alloc::Global;
 use std::process::Abort;
 
@@ -42,34 +43,71 @@ fn put_step(alloc: Global, step: &Step, out: &mut Bytes) -> Result<(), NoMemory>
     }
 }
 
-// A job as a text: its name, epoch, mark and prototype, and its steps; its path; or its two numbers.
+fn put_text(text: &Bytes, out: &mut Bytes) -> Result<(), NoMemory> {
+    out.append(b" [")?;
+    out.append(text.as_slice())?;
+    out.append(b"]")
+}
+
+fn put_number(alloc: Global, front: &[u8], number: u32, out: &mut Bytes) -> Result<(), NoMemory> {
+    out.append(front)?;
+    put_decimal(alloc, i128::from(number), out)
+}
+
+// A site's name, epoch and mark.
+fn put_site(alloc: Global, site: &Site, out: &mut Bytes) -> Result<(), NoMemory> {
+    out.append(site.name.as_slice())?;
+    out.append(b" ")?;
+    put_decimal(alloc, i128::from(site.epoch), out)?;
+    put_text(&site.mark, out)
+}
+
+// The numbers of `serve`.
+fn put_counts(alloc: Global, serving: &Serving, out: &mut Bytes) -> Result<(), NoMemory> {
+    put_number(alloc, b" workers ", serving.workers, out)?;
+    put_number(alloc, b" connections ", serving.connections, out)?;
+    match serving.keep {
+        Some(seconds) => put_number(alloc, b" keep ", seconds, out)?,
+        None => out.append(b" no clock")?,
+    }
+    put_number(alloc, b" ticks ", serving.ticks, out)
+}
+
+// The site, prototype, address, numbers and folders of `serve`.
+fn put_serving(alloc: Global, serving: &Serving, out: &mut Bytes) -> Result<(), NoMemory> {
+    put_site(alloc, &serving.site, out)?;
+    put_text(&serving.proto, out)?;
+    put_text(&serving.listen, out)?;
+    put_counts(alloc, serving, out)?;
+    for inbox in serving.inboxes.as_slice() {
+        put_text(inbox, out)?;
+    }
+    Ok(())
+}
+
+// A job as a text: its site and prototype, and its steps; its path; its two numbers; or what is served.
 fn put_job(alloc: Global, job: &Job, out: &mut Bytes) -> Result<(), NoMemory> {
     match job {
         Job::Once { site, proto, steps } => {
             out.append(b"once ")?;
-            out.append(site.name.as_slice())?;
-            out.append(b" ")?;
-            put_decimal(alloc, i128::from(site.epoch), out)?;
-            out.append(b" [")?;
-            out.append(site.mark.as_slice())?;
-            out.append(b"] [")?;
-            out.append(proto.as_slice())?;
-            out.append(b"]")?;
+            put_site(alloc, site, out)?;
+            put_text(proto, out)?;
             for step in steps.as_slice() {
                 put_step(alloc, step, out)?;
             }
             Ok(())
         }
         Job::Check { path } => {
-            out.append(b"check [")?;
-            out.append(path.as_slice())?;
-            out.append(b"]")
+            out.append(b"check")?;
+            put_text(path, out)
         }
         Job::Load { seed, files } => {
-            out.append(b"load ")?;
-            put_decimal(alloc, i128::from(*seed), out)?;
-            out.append(b" ")?;
-            put_decimal(alloc, i128::from(*files), out)
+            put_number(alloc, b"load ", *seed, out)?;
+            put_number(alloc, b" ", *files, out)
+        }
+        Job::Serve(serving) => {
+            out.append(b"serve ")?;
+            put_serving(alloc, serving, out)
         }
     }
 }

@@ -7,6 +7,8 @@ mod checks;
 #[cfg(test)]
 mod refused;
 #[cfg(test)]
+mod served;
+#[cfg(test)]
 mod taken;
 #[cfg(test)]
 mod usage;

@@ -9,7 +9,6 @@ const COMMANDS: &str = "\
 once
 check
 load
-serve|--name|gfs|--proto|A|--listen|127.0.0.1:80|in
 Once|--name|gfs|--proto|A|ask:1
 on|--name|gfs|--proto|A|ask:1
 once |--name|gfs|--proto|A|ask:1

@@ -6,7 +6,7 @@ use srv_words::usage_of;
 
 // Command lines that are no job, and a part of what is told of each.
 const TOLD: &str = "\
-serve => unrecognized subcommand 'serve'
+server => unrecognized subcommand 'server'
 check => Usage: fmrcd check <FILE>
 check|A|B => unexpected argument 'B' found
 load|007|1 => Usage: fmrcd load <SEED> <FILES>
@@ -14,6 +14,9 @@ load|007|1 => A number from 0 to 4294967295
 load|007|1 => error: a value is out of its form
 once|--help => --name <NAME>
 once|--help => 1 to 64 letters, digits
+serve => Usage: fmrcd serve
+serve|--help => --listen <ADDRESS>
+serve|--help => a number from 1 to 16 [default: 4]
 ";
 
 #[test]

@@ -1,7 +1,7 @@
 -- One subcommand after the other.
 use Rattle.std.proofs.Common.{◌∙◌, ap}
 use Rattle.clap.specs.Simple.{App, app_of, with_subcommand}
-use Rattle.srv_words.specs.Command.{check, fmrcd, load, once}
+use Rattle.srv_words.specs.Command.{check, fmrcd, load, once, serve}
 use Rattle.srv_words.proofs.CommandLemmas.{ok_as}
 use Rattle.srv_words.proofs.command.fmrcd.Goals as goal
 
@@ -13,6 +13,9 @@ returns c =
     let second = c.in_ok-command-2.ensures
     ∙ ap (λ (s : App). with_subcommand (app_of c.in_ok-command.command) s.top) c.in_ok-check.ensures.app
     ∙ ap (λ (a : App). with_subcommand a check.top) first in
-    let third = ap (λ (s : App). with_subcommand (app_of c.in_ok-command-2.command) s.top) c.in_ok-load.ensures.app
+    let third = c.in_ok-command-3.ensures
+    ∙ ap (λ (s : App). with_subcommand (app_of c.in_ok-command-2.command) s.top) c.in_ok-load.ensures.app
     ∙ ap (λ (a : App). with_subcommand a load.top) second in
-    ok_as app_of c.with_subcommand-3.result third c.with_subcommand-3.ensures
+    let fourth = ap (λ (s : App). with_subcommand (app_of c.in_ok-command-3.command) s.top) c.in_ok-serve.ensures.app
+    ∙ ap (λ (a : App). with_subcommand a serve.top) third in
+    ok_as app_of c.with_subcommand-4.result fourth c.with_subcommand-4.ensures

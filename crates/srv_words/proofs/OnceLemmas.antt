@@ -1,0 +1,107 @@
+-- Each value of `once` lies in its range.
+use Rattle.std.proofs.Common.{◌≡◌, ◌+◌, ◌<◌, ◌≤◌, ℕ, ℤ, Bool, true, false, not, List, [], ◌∷◌, ◌++◌, length, Some, All, refl, ap, subst, arith, codes, length-append}
+use Rattle.std.specs.Prelude.{nat_lt, ◌-ℤ◌}
+use Rattle.std.proofs.lemmas.Bool.{ltb-true}
+use Rattle.std.proofs.lemmas.List.Elements.{All-nil, All-push}
+use Rattle.std.specs.Option.{option_and_then}
+use Rattle.fm_base.specs.Instant.{instant_of}
+use Rattle.fm_model.specs.declared.site.Site.{Site}
+use Rattle.fm_model.specs.LoadTimes.{is_instant, IsInstant}
+use Rattle.fm_model.proofs.RunLemmas.{IsInstant-from_test}
+use Rattle.clap.specs.Walk.{Row, Text, all_of, first_of}
+use Rattle.srv_words.specs.declared.job.Job.{Job}
+use Rattle.srv_words.specs.declared.job.Job.TheVariants.{Once}
+use Rattle.srv_words.specs.declared.job.Step.{Step}
+use Rattle.srv_words.specs.declared.job.Step.TheVariants.{Put, Expire, Retract, Ask}
+use Rattle.srv_words.specs.declared.steps.TheConstants.{MAX_ASKED}
+use Rattle.srv_words.specs.Jobs.{IsJob, site_of, step_words_of, once_of}
+use Rattle.srv_words.specs.Reads.{◌>>=◌, if_so}
+use Rattle.srv_words.specs.Steps.{IsStep, asked_of, cutoff_of, step_of, steps_from, steps_of}
+use Rattle.srv_words.specs.Values.{from_epoch, if_instant, number_in, rest_of}
+use Rattle.srv_words.proofs.SomeLemmas.{step_some, then_some, map_some, or_some, so_some, some_is, number_in-some, rest_of-some}
+use Rattle.srv_words.proofs.SiteLemmas.{site_of-some}
+
+cutoff_of-some : (epoch : ℤ) (word : List ℕ) (cutoff : ℤ) → cutoff_of epoch word ≡ Some cutoff → IsInstant cutoff
+unfolding cutoff_of from_epoch if_instant
+cutoff_of-some epoch word cutoff is =
+    let read = then_some (from_epoch epoch) (option_and_then instant_of (rest_of (codes "expire:") word)) cutoff is in
+    let there = so_some (is_instant (read.0 -ℤ epoch)) (read.0 -ℤ epoch) cutoff read.2 in
+    subst IsInstant there.1 (IsInstant-from_test (read.0 -ℤ epoch) (negated _ there.0))
+  where
+    negated : (b : Bool) → b ≡ true → not b ≡ false
+    negated true is = refl
+    negated false is = absurd cc
+
+asked_of-some : (word : List ℕ) (n : ℕ) → asked_of word ≡ Some n → (0 < n) × (n ≤ MAX_ASKED)
+unfolding asked_of
+asked_of-some word n is =
+    let read = then_some (number_in 1 MAX_ASKED) (rest_of (codes "ask:") word) n is in
+    let number = number_in-some 1 MAX_ASKED n read.0 read.2 in
+    (omega (arith, number.0), number.1)
+
+step_of-some : (epoch : ℤ) (word : List ℕ) (step : Step) → step_of epoch word ≡ Some step → IsStep step
+unfolding step_of
+step_of-some epoch word step is =
+    or_some _ _ step is
+    (λ first.
+    let read = map_some Put (rest_of (codes "put:") word) step first in
+    subst IsStep read.2 (rest_of-some (codes "put:") word read.0 read.1))
+    (λ others. or_some _ _ step others
+    (λ first.
+    let read = map_some Expire (cutoff_of epoch word) step first in
+    subst IsStep read.2 (cutoff_of-some epoch word read.0 read.1))
+    (λ others. or_some _ _ step others
+    (λ first.
+    let read = map_some Retract (rest_of (codes "retract:") word) step first in
+    subst IsStep read.2 (rest_of-some (codes "retract:") word read.0 read.1))
+    (λ last.
+    let read = map_some Ask (asked_of word) step last in
+    subst IsStep read.2 (asked_of-some word read.0 read.1))))
+
+-- all steps are sound, and there are as many as words
+steps_from-some : (epoch : ℤ) (found : List Step) (words : List (List ℕ)) (steps : List Step)
+    → steps_from epoch found words ≡ Some steps → All IsStep found
+    → All IsStep steps × (length found + length words ≡ length steps)
+unfolding steps_from
+steps_from-some epoch found [] steps is sound =
+    let same : found ≡ steps = some_is found steps is in
+    (subst (All IsStep) same sound, let long : length found ≡ length steps = ap length same in omega (arith, long))
+steps_from-some epoch found (word ∷ words) steps is sound =
+    let read = step_some (step_of epoch word) (λ (step : Step). steps_from epoch (found ++ step ∷ []) words) steps is in
+    let more = steps_from-some epoch (found ++ read.0 ∷ []) words steps read.2
+    (All-push IsStep found read.0 sound (step_of-some epoch word read.0 read.1)) in
+    (more.0, omega (arith, more.1, length-append found (read.0 ∷ [])))
+
+steps_of-some : (epoch : ℤ) (words : List (List ℕ)) (steps : List Step) → steps_of epoch words ≡ Some steps
+    → All IsStep steps × (length words ≡ length steps)
+unfolding steps_of
+steps_of-some epoch words steps is =
+    let there = steps_from-some epoch [] words steps is (All-nil IsStep) in
+    (there.0, omega (arith, there.1))
+
+step_words_of-some : (rows : List Row) (words : List Text) → step_words_of rows ≡ Some words → 0 < length words
+unfolding step_words_of
+step_words_of-some rows words is =
+    let read = step_some (all_of (codes "STEP") rows) (λ (list : List Text). if_so (nat_lt 0 (length list)) list) words is in
+    let there = so_some (nat_lt 0 (length read.0)) read.0 words read.2 in
+    subst (λ (list : List Text). 0 < length list) there.1 (ltb-true 0 (length read.0) there.0)
+
+-- the values of `once` lie in their ranges
+pub once_of-some : (rows : List Row) (job : Job) → once_of rows ≡ Some job → IsJob job
+unfolding once_of
+once_of-some rows job is =
+    let site = step_some (site_of rows) (λ (site : Site).
+    first_of (codes "proto") rows >>= λ (proto : Text).
+    step_words_of rows >>= λ (list : List Text).
+    steps_of site.epoch list >>= λ (steps : List Step). Some (Once site proto steps)) job is in
+    let proto = step_some (first_of (codes "proto") rows) (λ (proto : Text).
+    step_words_of rows >>= λ (list : List Text).
+    steps_of site.0.epoch list >>= λ (steps : List Step). Some (Once site.0 proto steps)) job site.2 in
+    let list = step_some (step_words_of rows) (λ (list : List Text).
+    steps_of site.0.epoch list >>= λ (steps : List Step). Some (Once site.0 proto.0 steps)) job proto.2 in
+    let steps = step_some (steps_of site.0.epoch list.0) (λ (steps : List Step).
+    Some (Once site.0 proto.0 steps)) job list.2 in
+    let sound = site_of-some rows site.0 site.1 in
+    let some = step_words_of-some rows list.0 list.1 in
+    let each = steps_of-some site.0.epoch list.0 steps.0 steps.1 in
+    subst IsJob (some_is (Once site.0 proto.0 steps.0) job steps.2) (sound.0, sound.1, omega (arith, some, each.1), each.0)

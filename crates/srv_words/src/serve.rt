@@ -1,0 +1,152 @@
+//! The job of `serve`.
+ghost use Rattle.std.specs.Prelude.{◌≡◌, IfOk, option_map, map};
+ghost use Rattle.clap.specs.Matches.{found_of};
+ghost use Rattle.clap.specs.Walk.{rows_of};
+ghost use Rattle.srv_words.specs.Jobs as jobs;
+ghost use Rattle.srv_words.specs.Reads.{Reads};
+ghost use Rattle.srv_words.specs.Serve as spec;
+
+use crate::job::{BadWords, Job, Serving};
+use crate::matches::{text_of, texts_of};
+use crate::number::number_in;
+use crate::site::site_of;
+use clap::ArgMatches;
+use fm_base::{Bytes, Fail, List, NoMemory};
+use std::alloc::Global;
+
+/// The most workers.
+pub(crate) const MAX_WORKERS: u32 = 16;
+
+/// How many workers there are where the words don't say it.
+pub(crate) const DEFAULT_WORKERS: u32 = 4;
+
+/// The most connections of a worker, and the most ticks.
+pub(crate) const MAX_COUNT: u32 = 4_294_967_295;
+
+/// The most seconds for which a run is kept.
+pub(crate) const MAX_KEPT: u32 = 1_073_741_823;
+
+/// The most folders.
+pub(crate) const MAX_INBOXES: u32 = 8;
+
+// Where connections are taken, how many workers take them, and how many each.
+#[derive(Drop)]
+struct Doors {
+    listen: Bytes,
+    workers: u32,
+    connections: u32,
+}
+
+// For how many seconds a run is kept, and after how many ticks the clock ends.
+#[derive(Clone, Copy)]
+struct Ticking {
+    keep: Option<u32>,
+    ticks: u32,
+}
+
+// The number of an option, and the default where it doesn't stand.
+#[tactic(auto, unfolding(crate::specs::Serve::number_or))]
+fn number_or(default: u32, least: u32, most: u32, given: Option<&[u8]>) -> Option<u32>
+    ensures { result ≡ spec.number_or default least most (option_map (λ text. text.now) given.entry) }
+{
+    let Some(text) = given else {
+        return Some(default);
+    };
+    number_in(least, most, text)
+}
+
+// For how many seconds a run is kept, which need not be said.
+#[tactic(auto, unfolding(crate::specs::Serve::keep_of))]
+fn keep_of(given: Option<&[u8]>) -> Option<Option<u32>>
+    ensures { result ≡ spec.keep_of (option_map (λ text. text.now) given.entry) }
+{
+    let Some(text) = given else {
+        return Some(None);
+    };
+    let seconds = number_in(1, MAX_KEPT, text)?;
+    Some(Some(seconds))
+}
+
+// The options of a door.
+#[tactic(auto, unfolding(crate::specs::Serve::doors_of))]
+fn doors_of(alloc: Global, matches: &ArgMatches<'_>) -> Result<Doors, Fail<BadWords>>
+    ensures { Reads (spec.doors_of (rows_of (found_of matches.now))) result }
+{
+    let Some(listen) = text_of(matches, "listen") else {
+        return Err(Fail::Fault(BadWords));
+    };
+    let Some(workers) = number_or(DEFAULT_WORKERS, 1, MAX_WORKERS, text_of(matches, "workers"))
+    else {
+        return Err(Fail::Fault(BadWords));
+    };
+    let Some(connections) = number_or(0, 0, MAX_COUNT, text_of(matches, "connections")) else {
+        return Err(Fail::Fault(BadWords));
+    };
+    Ok(Doors {
+        listen: Bytes::copy_of(alloc, listen)?,
+        workers,
+        connections,
+    })
+}
+
+// The options of a clock.
+#[tactic(auto, unfolding(crate::specs::Serve::ticking_of))]
+fn ticking_of(matches: &ArgMatches<'_>) -> Option<Ticking>
+    ensures { result ≡ spec.ticking_of (rows_of (found_of matches.now)) }
+{
+    let keep = keep_of(text_of(matches, "keep"))?;
+    let ticks = number_or(0, 0, MAX_COUNT, text_of(matches, "ticks"))?;
+    Some(Ticking { keep, ticks })
+}
+
+// The words of the folders, of which there are 1 to MAX_INBOXES.
+#[tactic(auto, unfolding(crate::specs::Serve::inboxes_of))]
+fn inboxes_of<'m, 'a>(matches: &'m ArgMatches<'a>) -> Option<&'m [&'a str]>
+    ensures { option_map (λ list. map (λ word. word.now) list.now) result
+        ≡ spec.inboxes_of (rows_of (found_of matches.now)) }
+{
+    let words = texts_of(matches, "INBOX")?;
+    if words.is_empty() || words.len() > MAX_INBOXES as usize {
+        return None;
+    }
+    Some(words)
+}
+
+// A copy of each word.
+fn copies_of(alloc: Global, words: &[&str]) -> Result<List<Bytes>, NoMemory>
+    ensures { IfOk result (λ copies. copies ≡ map (λ word. word.now) words.now) }
+{
+    let mut copies = List::new(alloc);
+    for word in words {
+        copies.push(Bytes::copy_of(alloc, word.as_bytes())?)?;
+    }
+    Ok(copies)
+}
+
+// What `serve` does with its matches.
+#[tactic(auto, unfolding(crate::specs::Jobs::serve_of))]
+pub(crate) fn serve_job(alloc: Global, matches: &ArgMatches<'_>) -> Result<Job, Fail<BadWords>>
+    ensures { Reads (jobs.serve_of (rows_of (found_of matches.now))) result }
+{
+    let site = site_of(alloc, matches)?;
+    let Some(proto) = text_of(matches, "proto") else {
+        return Err(Fail::Fault(BadWords));
+    };
+    let doors = doors_of(alloc, matches)?;
+    let Some(ticking) = ticking_of(matches) else {
+        return Err(Fail::Fault(BadWords));
+    };
+    let Some(words) = inboxes_of(matches) else {
+        return Err(Fail::Fault(BadWords));
+    };
+    Ok(Job::Serve(Serving {
+        site,
+        proto: Bytes::copy_of(alloc, proto)?,
+        listen: doors.listen,
+        workers: doors.workers,
+        connections: doors.connections,
+        keep: ticking.keep,
+        ticks: ticking.ticks,
+        inboxes: copies_of(alloc, words)?,
+    }))
+}

@@ -1,0 +1,66 @@
+//! The site of a collection.
+ghost use Rattle.std.specs.Prelude.{◌≡◌, option_map};
+ghost use Rattle.clap.specs.Matches.{found_of};
+ghost use Rattle.clap.specs.Walk.{rows_of};
+ghost use Rattle.srv_words.specs.Jobs as spec;
+ghost use Rattle.srv_words.specs.Reads.{Reads};
+ghost use Rattle.srv_words.specs.Values as values;
+
+use crate::job::BadWords;
+use crate::matches::text_of;
+use crate::values::{MAX_MARK, epoch_of, is_collection_name};
+use clap::ArgMatches;
+use fm_base::{Bytes, Fail};
+use fm_model::Site;
+use std::alloc::Global;
+
+// The name that a collection gets.
+#[tactic(auto, unfolding(crate::specs::Jobs::name_of))]
+fn name_of<'a>(matches: &ArgMatches<'a>) -> Option<&'a [u8]>
+    ensures { option_map (λ name. name.now) result ≡ spec.name_of (rows_of (found_of matches.now)) }
+{
+    let name = text_of(matches, "name")?;
+    if !is_collection_name(name) {
+        return None;
+    }
+    Some(name)
+}
+
+// The mark of a collection of this name.
+#[tactic(auto, unfolding(crate::specs::Values::mark_of))]
+fn mark_of(alloc: Global, name: &[u8], given: Option<&[u8]>) -> Result<Bytes, Fail<BadWords>>
+    ensures { Reads (values.mark_of name.now (option_map (λ mark. mark.now) given.entry)) result }
+{
+    match given {
+        Some(mark) => {
+            if mark.len() > MAX_MARK as usize {
+                return Err(Fail::Fault(BadWords));
+            }
+            Ok(Bytes::copy_of(alloc, mark)?)
+        }
+        None => {
+            let mut mark = Bytes::copy_of(alloc, name)?;
+            mark.append(b"_")?;
+            Ok(mark)
+        }
+    }
+}
+
+// The site of a collection.
+#[tactic(auto, unfolding(crate::specs::Jobs::site_of))]
+pub(crate) fn site_of(alloc: Global, matches: &ArgMatches<'_>) -> Result<Site, Fail<BadWords>>
+    ensures { Reads (spec.site_of (rows_of (found_of matches.now))) result }
+{
+    let Some(name) = name_of(matches) else {
+        return Err(Fail::Fault(BadWords));
+    };
+    let Some(epoch) = epoch_of(text_of(matches, "epoch")) else {
+        return Err(Fail::Fault(BadWords));
+    };
+    let mark = mark_of(alloc, name, text_of(matches, "mark"))?;
+    Ok(Site {
+        name: Bytes::copy_of(alloc, name)?,
+        epoch,
+        mark,
+    })
+}

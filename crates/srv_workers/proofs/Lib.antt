@@ -1,0 +1,10 @@
+pub mod CloseLemmas
+pub mod CourseLemmas
+pub mod DoneLemmas
+pub mod HireLemmas
+pub mod PairLemmas
+pub mod PartLemmas
+pub mod RunLemmas
+pub mod ShiftLemmas
+pub mod StaffLemmas
+pub mod TaskLemmas

@@ -1,0 +1,6 @@
+-- So many copies were made.
+use Rattle.std.proofs.Common.{◌≡◌, replicate}
+use Rattle.srv_workers.proofs.own.copies_of.Given as goal
+
+abbrev pub invariant-loop-made : goal.invariant-loop-made
+invariant-loop-made l = l.copies ≡ replicate l._made l.proto

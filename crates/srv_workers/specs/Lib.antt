@@ -1,0 +1,10 @@
+pub mod Close
+pub mod Course
+pub mod Done
+pub mod Pairs
+pub mod Parts
+pub mod Room
+pub mod Runs
+pub mod Slots
+pub mod Tasks
+pub mod Work

@@ -1,0 +1,20 @@
+//! Workers over one desk: a run opens a desk, has a worker for each device, all at once, and closes the desk once all
+//! of them have ended.
+#![tactic(auto)]
+
+mod close;
+mod course;
+mod outcome;
+mod own;
+mod parts;
+mod room;
+mod shift;
+mod slots;
+mod staff;
+mod task;
+mod tasks;
+mod work;
+mod workers;
+
+pub use outcome::{Devices, Outcome};
+pub use workers::run_workers;

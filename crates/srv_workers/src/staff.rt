@@ -1,0 +1,42 @@
+//! A worker for each task.
+ghost use Rattle.std.specs.Prelude.{◌≡◌, ◌≤◌, [], length, map, All, replicate};
+ghost use Rattle.pub_snap.specs.Opening.{unused};
+
+use crate::own::OwnPass;
+use crate::slots::{Slots, take_off};
+use crate::task::{Task, Worker};
+use fm_base::{Arc, List};
+use fm_model::Proto;
+use pub_snap::{Name, Pass};
+
+// A worker for each of the tasks, with one of the passes each, and the prototype.
+#[tactic(auto, using(crate::proofs::StaffLemmas::staffs))]
+pub(crate) fn staff_of<D: Drop, I: Drop, C: Drop, H: Drop, N: Name>(
+    tasks: List<Task<D, I, C, H>>,
+    passes: List<Pass<N>>,
+    protos: List<Arc<Proto>>,
+    room: Slots<Worker<D, I, C, OwnPass<N>, H>>,
+) -> List<Worker<D, I, C, OwnPass<N>, H>>
+    requires passes { passes ≡ replicate (length tasks) (unused N.proto) }
+    requires protos { protos ≡ replicate (length tasks) N.proto }
+    requires empty { room.items ≡ [] }
+    requires free { length tasks ≤ room.free }
+    ensures tasks { map (λ worker. worker.task) result ≡ tasks }
+    ensures unused { All (λ worker. worker.pass ≡ unused N.proto) result }
+{
+    let mut staff = room;
+    let mut tasks = tasks;
+    let mut passes = passes;
+    let mut protos = protos;
+    let count = tasks.len();
+    for _number in 0..count {
+        let pass = take_off(&mut passes);
+        let proto = take_off(&mut protos);
+        let task = take_off(&mut tasks);
+        staff.put(Worker {
+            pass: OwnPass::of(pass, proto),
+            task,
+        });
+    }
+    staff.into_list()
+}
