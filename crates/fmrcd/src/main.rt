@@ -10,7 +10,7 @@ use std::process::ExitCode;
 fn main(rt: HostRuntime) -> ExitCode {
     match words(&rt) {
         Ok(words) => {
-            let (code, told) = run_process(rt.alloc(), &words, &mut host_world(rt, &words));
+            let (code, told) = run_process(&rt, rt.alloc(), &words, &mut host_world(rt, &words));
             match told {
                 Some(text) if rt.stderr().is_terminal() => {
                     let _ = rt.eprintln(text.as_str());

@@ -6,7 +6,10 @@ use fm_world::{MemFiles, MemLink, MemSink};
 use nc_sample::{SAMPLE, bytes_of};
 use srv_run::run;
 use std::alloc::Global;
+use std::marker::Sync;
+use std::sync::Wait;
 use std::test::Fail;
+use std::thread::Threads;
 
 // The sample file with some words changed, by their places.
 fn sample(alloc: Global, changes: &[(usize, u32)]) -> Result<Bytes, NoMemory> {
@@ -46,14 +49,23 @@ impl<'a> Given<'a> {
 }
 
 // The status of a run and the line that it wrote.
-fn ran(alloc: Global, given: &Given<'_>) -> Result<(u8, Bytes), Fail> {
+fn ran<R: Threads + Wait + Sync>(
+    rt: &R,
+    alloc: Global,
+    given: &Given<'_>,
+) -> Result<(u8, Bytes), Fail> {
     let mut content = sample(alloc, given.changes)?;
     content.items.truncate(given.len);
-    ran_over(alloc, given, content)
+    ran_over(rt, alloc, given, content)
 }
 
 // The same over this content of the file.
-fn ran_over(alloc: Global, given: &Given<'_>, content: Bytes) -> Result<(u8, Bytes), Fail> {
+fn ran_over<R: Threads + Wait + Sync>(
+    rt: &R,
+    alloc: Global,
+    given: &Given<'_>,
+    content: Bytes,
+) -> Result<(u8, Bytes), Fail> {
     let words = words_of(alloc, given.words)?;
     let mut entries = List::new(alloc);
     entries.push(entry(alloc, b"file.nc", content)?)?;
@@ -63,14 +75,14 @@ fn ran_over(alloc: Global, given: &Given<'_>, content: Bytes) -> Result<(u8, Byt
         MemLink::new(alloc, Bytes::new(alloc), 0, List::new(alloc))?,
         MemSink::new(alloc, 4096, numbers(alloc, given.failing_sink)?)?,
     );
-    let status = run(alloc, &words, &mut world);
+    let status = run(rt, alloc, &words, &mut world);
     let line = Bytes::copy_of(alloc, world.sink.bytes())?;
     Ok((status, line))
 }
 
 #[test]
 fn a_sound_file_is_reported_by_its_counts(rt: HostRuntime) -> Result<(), Fail> {
-    let (status, line) = ran(rt.alloc(), &Given::sample())?;
+    let (status, line) = ran(&rt, rt.alloc(), &Given::sample())?;
     assert_eq!(rt; status, 0);
     assert_eq!(rt;
         line.as_slice(),
@@ -115,7 +127,7 @@ fn a_broken_file_is_refused_by_its_first_fault(rt: HostRuntime) -> Result<(), Fa
             len: *len,
             ..Given::sample()
         };
-        let (status, line) = ran(alloc, &given)?;
+        let (status, line) = ran(&rt, rt.alloc(), &given)?;
         let mut expected = Bytes::copy_of(alloc, b"refused file.nc code ")?;
         expected.append(code)?;
         expected.append(b"\n")?;
@@ -141,7 +153,7 @@ fn a_check_that_does_not_come_to_the_file_says_why(rt: HostRuntime) -> Result<()
             words: *words,
             ..Given::sample()
         };
-        let (status, line) = ran(rt.alloc(), &given)?;
+        let (status, line) = ran(&rt, rt.alloc(), &given)?;
         assert_eq!(rt; status, *expected);
         assert_eq!(rt; line.as_slice(), *said);
     }
@@ -154,14 +166,14 @@ fn a_device_that_fails_is_blamed(rt: HostRuntime) -> Result<(), Fail> {
         failing_reads: &[1],
         ..Given::sample()
     };
-    let (status, line) = ran(rt.alloc(), &unread)?;
+    let (status, line) = ran(&rt, rt.alloc(), &unread)?;
     assert_eq!(rt; status, 5);
     assert_eq!(rt; line.as_slice(), b"file fault file.nc\n".as_slice());
     let unwritten = Given {
         failing_sink: &[1],
         ..Given::sample()
     };
-    let (status, line) = ran(rt.alloc(), &unwritten)?;
+    let (status, line) = ran(&rt, rt.alloc(), &unwritten)?;
     assert_eq!(rt; status, 7);
     assert!(rt; line.is_empty());
     Ok(())
@@ -207,7 +219,7 @@ const BEGIN: u32 = 6288;
 #[test]
 fn a_large_file_is_checked_with_ample_memory(rt: HostRuntime) -> Result<(), Fail> {
     let alloc = rt.alloc();
-    let (status, line) = ran_over(alloc, &Given::sample(), large_file(alloc)?)?;
+    let (status, line) = ran_over(&rt, alloc, &Given::sample(), large_file(alloc)?)?;
     assert_eq!(rt;
         line.as_slice(),
         b"ok CDF-1 dims 3 vars 3 records 0\n".as_slice()

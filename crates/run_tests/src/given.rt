@@ -6,7 +6,10 @@ use fm_sample::File;
 use fm_world::{Entry, MemFiles, MemLink, MemSink};
 use srv_run::run;
 use std::alloc::Global;
+use std::marker::Sync;
+use std::sync::Wait;
 use std::test::Fail;
+use std::thread::Threads;
 
 // The request for the structure text of the best view, and the length of its reply over the sample file.
 pub(crate) const STRUCTURE: &[u8] = b"GET /thredds/dodsC/gfs/gfs_best.ncd.dds HTTP/1.1\r\n\r\n";
@@ -118,7 +121,7 @@ pub(crate) fn world_of(alloc: Global, files: MemFiles, link: MemLink, sink: MemS
 }
 
 // The world of a run.
-pub(crate) fn world(alloc: Global, given: &Given<'_>) -> Result<MemWorld, NoMemory> {
+fn world(alloc: Global, given: &Given<'_>) -> Result<MemWorld, NoMemory> {
     let input = Bytes::copy_of(alloc, given.input)?;
     Ok(world_of(
         alloc,
@@ -129,9 +132,14 @@ pub(crate) fn world(alloc: Global, given: &Given<'_>) -> Result<MemWorld, NoMemo
 }
 
 // Runs the words.
-pub(crate) fn ran(alloc: Global, given: &Given<'_>, words: &List<Bytes>) -> Result<Left, Fail> {
+pub(crate) fn ran<R: Threads + Wait + Sync>(
+    rt: &R,
+    alloc: Global,
+    given: &Given<'_>,
+    words: &List<Bytes>,
+) -> Result<Left, Fail> {
     let mut world = world(alloc, given)?;
-    let status = run(alloc, words, &mut world);
+    let status = run(rt, alloc, words, &mut world);
     Ok(Left {
         status,
         output: Bytes::copy_of(alloc, world.link.output())?,
@@ -140,7 +148,11 @@ pub(crate) fn ran(alloc: Global, given: &Given<'_>, words: &List<Bytes>) -> Resu
 }
 
 // Runs the words as steps of `once`.
-pub(crate) fn ran_once(alloc: Global, given: &Given<'_>) -> Result<Left, Fail> {
+pub(crate) fn ran_once<R: Threads + Wait + Sync>(
+    rt: &R,
+    alloc: Global,
+    given: &Given<'_>,
+) -> Result<Left, Fail> {
     let words = once_words(alloc, given.words)?;
-    ran(alloc, given, &words)
+    ran(rt, alloc, given, &words)
 }

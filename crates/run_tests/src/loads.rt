@@ -20,7 +20,7 @@ fn a_made_collection_has_the_sum_that_another_program_gives(rt: HostRuntime) -> 
     let alloc = rt.alloc();
     for (files, line) in &LINES {
         let words: [&[u8]; 3] = [b"load", b"1", files];
-        let left = ran(alloc, &Given::of(&[]), &words_of(alloc, &words)?)?;
+        let left = ran(&rt, alloc, &Given::of(&[]), &words_of(alloc, &words)?)?;
         assert_eq!(rt; left.status, 0);
         assert_eq!(rt; left.line.as_slice(), *line);
         assert!(rt; left.output.is_empty());
@@ -35,7 +35,12 @@ fn a_sink_that_fails_is_blamed_for_the_line_of_a_load(rt: HostRuntime) -> Result
         failing_sink: &[1],
         ..Given::of(&[])
     };
-    let left = ran(alloc, &given, &words_of(alloc, &[b"load", b"1", b"1"])?)?;
+    let left = ran(
+        &rt,
+        alloc,
+        &given,
+        &words_of(alloc, &[b"load", b"1", b"1"])?,
+    )?;
     assert_eq!(rt; left.status, 7);
     assert!(rt; left.line.is_empty());
     Ok(())

@@ -28,7 +28,7 @@ fn a_reply_is_over_what_the_steps_before_it_left(rt: HostRuntime) -> Result<(), 
             input: TIMES,
             ..Given::of(steps)
         };
-        let left = ran_once(alloc, &given)?;
+        let left = ran_once(&rt, alloc, &given)?;
         let mut data = Bytes::copy_of(alloc, b"Data:\n")?;
         data.append(bytes_of(alloc, times)?.as_slice())?;
         assert_eq!(rt; left.status, 0);
@@ -45,7 +45,7 @@ fn a_connection_goes_on_over_all_steps(rt: HostRuntime) -> Result<(), Fail> {
     input.append(STRUCTURE)?;
     let mut given = Given::of(&[b"ask:1", b"put:in/gfs_20240101_0000.nc", b"ask:1"]);
     given.input = input.as_slice();
-    let left = ran_once(alloc, &given)?;
+    let left = ran_once(&rt, alloc, &given)?;
     assert_eq!(rt; left.status, 0);
     assert!(rt;
         left.output

@@ -1,21 +1,30 @@
 -- Which device the status of a run blames.
-use Rattle.std.proofs.Common.{◌≡◌, ◌⊎◌, ◌≤◌, ℕ, List, [], refl, sym, ap, ◌∙◌, arith, inl, inr, Option, Some, None, Result, Ok, Err, IfErr}
+use Rattle.std.proofs.Common.{◌≡◌, ◌⊎◌, ◌≤◌, ℕ, List, refl, sym, ap, subst, ◌∙◌, arith, inl, inr, Option, Some, None, Result, Ok, Err, IfErr}
 use Rattle.fm_base.specs.declared.header.Header.{Header}
+use Rattle.fm_model.specs.declared.proto.Proto.{Proto}
 use Rattle.fm_model.specs.declared.site.Site.{Site}
 use Rattle.fm_world.specs.Cause.{one_more}
 use Rattle.fm_doors.specs.World.{WorldShown}
 use Rattle.srv_words.specs.declared.job.Job.{Job}
-use Rattle.srv_words.specs.declared.job.Job.TheVariants.{Once, Check, Load}
+use Rattle.srv_words.specs.declared.job.Job.TheVariants.{Once, Check, Load, Serve}
+use Rattle.srv_words.specs.declared.job.Serving.{Serving}
 use Rattle.srv_words.specs.declared.job.Step.{Step}
+use Rattle.srv_workers.specs.declared.outcome.Outcome.{Outcome}
 use Rattle.srv_run.specs.declared.end.End.{End}
-use Rattle.srv_run.specs.declared.end.End.TheVariants.{Done, BadWords, NoMemory, FileFault, SinkFault, LinkFault}
+use Rattle.srv_run.specs.declared.end.End.TheVariants.{Done, BadWords, NoMemory, FileFault, SinkFault, LinkFault, DoorFault, InboxFault}
 use Rattle.srv_run.specs.Check.{EndsCheck}
 use Rattle.srv_run.specs.Load.{EndsLoad}
 use Rattle.srv_run.specs.Once.{RunsSteps, EndsAtPrototype}
 use Rattle.srv_run.specs.Reading.{file_faults_after, IsEndAtFile}
-use Rattle.srv_run.specs.Report.{line_of, status_of}
-use Rattle.srv_run.specs.Run.{Blames, DoesJob, Runs, Says}
-use Rattle.srv_run.proofs.StepBlameLemmas.{at_file, steps_blamed}
+use Rattle.srv_run.specs.Closing.{EndsServing, first_end}
+use Rattle.srv_run.specs.Devices.{StopsAt}
+use Rattle.srv_run.specs.Report.{status_of}
+use Rattle.srv_run.specs.Run.{Blames, BlamesDoor, BlamesInbox, DoesJob, IsShort, Runs}
+use Rattle.srv_run.specs.Serve.{EndsUnopened, GoesOn, HasRun, Serves}
+use Rattle.srv_run.specs.Stage.{Shows, Stage}
+use Rattle.srv_run.proofs.EndLemmas.{number_of}
+use Rattle.srv_run.proofs.RunLemmas.{door-failed, end-is-device, inbox-failed}
+use Rattle.srv_run.proofs.StepBlameLemmas.{at_file, IsAtDevice, steps_blamed}
 
 -- each of these ends is the only one with its status
 is_bad_words : (end : End) → status_of end ≡ 2 → end ≡ BadWords
@@ -34,96 +43,214 @@ is_link_fault : (end : End) → status_of end ≡ 9 → end ≡ LinkFault
 is_link_fault LinkFault is = refl
 is_link_fault end is = absurd (omega (arith, is))
 
--- what the end of a run says of the devices
+is_door_fault : (end : End) → status_of end ≡ 6 → (number : ℕ) × (end ≡ DoorFault number)
+is_door_fault (DoorFault number) is = (number, refl)
+is_door_fault end is = absurd (omega (arith, is))
+
+is_inbox_fault : (end : End) → status_of end ≡ 8 → (number : ℕ) × (end ≡ InboxFault number)
+is_inbox_fault (InboxFault number) is = (number, refl)
+is_inbox_fault end is = absurd (omega (arith, is))
+
+-- what the end of a run says of the devices that are there from the start
 pub record BlamedIn (end : End) (world world' : WorldShown) : Type 0 where
   pub words : end ≡ BadWords → ⊥
   pub files : end ≡ FileFault → world'.files.faults ≡ one_more world.files.faults
   pub sink : end ≡ SinkFault → world'.sink.faults ≡ one_more world.sink.faults
   pub link : end ≡ LinkFault → one_more world.link.faults ≤ world'.link.faults
 
+-- what it says of those that it opened
+pub record BlamedOn {D I C L : Type 0} (show : Shows D I C L) (end : End) (stage stage' : Stage D I C) : Type 0 where
+  pub inside : BlamedIn end stage.outside stage'.outside
+  pub door : (number : ℕ) → end ≡ DoorFault number → BlamesDoor show number stage stage'
+  pub inbox : (number : ℕ) → end ≡ InboxFault number → BlamesInbox show number stage stage'
+
+-- a run that opens nothing blames nothing that it opened
+alone : {D I C L : Type 0} (show : Shows D I C L) (end : End) (stage stage' : Stage D I C)
+    → BlamedIn end stage.outside stage'.outside → (IsAtDevice end → ⊥) → BlamedOn show end stage stage'
+alone show end stage stage' inside none = record {
+  inside = inside;
+  door = λ number is. absurd (none (subst (λ (e : End). IsAtDevice e) (sym is) tt));
+  inbox = λ number is. absurd (none (subst (λ (e : End). IsAtDevice e) (sym is) tt));
+}
+
 pub once_blamed : (site : Site) (path : List ℕ) (steps : List Step) (end : End) (world world' : WorldShown)
     (at : List ℕ) → RunsSteps site path steps world.files world'.files world.link world'.link end at
-    ⊎ EndsAtPrototype site path world.files world'.files world.link world'.link end at → BlamedIn end world world'
+    ⊎ EndsAtPrototype site path world.files world'.files world.link world'.link end at
+    → BlamedIn end world world' × (IsAtDevice end → ⊥)
 once_blamed site path steps end world world' at (inl runs) =
-    let blamed = steps_blamed steps _ _ end at runs.does in record {
-      words = blamed.words;
-      files = blamed.files;
-      sink = λ is. absurd (blamed.sink is);
-      link = blamed.link;
-    }
+    let blamed = steps_blamed steps _ _ end at runs.does in (
+      record {
+        words = blamed.words;
+        files = blamed.files;
+        sink = λ is. absurd (blamed.sink is);
+        link = blamed.link;
+      },
+      blamed.device,
+    )
 once_blamed site path steps end world world' at (inr ends) =
-    let file = at_file end ends.ends.at_file in record {
-      words = file.words;
-      files = λ is. ends.ends.faults_are ∙ ap (file_faults_after world.files.faults) is;
-      sink = λ is. absurd (file.sink is);
-      link = λ is. absurd (file.link is);
-    }
+    let file = at_file end ends.ends.at_file in (
+      record {
+        words = file.words;
+        files = λ is. ends.ends.faults_are ∙ ap (file_faults_after world.files.faults) is;
+        sink = λ is. absurd (file.sink is);
+        link = λ is. absurd (file.link is);
+      },
+      file.device,
+    )
 
 check_blamed : (path : List ℕ) (checked : Result Header End) (end : End) (world world' : WorldShown)
     → IfErr checked IsEndAtFile → EndsCheck path checked end world.sink world'.sink
-    → world'.files.faults ≡ file_faults_after world.files.faults end → BlamedIn end world world'
+    → world'.files.faults ≡ file_faults_after world.files.faults end
+    → BlamedIn end world world' × (IsAtDevice end → ⊥)
 check_blamed path (Ok header) Done world world' at ends faults =
-    record { words = λ e. cc; files = λ e. absurd cc; sink = λ e. absurd cc; link = λ e. absurd cc }
+    (record { words = λ e. cc; files = λ e. absurd cc; sink = λ e. absurd cc; link = λ e. absurd cc }, λ d. d)
 check_blamed path (Ok header) SinkFault world world' at ends faults =
-    record { words = λ e. cc; files = λ e. absurd cc; sink = λ e. ends.faults; link = λ e. absurd cc }
+    (record { words = λ e. cc; files = λ e. absurd cc; sink = λ e. ends.faults; link = λ e. absurd cc }, λ d. d)
 check_blamed path (Ok header) end world world' at ends faults = absurd ends
 check_blamed path (Err found) end world world' at ends faults =
-    let file = at_file found at in record {
-      words = λ is. file.words (sym ends.0 ∙ is);
-      files = λ is. faults ∙ ap (file_faults_after world.files.faults) is;
-      sink = λ is. absurd (file.sink (sym ends.0 ∙ is));
-      link = λ is. absurd (file.link (sym ends.0 ∙ is));
-    }
+    let file = at_file found at in (
+      record {
+        words = λ is. file.words (sym ends.0 ∙ is);
+        files = λ is. faults ∙ ap (file_faults_after world.files.faults) is;
+        sink = λ is. absurd (file.sink (sym ends.0 ∙ is));
+        link = λ is. absurd (file.link (sym ends.0 ∙ is));
+      },
+      λ d. file.device (subst (λ (e : End). IsAtDevice e) ends.0 d),
+    )
 
 load_blamed : (seed files : ℕ) (end : End) (world world' : WorldShown) → EndsLoad seed files end world.sink world'.sink
-    → BlamedIn end world world'
+    → BlamedIn end world world' × (IsAtDevice end → ⊥)
 load_blamed seed files Done world world' ends =
-    record { words = λ e. cc; files = λ e. absurd cc; sink = λ e. absurd cc; link = λ e. absurd cc }
+    (record { words = λ e. cc; files = λ e. absurd cc; sink = λ e. absurd cc; link = λ e. absurd cc }, λ d. d)
 load_blamed seed files SinkFault world world' ends =
-    record { words = λ e. cc; files = λ e. absurd cc; sink = λ e. ends.faults; link = λ e. absurd cc }
+    (record { words = λ e. cc; files = λ e. absurd cc; sink = λ e. ends.faults; link = λ e. absurd cc }, λ d. d)
 load_blamed seed files NoMemory world world' ends =
-    record { words = λ e. cc; files = λ e. absurd cc; sink = λ e. absurd cc; link = λ e. absurd cc }
+    (record { words = λ e. cc; files = λ e. absurd cc; sink = λ e. absurd cc; link = λ e. absurd cc }, λ d. d)
 load_blamed seed files end world world' ends = absurd ends
 
-job_blamed : (job : Job) (end : End) (world world' : WorldShown) → DoesJob (Some job) end world world'
-    → BlamedIn end world world'
-job_blamed (Once site path steps) end world world' does =
-    once_blamed site path steps end world world' does.at does.runs
-job_blamed (Check path) end world world' does =
-    check_blamed path does.checks.checked end world world' does.checks.at_file does.checks.ends does.checks.file_faults
-job_blamed (Load seed files) end world world' does = load_blamed seed files end world world' does.ends
+-- a run whose prototype isn't read
+pub unopened_blamed : {D I C L : Type 0} (show : Shows D I C L) (serving : Serving) (end : End)
+    (stage stage' : Stage D I C) → EndsUnopened serving stage stage' end → BlamedOn show end stage stage'
+unopened_blamed show serving end stage stage' ends =
+    let file = at_file end ends.ends.at_file in
+    alone show end stage stage' (record {
+      words = file.words;
+      files = λ is. ends.ends.faults_are ∙ ap (file_faults_after stage.outside.files.faults) is;
+      sink = λ is. absurd (file.sink is);
+      link = λ is. absurd (file.link is);
+    }) file.device
+
+-- a run that can't open all
+unserved_blamed : {D I C L : Type 0} (show : Shows D I C L) (serving : Serving) (end : End) (stage stage' : Stage D I C)
+    → StopsAt serving stage'.devices stage.opener.faults stage'.opener.faults end → BlamedOn show end stage stage'
+unserved_blamed show serving (DoorFault number) stage stage' stops = record {
+  inside = record { words = λ e. cc; files = λ e. absurd cc; sink = λ e. absurd cc; link = λ e. absurd cc };
+  door = λ n is. inl (stops.cause, sym stops.number_is ∙ ap number_of is);
+  inbox = λ n is. absurd cc;
+}
+unserved_blamed show serving (InboxFault number) stage stage' stops = record {
+  inside = record { words = λ e. cc; files = λ e. absurd cc; sink = λ e. absurd cc; link = λ e. absurd cc };
+  door = λ n is. absurd cc;
+  inbox = λ n is. inl (stops.cause, sym stops.number_is ∙ ap number_of is);
+}
+unserved_blamed show serving NoMemory stage stage' stops =
+    alone show NoMemory stage stage'
+    (record { words = λ e. cc; files = λ e. absurd cc; sink = λ e. absurd cc; link = λ e. absurd cc }) (λ d. d)
+unserved_blamed show serving end stage stage' stops = absurd stops
+
+-- a run whose workers ran
+served_blamed : {D I C L : Type 0} (show : Shows D I C L) (serving : Serving) (proto : Proto) (end : End)
+    (stage stage' : Stage D I C) (outcome : Outcome)
+    → HasRun show serving proto stage.opener stage'.opener stage'.devices outcome → (found : Option End)
+    → first_end outcome ≡ found → EndsServing outcome found end stage.outside.sink stage'.outside.sink
+    → BlamedOn show end stage stage'
+served_blamed show serving proto Done stage stage' outcome run None first ends =
+    alone show Done stage stage'
+    (record { words = λ e. cc; files = λ e. absurd cc; sink = λ e. absurd cc; link = λ e. absurd cc }) (λ d. d)
+served_blamed show serving proto SinkFault stage stage' outcome run None first ends =
+    alone show SinkFault stage stage'
+    (record { words = λ e. cc; files = λ e. absurd cc; sink = λ e. ends.faults; link = λ e. absurd cc }) (λ d. d)
+served_blamed show serving proto end stage stage' outcome run None first ends = absurd ends
+served_blamed show serving proto end stage stage' outcome run (Some found) first ends =
+    let calm = end-is-device outcome found first in record {
+      inside = record {
+        words = λ is. calm.words (sym ends.0 ∙ is);
+        files = λ is. absurd (calm.files (sym ends.0 ∙ is));
+        sink = λ is. absurd (calm.sink (sym ends.0 ∙ is));
+        link = λ is. absurd (calm.link (sym ends.0 ∙ is));
+      };
+      door = λ number is. inr (door-failed show serving proto stage.opener stage'.opener stage'.devices outcome run
+          number (first ∙ ap (λ (e : End). Some e) (sym ends.0 ∙ is)));
+      inbox = λ number is. inr (inbox-failed show serving proto stage.opener stage'.opener stage'.devices outcome run
+          number (first ∙ ap (λ (e : End). Some e) (sym ends.0 ∙ is)));
+    }
+
+goes-on_blamed : {D I C L : Type 0} (show : Shows D I C L) (serving : Serving) (proto : Proto) (end : End)
+    (stage stage' : Stage D I C) → Serves show serving proto stage stage' end → BlamedOn show end stage stage'
+goes-on_blamed show serving proto end stage stage' (inl unserved) =
+    unserved_blamed show serving end stage stage' unserved.stopped.stops
+goes-on_blamed show serving proto end stage stage' (inr served) =
+    served_blamed show serving proto end stage stage' served.outcome served.run (first_end served.outcome) refl
+    served.ends
+
+serve_blamed : {D I C L : Type 0} (show : Shows D I C L) (serving : Serving) (end : End) (stage stage' : Stage D I C)
+    → EndsUnopened serving stage stage' end ⊎ GoesOn show serving stage stage' end → BlamedOn show end stage stage'
+serve_blamed show serving end stage stage' (inl ends) = unopened_blamed show serving end stage stage' ends
+serve_blamed show serving end stage stage' (inr on) =
+    goes-on_blamed show serving on.proto end stage stage' on.serves
+
+job_blamed : {D I C L : Type 0} (show : Shows D I C L) (job : Job) (end : End) (stage stage' : Stage D I C)
+    → DoesJob show (Some job) end stage stage' → BlamedOn show end stage stage'
+job_blamed show (Once site path steps) end stage stage' does =
+    let blamed = once_blamed site path steps end stage.outside stage'.outside does.at does.runs in
+    alone show end stage stage' blamed.0 blamed.1
+job_blamed show (Check path) end stage stage' does =
+    let blamed = check_blamed path does.checks.checked end stage.outside stage'.outside does.checks.at_file
+    does.checks.ends does.checks.file_faults in
+    alone show end stage stage' blamed.0 blamed.1
+job_blamed show (Load seed files) end stage stage' does =
+    let blamed = load_blamed seed files end stage.outside stage'.outside does.ends in
+    alone show end stage stage' blamed.0 blamed.1
+job_blamed show (Serve serving) end stage stage' does = serve_blamed show serving end stage stage' does.runs
 
 -- a run blames a device where its last call failed
-blames : (job : Option Job) (status : ℕ) (end : End) (world world' : WorldShown) → status ≡ status_of end
-    → DoesJob job end world world' ⊎ ((end ≡ NoMemory) × Says (line_of NoMemory []) world world')
-    → Blames job status world world'
-blames None status end world world' is (inl does) =
+blames : {D I C L : Type 0} (show : Shows D I C L) (job : Option Job) (status : ℕ) (end : End)
+    (stage stage' : Stage D I C) → status ≡ status_of end
+    → DoesJob show job end stage stage' ⊎ IsShort end stage stage' → Blames show job status stage stage'
+blames show None status end stage stage' is (inl does) =
     let two : status ≡ 2 = is ∙ ap status_of does.0 in record {
       bad_words = λ s. refl;
       refused = λ none. inl two;
       file_fault = λ s. absurd (omega (arith, two, s));
+      door_fault = λ s. absurd (omega (arith, two, s));
       sink_fault = λ s. absurd (omega (arith, two, s));
+      inbox_fault = λ s. absurd (omega (arith, two, s));
       link_fault = λ s. absurd (omega (arith, two, s));
     }
-blames (Some job) status end world world' is (inl does) =
-    let blamed = job_blamed job end world world' does in record {
-      bad_words = λ s. absurd (blamed.words (is_bad_words end (sym is ∙ s)));
+blames show (Some job) status end stage stage' is (inl does) =
+    let blamed = job_blamed show job end stage stage' does in record {
+      bad_words = λ s. absurd (blamed.inside.words (is_bad_words end (sym is ∙ s)));
       refused = λ none. absurd cc;
-      file_fault = λ s. blamed.files (is_file_fault end (sym is ∙ s));
-      sink_fault = λ s. blamed.sink (is_sink_fault end (sym is ∙ s));
-      link_fault = λ s. blamed.link (is_link_fault end (sym is ∙ s));
+      file_fault = λ s. blamed.inside.files (is_file_fault end (sym is ∙ s));
+      door_fault = λ s. let at = is_door_fault end (sym is ∙ s) in (at.0, blamed.door at.0 at.1);
+      sink_fault = λ s. blamed.inside.sink (is_sink_fault end (sym is ∙ s));
+      inbox_fault = λ s. let at = is_inbox_fault end (sym is ∙ s) in (at.0, blamed.inbox at.0 at.1);
+      link_fault = λ s. blamed.inside.link (is_link_fault end (sym is ∙ s));
     }
-blames job status end world world' is (inr short) =
+blames show job status end stage stage' is (inr short) =
     let four : status ≡ 4 = is ∙ ap status_of short.0 in record {
       bad_words = λ s. absurd (omega (arith, four, s));
       refused = λ none. inr four;
       file_fault = λ s. absurd (omega (arith, four, s));
+      door_fault = λ s. absurd (omega (arith, four, s));
       sink_fault = λ s. absurd (omega (arith, four, s));
+      inbox_fault = λ s. absurd (omega (arith, four, s));
       link_fault = λ s. absurd (omega (arith, four, s));
     }
 
-pub Blames-Runs : (job : Option Job) (status : ℕ) (world world' : WorldShown) → Runs job status world world'
-    → Blames job status world world'
-Blames-Runs job status world world' runs = blames job status runs.end world world' runs.status_is runs.does
+pub Blames-Runs : {D I C L : Type 0} (show : Shows D I C L) (job : Option Job) (status : ℕ) (stage stage' : Stage D I C)
+    → Runs show job status stage stage' → Blames show job status stage stage'
+Blames-Runs show job status stage stage' runs =
+    blames show job status runs.end stage stage' runs.status_is runs.does
 
 pub ruleset runs = (Blames-Runs)

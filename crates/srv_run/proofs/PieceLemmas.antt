@@ -1,10 +1,11 @@
 -- Pieces that are appended one after the other.
-use Rattle.std.proofs.Common.{◌≡◌, ℕ, suc, ◌+◌, ◌<◌, ◌≤◌, List, ◌++◌, length, get_or, take, drop, drop-cons, length-append, take-append-drop, arith, Option, Some, None, refl, sym, ap, ◌∙◌, append_assoc}
+use Rattle.std.proofs.Common.{◌≡◌, ℕ, suc, ◌+◌, ◌<◌, ◌≤◌, List, ◌++◌, length, get_or, take, drop, drop-cons, length-append, take-append-drop, arith, Option, Some, None, Result, Ok, Err, refl, sym, ap, ◌∙◌, append_assoc}
 use Rattle.std.specs.List.{flat_map}
 use Rattle.std.proofs.Math.Seq.{take-append-add}
 use Rattle.std.proofs.lemmas.List.{take-append-le}
 use Rattle.std.proofs.lemmas.List.Concat.{flat_map-append}
 use Rattle.fm_world.specs.Sink.{after_append}
+use Rattle.srv_run.specs.Report.{Appends}
 
 -- first these bytes, and then those
 pub after_append-append : (xs ys : List ℕ) (told : Option (List ℕ))
@@ -51,4 +52,28 @@ appended-cut f xs i d before now after below put cut =
           ∙ ap (λ (l : List ℕ). after_append l before) (sym k.2),
     )
 
+-- a text was appended, and then another, whole or cut
+pub Appends-then : {X E : Type 0} (xs ys : List ℕ) (before now after : Option (List ℕ)) (result : Result X E)
+    → now ≡ after_append xs before → Appends ys now after result → Appends (xs ++ ys) before after result
+Appends-then xs ys before now after (Ok x) put put' =
+    put' ∙ ap (after_append ys) put ∙ after_append-append xs ys before
+Appends-then xs ys before now after (Err e) put cut = (
+  length xs + cut.0,
+  omega (arith, length-append xs ys, cut.1),
+  cut.2 ∙ ap (after_append (take cut.0 ys)) put ∙ after_append-append xs (take cut.0 ys) before
+      ∙ ap (λ (l : List ℕ). after_append l before) (sym (take-append-add xs ys cut.0)),
+)
+
+-- the first of two texts was cut
+pub Appends-cut : (xs ys : List ℕ) (before after : Option (List ℕ))
+    → (n : ℕ) × (n ≤ length xs) × (after ≡ after_append (take n xs) before)
+    → (n : ℕ) × (n ≤ length (xs ++ ys)) × (after ≡ after_append (take n (xs ++ ys)) before)
+Appends-cut xs ys before after cut = (
+  cut.0,
+  omega (arith, length-append xs ys, cut.1),
+  cut.2 ∙ ap (λ (l : List ℕ). after_append l before) (sym (take-append-le cut.0 xs ys cut.1)),
+)
+
 pub ruleset pieces = (after_append-append)
+
+pub ruleset texts = (Appends-then, Appends-cut)

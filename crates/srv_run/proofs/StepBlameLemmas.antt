@@ -1,5 +1,6 @@
 -- Which device the end of some steps blames.
 use Rattle.std.proofs.Common.{◌≡◌, ◌⊎◌, ◌≤◌, ℕ, true, List, [], ◌∷◌, sym, ap, subst, ◌∙◌, refl, inl, inr}
+use Rattle.std.specs.Prelude.{⊤}
 use Rattle.fm_model.specs.declared.proto.Proto.{Proto}
 use Rattle.fm_world.specs.Cause.{one_more}
 use Rattle.fm_world.specs.Shown.{FilesShown, LinkShown}
@@ -11,22 +12,29 @@ use Rattle.srv_conn.specs.Serves.{Moment, Serves}
 use Rattle.srv_words.specs.declared.job.Step.{Step}
 use Rattle.srv_words.specs.declared.job.Step.TheVariants.{Put, Expire, Retract, Ask}
 use Rattle.srv_run.specs.declared.end.End.{End}
-use Rattle.srv_run.specs.declared.end.End.TheVariants.{Done, BadWords, Refused, NoMemory, FileFault, SinkFault, LinkFault, NoFile, TooLong, InputEnded}
+use Rattle.srv_run.specs.declared.end.End.TheVariants.{Done, BadWords, Refused, NoMemory, FileFault, SinkFault, LinkFault, DoorFault, InboxFault, NoFile, TooLong, InputEnded}
 use Rattle.srv_run.specs.Reading.{file_faults_after, IsEndAtFile}
 use Rattle.srv_run.specs.Steps.{Does, end_of_stop, EndsAsk, EndsAt, IsDone, Progress}
+
+-- a run ends so at a door or an inbox
+abbrev pub IsAtDevice : End → Type 0
+IsAtDevice (DoorFault number) = ⊤
+IsAtDevice (InboxFault number) = ⊤
+IsAtDevice end = ⊥
 
 -- a run ends in none of these ways at a file
 pub record AtFile (end : End) : Type 0 where
   pub words : end ≡ BadWords → ⊥
   pub sink : end ≡ SinkFault → ⊥
   pub link : end ≡ LinkFault → ⊥
+  pub device : IsAtDevice end → ⊥
 
 pub at_file : (end : End) → IsEndAtFile end → AtFile end
-at_file NoMemory is = record { words = λ e. cc; sink = λ e. cc; link = λ e. cc }
-at_file (Refused code) is = record { words = λ e. cc; sink = λ e. cc; link = λ e. cc }
-at_file FileFault is = record { words = λ e. cc; sink = λ e. cc; link = λ e. cc }
-at_file NoFile is = record { words = λ e. cc; sink = λ e. cc; link = λ e. cc }
-at_file (TooLong len) is = record { words = λ e. cc; sink = λ e. cc; link = λ e. cc }
+at_file NoMemory is = record { words = λ e. cc; sink = λ e. cc; link = λ e. cc; device = λ d. d }
+at_file (Refused code) is = record { words = λ e. cc; sink = λ e. cc; link = λ e. cc; device = λ d. d }
+at_file FileFault is = record { words = λ e. cc; sink = λ e. cc; link = λ e. cc; device = λ d. d }
+at_file NoFile is = record { words = λ e. cc; sink = λ e. cc; link = λ e. cc; device = λ d. d }
+at_file (TooLong len) is = record { words = λ e. cc; sink = λ e. cc; link = λ e. cc; device = λ d. d }
 at_file end is = absurd is
 
 -- a link that stops ends a run in none of these ways
@@ -34,11 +42,12 @@ record ByLink (end : End) : Type 0 where
   words : end ≡ BadWords → ⊥
   files : end ≡ FileFault → ⊥
   sink : end ≡ SinkFault → ⊥
+  device : IsAtDevice end → ⊥
 
 by_link : (stop : Stop) → ByLink (end_of_stop stop)
-by_link (stops.Ended ends.LinkFault) = record { words = λ e. cc; files = λ e. cc; sink = λ e. cc }
-by_link (stops.Ended ends.NoMemory) = record { words = λ e. cc; files = λ e. cc; sink = λ e. cc }
-by_link stop = record { words = λ e. cc; files = λ e. cc; sink = λ e. cc }
+by_link (stops.Ended ends.LinkFault) = record { words = λ e. cc; files = λ e. cc; sink = λ e. cc; device = λ d. d }
+by_link (stops.Ended ends.NoMemory) = record { words = λ e. cc; files = λ e. cc; sink = λ e. cc; device = λ d. d }
+by_link stop = record { words = λ e. cc; files = λ e. cc; sink = λ e. cc; device = λ d. d }
 
 stop_is : (stop : Stop) → end_of_stop stop ≡ LinkFault → stop ≡ stops.Ended ends.LinkFault
 stop_is (stops.Ended ends.LinkFault) is = refl
@@ -63,15 +72,34 @@ pub record Blamed (before after : Progress) (end : End) : Type 0 where
   pub sink : end ≡ SinkFault → ⊥
   pub files : end ≡ FileFault → after.files.faults ≡ one_more before.files.faults
   pub link : end ≡ LinkFault → one_more before.at.link.faults ≤ after.at.link.faults
+  pub device : IsAtDevice end → ⊥
 
 none_blamed : (before after : Progress) (end : End) → (end ≡ Done) ⊎ (end ≡ NoMemory) ⊎ (end ≡ InputEnded)
     → Blamed before after end
 none_blamed before after end (inl is) =
-    record { words = λ e. cc; sink = λ e. cc; files = λ e. absurd cc; link = λ e. absurd cc }
+    record {
+      words = λ e. cc;
+      sink = λ e. cc;
+      files = λ e. absurd cc;
+      link = λ e. absurd cc;
+      device = λ d. subst (λ (e : End). IsAtDevice e) is d;
+    }
 none_blamed before after end (inr (inl is)) =
-    record { words = λ e. cc; sink = λ e. cc; files = λ e. absurd cc; link = λ e. absurd cc }
+    record {
+      words = λ e. cc;
+      sink = λ e. cc;
+      files = λ e. absurd cc;
+      link = λ e. absurd cc;
+      device = λ d. subst (λ (e : End). IsAtDevice e) is d;
+    }
 none_blamed before after end (inr (inr is)) =
-    record { words = λ e. cc; sink = λ e. cc; files = λ e. absurd cc; link = λ e. absurd cc }
+    record {
+      words = λ e. cc;
+      sink = λ e. cc;
+      files = λ e. absurd cc;
+      link = λ e. absurd cc;
+      device = λ d. subst (λ (e : End). IsAtDevice e) is d;
+    }
 
 put_blamed : (before after : Progress) (end : End) → IsEndAtFile end
     → after.files.faults ≡ file_faults_after before.files.faults end → Blamed before after end
@@ -80,6 +108,7 @@ put_blamed before after end at faults = record {
   sink = (at_file end at).sink;
   files = λ is. faults ∙ ap (file_faults_after before.files.faults) is;
   link = λ is. absurd ((at_file end at).link is);
+  device = (at_file end at).device;
 }
 
 ask_blamed : (count : ℕ) (before after : Progress) (end : End) → EndsAsk count before.at after.at end
@@ -90,6 +119,7 @@ ask_blamed count before after end (inl short) =
       sink = λ is. by.sink (sym short.end_is ∙ is);
       files = λ is. absurd (by.files (sym short.end_is ∙ is));
       link = λ is. failed_by _ _ _ _ short.stop short.asks.serves (sym short.end_is ∙ is);
+      device = λ d. by.device (subst (λ (e : End). IsAtDevice e) short.end_is d);
     }
 ask_blamed count before after end (inr over) = none_blamed before after end (inr (inr over.end_is))
 
@@ -144,5 +174,6 @@ steps_blamed (step ∷ steps) before after end path (inl (next, done, does)) =
       sink = later.sink;
       files = λ is. later.files is ∙ ap one_more calm.files;
       link = λ is. rw (sym calm.link) (later.link is);
+      device = later.device;
     }
 steps_blamed (step ∷ steps) before after end path (inr (ends, at)) = step_blamed step before after end ends

@@ -15,6 +15,7 @@ use Rattle.srv_run.specs.Once.{opened, EndsAtPrototype, RunsOnce, RunsSteps}
 use Rattle.srv_run.specs.Reading.{file_or_end, proto_or_end}
 use Rattle.srv_run.specs.Report.{status_of}
 use Rattle.srv_run.specs.Run.{Runs}
+use Rattle.srv_run.specs.Stage.{Shows, Stage}
 use Rattle.srv_run.specs.Steps.{progress}
 use Rattle.srv_run.specs.WellFormed.{IsWellUsed}
 use Rattle.srv_run.proofs.AskedLemmas.{IsOpen}
@@ -66,7 +67,7 @@ excused-run site path steps world world' end at (inr ends) used =
     (told _ world.files.held used.held used.held_is ends.ends.found)
 
 -- where no device failed, all was done or memory ran out
-done-or-short : (end : End) → IsExcused end → (end ≡ FileFault → ⊥) → (end ≡ LinkFault → ⊥)
+pub done-or-short : (end : End) → IsExcused end → (end ≡ FileFault → ⊥) → (end ≡ LinkFault → ⊥)
     → (end ≡ Done) ⊎ (end ≡ NoMemory)
 done-or-short Done excused files link = inl refl
 done-or-short NoMemory excused files link = inr refl
@@ -78,20 +79,20 @@ pub end-once : (site : Site) (path : List ℕ) (steps : List Step) (end : End) (
     → RunsOnce site path steps end world world' → IsWellUsed site path steps world world'
     → (end ≡ Done) ⊎ (end ≡ NoMemory)
 end-once site path steps end world world' runs used =
-    let blamed = once_blamed site path steps end world world' runs.at runs.runs in
+    let blamed = (once_blamed site path steps end world world' runs.at runs.runs).0 in
     done-or-short end (excused-run site path steps world world' end runs.at runs.runs used)
     (λ is. omega (arith, blamed.files is, used.files)) (λ is. omega (arith, blamed.link is, used.link))
 
-status-of : (end : End) (status : ℕ) → status ≡ status_of end → (end ≡ Done) ⊎ (end ≡ NoMemory)
+pub status-of : (end : End) (status : ℕ) → status ≡ status_of end → (end ≡ Done) ⊎ (end ≡ NoMemory)
     → (status ≡ 0) ⊎ (status ≡ 4)
 status-of end status is (inl done) = inl (is ∙ ap status_of done)
 status-of end status is (inr short) = inr (is ∙ ap status_of short)
 
-pub status-once : (site : Site) (path : List ℕ) (steps : List Step) (status : ℕ) (world world' : WorldShown)
-    → Runs (Some (Once site path steps)) status world world' → IsWellUsed site path steps world world'
-    → (status ≡ 0) ⊎ (status ≡ 4)
-status-once site path steps status world world' runs used =
+pub status-once : {D I C L : Type 0} (show : Shows D I C L) (site : Site) (path : List ℕ) (steps : List Step)
+    (status : ℕ) (stage stage' : Stage D I C) → Runs show (Some (Once site path steps)) status stage stage'
+    → IsWellUsed site path steps stage.outside stage'.outside → (status ≡ 0) ⊎ (status ≡ 4)
+status-once show site path steps status stage stage' runs used =
     status-of runs.end status runs.status_is (elim runs.does [
-      | inl does ↦ end-once site path steps runs.end world world' does used
+      | inl does ↦ end-once site path steps runs.end stage.outside stage'.outside does used
       | inr short ↦ inr short.0
     ])

@@ -1,9 +1,15 @@
 pub mod Check
+pub mod Closing
+pub mod Devices
 pub mod Load
 pub mod Once
+pub mod Opening
 pub mod Publishing
 pub mod Reading
 pub mod Report
 pub mod Run
+pub mod Serve
+pub mod Stage
 pub mod Steps
 pub mod WellFormed
+pub mod WellServed

@@ -3,8 +3,8 @@ use Rattle.std.specs.Prelude.{◌≡◌, ◌⊎◌, ℕ, List, [], Ok, IfSome}
 use Rattle.fm_base.specs.Chain.{◌>>=◌}
 use Rattle.fm_model.specs.declared.proto.Proto.{Proto}
 use Rattle.fm_model.specs.declared.site.Site.{Site}
-use Rattle.fm_world.specs.Shown.{FilesShown, LinkShown}
 use Rattle.fm_doors.specs.World.{WorldShown}
+use Rattle.fm_world.specs.Shown.{FilesShown, LinkShown}
 use Rattle.pub_plain.specs.History.{History}
 use Rattle.web_session.specs.State.{fresh, State}
 use Rattle.srv_words.specs.declared.job.Step.{Step}

@@ -1,10 +1,11 @@
 -- What a program says of how it ended: its status and a line.
 use Rattle.std.specs.Prelude.{◌≡◌, ◌⊎◌, ℕ, ◌≤◌, List, [], ◌++◌, length, take, codes, decimal, Option, Result, MatchResult}
+use Rattle.fm_doors.specs.World.{WorldShown}
 use Rattle.fm_world.specs.Cause.{one_more}
 use Rattle.fm_world.specs.Shown.{SinkShown}
 use Rattle.fm_world.specs.Sink.{after_append}
 use Rattle.srv_run.specs.declared.end.End.{End}
-use Rattle.srv_run.specs.declared.end.End.TheVariants.{Done, BadWords, Refused, NoMemory, FileFault, SinkFault, LinkFault, NoFile, TooLong, InputEnded}
+use Rattle.srv_run.specs.declared.end.End.TheVariants.{Done, BadWords, Refused, NoMemory, FileFault, SinkFault, LinkFault, DoorFault, InboxFault, NoFile, TooLong, InputEnded}
 
 -- the status of a program that ended so
 abbrev pub status_of : End → ℕ
@@ -13,7 +14,9 @@ status_of BadWords = 2
 status_of (Refused code) = 3
 status_of NoMemory = 4
 status_of FileFault = 5
+status_of (DoorFault number) = 6
 status_of SinkFault = 7
+status_of (InboxFault number) = 8
 status_of LinkFault = 9
 status_of NoFile = 10
 status_of (TooLong len) = 10
@@ -28,6 +31,10 @@ too_long_line path len = codes "too long " ++ path ++ codes " " ++ decimal len +
 unfoldable pub file_fault_line : List ℕ → List ℕ
 file_fault_line path = codes "file fault " ++ path ++ codes "\n"
 
+-- the line of a device that failed, by its word and its number
+unfoldable pub device_line : List ℕ → ℕ → List ℕ
+device_line word number = word ++ decimal number ++ codes "\n"
+
 unfoldable pub no_file_line : List ℕ → List ℕ
 no_file_line path = codes "no file " ++ path ++ codes "\n"
 
@@ -40,6 +47,8 @@ line_of NoMemory path = codes "no memory\n"
 line_of FileFault path = file_fault_line path
 line_of SinkFault path = []
 line_of LinkFault path = codes "link fault\n"
+line_of (DoorFault number) path = device_line (codes "door fault ") number
+line_of (InboxFault number) path = device_line (codes "inbox fault ") number
 line_of NoFile path = no_file_line path
 line_of (TooLong len) path = too_long_line path len
 line_of InputEnded path = codes "input ended\n"
@@ -65,3 +74,9 @@ pub record CutsLine (line : List ℕ) (sink sink' : SinkShown) : Type 0 where
 -- The line was written whole, or it was cut.
 abbrev pub Reports : List ℕ → SinkShown → SinkShown → Type 0
 Reports line sink sink' = WritesLine line sink sink' ⊎ CutsLine line sink sink'
+
+-- Only the sink was used, for this line.
+pub record Says (line : List ℕ) (world world' : WorldShown) : Type 0 where
+  pub unread : world'.files ≡ world.files
+  pub unused : world'.link ≡ world.link
+  pub reports : Reports line world.sink world'.sink

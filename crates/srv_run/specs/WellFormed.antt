@@ -5,8 +5,8 @@ use Rattle.fm_model.specs.declared.proto.Proto.{Proto}
 use Rattle.fm_model.specs.declared.site.Site.{Site}
 use Rattle.fm_world.specs.Cause.{one_more}
 use Rattle.fm_world.specs.Link.{Wire}
-use Rattle.fm_world.specs.Shown.{Shown}
 use Rattle.fm_doors.specs.World.{WorldShown}
+use Rattle.fm_world.specs.Shown.{Shown}
 use Rattle.pub_plain.specs.History.{History}
 use Rattle.web_frame.specs.Items.{heads_of, Item}
 use Rattle.dap_reply.specs.Reply.{is_last}

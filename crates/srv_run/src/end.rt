@@ -21,6 +21,10 @@ pub enum End {
     SinkFault,
     /// The link failed.
     LinkFault,
+    /// A door failed, or couldn't be opened; its number, from 0.
+    DoorFault(u32),
+    /// An inbox failed, or couldn't be opened; its number, from 0.
+    InboxFault(u32),
     /// No file lies at the path.
     NoFile,
     /// The length of the file in bytes, which is over the limit.
@@ -43,7 +47,9 @@ impl End {
             End::Refused(_) => 3,
             End::NoMemory => 4,
             End::FileFault => 5,
+            End::DoorFault(_) => 6,
             End::SinkFault => 7,
+            End::InboxFault(_) => 8,
             End::LinkFault => 9,
             End::NoFile | End::TooLong(_) => 10,
             End::InputEnded => 11,

@@ -3,32 +3,23 @@ ghost use Rattle.std.specs.Prelude.{◌≡◌, ◌<◌, ◌≤◌, [], IfOk, Opt
 ghost use Rattle.fm_doors.specs.World.{world_shown};
 ghost use Rattle.srv_words.specs.declared.job.Job.{Job as Work};
 ghost use Rattle.srv_words.specs.Jobs.{IsJob, job_of};
-ghost use Rattle.srv_run.specs.Report.{line_of};
 ghost use Rattle.srv_run.specs.Run as spec;
+ghost use Rattle.srv_run.specs.Stage.{shows, stage_of};
 
 use crate::check::check;
 use crate::end::End;
 use crate::load::load;
 use crate::once::once;
-use crate::report::report;
+use crate::report::say;
+use crate::serve::serve;
 use fm_base::{Bytes, Fail, List};
-use fm_doors::{Gate, Opener, World};
+use fm_doors::{Door, Gate, Opener, World};
 use fm_world::{Files, Link, Sink};
 use srv_words::{Job, read_job};
 use std::alloc::Global;
-
-// Writes the line of an end at which no file is named.
-fn say<O: Opener, F: Files, L: Link, S: Sink, G: Gate>(
-    world: &mut World<O, F, L, S, G>,
-    end: End,
-) -> End
-    ensures end { result ≡ end }
-    ensures says { let shown = world_shown F.shown L.shown S.shown in
-        spec.Says (line_of end []) (shown world.old) (shown world.new) }
-{
-    let _written = report(&mut world.sink, end, b"");
-    end
-}
+use std::marker::{Send, Sync};
+use std::sync::Wait;
+use std::thread::Threads;
 
 // Runs `check`.
 fn check_path<O: Opener, F: Files, L: Link, S: Sink, G: Gate>(
@@ -57,15 +48,17 @@ fn load_files<O: Opener, F: Files, L: Link, S: Sink, G: Gate>(
     load(alloc, &mut world.sink, seed, files)
 }
 
-// Does a job.
-fn do_job<O: Opener, F: Files, L: Link, S: Sink, G: Gate>(
+// Does a job that waits for nobody.
+fn do_alone<O: Opener, F: Files, L: Link, S: Sink, G: Gate>(
     alloc: Global,
     job: Job,
     world: &mut World<O, F, L, S, G>,
 ) -> End
-    requires { IsJob job }
-    ensures { let shown = world_shown F.shown L.shown S.shown in
-        spec.DoesJob (Some job) result (shown world.old) (shown world.new) }
+    requires job { IsJob job }
+    requires alone { spec.IsAlone job }
+    ensures { let stage = stage_of O.shown F.shown L.shown S.shown in
+        spec.DoesJob (shows O.D.shown O.D.L.shown O.I.shown O.C.shown) (Some job) result
+        (stage world.old) (stage world.new) }
 {
     match job {
         Job::Once { site, proto, steps } => {
@@ -73,6 +66,30 @@ fn do_job<O: Opener, F: Files, L: Link, S: Sink, G: Gate>(
         }
         Job::Check { path } => check_path(alloc, path.as_slice(), world),
         Job::Load { seed, files } => load_files(alloc, seed, files, world),
+        Job::Serve(_) => unreachable!(),
+    }
+}
+
+// Does a job.
+fn do_job<R: Threads + Wait + Sync, O: Opener, F: Files, L: Link, S: Sink, G: Gate + Sync>(
+    rt: &R,
+    alloc: Global,
+    job: Job,
+    world: &mut World<O, F, L, S, G>,
+) -> End
+where
+    O::D: Send,
+    O::I: Send,
+    O::C: Send,
+    <O::D as Door>::L: Send,
+    requires { IsJob job }
+    ensures { let stage = stage_of O.shown F.shown L.shown S.shown in
+        spec.DoesJob (shows O.D.shown O.D.L.shown O.I.shown O.C.shown) (Some job) result
+        (stage world.old) (stage world.new) }
+{
+    match job {
+        Job::Serve(serving) => serve(rt, alloc, &serving, world),
+        job => do_alone(alloc, job, world),
     }
 }
 
@@ -92,6 +109,7 @@ pub(crate) fn job_or_end(alloc: Global, words: &List<Bytes>) -> Result<Job, End>
 pub(crate) fn once_or_end(alloc: Global, words: &List<Bytes>) -> Result<Job, End>
     ensures job { spec.IsJobOrEnd (spec.once_alone (job_of words.now)) result }
     ensures sound { IfOk result IsJob }
+    ensures alone { IfOk result spec.IsAlone }
 {
     let job = job_or_end(alloc, words)?;
     if matches!(&job, Job::Once { .. }) {
@@ -105,6 +123,7 @@ pub(crate) fn once_or_end(alloc: Global, words: &List<Bytes>) -> Result<Job, End
 pub(crate) fn check_or_end(alloc: Global, words: &List<Bytes>) -> Result<Job, End>
     ensures job { spec.IsJobOrEnd (spec.check_alone (job_of words.now)) result }
     ensures sound { IfOk result IsJob }
+    ensures alone { IfOk result spec.IsAlone }
 {
     let job = job_or_end(alloc, words)?;
     if matches!(&job, Job::Check { .. }) {
@@ -118,6 +137,7 @@ pub(crate) fn check_or_end(alloc: Global, words: &List<Bytes>) -> Result<Job, En
 pub(crate) fn load_or_end(alloc: Global, words: &List<Bytes>) -> Result<Job, End>
     ensures job { spec.IsJobOrEnd (spec.load_alone (job_of words.now)) result }
     ensures sound { IfOk result IsJob }
+    ensures alone { IfOk result spec.IsAlone }
 {
     let job = job_or_end(alloc, words)?;
     if matches!(&job, Job::Load { .. }) {
@@ -127,19 +147,61 @@ pub(crate) fn load_or_end(alloc: Global, words: &List<Bytes>) -> Result<Job, End
     }
 }
 
-// Does the job that was found, or says why there is none, and returns the status of the program.
-pub(crate) fn do_found<O: Opener, F: Files, L: Link, S: Sink, G: Gate>(
+// The same, where it is `serve`.
+pub(crate) fn serve_or_end(alloc: Global, words: &List<Bytes>) -> Result<Job, End>
+    ensures job { spec.IsJobOrEnd (spec.serve_alone (job_of words.now)) result }
+    ensures sound { IfOk result IsJob }
+{
+    let job = job_or_end(alloc, words)?;
+    if matches!(&job, Job::Serve(_)) {
+        Ok(job)
+    } else {
+        Err(End::BadWords)
+    }
+}
+
+// Does the job that was found, which waits for nobody, or says why there is none, and returns the status of the program.
+pub(crate) fn do_found_alone<O: Opener, F: Files, L: Link, S: Sink, G: Gate>(
     alloc: Global,
     found: Result<Job, End>,
     world: &mut World<O, F, L, S, G>,
 ) -> u8
-    requires { IfOk found IsJob }
-    ensures { let shown = world_shown F.shown L.shown S.shown in
+    requires job { IfOk found IsJob }
+    requires alone { IfOk found spec.IsAlone }
+    ensures { let stage = stage_of O.shown F.shown L.shown S.shown in
         (job : Option Work) → spec.IsJobOrEnd job found
-        → spec.Runs job result (shown world.old) (shown world.new) }
+        → spec.Runs (shows O.D.shown O.D.L.shown O.I.shown O.C.shown) job result
+        (stage world.old) (stage world.new) }
 {
     let end = match found {
-        Ok(job) => do_job(alloc, job, world),
+        Ok(job) => do_alone(alloc, job, world),
+        Err(end) => say(world, end),
+    };
+    end.status()
+}
+
+// Does the job that was found, or says why there is none, and returns the status of the program.
+pub(crate) fn do_found<
+    R: Threads + Wait + Sync,
+    O: Opener,
+    F: Files,
+    L: Link,
+    S: Sink,
+    G: Gate + Sync,
+>(rt: &R, alloc: Global, found: Result<Job, End>, world: &mut World<O, F, L, S, G>) -> u8
+where
+    O::D: Send,
+    O::I: Send,
+    O::C: Send,
+    <O::D as Door>::L: Send,
+    requires { IfOk found IsJob }
+    ensures { let stage = stage_of O.shown F.shown L.shown S.shown in
+        (job : Option Work) → spec.IsJobOrEnd job found
+        → spec.Runs (shows O.D.shown O.D.L.shown O.I.shown O.C.shown) job result
+        (stage world.old) (stage world.new) }
+{
+    let end = match found {
+        Ok(job) => do_job(rt, alloc, job, world),
         Err(end) => say(world, end),
     };
     end.status()

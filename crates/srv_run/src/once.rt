@@ -20,7 +20,7 @@ use std::alloc::Global;
 use web_session::Session;
 
 // Reads the file at a path as the prototype of a collection.
-fn read_prototype<F: Files>(
+pub(crate) fn read_prototype<F: Files>(
     alloc: Global,
     files: &mut F,
     site: Site,

@@ -1,18 +1,23 @@
 //! The top call of the program, and a call for each of its commands.
 ghost use Rattle.std.specs.Prelude.{◌≡◌};
 ghost use Rattle.std.specs.Process.{exit_status};
-ghost use Rattle.fm_doors.specs.World.{world_shown};
 ghost use Rattle.srv_words.specs.Jobs.{job_of};
 ghost use Rattle.srv_run.specs.Run as spec;
+ghost use Rattle.srv_run.specs.Stage.{shows, stage_of};
 
 use crate::end::End;
-use crate::job::{check_or_end, do_found, job_or_end, load_or_end, once_or_end};
+use crate::job::{
+    check_or_end, do_found, do_found_alone, job_or_end, load_or_end, once_or_end, serve_or_end,
+};
 use fm_base::{Bytes, List};
-use fm_doors::{Gate, Opener, World};
+use fm_doors::{Door, Gate, Opener, World};
 use fm_world::{Files, Link, Sink};
 use srv_words::usage_of;
 use std::alloc::Global;
+use std::marker::{Send, Sync};
 use std::process::ExitCode;
+use std::sync::Wait;
+use std::thread::Threads;
 
 /// Runs `once --name NAME --proto PROTO [--epoch INSTANT] [--mark MARK] STEP..`: reads the prototype PROTO, and does the
 /// steps in their order on an empty collection over it and one connection over the link. Returns the status of the
@@ -43,13 +48,15 @@ pub fn run_once<O: Opener, F: Files, L: Link, S: Sink, G: Gate>(
     words: &List<Bytes>,
     world: &mut World<O, F, L, S, G>,
 ) -> u8
-    ensures runs { let shown = world_shown F.shown L.shown S.shown in
-        spec.Runs (spec.once_alone (job_of words.now)) result (shown world.old) (shown world.new) }
-    ensures blames { let shown = world_shown F.shown L.shown S.shown in
-        spec.Blames (spec.once_alone (job_of words.now)) result (shown world.old) (shown world.new) }
+    ensures runs { let stage = stage_of O.shown F.shown L.shown S.shown in
+        spec.Runs (shows O.D.shown O.D.L.shown O.I.shown O.C.shown)
+        (spec.once_alone (job_of words.now)) result (stage world.old) (stage world.new) }
+    ensures blames { let stage = stage_of O.shown F.shown L.shown S.shown in
+        spec.Blames (shows O.D.shown O.D.L.shown O.I.shown O.C.shown)
+        (spec.once_alone (job_of words.now)) result (stage world.old) (stage world.new) }
 {
     let found = once_or_end(alloc, words);
-    do_found(alloc, found, world)
+    do_found_alone(alloc, found, world)
 }
 
 /// Runs `check FILE`: reads the header of a file in the netCDF classic format and sees that all its data lies in the
@@ -72,13 +79,15 @@ pub fn run_check<O: Opener, F: Files, L: Link, S: Sink, G: Gate>(
     words: &List<Bytes>,
     world: &mut World<O, F, L, S, G>,
 ) -> u8
-    ensures runs { let shown = world_shown F.shown L.shown S.shown in
-        spec.Runs (spec.check_alone (job_of words.now)) result (shown world.old) (shown world.new) }
-    ensures blames { let shown = world_shown F.shown L.shown S.shown in
-        spec.Blames (spec.check_alone (job_of words.now)) result (shown world.old) (shown world.new) }
+    ensures runs { let stage = stage_of O.shown F.shown L.shown S.shown in
+        spec.Runs (shows O.D.shown O.D.L.shown O.I.shown O.C.shown)
+        (spec.check_alone (job_of words.now)) result (stage world.old) (stage world.new) }
+    ensures blames { let stage = stage_of O.shown F.shown L.shown S.shown in
+        spec.Blames (shows O.D.shown O.D.L.shown O.I.shown O.C.shown)
+        (spec.check_alone (job_of words.now)) result (stage world.old) (stage world.new) }
 {
     let found = check_or_end(alloc, words);
-    do_found(alloc, found, world)
+    do_found_alone(alloc, found, world)
 }
 
 /// Runs `load SEED FILES`: makes the first FILES files of a seed, puts them one after the other in a collection whose
@@ -100,30 +109,86 @@ pub fn run_load<O: Opener, F: Files, L: Link, S: Sink, G: Gate>(
     words: &List<Bytes>,
     world: &mut World<O, F, L, S, G>,
 ) -> u8
-    ensures runs { let shown = world_shown F.shown L.shown S.shown in
-        spec.Runs (spec.load_alone (job_of words.now)) result (shown world.old) (shown world.new) }
-    ensures blames { let shown = world_shown F.shown L.shown S.shown in
-        spec.Blames (spec.load_alone (job_of words.now)) result (shown world.old) (shown world.new) }
+    ensures runs { let stage = stage_of O.shown F.shown L.shown S.shown in
+        spec.Runs (shows O.D.shown O.D.L.shown O.I.shown O.C.shown)
+        (spec.load_alone (job_of words.now)) result (stage world.old) (stage world.new) }
+    ensures blames { let stage = stage_of O.shown F.shown L.shown S.shown in
+        spec.Blames (shows O.D.shown O.D.L.shown O.I.shown O.C.shown)
+        (spec.load_alone (job_of words.now)) result (stage world.old) (stage world.new) }
 {
     let found = load_or_end(alloc, words);
-    do_found(alloc, found, world)
+    do_found_alone(alloc, found, world)
+}
+
+/// Runs `serve --name NAME --proto PROTO --listen ADDRESS [--workers K] [--connections C] [--keep SECONDS] [--ticks T]
+/// [--epoch INSTANT] [--mark MARK] INBOX..`: reads the prototype PROTO, opens K doors at the address, an inbox for each
+/// INBOX, and with `--keep` a clock, and has a worker for each of them, all at once: links that come through the doors are
+/// served from the collection, files that arrive in the inboxes come to it or are taken back from it, and at each moment of
+/// the clock the runs go that are older than SECONDS. Once all workers have ended it says what they did. It waits for all
+/// of them. Returns the status of the program.
+///
+/// | Status | Line | Comes |
+/// |---|---|---|
+/// | 0 | `published P retracted T expired E held F rows R revision V` | every door closed, nothing arrives any more, the clock has ended, and the line was written |
+/// | 2 | `bad words` | exactly where the words aren't the command |
+/// | 3 | `refused PROTO code C` | exactly where the prototype is refused; C is the number of its first fault |
+/// | 4 | `no memory` | at any time |
+/// | 5 | `file fault PROTO` | only where a call of the files failed |
+/// | 6 | `door fault I` | only where door I, from 0, couldn't be opened, or one of its calls failed |
+/// | 7 | the first bytes of the line of 0 | only where a call of the sink failed |
+/// | 8 | `inbox fault I` | only where inbox I, from 0, couldn't be opened, or one of its calls failed |
+/// | 10 | `no file PROTO`, `too long PROTO LEN` | exactly where the path has no file, or one of over 536,870,912 bytes |
+///
+/// P, T and E are the files that came, those that were taken back, and the times that runs went; F and R the files and
+/// times that the collection holds at the end, and V the operations that were published, P + T + E of them. The first
+/// worker that didn't end well gives the status: doors come before inboxes, and these before the clock. A line of another
+/// status that can't be written changes no status. The devices stand in the world as they were left.
+#[tactic(auto, using(crate::proofs::BlameLemmas::runs))]
+pub fn run_serve<R: Threads + Wait + Sync, O: Opener, F: Files, L: Link, S: Sink, G: Gate + Sync>(
+    rt: &R,
+    alloc: Global,
+    words: &List<Bytes>,
+    world: &mut World<O, F, L, S, G>,
+) -> u8
+where
+    O::D: Send,
+    O::I: Send,
+    O::C: Send,
+    <O::D as Door>::L: Send,
+    ensures runs { let stage = stage_of O.shown F.shown L.shown S.shown in
+        spec.Runs (shows O.D.shown O.D.L.shown O.I.shown O.C.shown)
+        (spec.serve_alone (job_of words.now)) result (stage world.old) (stage world.new) }
+    ensures blames { let stage = stage_of O.shown F.shown L.shown S.shown in
+        spec.Blames (shows O.D.shown O.D.L.shown O.I.shown O.C.shown)
+        (spec.serve_alone (job_of words.now)) result (stage world.old) (stage world.new) }
+{
+    let found = serve_or_end(alloc, words);
+    do_found(rt, alloc, found, world)
 }
 
 /// Does what the words ask for, without the program's own name, reports how it ended, and returns the status of the
 /// program: as the call of the command that the words name, whose other calls have the same answers for bad words.
 #[tactic(auto, using(crate::proofs::BlameLemmas::runs))]
-pub fn run<O: Opener, F: Files, L: Link, S: Sink, G: Gate>(
+pub fn run<R: Threads + Wait + Sync, O: Opener, F: Files, L: Link, S: Sink, G: Gate + Sync>(
+    rt: &R,
     alloc: Global,
     words: &List<Bytes>,
     world: &mut World<O, F, L, S, G>,
 ) -> u8
-    ensures runs { let shown = world_shown F.shown L.shown S.shown in
-        spec.Runs (job_of words.now) result (shown world.old) (shown world.new) }
-    ensures blames { let shown = world_shown F.shown L.shown S.shown in
-        spec.Blames (job_of words.now) result (shown world.old) (shown world.new) }
+where
+    O::D: Send,
+    O::I: Send,
+    O::C: Send,
+    <O::D as Door>::L: Send,
+    ensures runs { let stage = stage_of O.shown F.shown L.shown S.shown in
+        spec.Runs (shows O.D.shown O.D.L.shown O.I.shown O.C.shown)
+        (job_of words.now) result (stage world.old) (stage world.new) }
+    ensures blames { let stage = stage_of O.shown F.shown L.shown S.shown in
+        spec.Blames (shows O.D.shown O.D.L.shown O.I.shown O.C.shown)
+        (job_of words.now) result (stage world.old) (stage world.new) }
 {
     let found = job_or_end(alloc, words);
-    do_found(alloc, found, world)
+    do_found(rt, alloc, found, world)
 }
 
 // What a person is told after a run with this status: what is wrong with the words, where they are bad. No clause speaks of
@@ -138,14 +203,21 @@ fn told(alloc: Global, words: &List<Bytes>, status: u8) -> Option<String> {
 
 /// As [`run`], for a process that ends with the status; and what a person is told beside the line where the words are bad:
 /// what `clap` says of them, with the usage. No clause speaks of that text.
-pub fn run_process<O: Opener, F: Files, L: Link, S: Sink, G: Gate>(
+pub fn run_process<R: Threads + Wait + Sync, O: Opener, F: Files, L: Link, S: Sink, G: Gate + Sync>(
+    rt: &R,
     alloc: Global,
     words: &List<Bytes>,
     world: &mut World<O, F, L, S, G>,
 ) -> (ExitCode, Option<String>)
-    ensures { let shown = world_shown F.shown L.shown S.shown in
-        spec.Runs (job_of words.now) (exit_status result.0) (shown world.old) (shown world.new) }
+where
+    O::D: Send,
+    O::I: Send,
+    O::C: Send,
+    <O::D as Door>::L: Send,
+    ensures { let stage = stage_of O.shown F.shown L.shown S.shown in
+        spec.Runs (shows O.D.shown O.D.L.shown O.I.shown O.C.shown)
+        (job_of words.now) (exit_status result.0) (stage world.old) (stage world.new) }
 {
-    let status = run(alloc, words, world);
+    let status = run(rt, alloc, words, world);
     (ExitCode::from(status), told(alloc, words, status))
 }

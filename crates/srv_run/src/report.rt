@@ -1,12 +1,14 @@
 //! Reports how a run ended.
-ghost use Rattle.std.specs.Prelude.{◌≡◌};
+ghost use Rattle.std.specs.Prelude.{◌≡◌, []};
 ghost use Rattle.std.specs.List.{flat_map};
+ghost use Rattle.fm_doors.specs.World.{world_shown};
 ghost use Rattle.fm_world.specs.Cause.{HasCause};
 ghost use Rattle.srv_run.specs.Report as spec;
 ghost use Rattle.srv_run.specs.Report.{Appends};
 
 use crate::end::End;
-use fm_world::{Failed, Sink};
+use fm_doors::{Gate, Opener, World};
+use fm_world::{Failed, Files, Link, Sink};
 use itoa::Buffer;
 
 // Writes the slices one after the other.
@@ -68,6 +70,17 @@ fn put_file_fault<S: Sink>(sink: &mut S, path: &[u8]) -> Result<(), Failed>
     put_pieces(sink, &[b"file fault ".as_slice(), path, b"\n".as_slice()])
 }
 
+// Writes the line of a device that failed, by its word and its number.
+#[tactic(auto, unfolding(crate::specs::Report::device_line))]
+fn put_device<S: Sink>(sink: &mut S, word: &[u8], number: u32) -> Result<(), Failed>
+    ensures put { Appends (spec.device_line word.now number) (S.shown sink.old).held (S.shown sink.new).held result }
+    ensures cause { HasCause (S.shown sink.old).faults (S.shown sink.new).faults result }
+{
+    let mut digits = Buffer::new();
+    let number = digits.format(number).as_bytes();
+    put_pieces(sink, &[word, number, b"\n".as_slice()])
+}
+
 #[tactic(auto, unfolding(crate::specs::Report::no_file_line))]
 fn put_no_file<S: Sink>(sink: &mut S, path: &[u8]) -> Result<(), Failed>
     ensures put { Appends (spec.no_file_line path.now) (S.shown sink.old).held (S.shown sink.new).held result }
@@ -89,8 +102,23 @@ pub(crate) fn report<S: Sink>(sink: &mut S, end: End, path: &[u8]) -> Result<(),
         End::NoMemory => sink.put(b"no memory\n"),
         End::FileFault => put_file_fault(sink, path),
         End::LinkFault => sink.put(b"link fault\n"),
+        End::DoorFault(number) => put_device(sink, b"door fault ", number),
+        End::InboxFault(number) => put_device(sink, b"inbox fault ", number),
         End::NoFile => put_no_file(sink, path),
         End::TooLong(len) => put_too_long(sink, path, len),
         End::InputEnded => sink.put(b"input ended\n"),
     }
+}
+
+// Writes the line of an end at which no file is named.
+pub(crate) fn say<O: Opener, F: Files, L: Link, S: Sink, G: Gate>(
+    world: &mut World<O, F, L, S, G>,
+    end: End,
+) -> End
+    ensures end { result ≡ end }
+    ensures says { let shown = world_shown F.shown L.shown S.shown in
+        spec.Says (spec.line_of end []) (shown world.old) (shown world.new) }
+{
+    let _written = report(&mut world.sink, end, b"");
+    end
 }

@@ -1,0 +1,36 @@
+-- All that a run of `serve` works with: the outside of the run, and the devices that it opens.
+use Rattle.std.specs.Prelude.{Option}
+use Rattle.fm_world.specs.Shown.{FilesShown, LinkShown, SinkShown}
+use Rattle.fm_doors.specs.declared.world.World.{World}
+use Rattle.fm_doors.specs.Clock.{Moments}
+use Rattle.fm_doors.specs.Door.{DoorShown}
+use Rattle.fm_doors.specs.Inbox.{InboxShown}
+use Rattle.fm_doors.specs.Opener.{OpenerShown}
+use Rattle.fm_doors.specs.World.{WorldShown, world_shown}
+use Rattle.srv_workers.specs.declared.outcome.Devices.{Devices}
+
+-- what doors, their links, inboxes and clocks show
+pub record Shows (D I C L : Type 0) : Type 0 where
+  pub door : D → DoorShown L
+  pub link : L → LinkShown
+  pub inbox : I → InboxShown
+  pub clock : C → Option Moments
+
+abbrev pub shows : {D I C L : Type 0} → (D → DoorShown L) → (L → LinkShown) → (I → InboxShown) → (C → Option Moments)
+    → Shows D I C L
+shows door link inbox clock = record { door = door; link = link; inbox = inbox; clock = clock }
+
+-- what the outside and the opener of a world show, and the devices that were opened
+pub record Stage (D I C : Type 0) : Type 0 where
+  pub outside : WorldShown
+  pub opener : OpenerShown D I C
+  pub devices : Devices D I C
+
+-- the same, by what the opener, the files, the link and the sink of a world show
+abbrev pub stage_of : {O F L S G D I C M : Type 0} → (O → OpenerShown D I C) → (F → FilesShown) → (L → LinkShown)
+    → (S → SinkShown) → World O F L S G D I C M → Stage D I C
+stage_of opener files link sink world = record {
+  outside = world_shown files link sink world;
+  opener = opener world.opener;
+  devices = record { doors = world.doors; inboxes = world.inboxes; clocks = world.clocks };
+}

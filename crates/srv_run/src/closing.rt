@@ -1,0 +1,244 @@
+//! How a run of `serve` ends for what its workers tell, and its line.
+ghost use Rattle.std.specs.Prelude.{◌≡◌, ◌<◌, ◌^◌, ◌++◌, length, sum_by};
+ghost use Rattle.srv_workers.specs.Runs.{told_of};
+ghost use Rattle.fm_world.specs.Cause.{HasCause};
+ghost use Rattle.srv_run.specs.Closing as spec;
+ghost use Rattle.srv_run.specs.Report.{Appends};
+
+use crate::end::End;
+use crate::report::{put_pieces, report};
+use fm_model::Tally;
+use fm_world::{Failed, Sink};
+use itoa::Buffer;
+use srv_door::{DoorEnd, DoorReport};
+use srv_ingest::{ExpireReport, IngestEnd, IngestReport};
+use srv_workers::Outcome;
+
+// The end of a run where memory ran out at least once.
+fn short_end(short: u64) -> Option<End>
+    ensures { result ≡ spec.short_end short }
+{
+    if short > 0 { Some(End::NoMemory) } else { None }
+}
+
+// The end of a run at the door of this number.
+fn door_end(number: u32, report: DoorReport) -> Option<End>
+    ensures { result ≡ spec.door_end number report }
+{
+    match report.end {
+        DoorEnd::DoorFault => Some(End::DoorFault(number)),
+        DoorEnd::Closed => short_end(report.short),
+    }
+}
+
+// The end of a run at the inbox of this number.
+fn inbox_end(number: u32, report: IngestReport) -> Option<End>
+    ensures { result ≡ spec.inbox_end number report }
+{
+    match report.end {
+        IngestEnd::InboxFault => Some(End::InboxFault(number)),
+        IngestEnd::NoMemory => Some(End::NoMemory),
+        IngestEnd::Done => short_end(report.short),
+    }
+}
+
+// The first end at the doors.
+#[tactic(auto, using(crate::proofs::ClosingLemmas::ends))]
+fn first_at_doors(reports: &[DoorReport]) -> Option<End>
+    requires { length reports.now < 2 ^ 32 }
+    ensures { result ≡ spec.first_from spec.door_end 0 reports.now }
+{
+    for number in 0..reports.len() {
+        let end = door_end(number as u32, reports[number]);
+        if end.is_some() {
+            return end;
+        }
+    }
+    None
+}
+
+// The first end at the inboxes.
+#[tactic(auto, using(crate::proofs::ClosingLemmas::ends))]
+fn first_at_inboxes(reports: &[IngestReport]) -> Option<End>
+    requires { length reports.now < 2 ^ 32 }
+    ensures { result ≡ spec.first_from spec.inbox_end 0 reports.now }
+{
+    for number in 0..reports.len() {
+        let end = inbox_end(number as u32, reports[number]);
+        if end.is_some() {
+            return end;
+        }
+    }
+    None
+}
+
+// The first end at the clocks.
+#[tactic(auto, using(crate::proofs::ClosingLemmas::ends))]
+fn first_at_clocks(reports: &[ExpireReport]) -> Option<End>
+    ensures { result ≡ spec.first_from spec.clock_end 0 reports.now }
+{
+    for number in 0..reports.len() {
+        let end = short_end(reports[number].short);
+        if end.is_some() {
+            return end;
+        }
+    }
+    None
+}
+
+// The first end of a run at the doors, the inboxes and the clocks.
+fn first_end(outcome: &Outcome) -> Option<End>
+    requires doors { length outcome.now.doors < 2 ^ 32 }
+    requires inboxes { length outcome.now.inboxes < 2 ^ 32 }
+    ensures { result ≡ spec.first_end outcome.now }
+{
+    first_at_doors(outcome.doors.as_slice())
+        .or(first_at_inboxes(outcome.inboxes.as_slice()))
+        .or(first_at_clocks(outcome.clocks.as_slice()))
+}
+
+// The sum of a count over reports.
+#[tactic(auto, using(crate::proofs::ClosingLemmas::sums))]
+fn published(reports: &[IngestReport]) -> u64
+    requires { sum_by (λ (report : _). report.published) reports.now < 2 ^ 64 }
+    ensures { result ≡ sum_by (λ (report : _). report.published) reports.now }
+{
+    let mut sum = 0;
+    for number in 0..reports.len() {
+        sum += reports[number].published;
+    }
+    sum
+}
+
+// How many files were taken back.
+#[tactic(auto, using(crate::proofs::ClosingLemmas::sums))]
+fn retracted(reports: &[IngestReport]) -> u64
+    requires { sum_by (λ (report : _). report.retracted) reports.now < 2 ^ 64 }
+    ensures { result ≡ sum_by (λ (report : _). report.retracted) reports.now }
+{
+    let mut sum = 0;
+    for number in 0..reports.len() {
+        sum += reports[number].retracted;
+    }
+    sum
+}
+
+// How many times runs went.
+#[tactic(auto, using(crate::proofs::ClosingLemmas::sums))]
+fn expired(reports: &[ExpireReport]) -> u64
+    requires { sum_by (λ (report : _). report.expired) reports.now < 2 ^ 64 }
+    ensures { result ≡ sum_by (λ (report : _). report.expired) reports.now }
+{
+    let mut sum = 0;
+    for number in 0..reports.len() {
+        sum += reports[number].expired;
+    }
+    sum
+}
+
+// Writes how many files came, were taken back, and how many times runs went. It takes no memory.
+#[tactic(auto, unfolding(crate::specs::Closing::changes_text, crate::specs::Load::field))]
+fn put_changes<S: Sink>(
+    sink: &mut S,
+    published: u64,
+    retracted: u64,
+    expired: u64,
+) -> Result<(), Failed>
+    ensures put { Appends (spec.changes_text published retracted expired)
+        (S.shown sink.old).held (S.shown sink.new).held result }
+    ensures cause { HasCause (S.shown sink.old).faults (S.shown sink.new).faults result }
+{
+    let mut came = Buffer::new();
+    let mut back = Buffer::new();
+    let mut went = Buffer::new();
+    put_pieces(
+        sink,
+        &[
+            b"published ".as_slice(),
+            came.format(published).as_bytes(),
+            b" retracted ".as_slice(),
+            back.format(retracted).as_bytes(),
+            b" expired ".as_slice(),
+            went.format(expired).as_bytes(),
+        ],
+    )
+}
+
+// Writes how many files and times are held at the end, how many operations were published, and the end of the line. It
+// takes no memory.
+#[tactic(auto, unfolding(crate::specs::Closing::left_text, crate::specs::Load::field))]
+fn put_left<S: Sink>(sink: &mut S, tally: Tally, revision: u64) -> Result<(), Failed>
+    ensures put { Appends (spec.left_text tally revision) (S.shown sink.old).held (S.shown sink.new).held result }
+    ensures cause { HasCause (S.shown sink.old).faults (S.shown sink.new).faults result }
+{
+    let mut files = Buffer::new();
+    let mut rows = Buffer::new();
+    let mut count = Buffer::new();
+    put_pieces(
+        sink,
+        &[
+            b" held ".as_slice(),
+            files.format(tally.files).as_bytes(),
+            b" rows ".as_slice(),
+            rows.format(tally.rows).as_bytes(),
+            b" revision ".as_slice(),
+            count.format(revision).as_bytes(),
+            b"\n".as_slice(),
+        ],
+    )
+}
+
+// Writes all of these. It takes no memory.
+#[tactic(auto, using(crate::proofs::PieceLemmas::texts))]
+fn put_counts<S: Sink>(
+    sink: &mut S,
+    published: u64,
+    retracted: u64,
+    expired: u64,
+    tally: Tally,
+    revision: u64,
+) -> Result<(), Failed>
+    ensures put { Appends (spec.changes_text published retracted expired ++ spec.left_text tally revision)
+        (S.shown sink.old).held (S.shown sink.new).held result }
+    ensures cause { HasCause (S.shown sink.old).faults (S.shown sink.new).faults result }
+{
+    put_changes(sink, published, retracted, expired)?;
+    put_left(sink, tally, revision)
+}
+
+// Writes the line of what was served.
+fn put_served<S: Sink>(sink: &mut S, outcome: &Outcome) -> Result<(), Failed>
+    requires { told_of outcome.now < 2 ^ 64 }
+    ensures put { Appends (spec.serve_line outcome.now) (S.shown sink.old).held (S.shown sink.new).held result }
+    ensures cause { HasCause (S.shown sink.old).faults (S.shown sink.new).faults result }
+{
+    let inboxes = outcome.inboxes.as_slice();
+    let published = published(inboxes);
+    let retracted = retracted(inboxes);
+    let expired = expired(outcome.clocks.as_slice());
+    put_counts(
+        sink,
+        published,
+        retracted,
+        expired,
+        outcome.tally,
+        outcome.revision,
+    )
+}
+
+// Writes what was served, or how the run ended at its first worker that didn't end well.
+pub(crate) fn close<S: Sink>(sink: &mut S, outcome: &Outcome) -> End
+    requires doors { length outcome.now.doors < 2 ^ 32 }
+    requires inboxes { length outcome.now.inboxes < 2 ^ 32 }
+    requires told { told_of outcome.now < 2 ^ 64 }
+    ensures { spec.EndsServing outcome.now (spec.first_end outcome.now) result (S.shown sink.old) (S.shown sink.new) }
+{
+    if let Some(end) = first_end(outcome) {
+        let _written = report(sink, end, b"");
+        return end;
+    }
+    match put_served(sink, outcome) {
+        Ok(()) => End::Done,
+        Err(_failed) => End::SinkFault,
+    }
+}

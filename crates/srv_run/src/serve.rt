@@ -1,0 +1,157 @@
+//! The command that serves a collection.
+ghost use Rattle.std.specs.Prelude.{◌≡◌, [], IfErr, IfOk, OnOk};
+ghost use Rattle.fm_model.specs.Site.{IsPrototype, IsSite};
+ghost use Rattle.srv_words.specs.Serve.{IsServing};
+ghost use Rattle.srv_run.specs.Once.{EndsOpening, Opens};
+ghost use Rattle.srv_run.specs.Serve as spec;
+ghost use Rattle.srv_run.specs.Stage.{shows, stage_of};
+
+use crate::closing::close;
+use crate::end::End;
+use crate::once::read_prototype;
+use crate::opening::open_devices;
+use crate::report::report;
+use fm_base::{Arc, Bytes, List, NoMemory};
+use fm_doors::{Door, Gate, Opener, World};
+use fm_model::{Proto, Site};
+use fm_world::{Files, Link, Sink};
+use srv_words::Serving;
+use srv_workers::{Devices, Outcome, run_workers};
+use std::alloc::Global;
+use std::marker::{Send, Sync};
+use std::sync::Wait;
+use std::thread::Threads;
+
+// The same site once more.
+fn copy_of(alloc: Global, site: &Site) -> Result<Site, NoMemory>
+    ensures { IfOk result (λ copy. copy ≡ site.now) }
+{
+    Ok(Site {
+        name: Bytes::copy_of(alloc, site.name.as_slice())?,
+        epoch: site.epoch,
+        mark: Bytes::copy_of(alloc, site.mark.as_slice())?,
+    })
+}
+
+// Reads the prototype of what is served.
+fn read_shared<F: Files>(alloc: Global, files: &mut F, serving: &Serving) -> Result<Arc<Proto>, End>
+    requires { IsSite serving.now.site }
+    ensures opens { IfOk result (λ proto. Opens serving.now.site serving.now.proto (F.shown files.old) proto) }
+    ensures same { OnOk result (F.shown files.new ≡ F.shown files.old) }
+    ensures sound { IfOk result (λ proto. IsPrototype proto) }
+    ensures ends { IfErr result
+        (EndsOpening serving.now.site serving.now.proto (F.shown files.old) (F.shown files.new)) }
+{
+    let site = copy_of(alloc, &serving.site)?;
+    let proto = read_prototype(alloc, files, site, serving.proto.as_slice())?;
+    Ok(Arc::new(alloc, proto)?)
+}
+
+// Opens all devices, and has workers run over them.
+fn open_and_run<R: Threads + Wait + Sync, O: Opener, G: Gate + Sync>(
+    rt: &R,
+    alloc: Global,
+    serving: &Serving,
+    proto: &Arc<Proto>,
+    opener: &mut O,
+    gate: &G,
+    devices: &mut Devices<O::D, O::I, O::C>,
+) -> Result<Outcome, End>
+where
+    O::D: Send,
+    O::I: Send,
+    O::C: Send,
+    <O::D as Door>::L: Send,
+    requires serving { IsServing serving.now }
+    requires proto { IsPrototype proto.now }
+    requires none { devices.old ≡ record { doors = []; inboxes = []; clocks = [] } }
+    ensures run { IfOk result (spec.HasRun (shows O.D.shown O.D.L.shown O.I.shown O.C.shown) serving.now proto.now
+        (O.shown opener.old) (O.shown opener.new) devices.new) }
+    ensures stopped { IfErr result (spec.HasStopped (shows O.D.shown O.D.L.shown O.I.shown O.C.shown) serving.now
+        (O.shown opener.old) (O.shown opener.new) devices.new) }
+{
+    open_devices(alloc, opener, serving, devices)?;
+    let keep = serving.keep.unwrap_or(0);
+    let outcome = run_workers(rt, alloc, proto, keep, gate, devices)?;
+    Ok(outcome)
+}
+
+// Serves over a prototype, and says how that ended.
+fn serve_over<R: Threads + Wait + Sync, O: Opener, F: Files, L: Link, S: Sink, G: Gate + Sync>(
+    rt: &R,
+    alloc: Global,
+    serving: &Serving,
+    proto: &Arc<Proto>,
+    world: &mut World<O, F, L, S, G>,
+) -> End
+where
+    O::D: Send,
+    O::I: Send,
+    O::C: Send,
+    <O::D as Door>::L: Send,
+    requires serving { IsServing serving.now }
+    requires proto { IsPrototype proto.now }
+    ensures serves { let stage = stage_of O.shown F.shown L.shown S.shown in
+        spec.Serves (shows O.D.shown O.D.L.shown O.I.shown O.C.shown) serving.now proto.now
+        (stage world.old) (stage world.new) result }
+    ensures files { F.shown world.new.files ≡ F.shown world.old.files }
+    ensures link { L.shown world.new.link ≡ L.shown world.old.link }
+{
+    let mut devices = Devices {
+        doors: List::new(alloc),
+        inboxes: List::new(alloc),
+        clocks: List::new(alloc),
+    };
+    let ran = open_and_run(
+        rt,
+        alloc,
+        serving,
+        proto,
+        &mut world.opener,
+        &world.gate,
+        &mut devices,
+    );
+    let Devices {
+        doors,
+        inboxes,
+        clocks,
+    } = devices;
+    world.doors = doors;
+    world.inboxes = inboxes;
+    world.clocks = clocks;
+    match ran {
+        Ok(outcome) => close(&mut world.sink, &outcome),
+        Err(end) => {
+            let _written = report(&mut world.sink, end, b"");
+            end
+        }
+    }
+}
+
+// Runs `serve`.
+pub(crate) fn serve<
+    R: Threads + Wait + Sync,
+    O: Opener,
+    F: Files,
+    L: Link,
+    S: Sink,
+    G: Gate + Sync,
+>(rt: &R, alloc: Global, serving: &Serving, world: &mut World<O, F, L, S, G>) -> End
+where
+    O::D: Send,
+    O::I: Send,
+    O::C: Send,
+    <O::D as Door>::L: Send,
+    requires { IsServing serving.now }
+    ensures { let stage = stage_of O.shown F.shown L.shown S.shown in
+        spec.RunsServe (shows O.D.shown O.D.L.shown O.I.shown O.C.shown) serving.now result
+        (stage world.old) (stage world.new) }
+{
+    match read_shared(alloc, &mut world.files, serving) {
+        Ok(proto) => serve_over(rt, alloc, serving, &proto, world),
+        Err(end) => {
+            let _written = report(&mut world.sink, end, serving.proto.as_slice());
+            end
+        }
+    }
+}
