@@ -33,7 +33,7 @@ pub(crate) fn offered_in<R: rt::Files + Alloc + Clone + Drop>(
     Ok(names)
 }
 
-// The name of an entry that is offered. One whose name isn't text is passed over.
+// The name of an entry that is offered. One whose name isn't text is passed over, and one that can't be looked at.
 fn offered_name<R: rt::Files + Drop, A: Allocator>(
     rt: &R,
     alloc: Global,
@@ -42,13 +42,22 @@ fn offered_name<R: rt::Files + Drop, A: Allocator>(
     match entry {
         Ok(entry) => {
             let name = entry.file_name();
-            if !is_offered(name.as_bytes()) || !is_file(rt, entry.path().as_str())? {
+            if !is_offered(name.as_bytes()) || !is_known_file(rt, entry.path().as_str())? {
                 return Ok(None);
             }
             Ok(Some(String::from_str(alloc, name)?))
         }
         Err(error) if error.kind() == ErrorKind::InvalidFilename => Ok(None),
         Err(error) => Err(fail_of(&error)),
+    }
+}
+
+// Whether it is known that a file lies at a path. One entry that can't be looked at keeps no other from coming.
+fn is_known_file<R: rt::Files>(rt: &R, path: &str) -> Result<bool, NoMemory> {
+    match is_file(rt, path) {
+        Ok(found) => Ok(found),
+        Err(Fail::Fault(_)) => Ok(false),
+        Err(Fail::NoMemory) => Err(NoMemory),
     }
 }
 

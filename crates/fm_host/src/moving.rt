@@ -44,7 +44,8 @@ fn make_folder<R: rt::Files>(rt: &R, path: &str) -> io::Result<()> {
     }
 }
 
-// The file of a name inside a folder.
+// The file of a name inside a folder. One that can't be read stays where it is, as where there is none, and keeps no other
+// from coming.
 pub(crate) fn read_inside<R: rt::Files>(
     rt: &R,
     alloc: Global,
@@ -58,7 +59,10 @@ pub(crate) fn read_inside<R: rt::Files>(
         return Err(Fail::Fault(Failed));
     };
     let path = path_inside(alloc, folder, name)?;
-    read_file(rt, alloc, path.as_bytes(), limit)
+    match read_file(rt, alloc, path.as_bytes(), limit) {
+        Err(Fail::Fault(_)) => Ok(Found::Absent),
+        found => found,
+    }
 }
 
 // Moves the file of a name to a folder inside its own, which is made where it is missing. A file that vanished needs no

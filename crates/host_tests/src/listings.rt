@@ -2,6 +2,7 @@
 
 use fm_doors::{Arrival, Inbox};
 use fm_host::FolderInbox;
+use fm_world::Found;
 use std::alloc::{Allocator, Global};
 use std::fs::{File, Metadata, OpenOptions};
 use std::io::{self, Error, ErrorKind, Read};
@@ -9,7 +10,8 @@ use std::rt;
 use std::test::Fail;
 use std::time::Duration;
 
-// A machine on which each folder has these names, each ended by a NUL, and each name is a file.
+// A machine on which each folder has these names, each ended by a NUL, and each name is a file that can't be read; only
+// `loop.nc` can't even be looked at.
 #[derive(Clone, Copy)]
 struct Machine {
     rt: HostRuntime,
@@ -57,6 +59,9 @@ impl rt::Files for Machine {
     fn metadata(&self, path: &str) -> io::Result<Metadata> {
         if path.ends_with("STOP") {
             return Err(Error::from(ErrorKind::NotFound));
+        }
+        if path.ends_with("loop.nc") {
+            return Err(refused());
         }
         self.rt.metadata("/proc/self/exe")
     }
@@ -123,6 +128,26 @@ fn a_name_that_is_not_text_is_passed_over(rt: HostRuntime) -> Result<(), Fail> {
             Arrival::Idle | Arrival::Done => panic!(rt; "a name is left"),
         }
     }
+    assert_eq!(rt; inbox.faults(), 0);
+    Ok(())
+}
+
+#[test]
+fn an_entry_that_cannot_be_looked_at_is_passed_over(rt: HostRuntime) -> Result<(), Fail> {
+    let mut inbox = inbox(rt, b"loop.nc\0a.nc\0", false)?;
+    match inbox.next(rt.alloc())? {
+        Arrival::Name(found) => assert_eq!(rt; found.as_slice(), b"a.nc".as_slice()),
+        Arrival::Idle | Arrival::Done => panic!(rt; "a name is left"),
+    }
+    assert_eq!(rt; inbox.faults(), 0);
+    Ok(())
+}
+
+#[test]
+fn a_file_that_cannot_be_read_is_absent(rt: HostRuntime) -> Result<(), Fail> {
+    let mut inbox = inbox(rt, b"a.nc\0", false)?;
+    assert!(rt; matches!(inbox.next(rt.alloc())?, Arrival::Name(_)));
+    assert!(rt; matches!(inbox.fetch(rt.alloc(), b"a.nc", 10)?, Found::Absent));
     assert_eq!(rt; inbox.faults(), 0);
     Ok(())
 }
