@@ -94,6 +94,36 @@ run "a prototype that isn't there" 10 "" "no file $folder/absent" "$folder/none"
 run "a folder as the file" 5 "" "file fault $folder" "$folder/none" once --name gfs --proto "$sample" "put:$folder" ask:1
 run "a word that isn't text" 2 "" "bad words" "$folder/none" "$(printf '\377')"
 
+# `serve` reports to standard output. Its inbox stops at once, and its one worker ends after one connection.
+serve="serve --name gfs --proto $sample --listen"
+port=$(python3 -c 'import socket; s = socket.socket(); s.bind(("127.0.0.1", 0)); print(s.getsockname()[1])')
+whole="$serve 127.0.0.1:$port --workers 1 --connections 1 $folder/inbox"
+mkdir "$folder/inbox"
+: > "$folder/inbox/STOP"
+
+# Connects to the server that is run next, as soon as it listens.
+connect() {
+    curl -s --retry 20 --retry-connrefused --retry-delay 1 "http://127.0.0.1:$port/" > "$folder/reply" &
+}
+
+connect
+run "a server that ends" 0 "published 0 retracted 0 expired 0 held 0 rows 0 revision 0" "" "$folder/none" $whole
+wait
+grep -q 'code = 32' "$folder/reply" || { echo "a server that ends: no reply"; failures=$((failures + 1)); }
+connect
+"$program" $whole > /dev/full 2> "$folder/err"; status=$?; : > "$folder/out"
+compare "a full device for the line of a server" $status 7 "" ""
+wait
+run "a door that can't be opened" 6 "door fault 0" "" "$folder/none" $serve nowhere "$folder/inbox"
+run "an inbox that isn't there" 8 "inbox fault 0" "" "$folder/none" $serve 127.0.0.1:0 "$folder/absent"
+run "a second inbox that is a file" 8 "inbox fault 1" "" "$folder/none" $serve 127.0.0.1:0 "$folder/inbox" "$sample"
+run "a server whose prototype is cut short" 3 "refused $folder/cut.nc code 14" "" "$folder/none" \
+    serve --name gfs --proto "$folder/cut.nc" --listen nowhere "$folder/inbox"
+run "a server whose prototype isn't there" 10 "no file $folder/absent" "" "$folder/none" \
+    serve --name gfs --proto "$folder/absent" --listen nowhere "$folder/inbox"
+run "serve without a folder" 2 "bad words" "" "$folder/none" $serve nowhere
+tells "serve without a folder on a terminal" 'Usage: fmrcd serve' $serve nowhere
+
 # A stream that is closed or full.
 "$program" check "$sample" > /dev/full 2> "$folder/err"; status=$?; : > "$folder/out"
 compare "a full device" $status 7 "" ""
