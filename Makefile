@@ -1,4 +1,4 @@
-.PHONY: demo build test
+.PHONY: demo build test clients proxy restart beside
 
 FIRST = gfs_20240101_0000.nc
 LATER = gfs_20240101_0600.nc
@@ -24,3 +24,21 @@ build:
 # The merge gate: every proof from nothing, every must-fail edit, every test, and the program's stored run.
 test:
 	.ci/run
+
+# Reads from the program by the clients that users have, which it installs from the machine's Debian registry. Without
+# PROGRAM the program is proved first.
+PROGRAM =
+clients: $(if $(PROGRAM),,build)
+	clients/clients.sh $(PROGRAM)
+
+# Runs the proved program behind nginx, with docs/nginx.conf, and compares their replies.
+proxy:
+	bench/proxy.sh
+
+# Kills the proved program and starts it again, with docs/bring_back.sh: what it held comes back.
+restart:
+	tests/bring_back.sh
+
+# Measures the proved program beside nginx, which sends files of the same bytes.
+beside:
+	bench/beside_nginx.sh

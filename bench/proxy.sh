@@ -1,0 +1,14 @@
+#!/bin/sh
+# Runs the server behind nginx on this machine, with docs/nginx.conf but for its ports and its folder. It checks that
+# replies through nginx are those that the server gives, also HEAD, errors, a large reply and TLS; that connections are
+# kept on both sides; and that while files arrive no reply is older than one that any client had before it asked, also
+# from the cache, nor is one from the cache after the server was started again.
+# Use: bench/proxy.sh [PROGRAM]; by default the proved program, which 'make build' leaves. It ends within a minute, with
+# status 0 where all is as it must be. It needs nginx and openssl.
+set -eu
+top=$(cd "$(dirname "$0")/.." && pwd)
+program=${1:-$top/crates/fmrcd/out/fmrcd}
+folder=$(mktemp -d)
+trap 'rm -r "$folder"' EXIT
+trap 'exit 1' HUP INT TERM
+python3 -B "$top/bench/proxy_checks.py" "$program" "$folder"

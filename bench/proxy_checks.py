@@ -1,0 +1,270 @@
+"""Runs a server behind nginx and compares what both reply; bench/proxy.sh says how."""
+import http.client
+import os
+import random
+import signal
+import ssl
+import subprocess
+import sys
+import threading
+import time
+
+import large_files
+from local_server import TOP, Nginx, Server, free_port, stop
+from serve_replies import APART, HOUR, file_of, name_of, reply_of, target_of
+
+# How many files there are before the clients come, and how many arrive while they read.
+BEFORE, ARRIVING, CLIENTS = 20, 40, 4
+# How long nginx keeps a reply, and how much later a server may start again.
+PAUSE = 7
+
+# What nginx adds or says for its own connection.
+OWN = {"Date", "Server", "Connection"}
+
+BEST = "/thredds/dodsC/gfs/gfs_best.ncd"
+RUN = "/thredds/dodsC/gfs/runs/gfs_RUN_2020-01-01T00:00:00Z"
+TARGETS = [BEST + ".dds", BEST + ".das", BEST + ".dods", BEST + ".dods?t", RUN + ".dds", RUN + ".dods?t%5B0:2:6%5D"]
+TARGETS += [BEST + ".dds?time,time_run", "/thredds/dodsC/gfs/offset/gfs_Offset_10800s.dods?time"]
+TARGETS += ["/thredds/dodsC/gfs/forecast/gfs_ConstantForecast_20200102T000000Z.dods?time"]
+FAULTS = ["/", "/none", BEST + ".nc", BEST + ".dds?none", BEST + ".dods?t%5B9:1:2%5D", BEST + ".dds?%"]
+FAULTS += [BEST + ".dds?" + "x" * 9000, "/thredds/dodsC/gfs/offset/gfs_Offset_1s.dds"]
+FAULTS += ["/thredds//dodsC/gfs/../gfs/gfs_best.ncd.dds"]
+
+failures = []
+
+
+def fail(text):
+    """Notes what differs; each is shown once."""
+    if text not in failures:
+        print(text, file=sys.stderr, flush=True)
+    failures.append(text)
+
+
+def passed(text):
+    """Says what passed, where nothing failed so far."""
+    if not failures:
+        print(text, flush=True)
+
+
+def site_of(server, port, secure, folder):
+    """docs/nginx.conf with the ports and the folder of this run."""
+    with open(os.path.join(TOP, "docs", "nginx.conf")) as file:
+        site = file.read()
+    tls = "listen 127.0.0.1:%d ssl; ssl_certificate %s/cert.pem; ssl_certificate_key %s/key.pem;"
+    own = {
+        "server 127.0.0.1:8080;": "server 127.0.0.1:%d;" % server.port,
+        "listen 80;": "listen 127.0.0.1:%d; " % port + tls % (secure, folder, folder),
+        "proxy_cache_path /var/cache/fmrcd ": "proxy_cache_path %s/cache " % folder,
+    }
+    for old, new in own.items():
+        if site.count(old) != 1:
+            sys.exit("docs/nginx.conf has %d times %r" % (site.count(old), old))
+        site = site.replace(old, new)
+    return site
+
+
+def make_certificate(folder):
+    line = "openssl req -x509 -newkey rsa:2048 -nodes -subj /CN=localhost -days 1 -keyout key.pem -out cert.pem"
+    subprocess.run(line.split(), cwd=folder, check=True, capture_output=True)
+
+
+def ask(link, method, target, body=None):
+    """The revision, and what else a client is told: the status, the fields that aren't nginx's own, and the body."""
+    link.request(method, target, body)
+    reply = link.getresponse()
+    fields = {name: value for name, value in reply.getheaders() if name not in OWN}
+    revision = int(fields.pop("X-Collection-Revision", -1))
+    return revision, (reply.status, reply.reason, fields, reply.read())
+
+
+def compare(what, one, other):
+    if one != other:
+        shown = [(status, reason, fields, len(body), body[:80]) for status, reason, fields, body in (one, other)]
+        fail("%s: through nginx %r, directly %r" % (what, shown[0], shown[1]))
+
+
+def check_same(server, nginx):
+    """The replies to some requests, three times each, and the revisions where the collection was looked at."""
+    count = 0
+    for method in ("GET", "HEAD", "POST"):
+        for target in TARGETS + FAULTS:
+            for _ in range(3):
+                body = b"some" if method == "POST" else None
+                direct = http.client.HTTPConnection("127.0.0.1", server.port, timeout=30)
+                through = http.client.HTTPConnection("127.0.0.1", nginx.port, timeout=30)
+                right, reply = ask(direct, method, target, body), ask(through, method, target, body)
+                compare("%s %s" % (method, target[:90]), reply[1], right[1])
+                if right[1][0] == 200 and reply[0] != right[0]:
+                    fail("%s %s: revision %d, not %d" % (method, target, reply[0], right[0]))
+                direct.close()
+                through.close()
+                count += 1
+    return count
+
+
+def links_to(port):
+    """The ports from which connections to a port were made, also those that ended just now."""
+    found = set()
+    with open("/proc/net/tcp") as file:
+        for line in list(file)[1:]:
+            local, remote = line.split()[1:3]
+            if int(remote.split(":")[1], 16) == port:
+                found.add(local)
+    return found
+
+
+def check_kept(server, nginx):
+    """Many requests of one client go over one connection to nginx, and a few to the server."""
+    before = links_to(server.port)
+    link = http.client.HTTPConnection("127.0.0.1", nginx.port, timeout=30)
+    link.connect()
+    first = link.sock
+    for number in range(300):
+        ask(link, ("GET", "HEAD")[number % 2], TARGETS[number % len(TARGETS)])
+        if link.sock is not first:
+            fail("nginx ended the client's connection")
+            return 0
+    link.close()
+    made = len(links_to(server.port) - before)
+    if made > 2:
+        fail("300 requests took %d connections to the server" % made)
+    return made
+
+
+# Files that arrive while clients read.
+
+
+class Readings:
+    """What was read, and the latest revision of a reply that has come."""
+
+    def __init__(self):
+        self.lock = threading.Lock()
+        self.latest = 0
+        self.count = 0
+        self.different = {}
+
+    def add(self, revision, request, body, least):
+        with self.lock:
+            self.latest = max(self.latest, revision)
+            self.count += 1
+            if self.different.setdefault((revision, request), body) != body:
+                fail("revision %d of %r has two replies" % (revision, request))
+        if revision < least:
+            fail("%r: revision %d after %d" % (request, revision, least))
+
+
+def read(nginx, readings, number, is_over):
+    """Reads until it is over; each reply has to be as new as all that came before it was asked for."""
+    chance = random.Random(number)
+    link = http.client.HTTPConnection("127.0.0.1", nginx.port, timeout=30)
+    while not is_over.is_set() and not failures:
+        view = chance.choice([("best", 0), ("run", APART * BEFORE), ("offset", 3 * HOUR)])
+        what = chance.choice(["time", "time_run", "t"])
+        least = readings.latest
+        revision, (_, _, _, body) = ask(link, "GET", target_of(view, what))
+        readings.add(revision, (view, what), body, least)
+
+
+def check_arrivals(server, nginx, runs):
+    """Lets files arrive while clients read. How many replies there were, and how many came from the cache."""
+    readings, is_over = Readings(), threading.Event()
+    with open(nginx.log) as file:
+        file.seek(0, 2)
+        given = [(nginx, readings, number, is_over) for number in range(CLIENTS)]
+        clients = [threading.Thread(target=read, args=client, daemon=True) for client in given]
+        for client in clients:
+            client.start()
+        for number in range(ARRIVING):
+            runs.append(APART * (BEFORE + number))
+            server.arrive(name_of(runs[-1]), file_of(runs[-1]))
+            link = http.client.HTTPConnection("127.0.0.1", nginx.port, timeout=30)
+            revision, _ = ask(link, "GET", TARGETS[number % 2])
+            if revision != len(runs):
+                fail("revision %d once file %d was published" % (revision, len(runs)))
+            link.close()
+        is_over.set()
+        for client in clients:
+            client.join(30)
+        hits = file.read().split().count("HIT")
+    for (revision, (view, what)), body in readings.different.items():
+        if reply_of(revision, view, what, set(runs[:revision])).split(b"\r\n\r\n", 1)[1] != body:
+            fail("revision %d of %s isn't the right reply" % (revision, target_of(view, what)))
+    if hits == 0:
+        fail("nothing came from the cache")
+    return readings, hits
+
+
+def check_restart(program, folder, server, nginx):
+    """A server that is started again has other files by the same revision."""
+    link = http.client.HTTPConnection("127.0.0.1", nginx.port, timeout=30)
+    target = TARGETS[2]
+    ask(link, "GET", target)
+    stop(server.process)
+    time.sleep(PAUSE)
+    held = [name for name in os.listdir(os.path.join(server.inbox, "done"))]
+    other = Server(program, folder, file_of(0), 8, server.port)
+    for number in range(len(held)):
+        run = APART * (200 + number)
+        other.bring(name_of(run), file_of(run))
+    direct = http.client.HTTPConnection("127.0.0.1", other.port, timeout=30)
+    for _ in range(500):
+        if ask(direct, "HEAD", target)[0] == len(held):
+            break
+        time.sleep(0.02)
+    right, reply = ask(direct, "GET", target), ask(link, "GET", target)
+    compare("after a restart", reply[1], right[1])
+    if reply[0] != right[0] or right[0] != len(held):
+        fail("after a restart: revision %d, not %d" % (reply[0], right[0]))
+    link.close()
+    direct.close()
+    return other
+
+
+def check_large(program, folder, secure):
+    """A reply of 12 MB, plain and over TLS."""
+    os.makedirs(folder)
+    make_certificate(folder)
+    content = large_files.file_of(0, 13, 480)
+    server = Server(program, os.path.join(folder, "server"), content, 8)
+    server.arrive("gfs_20200101_0000.nc", content)
+    port = free_port()
+    nginx = Nginx(folder, site_of(server, port, secure, folder), port, 2, False)
+    direct = http.client.HTTPConnection("127.0.0.1", server.port, timeout=30)
+    right = ask(direct, "GET", RUN + ".dods?t")
+    trusted = ssl.create_default_context(cafile=os.path.join(folder, "cert.pem"))
+    through = http.client.HTTPConnection("127.0.0.1", nginx.port, timeout=30)
+    over_tls = http.client.HTTPSConnection("localhost", secure, timeout=30, context=trusted)
+    for link in (through, through, over_tls):
+        reply = ask(link, "GET", RUN + ".dods?t")
+        compare("a large reply", reply[1], right[1])
+        link.close()
+    direct.close()
+    return len(right[1][3])
+
+
+def main():
+    program, folder = os.path.abspath(sys.argv[1]), sys.argv[2]
+    signal.signal(signal.SIGTERM, lambda *_: sys.exit("stopped"))
+    make_certificate(folder)
+    server = Server(program, os.path.join(folder, "first"), file_of(0), 8)
+    port = free_port()
+    nginx = Nginx(folder, site_of(server, port, free_port(), folder), port, 2, True)
+    passed("nothing held: %d replies are the same" % check_same(server, nginx))
+    runs = [APART * number for number in range(BEFORE)]
+    for run in runs:
+        server.arrive(name_of(run), file_of(run))
+    passed("%d files held: %d replies are the same" % (BEFORE, check_same(server, nginx)))
+    passed("300 requests over 1 connection to nginx and %d to the server" % check_kept(server, nginx))
+    readings, hits = check_arrivals(server, nginx, runs)
+    shown = "%d files arrived during %d replies, %d of them from the cache: each right, none older than one before it"
+    passed(shown % (ARRIVING, readings.count, hits))
+    check_restart(program, os.path.join(folder, "second"), server, nginx)
+    passed("after a restart with other files: nothing old from the cache")
+    large = check_large(program, os.path.join(folder, "large"), free_port())
+    passed("a reply of %d bytes, from the cache and over TLS: the same" % large)
+    if failures:
+        sys.exit("%d failures" % len(failures))
+
+
+if __name__ == "__main__":
+    main()
