@@ -25,20 +25,21 @@ build:
 test:
 	.ci/run
 
-# Reads from the program by the clients that users have, which it installs from the machine's Debian registry. Without
-# PROGRAM the program is proved first.
+# The program that the targets below run; without it the program is proved first.
 PROGRAM =
+
+# Reads from the program by the clients that users have, which it installs from the machine's Debian registry.
 clients: $(if $(PROGRAM),,build)
 	clients/clients.sh $(PROGRAM)
 
-# Runs the proved program behind nginx, with docs/nginx.conf, and compares their replies.
-proxy:
-	bench/proxy.sh
+# Runs the program behind nginx, with docs/nginx.conf, and compares their replies.
+proxy: $(if $(PROGRAM),,build)
+	bench/proxy.sh $(PROGRAM)
 
-# Kills the proved program and starts it again, with docs/bring_back.sh: what it held comes back.
-restart:
-	tests/bring_back.sh
+# Kills the program and starts it again, with docs/bring_back.sh: what it held comes back.
+restart: $(if $(PROGRAM),,build)
+	tests/bring_back.sh $(PROGRAM)
 
-# Measures the proved program beside nginx, which sends files of the same bytes.
-beside:
-	bench/beside_nginx.sh
+# Measures the program beside nginx, which sends files of the same bytes.
+beside: $(if $(PROGRAM),,build)
+	bench/beside_nginx.sh $(PROGRAM)

@@ -5,11 +5,13 @@
 # turns by one program, `wrk`, for a second each; the middle one of the ratios is what counts, since the machine may be
 # doing other work. It also shows how long it takes from a file's rename until a reply has it, and the memory beside
 # that of the files.
-# Use: bench/beside_nginx.sh [PROGRAM] [TURNS]; by default the proved program, and 5 turns, which take four minutes. It
-# needs nginx and wrk.
+# Use: bench/beside_nginx.sh [PROGRAM] [TURNS]; by default the proved program, and 5 turns, which take four minutes.
+# nginx and wrk are installed where they are missing.
 set -eu
 top=$(cd "$(dirname "$0")/.." && pwd)
 program=${1:-$top/crates/fmrcd/out/fmrcd}
+[ -x "$program" ] || { echo "no program $program: 'make build' makes one" >&2; exit 2; }
+"$top/bench/packages.sh" nginx=nginx wrk=wrk
 folder=$(mktemp -d)
 trap 'rm -r "$folder"' EXIT
 trap 'exit 1' HUP INT TERM

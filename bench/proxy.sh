@@ -4,10 +4,12 @@
 # kept on both sides; and that while files arrive no reply is older than one that any client had before it asked, also
 # from the cache, nor is one from the cache after the server was started again.
 # Use: bench/proxy.sh [PROGRAM]; by default the proved program, which 'make build' leaves. It ends within a minute, with
-# status 0 where all is as it must be. It needs nginx and openssl.
+# status 0 where all is as it must be. nginx and openssl are installed where they are missing.
 set -eu
 top=$(cd "$(dirname "$0")/.." && pwd)
 program=${1:-$top/crates/fmrcd/out/fmrcd}
+[ -x "$program" ] || { echo "no program $program: 'make build' makes one" >&2; exit 2; }
+"$top/bench/packages.sh" nginx=nginx openssl=openssl
 folder=$(mktemp -d)
 trap 'rm -r "$folder"' EXIT
 trap 'exit 1' HUP INT TERM
