@@ -56,10 +56,12 @@ fn many_len<S: Source>(source: &S, sent: &Sent, array: &Array) -> u128
     ensures { result ≡ length (array_data (S.content source.now) sent.now array.now) }
 {
     let part = Part::new(sent, array);
-    let mut room = [0; MAX_RANK];
-    let (index, _) = room.split_at_mut(sent.slabs.len());
     match array.kind {
-        DapKind::Text => texts_len(source, &part, index),
+        DapKind::Text => {
+            let mut room = [0; MAX_RANK];
+            let (index, _) = room.split_at_mut(sent.slabs.len());
+            texts_len(source, &part, index)
+        }
         kind => numbers_len(kind, part.count()),
     }
 }

@@ -6,7 +6,7 @@ ghost use Rattle.dap_xdr.specs.Portion.{numbers_from, IsOf, IsPortion};
 
 use crate::find::array_of;
 use crate::kind::element_len;
-use crate::part::{MAX_RANK, Part};
+use crate::part::{FEW, MAX_RANK, Part};
 use crate::source::Source;
 use dap_model::{Array, DapKind, Sent};
 
@@ -30,18 +30,24 @@ fn lent_numbers<'a, S: Source>(source: &'a S, part: &Part, from: u64, index: &mu
     rest
 }
 
-// The same behind the counts of an array.
-fn lent_array<'a, S: Source>(source: &'a S, sent: &Sent, array: &Array, from: u64) -> &'a [u8]
+// The same behind the counts of an array. The buffer `room` has room for an index list.
+fn lent_array<'a, S: Source>(
+    source: &'a S,
+    sent: &Sent,
+    array: &Array,
+    from: u64,
+    room: &mut [u64],
+) -> &'a [u8]
     requires source { IsOf (S.content source.now) (record { sent = sent.now; array = array.now }) }
     requires portion { IsPortion (record { sent = sent.now; array = array.now }) }
     requires many { sent.now.slabs ≢ [] }
     requires number { array.now.kind ≢ Kind.Text }
     requires same { array.now.kind ≢ Kind.Int16 }
     requires behind { 8 ≤ from }
+    requires room { length sent.now.slabs ≤ length room.old }
     ensures { take (length result.now) (drop from (array_data (S.content source.now) sent.now array.now)) ≡ result.now }
 {
     let part = Part::new(sent, array);
-    let mut room = [0; MAX_RANK];
     let (index, _) = room.split_at_mut(sent.slabs.len());
     lent_numbers(source, &part, from - 8, index)
 }
@@ -60,6 +66,7 @@ pub fn lent<'a, S: Source>(source: &'a S, sent: &Sent, from: u64) -> &'a [u8]
     }
     match array.kind {
         DapKind::Text | DapKind::Int16 => &[],
-        _ => lent_array(source, sent, array, from),
+        _ if sent.slabs.len() <= FEW => lent_array(source, sent, array, from, &mut [0; FEW]),
+        _ => lent_array(source, sent, array, from, &mut [0; MAX_RANK]),
     }
 }

@@ -14,6 +14,9 @@ use std::marker::Model;
 // The greatest rank of an array.
 pub(crate) const MAX_RANK: usize = 1025;
 
+// A rank that few arrays pass: room for an index list of it is cleared in no time.
+pub(crate) const FEW: usize = 8;
+
 // An array, the slabs that are sent of it, and how much they pick.
 #[derive(Drop)]
 pub(crate) struct Part<'a> {

@@ -1,5 +1,5 @@
 //! The bytes of a part from any place.
-ghost use Rattle.std.specs.Prelude.{◌≡◌, ◌≢◌, ◌-◌, ◌^◌, ◌<◌, [], drop, length, min, IsSomeAnd};
+ghost use Rattle.std.specs.Prelude.{◌≡◌, ◌≢◌, ◌-◌, ◌^◌, ◌<◌, ◌≤◌, [], drop, length, min, IsSomeAnd};
 ghost use Rattle.dap_xdr.specs.Content.{array_data, array_in, part_data, FitsArray};
 ghost use Rattle.dap_xdr.specs.Overlay.{overlay, IsPut};
 ghost use Rattle.dap_xdr.specs.Portion.{IsOf, IsPortion};
@@ -7,7 +7,7 @@ ghost use Rattle.dap_xdr.specs.Portion.{IsOf, IsPortion};
 use crate::array::put_array;
 use crate::find::array_of;
 use crate::kind::put_number;
-use crate::part::{MAX_RANK, Part};
+use crate::part::{FEW, MAX_RANK, Part};
 use crate::source::Source;
 use crate::text::put_text;
 use crate::texts::put_texts;
@@ -26,16 +26,23 @@ fn put_alone<S: Source>(source: &S, sent: &Sent, array: &Array, from: u64, out: 
     }
 }
 
-// Writes an array of numbers or texts.
-fn put_many<S: Source>(source: &S, sent: &Sent, array: &Array, from: u64, out: &mut [u8]) -> usize
+// Writes an array of numbers or texts. The buffer `room` has room for an index list.
+fn put_many<S: Source>(
+    source: &S,
+    sent: &Sent,
+    array: &Array,
+    from: u64,
+    out: &mut [u8],
+    room: &mut [u64],
+) -> usize
     requires source { IsOf (S.content source.now) (record { sent = sent.now; array = array.now }) }
     requires portion { IsPortion (record { sent = sent.now; array = array.now }) }
     requires many { sent.now.slabs ≢ [] }
     requires small { length (array_data (S.content source.now) sent.now array.now) < 2 ^ 64 }
+    requires room { length sent.now.slabs ≤ length room.old }
     ensures { IsPut (drop from (array_data (S.content source.now) sent.now array.now)) out.old out.new result }
 {
     let part = Part::new(sent, array);
-    let mut room = [0; MAX_RANK];
     let (index, _) = room.split_at_mut(sent.slabs.len());
     match array.kind {
         DapKind::Text => put_texts(source, &part, from, out, index),
@@ -58,7 +65,9 @@ pub fn xdr_piece<S: Source>(source: &S, sent: &Sent, from: u64, out: &mut [u8]) 
     let array = array_of(source, sent);
     if sent.slabs.is_empty() {
         put_alone(source, sent, array, from, out)
+    } else if sent.slabs.len() <= FEW {
+        put_many(source, sent, array, from, out, &mut [0; FEW])
     } else {
-        put_many(source, sent, array, from, out)
+        put_many(source, sent, array, from, out, &mut [0; MAX_RANK])
     }
 }

@@ -1,14 +1,9 @@
 -- The numbers stand behind their counts.
 use Rattle.std.proofs.Common.{◌≡◌, ◌-◌, ℕ, List, take, drop, length, ap, subst, ◌∙◌, arith}
 use Rattle.dap_xdr.specs.Portion.{numbers_from, Portion}
-use Rattle.dap_xdr.proofs.DataLemmas.{data-numbers, few-slabs}
+use Rattle.dap_xdr.proofs.DataLemmas.{data-numbers}
 use Rattle.dap_xdr.proofs.LendingLemmas.{numbers-front}
 use Rattle.dap_xdr.proofs.lending.lent_array.Goals as goal
-
-pub split_at_mut-index-requires : goal.split_at_mut-index-requires
-split_at_mut-index-requires g c =
-    let few = few-slabs (record { sent = c.args.sent.now; array = c.args.array.now }) c.requires.portion in
-    omega (arith, few, c.len.ensures)
 
 pub returns : goal.returns
 returns g c =

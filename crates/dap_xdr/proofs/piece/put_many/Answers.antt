@@ -6,13 +6,8 @@ use Rattle.dap_model.specs.declared.declaration.DapKind.TheVariants.{Text}
 use Rattle.dap_xdr.specs.Content.{array_in}
 use Rattle.dap_xdr.specs.Overlay.{IsPut}
 use Rattle.dap_xdr.specs.Portion.{array_of, texts_of, Portion}
-use Rattle.dap_xdr.proofs.DataLemmas.{data-numbers, data-texts, few-slabs, numbers-small}
+use Rattle.dap_xdr.proofs.DataLemmas.{data-numbers, data-texts, numbers-small}
 use Rattle.dap_xdr.proofs.piece.put_many.Goals as goal
-
-pub split_at_mut-index-requires : goal.split_at_mut-index-requires
-split_at_mut-index-requires g c =
-    let few = few-slabs (record { sent = c.args.sent.now; array = c.args.array.now }) c.requires.portion in
-    omega (arith, few, c.len.ensures)
 
 pub put_array-requires : goal.put_array-requires
 put_array-requires g c =
