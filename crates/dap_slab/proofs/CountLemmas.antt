@@ -1,5 +1,5 @@
 -- The count of slabs, one slab after the other.
-use Rattle.std.proofs.Common.{◌≡◌, ℕ, suc, ◌+◌, ◌-◌, ◌*◌, ◌/◌, ◌<◌, ◌≤◌, List, length, drop, sym, ap, subst, ◌∙◌, arith}
+use Rattle.std.proofs.Common.{◌≡◌, ℕ, suc, ◌+◌, ◌-◌, ◌*◌, ◌/◌, ◌<◌, ◌≤◌, List, length, drop, sym, ap, ◌∙◌, arith}
 use Rattle.std.specs.List.{All}
 use Rattle.std.proofs.Math.Nat.{mul-le-mul_left}
 use Rattle.std.proofs.Math.Seq.{drop-cons}
@@ -8,7 +8,8 @@ use Rattle.fm_base.specs.Layout.{product}
 use Rattle.dap_model.specs.declared.projection.Slab.{Slab}
 use Rattle.dap_model.specs.Box.{slab_count, box_len}
 use Rattle.dap_slab.specs.Walking.{HasIndex}
-use Rattle.dap_slab.proofs.WalkLemmas.{count_of_index, box_len-pos, slab_at}
+use Rattle.dap_slab.proofs.IndexLemmas.{count_of_index, box_len-pos}
+use Rattle.dap_slab.proofs.WalkLemmas.{slab_at}
 
 -- the count of one more slab: times that of the slabs behind it, it is that of all, and so at most that
 pub record OneMore (slabs : List Slab) (count at : ℕ) (strides : ℕ) : Type 0 where

@@ -1,5 +1,5 @@
 -- The count grows by each slab, and is never more than that of all.
-use Rattle.std.proofs.Common.{◌+◌, ◌*◌, ◌≡◌, ◌∙◌, ap, sym, drop, arith}
+use Rattle.std.proofs.Common.{◌*◌, ◌≡◌, ap, drop, arith}
 use Rattle.std.proofs.lemmas.List.{drop_all}
 use Rattle.fm_base.specs.Layout.{product}
 use Rattle.dap_model.specs.Box.{box_len}

@@ -1,5 +1,5 @@
 -- The index list that a walk holds stands in the box, before those still to come.
-use Rattle.std.proofs.Common.{◌≡◌, ◌-◌, ◌≤◌, ◌∙◌, ap, subst, arith, slice_get, Some}
+use Rattle.std.proofs.Common.{◌≡◌, ◌-◌, ◌∙◌, ap, subst, arith, slice_get, Some}
 use Rattle.dap_model.specs.Box.{box_of}
 use Rattle.dap_slab.specs.Walking.{Walking}
 use Rattle.dap_slab.proofs.WalkLemmas.{given_last}

@@ -1,5 +1,5 @@
 -- Where there is no further step, all index lists were given.
-use Rattle.std.proofs.Common.{◌≤◌, ◌<◌, arith, refl, inl, inr}
+use Rattle.std.proofs.Common.{◌≤◌, refl, inl, inr}
 use Rattle.std.proofs.lemmas.Bool.{cases_lt}
 use Rattle.dap_model.specs.Box.{box_len}
 use Rattle.dap_slab.proofs.WalkLemmas.{all_given}
