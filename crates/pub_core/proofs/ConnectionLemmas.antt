@@ -17,11 +17,12 @@ use Rattle.pub_core.specs.declared.event.Event.TheVariants.{Look, Learn, Bytes, 
 use Rattle.pub_core.specs.Happening.{after, begun, effect_of, is_possible_to}
 use Rattle.pub_core.specs.Shown.{IsShown, Shows}
 use Rattle.pub_core.specs.World.{sends, waits, SessionState}
+use Rattle.pub_core.proofs.EndSteps.{shown-ended, shown-same}
 use Rattle.pub_core.proofs.MachineLemmas.{ends-machine, fails-reading, fails-sending, start-same}
 use Rattle.pub_core.proofs.Replying.{sends-reply}
 use Rattle.pub_core.proofs.Resting.{waits-rest}
 use Rattle.pub_core.proofs.ShownLemmas.{asks-none, reading, restarted, sending-so, sends-none, shown-begun, waits-none, with_machine, Reads, Sends}
-use Rattle.pub_core.proofs.ShownSteps.{shown-ended, shown-same, shows-feed, shows-sent, Given, Sending}
+use Rattle.pub_core.proofs.ShownSteps.{shows-feed, shows-sent, Given, Sending}
 use Rattle.pub_core.proofs.SoFar.{fed_more}
 use Rattle.pub_core.proofs.Steps.{feed-no, feed-unfit, feeds, look-no, send-no, send-unfit}
 

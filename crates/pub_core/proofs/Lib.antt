@@ -1,8 +1,10 @@
 pub mod Apart
 pub mod ConnectionLemmas
 pub mod Delivery
+pub mod EndSteps
 pub mod Feeding
 pub mod ItemLemmas
+pub mod LearnSteps
 pub mod LinkLaw
 pub mod MachineLemmas
 pub mod MachineSteps

@@ -1,7 +1,8 @@
--- What a connection shows after each thing that happens to it. It is long, since there is a part for each event.
-use Rattle.std.proofs.Common.{◌≡◌, ◌≤◌, ◌<◌, ℕ, ◌+◌, ◌-◌, max, Bool, true, false, ◌&&◌, cond, ltb, Bor, List, [], ◌∷◌, ◌++◌, length, take, drop, Option, Some, refl, sym, ap, ap₂, subst, ◌∙◌, arith, length-append, take-add}
+-- What a connection shows after bytes are fed, after a reply is begun, and after bytes of it are sent. It is long,
+-- since bytes that are sent leave a reply unfinished, finish it, or finish the last one.
+use Rattle.std.proofs.Common.{◌≡◌, ◌≤◌, ◌<◌, ℕ, ◌+◌, ◌-◌, Bool, true, false, ltb, Bor, List, [], ◌∷◌, ◌++◌, length, take, drop, Option, Some, refl, sym, ap, ap₂, subst, ◌∙◌, arith, length-append, take-add}
 use Rattle.std.specs.List.{All}
-use Rattle.std.proofs.lemmas.Bool.{le-leb, ltb-true, ltb-false}
+use Rattle.std.proofs.lemmas.Bool.{ltb-true, ltb-false}
 use Rattle.std.proofs.lemmas.List.{take-append-le}
 use Rattle.std.proofs.lemmas.List.Elements.{All-append, All-cons, All-nil}
 use Rattle.std.proofs.Math.Seq.{drop-append-add}
@@ -18,27 +19,26 @@ use Rattle.web_session.specs.State.{State}
 use Rattle.dap_reply.specs.Parts.{bytes_of, Parts}
 use Rattle.dap_reply.specs.Reply.{is_last, reply_of}
 use Rattle.pub_core.specs.declared.connection.Connection.{Connection}
-use Rattle.pub_core.specs.declared.event.Event.{Event}
-use Rattle.pub_core.specs.declared.event.Event.TheVariants.{Learn, Sent}
-use Rattle.pub_core.specs.Happening.{after, begun, closed, effect_of, is_last_before, is_possible_to, settled}
+use Rattle.pub_core.specs.declared.event.Event.TheVariants.{Sent}
+use Rattle.pub_core.specs.Happening.{after, begun}
 use Rattle.pub_core.specs.Shown.{resting, sending, IsShown, Shows, Stands}
 use Rattle.pub_core.specs.Shown.Stands.{at_end, at_rest, in_reply}
 use Rattle.pub_core.specs.Standing.{Replies, Rests}
-use Rattle.pub_core.specs.World.{is_due, is_idle, items_fed, next_item, output_of, rests, script_in, SessionState}
+use Rattle.pub_core.specs.World.{items_fed, next_item, output_of, script_in, SessionState}
 use Rattle.pub_core.proofs.MachineLemmas.{begins-machine, feeds-machine, sends-last-machine, sends-part-machine, sends-whole-machine}
-use Rattle.pub_core.proofs.Replying.{closed-reply, due-reply, sent_more, send-part, send-whole}
-use Rattle.pub_core.proofs.Resting.{begin-rest, closed-rest, feed-rest, few-rest, next-rest}
+use Rattle.pub_core.proofs.Replying.{due-reply, sent_more, send-part, send-whole}
+use Rattle.pub_core.proofs.Resting.{begin-rest, feed-rest, few-rest, next-rest}
 use Rattle.pub_core.proofs.SoFar.{fed_more, script-begun, script-fed, some-reply, with_reply}
-use Rattle.pub_core.proofs.Steps.{after-no, after-yes, begun-no, due-ended, sends-last, sends-part, sends-whole}
+use Rattle.pub_core.proofs.Steps.{begun-no, due-ended, sends-last, sends-part, sends-whole}
 use Rattle.pub_core.proofs.ShownLemmas.{with_machine, Asks, Reads, Sends}
 
-stands-rest : {proto : Proto} {log : List Op} {s : SessionState} {left : List ℕ} {machine : State}
+pub stands-rest : {proto : Proto} {log : List Op} {s : SessionState} {left : List ℕ} {machine : State}
     {plan : Option Parts} → Rests proto log s left → machine ≡ resting left (length s.revs)
     → Stands proto log s machine plan
 stands-rest {left = left} r is = at_rest left r (is ∙ ap (resting left) r.count)
 
-stands-reply : {proto : Proto} {log : List Op} {s : SessionState} {left before : List ℕ} {item : Item} {reply : Parts}
-    {from : ℕ} {machine : State} {plan : Option Parts} (place : ℕ)
+pub stands-reply : {proto : Proto} {log : List Op} {s : SessionState} {left before : List ℕ} {item : Item}
+    {reply : Parts} {from : ℕ} {machine : State} {plan : Option Parts} (place : ℕ)
     → Replies proto log s left item before (bytes_of reply) from → plan ≡ Some reply → length s.revs ≡ place + 1
     → machine ≡ sending left place item from (length (bytes_of reply)) → Stands proto log s machine plan
 stands-reply {left = left} {before = before} {item = item} {reply = reply} {from = from} place r plan number is =
@@ -194,7 +194,7 @@ unfolding output_of script_in
 ended-same proto log s ended = refl
 
 -- a connection whose machine ended shows a session that did
-shows-ended : {proto : Proto} {log : List Op} (c : Connection) (s : SessionState) (end : Ending) (machine : State)
+pub shows-ended : {proto : Proto} {log : List Op} (c : Connection) (s : SessionState) (end : Ending) (machine : State)
     → c.output ≡ output_of proto log s → c.seen ≡ s.seen → s.seen ≤ length log
     → All (λ (revision : ℕ). revision ≤ length log) s.revs
     → machine.phase ≡ Ended end → Shows proto log (with_machine c machine) (record s { ended = true })
@@ -265,114 +265,3 @@ pub shows-sent : {proto : Proto} {log : List Op} {c : Connection} {s : SessionSt
 shows-sent {s = s} {from = from} now number count shows r given some within =
     sent-by now number count (ltb (from + count) (length (bytes_of r.reply))) (is_last r.item (length s.revs)) shows r
     given some within refl refl
-
--- ---- a session ends
-
-cond-same : {A : Type 0} (b : Bool) (a : A) → cond b a a ≡ a
-cond-same true a = refl
-cond-same false a = refl
-
-settled-ended : (proto : Proto) (log : List Op) (s : SessionState)
-    → settled proto log (record s { ended = true }) ≡ record s { ended = true }
-unfolding settled closed
-settled-ended proto log s =
-    let ended : SessionState = record s { ended = true } in
-    ap (begun proto log)
-    (cond-same (rests proto log ended && is_last_before (items_fed ended) (length ended.revs)) ended)
-    ∙ begun-no proto log ended (due-ended proto log ended refl)
-
--- an event that ends a session, where it is possible
-pub shown-ended : {proto : Proto} {log : List Op} {c : Connection} {s : SessionState} (event : Event) (end : Ending)
-    (machine : State) → Shows proto log c s → is_possible_to proto log event s ≡ true
-    → effect_of log event s ≡ record s { ended = true } → machine.phase ≡ Ended end
-    → IsShown proto log (with_machine c machine) (after proto log event s)
-shown-ended {proto} {log} {c} {s} event end machine shows possible effect phase =
-    let ended : SessionState = record s { ended = true } in
-    subst (IsShown proto log (with_machine c machine))
-    (sym (after-yes proto log event s possible ∙ ap (settled proto log) effect ∙ settled-ended proto log s))
-    (record {
-      shows = shows-ended c s end machine shows.output_is shows.seen_is shows.seen_within shows.revs_within phase;
-      due = due-ended proto log ended refl;
-    })
-
--- an event that isn't possible
-pub shown-same : {proto : Proto} {log : List Op} {c : Connection} {s : SessionState} (event : Event)
-    → IsShown proto log c s → is_possible_to proto log event s ≡ false → IsShown proto log c (after proto log event s)
-shown-same {proto} {log} {c} {s} event shown not_so =
-    subst (IsShown proto log c) (sym (after-no proto log event s not_so)) shown
-
--- ---- a session learns
-
-knowing : SessionState → ℕ → SessionState
-knowing s n = record s { seen = n }
-
-script-knowing : (proto : Proto) (log : List Op) (s : SessionState) (n : ℕ)
-    → script_in proto log (knowing s n) ≡ script_in proto log s
-unfolding script_in knowing
-script-knowing proto log s n = refl
-
-stands-knowing : {proto : Proto} {log : List Op} {s : SessionState} {machine : State} {plan : Option Parts} (n : ℕ)
-    → Stands proto log s machine plan → Stands proto log (knowing s n) machine plan
-unfolding knowing
-stands-knowing {proto} {log} {s} n (at_rest left r is) = stands-rest (record {
-  done = r.done;
-  reads = r.reads;
-  count = r.count;
-  all_sent = r.all_sent ∙ ap length (sym (script-knowing proto log s n));
-  goes_on = r.goes_on;
-  stays = r.stays;
-}) (is ∙ ap (resting left) (sym r.count))
-stands-knowing {proto} {log} {s} n (in_reply left item before reply from r plan is) =
-    stands-reply (length r.done) (record {
-      done = r.done;
-      reads = r.reads;
-      item_is = r.item_is;
-      count = r.count;
-      script_is = script-knowing proto log s n ∙ r.script_is;
-      sent_is = r.sent_is;
-      some = r.some;
-      stays = r.stays;
-    }) plan (omega (arith, r.count)) is
-stands-knowing n (at_end end phase ended) = at_end end phase ended
-
-closed-stands : {proto : Proto} {log : List Op} {s : SessionState} {machine : State} {plan : Option Parts}
-    → Stands proto log s machine plan → closed proto log s ≡ s
-unfolding closed
-closed-stands (at_rest left r is) = closed-rest r
-closed-stands (in_reply left item before reply from r plan is) = closed-reply r
-closed-stands {proto} {log} {s} (at_end end phase ended) =
-    let same : record s { ended = true } ≡ s = ap (λ (b : Bool). record s { ended = b }) (sym ended) in
-    ap (λ (x : SessionState). cond (rests proto log s && is_last_before (items_fed s) (length s.revs)) x s) same
-    ∙ cond-same (rests proto log s && is_last_before (items_fed s) (length s.revs)) s
-
-due-knowing : (proto : Proto) (log : List Op) (s : SessionState) (n : ℕ)
-    → is_due proto log (knowing s n) ≡ is_due proto log s
-unfolding is_due is_idle rests next_item script_in knowing
-due-knowing proto log s n = refl
-
-output-knowing : (proto : Proto) (log : List Op) (s : SessionState) (n : ℕ)
-    → output_of proto log (knowing s n) ≡ output_of proto log s
-unfolding output_of script_in knowing
-output-knowing proto log s n = refl
-
-pub shown-learnt : {proto : Proto} {log : List Op} {c : Connection} {s : SessionState} (number count seen : ℕ)
-    → IsShown proto log c s → count ≤ length log → seen ≡ max c.seen count
-    → IsShown proto log (record c { seen = seen }) (after proto log (Learn number count) s)
-unfolding is_possible_to effect_of settled knowing
-shown-learnt {proto} {log} {c} {s} number count seen shown known is =
-    let n : ℕ = max s.seen count in
-    let stands : Stands proto log (knowing s n) c.session c.plan = stands-knowing n shown.shows.stands in
-    let due : is_due proto log (knowing s n) ≡ false = due-knowing proto log s n ∙ shown.due in
-    subst (IsShown proto log (record c { seen = seen }))
-    (sym (after-yes proto log (Learn number count) s (le-leb count (length log) known)
-    ∙ ap (begun proto log) (closed-stands stands) ∙ begun-no proto log (knowing s n) due))
-    (record {
-      shows = record {
-        output_is = shown.shows.output_is ∙ sym (output-knowing proto log s n);
-        seen_is = is ∙ ap (λ (k : ℕ). max k count) shown.shows.seen_is;
-        seen_within = omega (arith, known, shown.shows.seen_within);
-        revs_within = shown.shows.revs_within;
-        stands = stands;
-      };
-      due = due;
-    })

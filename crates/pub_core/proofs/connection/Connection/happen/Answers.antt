@@ -6,7 +6,7 @@ use Rattle.pub_core.specs.declared.event.Event.{Event}
 use Rattle.pub_core.specs.declared.event.Event.TheVariants.{Bytes}
 use Rattle.pub_core.specs.Happening.{after, is_possible_to}
 use Rattle.pub_core.specs.Shown.{IsShown}
-use Rattle.pub_core.proofs.ShownSteps.{shown-same}
+use Rattle.pub_core.proofs.EndSteps.{shown-same}
 use Rattle.pub_core.proofs.connection.Connection.happen.Goals as goal
 
 pub returns-in-Publish : goal.returns-in-Publish

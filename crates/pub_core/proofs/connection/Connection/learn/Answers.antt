@@ -1,7 +1,7 @@
 -- It learns of what was published.
 use Rattle.std.proofs.Common.{◌≡◌, max, arith}
 use Rattle.pub_core.proofs.ConnectionLemmas.{learn-none}
-use Rattle.pub_core.proofs.ShownSteps.{shown-learnt}
+use Rattle.pub_core.proofs.LearnSteps.{shown-learnt}
 use Rattle.pub_core.proofs.connection.Connection.learn.Goals as goal
 
 pub returns-then-count-published : goal.returns-then-count-published
