@@ -3,7 +3,7 @@ use Rattle.std.specs.Prelude.{◌≡◌, ◌≢◌, ℕ, ◌-◌, nat_eq, if◌t
 use Rattle.fm_host.specs.declared.remaining.Remaining.{Remaining}
 use Rattle.fm_host.specs.declared.remaining.Remaining.TheVariants.{Endless, Times}
 
--- so many times, where 0 is without end
+-- `count` times, where a `count` of 0 is without end
 abbrev pub remaining_of : ℕ → Remaining
 remaining_of count = if nat_eq count 0 then Endless else Times count
 

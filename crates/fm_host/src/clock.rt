@@ -19,7 +19,7 @@ pub struct RealClock<R: rt::Clock + Drop> {
 }
 
 impl<R: rt::Clock + Drop> RealClock<R> {
-    /// A clock of so many ticks; 0 is without end.
+    /// A clock that gives at most `ticks` moments; 0 is without end.
     pub fn new(rt: R, ticks: u32, interval: Duration) -> RealClock<R>
         ensures { result.remaining ≡ remaining_of ticks }
     {

@@ -28,7 +28,8 @@ pub struct TcpDoor<R: rt::Clock + Clone + Drop> {
 }
 
 impl<R: rt::Clock + Clone + Drop> TcpDoor<R> {
-    /// A door for so many connections; 0 is without end. Each peer is waited for so long. No call has failed.
+    /// A door that takes `connections` connections; 0 is without end. Each peer is waited for as long as `patience`. No
+    /// call has failed.
     pub fn new(rt: R, listener: TcpListener, connections: u32, patience: Duration) -> TcpDoor<R>
         ensures faults { result.faults ≡ 0 }
         ensures remaining { result.remaining ≡ remaining_of connections }

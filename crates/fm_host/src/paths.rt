@@ -51,7 +51,7 @@ pub(crate) fn path_inside(alloc: Global, folder: &str, name: &str) -> Result<Str
     Ok(path)
 }
 
-// An empty path with room for so many bytes.
+// An empty path with room for `room` bytes.
 fn make_room_in(path: &mut String, room: usize) -> Result<(), NoMemory>
     ensures { OnOk result (room ≤ string_capacity path.new) }
 {

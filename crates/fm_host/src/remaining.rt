@@ -10,7 +10,7 @@ pub enum Remaining {
 }
 
 impl Remaining {
-    /// So many times; 0 is without end.
+    /// `count` times; a `count` of 0 is without end.
     pub fn of(count: u32) -> Remaining
         ensures { result ≡ remaining_of count }
     {
