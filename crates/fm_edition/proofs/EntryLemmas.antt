@@ -21,13 +21,13 @@ use Rattle.fm_edition.specs.Indexes.{entries_of, in_page, instants, page_of, par
 use Rattle.fm_edition.proofs.ChangeLemmas.{one_of}
 
 -- an entry of a map in order is what is found there
-found_entry : {A : Type 0} (m : BTreeMap ℤ A) (key : ℤ) (value : A) → IsOrdered int_cmp m → In (key, value) m.entries
+pub found_entry : {A : Type 0} (m : BTreeMap ℤ A) (key : ℤ) (value : A) → IsOrdered int_cmp m → In (key, value) m.entries
     → get int_cmp m key ≡ Some value
 found_entry m key value ordered held = lookup-from_Contains int_eq_equiv key value m.entries
     (IsDistinct-from_sorted int_cmp (keys_of m.entries) ordered) (Contains-from_in (key, value) m.entries held)
 
 -- and what is found there is an entry
-entry_found : {A : Type 0} (m : BTreeMap ℤ A) (key : ℤ) (value : A) → get int_cmp m key ≡ Some value
+pub entry_found : {A : Type 0} (m : BTreeMap ℤ A) (key : ℤ) (value : A) → get int_cmp m key ≡ Some value
     → In (key, value) m.entries
 entry_found m key value is = in_from_Contains (key, value) m.entries
     (Contains-from_lookup (λ x y e. (signed_Decides x y).0 e) key value m.entries is)

@@ -1,5 +1,6 @@
 -- What every edition keeps of its maps: at the start, and after an operation.
 use Rattle.std.proofs.Common.{◌≡◌, Bool, true, false, cond, List, [], Option, None, ℤ, refl}
+use Rattle.std.specs.Prelude.{All}
 use Rattle.std.specs.BTreeMap.{BTreeMap, IsOrdered}
 use Rattle.std.specs.Ordering.{int_cmp, int_eq}
 use Rattle.std.proofs.lemmas.List.Elements.{All-nil}
@@ -12,11 +13,12 @@ use Rattle.fm_model.specs.Site.{IsPrototype}
 use Rattle.fm_edition.specs.declared.maps.by.By.{By}
 use Rattle.fm_edition.specs.declared.maps.by.By.TheVariants.{Run, Time}
 use Rattle.fm_edition.specs.Change.{changed}
-use Rattle.fm_edition.specs.Held.{Held, held_after}
-use Rattle.fm_edition.specs.Indexes.{in_page, instants, page_of, page_set, part, shown_in, AreOrdered, AreParts, IsIndexed, Pages}
+use Rattle.fm_edition.specs.Held.{Held, held_after, IsEdition}
+use Rattle.fm_edition.specs.Indexes.{entries_of, in_page, instants, page_of, page_set, part, rows_at, shown_in, AreBest, AreOrdered, AreParts, IsIndexed, IsTimed, Pages, RowPages}
 use Rattle.fm_edition.specs.Log.{CanFollow}
-use Rattle.fm_edition.proofs.EditionLemmas.{IsEdition-after, IsEdition-none}
+use Rattle.fm_edition.proofs.EditionLemmas.{times_are_few, IsEdition-after, IsEdition-none}
 use Rattle.fm_edition.proofs.PageLemmas.{AreParts-after}
+use Rattle.fm_edition.proofs.RowLemmas.{entries_timed}
 
 -- pages without entries are those of no files
 AreParts-none : (by : By) (pages : Pages) → pages.entries ≡ [] → IsOrdered int_cmp pages → AreParts by [] pages
@@ -34,16 +36,17 @@ AreParts-none by pages none ordered = record {
     nothing false = refl
 
 -- the maps of no files
-pub IsIndexed-none : (proto : Proto) (count : Tally) (by_run by_time : Pages) → IsPrototype proto
+pub IsIndexed-none : (proto : Proto) (count : Tally) (by_run by_time : Pages) (best : RowPages) → IsPrototype proto
     → count ≡ record { files = 0; rows = 0; size = 0 } → by_run.entries ≡ [] → IsOrdered int_cmp by_run
-    → by_time.entries ≡ [] → IsOrdered int_cmp by_time
-    → IsIndexed (record { proto = proto; files = [] }) count by_run by_time
-unfolding tally
-IsIndexed-none proto count by_run by_time is none no_run run_order no_time time_order = record {
+    → by_time.entries ≡ [] → IsOrdered int_cmp by_time → best.entries ≡ [] → IsOrdered int_cmp best
+    → IsIndexed (record { proto = proto; files = [] }) count by_run by_time best
+unfolding tally rows_at
+IsIndexed-none proto count by_run by_time best is none no_run run_order no_time time_order no_rows row_order = record {
   sound = IsEdition-none proto is;
   counted = none;
   of_runs = AreParts-none Run by_run no_run run_order;
   of_times = AreParts-none Time by_time no_time time_order;
+  of_best = record { ordered = row_order; shown = λ number. rw (no_rows, no_time) refl };
 }
 
 -- pages that an operation was done to
@@ -52,14 +55,25 @@ pub record IsDone (by : By) (files : List Loaded) (op : Op) (pages next : Pages)
   pub set : (number key : ℤ) → in_page next number key
       ≡ page_set by (instants by (changed files op)) op (in_page pages) number key
 
+-- the files by each valid time have it after an operation, too
+pub entries_timed-after : (held : Held) (op : Op) (by_time next : Pages) → IsEdition held
+    → CanFollow held.proto held.files op → AreParts Time held.files by_time → IsDone Time held.files op by_time next
+    → All IsTimed (entries_of next)
+entries_timed-after held op by_time next sound can are done = entries_timed (after_op held.files op) next
+    (AreParts-after Time held.files op by_time next are done.ordered done.set)
+    (times_are_few held.proto (after_op held.files op) (IsEdition-after held op sound can).fit)
+
 -- the maps after an operation
 pub IsIndexed-after : (held : Held) (op : Op) (before count : Tally) (by_run by_time next_run next_time : Pages)
-    → IsIndexed held before by_run by_time → CanFollow held.proto held.files op
+    → (best next_best : RowPages) → IsIndexed held before by_run by_time best → CanFollow held.proto held.files op
     → count ≡ tally (after_op held.files op) → IsDone Run held.files op by_run next_run
-    → IsDone Time held.files op by_time next_time → IsIndexed (held_after held op) count next_run next_time
-IsIndexed-after held op before count by_run by_time next_run next_time is can counted runs times = record {
-  sound = IsEdition-after held op is.sound can;
-  counted = counted;
-  of_runs = AreParts-after Run held.files op by_run next_run is.of_runs runs.ordered runs.set;
-  of_times = AreParts-after Time held.files op by_time next_time is.of_times times.ordered times.set;
-}
+    → IsDone Time held.files op by_time next_time → AreBest next_time next_best
+    → IsIndexed (held_after held op) count next_run next_time next_best
+IsIndexed-after held op before count by_run by_time next_run next_time best next_best is can counted runs times rows =
+    record {
+      sound = IsEdition-after held op is.sound can;
+      counted = counted;
+      of_runs = AreParts-after Run held.files op by_run next_run is.of_runs runs.ordered runs.set;
+      of_times = AreParts-after Time held.files op by_time next_time is.of_times times.ordered times.set;
+      of_best = rows;
+    }

@@ -1,3 +1,4 @@
+pub mod BestLemmas
 pub mod BestSteps
 pub mod CellSteps
 pub mod ChangeLemmas

@@ -2,7 +2,8 @@
 use Rattle.std.specs.Prelude.{◌≡◌, ◌≤◌, ◌++◌, All, length, ◌&&◌, filter, Bool, List, [], ◌∷◌, Option, None, Some, option_and_then, ℤ, pos, if◌then◌else◌, true}
 use Rattle.std.specs.BTreeMap.{BTreeMap, get, values, IsOrdered}
 use Rattle.std.specs.Int.{int_div_euclid}
-use Rattle.std.specs.List.{flat_map, list_any}
+use Rattle.std.specs.List.{filter_map, flat_map, list_any}
+use Rattle.std.specs.Option.{option_map}
 use Rattle.std.specs.Ordering.{int_cmp, int_eq}
 use Rattle.fm_model.specs.declared.full.Tally.{Tally}
 use Rattle.fm_model.specs.declared.limit.TheConstants.{MAX_TIMES}
@@ -105,14 +106,36 @@ AreFew files = All (λ (file : Loaded). length file.times ≤ MAX_TIMES) files
 abbrev pub HaveTime : ℤ → List Loaded → Type 0
 HaveTime valid files = All (λ (file : Loaded). has_time valid file ≡ true) files
 
+-- the rows of a page's valid times from their best runs
+abbrev pub page_rows : BTreeMap ℤ (List Loaded) → List Row
+page_rows page = filter_map (entry_row None) page.entries
+
+-- the rows of the best time series, page by page
+abbrev pub RowPages : Type 0
+RowPages = BTreeMap ℤ (List Row)
+
+-- the rows of the page of a number, where there is such a page
+unfoldable pub rows_at : Pages → ℤ → Option (List Row)
+rows_at pages number = option_map page_rows (get int_cmp pages number)
+
+-- whether one of some instants is in the page of a number
+abbrev pub touches : List ℤ → ℤ → Bool
+touches instants number = list_any (λ key. int_eq (page_of key) number) instants
+
+-- each page of valid times has its rows
+pub record AreBest (pages : Pages) (best : RowPages) : Type 0 where
+  pub ordered : IsOrdered int_cmp best
+  pub shown : (number : ℤ) → get int_cmp best number ≡ rows_at pages number
+
 -- the files by a valid time have it, and few times each
 pub record IsTimed (entry : ℤ × List Loaded) : Type 0 where
   pub have : HaveTime entry.0 entry.1
   pub few : AreFew entry.1
 
 -- what every edition keeps, also of its tally and its maps
-pub record IsIndexed (held : Held) (count : Tally) (by_run by_time : Pages) : Type 0 where
+pub record IsIndexed (held : Held) (count : Tally) (by_run by_time : Pages) (best : RowPages) : Type 0 where
   pub sound : IsEdition held
   pub counted : count ≡ tally held.files
   pub of_runs : AreParts Run held.files by_run
   pub of_times : AreParts Time held.files by_time
+  pub of_best : AreBest by_time best

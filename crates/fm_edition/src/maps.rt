@@ -1,6 +1,8 @@
 //! An edition over ordered maps.
-ghost use Rattle.std.specs.Prelude.{◌≡◌, [], ℤ, IfOk, IfSome, IsNone, None, Some, length};
+ghost use Rattle.std.specs.Prelude.{◌≡◌, [], ℤ, IfOk, IfSome, IsNone, None, Some, false, length};
+ghost use Rattle.std.specs.BTreeMap as tree;
 ghost use Rattle.std.specs.List.{filter_map};
+ghost use Rattle.std.specs.Ordering.{int_cmp};
 ghost use Rattle.fm_base.specs.Answer.{Answers};
 ghost use Rattle.fm_model.specs.Cell.{best, cell, runs_of, times_of, times_of_run};
 ghost use Rattle.fm_model.specs.Collection.{full_at, holds, holds_older, tally};
@@ -9,6 +11,7 @@ ghost use Rattle.fm_model.specs.Site.{IsPrototype};
 ghost use Rattle.fm_edition.specs.Held.{next_or_full, IsEdition, OpFits};
 ghost use Rattle.fm_edition.specs.Indexes as spec;
 
+mod best;
 mod by;
 mod change;
 mod pages;
@@ -17,9 +20,11 @@ mod shared;
 mod walk;
 
 use crate::plain_list::{changing, counting, finding, instants};
+use best::{RowPages, best_after};
 use by::By;
 use fm_base::{Arc, Fail, List, NoMemory};
-use fm_model::{Full, Loaded, Op, Proto, Row, Tally};
+use fm_model::{Full, Loaded, Op, Proto, Tally};
+use fm_rows::Rows;
 use pages::{Change, Pages};
 use std::alloc::Global;
 use std::collections::BTreeMap;
@@ -33,28 +38,25 @@ pub struct Edition {
     tally: Tally,
     by_run: Pages,
     by_time: Pages,
+    best: RowPages,
 }
 
-// The pages after an operation that takes out or adds these files.
+// The pages after an operation that touches some instants.
 fn after_change(
     alloc: Global,
     pages: &Pages,
     by: By,
-    changed: &[Arc<Loaded>],
+    touched: &[i64],
     op: &Op,
 ) -> Result<Pages, NoMemory>
     requires { spec.AreOrdered pages.now }
     ensures ordered { IfOk result spec.AreOrdered }
     ensures set { IfOk result (λ next. (number key : ℤ) → spec.in_page next number key
-        ≡ spec.page_set by (spec.instants by changed.now) op.now (spec.in_page pages.now) number key) }
+        ≡ spec.page_set by touched.now op.now (spec.in_page pages.now) number key) }
+    ensures same { IfOk result (λ next. (number : ℤ) → spec.touches touched.now number ≡ false
+        → tree.get int_cmp next number ≡ tree.get int_cmp pages.now number) }
 {
-    let touched = part::instants_in(alloc, by, changed)?;
-    let change = Change {
-        by,
-        op,
-        touched: touched.as_slice(),
-    };
-    pages::pages_after(alloc, pages, &change)
+    pages::pages_after(alloc, pages, &Change { by, op, touched })
 }
 
 impl Model for Edition {
@@ -66,7 +68,7 @@ impl Model for Edition {
     ghost view = { λ edition. record { proto = edition.proto; files = edition.files } };
 
     ghost invariant = { λ edition. IsIndexed (record { proto = edition.proto; files = edition.files })
-        edition.tally edition.by_run edition.by_time };
+        edition.tally edition.by_run edition.by_time edition.best };
 }
 
 impl Edition {
@@ -85,6 +87,7 @@ impl Edition {
             },
             by_run: BTreeMap::new(alloc),
             by_time: BTreeMap::new(alloc),
+            best: BTreeMap::new(alloc),
         })
     }
 
@@ -102,14 +105,18 @@ impl Edition {
         let files = changing::files_after(alloc, old, op)?;
         let tally = counting::tally_of(files.as_slice());
         let proto = self.proto.share()?;
-        let by_run = after_change(alloc, &self.by_run, By::Run, changed.as_slice(), op)?;
-        let by_time = after_change(alloc, &self.by_time, By::Time, changed.as_slice(), op)?;
+        let runs = part::instants_in(alloc, By::Run, changed.as_slice())?;
+        let times = part::instants_in(alloc, By::Time, changed.as_slice())?;
+        let by_run = after_change(alloc, &self.by_run, By::Run, runs.as_slice(), op)?;
+        let by_time = after_change(alloc, &self.by_time, By::Time, times.as_slice(), op)?;
+        let best = best_after(alloc, &self.best, &by_time, times.as_slice())?;
         Ok(Edition {
             proto,
             files,
             tally,
             by_run,
             by_time,
+            best,
         })
     }
 
@@ -172,18 +179,25 @@ impl Edition {
     }
 
     /// One row for each valid time that has a best run, from that run.
-    pub fn best_rows(&self, alloc: Global, least: Option<i64>) -> Result<List<Row>, NoMemory>
+    /// Without a least offset none of them is made: they are those that the edition keeps.
+    pub fn best_rows(&self, alloc: Global, least: Option<i64>) -> Result<Rows, NoMemory>
         ensures { IfOk result (λ rows.
             rows ≡ filter_map (best_row self.now.files least) (times_of self.now.files)) }
     {
-        walk::best_rows(alloc, &self.by_time, least)
+        match least {
+            None => best::kept_rows(alloc, &self.by_time, &self.best),
+            least => Rows::of_page(alloc, walk::best_rows(alloc, &self.by_time, least)?),
+        }
     }
 
     /// How many valid times have a best run.
     pub fn best_count(&self, least: Option<i64>) -> usize
         ensures { result ≡ length (filter_map (best_row self.now.files least) (times_of self.now.files)) }
     {
-        walk::best_count(&self.by_time, least)
+        match least {
+            None => best::kept_count(&self.by_time, &self.best),
+            least => walk::best_count(&self.by_time, least),
+        }
     }
 
     /// The prototype, and what every edition keeps.

@@ -15,7 +15,8 @@ pub(crate) mod finding;
 pub(crate) mod instants;
 
 use fm_base::{Arc, Fail, List, NoMemory};
-use fm_model::{Full, Loaded, Op, Proto, Row, Tally};
+use fm_model::{Full, Loaded, Op, Proto, Tally};
+use fm_rows::Rows;
 use std::alloc::Global;
 use std::marker::Model;
 
@@ -121,11 +122,11 @@ impl Edition {
     }
 
     /// One row for each valid time that has a best run, from that run.
-    pub fn best_rows(&self, alloc: Global, least: Option<i64>) -> Result<List<Row>, NoMemory>
+    pub fn best_rows(&self, alloc: Global, least: Option<i64>) -> Result<Rows, NoMemory>
         ensures { IfOk result (λ rows.
             rows ≡ filter_map (best_row self.now.files least) (times_of self.now.files)) }
     {
-        best::best_rows(alloc, self.files.as_slice(), least)
+        Rows::of_page(alloc, best::best_rows(alloc, self.files.as_slice(), least)?)
     }
 
     /// The prototype, and what every edition keeps.

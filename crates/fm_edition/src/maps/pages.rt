@@ -21,7 +21,7 @@ pub(crate) type Pages = BTreeMap<i64, Shared<Page>>;
 
 // The number of the page of an instant.
 #[tactic(auto, unfolding(crate::specs::Indexes::page_of))]
-fn page_of(key: i64) -> i64
+pub(crate) fn page_of(key: i64) -> i64
     ensures { result ≡ spec.page_of key }
 {
     key.div_euclid(1_048_576)
@@ -66,6 +66,8 @@ fn set_page(alloc: Global, pages: &mut Pages, number: i64, page: Page) -> Result
     ensures ordered { OnOk result (spec.AreOrdered pages.new) }
     ensures set { OnOk result ((other key : ℤ) → spec.in_page pages.new other key
         ≡ if int_eq number other then tree.get int_cmp page key else spec.in_page pages.old other key) }
+    ensures others { OnOk result ((other : ℤ) → int_eq number other ≡ false
+        → tree.get int_cmp pages.new other ≡ tree.get int_cmp pages.old other) }
 {
     if page.is_empty() {
         pages.remove(&number);
@@ -134,7 +136,7 @@ fn page_after(
     Ok(at)
 }
 
-// The pages after an operation.
+// The pages after an operation. A page of which no instant is touched stays as it is.
 pub(crate) fn pages_after(
     alloc: Global,
     pages: &Pages,
@@ -144,6 +146,8 @@ pub(crate) fn pages_after(
     ensures ordered { IfOk result spec.AreOrdered }
     ensures set { IfOk result (λ next. (number key : ℤ) → spec.in_page next number key
         ≡ spec.page_set change.now.by change.now.touched.now change.now.op.now (spec.in_page pages.now) number key) }
+    ensures same { IfOk result (λ next. (number : ℤ) → spec.touches change.now.touched.now number ≡ false
+        → tree.get int_cmp next number ≡ tree.get int_cmp pages.now number) }
 {
     let mut next = pages.clone()?;
     let mut at = 0;

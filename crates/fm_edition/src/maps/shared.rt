@@ -47,4 +47,11 @@ impl<T: Drop> Shared<T> {
     {
         self.of.get()
     }
+
+    // One more owner of the value.
+    pub(crate) fn share(&self) -> Result<Arc<T>, NoMemory>
+        ensures { IfOk result (λ owner. owner ≡ self.now) }
+    {
+        self.of.share()
+    }
 }

@@ -49,7 +49,11 @@ fn push_best(
 }
 
 // Adds the rows of a page.
-fn push_page(rows: &mut List<Row>, page: &Page, least: Option<i64>) -> Result<(), NoMemory>
+pub(crate) fn push_page(
+    rows: &mut List<Row>,
+    page: &Page,
+    least: Option<i64>,
+) -> Result<(), NoMemory>
     requires { All spec.IsTimed page.now.entries }
     ensures { OnOk result (rows.new ≡ rows.old ++ filter_map (spec.entry_row least) page.now.entries) }
 {

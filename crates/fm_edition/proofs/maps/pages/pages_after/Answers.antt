@@ -1,6 +1,9 @@
 -- The clone of the pages, one more page, and all of them.
-use Rattle.std.proofs.Common.{◌≡◌, ◌∙◌, arith, sym}
-use Rattle.fm_edition.specs.Indexes.{in_page}
+use Rattle.std.proofs.Common.{rules, ◌≡◌, ◌∙◌, arith, false, get_or, pos, refl, subst, sym, SFits, w64}
+use Rattle.std.proofs.lemmas.Int.{to_z-of_z}
+use Rattle.std.proofs.lemmas.List.{take_all}
+use Rattle.fm_edition.specs.Indexes.{in_page, page_of, touches}
+use Rattle.fm_edition.proofs.BestLemmas.{touches-less}
 use Rattle.fm_edition.proofs.PageLemmas.{same_entries, in_page-same, page_set-none, AreOrdered-same}
 use Rattle.fm_edition.proofs.maps.pages.pages_after.Goals as goal
 
@@ -13,4 +16,28 @@ loop-at-init c =
       ordered = AreOrdered-same c.args.pages.now c.in_ok-next.next same c.requires;
       done = λ number key. in_page-same c.args.pages.now c.in_ok-next.next same number key
           ∙ sym (page_set-none c.args.change.now.by c.args.change.now.op.now (in_page c.args.pages.now) number key);
+      same = λ number none. rw same refl;
     }
+
+pub loop-at-preserved : goal.loop-at-preserved
+loop-at-preserved c =
+    let touched = c.args.change.now.touched.now in
+    let key = get_or touched c.loop-at.at (pos 0) in
+    let a : SFits w64 key = search rules in
+    let b : SFits w64 c.page_of-number.result = search rules in
+    let own : c.page_of-number.result ≡ page_of key = simp to_z-of_z at c.page_of-number.ensures in
+    record {
+      within = search rules;
+      ordered = search rules;
+      done = search rules;
+      same = λ number none.
+          let less = touches-less touched c.loop-at.at c.in_ok-at.at (pos 0) number c.in_ok-at.ensures.place.0
+          c.in_ok-at.ensures.place.1 none in
+          c.in_ok-set_page.ensures.others number (simp to_z-of_z (rw own less.1))
+          ∙ c.loop-at.invariant.same number less.0;
+    }
+
+pub returns-clause-same : goal.returns-clause-same
+returns-clause-same c number none = c.loop-at.invariant.same number
+    (subst (λ l. touches l number ≡ false) (sym (take_all c.loop-at.at c.args.change.now.touched.now
+    c.loop-at-test.false)) none)

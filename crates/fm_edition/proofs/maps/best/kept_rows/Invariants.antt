@@ -1,0 +1,14 @@
+-- The rows so far, and those of the pages that are left, are those of all pages.
+use Rattle.std.proofs.Common.{◌≡◌, ◌++◌, None}
+use Rattle.std.specs.Prelude.{All}
+use Rattle.std.specs.List.{filter_map}
+use Rattle.fm_edition.specs.Indexes.{entries_in, entries_of, entry_row}
+use Rattle.fm_edition.proofs.BestLemmas.{HasKept}
+use Rattle.fm_edition.proofs.maps.best.kept_rows.Given as goal
+
+abbrev pub invariant-loop-number : goal.invariant-loop-number
+invariant-loop-number l = record {
+  kept : All (HasKept l.best) l.number-iterator;
+  made : l.rows ++ filter_map (entry_row None) (entries_in l.number-iterator)
+      ≡ filter_map (entry_row None) (entries_of l.pages);
+}

@@ -1,0 +1,121 @@
+//! The rows of the best time series, kept page by page, so that many replies share them.
+ghost use Rattle.std.specs.Prelude.{◌≡◌, ◌≢◌, ◌<◌, ◌≤◌, ◌^◌, ℤ, All, IfOk, OnOk, None, Some, false, if◌then◌else◌, length, take, true};
+ghost use Rattle.std.specs.BTreeMap as tree;
+ghost use Rattle.std.specs.List.{filter_map};
+ghost use Rattle.std.specs.Ordering.{int_cmp, int_eq};
+ghost use Rattle.fm_edition.specs.Indexes as spec;
+
+use crate::maps::pages::{Page, Pages, page_of};
+use crate::maps::shared::Shared;
+use crate::maps::walk::push_page;
+use fm_base::{List, NoMemory};
+use fm_model::Row;
+use fm_rows::Rows;
+use std::alloc::Global;
+use std::collections::BTreeMap;
+
+/// The rows of each page by its number.
+pub(crate) type RowPages = BTreeMap<i64, Shared<List<Row>>>;
+
+// The rows of a page.
+fn rows_of(alloc: Global, page: &Page) -> Result<List<Row>, NoMemory>
+    requires { All spec.IsTimed page.now.entries }
+    ensures { IfOk result (λ rows. rows ≡ spec.page_rows page.now) }
+{
+    let mut rows = List::new(alloc);
+    push_page(&mut rows, page, None)?;
+    Ok(rows)
+}
+
+// Makes the rows of the page of a number anew. Where there is no such page, there are no rows.
+fn set_rows(alloc: Global, best: &mut RowPages, pages: &Pages, number: i64) -> Result<(), NoMemory>
+    requires best { tree.IsOrdered int_cmp best.old }
+    requires pages { spec.AreOrdered pages.now }
+    requires timed { All spec.IsTimed (spec.entries_of pages.now) }
+    ensures ordered { OnOk result (tree.IsOrdered int_cmp best.new) }
+    ensures set { OnOk result ((other : ℤ) → tree.get int_cmp best.new other
+        ≡ if int_eq number other then spec.rows_at pages.now number else tree.get int_cmp best.old other) }
+{
+    match pages.get(&number) {
+        Some(page) => {
+            let rows = rows_of(alloc, page.get())?;
+            best.insert(number, Shared::new(alloc, rows)?)?;
+        }
+        None => {
+            best.remove(&number);
+        }
+    }
+    Ok(())
+}
+
+// Whether a page differs from that of the instant before a place.
+fn begins_page(touched: &[i64], at: usize, number: i64) -> bool
+    requires { at ≤ length touched.now }
+    ensures { result ≡ false → spec.touches (take at touched.now) number ≡ true }
+{
+    at == 0 || page_of(touched[at - 1]) != number
+}
+
+// The rows of each page, where only the pages of some rising instants have changed.
+pub(crate) fn best_after(
+    alloc: Global,
+    best: &RowPages,
+    pages: &Pages,
+    touched: &[i64],
+) -> Result<RowPages, NoMemory>
+    requires best { tree.IsOrdered int_cmp best.now }
+    requires pages { spec.AreOrdered pages.now }
+    requires timed { All spec.IsTimed (spec.entries_of pages.now) }
+    requires same { (number : ℤ) → spec.touches touched.now number ≡ false
+        → tree.get int_cmp best.now number ≡ spec.rows_at pages.now number }
+    ensures { IfOk result (λ next. spec.AreBest pages.now next) }
+{
+    let mut next = best.clone()?;
+    let mut at = 0;
+    while at < touched.len() {
+        let number = page_of(touched[at]);
+        if begins_page(touched, at, number) {
+            set_rows(alloc, &mut next, pages, number)?;
+        }
+        at += 1;
+    }
+    Ok(next)
+}
+
+// The rows that are kept of a page.
+fn kept_page<'a>(best: &'a RowPages, number: &i64) -> &'a Shared<List<Row>>
+    requires { tree.get int_cmp best.now number.now ≢ None }
+    ensures { tree.get int_cmp best.now number.now ≡ Some result.now }
+{
+    match best.get(number) {
+        Some(rows) => rows,
+        None => unreachable!(),
+    }
+}
+
+// The rows of all pages. None is made or copied.
+pub(crate) fn kept_rows(alloc: Global, pages: &Pages, best: &RowPages) -> Result<Rows, NoMemory>
+    requires pages { spec.AreOrdered pages.now }
+    requires best { spec.AreBest pages.now best.now }
+    ensures { IfOk result (λ rows. rows ≡ filter_map (spec.entry_row None) (spec.entries_of pages.now)) }
+{
+    let mut rows = Rows::new(alloc);
+    for (number, _) in pages {
+        rows.push(kept_page(best, number).share()?)?;
+    }
+    Ok(rows)
+}
+
+// How many rows all pages have.
+pub(crate) fn kept_count(pages: &Pages, best: &RowPages) -> usize
+    requires count { length (spec.entries_of pages.now) < 2 ^ 32 }
+    requires pages { spec.AreOrdered pages.now }
+    requires best { spec.AreBest pages.now best.now }
+    ensures { result ≡ length (filter_map (spec.entry_row None) (spec.entries_of pages.now)) }
+{
+    let mut count = 0;
+    for (number, _) in pages {
+        count += kept_page(best, number).get().len();
+    }
+    count
+}
