@@ -1,0 +1,6 @@
+//! The rows of a view, in pages that several views may share.
+#![tactic(auto)]
+
+mod rows;
+
+pub use rows::Rows;

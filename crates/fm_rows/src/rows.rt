@@ -1,0 +1,120 @@
+//! Rows in pages.
+ghost use Rattle.std.specs.Prelude.{◌≡◌, ◌≤◌, ◌++◌, ◌↔◌, [], IfOk, IfSome, IsNone, IsTrue, None, OnErr, OnOk, Some, length, nat_le, slice_get};
+ghost use Rattle.std.specs.List.Sorted.{IsNonDecreasingBy};
+ghost use Rattle.fm_rows.specs.Pages.{AreBegun};
+
+use fm_base::{Arc, List, NoMemory};
+use fm_model::Row;
+use std::alloc::Global;
+use std::marker::Model;
+
+// A page, and how many rows stand before it.
+#[derive(Drop)]
+struct Page {
+    start: usize,
+    rows: Arc<List<Row>>,
+}
+
+/// The rows of a view, page after page. Several views may share a page. A clause sees the rows alone.
+#[derive(Drop)]
+pub struct Rows {
+    pages: List<Page>,
+    len: usize,
+}
+
+// How many pages begin at or before a place.
+fn begun_at(pages: &[Page], place: usize) -> usize
+    requires { IsNonDecreasingBy (λ page. page.start) pages.now }
+    ensures bound { result ≤ length pages.now }
+    ensures begun { AreBegun pages.now place result }
+{
+    pages.partition_point(
+        |page: &Page| -> bool
+            ensures { result ≡ nat_le page.now.start place }
+        { page.start <= place },
+    )
+}
+
+// The row at a place of a page.
+fn row_at(rows: &[Row], place: usize) -> Option<&Row>
+    ensures found { IfSome result (λ row. slice_get rows.now place ≡ Some row.now) }
+    ensures none { IsNone result → slice_get rows.now place ≡ None }
+{
+    rows.get(place)
+}
+
+impl Model for Rows {
+    ghost use Rattle.std.specs.Prelude.{List};
+    ghost use Rattle.fm_model.specs.declared.row.Row.{Row as TheRow};
+    ghost use Rattle.fm_rows.specs.Pages.{rows_in, ArePages};
+
+    ghost Value = { List TheRow };
+
+    ghost view = { λ rows. rows_in rows.pages };
+
+    ghost invariant = { λ rows. ArePages rows.pages rows.len };
+}
+
+impl Rows {
+    /// No rows. It takes no memory.
+    pub fn new(alloc: Global) -> Rows
+        ensures { result ≡ [] }
+    {
+        Rows {
+            pages: List::new(alloc),
+            len: 0,
+        }
+    }
+
+    /// The rows of one page.
+    pub fn of_page(alloc: Global, page: List<Row>) -> Result<Rows, NoMemory>
+        ensures { IfOk result (λ rows. rows ≡ page) }
+    {
+        let mut rows = Rows::new(alloc);
+        rows.push(Arc::new(alloc, page)?)?;
+        Ok(rows)
+    }
+
+    /// Adds the rows of a page at the end. It takes no memory for them. An `Err` changes nothing.
+    pub fn push(&mut self, page: Arc<List<Row>>) -> Result<(), NoMemory>
+        ensures ok { OnOk result (self.new ≡ self.old ++ page) }
+        ensures err { OnErr result (self.new ≡ self.old) }
+    {
+        let start = self.len;
+        let Some(len) = start.checked_add(page.get().len()) else {
+            return Err(NoMemory);
+        };
+        self.pages.push(Page { start, rows: page })?;
+        self.len = len;
+        Ok(())
+    }
+
+    /// The number of rows.
+    pub fn len(&self) -> usize
+        ensures { result ≡ length self.now }
+    {
+        self.len
+    }
+
+    /// Whether there is no row.
+    pub fn is_empty(&self) -> bool
+        ensures { IsTrue result ↔ (self.now ≡ []) }
+    {
+        self.len == 0
+    }
+
+    /// The row at a place. `None` where there are no more than `place` rows. It takes as many steps as the number of
+    /// pages has binary digits.
+    pub fn get(&self, place: usize) -> Option<&Row>
+        ensures found { IfSome result (λ row. slice_get self.now place ≡ Some row.now) }
+        ensures none { IsNone result → slice_get self.now place ≡ None }
+    {
+        let pages = self.pages.as_slice();
+        let begun = begun_at(pages, place);
+        if begun == 0 {
+            return None;
+        }
+        let page = &pages[begun - 1];
+        row_at(page.rows.get().as_slice(), place - page.start)
+    }
+}
