@@ -6,8 +6,8 @@ set -eu
 top=$(cd "$(dirname "$0")/.." && pwd)
 folder=$(mktemp -d)
 trap 'rm -r "$folder"' EXIT
-crates='fm_base fm_bits nc_sample nc_header nc_layout nc_array tm_units dap_model dap_dds fm_model fm_edition
-fm_views fm_file fm_proto fm_load fm_sample fm_dataset fm_shown'
+crates='fm_base fm_bits nc_sample nc_header nc_layout nc_array tm_units dap_model dap_dds fm_model fm_rows
+fm_edition fm_views fm_file fm_proto fm_load fm_sample fm_dataset fm_shown'
 mkdir -p "$folder/crates/build_dataset/src"
 for crate in $crates; do
     cp -r "$top/crates/$crate" "$folder/crates/$crate"

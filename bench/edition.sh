@@ -6,7 +6,8 @@ set -eu
 top=$(cd "$(dirname "$0")/.." && pwd)
 folder=$(mktemp -d)
 trap 'rm -r "$folder"' EXIT
-crates='fm_base fm_bits fm_model nc_sample nc_header nc_layout nc_array tm_units fm_file fm_proto fm_load fm_edition fm_views fm_sample'
+crates='fm_base fm_bits fm_model nc_sample nc_header nc_layout nc_array tm_units fm_file fm_proto fm_load
+fm_rows fm_edition fm_views fm_sample'
 mkdir -p "$folder/crates/edition_bench/src"
 for crate in $crates; do
     tar -C "$top/crates" --exclude=incremental -cf - "$crate" | tar -C "$folder/crates" -xf -

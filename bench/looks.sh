@@ -6,8 +6,8 @@ set -eu
 folder=$(mktemp -d)
 trap 'rm -r "$folder"' EXIT
 top=$(cd "$(dirname "$0")/.." && pwd)
-crates='fm_base nc_sample nc_header nc_layout nc_array tm_units fm_bits fm_model fm_edition fm_views fm_file fm_proto fm_load
-pub_plain pub_snap'
+crates='fm_base nc_sample nc_header nc_layout nc_array tm_units fm_bits fm_model fm_rows fm_edition fm_views fm_file fm_proto
+fm_load pub_plain pub_snap'
 mkdir -p "$folder/crates/looks/src"
 for crate in $crates; do
     cp -r "$top/crates/$crate" "$folder/crates/$crate"

@@ -7,7 +7,7 @@ set -eu
 top=$(cd "$(dirname "$0")/.." && pwd)
 folder=$(mktemp -d)
 trap 'rm -r "$folder"' EXIT
-crates='fm_base fm_bits nc_sample nc_header nc_layout nc_array tm_units dap_model fm_model fm_edition
+crates='fm_base fm_bits nc_sample nc_header nc_layout nc_array tm_units dap_model fm_model fm_rows fm_edition
 fm_views fm_file fm_proto fm_load fm_sample fm_dataset fm_shown dap_xdr'
 mkdir -p "$folder/crates/send_parts/src"
 for crate in $crates; do

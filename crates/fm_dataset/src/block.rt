@@ -4,6 +4,7 @@ ghost use Rattle.fm_dataset.specs.Kept.{HasBlock, HasSlotIn, IsBlock, LiesInFile
 
 use crate::index::first_of;
 use fm_model::{Proto, ProtoVar, Row, Slot};
+use fm_rows::Rows;
 
 // Some bytes, and the place in them where elements begin that lie one after another.
 #[derive(Clone, Copy)]
@@ -17,6 +18,17 @@ fn slot_at(slots: &[Slot], number: usize) -> Slot
     ensures { slice_get slots.now number ≡ Some result }
 {
     slots[number]
+}
+
+// The row at a place.
+fn row_at(rows: &Rows, place: usize) -> &Row
+    requires { place < length rows.now }
+    ensures { slice_get rows.now place ≡ Some result.now }
+{
+    match rows.get(place) {
+        None => unreachable!(),
+        Some(row) => row,
+    }
 }
 
 // Where a slot's data begins at a place among the times, within a length.
@@ -42,7 +54,7 @@ fn block_in_file<'a>(proto: &Proto, row: &'a Row, var: &ProtoVar, number: usize)
 // Where the elements of a variable lie that the row of an index list has.
 pub(crate) fn block_of<'a>(
     proto: &Proto,
-    rows: &'a [Row],
+    rows: &'a Rows,
     var: &'a ProtoVar,
     number: usize,
     index: &[u64],
@@ -51,7 +63,7 @@ pub(crate) fn block_of<'a>(
     ensures { IsBlock proto.now rows.now var.now index.now result.bytes.now result.begin }
 {
     if var.timed {
-        block_in_file(proto, &rows[first_of(index) as usize], var, number)
+        block_in_file(proto, row_at(rows, first_of(index) as usize), var, number)
     } else {
         Block {
             bytes: var.fixed.as_slice(),

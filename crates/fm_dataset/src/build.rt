@@ -9,13 +9,14 @@ use crate::shown::Dataset;
 use crate::table::{coordinate_numbers, slot_numbers};
 use dap_model::Decl;
 use fm_base::{Arc, Bytes, List, NoMemory};
-use fm_model::{Proto, Row, ViewName};
+use fm_model::{Proto, ViewName};
+use fm_rows::Rows;
 use std::alloc::Global;
 
 // A dataset of these parts.
 fn dataset_of(
     proto: Arc<Proto>,
-    rows: List<Row>,
+    rows: Rows,
     view: ViewName,
     label: Bytes,
     decls: List<Decl>,
@@ -40,11 +41,12 @@ fn dataset_of(
 /// that fits the prototype, of at most 3,221,225,472 bytes,
 /// with that file's run, a place among its times, and the time at that place as valid time.
 ///
-/// The rows are moved and the prototype is shared; it takes memory and time for the declarations alone.
+/// The rows are moved, in pages that others may share, and the prototype is shared; it takes memory and time for the
+/// declarations alone.
 pub fn dataset(
     alloc: Global,
     proto: &Arc<Proto>,
-    rows: List<Row>,
+    rows: Rows,
     view: ViewName,
     label: &[u8],
 ) -> Result<Dataset, NoMemory>

@@ -12,13 +12,14 @@ use crate::shown::Dataset;
 use crate::time::{axis_bits, offset_bits, run_bits};
 use crate::value::{element_of, raw_of, text_of};
 use fm_bits::pattern_at;
-use fm_model::{Proto, ProtoVar, Row, ViewName};
+use fm_model::{Proto, ProtoVar, ViewName};
+use fm_rows::Rows;
 
 // The bits of a number of a variable.
 #[tactic(auto, using(crate::proofs::WidthLemmas::widths), unfolding(crate::specs::Values::var_bits, crate::specs::Declarations::kind_in, dap_model::specs::Xdr::bits_in))]
 fn var_bits(
     proto: &Proto,
-    rows: &[Row],
+    rows: &Rows,
     view: &ViewName,
     var: &ProtoVar,
     number: usize,
@@ -53,7 +54,7 @@ impl Dataset {
             → AreBitsOf array.kind result }
     {
         let proto = self.proto.get();
-        let rows = self.rows.as_slice();
+        let rows = &self.rows;
         let count = proto.vars.len();
         if decl as usize == count {
             return run_bits(rows, index);
@@ -79,7 +80,7 @@ impl Dataset {
         ensures { result.now ≡ spec.text_of_part self.now decl part index.now }
     {
         let proto = self.proto.get();
-        let rows = self.rows.as_slice();
+        let rows = &self.rows;
         let number = number_of_part(proto, self.coordinates.as_slice(), decl, part);
         match var_at(proto.vars.as_slice(), number) {
             None => b"".as_slice(),
@@ -121,7 +122,7 @@ impl Dataset {
             ≡ size_of var.kind * min most (spec.left_in_row self.now.proto var index.now)) }
     {
         let proto = self.proto.get();
-        let rows = self.rows.as_slice();
+        let rows = &self.rows;
         let number = number_of_part(proto, self.coordinates.as_slice(), decl, part);
         match var_at(proto.vars.as_slice(), number) {
             None => b"".as_slice(),

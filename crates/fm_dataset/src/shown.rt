@@ -6,15 +6,16 @@ ghost use Rattle.fm_dataset.specs.Rows.{AreRows};
 
 use dap_model::Decl;
 use fm_base::{Arc, Bytes, List};
-use fm_model::{Proto, Row, ViewName};
+use fm_model::{Proto, ViewName};
+use fm_rows::Rows;
 use std::marker::Model;
 
-/// The dataset of a view: its rows over a prototype, under a label. A clause sees these four. It holds each row's file
-/// by its owner, and copies nothing of a file.
+/// The dataset of a view: its rows over a prototype, under a label. A clause sees these four. It holds the rows in
+/// pages that others may share, and each row's file by its owner, and copies nothing of a page or a file.
 #[derive(Drop)]
 pub struct Dataset {
     pub(crate) proto: Arc<Proto>,
-    pub(crate) rows: List<Row>,
+    pub(crate) rows: Rows,
     pub(crate) view: ViewName,
     pub(crate) label: Bytes,
     pub(crate) decls: List<Decl>,

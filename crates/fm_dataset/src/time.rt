@@ -6,6 +6,7 @@ ghost use Rattle.fm_dataset.specs.Values as spec;
 
 use crate::index::first_of;
 use fm_model::{Row, ViewName};
+use fm_rows::Rows;
 
 // The bits of whole seconds.
 fn bits_of_seconds(seconds: i64) -> u64
@@ -32,7 +33,7 @@ fn axis_time(view: &ViewName, row: &Row) -> i64
 
 // The bits of the time that the axis shows of the row that the first index picks.
 #[tactic(auto, unfolding(crate::specs::Values::time_bits))]
-pub(crate) fn axis_bits(rows: &[Row], view: &ViewName, index: &[u64]) -> u64
+pub(crate) fn axis_bits(rows: &Rows, view: &ViewName, index: &[u64]) -> u64
     requires { All HasInstants rows.now }
     ensures value { result ≡ spec.time_bits rows.now (spec.axis_time view.now) index.now }
     ensures width { result < 2 ^ 32 }
@@ -45,7 +46,7 @@ pub(crate) fn axis_bits(rows: &[Row], view: &ViewName, index: &[u64]) -> u64
 
 // The bits of its run.
 #[tactic(auto, unfolding(crate::specs::Values::time_bits))]
-pub(crate) fn run_bits(rows: &[Row], index: &[u64]) -> u64
+pub(crate) fn run_bits(rows: &Rows, index: &[u64]) -> u64
     requires { All HasInstants rows.now }
     ensures value { result ≡ spec.time_bits rows.now spec.run_time index.now }
     ensures width { result < 2 ^ 32 }
@@ -67,7 +68,7 @@ fn offset_time(row: &Row) -> i64
 
 // The bits of its offset.
 #[tactic(auto, unfolding(crate::specs::Values::time_bits))]
-pub(crate) fn offset_bits(rows: &[Row], index: &[u64]) -> u64
+pub(crate) fn offset_bits(rows: &Rows, index: &[u64]) -> u64
     requires { All HasInstants rows.now }
     ensures value { result ≡ spec.time_bits rows.now spec.offset_time index.now }
     ensures width { result < 2 ^ 32 }

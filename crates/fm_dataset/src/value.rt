@@ -8,12 +8,13 @@ ghost use Rattle.fm_dataset.specs.Values as spec;
 
 use crate::block::{block_of, pieces_of};
 use crate::index::{count_in, length_at, rank, row_dims, row_index};
-use fm_model::{Proto, ProtoVar, Row};
+use fm_model::{Proto, ProtoVar};
+use fm_rows::Rows;
 
 // The element at an index list.
 pub(crate) fn element_of<'a>(
     proto: &Proto,
-    rows: &'a [Row],
+    rows: &'a Rows,
     var: &'a ProtoVar,
     number: usize,
     index: &[u64],
@@ -37,7 +38,7 @@ fn lesser(count: u64, other: u64) -> u64
 // The elements that follow an index list in its row, itself the first: at most so many.
 pub(crate) fn raw_of<'a>(
     proto: &Proto,
-    rows: &'a [Row],
+    rows: &'a Rows,
     var: &'a ProtoVar,
     number: usize,
     index: &[u64],
@@ -83,7 +84,7 @@ fn text_len(proto: &Proto, ids: &[u32]) -> u64
 // The characters at an index list.
 fn characters<'a>(
     proto: &Proto,
-    rows: &'a [Row],
+    rows: &'a Rows,
     var: &'a ProtoVar,
     number: usize,
     index: &[u64],
@@ -106,7 +107,7 @@ fn characters<'a>(
 // The text at an index list.
 pub(crate) fn text_of<'a>(
     proto: &Proto,
-    rows: &'a [Row],
+    rows: &'a Rows,
     var: &'a ProtoVar,
     number: usize,
     index: &[u64],

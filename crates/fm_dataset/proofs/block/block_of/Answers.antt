@@ -1,12 +1,10 @@
 use Rattle.std.proofs.Common.{refl}
-use Rattle.std.proofs.lemmas.Option.{slice_get_read}
 use Rattle.fm_dataset.proofs.BlockLemmas.{block_along, block_fixed}
 use Rattle.fm_dataset.proofs.block.block_of.Goals as goal
 
 pub returns-then-var : goal.returns-then-var
 returns-then-var c =
-    let read = rw c.first_of.ensures at c.index-rows-first_of.is in
-    let there = slice_get_read _ _ _ _ refl (c.requires.row_there c.if-var.true) read in
+    let there = rw c.first_of.ensures at c.row_at.ensures in
     block_along _ _ _ _ _ _ _ c.if-var.true there c.block_in_file.ensures
 
 pub returns-else-var : goal.returns-else-var

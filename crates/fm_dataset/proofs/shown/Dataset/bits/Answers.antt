@@ -9,12 +9,10 @@ use Rattle.fm_dataset.proofs.WidthLemmas.{added_fits, var_fits}
 use Rattle.fm_dataset.proofs.shown.Dataset.bits.Goals as goal
 
 pub run_bits-requires : goal.run_bits-requires
-run_bits-requires c =
-    rw c.as_slice-rows.ensures (instants _ _ c.self.invariant.sound c.self.invariant.rows_are)
+run_bits-requires c = instants _ _ c.self.invariant.sound c.self.invariant.rows_are
 
 pub offset_bits-requires : goal.offset_bits-requires
-offset_bits-requires c =
-    rw c.as_slice-rows.ensures (instants _ _ c.self.invariant.sound c.self.invariant.rows_are)
+offset_bits-requires c = instants _ _ c.self.invariant.sound c.self.invariant.rows_are
 
 pub var_bits-requires : goal.var_bits-requires
 var_bits-requires c =
@@ -28,7 +26,7 @@ var_bits-requires c =
     let stands = rw (c.as_slice-2.ensures, c.get-proto.ensures) at there in
     let slot = rw c.as_slice-in-Some.ensures at c.number_at-slot.ensures in
     let slot_is = slot ∙ c.self.invariant.slots_are.each _ (slice_get_within _ _ _ stands) in
-    rw (c.get-proto.ensures, c.as_slice-rows.ensures)
+    rw c.get-proto.ensures
     (has_bits _ c.self.invariant.sound c.self.invariant.rows_are _ _ _ _ _
     (rw c.get-proto.ensures at c.number_of_part-number.ensures) stands _ slot_is below asked)
 

@@ -14,6 +14,6 @@ text_of-requires c =
     let stands = rw (c.as_slice-2.ensures, c.get-proto.ensures) at there in
     let slot = rw c.as_slice-in-Some.ensures at c.number_at-slot.ensures in
     let slot_is = slot ∙ c.self.invariant.slots_are.each _ (slice_get_within _ _ _ stands) in
-    rw (c.get-proto.ensures, c.as_slice-rows.ensures)
+    rw c.get-proto.ensures
     (has_characters _ c.self.invariant.sound c.self.invariant.rows_are _ _ _ _ _
     (rw c.get-proto.ensures at c.number_of_part-number.ensures) stands _ slot_is asked)
