@@ -1,8 +1,7 @@
 -- The rows that are kept page by page.
-use Rattle.std.proofs.Common.{◌≡◌, ◌⊎◌, ℕ, zero, suc, ◌+◌, ◌<◌, ◌≤◌, Bool, true, false, cond, List, [], ◌∷◌, ◌++◌, length, get_or, take, Option, Some, None, ℤ, refl, sym, ap, subst, ◌∙◌, arith}
+use Rattle.std.proofs.Common.{◌≡◌, ℕ, zero, suc, ◌+◌, ◌<◌, ◌≤◌, Bool, true, false, cond, List, [], ◌∷◌, length, get_or, take, Some, ℤ, refl, sym, ap, ◌∙◌, arith}
 use Rattle.std.specs.Prelude.{◌||◌, All}
-use Rattle.std.specs.BTreeMap.{BTreeMap, get, IsOrdered}
-use Rattle.std.specs.List.{filter_map, list_any}
+use Rattle.std.specs.BTreeMap.{BTreeMap, get}
 use Rattle.std.specs.Option.{option_map}
 use Rattle.std.specs.Ordering.{int_cmp, int_eq}
 use Rattle.std.specs.Cmp.{signed_Decides}
@@ -10,7 +9,6 @@ use Rattle.std.proofs.lemmas.Bool.{false≢true}
 use Rattle.std.proofs.lemmas.List.{take_more}
 use Rattle.std.proofs.lemmas.List.Folds.{list_any-append}
 use Rattle.fm_model.specs.declared.loaded.Loaded.{Loaded}
-use Rattle.fm_model.specs.declared.row.Row.{Row}
 use Rattle.fm_model.proofs.Members.{All-from_each, Each-from_in, Each-in, In-flat_map, each_from_All}
 use Rattle.fm_edition.specs.Indexes.{entries_of, page_of, page_rows, rows_at, touches, AreBest, AreOrdered, IsTimed, Pages, RowPages}
 use Rattle.fm_edition.proofs.EntryLemmas.{entry_found, found_entry}

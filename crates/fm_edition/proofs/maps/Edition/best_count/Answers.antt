@@ -1,5 +1,5 @@
 -- There are few valid times, and those of all pages are those of the files.
-use Rattle.std.proofs.Common.{length, ap, ◌∙◌, None, Some}
+use Rattle.std.proofs.Common.{length, ap, ◌∙◌, None}
 use Rattle.fm_edition.proofs.CountLemmas.{entries_are_few}
 use Rattle.fm_edition.proofs.EditionLemmas.{times_are_few}
 use Rattle.fm_edition.proofs.RowLemmas.{entries_timed, rows-from_pages}

@@ -1,5 +1,5 @@
 -- The rows of all entries are those of the best time series.
-use Rattle.std.proofs.Common.{None, Some}
+use Rattle.std.proofs.Common.{None}
 use Rattle.fm_edition.proofs.EditionLemmas.{times_are_few}
 use Rattle.fm_edition.proofs.RowLemmas.{entries_timed, rows-from_pages}
 use Rattle.fm_edition.proofs.maps.Edition.best_rows.Goals as goal

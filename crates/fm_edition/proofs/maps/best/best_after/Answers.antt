@@ -1,5 +1,5 @@
 -- The page of one more instant has its rows.
-use Rattle.std.proofs.Common.{rules, ◌≡◌, ◌∙◌, arith, get_or, refl, if◌then◌else◌, false, true, pos, ap, sym, subst, take, SFits, w64, ℤ}
+use Rattle.std.proofs.Common.{rules, ◌≡◌, arith, get_or, refl, if◌then◌else◌, true, pos, subst, take, SFits, w64}
 use Rattle.std.specs.BTreeMap.{get}
 use Rattle.std.specs.Ordering.{int_cmp}
 use Rattle.std.proofs.lemmas.Int.{to_z-of_z}

@@ -1,11 +1,8 @@
 -- One more page's rows.
-use Rattle.std.proofs.Common.{◌≡◌, ◌≢◌, ◌++◌, ◌∙◌, ℤ, List, None, Some, ap, refl, subst, sym}
-use Rattle.std.specs.BTreeMap.{BTreeMap, get}
+use Rattle.std.proofs.Common.{◌≡◌, ◌++◌, ◌∙◌, None, refl, subst, sym}
 use Rattle.std.specs.List.{filter_map}
-use Rattle.std.specs.Ordering.{int_cmp}
 use Rattle.std.proofs.lemmas.Option.{none-some, same_Some}
-use Rattle.fm_model.specs.declared.loaded.Loaded.{Loaded}
-use Rattle.fm_edition.specs.Indexes.{entries_in, entries_of, entry_row, page_rows, RowPages}
+use Rattle.fm_edition.specs.Indexes.{entries_in, entries_of, entry_row, page_rows}
 use Rattle.fm_edition.proofs.BestLemmas.{kept_entries, HasKept}
 use Rattle.fm_edition.proofs.WalkLemmas.{all_first, all_rest, some_taken}
 use Rattle.fm_edition.proofs.maps.best.kept_rows.Goals as goal
