@@ -67,6 +67,14 @@ fn same_row(one: &Row, other: &Row) -> bool {
         && same_file(one.file.get(), other.file.get())
 }
 
+// The two have a row, and the same.
+fn same_rows(one: Option<&Row>, other: Option<&Row>) -> bool {
+    match (one, other) {
+        (Some(row), Some(same)) => same_row(row, same),
+        _ => false,
+    }
+}
+
 // The two have the same cell, or none.
 fn same_cell(one: Option<(&Arc<Loaded>, u32)>, other: Option<(&Arc<Loaded>, u32)>) -> bool {
     match (one, other) {
@@ -114,8 +122,8 @@ fn same_best(rt: &impl Abort, alloc: Global, both: &Both, least: Option<i64>) ->
     let others = both.list.best_rows(alloc, least)?;
     assert_eq!(rt; rows.len(), others.len());
     assert_eq!(rt; rows.len(), both.maps.best_count(least));
-    for (row, other) in rows.as_slice().iter().zip(others.as_slice()) {
-        assert!(rt; same_row(row, other));
+    for place in 0..rows.len() {
+        assert!(rt; same_rows(rows.get(place), others.get(place)));
     }
     Ok(())
 }

@@ -4,17 +4,19 @@ ghost use Rattle.fm_base.specs.Answer.{OnFault};
 ghost use Rattle.fm_model.specs.Rows as views;
 
 use crate::runs::{rows_at_offset, rows_at_valid, rows_of_run};
-use fm_base::{Fail, List, NoMemory};
+use fm_base::{Fail, NoMemory};
 use fm_edition::Edition;
-use fm_model::{Row, ViewName};
+use fm_model::ViewName;
+use fm_rows::Rows;
 use std::alloc::Global;
 
 /// A view has no rows.
 #[derive(Clone, Copy, Debug, PartialEq, Eq)]
 pub struct NoRows;
 
-/// The rows of a view, or that it has none.
-pub fn rows(alloc: Global, edition: &Edition, view: &ViewName) -> Result<List<Row>, Fail<NoRows>>
+/// The rows of a view, or that it has none. Those of the best time series are the edition's own pages, shared; those of
+/// another view are made.
+pub fn rows(alloc: Global, edition: &Edition, view: &ViewName) -> Result<Rows, Fail<NoRows>>
     ensures rows { IfOk result (λ list. list ≡ views.rows edition.now.files view.now) }
     ensures some { IfOk result (λ list. list ≢ []) }
     ensures none { OnFault result (views.rows edition.now.files view.now ≡ []) }
@@ -27,14 +29,17 @@ pub fn rows(alloc: Global, edition: &Edition, view: &ViewName) -> Result<List<Ro
 }
 
 // The rows of a view, of which there may be none.
-fn all_rows(alloc: Global, edition: &Edition, view: &ViewName) -> Result<List<Row>, NoMemory>
+fn all_rows(alloc: Global, edition: &Edition, view: &ViewName) -> Result<Rows, NoMemory>
     ensures { IfOk result (λ list. list ≡ views.rows edition.now.files view.now) }
 {
     match view {
         ViewName::Best => edition.best_rows(alloc, None),
         ViewName::BestFrom(least) => edition.best_rows(alloc, Some(*least)),
-        ViewName::Run(run) => rows_of_run(alloc, edition, *run),
-        ViewName::Offset(seconds) => rows_at_offset(alloc, edition, *seconds),
-        ViewName::Forecast(valid) => rows_at_valid(alloc, edition, *valid),
+        ViewName::Run(run) => Rows::of_page(alloc, rows_of_run(alloc, edition, *run)?),
+        ViewName::Offset(seconds) => Rows::of_page(
+            alloc,
+            rows_at_offset(alloc, edition, *seconds)?,
+        ),
+        ViewName::Forecast(valid) => Rows::of_page(alloc, rows_at_valid(alloc, edition, *valid)?),
     }
 }

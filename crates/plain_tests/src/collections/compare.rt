@@ -188,7 +188,10 @@ fn same_rows(
     if found.is_empty() || found.len() != wanted.len() {
         return Ok(false);
     }
-    for (row, shown) in found.as_slice().iter().zip(wanted) {
+    for (place, shown) in wanted.iter().enumerate() {
+        let Some(row) = found.get(place) else {
+            return Ok(false);
+        };
         if !is_row(alloc, row, shown)? {
             return Ok(false);
         }

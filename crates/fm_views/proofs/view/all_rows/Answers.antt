@@ -1,5 +1,5 @@
 -- Each view has its function.
-use Rattle.std.proofs.Common.{rules, SFits, w64}
+use Rattle.std.proofs.Common.{rules, ◌≡◌, subst, IfOk, SFits, w64}
 use Rattle.std.proofs.lemmas.Int.{to_z-of_z}
 use Rattle.fm_model.specs.Rows.{rows}
 use Rattle.fm_views.proofs.view.all_rows.Goals as goal
@@ -14,20 +14,23 @@ returns-in-BestFrom c =
     let a : SFits w64 c.in-BestFrom.least = search rules in
     rw c.in-BestFrom.is (simp to_z-of_z at c.best_rows-in-BestFrom.ensures)
 
-pub returns-in-Run : goal.returns-in-Run
+pub returns-in_ok-rows_of_run-in-Run : goal.returns-in_ok-rows_of_run-in-Run
 unfolding rows
-returns-in-Run c =
+returns-in_ok-rows_of_run-in-Run c =
     let a : SFits w64 c.in-Run.run' = search rules in
-    rw c.in-Run.is (simp to_z-of_z at c.rows_of_run.ensures)
+    rw c.in-Run.is (subst (λ found. IfOk c.of_page.result (λ list. list ≡ found))
+    (simp to_z-of_z at c.in_ok-rows_of_run-in-Run.ensures) c.of_page.ensures)
 
-pub returns-in-Offset : goal.returns-in-Offset
+pub returns-in_ok-rows_at_offset-in-Offset : goal.returns-in_ok-rows_at_offset-in-Offset
 unfolding rows
-returns-in-Offset c =
+returns-in_ok-rows_at_offset-in-Offset c =
     let a : SFits w64 c.in-Offset.seconds = search rules in
-    rw c.in-Offset.is (simp to_z-of_z at c.rows_at_offset.ensures)
+    rw c.in-Offset.is (subst (λ found. IfOk c.of_page-in-Offset.result (λ list. list ≡ found))
+    (simp to_z-of_z at c.in_ok-rows_at_offset-in-Offset.ensures) c.of_page-in-Offset.ensures)
 
-pub returns-in-Forecast : goal.returns-in-Forecast
+pub returns-in_ok-rows_at_valid-in-Forecast : goal.returns-in_ok-rows_at_valid-in-Forecast
 unfolding rows
-returns-in-Forecast c =
+returns-in_ok-rows_at_valid-in-Forecast c =
     let a : SFits w64 c.in-Forecast.valid = search rules in
-    rw c.in-Forecast.is (simp to_z-of_z at c.rows_at_valid.ensures)
+    rw c.in-Forecast.is (subst (λ found. IfOk c.of_page-in-Forecast.result (λ list. list ≡ found))
+    (simp to_z-of_z at c.in_ok-rows_at_valid-in-Forecast.ensures) c.of_page-in-Forecast.ensures)
