@@ -13,11 +13,11 @@ use std::test::Fail;
 /// The number of names.
 pub const NAMES: u8 = 20;
 
-/// The first run, the beginning of 2024, from the epoch of the collection.
-const FIRST_RUN: i64 = 126_230_400;
+/// The first run, from the epoch of the collection: 2024-01-07, so that a page of an edition ends among the hours below.
+const FIRST_RUN: i64 = 126_748_800;
 
 // The same in Unix seconds.
-const FIRST: u32 = 1_704_067_200;
+const FIRST: u32 = 1_704_585_600;
 
 /// The run of a name: two names have each run, and the runs are six hours apart.
 pub fn run_of(k: u8) -> i64 {
@@ -42,7 +42,7 @@ fn put_two(out: &mut Bytes, number: u8) -> Result<(), NoMemory> {
 /// The name of a number: the moment of its run, and a letter.
 pub fn name(alloc: Global, k: u8) -> Result<Bytes, NoMemory> {
     let mut name = Bytes::copy_of(alloc, b"gfs_202401")?;
-    put_two(&mut name, (k / 8).wrapping_add(1))?;
+    put_two(&mut name, (k / 8).wrapping_add(7))?;
     name.append(b"_")?;
     put_two(&mut name, (k / 2 % 4).wrapping_mul(6))?;
     name.append(b"00-")?;
