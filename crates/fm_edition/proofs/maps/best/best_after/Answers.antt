@@ -37,8 +37,8 @@ loop-at-preserved c =
             let more = touches-more touched c.loop-at.at (pos 0) other c.loop-at-test.true in
             let set = simp to_z-of_z at (w.in_ok-set_rows.ensures.set other) in
             rw (w.next-is, more, ← own) (set_step rows number other (touches (take c.loop-at.at touched) other)
-            (get int_cmp c.args.best.now other) (get int_cmp c.loop-at.next other) (get int_cmp w.set_rows.new.best other)
-            (c.loop-at.invariant.made other) set);
+            (get int_cmp c.args.best.now other) (get int_cmp c.loop-at.next other)
+            (get int_cmp w.set_rows.new.best other) (c.loop-at.invariant.made other) set);
       }
       | else-begins_page w ↦ record {
         within = omega (arith, c.loop-at-test.true);
@@ -54,9 +54,16 @@ loop-at-preserved c =
     ]
 
 pub returns : goal.returns
-returns c = record {
-  ordered = c.loop-at.invariant.ordered;
-  shown = λ number. all_made (rows_at c.args.pages.now number) (get int_cmp c.args.best.now number)
-      (touches c.args.touched.now number) (get int_cmp c.loop-at.next number) (c.requires.same number)
-      (subst (λ l. get int_cmp c.loop-at.next number ≡ (if touches l number then rows_at c.args.pages.now number else get int_cmp c.args.best.now number)) (take_all c.loop-at.at c.args.touched.now c.loop-at-test.false) (c.loop-at.invariant.made number));
-}
+returns c =
+    let rows = rows_at c.args.pages.now in
+    let first = get int_cmp c.args.best.now in
+    let touched = c.args.touched.now in
+    record {
+      ordered = c.loop-at.invariant.ordered;
+      shown = λ number.
+          let made = subst (λ l. get int_cmp c.loop-at.next number
+          ≡ (if touches l number then rows number else first number))
+          (take_all c.loop-at.at touched c.loop-at-test.false) (c.loop-at.invariant.made number) in
+          all_made (rows number) (first number) (touches touched number) (get int_cmp c.loop-at.next number)
+          (c.requires.same number) made;
+    }
