@@ -61,7 +61,8 @@ some-shown proto files target some =
 answer-is : (proto : Proto) (files : List Loaded) (item : Item) (target : Target) → IsAsked proto files item target
     → answer_to proto files item ≡ answered (body_of proto files target)
 unfolding answer_to
-answer-is proto files item target asked = ap (λ found. answered (found >>= (λ t. body_of proto files t))) asked.target_is
+answer-is proto files item target asked =
+    ap (λ found. answered (found >>= (λ t. body_of proto files t))) asked.target_is
 
 structure-body : (proto : Proto) (files : List Loaded) (target : Target) → target.service ≡ Dds
     → body_of proto files target ≡ structure_asked proto files target
@@ -113,8 +114,8 @@ unfolding data_asked
 data-asked proto files item target clauses projected asked is service few =
     answer-is proto files item target asked
     ∙ ap answered (data-of-body proto files target service)
-    ∙ ap (λ found. answered (found >>= (λ (shown : Shown). projected_of (decls_of shown.proto (length shown.rows)) target.constraint
-    >>= (λ p. within_limit (data_body shown target p))))) (some-shown proto files target asked.some)
+    ∙ ap (λ found. answered (found >>= (λ (shown : Shown). projected_of (decls_of shown.proto (length shown.rows))
+    target.constraint >>= (λ p. within_limit (data_body shown target p))))) (some-shown proto files target asked.some)
     ∙ ap (λ found. answered (found >>= (λ p. within_limit (data_body (shown_of proto files target) target p))))
     (projected-ok proto files target clauses projected is)
     ∙ ap answered (within (data_body (shown_of proto files target) target projected) few)

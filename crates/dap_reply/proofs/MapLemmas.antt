@@ -71,7 +71,8 @@ module _ (proto : Proto) (count : ℕ) (sound : IsSound proto) where
     lies = Each-in (LiesFirst sound.id) var proto.vars (each_from_All (LiesFirst sound.id) proto.vars sound.timed) held
 
     -- the dimensions of an array along the axis, of which there is one, and of any other
-    timed-dims : (dims : List ℕ) (n : ℕ) → IsTrue (stands_first_alone sound.id dims) → (length (take n dims) == 0) ≡ false
+    timed-dims : (dims : List ℕ) (n : ℕ) → IsTrue (stands_first_alone sound.id dims)
+        → (length (take n dims) == 0) ≡ false
         → rows_dim proto count ∷ map (dim_at proto) (drop 1 (take n dims)) ≡ map single (take n dims)
     unfolding stands_first_alone
     timed-dims [] n alone some = absurd (false≢true alone)

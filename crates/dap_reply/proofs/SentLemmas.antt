@@ -46,7 +46,8 @@ part-fits decls clauses sent part fits = ⊎_elim there past (slice_get_cases (p
     same = same_Some fits.decl part.decl (sym fits.decl_is ∙ part.decl_is)
 
     there : ((array : Array) × (sent.part < length (parts_of part.decl))
-        × (slice_get (parts_of part.decl) sent.part ≡ Some array) × (get_or (parts_of part.decl) sent.part array ≡ array))
+        × (slice_get (parts_of part.decl) sent.part ≡ Some array)
+        × (get_or (parts_of part.decl) sent.part array ≡ array))
         → IsSomeAnd (option_and_then (λ (found : Decl). slice_get (parts_of found) sent.part)
         (slice_get decls sent.decl)) (FitsArray sent)
     there found = rw (part.decl_is, found.2) (subst Fits (ap (λ o. option_map_or (λ (array : Array). array.dims) o [])
@@ -65,7 +66,8 @@ sent-fits shown clauses projected prototype is = λ k d within.
     let sound = IsSound-given shown.proto prototype in
     let accepted = Accepted-projection_of decls clauses projected is in
     let same = ap (λ (p : Projected). p.sent) accepted.all in
-    let has = subst (λ (l : List Sent). Has l (get_or projected.sent k d)) (sym same) (Has-at projected.sent k d within) in
+    let has = subst (λ (l : List Sent). Has l (get_or projected.sent k d)) (sym same)
+    (Has-at projected.sent k d within) in
     let part = PartSent-all_sent decls clauses (get_or projected.sent k d) has in
     part-fits decls clauses (get_or projected.sent k d) part
     (FitsPart-sent decls clauses (get_or projected.sent k d) (named-apart shown.proto (length shown.rows) sound)
@@ -90,7 +92,8 @@ all-sent shown constraint projected prototype is = by_asked (asked_by constraint
         → projection_of (decls_of shown.proto (length shown.rows)) clauses ≡ found
         → fault_as Projection found ≡ Ok projected → All (IsSentOf shown) projected.sent
     by_projection clauses (Ok other) found same =
-        subst (λ (p : Projected). All (IsSentOf shown) p.sent) (same_Ok other projected same) (sent-fits shown clauses other prototype found)
+        subst (λ (p : Projected). All (IsSentOf shown) p.sent) (same_Ok other projected same)
+        (sent-fits shown clauses other prototype found)
     by_projection clauses (Err fault) found same = absurd (not-ok same)
 
     by_asked : (asked : Result Asks CeFault)

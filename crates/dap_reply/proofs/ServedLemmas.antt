@@ -22,7 +22,8 @@ AreWhole proto ops marks items before = (place : ℕ) (mark : Mark) (item : Item
 
 whole-script : (proto : Proto) (ops : List Op) (marks : List Mark) (items : List Item) (before : ℕ)
     → AreWhole proto ops marks items before
-    → sent_by proto ops marks items before ≡ script_of proto ops (map (λ (mark : Mark). mark.revision) marks) items before
+    → sent_by proto ops marks items before
+    ≡ script_of proto ops (map (λ (mark : Mark). mark.revision) marks) items before
 unfolding AreWhole sent_by script_of
 whole-script proto ops [] items before whole = refl
 whole-script proto ops (mark ∷ marks) [] before whole = refl

@@ -1,4 +1,5 @@
--- The numbers, statuses and messages of what is wrong with a request (ESE-RFC-004, the Error object; RFC 9110, statuses).
+-- The numbers, statuses and messages of what is wrong with a request
+-- (ESE-RFC-004, the Error object; RFC 9110, statuses).
 use Rattle.std.specs.Prelude.{ℕ, List, ◌++◌, codes}
 use Rattle.std.specs.Fmt.{decimal}
 use Rattle.fm_bits.specs.Quoted.{quoted}

@@ -1,4 +1,5 @@
--- The reply to a request that a collection is looked at for, and to one that is refused, with the data left in its dataset.
+-- The reply to a request that a collection is looked at for, and to one that is refused,
+-- with the data left in its dataset.
 use Rattle.std.specs.Prelude.{ℕ, Bool}
 use Rattle.fm_edition.specs.Held.{Held}
 use Rattle.dap_reply.specs.declared.body.Answer.{Answer}

@@ -28,9 +28,9 @@ pub record IsAtRest (session : State) : Type 0 where
   pub phase_is : session.phase ≡ phase_after (next_of (held_bytes session))
   pub held_is : session.held ≡ held_after (held_bytes session)
 
--- what a call that serves a link found and left: what was seen of the collection, the session, the bytes that were taken
--- from the link and written to it, whether the link said that its input is over, how often its calls had failed, and what
--- the call returned
+-- what a call that serves a link found and left: what was seen of the collection, the session, the bytes that were
+-- taken from the link and written to it, whether the link said that its input is over, how often its calls had failed,
+-- and what the call returned
 pub record LinkCall : Type 0 where
   pub proto : Proto
   pub still : Bool
@@ -133,8 +133,8 @@ pub record WritesReplies (call : LinkCall) : Type 0 where
   pub front : farewell ≡ take (length farewell) no_memory_reply
   pub said : call.stop ≡ stops.Ended ends.NoMemory → (farewell ≡ no_memory_reply) ⊎ HasFailed call
 
--- there is one look for each request that a collection is looked at for, in order, at its revision; where memory ran out
--- one more may follow
+-- there is one look for each request that a collection is looked at for, in order, at its revision; where memory ran
+-- out one more may follow
 pub record LooksOnce (call : LinkCall) : Type 0 where
   pub more : List ℕ
   pub looks_are : call.looks_after

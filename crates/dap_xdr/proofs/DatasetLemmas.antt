@@ -78,7 +78,8 @@ short shown decl part index given rows_are has =
     let is = short_texts shown decl part index given rows_are has in omega (arith, is)
 
 -- nothing is lent
-pub nothing_stored : (array : Array) (bits : List ℕ → ℕ) (index : List ℕ) (most : ℕ) → AreStored array bits index most []
+pub nothing_stored : (array : Array) (bits : List ℕ → ℕ) (index : List ℕ) (most : ℕ)
+    → AreStored array bits index most []
 nothing_stored array bits index most = record {
   count = 0;
   few = omega arith;

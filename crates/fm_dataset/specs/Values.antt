@@ -189,7 +189,8 @@ HasNumber shown decl part index = IsSomeAnd (array_at shown decl part) (HasNumbe
 abbrev pub HasText : Shown → ℕ → ℕ → List ℕ → Type 0
 HasText shown decl part index = IsSomeAnd (array_at shown decl part) (HasTextAt index)
 
--- whether the numbers of a part stand in files or in the prototype, as those of the axis, the runs and the offsets don't
+-- whether the numbers of a part stand in files or in the prototype,
+-- as those of the axis, the runs and the offsets don't
 unfoldable pub is_stored : Shown → ℕ → ℕ → Bool
 is_stored shown decl part = nat_lt decl (length shown.proto.vars)
     && not (option_map_or (is_axis_of shown.proto) (var_of_part shown.proto decl part) false)

@@ -21,8 +21,8 @@ use Rattle.fm_edition.specs.Indexes.{entries_of, in_page, instants, page_of, par
 use Rattle.fm_edition.proofs.ChangeLemmas.{one_of}
 
 -- an entry of a map in order is what is found there
-pub found_entry : {A : Type 0} (m : BTreeMap ℤ A) (key : ℤ) (value : A) → IsOrdered int_cmp m → In (key, value) m.entries
-    → get int_cmp m key ≡ Some value
+pub found_entry : {A : Type 0} (m : BTreeMap ℤ A) (key : ℤ) (value : A) → IsOrdered int_cmp m
+    → In (key, value) m.entries → get int_cmp m key ≡ Some value
 found_entry m key value ordered held = lookup-from_Contains int_eq_equiv key value m.entries
     (IsDistinct-from_sorted int_cmp (keys_of m.entries) ordered) (Contains-from_in (key, value) m.entries held)
 

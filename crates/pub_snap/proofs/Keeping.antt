@@ -29,7 +29,8 @@ grown_begins log more views all on j view at = continues_on view.seen log more (
 pub newcomer_begins : (log : List Op) (views : List Known) (view : Known) → AllBegin log views → view.seen ≡ []
     → AllBegin log (views ++ view ∷ [])
 newcomer_begins log views view all none j other at = ⊎_elim (all j other)
-    (λ (e : view ≡ other). subst (λ (v : Known). Continues v.seen log) e (log, ap (λ (l : List Op). l ++ log) (sym none)))
+    (λ (e : view ≡ other). subst (λ (v : Known). Continues v.seen log) e
+    (log, ap (λ (l : List Op). l ++ log) (sym none)))
     (at_snoc views view other j at)
 
 module _ (book : Book) (proto : Proto) where

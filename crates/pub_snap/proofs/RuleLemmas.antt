@@ -114,7 +114,8 @@ pub rule-learnt : (book : Book) (proto : Proto) (now : Publication) (place other
     → IsKept book proto (with_learnt now place own told)
 rule-learnt book proto now place other own told is mine its =
     let begins : Continues (longer own told) now.log =
-    longer_begins now.log own told (nat_lt (length own) (length told)) (is.learnt place own mine) (is.learnt other told its)
+    longer_begins now.log own told (nat_lt (length own) (length told))
+    (is.learnt place own mine) (is.learnt other told its)
     in
     of_learnt book proto now (set now.learnt place (longer own told)) is
     (λ i list at. ⊎_elim

@@ -67,38 +67,39 @@ pub serves-so : (proto : Proto) (still : Bool) (start after : Moment) (taken wri
     → StopsBy (call_of proto still start after (moves_of taken (written ++ farewell) over) most stop) stop
     → (over ≡ true → IsOver after.link.held) → IsCalm start after stop
     → Serves proto still start after most stop
-serves-so proto still start after taken written farewell more over most stop done others ran a f why is_over calm = record {
-  moves = moves_of taken (written ++ farewell) over;
-  served = record {
-    sees = record { grows = ran.grows; stays = ran.stays; rises = ran.rises };
-    answers = answers-part call done others a;
-    writes = record {
-      farewell = farewell;
-      written_is = ap (λ (l : List ℕ). l ++ farewell) (ran.written_is
-          ∙ sym (sent-front proto after.seen after.trail done others start.session.before a.count)
-          ∙ ap (λ (l : List Item). sent_by proto after.seen after.trail l start.session.before) (sym a.items_are));
-      whole = whole-part call done others a;
-      only_short = λ ample. (f.only_short ample).0;
-      front = f.front;
-      said = f.said;
-    };
-    looks = record {
-      more = more;
-      looks_are = ran.looks_are ∙ ap (λ (l : List ℕ). start.looks ++ l ++ more)
-          (sym (wanted-front proto after.trail done others a.count)
-          ∙ ap (wanted_revisions proto after.trail) (sym a.items_are));
-      at_most_one = f.at_most_one;
-      only_short = λ ample. (f.only_short ample).1;
-      repeats = subst (RepeatsUnwanted proto (length start.seen) after.trail) (sym a.items_are)
-          (repeats-front proto (length start.seen) after.trail done others a.count ran.repeats);
-    };
-    stops = why;
-  };
-  moved_is = ran.moved_is;
-  next = ran.next;
-  over_is = is_over;
-  calm = calm;
-}
+serves-so proto still start after taken written farewell more over most stop done others ran a f why is_over calm =
+    record {
+      moves = moves_of taken (written ++ farewell) over;
+      served = record {
+        sees = record { grows = ran.grows; stays = ran.stays; rises = ran.rises };
+        answers = answers-part call done others a;
+        writes = record {
+          farewell = farewell;
+          written_is = ap (λ (l : List ℕ). l ++ farewell) (ran.written_is
+              ∙ sym (sent-front proto after.seen after.trail done others start.session.before a.count)
+              ∙ ap (λ (l : List Item). sent_by proto after.seen after.trail l start.session.before) (sym a.items_are));
+          whole = whole-part call done others a;
+          only_short = λ ample. (f.only_short ample).0;
+          front = f.front;
+          said = f.said;
+        };
+        looks = record {
+          more = more;
+          looks_are = ran.looks_are ∙ ap (λ (l : List ℕ). start.looks ++ l ++ more)
+              (sym (wanted-front proto after.trail done others a.count)
+              ∙ ap (wanted_revisions proto after.trail) (sym a.items_are));
+          at_most_one = f.at_most_one;
+          only_short = λ ample. (f.only_short ample).1;
+          repeats = subst (RepeatsUnwanted proto (length start.seen) after.trail) (sym a.items_are)
+              (repeats-front proto (length start.seen) after.trail done others a.count ran.repeats);
+        };
+        stops = why;
+      };
+      moved_is = ran.moved_is;
+      next = ran.next;
+      over_is = is_over;
+      calm = calm;
+    }
   where
     call : LinkCall
     call = call_of proto still start after (moves_of taken (written ++ farewell) over) most stop

@@ -117,7 +117,8 @@ ServesEach-more {L} shown proto proto' still still' door door' door'' sight sigh
           (All-cons unused turn [] next.unused (All-nil unused));
       follow = Follow-more each.turns sight sight' turn each.follow refl;
       came = CameInOrder-more each.turns turn door each.came
-          (subst (λ (d : Option (Doorway L)). IfSome d (λ it. Some turn.came ≡ first_of it.left)) each.door_is next.next);
+          (subst (λ (d : Option (Doorway L)). IfSome d (λ it. Some turn.came ≡ first_of it.left))
+          each.door_is next.next);
       door_is = next.door_is
           ∙ ap (λ (d : Option (Doorway L)). after_done turn.left (after_accept (Some turn.came) d)) each.door_is
           ∙ after_turns-more each.turns turn door;
@@ -151,6 +152,7 @@ ServesEach-same {L} shown proto still door door' door'' sight seen seen' looks l
     (subst (λ (s : List Op).
     ServesEach shown proto still door door' sight (record { seen = s; looks = looks' }) served short) (sym seen_is)
     (subst (λ (l : List ℕ).
-    ServesEach shown proto still door door' sight (record { seen = seen; looks = l }) served short) (sym looks_is) each))
+    ServesEach shown proto still door door' sight (record { seen = seen; looks = l }) served short)
+    (sym looks_is) each))
 
 pub ruleset turns = (ServesEach-none, ServesEach-more, ServesEach-same)

@@ -54,7 +54,8 @@ whole_minutes : (day : ℤ) (hour minute second k : ℕ) → second < 60
     → unix_seconds day (pos (time_seconds hour minute second)) ≡ run_time k → second ≡ 0
 whole_minutes day hour minute second k small is = omega (arith, signed_arith, is)
 
-mark_of-stamp : (stamp rest : List ℕ) → mark_of (codes "load_" ++ stamp ++ rest) (codes "load_") ≡ stamp_of (stamp ++ rest)
+mark_of-stamp : (stamp rest : List ℕ)
+    → mark_of (codes "load_" ++ stamp ++ rest) (codes "load_") ≡ stamp_of (stamp ++ rest)
 unfolding mark_of
 mark_of-stamp stamp rest = refl
 

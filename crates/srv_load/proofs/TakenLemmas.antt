@@ -33,7 +33,8 @@ proto_taken seed = made_prototype made_site seed 0
 
 pub file_taken : (seed k : ℕ) → k < 400
     → load_of (made_name k) (made_file seed k) load_proto ≡ Ok (held_file seed k)
-file_taken seed k few = made_file_taken made_site load_proto (made_name k) seed k few refl (mark_is k few) (proto_taken seed)
+file_taken seed k few =
+    made_file_taken made_site load_proto (made_name k) seed k few refl (mark_is k few) (proto_taken seed)
 
 pub ruleset prototypes = (site_is, few_bytes, proto_taken)
 

@@ -55,7 +55,8 @@ stop_is (stops.Ended ends.NoMemory) is = absurd cc
 stop_is stop is = absurd cc
 
 -- a link that failed is blamed
-failed : (proto : Proto) (before after : Moment) (most : ℕ) → Serves proto true before after most (stops.Ended ends.LinkFault)
+failed : (proto : Proto) (before after : Moment) (most : ℕ)
+    → Serves proto true before after most (stops.Ended ends.LinkFault)
     → one_more before.link.faults ≤ after.link.faults
 unfolding StopsBy EndsBy
 failed proto before after most serves = serves.served.stops.1

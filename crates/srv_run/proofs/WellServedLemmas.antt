@@ -93,7 +93,8 @@ pub end-serve : {D I C L : Type 0} (show : Shows D I C L) (serving : Serving) (e
 end-serve show serving end stage stage' runs used = runs-on show serving end stage stage' runs.runs used
 
 pub status-serve : {D I C L : Type 0} (show : Shows D I C L) (serving : Serving) (status : ℕ)
-    (stage stage' : Stage D I C) → Runs show (Some (Serve serving)) status stage stage' → IsWellServed show serving stage stage'
+    (stage stage' : Stage D I C) → Runs show (Some (Serve serving)) status stage stage'
+    → IsWellServed show serving stage stage'
     → (status ≡ 0) ⊎ (status ≡ 4)
 status-serve show serving status stage stage' runs used =
     status-of runs.end status runs.status_is (elim runs.does [

@@ -19,8 +19,8 @@ pub record Opens (site : Site) (path : List ℕ) (files : FilesShown) (proto : P
   pub read : IfSome files.held (λ held. file_or_end (held path) ≡ Ok bytes)
   pub made : proto_or_end site bytes ≡ Ok proto
 
--- A file wasn't read, or is no prototype: memory ran out, the files failed once more, or, where the content is known, it
--- is as defined.
+-- A file wasn't read, or is no prototype: memory ran out, the files failed once more, or, where the content is known,
+-- it is as defined.
 pub record EndsOpening (site : Site) (path : List ℕ) (files files' : FilesShown) (end : End) : Type 0 where
   pub at_file : IsEndAtFile end
   pub found : IfSome files.held (λ held. IsEndOf end (file_or_end (held path) >>= proto_or_end site))

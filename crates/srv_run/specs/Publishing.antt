@@ -34,8 +34,8 @@ pub record Puts (path : List ℕ) (files files' : FilesShown) (history history' 
   pub put : put_or_end history path bytes ≡ Ok history'
   pub files_are : files' ≡ files
 
--- A file wasn't read, or didn't come to the collection: memory ran out, the files failed once more, or, where the content
--- is known, it is as defined.
+-- A file wasn't read, or didn't come to the collection: memory ran out, the files failed once more, or, where the
+-- content is known, it is as defined.
 pub record EndsPut (path : List ℕ) (files files' : FilesShown) (history history' : History) (end : End) : Type 0 where
   pub at_file : IsEndAtFile end
   pub found : IfSome files.held (λ held. IsEndOf end (file_or_end (held path) >>= put_or_end history path))

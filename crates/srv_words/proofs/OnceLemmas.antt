@@ -82,7 +82,8 @@ steps_of-some epoch words steps is =
 step_words_of-some : (rows : List Row) (words : List Text) → step_words_of rows ≡ Some words → 0 < length words
 unfolding step_words_of
 step_words_of-some rows words is =
-    let read = step_some (all_of (codes "STEP") rows) (λ (list : List Text). if_so (nat_lt 0 (length list)) list) words is in
+    let read = step_some (all_of (codes "STEP") rows)
+    (λ (list : List Text). if_so (nat_lt 0 (length list)) list) words is in
     let there = so_some (nat_lt 0 (length read.0)) read.0 words read.2 in
     subst (λ (list : List Text). 0 < length list) there.1 (ltb-true 0 (length read.0) there.0)
 
@@ -104,4 +105,5 @@ once_of-some rows job is =
     let sound = site_of-some rows site.0 site.1 in
     let some = step_words_of-some rows list.0 list.1 in
     let each = steps_of-some site.0.epoch list.0 steps.0 steps.1 in
-    subst IsJob (some_is (Once site.0 proto.0 steps.0) job steps.2) (sound.0, sound.1, omega (arith, some, each.1), each.0)
+    subst IsJob (some_is (Once site.0 proto.0 steps.0) job steps.2)
+    (sound.0, sound.1, omega (arith, some, each.1), each.0)

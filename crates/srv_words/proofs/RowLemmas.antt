@@ -11,7 +11,8 @@ use Rattle.clap.proofs.WalkLemmas.{first_value-rows, raw_values-rows}
 -- a name and rows that are those of a subcommand are the subcommand's
 pub named_rows : {Z : Type 0} (sub : Option (Box SubCommand Z)) (name : Text) (rows : List Row)
     → Some name ≡ option_map (λ b. (out-SubCommand (box_value b)).name.now) sub
-    → Some rows ≡ option_map (λ (p : Text × List Row). p.1) (subcommand_rows sub) → Some (name, rows) ≡ subcommand_rows sub
+    → Some rows ≡ option_map (λ (p : Text × List Row). p.1) (subcommand_rows sub)
+    → Some (name, rows) ≡ subcommand_rows sub
 named_rows None name rows named found = absurd cc
 named_rows (Some b) name rows named found = cc
 

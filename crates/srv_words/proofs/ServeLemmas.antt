@@ -40,7 +40,8 @@ doors_of-some : (rows : List Row) (doors : Doors) → doors_of rows ≡ Some doo
 unfolding doors_of
 doors_of-some rows doors is =
     let listen = step_some (first_of (codes "listen") rows) _ doors is in
-    let workers = step_some (number_or DEFAULT_WORKERS 1 MAX_WORKERS (first_of (codes "workers") rows)) _ doors listen.2 in
+    let workers = step_some (number_or DEFAULT_WORKERS 1 MAX_WORKERS (first_of (codes "workers") rows))
+    _ doors listen.2 in
     let connections = step_some (number_or 0 0 MAX_COUNT (first_of (codes "connections") rows)) _ doors workers.2 in
     let range = number_or-some DEFAULT_WORKERS 1 MAX_WORKERS workers.0 (first_of (codes "workers") rows)
     (omega arith, omega arith, omega arith) workers.1 in

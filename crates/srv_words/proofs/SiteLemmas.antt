@@ -50,10 +50,12 @@ unfolding name_of is_collection_name
 name_of-some rows name is =
     let read = step_some (first_of (codes "name") rows) (λ (n : List ℕ). if_so (is_collection_name n) n) name is in
     let there = so_some (is_collection_name read.0) read.0 name read.2 in
-    let parts = and_parts (nat_le 1 (length read.0) && nat_le (length read.0) MAX_NAME) (is_plain_name read.0) there.0 in
+    let parts = and_parts (nat_le 1 (length read.0) && nat_le (length read.0) MAX_NAME)
+    (is_plain_name read.0) there.0 in
     let sizes = and_parts (nat_le 1 (length read.0)) (nat_le (length read.0) MAX_NAME) parts.0 in
     let some : 1 ≤ length read.0 = within 1 (length read.0) sizes.0 in
-    subst IsName there.1 (record { some = omega (arith, some); few = within (length read.0) MAX_NAME sizes.1; plain = parts.1 })
+    subst IsName there.1
+    (record { some = omega (arith, some); few = within (length read.0) MAX_NAME sizes.1; plain = parts.1 })
 
 -- the site of a job is one that a collection may have
 pub site_of-some : (rows : List Row) (site : Site) → site_of rows ≡ Some site → IsSite site × (length site.mark ≤ 65)

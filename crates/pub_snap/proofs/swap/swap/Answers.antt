@@ -15,7 +15,8 @@ publish_as-next-requires g c next is views kept at =
     let before : List Copy = c.requires.1.0 in
     let same : next ≡ last = subst (λ (x : Copy). next ≡ x)
     (last_stays shown waiting before last (rw c.loop.invariant.3 c.requires.1.1)) is in
-    let follows : Follows book proto shown next = subst (λ (x : Copy). Follows book proto x next) (sym c.loop.invariant.2)
+    let follows : Follows book proto shown next = subst (λ (x : Copy). Follows book proto x next)
+    (sym c.loop.invariant.2)
     (subst (λ (x : Copy). Follows book proto c.args.board.desk.shown.value x) (sym same) c.requires.2) in
     let looks = (view c.loop.board.desk.place).looks in (
       record { seen = next.log; looks = looks },

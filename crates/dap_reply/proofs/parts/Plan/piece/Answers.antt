@@ -24,7 +24,8 @@ put_all c =
     c.put-count.result c.put_data.result c.saturating_sub-from.result c.in-Some.is c.as_slice.ensures
     c.as_slice-in-Some.ensures c.put-count.ensures.count c.put-count.ensures.bytes c.split_at_mut-rest.ensures.value
     c.split_at_mut-rest.ensures.front_len
-    (c.saturating_sub-from.ensures ∙ ap (λ (n : ℕ). c.args.from - n) (c.len.ensures ∙ ap length (sym c.as_slice.ensures)))
+    (c.saturating_sub-from.ensures
+    ∙ ap (λ (n : ℕ). c.args.from - n) (c.len.ensures ∙ ap length (sym c.as_slice.ensures)))
     c.put_data.ensures)
 
 pub put_data-requires-clause-small : goal.put_data-requires-clause-small
