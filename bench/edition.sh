@@ -13,7 +13,7 @@ for crate in $crates; do
     tar -C "$top/crates" --exclude=incremental -cf - "$crate" | tar -C "$folder/crates" -xf -
     grep -E "^$crate:" "$top/crates.txt" >> "$folder/crates.txt"
 done
-echo "edition_bench: $crates" >> "$folder/crates.txt"
+echo edition_bench: $crates >> "$folder/crates.txt"
 
 # A file of 64 times and its run's time, which is the prototype too. Prints where the run and the first time stand.
 places=$(python3 - "$folder/one.nc" << 'PYTHON'
