@@ -1,0 +1,97 @@
+//! A text as rows of fields.
+
+use std::alloc::{AllocError, Global};
+
+/// A line `key: value`, with the lines `| ..` below it. A line without a colon has the empty key.
+#[derive(Debug, Drop)]
+pub struct Field<'a> {
+    pub key: &'a str,
+    pub value: String,
+}
+
+/// The fields of a paragraph, and the number of its first line.
+#[derive(Debug, Drop)]
+pub struct Row<'a> {
+    pub line: usize,
+    pub fields: Vec<Field<'a>>,
+}
+
+impl<'a> Row<'a> {
+    fn new(alloc: Global, line: usize) -> Row<'a> {
+        let fields = Vec::new(alloc);
+        Row { line, fields }
+    }
+
+    /// The value of the first field with this key.
+    pub fn value(&self, key: &str) -> Option<&str> {
+        for field in &self.fields {
+            if field.key == key {
+                return Some(field.value.as_str());
+            }
+        }
+        None
+    }
+
+    /// Whether there is one `name` and one `want`, and each other key is one of these.
+    pub fn has_only(&self, keys: &[&str]) -> bool {
+        let mut names = 0usize;
+        let mut wants = 0usize;
+        for field in &self.fields {
+            match field.key {
+                "name" => names = names.saturating_add(1),
+                "want" => wants = wants.saturating_add(1),
+                key if is_among(key, keys) => {}
+                _ => return false,
+            }
+        }
+        names == 1 && wants == 1
+    }
+
+    // Appends a line to the value of the last field; one that stands below no field gets an empty key.
+    fn add_line(&mut self, alloc: Global, line: &'a str) -> Result<(), AllocError> {
+        match self.fields.last_mut() {
+            Some(field) => {
+                if !field.value.is_empty() {
+                    field.value.push('\n')?;
+                }
+                field.value.push_str(line)
+            }
+            None => self.add(alloc, "", line),
+        }
+    }
+
+    fn add(&mut self, alloc: Global, key: &'a str, value: &str) -> Result<(), AllocError> {
+        let value = String::from_str(alloc, value)?;
+        Ok(self.fields.push(Field { key, value })?)
+    }
+}
+
+fn is_among(key: &str, keys: &[&str]) -> bool {
+    for other in keys {
+        if key == *other {
+            return true;
+        }
+    }
+    false
+}
+
+/// The paragraphs of a text. Each line that is neither empty nor a comment (`#`) stands in a row; a line `| ..` goes on
+/// with the value above it.
+pub fn rows(alloc: Global, text: &str) -> Result<Vec<Row<'_>>, AllocError> {
+    let mut rows = Vec::new(alloc);
+    let mut row = Row::new(alloc, 1);
+    for (number, line) in text.lines().chain("\n".lines()).enumerate() {
+        if line.trim_end().is_empty() {
+            if !row.fields.is_empty() {
+                rows.push(row)?;
+            }
+            row = Row::new(alloc, number.saturating_add(2));
+        } else if let Some(more) = line.strip_prefix('|') {
+            row.add_line(alloc, more.strip_prefix(' ').unwrap_or(more))?;
+        } else if !line.starts_with('#') {
+            let (key, value) = line.split_once(':').unwrap_or(("", line));
+            row.add(alloc, key, value.trim())?;
+        }
+    }
+    Ok(rows)
+}
