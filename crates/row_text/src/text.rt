@@ -1,5 +1,6 @@
 //! A text as rows of fields.
 
+use crate::values::bytes;
 use std::alloc::{AllocError, Global};
 
 /// A line `key: value`, with the lines `| ..` below it. A line without a colon has the empty key.
@@ -45,6 +46,21 @@ impl<'a> Row<'a> {
             }
         }
         names == 1 && wants == 1
+    }
+
+    /// Whether each of these keys stands once, and no other beside one `name` and one `want`.
+    pub fn has_each(&self, keys: &[&str]) -> bool {
+        self.has_only(keys)
+            && self.fields.len() == keys.len() + 2
+            && keys.iter().all(|key| self.value(key).is_some())
+    }
+
+    /// The bytes that the value of a key stands for; `None` where there is no such key, or its value stands for none.
+    pub fn bytes(&self, alloc: Global, key: &str) -> Result<Option<Vec<u8>>, AllocError> {
+        match self.value(key) {
+            Some(value) => bytes(alloc, value),
+            None => Ok(None),
+        }
     }
 
     // Appends a line to the value of the last field; one that stands below no field gets an empty key.

@@ -1,5 +1,0 @@
-//! Tests against values from outside.
-
-mod faults;
-mod moments;
-mod spellings;

@@ -1,0 +1,68 @@
+//! Rows whose input is a text: units and instants, values, constraints and what they ask for, and words of a command.
+#![tactic(auto)]
+
+mod constraints;
+mod declared;
+mod projections;
+mod times;
+mod values;
+mod words;
+
+use fm_base::NoMemory;
+use row_text::{Answers, Count, File, Row, end, read_inputs, run};
+use std::alloc::{AllocError, Global};
+use std::io;
+use std::process::ExitCode;
+
+// The files that rows begin from.
+#[derive(Clone, Copy)]
+struct Texts<'a> {
+    files: &'a [File],
+}
+
+impl Answers for Texts<'_> {
+    fn answer(&self, alloc: Global, row: &Row<'_>) -> Result<Option<String>, AllocError> {
+        match answer(alloc, self.files, row) {
+            Ok(answer) => Ok(answer),
+            Err(NoMemory) => Err(AllocError),
+        }
+    }
+}
+
+// What comes out of a row. The first key that names a call decides which.
+fn answer(alloc: Global, files: &[File], row: &Row<'_>) -> Result<Option<String>, NoMemory> {
+    for field in &row.fields {
+        return match field.key {
+            "units" => times::units(alloc, row),
+            "mark" => times::mark(alloc, row),
+            "instant" => times::instant(alloc, row),
+            "value" => values::value(alloc, row),
+            "quoted" => values::quoted(alloc, row),
+            "constraint" => constraints::constraint(alloc, row),
+            "asks" => projections::projection(alloc, files, row),
+            "words" => words::words(alloc, row),
+            "no words" => words::no_words(alloc, row),
+            _ => continue,
+        };
+    }
+    Ok(None)
+}
+
+fn main(rt: HostRuntime) -> io::Result<ExitCode> {
+    let inputs = read_inputs(&rt)?;
+    let texts = Texts {
+        files: inputs.files.as_slice(),
+    };
+    let mut count = Count::default();
+    for text in &inputs.texts {
+        run(
+            &rt,
+            rt.alloc(),
+            text.path.as_str(),
+            text.text.as_str(),
+            &texts,
+            &mut count,
+        )?;
+    }
+    end(&rt, count)
+}

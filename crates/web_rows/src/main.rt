@@ -1,0 +1,54 @@
+//! Rows about HTTP: targets, the heads of a stream of bytes, and sessions.
+#![tactic(auto)]
+
+mod heads;
+mod sessions;
+mod targets;
+
+use fm_base::NoMemory;
+use row_text::{Answers, Count, Row, end, read_inputs, run};
+use std::alloc::{AllocError, Global};
+use std::io;
+use std::process::ExitCode;
+
+struct Web;
+
+impl Answers for Web {
+    fn answer(&self, alloc: Global, row: &Row<'_>) -> Result<Option<String>, AllocError> {
+        match answer(alloc, row) {
+            Ok(answer) => Ok(answer),
+            Err(NoMemory) => Err(AllocError),
+        }
+    }
+}
+
+// What comes out of a row. The first key that names a call decides which.
+fn answer(alloc: Global, row: &Row<'_>) -> Result<Option<String>, NoMemory> {
+    for field in &row.fields {
+        return match field.key {
+            "target" => targets::target(alloc, row),
+            "head" => heads::head(alloc, row),
+            "feed" | "feed file" => heads::stream(alloc, row),
+            "input" => sessions::input(alloc, row),
+            "on" | "on file" => sessions::events(alloc, row),
+            _ => continue,
+        };
+    }
+    Ok(None)
+}
+
+fn main(rt: HostRuntime) -> io::Result<ExitCode> {
+    let inputs = read_inputs(&rt)?;
+    let mut count = Count::default();
+    for text in &inputs.texts {
+        run(
+            &rt,
+            rt.alloc(),
+            text.path.as_str(),
+            text.text.as_str(),
+            &Web,
+            &mut count,
+        )?;
+    }
+    end(&rt, count)
+}
