@@ -9,8 +9,6 @@ mod link;
 mod process;
 mod sink;
 mod stream;
-#[cfg(test)]
-mod tests;
 
 pub use args::{NotText, words};
 pub use content::read_to_end;

@@ -3,8 +3,6 @@
 
 mod fields;
 mod file;
-#[cfg(test)]
-mod tests;
 mod values;
 
 pub use file::make_file;

@@ -1,0 +1,5 @@
+//! Devices in memory.
+
+mod doors;
+mod files;
+mod links;

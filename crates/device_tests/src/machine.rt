@@ -1,0 +1,13 @@
+//! Devices of the machine, at its loopback device and its folders, and over streams, listings and clocks in memory.
+
+mod clocks;
+mod doors;
+mod files;
+mod folder;
+mod folders;
+mod listings;
+mod openers;
+mod plans;
+mod timed;
+mod turns;
+mod verdicts;

@@ -1,0 +1,122 @@
+//! What a collection holds after some operations.
+
+use fm_base::{Arc, Bytes, Fail, NoMemory};
+use fm_edition::Edition;
+use fm_load::load;
+use fm_model::{MAX_FILE_BYTES, Op};
+use fm_sample::edition_of;
+use row_text::{Field, File, Row, content, put_shown};
+use std::alloc::Global;
+
+/// What is held after the operations of a row, in their order: `put: NAME FILE`, `expire: SECONDS` and `retract: NAME`.
+pub fn answer(alloc: Global, files: &[File], row: &Row<'_>) -> Result<Option<String>, NoMemory> {
+    if !row.has_only(&["collection", "put", "expire", "retract"]) {
+        return Ok(None);
+    }
+    let Some(bytes) = content(alloc, files, row.value("collection").unwrap_or(""))? else {
+        return Ok(None);
+    };
+    let mut edition = match edition_of(alloc, Bytes::copy_of(alloc, bytes.as_slice())?) {
+        Ok(edition) => edition,
+        Err(Fail::NoMemory) => return Err(NoMemory),
+        Err(Fail::Fault(_)) => return Ok(None),
+    };
+    for field in row.fields.as_slice() {
+        if is_operation(field) {
+            edition = match after(alloc, &edition, files, field)? {
+                Some(edition) => edition,
+                None => return Ok(None),
+            };
+        }
+    }
+    Ok(Some(text_of(alloc, &edition)?))
+}
+
+fn is_operation(field: &Field<'_>) -> bool {
+    matches!(field.key, "put" | "expire" | "retract")
+}
+
+// The edition after the operation of a field, of which a copy is made.
+fn after(
+    alloc: Global,
+    edition: &Edition,
+    files: &[File],
+    field: &Field<'_>,
+) -> Result<Option<Edition>, NoMemory> {
+    let Some(op) = operation(alloc, edition, files, field)? else {
+        return Ok(None);
+    };
+    let copy = op.copy(alloc)?;
+    drop(op);
+    match edition.after(alloc, &copy) {
+        Ok(edition) => Ok(Some(edition)),
+        Err(Fail::NoMemory) => Err(NoMemory),
+        Err(Fail::Fault(_)) => Ok(None),
+    }
+}
+
+fn operation(
+    alloc: Global,
+    edition: &Edition,
+    files: &[File],
+    field: &Field<'_>,
+) -> Result<Option<Op>, NoMemory>
+    ensures { IfOk result (λ op. IfSome op (OpFits edition.now.proto)) }
+{
+    let value = field.value.as_str();
+    match field.key {
+        "put" => put(alloc, edition, files, value),
+        "expire" => match value.parse::<i64>() {
+            Ok(cutoff) => Ok(Some(Op::Expire(cutoff))),
+            Err(_) => Ok(None),
+        },
+        _ => Ok(Some(Op::Retract(Bytes::copy_of(alloc, value.as_bytes())?))),
+    }
+}
+
+// The put of a file that is taken.
+fn put(
+    alloc: Global,
+    edition: &Edition,
+    files: &[File],
+    words: &str,
+) -> Result<Option<Op>, NoMemory>
+    ensures { IfOk result (λ op. IfSome op (OpFits edition.now.proto)) }
+{
+    let Some((name, words)) = words.split_once(' ') else {
+        return Ok(None);
+    };
+    let Some(bytes) = content(alloc, files, words)? else {
+        return Ok(None);
+    };
+    let bytes = Bytes::copy_of(alloc, bytes.as_slice())?;
+    if bytes.len() as u64 > MAX_FILE_BYTES {
+        return Ok(None);
+    }
+    match load(alloc, name.as_bytes(), bytes, edition.proto().get()) {
+        Ok(file) => Ok(Some(Op::Put(Arc::new(alloc, file)?))),
+        Err(Fail::NoMemory) => Err(NoMemory),
+        Err(Fail::Fault(_)) => Ok(None),
+    }
+}
+
+// What is held: how much, and for each run and valid time the file and the place of the time in it.
+fn text_of(alloc: Global, edition: &Edition) -> Result<String, NoMemory> {
+    let tally = edition.tally();
+    let mut out = String::new(alloc);
+    write!(
+        out,
+        "{} files, {} times, {} bytes",
+        tally.files, tally.rows, tally.size
+    )?;
+    for run in edition.runs(alloc)?.as_slice() {
+        for time in edition.times_of(alloc, *run)?.as_slice() {
+            write!(out, "\nrun {run}, time {time}: ")?;
+            if let Some((file, place)) = edition.cell(*run, *time) {
+                put_shown(file.get().name.as_slice(), &mut out)?;
+                write!(out, " at {place}")?;
+            }
+        }
+    }
+    Ok(out)
+}

@@ -1,0 +1,104 @@
+//! Rows about netCDF files: their headers, layouts and elements, what they are as a prototype and as a file of a
+//! collection, what a collection holds after some operations, and the sums of files that are made.
+#![tactic(auto)]
+
+mod faults;
+mod held;
+mod layouts;
+mod loading;
+mod made;
+mod prototypes;
+mod question;
+mod words;
+
+use fm_base::NoMemory;
+use question::Question;
+use row_text::{Answers, Count, File, Row, content, end, read_inputs, run};
+use std::alloc::{AllocError, Global};
+use std::io;
+use std::process::ExitCode;
+
+// The files that rows begin from.
+#[derive(Debug, Drop)]
+struct Rows {
+    files: Vec<File>,
+}
+
+impl Answers for Rows {
+    fn answer(&self, alloc: Global, row: &Row<'_>) -> Result<Option<String>, AllocError> {
+        match self.answer_of(alloc, row) {
+            Ok(answer) => Ok(answer),
+            Err(NoMemory) => Err(AllocError),
+        }
+    }
+}
+
+impl Rows {
+    fn answer_of(&self, alloc: Global, row: &Row<'_>) -> Result<Option<String>, NoMemory> {
+        if row.value("load").is_some() {
+            return loading::answer(alloc, self.files.as_slice(), row);
+        }
+        if row.value("collection").is_some() {
+            return held::answer(alloc, self.files.as_slice(), row);
+        }
+        if let Some(words) = row.value("made") {
+            return if row.has_only(&["made"]) {
+                made::answer(alloc, words)
+            } else {
+                Ok(None)
+            };
+        }
+        for (key, question) in [
+            ("header", Question::Header),
+            ("layout", Question::Layout),
+            ("elements", Question::Elements),
+            ("prototype", Question::Prototype),
+        ] {
+            if let Some(words) = row.value(key) {
+                return self.asked(alloc, row, key, words, &question);
+            }
+        }
+        Ok(None)
+    }
+
+    // What a question about the file that some words describe says.
+    fn asked(
+        &self,
+        alloc: Global,
+        row: &Row<'_>,
+        key: &str,
+        words: &str,
+        question: &Question<'_>,
+    ) -> Result<Option<String>, NoMemory> {
+        if !row.has_only(&[key, "cuts"]) {
+            return Ok(None);
+        }
+        match content(alloc, self.files.as_slice(), words)? {
+            Some(bytes) => question.asked(alloc, bytes.as_slice(), row.value("cuts")),
+            None => Ok(None),
+        }
+    }
+}
+
+// The files by their names without folders.
+fn without_folders(alloc: Global, files: Vec<File>) -> Result<Vec<File>, AllocError> {
+    let mut named = Vec::new(alloc);
+    for file in files {
+        let name = String::from_str(alloc, file.name.rsplit('/').next().unwrap_or(""))?;
+        let content = file.content;
+        named.push(File { name, content })?;
+    }
+    Ok(named)
+}
+
+fn main(rt: HostRuntime) -> io::Result<ExitCode> {
+    let alloc = rt.alloc();
+    let inputs = read_inputs(&rt)?;
+    let files = without_folders(alloc, inputs.files)?;
+    let rows = Rows { files };
+    let mut count = Count::default();
+    for text in &inputs.texts {
+        run(&rt, alloc, text.path.as_str(), text.text.as_str(), &rows, &mut count)?;
+    }
+    end(&rt, count)
+}

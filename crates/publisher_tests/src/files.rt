@@ -1,0 +1,114 @@
+//! The files that the tests publish.
+ghost use Rattle.std.specs.Prelude.{◌≡◌, IfOk};
+ghost use Rattle.fm_model.specs.Load.{Fits};
+ghost use Rattle.fm_model.specs.Site.{IsPrototype};
+
+use fm_base::{Arc, Fail as Failure, NoMemory};
+use fm_load::load;
+use fm_model::{Loaded, Proto};
+use fm_sample::{File, edition_of};
+use pub_snap::Name;
+use std::alloc::Global;
+use std::marker::{Model, PhantomData};
+use std::test::Fail;
+
+/// The first run, the beginning of 2024, from the epoch of the collection.
+pub const FIRST_RUN: i64 = 126_230_400;
+
+/// The seconds between two runs.
+pub const SIX_HOURS: i64 = 21_600;
+
+/// The names of four files, of one run each.
+pub const NAMES: [&[u8]; 4] = [
+    b"gfs_20240101_0000.nc",
+    b"gfs_20240101_0600.nc",
+    b"gfs_20240101_1200.nc",
+    b"gfs_20240101_1800.nc",
+];
+
+/// The files of four runs with the same valid times.
+#[derive(Drop)]
+pub struct Files<N: Name> {
+    first: Arc<Loaded>,
+    second: Arc<Loaded>,
+    third: Arc<Loaded>,
+    fourth: Arc<Loaded>,
+    of: PhantomData<N>,
+}
+
+impl<N: Name> Model for Files<N> {
+    ghost use Rattle.std.specs.Prelude.{◌∷◌, [], List};
+    ghost use Rattle.fm_model.specs.declared.loaded.Loaded.{Loaded as File};
+    ghost use Rattle.fm_model.specs.Load.{Fits};
+
+    ghost Value = { List File };
+
+    ghost view = { λ files. files.first ∷ files.second ∷ files.third ∷ files.fourth ∷ [] };
+
+    ghost invariant = { λ files. Fits files.first N.proto × Fits files.second N.proto × Fits files.third N.proto
+        × Fits files.fourth N.proto };
+}
+
+impl<N: Name> Files<N> {
+    pub fn of(alloc: Global, proto: &Proto) -> Result<Files<N>, Fail>
+        requires { proto.now ≡ N.proto }
+    {
+        Ok(Files {
+            first: sample(alloc, NAMES[0], proto)?,
+            second: sample(alloc, NAMES[1], proto)?,
+            third: sample(alloc, NAMES[2], proto)?,
+            fourth: sample(alloc, NAMES[3], proto)?,
+            of: PhantomData,
+        })
+    }
+
+    /// The file of this place.
+    pub fn put(&self, place: u64) -> Result<Arc<Loaded>, NoMemory>
+        ensures { IfOk result (λ file. Fits file N.proto) }
+    {
+        match place {
+            0 => self.first.share(),
+            1 => self.second.share(),
+            2 => self.third.share(),
+            _ => self.fourth.share(),
+        }
+    }
+}
+
+/// The prototype of the collection.
+pub fn prototype(alloc: Global) -> Result<Arc<Proto>, Fail>
+    ensures { IfOk result IsPrototype }
+{
+    match edition_of(alloc, File::Sample.bytes(alloc)?) {
+        Ok(edition) => Ok(edition.proto().share()?),
+        Err(_) => Err("the sample is a prototype".into()),
+    }
+}
+
+/// The first file as the file of a run, by the mark in its name.
+pub fn sample(alloc: Global, name: &[u8], proto: &Proto) -> Result<Arc<Loaded>, Fail>
+    ensures { IfOk result (λ file. Fits file proto.now) }
+{
+    loaded(alloc, name, File::Sample, proto)
+}
+
+/// The file of the next run, whose valid times are six hours later.
+pub fn later(alloc: Global, proto: &Proto) -> Result<Arc<Loaded>, Fail>
+    ensures { IfOk result (λ file. Fits file proto.now) }
+{
+    loaded(alloc, NAMES[1], File::Later, proto)
+}
+
+fn loaded(alloc: Global, name: &[u8], file: File, proto: &Proto) -> Result<Arc<Loaded>, Fail>
+    ensures { IfOk result (λ file. Fits file proto.now) }
+{
+    let bytes = file.bytes(alloc)?;
+    if bytes.len() > 352 {
+        return Err("a file of 352 bytes".into());
+    }
+    match load(alloc, name, bytes, proto) {
+        Ok(file) => Ok(Arc::new(alloc, file)?),
+        Err(Failure::NoMemory) => Err(NoMemory.into()),
+        Err(Failure::Fault(_)) => Err("the file fits".into()),
+    }
+}
