@@ -1,4 +1,4 @@
-.PHONY: demo build test clients proxy restart beside
+.PHONY: demo build test quick clients proxy restart beside
 
 FIRST = gfs_20240101_0000.nc
 LATER = gfs_20240101_0600.nc
@@ -24,6 +24,10 @@ build:
 # The merge gate: every proof from nothing, every must-fail edit, every test, and the program's stored run.
 test:
 	.ci/run
+
+# Every test and row, compiled with checks and not proved.
+quick:
+	tests/quick.sh
 
 # The program that the targets below run; without it the program is proved first.
 PROGRAM =

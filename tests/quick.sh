@@ -1,0 +1,48 @@
+#!/bin/sh
+# Runs each test and each stored run, the rows among them, compiled with checks and not proved. What fails is shown, and
+# the last line counts; the status is 1 where something failed.
+# Use: tests/quick.sh [CRATE..]
+set -eu
+cd "$(dirname "$0")/.."
+
+# One crate's stored run, in a folder that holds the files of its data/.
+try_program() {
+    input=/dev/null
+    [ ! -f stdin ] || input=stdin
+    want=0
+    [ ! -f status ] || want=$(cat status)
+    files=$(for file in data/*; do [ ! -f "$file" ] || echo "--data ${file#data/}=$file"; done)
+    got=0
+    # shellcheck disable=SC2046,SC2086  # a word a line
+    rt try $files -- $(cat args 2> /dev/null) < "$input" > "$logs/$crate.out" 2> "$logs/$crate.err" || got=$?
+    [ "$got" = "$want" ] && sed '$d' "$logs/$crate.out" | cmp -s stdout -
+}
+
+try_one() {
+    crate=$1
+    cd "crates/$crate"
+    if [ -f stdout ]; then
+        try_program
+    else
+        rt try --test > "$logs/$crate.out" 2> "$logs/$crate.err"
+    fi && echo "$crate passed" || {
+        echo "$crate FAILED"
+        tail -n 20 "$logs/$crate.out" "$logs/$crate.err"
+    }
+}
+
+if [ "${1-}" = --one ]; then
+    logs=$2
+    try_one "$3"
+    exit
+fi
+
+logs=$(mktemp -d)
+trap 'rm -rf "$logs"' EXIT
+[ $# -gt 0 ] || set -- $(for crate in $(sed -n 's/^\([a-z0-9_]*\)[ :].*/\1/p' crates.txt); do
+    if [ -f "crates/$crate/stdout" ] || grep -rq '#\[test\]' "crates/$crate/src"; then echo "$crate"; fi
+done)
+printf '%s\n' "$@" | xargs -P "$(nproc)" -n 1 "$0" --one "$logs" | tee "$logs/all"
+failed=$(grep -c ' FAILED$' "$logs/all" || true)
+echo "quick: $(($# - failed)) passed, $failed failed"
+[ "$failed" = 0 ]
