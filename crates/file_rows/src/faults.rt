@@ -79,7 +79,10 @@ pub fn put_load_fault(fault: &LoadFault, out: &mut String) -> Result<(), NoMemor
             file,
         } => {
             put_named("byte ", b"", out)?;
-            write!(out, "{byte} is {file:02x}, in the prototype {proto:02x}, of ")?;
+            write!(
+                out,
+                "{byte} is {file:02x}, in the prototype {proto:02x}, of "
+            )?;
             Ok(put_shown(name.as_slice(), out)?)
         }
         _ => put_moment_fault(fault, out),

@@ -17,7 +17,12 @@ pub fn answer(alloc: Global, words: &str) -> Result<Option<String>, NoMemory> {
     }
     let file = make_file(alloc, seed, k)?;
     let mut out = String::new(alloc);
-    write!(out, "{} bytes, sum {:08x}", file.len(), adler_of(file.as_slice()))?;
+    write!(
+        out,
+        "{} bytes, sum {:08x}",
+        file.len(),
+        adler_of(file.as_slice())
+    )?;
     Ok(Some(out))
 }
 

@@ -98,7 +98,14 @@ fn main(rt: HostRuntime) -> io::Result<ExitCode> {
     let rows = Rows { files };
     let mut count = Count::default();
     for text in &inputs.texts {
-        run(&rt, alloc, text.path.as_str(), text.text.as_str(), &rows, &mut count)?;
+        run(
+            &rt,
+            alloc,
+            text.path.as_str(),
+            text.text.as_str(),
+            &rows,
+            &mut count,
+        )?;
     }
     end(&rt, count)
 }

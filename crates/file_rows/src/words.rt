@@ -16,7 +16,11 @@ pub fn put_header(alloc: Global, bytes: &[u8], out: &mut String) -> Result<(), N
 }
 
 fn put_fields(header: &Header, out: &mut String) -> Result<(), NoMemory> {
-    write!(out, "version {}, {} records", header.version, header.numrecs)?;
+    write!(
+        out,
+        "version {}, {} records",
+        header.version, header.numrecs
+    )?;
     put_dims(header.dims.as_slice(), out)?;
     put_attrs(header.attrs.as_slice(), out)?;
     for var in header.vars.as_slice() {

@@ -22,10 +22,7 @@ fn a_file_with_another_grid_is_refused(rt: HostRuntime) -> Result<(), Fail> {
     let alloc = rt.alloc();
     let mut inbox = inbox_of(alloc, &[FIRST, SECOND, CHANGED], &[])?;
     let (report, closed) = ingested(&rt, alloc, &mut inbox)?;
-    assert_eq!(rt;
-        report,
-        done(2, 0, 1)
-    );
+    assert_eq!(rt; report, done(2, 0, 1));
     assert_eq!(rt;
         inbox.verdicts(),
         [
@@ -44,10 +41,7 @@ fn a_file_is_taken_back_once(rt: HostRuntime) -> Result<(), Fail> {
     let alloc = rt.alloc();
     let mut inbox = inbox_of(alloc, &[FIRST, BACK, BACK], &[])?;
     let (report, closed) = ingested(&rt, alloc, &mut inbox)?;
-    assert_eq!(rt;
-        report,
-        done(1, 1, 0)
-    );
+    assert_eq!(rt; report, done(1, 1, 0));
     assert_eq!(rt;
         inbox.verdicts(),
         [

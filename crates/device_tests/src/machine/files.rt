@@ -1,7 +1,7 @@
 //! The machine's files and standard streams.
 
-use fm_devices::{RealFiles, StdLink, StdSink, StdStream};
 use fm_base::{Bytes, List};
+use fm_devices::{RealFiles, StdLink, StdSink, StdStream};
 use fm_world::{Files, Found, Link, Sink};
 use std::alloc::Global;
 use std::test::Fail;

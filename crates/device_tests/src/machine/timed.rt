@@ -104,12 +104,7 @@ fn dropped(step: u64, turns: &[Turn]) -> io::Result<usize> {
     let clock = Ticking::new(step);
     let now = Instant::now(&Ticking::new(0))?;
     let mut stream = Stream::new(turns);
-    Ok(drop_rest(
-        &clock,
-        &mut stream,
-        now,
-        Duration::from_millis(PATIENCE),
-    ))
+    Ok(drop_rest(&clock, &mut stream, now, Duration::from_millis(PATIENCE)))
 }
 
 #[test]

@@ -10,11 +10,7 @@ const SHELVES: [(&str, Verdict, &str); 5] = [
     ("a.nc", Verdict::Published(1), "done/a.nc"),
     ("b.nc", Verdict::Refused(62), "refused/b.nc"),
     ("c.nc", Verdict::Full(1), "later/c.nc"),
-    (
-        "d.nc.retract",
-        Verdict::NotHeld(1),
-        "refused/d.nc.retract",
-    ),
+    ("d.nc.retract", Verdict::NotHeld(1), "refused/d.nc.retract"),
     ("e.nc", Verdict::Short, "later/e.nc"),
 ];
 
