@@ -7,18 +7,17 @@ folder=$(mktemp -d)
 trap 'rm -r "$folder"' EXIT
 top=$(cd "$(dirname "$0")/.." && pwd)
 crates='fm_base nc_sample nc_header nc_layout nc_array tm_units fm_bits fm_model fm_rows fm_edition fm_views fm_file fm_proto
-fm_load pub_plain pub_snap'
+fm_load fm_sample pub_plain pub_snap'
 mkdir -p "$folder/crates/looks/src"
 for crate in $crates; do
     cp -r "$top/crates/$crate" "$folder/crates/$crate"
     grep -E "^$crate:" "$top/crates.txt" >> "$folder/crates.txt"
 done
 cp "$top/HANDLES" "$folder/HANDLES"
-echo 'looks: fm_base fm_model fm_edition fm_proto fm_load nc_sample pub_plain pub_snap' >> "$folder/crates.txt"
-cp "$top/crates/pub_tests/src/files.rt" "$top/crates/pub_tests/src/probe.rt" "$folder/crates/looks/src/"
+echo 'looks: fm_base fm_model fm_edition fm_load fm_sample pub_plain pub_snap' >> "$folder/crates.txt"
+cp "$top/crates/publisher_tests/src/files.rt" "$top/crates/publisher_tests/src/probe.rt" "$folder/crates/looks/src/"
 mkdir -p "$folder/crates/looks/proofs/row" "$folder/crates/looks/proofs/write_on"
-cp "$top/crates/pub_tests/proofs/SampleSite.antt" "$folder/crates/looks/proofs/"
-echo 'mod SampleSite' > "$folder/crates/looks/proofs/Lib.antt"
+: > "$folder/crates/looks/proofs/Lib.antt"
 cat > "$folder/crates/looks/proofs/write_on/Invariants.antt" << 'TURNS'
 use Rattle.std.proofs.Common.{◌≡◌, length}
 use Rattle.looks.proofs.write_on.Given as goal
@@ -277,7 +276,7 @@ fn row<R: Threads + Wait + Clock + Sync>(
 
 fn main(rt: HostRuntime) -> Result<(), Fail> {
     let alloc = rt.alloc();
-    let proto = Arc::new(alloc, prototype(alloc)?)?;
+    let proto = prototype(alloc)?;
     for readers in [1u32, 2, 4] {
         for writing in [false, true] {
             let (passes, locked) = row(&rt, alloc, &proto, readers, writing)?;

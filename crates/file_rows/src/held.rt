@@ -1,4 +1,6 @@
 //! What a collection holds after some operations.
+ghost use Rattle.std.specs.Prelude.{IfOk, IfSome};
+ghost use Rattle.fm_edition.specs.Held.{OpFits};
 
 use fm_base::{Arc, Bytes, Fail, NoMemory};
 use fm_edition::Edition;

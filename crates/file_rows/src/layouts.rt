@@ -1,4 +1,5 @@
 //! Where the data of a file lies, and its elements.
+ghost use Rattle.std.specs.Prelude.{◌≡◌, ◌<◌, IfOk, length};
 
 use crate::faults::{put_header_fault, put_layout_fault};
 use fm_base::{Bytes, Fail, FormatFault, NoMemory};
