@@ -88,7 +88,10 @@ fn read_array(alloc: Global, text: &str) -> Result<Option<Array>, NoMemory> {
 // A dimension, as `lat=2]`.
 fn read_dim(alloc: Global, text: &str) -> Result<Option<Dim>, NoMemory> {
     let (name, size) = text.split_once('=').unwrap_or(("", ""));
-    match size.strip_suffix(']').and_then(|size| size.parse::<u64>().ok()) {
+    match size
+        .strip_suffix(']')
+        .and_then(|size| size.parse::<u64>().ok())
+    {
         Some(size) => Ok(Some(Dim {
             name: Bytes::copy_of(alloc, name.as_bytes())?,
             size,

@@ -22,10 +22,7 @@ pub fn units(alloc: Global, row: &Row<'_>) -> Result<Option<String>, NoMemory> {
     }
 }
 
-fn units_said(
-    alloc: Global,
-    units: Result<Units, UnitsFault>,
-) -> Result<Option<String>, NoMemory> {
+fn units_said(alloc: Global, units: Result<Units, UnitsFault>) -> Result<Option<String>, NoMemory> {
     let said = match units {
         Ok(units) => format!(in alloc; "{} from {}", units.per, units.origin)?,
         Err(UnitsFault::BadUnits(at)) => format!(in alloc; "refused 15 at {at}")?,

@@ -19,7 +19,11 @@ pub fn words(alloc: Global, row: &Row<'_>) -> Result<Option<String>, NoMemory> {
     match row.value("tells") {
         Some(part) if row.has_each(&["words", "tells"]) => {
             let text = usage_of(alloc, &words)?;
-            let told = if text.as_str().contains(part) { "yes" } else { "no" };
+            let told = if text.as_str().contains(part) {
+                "yes"
+            } else {
+                "no"
+            };
             Ok(Some(String::from_str(alloc, told)?))
         }
         _ => Ok(None),
@@ -99,7 +103,11 @@ fn put_serving(serving: &Serving, out: &mut String) -> Result<(), NoMemory> {
     put_site(&serving.site, out)?;
     put_text(" proto", &serving.proto, out)?;
     put_text(" listen", &serving.listen, out)?;
-    write!(out, " workers {} connections {}", serving.workers, serving.connections)?;
+    write!(
+        out,
+        " workers {} connections {}",
+        serving.workers, serving.connections
+    )?;
     match serving.keep {
         Some(seconds) => write!(out, " keep {seconds} ticks {}", serving.ticks)?,
         None => write!(out, " no clock ticks {}", serving.ticks)?,
