@@ -1,5 +1,5 @@
-//! What is sent for a constraint: declarations with their sizes, and after a bar the parts, each by the number of its
-//! declaration and its own, with its slabs.
+//! What is sent for a constraint: declarations with their sizes, a line for each, and a line of the parts, each by the
+//! number of its declaration and its own, with its slabs.
 
 use crate::constraints::put_slabs;
 use crate::declared::read_decls;
@@ -68,12 +68,12 @@ fn sent_shown(
 }
 
 fn put_projected(projected: &Projected, out: &mut String) -> Result<(), NoMemory> {
-    for (index, decl) in projected.decls.as_slice().iter().enumerate() {
-        out.push_str(if index == 0 { "" } else { "; " })?;
+    for decl in projected.decls.as_slice() {
         put_decl(decl, out)?;
+        out.push('\n')?;
     }
     for (index, part) in projected.sent.as_slice().iter().enumerate() {
-        out.push_str(if index == 0 { " | " } else { ", " })?;
+        out.push_str(if index == 0 { "sends " } else { ", " })?;
         put_part(part, out)?;
     }
     Ok(())
