@@ -8,7 +8,8 @@ const ON_A_LINE: usize = 32;
 
 /// Appends the bytes of a link or a sink, so that each is determined by what is shown. A line feed ends a line, and a last
 /// line without one ends in a backslash. What comes after `Data:` and a line feed stands as words of eight hexadecimal
-/// digits, eight on a line, until `HTTP/1.1` begins the next reply. A `-` at the front of a line is `\x2d`.
+/// digits, eight on a line, until `HTTP/1.1` begins the next reply. A `-` at the front of a line is `\x2d`, and a blank at the
+/// end of one `\x20`.
 pub fn put_output(bytes: &[u8], out: &mut String) -> Result<(), AllocError> {
     let mut data = None;
     for (index, byte) in bytes.iter().enumerate() {
@@ -26,7 +27,7 @@ pub fn put_output(bytes: &[u8], out: &mut String) -> Result<(), AllocError> {
                 put_data(*byte, count, out)?;
                 data = Some(count.saturating_add(1));
             }
-            None => put_text(*byte, before, out)?,
+            None => put_text(*byte, before, rest, out)?,
         }
     }
     match data {
@@ -46,10 +47,11 @@ fn put_data(byte: u8, count: usize, out: &mut String) -> Result<(), AllocError> 
     put_hex(&[byte], out)
 }
 
-// Appends a byte that comes after others.
-fn put_text(byte: u8, before: &[u8], out: &mut String) -> Result<(), AllocError> {
-    if byte == b'-' && (before.is_empty() || before.ends_with(b"\n")) {
-        return out.push_str("\\x2d");
+// Appends a byte that comes after some, and is the first of the rest.
+fn put_text(byte: u8, before: &[u8], rest: &[u8], out: &mut String) -> Result<(), AllocError> {
+    match byte {
+        b'-' if before.is_empty() || before.ends_with(b"\n") => out.push_str("\\x2d"),
+        b' ' if rest.len() == 1 || rest.starts_with(b" \n") => out.push_str("\\x20"),
+        _ => put_shown(&[byte], out),
     }
-    put_shown(&[byte], out)
 }

@@ -1,7 +1,7 @@
 //! An inbox and a gate that act in turn: a verdict, a link, and so on.
 ghost use Rattle.std.specs.Prelude.{None};
 
-use fm_base::{Fail, NoMemory};
+use fm_base::{Bytes, Fail, NoMemory};
 use fm_doors::{
     Arrival, Gate, Inbox, MemClock, MemDoor, MemInbox, MemOpener, Opener, Place, Verdict,
 };

@@ -60,7 +60,7 @@ pub(crate) fn link_of(
     MemLink::new(alloc, Bytes::copy_of(alloc, input)?, room, calls)
 }
 
-// A door to which a link comes for each of these inputs; there are at most two.
+// A door to which one link comes that asks for the structure of the best view, or two.
 pub(crate) fn asking_door(alloc: Global, twice: bool) -> Result<MemDoor, NoMemory>
     ensures { IfOk result (λ door. (⟦<MemDoor as Door>⟧.shown door).faults ≡ 0) }
 {
