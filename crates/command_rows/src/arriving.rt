@@ -45,7 +45,8 @@ impl Arriving {
             let Some(file) = entry(alloc, bases, value)? else {
                 return Ok(false);
             };
-            self.names.push(Bytes::copy_of(alloc, file.path.as_slice())?)?;
+            self.names
+                .push(Bytes::copy_of(alloc, file.path.as_slice())?)?;
             self.files.push(file)?;
             return Ok(true);
         }

@@ -67,11 +67,7 @@ impl Given {
     }
 
     /// What a row gives, or `None` where it is of another form.
-    pub fn read(
-        alloc: Global,
-        bases: &[File],
-        row: &Row<'_>,
-    ) -> Result<Option<Given>, NoMemory> {
+    pub fn read(alloc: Global, bases: &[File], row: &Row<'_>) -> Result<Option<Given>, NoMemory> {
         if !row.has_only(&KEYS) {
             return Ok(None);
         }
@@ -85,12 +81,7 @@ impl Given {
     }
 
     // Adds what a field says. It is false where that isn't known.
-    fn add(
-        &mut self,
-        alloc: Global,
-        bases: &[File],
-        field: &Field<'_>,
-    ) -> Result<bool, NoMemory> {
+    fn add(&mut self, alloc: Global, bases: &[File], field: &Field<'_>) -> Result<bool, NoMemory> {
         let value = field.value.as_str();
         match field.key {
             "name" | "want" => Ok(true),

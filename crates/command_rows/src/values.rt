@@ -14,7 +14,11 @@ pub fn numbers(alloc: Global, text: &str) -> Result<Option<List<u64>>, NoMemory>
             Err(_) => return Ok(None),
         }
     }
-    Ok(if numbers.is_empty() { None } else { Some(numbers) })
+    Ok(if numbers.is_empty() {
+        None
+    } else {
+        Some(numbers)
+    })
 }
 
 /// Puts the numbers of a text in the place of others. It is false where the text has none.

@@ -20,6 +20,20 @@ struct Links {
     ghost fresh: { All (λ link. IsFresh (⟦<MemLink as Link>⟧.shown link)) list },
 }
 
+impl Links {
+    fn push(&mut self, link: MemLink) -> Result<(), NoMemory>
+        requires { IsFresh (⟦<MemLink as Link>⟧.shown link) }
+    {
+        self.list.push(link)
+    }
+
+    fn into_list(self) -> List<MemLink>
+        ensures { All (λ link. IsFresh (⟦<MemLink as Link>⟧.shown link)) result }
+    {
+        self.list
+    }
+}
+
 // Doors to open, none of which has failed.
 #[derive(Drop)]
 struct Doors {
@@ -27,11 +41,39 @@ struct Doors {
     ghost calm: { All (λ door. (⟦<MemDoor as Door>⟧.shown door).faults ≡ 0) list },
 }
 
+impl Doors {
+    fn push(&mut self, door: MemDoor) -> Result<(), NoMemory>
+        requires { (⟦<MemDoor as Door>⟧.shown door).faults ≡ 0 }
+    {
+        self.list.push(door)
+    }
+
+    fn into_list(self) -> List<MemDoor>
+        ensures { All (λ door. (⟦<MemDoor as Door>⟧.shown door).faults ≡ 0) result }
+    {
+        self.list
+    }
+}
+
 // Inboxes to open, none of which has failed.
 #[derive(Drop)]
 struct Inboxes {
     list: List<MemInbox>,
     ghost calm: { All (λ inbox. (⟦<MemInbox as Inbox>⟧.shown inbox).faults ≡ 0) list },
+}
+
+impl Inboxes {
+    fn push(&mut self, inbox: MemInbox) -> Result<(), NoMemory>
+        requires { (⟦<MemInbox as Inbox>⟧.shown inbox).faults ≡ 0 }
+    {
+        self.list.push(inbox)
+    }
+
+    fn into_list(self) -> List<MemInbox>
+        ensures { All (λ inbox. (⟦<MemInbox as Inbox>⟧.shown inbox).faults ≡ 0) result }
+    {
+        self.list
+    }
 }
 
 // The bytes that a link or the sink takes before it fails.
@@ -85,10 +127,10 @@ fn links_of(alloc: Global, given: &Given, door: usize) -> Result<List<MemLink>, 
     };
     for linked in &given.links {
         if linked.door == door {
-            links.list.push(link_of(alloc, linked)?)?;
+            links.push(link_of(alloc, linked)?)?;
         }
     }
-    Ok(links.list)
+    Ok(links.into_list())
 }
 
 fn doors_of(alloc: Global, given: &Given) -> Result<List<MemDoor>, NoMemory>
@@ -99,11 +141,9 @@ fn doors_of(alloc: Global, given: &Given) -> Result<List<MemDoor>, NoMemory>
     };
     for (index, failing) in given.doors.iter().enumerate() {
         let links = links_of(alloc, given, index.saturating_add(1))?;
-        doors
-            .list
-            .push(MemDoor::new(alloc, links, copy_of(alloc, failing)?)?)?;
+        doors.push(MemDoor::new(alloc, links, copy_of(alloc, failing)?)?)?;
     }
-    Ok(doors.list)
+    Ok(doors.into_list())
 }
 
 fn inbox_of(alloc: Global, arriving: &Arriving) -> Result<MemInbox, NoMemory>
@@ -121,9 +161,9 @@ fn inboxes_of(alloc: Global, given: &Given) -> Result<List<MemInbox>, NoMemory>
         list: List::new(alloc),
     };
     for arriving in &given.inboxes {
-        inboxes.list.push(inbox_of(alloc, arriving)?)?;
+        inboxes.push(inbox_of(alloc, arriving)?)?;
     }
-    Ok(inboxes.list)
+    Ok(inboxes.into_list())
 }
 
 fn clocks_of(alloc: Global, given: &Given) -> Result<List<MemClock>, NoMemory> {
