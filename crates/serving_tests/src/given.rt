@@ -14,7 +14,8 @@ use std::sync::Wait;
 use std::thread::Threads;
 
 // The words of a run that puts the first file and asks for two replies.
-pub(crate) const ONCE: &str = "once --name gfs --proto gfs_20240101_0000.nc put:gfs_20240101_0000.nc ask:2";
+pub(crate) const ONCE: &str =
+    "once --name gfs --proto gfs_20240101_0000.nc put:gfs_20240101_0000.nc ask:2";
 
 // The words of a run with two workers and one inbox.
 pub(crate) const TWO: &str =
@@ -83,13 +84,7 @@ pub(crate) fn opener_of(
     let names = words_of(alloc, names)?;
     let mut inboxes = List::new(alloc);
     inboxes.push(MemInbox::new(alloc, names, runs(alloc)?, List::new(alloc))?)?;
-    Ok(MemOpener::new(
-        alloc,
-        doors,
-        inboxes,
-        List::new(alloc),
-        List::new(alloc),
-    ))
+    Ok(MemOpener::new(alloc, doors, inboxes, List::new(alloc), List::new(alloc)))
 }
 
 // A world with this opener, link and gate, and the files of two runs.
