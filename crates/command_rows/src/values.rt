@@ -1,0 +1,54 @@
+//! Values of a row as lists.
+
+use fm_base::{Bytes, List, NoMemory};
+use fm_world::Entry;
+use row_text::{File, bytes, content};
+use std::alloc::Global;
+
+/// The numbers of a text, of which there is at least one.
+pub fn numbers(alloc: Global, text: &str) -> Result<Option<List<u64>>, NoMemory> {
+    let mut numbers = List::new(alloc);
+    for word in text.split_whitespace() {
+        match word.parse::<u64>() {
+            Ok(number) => numbers.push(number)?,
+            Err(_) => return Ok(None),
+        }
+    }
+    Ok(if numbers.is_empty() {
+        None
+    } else {
+        Some(numbers)
+    })
+}
+
+/// Puts the numbers of a text in the place of others. It is false where the text has none.
+pub fn put_numbers(alloc: Global, text: &str, place: &mut List<u64>) -> Result<bool, NoMemory> {
+    let Some(numbers) = numbers(alloc, text)? else {
+        return Ok(false);
+    };
+    *place = numbers;
+    Ok(true)
+}
+
+/// Appends the bytes that a text stands for. It is false where it stands for none.
+pub fn append(alloc: Global, text: &str, out: &mut Bytes) -> Result<bool, NoMemory> {
+    let Some(bytes) = bytes(alloc, text)? else {
+        return Ok(false);
+    };
+    out.append(bytes.as_slice())?;
+    Ok(true)
+}
+
+/// The file that a path with a description behind it is.
+pub fn entry(alloc: Global, bases: &[File], text: &str) -> Result<Option<Entry>, NoMemory> {
+    let Some((path, description)) = text.split_once(' ') else {
+        return Ok(None);
+    };
+    match (bytes(alloc, path)?, content(alloc, bases, description)?) {
+        (Some(path), Some(content)) => Ok(Some(Entry {
+            path: List { items: path },
+            content: List { items: content },
+        })),
+        _ => Ok(None),
+    }
+}

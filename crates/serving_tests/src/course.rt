@@ -1,0 +1,138 @@
+//! An inbox and a gate that act in turn: a verdict, a link, and so on.
+ghost use Rattle.std.specs.Prelude.{None};
+
+use fm_base::{Bytes, Fail, NoMemory};
+use fm_doors::{
+    Arrival, Gate, Inbox, MemClock, MemDoor, MemInbox, MemOpener, Opener, Place, Verdict,
+};
+use fm_world::{Failed, Found};
+use std::alloc::Global;
+use std::sync::atomic::{AtomicU64, Ordering};
+
+// For how many turns one waits for the other.
+const TURNS: u64 = 1_000_000_000;
+
+// How many verdicts were told, how many links were served, and how often one gave up to wait for the other.
+#[derive(Drop)]
+pub(crate) struct Course {
+    pub(crate) told: AtomicU64,
+    pub(crate) served: AtomicU64,
+    pub(crate) gave_up: AtomicU64,
+}
+
+impl Course {
+    pub(crate) fn new() -> Course {
+        Course {
+            told: AtomicU64::new(0),
+            served: AtomicU64::new(0),
+            gave_up: AtomicU64::new(0),
+        }
+    }
+
+    // Waits until a count has come to a number.
+    pub(crate) fn wait(&self, count: &AtomicU64, number: u64) {
+        for _turn in 0..TURNS {
+            if count.load(Ordering::SeqCst) >= number {
+                return;
+            }
+        }
+        self.gave_up.fetch_add(1, Ordering::SeqCst);
+    }
+}
+
+// Holds each link until a verdict more was told than links were served.
+#[derive(Drop)]
+pub(crate) struct InStep<'a> {
+    pub(crate) course: &'a Course,
+}
+
+impl<'a> Gate for InStep<'a> {
+    fn pass(&self, place: Place) {
+        let course = self.course;
+        match place {
+            Place::Accepted(_) => {
+                let served = course.served.load(Ordering::SeqCst);
+                course.wait(&course.told, served.saturating_add(1));
+            }
+            Place::Finished(_) => {
+                course.served.fetch_add(1, Ordering::SeqCst);
+            }
+        }
+    }
+}
+
+// An inbox in memory that gives a name once a link was served for each verdict.
+#[derive(Drop)]
+pub(crate) struct Telling<'a> {
+    inbox: MemInbox,
+    course: &'a Course,
+}
+
+impl<'a> Inbox for Telling<'a> {
+    ghost shown = { λ telling. ⟦<MemInbox as Inbox>⟧.shown telling.inbox };
+
+    fn faults(&self) -> u64 {
+        self.inbox.faults()
+    }
+
+    fn next(&mut self, alloc: Global) -> Result<Arrival, Fail<Failed>> {
+        let course = self.course;
+        course.wait(&course.served, course.told.load(Ordering::SeqCst));
+        self.inbox.next(alloc)
+    }
+
+    fn fetch(&mut self, alloc: Global, name: &[u8], limit: u64) -> Result<Found, Fail<Failed>> {
+        self.inbox.fetch(alloc, name, limit)
+    }
+
+    fn settle(&mut self, name: &[u8], verdict: Verdict) -> Result<(), Failed> {
+        let settled = self.inbox.settle(name, verdict);
+        self.course.told.fetch_add(1, Ordering::SeqCst);
+        settled
+    }
+}
+
+// An opener in memory whose inboxes tell. It says nothing of what it holds.
+#[derive(Drop)]
+pub(crate) struct TellingOpener<'a> {
+    pub(crate) opener: MemOpener,
+    pub(crate) course: &'a Course,
+}
+
+impl<'a> Opener for TellingOpener<'a> {
+    type D = MemDoor;
+
+    type I = Telling<'a>;
+
+    type C = MemClock;
+
+    ghost shown = { λ opener. record {
+      held = None;
+      faults = (⟦<MemOpener as Opener>⟧.shown opener.opener).faults;
+    } };
+
+    fn faults(&self) -> u64 {
+        self.opener.faults()
+    }
+
+    fn door(
+        &mut self,
+        alloc: Global,
+        address: &[u8],
+        connections: u32,
+    ) -> Result<MemDoor, Fail<Failed>> {
+        self.opener.door(alloc, address, connections)
+    }
+
+    fn inbox(&mut self, alloc: Global, folder: &[u8]) -> Result<Telling<'a>, Fail<Failed>> {
+        let inbox = self.opener.inbox(alloc, folder)?;
+        Ok(Telling {
+            inbox,
+            course: self.course,
+        })
+    }
+
+    fn clock(&mut self, ticks: u32) -> MemClock {
+        self.opener.clock(ticks)
+    }
+}

@@ -1,0 +1,137 @@
+//! What a run is given.
+ghost use Rattle.std.specs.Prelude.{◌≡◌, All, IfOk};
+ghost use Rattle.fm_doors.specs.Door.{IsFresh};
+
+use crate::texts::STRUCTURE;
+use fm_base::{Bytes, List, NoMemory};
+use fm_doors::{Door, Gate, MemDoor, MemInbox, MemOpener, OpenGate, Opener, World};
+use fm_sample::File;
+use fm_world::{Entry, Link, MemFiles, MemLink, MemSink};
+use srv_run::run;
+use std::alloc::Global;
+use std::marker::{Send, Sync};
+use std::sync::Wait;
+use std::thread::Threads;
+
+// The words of a run that puts the first file and asks for two replies.
+pub(crate) const ONCE: &str =
+    "once --name gfs --proto gfs_20240101_0000.nc put:gfs_20240101_0000.nc ask:2";
+
+// The words of a run with two workers and one inbox.
+pub(crate) const TWO: &str =
+    "serve --name gfs --proto gfs_20240101_0000.nc --listen here --workers 2 in";
+
+// A world whose files and sink lie in memory.
+pub(crate) type Given<O, L, G> = World<O, MemFiles, L, MemSink, G>;
+
+// The words between blanks.
+pub(crate) fn words_of(alloc: Global, text: &str) -> Result<List<Bytes>, NoMemory> {
+    let mut words = List::new(alloc);
+    for word in text.split_whitespace() {
+        words.push(Bytes::copy_of(alloc, word.as_bytes())?)?;
+    }
+    Ok(words)
+}
+
+// The files of the first two runs.
+pub(crate) fn runs(alloc: Global) -> Result<List<Entry>, NoMemory> {
+    let mut files = List::new(alloc);
+    files.push(Entry {
+        path: Bytes::copy_of(alloc, b"gfs_20240101_0000.nc")?,
+        content: File::Sample.bytes(alloc)?,
+    })?;
+    files.push(Entry {
+        path: Bytes::copy_of(alloc, b"gfs_20240101_0600.nc")?,
+        content: File::Later.bytes(alloc)?,
+    })?;
+    Ok(files)
+}
+
+// A link with this input and room for so many bytes of output, whose call of a number fails; 0 stands for none.
+pub(crate) fn link_of(
+    alloc: Global,
+    input: &[u8],
+    room: usize,
+    failing: u64,
+) -> Result<MemLink, NoMemory>
+    ensures { IfOk result (λ link. IsFresh (⟦<MemLink as Link>⟧.shown link)) }
+{
+    let mut calls = List::new(alloc);
+    calls.push(failing)?;
+    MemLink::new(alloc, Bytes::copy_of(alloc, input)?, room, calls)
+}
+
+// A door to which one link comes that asks for the structure of the best view, or two.
+pub(crate) fn asking_door(alloc: Global, twice: bool) -> Result<MemDoor, NoMemory>
+    ensures { IfOk result (λ door. (⟦<MemDoor as Door>⟧.shown door).faults ≡ 0) }
+{
+    let mut links = List::new(alloc);
+    links.push(link_of(alloc, STRUCTURE, 4_096, 0)?)?;
+    if twice {
+        links.push(link_of(alloc, STRUCTURE, 4_096, 0)?)?;
+    }
+    MemDoor::new(alloc, links, List::new(alloc))
+}
+
+// What opens these doors and an inbox to which these names come.
+pub(crate) fn opener_of(
+    alloc: Global,
+    doors: List<MemDoor>,
+    names: &str,
+) -> Result<MemOpener, NoMemory>
+    requires { All (λ door. (⟦<MemDoor as Door>⟧.shown door).faults ≡ 0) doors }
+{
+    let names = words_of(alloc, names)?;
+    let mut inboxes = List::new(alloc);
+    inboxes.push(MemInbox::new(alloc, names, runs(alloc)?, List::new(alloc))?)?;
+    Ok(MemOpener::new(alloc, doors, inboxes, List::new(alloc), List::new(alloc)))
+}
+
+// A world with this opener, link and gate, and the files of two runs.
+pub(crate) fn world_of<O: Opener + Drop, L: Link + Drop, G: Gate + Drop>(
+    alloc: Global,
+    opener: O,
+    link: L,
+    gate: G,
+) -> Result<Given<O, L, G>, NoMemory> {
+    Ok(World {
+        opener,
+        doors: List::new(alloc),
+        inboxes: List::new(alloc),
+        clocks: List::new(alloc),
+        files: MemFiles::new(runs(alloc)?, List::new(alloc)),
+        link,
+        sink: MemSink::new(alloc, 4_096, List::new(alloc))?,
+        gate,
+    })
+}
+
+// Runs the words in a world.
+pub(crate) fn ran<R: Threads + Wait + Sync, O: Opener, L: Link, G: Gate>(
+    rt: &R,
+    alloc: Global,
+    words: &str,
+    world: &mut Given<O, L, G>,
+) -> Result<u8, NoMemory>
+where
+    O::D: Send,
+    O::I: Send,
+    O::C: Send,
+    <O::D as Door>::L: Send,
+{
+    let words = words_of(alloc, words)?;
+    Ok(run(rt, alloc, &words, world))
+}
+
+// Runs the words over a link, and returns the status and the world.
+pub(crate) fn asked<R: Threads + Wait + Sync, L: Link + Drop>(
+    rt: &R,
+    alloc: Global,
+    words: &str,
+    link: L,
+) -> Result<(u8, Given<MemOpener, L, OpenGate>), NoMemory> {
+    let opener = opener_of(alloc, List::new(alloc), "")?;
+    let mut world = world_of(alloc, opener, link, OpenGate)?;
+    let status = ran(rt, alloc, words, &mut world)?;
+    Ok((status, world))
+}
