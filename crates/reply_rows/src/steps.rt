@@ -68,7 +68,7 @@ pub fn said(
 fn opened(alloc: Global, files: &[File], row: &Row<'_>) -> Result<Steps, Fail<Wrong>> {
     let epoch = epoch_of(row)?;
     let words = row.value("prototype").unwrap_or("");
-    let proto = prototype(alloc, files, words, epoch)?;
+    let proto = prototype(alloc, files, words)?;
     Ok(Steps {
         plain: Plain::open(alloc, proto)?,
         epoch,
