@@ -1,0 +1,135 @@
+//! The bytes of a plan, taken in several ways, which have to agree.
+
+use crate::wrong::Wrong;
+use dap_reply::Plan;
+use fm_base::{Bytes, Fail, NoMemory};
+use row_text::{put_hex, put_shown};
+use std::alloc::Global;
+
+// The bytes of a plan in pieces that fill a room.
+fn in_pieces(alloc: Global, plan: &Plan, room: &mut [u8]) -> Result<Bytes, NoMemory> {
+    let mut bytes = Bytes::new(alloc);
+    for _turn in 0..plan.len() {
+        let from = bytes.len() as u64;
+        if from >= plan.len() {
+            break;
+        }
+        let count = plan.piece(from, room);
+        let (filled, _) = room.split_at(count);
+        bytes.append(filled)?;
+    }
+    Ok(bytes)
+}
+
+// The bytes of a plan as they are lent, and one by one where none are.
+fn as_lent(alloc: Global, plan: &Plan) -> Result<Bytes, NoMemory> {
+    let mut bytes = Bytes::new(alloc);
+    let mut one = [0; 1];
+    for _turn in 0..plan.len() {
+        let from = bytes.len() as u64;
+        if from >= plan.len() {
+            break;
+        }
+        let lent = plan.lent(from);
+        if lent.is_empty() {
+            plan.piece(from, &mut one);
+            bytes.append(&one)?;
+        } else {
+            bytes.append(lent)?;
+        }
+    }
+    Ok(bytes)
+}
+
+// Whether a plan's bytes from an offset on fill a room with the first of these, or end in it with these.
+fn is_piece(plan: &Plan, from: u64, rest: &[u8], room: &mut [u8]) -> bool {
+    if from > plan.len() {
+        return false;
+    }
+    let count = rest.len().min(room.len());
+    plan.piece(from, room) == count && room.get(..count) == rest.get(..count)
+}
+
+// Whether a plan has these bytes from an offset on: in a piece of 1, of 7 and of 8,192, and as they are lent.
+fn agrees_at(plan: &Plan, from: usize, bytes: &[u8], room: &mut [u8]) -> bool {
+    let Some(rest) = bytes.get(from..) else {
+        return false;
+    };
+    let from = from as u64;
+    let lent = plan.lent(from);
+    let count = lent.len().min(8_192);
+    let (one, _) = room.split_at_mut(room.len().min(1));
+    let is_one = is_piece(plan, from, rest, one);
+    let (seven, _) = room.split_at_mut(room.len().min(7));
+    is_one
+        && is_piece(plan, from, rest, seven)
+        && is_piece(plan, from, rest, room)
+        && lent.len() <= rest.len()
+        && rest.get(..count) == lent.get(..count)
+}
+
+// How far the next offset lies that is looked at among so many bytes.
+fn step_of(len: usize) -> usize {
+    match len {
+        0..=4_096 => 1,
+        4_097..=32_768 => 61,
+        _ => 4_099,
+    }
+}
+
+// Whether a plan has these bytes from each offset on that is looked at.
+fn agrees(plan: &Plan, bytes: &[u8], room: &mut [u8]) -> bool {
+    let step = step_of(bytes.len());
+    let mut from = 0usize;
+    for _turn in 0..=bytes.len() {
+        if from > bytes.len() {
+            break;
+        }
+        if !agrees_at(plan, from, bytes, room) {
+            return false;
+        }
+        from = from.saturating_add(step);
+    }
+    agrees_at(plan, bytes.len(), bytes, room)
+}
+
+/// All bytes of a plan, which are the same taken in pieces of 8,192 and 7, of 1 where they are at most 32,768, as they
+/// are lent, and from other offsets.
+pub fn all_of(alloc: Global, plan: &Plan) -> Result<Bytes, Fail<Wrong>> {
+    let mut room = [0; 8_192];
+    let bytes = in_pieces(alloc, plan, &mut room)?;
+    let all = bytes.as_slice();
+    let mut seven = [0; 7];
+    let mut one = [0; 1];
+    let same = bytes.len() as u64 == plan.len()
+        && in_pieces(alloc, plan, &mut seven)?.as_slice() == all
+        && (all.len() > 32_768 || in_pieces(alloc, plan, &mut one)?.as_slice() == all)
+        && as_lent(alloc, plan)?.as_slice() == all
+        && agrees(plan, all, &mut room);
+    if !same {
+        return Err(Fail::Fault(Wrong::Taken));
+    }
+    Ok(bytes)
+}
+
+/// Adds bytes as lines of eight words of eight hexadecimal digits.
+pub fn put_lines(data: &[u8], out: &mut String) -> Result<(), NoMemory> {
+    for line in data.chunks(32) {
+        put_hex(line, out)?;
+        out.push('\n')?;
+    }
+    Ok(())
+}
+
+/// Adds bytes as text.
+pub fn put_text(bytes: &[u8], out: &mut String) -> Result<(), NoMemory> {
+    Ok(put_shown(bytes, out)?)
+}
+
+/// A text without its last line end, or with a mark where it has none.
+pub fn ended(alloc: Global, text: &str) -> Result<String, NoMemory> {
+    match text.strip_suffix('\n') {
+        Some(text) => Ok(String::from_str(alloc, text)?),
+        None => Ok(format!(in alloc; "{text} (no line end)")?),
+    }
+}
