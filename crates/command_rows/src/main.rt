@@ -12,7 +12,7 @@ mod world;
 use crate::given::Given;
 use crate::world::world_of;
 use fm_base::NoMemory;
-use row_text::{Answers, Count, File, Row, end, read_inputs};
+use row_text::{Answers, Count, File, Row, end, read_inputs, rows};
 use std::alloc::{AllocError, Global};
 use std::io;
 use std::marker::Sync;
@@ -20,32 +20,65 @@ use std::process::ExitCode;
 use std::sync::Wait;
 use std::thread::Threads;
 
-// The files that rows begin from, and what runs threads.
+// What the run of a row left, or `None` where the row isn't one, by the number of the row's first line.
 #[derive(Drop)]
-struct Commands<'a, R> {
-    rt: &'a R,
-    files: &'a [File],
+struct Left {
+    line: usize,
+    shown: Option<String>,
 }
 
-impl<'a, R: Threads + Wait + Sync> Answers for Commands<'a, R> {
+// What the runs of a text's rows left. They are run before they are compared, since threads start from functions alone.
+#[derive(Drop)]
+struct Runs {
+    left: Vec<Left>,
+}
+
+impl Answers for Runs {
     fn answer(&self, alloc: Global, row: &Row<'_>) -> Result<Option<String>, AllocError> {
-        match self.ran(alloc, row) {
-            Ok(shown) => Ok(shown),
-            Err(NoMemory) => Err(AllocError),
+        for left in &self.left {
+            if left.line == row.line
+                && let Some(shown) = &left.shown
+            {
+                return Ok(Some(String::from_str(alloc, shown.as_str())?));
+            }
+        }
+        Ok(None)
+    }
+}
+
+// What the run of a row left, or `None` where the row isn't one.
+fn ran<R: Threads + Wait + Sync>(
+    rt: &R,
+    alloc: Global,
+    files: &[File],
+    row: &Row<'_>,
+) -> Result<Option<String>, NoMemory> {
+    let Some(given) = Given::read(alloc, files, row)? else {
+        return Ok(None);
+    };
+    let mut world = world_of(alloc, &given)?;
+    let status = srv_run::run(rt, alloc, &given.words, &mut world);
+    Ok(Some(shown::left(alloc, status, &world)?))
+}
+
+// Runs the rows of a text.
+fn all_run<R: Threads + Wait + Sync>(
+    rt: &R,
+    alloc: Global,
+    files: &[File],
+    text: &str,
+) -> Result<Runs, AllocError> {
+    let mut left = Vec::new(alloc);
+    for row in &rows(alloc, text)? {
+        match ran(rt, alloc, files, row) {
+            Ok(shown) => left.push(Left {
+                line: row.line,
+                shown,
+            })?,
+            Err(NoMemory) => return Err(AllocError),
         }
     }
-}
-
-impl<'a, R: Threads + Wait + Sync> Commands<'a, R> {
-    // What a run left, or `None` where the row isn't one.
-    fn ran(&self, alloc: Global, row: &Row<'_>) -> Result<Option<String>, NoMemory> {
-        let Some(given) = Given::read(alloc, self.files, row)? else {
-            return Ok(None);
-        };
-        let mut world = world_of(alloc, &given)?;
-        let status = srv_run::run(self.rt, alloc, &given.words, &mut world);
-        Ok(Some(shown::left(alloc, status, &world)?))
-    }
+    Ok(Runs { left })
 }
 
 // The files by their names without folders.
@@ -61,22 +94,14 @@ fn named(alloc: Global, files: Vec<File>) -> Result<Vec<File>, AllocError> {
 }
 
 fn main(rt: HostRuntime) -> io::Result<ExitCode> {
+    let alloc = rt.alloc();
     let inputs = read_inputs(&rt)?;
-    let files = named(rt.alloc(), inputs.files)?;
-    let commands = Commands {
-        rt: &rt,
-        files: files.as_slice(),
-    };
+    let files = named(alloc, inputs.files)?;
     let mut count = Count::default();
     for text in &inputs.texts {
-        row_text::run(
-            &rt,
-            rt.alloc(),
-            text.path.as_str(),
-            text.text.as_str(),
-            &commands,
-            &mut count,
-        )?;
+        let rows = text.text.as_str();
+        let runs = all_run(&rt, alloc, files.as_slice(), rows)?;
+        row_text::run(&rt, alloc, text.path.as_str(), rows, &runs, &mut count)?;
     }
     end(&rt, count)
 }

@@ -61,7 +61,7 @@ const MANY: &str =
 
 // Whether some bytes say that the link is closed.
 fn says_close(bytes: &[u8]) -> bool {
-    let close = b"\r\nConnection: close\r\n";
+    let close = b"\r\nConnection: close\r\n".as_slice();
     bytes.windows(close.len()).any(|part| part == close)
 }
 
