@@ -14,8 +14,8 @@ try_program() {
     files=$(for file in data/*; do [ ! -f "$file" ] || echo "--data ${file#data/}=$file"; done)
     got=0
     # shellcheck disable=SC2046,SC2086  # a word a line
-    rt try $files -- $(cat args 2> /dev/null) < "$input" > "$logs/$crate.out" 2> "$logs/$crate.err" || got=$?
-    [ "$got" = "$want" ] && sed '$d' "$logs/$crate.out" | cmp -s stdout -
+    rt try --seconds 300 $files -- $(cat args 2> /dev/null) < "$input" > "$logs/$crate.out" 2> "$logs/$crate.err" || got=$?
+    [ "$got" = "$want" ] && cmp -s stdout "$logs/$crate.out"
 }
 
 try_one() {
@@ -24,7 +24,7 @@ try_one() {
     if [ -f stdout ]; then
         try_program
     else
-        rt try --test > "$logs/$crate.out" 2> "$logs/$crate.err"
+        rt try --seconds 300 --test > "$logs/$crate.out" 2> "$logs/$crate.err"
     fi && echo "$crate passed" || {
         echo "$crate FAILED"
         tail -n 20 "$logs/$crate.out" "$logs/$crate.err"
