@@ -1,5 +1,7 @@
-.PHONY: demo build test quick clients proxy restart beside
+.PHONY: demo build test quick exits plants clients proxy restart beside
 
+# The program's crate, and the sample files in its folder data/.
+SERVER = crates/fmrcd
 FIRST = gfs_20240101_0000.nc
 LATER = gfs_20240101_0600.nc
 WORDS = once --name gfs --proto $(FIRST) put:$(FIRST) put:$(LATER) ask:3
@@ -9,17 +11,17 @@ TRY = rt try --data $(FIRST)=data/$(FIRST) --data $(LATER)=data/$(LATER) --
 # checks and not proved, so that it answers within minutes. Data is shown by `cat -v`.
 demo:
 	@echo "These runs are compiled with checks and prove nothing; 'make build' proves the program."
-	@echo "Three requests:"; cat crates/fmrcd/data/demo.requests
+	@echo "Three requests:"; cat $(SERVER)/data/demo.requests
 	@echo "The replies:"
-	@mkdir -p crates/fmrcd/out
-	@cd crates/fmrcd && $(TRY) $(WORDS) < data/demo.requests > out/demo.replies && tr -d '\r' < out/demo.replies | cat -v
+	@mkdir -p $(SERVER)/out
+	@cd $(SERVER) && $(TRY) $(WORDS) < data/demo.requests > out/demo.replies && tr -d '\r' < out/demo.replies | cat -v
 	@echo; echo "A check of a file:"
-	@cd crates/fmrcd && $(TRY) check $(FIRST)
+	@cd $(SERVER) && $(TRY) check $(FIRST)
 
-# Proves the program and links it as crates/fmrcd/out/fmrcd.
+# Proves the program and links it as $(SERVER)/out/fmrcd.
 build:
-	cd crates/fmrcd && rt run -- once --name gfs --proto data/$(FIRST) put:data/$(FIRST) ask:1 < stdin
-	@echo "The proved program is crates/fmrcd/out/fmrcd."
+	cd $(SERVER) && rt run -- once --name gfs --proto data/$(FIRST) put:data/$(FIRST) ask:1 < stdin
+	@echo "The proved program is $(SERVER)/out/fmrcd."
 
 # The merge gate: every proof from nothing, every must-fail edit, every test, and the program's stored run.
 test:
@@ -29,8 +31,16 @@ test:
 quick:
 	tests/quick.sh
 
+# The wrong bodies that the gate leaves out: the prover has to refuse each.
+plants:
+	bench/plants.sh
+
 # The program that the targets below run; without it the program is proved first.
 PROGRAM =
+
+# Runs the program as a person would, and compares exit statuses and lines.
+exits: $(if $(PROGRAM),,build)
+	tests/exits.sh $(PROGRAM)
 
 # Reads from the program by the clients that users have, which it installs from the machine's Debian registry.
 clients: $(if $(PROGRAM),,build)

@@ -8,14 +8,7 @@ size=${1:-16384}
 top=$(cd "$(dirname "$0")/.." && pwd)
 folder=$(mktemp -d)
 trap 'rm -r "$folder"' EXIT
-mkdir -p "$folder/crates/read_constraints/src"
-for crate in fm_base dap_model dap_ce; do
-    cp -r "$top/crates/$crate" "$folder/crates/$crate"
-done
-{
-    grep -E '^(fm_base|dap_model|dap_ce):' "$top/crates.txt"
-    echo 'read_constraints: fm_base dap_model dap_ce'
-} > "$folder/crates.txt"
+"$top/bench/crates.sh" "$folder" read_constraints dap_ce
 cat > "$folder/crates/read_constraints/src/main.rt" << 'PROGRAM'
 //! Reads the constraint in each file, and says how many clauses it has and the fewest nanoseconds that it took.
 #![tactic(auto)]

@@ -6,14 +6,7 @@ set -eu
 top=$(cd "$(dirname "$0")/.." && pwd)
 folder=$(mktemp -d)
 trap 'rm -r "$folder"' EXIT
-crates='fm_base fm_bits nc_sample nc_header nc_layout nc_array tm_units dap_model dap_dds fm_model fm_rows
-fm_edition fm_views fm_file fm_proto fm_load fm_sample fm_dataset fm_shown'
-mkdir -p "$folder/crates/build_dataset/src"
-for crate in $crates; do
-    cp -r "$top/crates/$crate" "$folder/crates/$crate"
-    grep -E "^$crate:" "$top/crates.txt" >> "$folder/crates.txt"
-done
-echo build_dataset: $crates >> "$folder/crates.txt"
+"$top/bench/crates.sh" "$folder" build_dataset fm_dataset fm_views fm_views fm_sample
 cat > "$folder/crates/build_dataset/src/main.rt" << 'PROGRAM'
 //! `PROGRAM PROTO FILE..` makes an edition of files over a prototype, and says how many rows and declarations its best time
 //! series has, and how many microseconds its rows took to list, and its dataset to build from them.
@@ -31,7 +24,7 @@ use std::time::Instant;
 use std::{env, fs, io};
 
 // Lists the rows of the best time series, builds the dataset, and says how long each took.
-#[tactic(auto, using(fm_shown::proofs::RowFacts::shown_rows))]
+#[tactic(auto, using(fm_views::proofs::RowFacts::shown_rows))]
 fn built<R: Print + Clock>(rt: &R, alloc: Global, edition: &Edition) -> io::Result<()> {
     let start = Instant::now(rt)?;
     let Ok(list) = rows(alloc, edition, &ViewName::Best) else {

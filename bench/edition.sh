@@ -6,14 +6,7 @@ set -eu
 top=$(cd "$(dirname "$0")/.." && pwd)
 folder=$(mktemp -d)
 trap 'rm -r "$folder"' EXIT
-crates='fm_base fm_bits fm_model nc_sample nc_header nc_layout nc_array tm_units fm_file fm_proto fm_load
-fm_rows fm_edition fm_views fm_sample'
-mkdir -p "$folder/crates/edition_bench/src"
-for crate in $crates; do
-    tar -C "$top/crates" --exclude=incremental -cf - "$crate" | tar -C "$folder/crates" -xf -
-    grep -E "^$crate:" "$top/crates.txt" >> "$folder/crates.txt"
-done
-echo edition_bench: $crates >> "$folder/crates.txt"
+"$top/bench/crates.sh" "$folder" edition_bench fm_views fm_load fm_sample
 
 # A file of 64 times and its run's time, which is the prototype too. Prints where the run and the first time stand.
 places=$(python3 - "$folder/one.nc" << 'PYTHON'

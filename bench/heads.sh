@@ -6,14 +6,7 @@ set -eu
 folder=$(mktemp -d)
 trap 'rm -r "$folder"' EXIT
 top=$(cd "$(dirname "$0")/.." && pwd)
-mkdir -p "$folder/crates/frame_heads/src"
-for crate in fm_base web_frame; do
-    cp -r "$top/crates/$crate" "$folder/crates/$crate"
-done
-{
-    grep -E '^(fm_base|web_frame):' "$top/crates.txt"
-    echo 'frame_heads: fm_base web_frame'
-} > "$folder/crates.txt"
+"$top/bench/crates.sh" "$folder" frame_heads web_frame
 cat > "$folder/crates/frame_heads/src/main.rt" << 'PROGRAM'
 //! Frames and reads a head many times, in pieces of two sizes, and prints the time of each in nanoseconds.
 #![tactic(auto)]

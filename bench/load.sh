@@ -6,13 +6,7 @@ set -eu
 top=$(cd "$(dirname "$0")/.." && pwd)
 folder=$(mktemp -d)
 trap 'rm -r "$folder"' EXIT
-crates='fm_base fm_bits fm_model nc_sample nc_header nc_layout nc_array tm_units fm_file fm_proto fm_load'
-mkdir -p "$folder/crates/load_file/src"
-for crate in $crates; do
-    cp -r "$top/crates/$crate" "$folder/crates/$crate"
-    grep -E "^$crate:" "$top/crates.txt" >> "$folder/crates.txt"
-done
-echo "load_file: $crates" >> "$folder/crates.txt"
+"$top/bench/crates.sh" "$folder" load_file fm_proto fm_load
 cat > "$folder/crates/load_file/src/main.rt" << 'PROGRAM'
 //! `PROGRAM PROTO FILE` loads a file over a prototype, and says how many microseconds that took without reading it.
 #![tactic(auto)]
@@ -72,7 +66,7 @@ PROGRAM
     exit 1
 }
 
-# A file of so many records of one time and a field, and one of one record that is the prototype.
+# A file of COUNT records of one time and a field, and one of one record that is the prototype.
 python3 - "$folder" << 'PYTHON'
 import struct
 import sys

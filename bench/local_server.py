@@ -92,7 +92,7 @@ http {
 
 
 class Nginx:
-    """nginx with so many processes over the configuration of a site; `port` is where it listens."""
+    """nginx with `processes` processes over the configuration of a site; `port` is where it listens."""
 
     def __init__(self, folder, site, port, processes, logs):
         self.port = port

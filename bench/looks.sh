@@ -6,15 +6,8 @@ set -eu
 folder=$(mktemp -d)
 trap 'rm -r "$folder"' EXIT
 top=$(cd "$(dirname "$0")/.." && pwd)
-crates='fm_base nc_sample nc_header nc_layout nc_array tm_units fm_bits fm_model fm_rows fm_edition fm_views fm_file fm_proto
-fm_load fm_sample pub_plain pub_snap'
-mkdir -p "$folder/crates/looks/src"
-for crate in $crates; do
-    cp -r "$top/crates/$crate" "$folder/crates/$crate"
-    grep -E "^$crate:" "$top/crates.txt" >> "$folder/crates.txt"
-done
+"$top/bench/crates.sh" "$folder" looks fm_load fm_sample pub_snap
 cp "$top/HANDLES" "$folder/HANDLES"
-echo 'looks: fm_base fm_model fm_edition fm_load fm_sample pub_plain pub_snap' >> "$folder/crates.txt"
 cp "$top/crates/publisher_tests/src/files.rt" "$top/crates/publisher_tests/src/probe.rt" "$folder/crates/looks/src/"
 mkdir -p "$folder/crates/looks/proofs/row" "$folder/crates/looks/proofs/write_on"
 : > "$folder/crates/looks/proofs/Lib.antt"
@@ -51,7 +44,7 @@ use fm_base::{Arc, List};
 use fm_edition::Edition;
 use fm_model::{Op, Proto};
 use probe::HowMuch;
-use pub_plain::{Look, Query};
+use pub_look::{Look, Query};
 use pub_snap::{Blank, Desk, Name, Pass, Share, prepare};
 use std::alloc::Global;
 use std::marker::Brand;
@@ -136,7 +129,7 @@ fn look_and_write<N: Name + Send + Sync, R: Threads + Wait + Sync>(
     join_mut(rt, &mut looking, &mut writing);
 }
 
-// The nanoseconds that all looks of so many passes take.
+// The nanoseconds that all looks of `passes` passes take.
 fn by_passes<N: Name + Send + Sync, R: Threads + Wait + Clock + Sync>(
     rt: &R,
     alloc: Global,

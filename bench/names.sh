@@ -7,7 +7,7 @@ folder=$(mktemp -d)
 trap 'rm -r "$folder"' EXIT
 program=${1:-$("$(dirname "$0")/reader.sh" "$folder")}
 
-# make LIST COUNT FILE: a CDF-1 header with so many names in the list of dimensions, attributes or variables.
+# make LIST COUNT FILE: a CDF-1 header with COUNT names in the list of dimensions, attributes or variables.
 make() {
     python3 - "$1" "$2" "$3" <<'PYTHON'
 import struct

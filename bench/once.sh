@@ -5,6 +5,7 @@
 set -eu
 top=$(cd "$(dirname "$0")/.." && pwd)
 program=${1:-$top/crates/fmrcd/out/fmrcd}
+[ -x "$program" ] || { echo "no program $program: 'make build' makes one" >&2; exit 2; }
 folder=$(mktemp -d)
 trap 'rm -r "$folder"' EXIT
 sample=$top/crates/fmrcd/data/gfs_20240101_0000.nc

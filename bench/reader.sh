@@ -5,14 +5,7 @@
 set -eu
 folder=$1
 top=$(cd "$(dirname "$0")/.." && pwd)
-mkdir -p "$folder/crates/read_headers/src"
-for crate in fm_base nc_header; do
-    cp -r "$top/crates/$crate" "$folder/crates/$crate"
-done
-{
-    grep -E '^(fm_base|nc_header):' "$top/crates.txt"
-    echo 'read_headers: fm_base nc_header'
-} > "$folder/crates.txt"
+"$top/bench/crates.sh" "$folder" read_headers nc_header
 cat > "$folder/crates/read_headers/src/main.rt" << 'PROGRAM'
 //! Reads the header of a file, and says how long its lists are.
 #![tactic(auto)]

@@ -10,24 +10,17 @@ limit=65536
 top=$(cd "$(dirname "$0")/.." && pwd)
 folder=$(mktemp -d)
 trap 'rm -r "$folder"' EXIT
-mkdir -p "$folder/crates/copy_elements/src"
-for crate in fm_base nc_header nc_layout nc_array; do
-    cp -r "$top/crates/$crate" "$folder/crates/$crate"
-done
-{
-    grep -E '^(fm_base|nc_header|nc_layout|nc_array):' "$top/crates.txt"
-    echo 'copy_elements: fm_base nc_header nc_layout nc_array'
-} > "$folder/crates.txt"
+"$top/bench/crates.sh" "$folder" copy_elements nc_header nc_array
 cat > "$folder/crates/copy_elements/src/main.rt" << 'PROGRAM'
 //! `PROGRAM copy FILE` copies the elements of the last variable of a file, and as many bytes from the file's front, and
 //! says how many microseconds each took. `PROGRAM check FILE` lays the file out, `PROGRAM read FILE` only reads it.
 #![tactic(auto)]
-ghost use Rattle.std.specs.Prelude.{◌≡◌, ◌<◌, length};
+ghost use Rattle.std.specs.Prelude.{◌<◌, length};
 
 use fm_base::Bytes;
-use nc_array::whole;
+use nc_array::FileView;
 use nc_header::read_header;
-use nc_layout::{Layout, lay_out};
+use nc_layout::lay_out;
 use std::alloc::Global;
 use std::rt::Clock;
 use std::time::Instant;
@@ -36,16 +29,14 @@ use std::{env, fs, io};
 fn elements<R: Print + Clock>(
     rt: &R,
     alloc: Global,
-    layout: &Layout,
-    bytes: &[u8],
-    var: u32,
+    file: &FileView<'_>,
+    number: u32,
 ) -> io::Result<usize>
-    requires length { length bytes.now ≡ layout.now.len }
-    requires number { var < length layout.now.header.vars }
+    requires { number < length file.now.layout.header.vars }
 {
     let start = Instant::now(rt)?;
     let mut out = Bytes::new(alloc);
-    let done = whole(alloc, layout, bytes, var, &mut out);
+    let done = file.append_elements(number, &mut out);
     let took = start.elapsed(rt)?;
     if done.is_err() {
         println!(rt; "no memory")?;
@@ -76,13 +67,14 @@ fn laid<R: Print + Clock>(rt: &R, alloc: Global, bytes: &[u8], turns: u32) -> io
     let Ok(layout) = lay_out(alloc, header, bytes.len() as u64) else {
         return println!(rt; "no layout");
     };
-    let vars = &layout.header().vars;
+    let file = FileView::new(layout, bytes);
+    let vars = &file.header().vars;
     if vars.is_empty() {
         return println!(rt; "no variable");
     }
     let last = (vars.len() - 1) as u32;
     for _turn in 0..turns {
-        let len = elements(rt, alloc, &layout, bytes, last)?;
+        let len = elements(rt, alloc, &file, last)?;
         plain(rt, alloc, bytes, len)?;
     }
     Ok(())
@@ -118,7 +110,7 @@ word() {
     printf '%08x' "$1"
 }
 
-# records FILE RECORDS ELEMENTS: two variables of 32-bit numbers over records, of one element and of so many.
+# records FILE RECORDS ELEMENTS: two variables of 32-bit numbers over records, of one element and of ELEMENTS.
 records() {
     {
         printf '43444601 %s 0000000a 00000002' "$(word "$2")"
@@ -130,7 +122,7 @@ records() {
     head -c $(($2 * (4 + 4 * $3))) /dev/zero >> "$1"
 }
 
-# fixed FILE ELEMENTS: one variable of so many 32-bit numbers, without records.
+# fixed FILE ELEMENTS: one variable of ELEMENTS 32-bit numbers, without records.
 fixed() {
     {
         printf '43444601 00000000 0000000a 00000001 00000001 78000000 %s' "$(word "$2")"

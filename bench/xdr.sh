@@ -7,14 +7,7 @@ set -eu
 top=$(cd "$(dirname "$0")/.." && pwd)
 folder=$(mktemp -d)
 trap 'rm -r "$folder"' EXIT
-crates='fm_base fm_bits nc_sample nc_header nc_layout nc_array tm_units dap_model fm_model fm_rows fm_edition
-fm_views fm_file fm_proto fm_load fm_sample fm_dataset fm_shown dap_xdr'
-mkdir -p "$folder/crates/send_parts/src"
-for crate in $crates; do
-    cp -r "$top/crates/$crate" "$folder/crates/$crate"
-    grep -E "^$crate:" "$top/crates.txt" >> "$folder/crates.txt"
-done
-echo send_parts: $crates >> "$folder/crates.txt"
+"$top/bench/crates.sh" "$folder" send_parts dap_xdr fm_views fm_sample
 cat > "$folder/crates/send_parts/src/main.rt" << 'PROGRAM'
 //! `PROGRAM PROTO FILE` makes the best time series of a file over a prototype. Of each declaration after the axis, but for
 //! the runs and the offsets, it says how many microseconds all of its array takes in pieces, and then how many nanoseconds a
@@ -30,7 +23,7 @@ use fm_base::{Bytes, List, NoMemory};
 use fm_dataset::Dataset;
 use fm_model::ViewName;
 use fm_sample::{edition_of, edition_with};
-use fm_shown::shown;
+use fm_views::shown;
 use std::alloc::Global;
 use std::rt::Clock;
 use std::time::Instant;

@@ -36,7 +36,7 @@ CELLS = cells()
 
 
 def best(least):
-    """The cell of the latest run that has each valid time, of those runs that are at least so many hours earlier."""
+    """The cell of the latest run that has each valid time, of those runs that are at least `least` hours earlier."""
     rows = {}
     for run, valid in sorted(CELLS):
         if valid - run >= datetime.timedelta(hours=least):

@@ -4,6 +4,7 @@
 set -eu
 top=$(cd "$(dirname "$0")/.." && pwd)
 program=${1:-$top/crates/fmrcd/out/fmrcd}
+[ -x "$program" ] || { echo "no program $program: 'make build' makes one" >&2; exit 2; }
 port=${2:-18089}
 data=$top/crates/fmrcd/data
 folder=$(mktemp -d)

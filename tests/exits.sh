@@ -4,6 +4,7 @@
 set -u
 top=$(cd "$(dirname "$0")/.." && pwd)
 program=${1:-$top/crates/fmrcd/out/fmrcd}
+[ -x "$program" ] || { echo "no program $program: 'make build' makes one" >&2; exit 2; }
 folder=$(mktemp -d)
 trap 'rm -r "$folder"' EXIT
 failures=0

@@ -1,8 +1,8 @@
 //! An inbox that a row describes.
 
 use crate::values::{append, entry, put_numbers};
+use dev_memory::Entry;
 use fm_base::{Bytes, List, NoMemory};
-use fm_world::Entry;
 use row_text::{Field, File};
 use std::alloc::Global;
 

@@ -3,8 +3,8 @@
 use crate::arriving::Arriving;
 use crate::linked::Linked;
 use crate::values::{append, entry, numbers, put_numbers};
+use dev_memory::Entry;
 use fm_base::{Bytes, List, NoMemory};
-use fm_world::Entry;
 use row_text::{Field, File, Row};
 use std::alloc::Global;
 

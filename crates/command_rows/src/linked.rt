@@ -1,13 +1,13 @@
 //! A link that a row describes.
 
 use crate::values::{append, numbers, put_numbers};
+use dev_memory::Hold;
 use fm_base::{Bytes, List, NoMemory};
-use fm_world::Hold;
 use row_text::Field;
 use std::alloc::Global;
 
-/// The input of a link, the calls that fail, in which pieces bytes come and go, and the number of its door; 0 stands for
-/// none.
+/// The input of a link, the calls that fail, in which pieces bytes come and go, and the number of its door; 0 stands
+/// for none.
 #[derive(Drop)]
 pub struct Linked {
     pub door: usize,
@@ -75,9 +75,9 @@ impl Linked {
         match (key, numbers.as_slice()) {
             ("take", [most]) => self.most_taken = *most as usize,
             ("put", [most]) => self.most_put = *most as usize,
-            ("hold", [place, put]) => {
+            ("hold", [offset, put]) => {
                 self.hold = Some(Hold {
-                    place: *place as usize,
+                    offset: *offset as usize,
                     put: *put as usize,
                 })
             }

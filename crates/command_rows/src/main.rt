@@ -12,7 +12,7 @@ mod world;
 use crate::given::Given;
 use crate::world::world_of;
 use fm_base::NoMemory;
-use row_text::{Answers, Count, File, Row, end, read_inputs, rows};
+use row_text::{Answers, Count, File, Row, end, read_inputs, rows, without_folders};
 use std::alloc::{AllocError, Global};
 use std::io;
 use std::marker::Sync;
@@ -81,22 +81,10 @@ fn all_run<R: Threads + Wait + Sync>(
     Ok(Runs { left })
 }
 
-// The files by their names without folders.
-fn named(alloc: Global, files: Vec<File>) -> Result<Vec<File>, AllocError> {
-    let mut named = Vec::new(alloc);
-    for file in files {
-        let name = file.name.split('/').last().unwrap_or("");
-        let name = String::from_str(alloc, name)?;
-        let content = file.content;
-        named.push(File { name, content })?;
-    }
-    Ok(named)
-}
-
 fn main(rt: HostRuntime) -> io::Result<ExitCode> {
     let alloc = rt.alloc();
     let inputs = read_inputs(&rt)?;
-    let files = named(alloc, inputs.files)?;
+    let files = without_folders(alloc, inputs.files)?;
     let mut count = Count::default();
     for text in &inputs.texts {
         let rows = text.text.as_str();

@@ -6,10 +6,10 @@ use std::alloc::AllocError;
 // How many bytes stand on a line of words.
 const ON_A_LINE: usize = 32;
 
-/// Appends the bytes of a link or a sink, so that each is determined by what is shown. A line feed ends a line, and a last
-/// line without one ends in a backslash. What comes after `Data:` and a line feed stands as words of eight hexadecimal
-/// digits, eight on a line, until `HTTP/1.1` begins the next reply. A `-` at the front of a line is `\x2d`, and a blank at the
-/// end of one `\x20`.
+/// Appends the bytes of a link or a sink, so that each is determined by what is shown. A line feed ends a line, and a
+/// last line without one ends in a backslash. What comes after `Data:` and a line feed stands as words of eight
+/// hexadecimal digits, eight on a line, until `HTTP/1.1` begins the next reply. A `-` at the front of a line is `\x2d`,
+/// and a blank at the end of one `\x20`.
 pub fn put_output(bytes: &[u8], out: &mut String) -> Result<(), AllocError> {
     let mut data = None;
     for (index, byte) in bytes.iter().enumerate() {
@@ -37,7 +37,7 @@ pub fn put_output(bytes: &[u8], out: &mut String) -> Result<(), AllocError> {
     }
 }
 
-// Appends a byte of data that comes after so many.
+// Appends a byte of data that `count` bytes of data stand before.
 fn put_data(byte: u8, count: usize, out: &mut String) -> Result<(), AllocError> {
     if count > 0 && count % ON_A_LINE == 0 {
         out.push('\n')?;

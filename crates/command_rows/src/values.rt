@@ -1,7 +1,7 @@
 //! Values of a row as lists.
 
+use dev_memory::Entry;
 use fm_base::{Bytes, List, NoMemory};
-use fm_world::Entry;
 use row_text::{File, bytes, content};
 use std::alloc::Global;
 
@@ -21,12 +21,12 @@ pub fn numbers(alloc: Global, text: &str) -> Result<Option<List<u64>>, NoMemory>
     })
 }
 
-/// Puts the numbers of a text in the place of others. It is false where the text has none.
-pub fn put_numbers(alloc: Global, text: &str, place: &mut List<u64>) -> Result<bool, NoMemory> {
+/// Puts the numbers of a text into `list`, instead of those it had. It is false where the text has none.
+pub fn put_numbers(alloc: Global, text: &str, list: &mut List<u64>) -> Result<bool, NoMemory> {
     let Some(numbers) = numbers(alloc, text)? else {
         return Ok(false);
     };
-    *place = numbers;
+    *list = numbers;
     Ok(true)
 }
 

@@ -1,13 +1,13 @@
 //! The world in memory that a row describes.
 ghost use Rattle.std.specs.Prelude.{◌≡◌, All, IfOk};
-ghost use Rattle.fm_doors.specs.Door.{IsFresh};
+ghost use Rattle.dev_traits.specs.Door.{IsFresh};
 
 use crate::arriving::Arriving;
 use crate::given::Given;
 use crate::linked::Linked;
+use dev_memory::{Entry, MemClock, MemDoor, MemFiles, MemInbox, MemLink, MemOpener, MemSink};
+use dev_traits::{Door, Inbox, Link, OpenGate, World};
 use fm_base::{Bytes, List, NoMemory};
-use fm_doors::{Door, Inbox, MemClock, MemDoor, MemInbox, MemOpener, OpenGate, World};
-use fm_world::{Entry, Link, MemFiles, MemLink, MemSink};
 use std::alloc::Global;
 
 /// A world in memory.
@@ -113,7 +113,7 @@ fn link_of(alloc: Global, linked: &Linked) -> Result<MemLink, NoMemory>
     let link = MemLink::new(alloc, input, ROOM, copy_of(alloc, &linked.failing)?)?;
     let link = link.in_pieces(linked.most_taken, linked.most_put);
     Ok(match linked.hold {
-        Some(hold) => link.held_back(hold.place, hold.put),
+        Some(hold) => link.held_back(hold.offset, hold.put),
         None => link,
     })
 }

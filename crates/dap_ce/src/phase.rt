@@ -13,7 +13,7 @@ pub(crate) enum Numbers {
     Two(u64, u64),
 }
 
-// Where reading stands: at the first byte of a name; in the name that begins at a place; at the first digit of a
+// Where reading stands: at the first byte of a name; in the name that begins at an offset; at the first digit of a
 // number; in a number, with how many digits it has and its value; or behind a slab.
 #[derive(Clone, Copy, Debug)]
 pub(crate) enum Phase {

@@ -86,7 +86,7 @@ impl Reader {
         Ok(false)
     }
 
-    // Takes a byte behind some of a name, which begins at a place of the text.
+    // Takes a byte behind some of a name, which begins at an offset of the text.
     #[tactic(auto, unfolding(dap_model::specs::ConstraintReading::step_name))]
     fn in_name(
         &mut self,
@@ -167,7 +167,7 @@ impl Reader {
         }
     }
 
-    // Takes the byte at a place, if some constraint goes on with it; else nothing changes.
+    // Takes the byte at an offset, if some constraint goes on with it; else nothing changes.
     #[tactic(auto, unfolding(dap_model::specs::ConstraintReading::step, dap_model::specs::ConstraintReading::step_to_name))]
     pub(crate) fn step(&mut self, alloc: Global, text: &[u8], at: usize) -> Result<bool, NoMemory>
         requires place { at < length text.now }
@@ -200,7 +200,7 @@ impl Reader {
         }
     }
 
-    // What is wrong with a byte at a place with which no constraint goes on.
+    // What is wrong with a byte at an offset with which no constraint goes on.
     #[tactic(auto, unfolding(dap_model::specs::ConstraintReading::clauses_at))]
     pub(crate) fn fault_at(&self, at: u64, byte: u8) -> CeFault
         ensures { (read : List ℕ) → result ≡ fault_at (state_of self.now read) at byte }

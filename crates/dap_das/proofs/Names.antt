@@ -5,6 +5,7 @@ use Rattle.std.specs.List.{flat_map}
 use Rattle.std.proofs.lemmas.Bool.{cases_Bool, cond-true, cond-false}
 use Rattle.std.proofs.lemmas.Bool.Decides.{nat_tests}
 use Rattle.fm_base.specs.Name.{is_name_byte}
+use Rattle.fm_base.proofs.ListLemmas.{turned}
 use Rattle.dap_das.specs.AttributeText.{escaped_byte, escaped_name}
 
 -- the percent sign stands in no name
@@ -31,9 +32,6 @@ block_of b = elim (cases_Bool (is_name_byte b)) [
 -- a digit is that of one number
 glyph_injective : (c d : ℕ) → c < 16 → d < 16 → digit_glyph true c ≡ digit_glyph true d → c ≡ d
 glyph_injective c d small few same = grind (arith, nat_tests)
-
-turned : (a b c d us vs : List ℕ) → a ≡ b → c ≡ d → a ++ us ≡ c ++ vs → b ++ us ≡ d ++ vs
-turned a b c d us vs p q e = cc
 
 -- two bytes by how they are written
 by_blocks : (b c : ℕ) (us vs : List ℕ) → b < 256 → c < 256 → Block b → Block c

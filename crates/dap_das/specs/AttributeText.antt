@@ -3,12 +3,12 @@ use Rattle.std.specs.Prelude.{ℕ, ◌+◌, ◌*◌, ◌/◌, ◌%◌, List, [],
 use Rattle.std.specs.Fmt.{digit_glyph}
 use Rattle.std.specs.List.{flat_map, range_with_len}
 use Rattle.std.specs.Option.{option_map_or}
-use Rattle.fm_base.specs.declared.header.Attr.{Attr}
-use Rattle.fm_base.specs.declared.kind.Kind.{Kind}
-use Rattle.fm_base.specs.declared.kind.Kind.TheVariants.{Byte, Char, Short, Int, Float, Double}
-use Rattle.fm_base.specs.Kind.{size_of}
+use Rattle.nc_model.specs.declared.header.Attr.{Attr}
+use Rattle.nc_model.specs.declared.kind.Kind.{Kind}
+use Rattle.nc_model.specs.declared.kind.Kind.TheVariants.{Byte, Char, Short, Int, Float, Double}
+use Rattle.nc_model.specs.Kind.{size_of}
 use Rattle.fm_base.specs.Name.{is_name_byte}
-use Rattle.fm_base.specs.Pattern.{pattern_of_bytes}
+use Rattle.nc_model.specs.Pattern.{pattern_of_bytes}
 use Rattle.fm_bits.specs.Quoted.{quoted}
 use Rattle.fm_bits.specs.Text.{pattern_text}
 use Rattle.fm_model.specs.declared.proto.Proto.{Proto}

@@ -2,9 +2,9 @@
 -- coordinate and standard names).
 use Rattle.std.specs.Prelude.{ℕ, List, [], ◌∷◌, ◌++◌, codes, map, if◌then◌else◌, ℤ}
 use Rattle.std.specs.Str.{bytes_eq}
-use Rattle.fm_base.specs.declared.header.Attr.{Attr}
-use Rattle.fm_base.specs.declared.kind.Kind.TheVariants.{Char}
-use Rattle.fm_base.specs.Instant.{instant_text_of}
+use Rattle.nc_model.specs.declared.header.Attr.{Attr}
+use Rattle.nc_model.specs.declared.kind.Kind.TheVariants.{Char}
+use Rattle.nc_model.specs.Instant.{instant_text_of}
 use Rattle.fm_model.specs.declared.proto.Proto.{Proto}
 use Rattle.fm_model.specs.declared.proto.ProtoVar.{ProtoVar}
 use Rattle.fm_model.specs.declared.row.ViewName.{ViewName}

@@ -1,26 +1,15 @@
 //! The line of an attribute.
 ghost use Rattle.std.specs.Prelude.{◌≡◌, ◌++◌, OnOk};
-ghost use Rattle.fm_model.specs.Attribute.{trimmed};
 ghost use Rattle.dap_das.specs.AttributeText as spec;
 
-use crate::line::put_indent;
 use crate::name::put_name;
 use crate::number::{put_numbers, value_count};
-use fm_base::{Attr, Bytes, Kind, NoMemory};
+use dap_dds::put_indent;
+use fm_base::{Bytes, NoMemory};
 use fm_bits::put_quoted;
+use fm_file::trimmed;
+use nc_model::{Attr, Kind};
 use std::alloc::Global;
-
-// Some bytes without the zero bytes at their end.
-#[tactic(auto, unfolding(fm_model::specs::Attribute::trimmed))]
-fn trimmed(bytes: &[u8]) -> &[u8]
-    ensures { result.now ≡ trimmed bytes.now }
-{
-    let mut len = bytes.len();
-    while len > 0 && bytes[len - 1] == 0 {
-        len -= 1;
-    }
-    &bytes[..len]
-}
 
 // Writes the word of a kind.
 #[tactic(auto, unfolding(crate::specs::AttributeText::kind_word))]

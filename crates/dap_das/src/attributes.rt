@@ -1,10 +1,11 @@
 //! The attributes of what the views add to a prototype's variables.
 ghost use Rattle.std.specs.Prelude.{◌≡◌, ◌++◌, ◌∷◌, [], IfOk, OnOk};
-ghost use Rattle.fm_base.specs.Instant.{HasFourDigitYear};
+ghost use Rattle.nc_model.specs.Instant.{HasFourDigitYear};
 ghost use Rattle.dap_das.specs.Attributes as spec;
 
-use fm_base::{Attr, Bytes, Kind, List, NoMemory};
+use fm_base::{Bytes, List, NoMemory};
 use fm_model::{Proto, ViewName};
+use nc_model::{Attr, Kind};
 use std::alloc::Global;
 use tm_units::instant_text;
 

@@ -2,8 +2,9 @@
 ghost use Rattle.std.specs.Prelude.{◌≡◌, ◌<◌, ◌++◌, OnOk};
 ghost use Rattle.dap_das.specs.AttributeText as spec;
 
-use fm_base::{Bytes, Kind, NoMemory};
+use fm_base::{Bytes, NoMemory};
 use fm_bits::{pattern_at, text_of};
+use nc_model::Kind;
 use std::alloc::Global;
 
 // How many values of a kind some bytes are.

@@ -1,14 +1,16 @@
 //! The attribute text.
 ghost use Rattle.std.specs.Prelude.{◌≡◌, ◌++◌, map, OnOk, OnErr};
-ghost use Rattle.fm_base.specs.Instant.{HasFourDigitYear};
+ghost use Rattle.nc_model.specs.Instant.{HasFourDigitYear};
 ghost use Rattle.dap_das.specs.Attributes as attributes;
 ghost use Rattle.dap_das.specs.AttributeText as spec;
 
 use crate::attribute::put_attributes;
 use crate::attributes::{axis_attributes, offset_attributes, run_attributes};
-use crate::line::{put_line, put_open};
-use fm_base::{Attr, Bytes, NoMemory};
+use crate::line::put_open;
+use dap_dds::put_line;
+use fm_base::{Bytes, NoMemory};
 use fm_model::{Proto, ProtoVar, ViewName};
+use nc_model::Attr;
 use std::alloc::Global;
 
 // Writes a name and its attributes.
@@ -134,8 +136,8 @@ fn put_last_line(out: &mut Bytes) -> Result<(), NoMemory>
 
 /// Writes the attribute text (ESE-RFC-004, DAS) of a view of this prototype's collection at the end of `out`:
 /// `Attributes {`, a container for each declaration, `NC_GLOBAL` with the prototype's global attributes, and `}`, with
-/// LF after each line. The axis, the runs and the offsets have the view's attributes, and any other variable those of the
-/// prototype. An attribute of characters is one quoted String without the zero bytes at its end, and one of numbers
+/// LF after each line. The axis, the runs and the offsets have the view's attributes, and any other variable those of
+/// the prototype. An attribute of characters is one quoted String without the zero bytes at its end, and one of numbers
 /// without values is left out. The caller has an epoch in the years 0 to 9999. An `Err` changes nothing.
 #[tactic(auto, unfolding(crate::specs::AttributeText::das_of))]
 pub fn das_text_of(

@@ -7,7 +7,8 @@ use Rattle.std.proofs.lemmas.List.Folds.{length-flat_map-take}
 
 -- a number below ten is one digit
 pub one_digit : (n : ℕ) → n < 10 → length (decimal n) ≡ 1
-one_digit n small = omega (arith, decimal_nonempty n (omega arith), length-decimal-le 1 n (omega arith) small (omega arith))
+one_digit n small =
+    omega (arith, decimal_nonempty n (omega arith), length-decimal-le 1 n (omega arith) small (omega arith))
 
 -- a number from ten on has one digit more than its tenth
 pub one_digit_more : (n : ℕ) → 10 ≤ n → n < 2 ^ 64 → length (decimal n) ≡ length (decimal (n / 10)) + 1

@@ -4,7 +4,8 @@ ghost use Rattle.std.specs.Fmt.{decimal};
 ghost use Rattle.dap_model.specs.StructureText as text;
 
 use dap_model::{Array, DapKind, Decl};
-use fm_base::{Dim, List};
+use fm_base::List;
+use nc_model::Dim;
 
 // How many digits a number has.
 #[tactic(auto, using(crate::proofs::Lengths::one_digit, crate::proofs::Lengths::one_digit_more, crate::proofs::Lengths::few_digits))]

@@ -1,8 +1,10 @@
-//! The structure text of a dataset and its length.
+//! The structure text of a dataset and its length; lines of fixed words.
 #![tactic(auto)]
 
 mod length;
+mod line;
 mod text;
 
 pub use length::dds_len;
+pub use line::{put_indent, put_line};
 pub use text::dds_text;

@@ -2,8 +2,10 @@
 ghost use Rattle.std.specs.Prelude.{◌≡◌, ◌<◌, ◌++◌, OnOk, OnErr};
 ghost use Rattle.dap_model.specs.StructureText as text;
 
+use crate::line::{put_indent, put_line};
 use dap_model::{Array, DapKind, Decl};
-use fm_base::{Bytes, Dim, List, NoMemory, put_decimal};
+use fm_base::{Bytes, List, NoMemory, put_decimal};
+use nc_model::Dim;
 use std::alloc::Global;
 
 // The word of a kind.
@@ -19,18 +21,6 @@ fn put_kind(kind: DapKind, out: &mut Bytes) -> Result<(), NoMemory>
         DapKind::Float64 => out.append(b"Float64"),
         DapKind::Text => out.append(b"String"),
     }
-}
-
-// Four spaces for each level.
-#[tactic(auto, unfolding(dap_model::specs::StructureText::indent))]
-fn put_indent(depth: u32, out: &mut Bytes) -> Result<(), NoMemory>
-    requires { depth < 8 }
-    ensures { OnOk result (out.new ≡ out.old ++ text.indent depth) }
-{
-    for _space in 0..4 * depth {
-        out.push(b' ')?;
-    }
-    Ok(())
 }
 
 // A dimension with its length.
@@ -80,17 +70,6 @@ fn put_arrays(alloc: Global, arrays: &[Array], depth: u32, out: &mut Bytes) -> R
         put_array(alloc, array, depth, out)?;
     }
     Ok(())
-}
-
-// A line of these words.
-#[tactic(auto, unfolding(dap_model::specs::StructureText::line_text))]
-fn put_line(depth: u32, words: &[u8], out: &mut Bytes) -> Result<(), NoMemory>
-    requires { depth < 8 }
-    ensures { OnOk result (out.new ≡ out.old ++ text.line_text depth words.now) }
-{
-    put_indent(depth, out)?;
-    out.append(words)?;
-    out.append(b"\n")
 }
 
 // The line that ends a declaration of several lines.

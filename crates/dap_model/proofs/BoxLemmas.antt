@@ -5,7 +5,7 @@ use Rattle.std.proofs.lemmas.List.{get_or_append_left, get_or-append-add, get_or
 use Rattle.std.proofs.Math.Nat.{mul_comm}
 use Rattle.std.proofs.lemmas.List.Elements.{All-tail}
 use Rattle.std.proofs.lemmas.Nat.{div-add-mod', div-mul-add, mod-mul-add, div_below, mod_below, mul-add-lt}
-use Rattle.fm_base.specs.Layout.{product, indices_of}
+use Rattle.nc_model.specs.Layout.{product, indices_of}
 use Rattle.dap_model.specs.declared.projection.Slab.{Slab}
 use Rattle.dap_model.specs.Box.{HasStride, slab_count, slab_index, slab_indices, box_of, box_len, index_at, whole_slab, EachPicks}
 use Rattle.dap_model.proofs.SlabLemmas.{length-slab_indices, get_or-slab_indices, same_strides, Picks-slab_index, strides_within, slab_count-whole, slab_indices-whole}
@@ -39,6 +39,7 @@ get_or-rows (i ∷ firsts) box (suc q) r d within below =
     ∙ get_or-append-add row (rows firsts box) (q * length box + r) d
     ∙ get_or-rows firsts box q r d (omega arith) below
 
+-- a box has as many index lists as its slabs say
 pub length-box_of : (slabs : List Slab) → length (box_of slabs) ≡ box_len slabs
 unfolding box_of box_len product
 length-box_of [] = refl
@@ -61,6 +62,7 @@ pub record Split (count width place : ℕ) : Type 0 where
   pub second : place % width < width
   pub whole : place / width * width + place % width ≡ place
 
+-- the quotient and the remainder of a number below a product
 pub split_of : (count width place : ℕ) → place < count * width → Split count width place
 split_of count zero place within = absurd (omega arith)
 split_of count (suc width) place within = record {
@@ -173,3 +175,13 @@ pub box_len-whole : (shape : List ℕ) → box_len (map whole_slab shape) ≡ pr
 unfolding box_len product
 box_len-whole [] = refl
 box_len-whole (size ∷ shape) = ap₂ (λ (m n : ℕ). m * n) (slab_count-whole size) (box_len-whole shape)
+
+-- an index list has an index for each slab
+pub length-index_at : (slabs : List Slab) (place : ℕ) → length (index_at slabs place) ≡ length slabs
+unfolding index_at
+length-index_at [] place = refl
+length-index_at (slab ∷ slabs) place = ap suc (length-index_at slabs (place % box_len slabs))
+
+-- the slab of a dimension by its number, or one that is never read
+abbrev pub slab_at : List Slab → ℕ → Slab
+slab_at slabs at = get_or slabs at (record { start = 0; stride = 0; stop = 0 })

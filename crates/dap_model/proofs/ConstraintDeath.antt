@@ -2,11 +2,11 @@
 use Rattle.std.proofs.Common.{◌≡◌, ◌⊎◌, ℕ, suc, ◌+◌, ◌<◌, List, [], ◌∷◌, ◌++◌, length, take, slice_get, Option, Some, None, Err, refl, sym, ap, ap₂, subst, ◌∙◌, append_assoc, append-nil, inl, inr, arith, zero}
 use Rattle.std.specs.Option.{option_map_or}
 use Rattle.std.proofs.lemmas.Option.{none-some, same_Some, option_and_then_some}
+use Rattle.fm_base.proofs.OptionLemmas.{cases_Option}
 use Rattle.dap_model.specs.ConstraintReading.{State, front, step, clauses_at, fault_at, ended_at, read_from}
 use Rattle.dap_model.proofs.ConstraintLeads.{Leads-step}
 use Rattle.dap_model.proofs.ConstraintRuns.{run, run-cons}
 use Rattle.dap_model.proofs.ConstraintStates.{Leads}
-use Rattle.dap_model.proofs.ListLemmas.{cases_Option}
 
 -- reading goes on up to a place and dies of the byte there
 pub record Dies (state : State) (text : List ℕ) : Type 0 where

@@ -4,7 +4,7 @@ use Rattle.std.proofs.lemmas.Bool.{and_from, eqb-true}
 use Rattle.std.proofs.lemmas.List.{length-append}
 use Rattle.std.proofs.lemmas.List.Folds.{list_all-append}
 use Rattle.std.proofs.lemmas.Option.{none-some}
-use Rattle.fm_base.specs.Spelling.{Spelled}
+use Rattle.nc_model.specs.Spelling.{Spelled}
 use Rattle.dap_model.specs.declared.projection.Slab.{Slab}
 use Rattle.fm_base.specs.Name.{is_name_byte}
 use Rattle.dap_model.specs.Constraint.{SpellsName, SpellsSlab, SpellsClause}

@@ -6,7 +6,7 @@ use Rattle.std.proofs.lemmas.Bool.{and_parts, and_from, ltb-true, eqb-true}
 use Rattle.std.proofs.lemmas.List.{length-append}
 use Rattle.std.proofs.lemmas.List.Folds.{list_all-append}
 use Rattle.std.proofs.lemmas.Option.{none-some, option_and_then_some}
-use Rattle.fm_base.specs.Stamp.{number_after}
+use Rattle.nc_model.specs.Stamp.{number_after}
 use Rattle.dap_model.specs.declared.projection.Slab.{Slab}
 use Rattle.dap_model.specs.Constraint.{slab_of, SpellsNumber, SpellsSlab}
 use Rattle.dap_model.specs.ConstraintReading.{Begun, State, in_number, after_slab, with_slab, step_close, step_number}

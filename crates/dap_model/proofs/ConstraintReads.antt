@@ -2,7 +2,7 @@
 use Rattle.std.proofs.Common.{◌≡◌, ℕ, ◌≤◌, List, [], ◌∷◌, ◌++◌, length, Option, Some, refl, sym, ap, subst, ◌∙◌, append_assoc, append-nil, inl, inr, arith}
 use Rattle.std.specs.Option.{option_map}
 use Rattle.std.proofs.lemmas.Option.{none-some, same_Some}
-use Rattle.fm_base.specs.Spelling.{Spelled}
+use Rattle.nc_model.specs.Spelling.{Spelled}
 use Rattle.dap_model.specs.declared.projection.Clause.{Clause}
 use Rattle.dap_model.specs.declared.projection.Slab.{Slab}
 use Rattle.fm_base.specs.Name.{is_name_byte}

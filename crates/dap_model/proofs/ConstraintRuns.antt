@@ -6,7 +6,7 @@ use Rattle.std.specs.Option.{option_and_then}
 use Rattle.std.proofs.lemmas.Bool.{cond-true, and_parts, and_from, lt-ltb}
 use Rattle.std.proofs.lemmas.List.{length-append}
 use Rattle.std.proofs.lemmas.Option.{option_and_then_some, same_Some}
-use Rattle.fm_base.specs.Stamp.{number_after}
+use Rattle.nc_model.specs.Stamp.{number_after}
 use Rattle.fm_base.specs.Name.{is_name_byte}
 use Rattle.dap_model.specs.Constraint.{Separated, SpellsName, SpellsNumber}
 use Rattle.dap_model.specs.ConstraintReading.{Begun, State, before_name, in_name, before_number, in_number, with_name, step_to_name, step_name, step_number, step}

@@ -7,6 +7,7 @@ use Rattle.std.proofs.lemmas.Bool.{cases_Bool, cond-true, cond-false, true≢fal
 use Rattle.std.proofs.lemmas.Option.{none-some, same_Some}
 use Rattle.std.proofs.lemmas.Slice.Eq.{slice_eq-Decides}
 use Rattle.std.specs.Option.{option_or}
+use Rattle.fm_base.proofs.OptionLemmas.{cases_Option}
 use Rattle.dap_model.specs.ClauseFaults.{conflict_fault, decl_fault, clause_fault, fault_in, is_same_slab, are_other}
 use Rattle.dap_model.specs.FaultFacts.{written_path, IsNamedBy, HasDims, IsFirstOutside, Conflicts, HasNoClauseFault, HasClauseFault}
 use Rattle.dap_model.specs.Picking.{name_of, parts_of, picked_by, picked_dims, given_by, decl_named}
@@ -17,7 +18,7 @@ use Rattle.dap_model.specs.declared.projection.Clause.{Clause}
 use Rattle.dap_model.specs.declared.projection.Slab.{Slab}
 use Rattle.dap_model.proofs.FaultNameLemmas.{IsNamedBy-decl_named, unnamed, HasDims-picked}
 use Rattle.dap_model.proofs.FaultSlabLemmas.{HasRank-ranked, rank_fault-some, range_fault-none, range_fault-some}
-use Rattle.dap_model.proofs.ListLemmas.{Has-from_contains, contains_from_Has, some_passes, within_range, cases_Option}
+use Rattle.dap_model.proofs.ListLemmas.{Has-from_contains, contains_from_Has, some_passes, within_range}
 use Rattle.dap_model.proofs.PickingLemmas.{picked_if_named}
 use Rattle.dap_model.proofs.ProjectionAgreeLemmas.{same_slab, agreed, no_conflict}
 use Rattle.dap_model.proofs.ProjectionFaultLemmas.{both_none}

@@ -2,7 +2,7 @@
 use Rattle.std.proofs.Common.{◌≡◌, ◌≢◌, ℕ, zero, suc, ◌+◌, ◌<◌, true, ◌||◌, ◌==◌, List, [], ◌∷◌, length, slice_get, Some, None, refl, sym, ap, subst, ◌∙◌, inl, inr, arith}
 use Rattle.std.proofs.lemmas.Bool.{cases_Bool, cond-true, cond-false, and_parts, and_from, or_parts, true≢false, eq-eqb, le-leb, lt-ltb, leb-true, ltb-true}
 use Rattle.std.proofs.lemmas.Option.{none-some, same_Some}
-use Rattle.fm_base.specs.declared.header.Dim.{Dim}
+use Rattle.nc_model.specs.declared.header.Dim.{Dim}
 use Rattle.dap_model.specs.ClauseFaults.{rank_fault, is_within, range_fault}
 use Rattle.dap_model.specs.FaultFacts.{HasRank, LiesBelow, LieWithin, IsFirstOutside}
 use Rattle.dap_model.specs.declared.fault.ProjectFault.{ProjectFault}

@@ -1,15 +1,16 @@
 -- What is in a list, by recursion on the list, and which items give it.
 use Rattle.std.proofs.Common.{◌≡◌, ◌⊎◌, ℕ, zero, suc, ◌+◌, ◌<◌, ◌≤◌, Bool, true, false, List, [], ◌∷◌, ◌++◌, length, get_or, slice_get, Option, Some, None, refl, sym, ap, ap₂, subst, ◌∙◌, inl, inr, arith, add-zero, map}
 use Rattle.std.specs.List.{Contains, enumerate_from, filter_map, flat_map, list_any, range_with_len}
-use Rattle.std.specs.Option.{option_map}
 use Rattle.std.proofs.lemmas.Bool.{or_parts, or_cases, or_left, or_right, cases_eq, true≢false}
 use Rattle.std.proofs.lemmas.Option.{none-some, same_Some}
+use Rattle.fm_base.proofs.OptionLemmas.{cases_Option}
 
 -- the item is in the list
 abbrev pub Has : {A : Type 0} → List A → A → Type 0
 Has [] x = ⊥
 Has (y ∷ ys) x = (y ≡ x) ⊎ Has ys x
 
+-- a list has the item at each index below its length
 pub Has-at : {A : Type 0} (xs : List A) (k : ℕ) (d : A) → k < length xs → Has xs (get_or xs k d)
 Has-at [] k d within = absurd (omega arith)
 Has-at (x ∷ xs) zero d within = inl refl
@@ -18,12 +19,14 @@ Has-at (x ∷ xs) (suc k) d within = inr (Has-at xs k d (omega arith))
 pub Has-from_contains : {A : Type 0} (xs : List A) (x : A) → Contains xs x → Has xs x
 Has-from_contains xs x found = subst (Has xs) found.2 (Has-at xs found.0 x found.1)
 
+-- a list contains an item that it has
 pub contains_from_Has : {A : Type 0} (xs : List A) (x : A) → Has xs x → Contains xs x
 contains_from_Has [] x has = absurd has
 contains_from_Has (y ∷ ys) x (inl same) = (0, omega arith, same)
 contains_from_Has (y ∷ ys) x (inr has) =
     let found = contains_from_Has ys x has in (suc found.0, omega (arith, found.1), found.2)
 
+-- a list has the item at an index
 pub Has-slice_get : {A : Type 0} (xs : List A) (k : ℕ) (x : A) → slice_get xs k ≡ Some x → Has xs x
 Has-slice_get [] k x e = absurd (none-some x e)
 Has-slice_get (y ∷ ys) zero x e = inl (same_Some y x e)
@@ -67,11 +70,6 @@ Has-flat_map f (z ∷ xs) x y (inl same) gives =
     Has-left (f z) (flat_map f xs) y (subst (λ w. Has (f w) y) (sym same) gives)
 Has-flat_map f (z ∷ xs) x y (inr has) gives = Has-right (f z) (flat_map f xs) y (Has-flat_map f xs x y has gives)
 
--- something or nothing
-pub cases_Option : {A : Type 0} (o : Option A) → (o ≡ None) ⊎ ((x : A) × (o ≡ Some x))
-cases_Option None = inl refl
-cases_Option (Some x) = inr (x, refl)
-
 -- a front item that gives something, and one that gives nothing
 pub filter_map-some : {A B : Type 0} (h : A → Option B) (x : A) (xs : List A) (y : B) → h x ≡ Some y
     → filter_map h (x ∷ xs) ≡ y ∷ filter_map h xs
@@ -81,6 +79,7 @@ pub filter_map-none : {A B : Type 0} (h : A → Option B) (x : A) (xs : List A) 
     → filter_map h (x ∷ xs) ≡ filter_map h xs
 filter_map-none h x xs e = rw e refl
 
+-- an item of a list that was made comes from an item of the list
 pub Source-filter_map : {A B : Type 0} (h : A → Option B) (xs : List A) (y : B) → Has (filter_map h xs) y
     → Source (λ x z. h x ≡ Some z) xs y
 Source-filter_map h [] y has = absurd has
@@ -175,8 +174,3 @@ pub map-map : {A B C : Type 0} (f : B → C) (g : A → B) (h : A → C) (xs : L
     → map f (map g xs) ≡ map h xs
 map-map f g h [] same = refl
 map-map f g h (x ∷ xs) same = ap₂ (λ y l. y ∷ l) (same x) (map-map f g h xs same)
-
-pub mapped_some : {A B : Type 0} (f : A → B) (o : Option A) (y : B) → option_map f o ≡ Some y
-    → (x : A) × (o ≡ Some x) × (f x ≡ y)
-mapped_some f None y e = absurd (none-some y e)
-mapped_some f (Some x) y e = (x, refl, same_Some (f x) y e)

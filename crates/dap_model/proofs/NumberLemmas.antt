@@ -4,7 +4,7 @@ use Rattle.std.specs.Char.{is_ascii_digit}
 use Rattle.std.specs.List.{list_all}
 use Rattle.std.proofs.Math.Nat.{pow-suc, pow-le-pow_right}
 use Rattle.std.proofs.lemmas.Bool.{and_parts, leb-true}
-use Rattle.fm_base.specs.Stamp.{number_after}
+use Rattle.nc_model.specs.Stamp.{number_after}
 use Rattle.dap_model.specs.Constraint.{SpellsNumber}
 
 -- one digit more

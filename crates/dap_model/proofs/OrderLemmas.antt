@@ -1,7 +1,8 @@
 -- Lists in which each item stands before the later ones.
 use Rattle.std.proofs.Common.{◌≡◌, ℕ, zero, suc, ◌+◌, ◌<◌, List, [], ◌∷◌, ◌++◌, length, get_or, Option, Some, refl, sym, subst, inl, inr, arith}
 use Rattle.std.specs.List.{AllPairs, enumerate_from, filter_map, flat_map, range_with_len}
-use Rattle.dap_model.proofs.ListLemmas.{Has, Has-at, contains_from_Has, Has-either, Source-flat_map, cases_Option, filter_map-some, filter_map-none, Source-filter_map, within_range, slice_get-numbered}
+use Rattle.fm_base.proofs.OptionLemmas.{cases_Option}
+use Rattle.dap_model.proofs.ListLemmas.{Has, Has-at, contains_from_Has, Has-either, Source-flat_map, filter_map-some, filter_map-none, Source-filter_map, within_range, slice_get-numbered}
 
 -- each item stands before each later one
 abbrev pub Ordered : {A : Type 0} → (A → A → Type 0) → List A → Type 0

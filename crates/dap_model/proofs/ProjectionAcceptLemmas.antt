@@ -20,6 +20,7 @@ accepted_from : (first : Projected) (fault : Option ProjectFault) (projected : P
 accepted_from first None projected e = (refl, cc)
 accepted_from first (Some fault) projected e = absurd (cc)
 
+-- a projection that has no fault is accepted
 pub Accepted-projection_of : (decls : List Decl) (clauses : List Clause) (projected : Projected)
     → projection_of decls clauses ≡ Ok projected → Accepted decls clauses projected
 unfolding projection_of

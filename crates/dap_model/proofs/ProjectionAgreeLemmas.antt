@@ -7,6 +7,7 @@ use Rattle.std.specs.Str.{bytes_eq}
 use Rattle.std.proofs.lemmas.Bool.{cases_Bool, cond-true, cond-false, and_parts, and_from, true≢false, eqb-true, eq-eqb, not-false}
 use Rattle.std.proofs.lemmas.Option.{none-some, same_Some}
 use Rattle.std.proofs.lemmas.Slice.Eq.{slice_eq-Decides, bytes_eq-Decides}
+use Rattle.fm_base.proofs.OptionLemmas.{cases_Option}
 use Rattle.dap_model.specs.declared.declaration.Decl.{Decl}
 use Rattle.dap_model.specs.declared.projection.Clause.{Clause}
 use Rattle.dap_model.specs.declared.projection.Slab.{Slab}
@@ -14,7 +15,7 @@ use Rattle.dap_model.specs.ClauseFaults.{rank_fault, range_fault, conflict_fault
 use Rattle.dap_model.specs.Picking.{name_of, parts_of, Picked, nothing, every, only, picked_by, is_picked, slabs_for, given_by, decl_named, picked_dims}
 use Rattle.dap_model.specs.Projection.{slabs_of}
 use Rattle.dap_model.specs.ProjectionFacts.{AreNamedApart}
-use Rattle.dap_model.proofs.ListLemmas.{Has, Has-left, Has-right, Has-range, Has-slice_get, Source-filter_map, filter_map-some, filter_map-none, none_passes, cases_Option}
+use Rattle.dap_model.proofs.ListLemmas.{Has, Has-left, Has-right, Has-range, Has-slice_get, Source-filter_map, filter_map-some, filter_map-none, none_passes}
 use Rattle.dap_model.proofs.OrderLemmas.{Ordered, Ordered-from_pairs}
 use Rattle.dap_model.proofs.ProjectionFaultLemmas.{both_none}
 

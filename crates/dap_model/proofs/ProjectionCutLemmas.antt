@@ -3,7 +3,8 @@ use Rattle.std.proofs.Common.{◌≡◌, ℕ, suc, ◌+◌, Bool, true, false, L
 use Rattle.std.specs.List.{AllZip, enumerate_from, filter_map, flat_map, range_with_len, zip}
 use Rattle.std.specs.Option.{option_map}
 use Rattle.std.proofs.lemmas.Bool.{cases_Bool, cond-true, cond-false, true≢false}
-use Rattle.fm_base.specs.declared.header.Dim.{Dim}
+use Rattle.nc_model.specs.declared.header.Dim.{Dim}
+use Rattle.fm_base.proofs.OptionLemmas.{mapped_some, cases_Option}
 use Rattle.dap_model.specs.declared.declaration.Array.{Array}
 use Rattle.dap_model.specs.declared.declaration.Decl.{Decl}
 use Rattle.dap_model.specs.declared.declaration.Decl.TheVariants.{Plain, Grid, Structure}
@@ -15,7 +16,7 @@ use Rattle.dap_model.specs.Picking.{parts_of, picked_by, is_picked}
 use Rattle.dap_model.specs.Projection.{with_slabs, slabs_of, sent_of, cut_array, cut_parts, is_sent, is_kept, rebuilt, decl_sent, all_sent}
 use Rattle.dap_model.specs.ProjectionFacts.{IsCut, array_lengths}
 use Rattle.dap_model.proofs.WholeClauseLemmas.{is_sent-all}
-use Rattle.dap_model.proofs.ListLemmas.{Has, Source-filter_map, filter_map-some, filter_map-none, none_passes, cases_Option, mapped_some}
+use Rattle.dap_model.proofs.ListLemmas.{Has, Source-filter_map, filter_map-some, filter_map-none, none_passes}
 use Rattle.dap_model.proofs.ProjectionAgreeLemmas.{picked_if_given, given-slabs_of}
 
 -- each slab leaves its count

@@ -3,16 +3,12 @@ use Rattle.std.proofs.Common.{◌≡◌, ℕ, zero, suc, ◌<◌, List, [], ◌�
 use Rattle.std.proofs.lemmas.Bool.{cases_order}
 use Rattle.std.proofs.lemmas.Option.{none-some, same_Some}
 use Rattle.std.specs.Option.{option_or}
+use Rattle.fm_base.proofs.OptionLemmas.{first_some, cases_Option}
 use Rattle.dap_model.specs.declared.declaration.Decl.{Decl}
 use Rattle.dap_model.specs.declared.fault.ProjectFault.{ProjectFault}
 use Rattle.dap_model.specs.declared.projection.Clause.{Clause}
 use Rattle.dap_model.specs.ClauseFaults.{clause_fault, first_fault}
 use Rattle.dap_model.specs.ProjectionFacts.{HasNoFault, IsFirstFault}
-use Rattle.dap_model.proofs.ListLemmas.{cases_Option}
-
--- the first of two faults
-pub first_some : {A : Type 0} (first second : Option A) (a : A) → first ≡ Some a → option_or first second ≡ Some a
-first_some first second a e = ap (λ o. option_or o second) e
 
 pub first_none : {A : Type 0} (first second : Option A) → first ≡ None → option_or first second ≡ second
 first_none first second e = ap (λ o. option_or o second) e

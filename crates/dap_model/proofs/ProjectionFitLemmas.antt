@@ -4,7 +4,8 @@ use Rattle.std.specs.List.{AllZip}
 use Rattle.std.specs.Option.{option_map, option_map_or}
 use Rattle.std.proofs.lemmas.Bool.{cases_Bool, cond-true, cond-false, and_parts, or_cases, eqb-true, leb-true, ltb-true}
 use Rattle.std.proofs.lemmas.Option.{none-some, same_Some, slice_get-map}
-use Rattle.fm_base.specs.declared.header.Dim.{Dim}
+use Rattle.nc_model.specs.declared.header.Dim.{Dim}
+use Rattle.fm_base.proofs.OptionLemmas.{mapped_some}
 use Rattle.dap_model.specs.declared.declaration.Array.{Array}
 use Rattle.dap_model.specs.declared.declaration.Decl.{Decl}
 use Rattle.dap_model.specs.declared.declaration.Decl.TheVariants.{Plain, Grid, Structure}
@@ -15,7 +16,6 @@ use Rattle.dap_model.specs.ClauseFaults.{path_text, rank_fault, is_within, range
 use Rattle.dap_model.specs.Picking.{parts_of, dims_of, part_dims, Picked, nothing, every, only, picked_by, whole_slabs, or_whole, spread, slabs_for, given_by, picked_dims}
 use Rattle.dap_model.specs.ProjectionFacts.{IsGridded, FitsDim}
 use Rattle.dap_model.proofs.SlabLemmas.{whole_slab-some}
-use Rattle.dap_model.proofs.ListLemmas.{mapped_some}
 use Rattle.dap_model.proofs.ProjectionAgreeLemmas.{Sound}
 use Rattle.dap_model.proofs.WholeClauseLemmas.{no_spread}
 

@@ -4,6 +4,7 @@ use Rattle.std.specs.List.{All, AllZip, enumerate_from, range_with_len}
 use Rattle.std.specs.Option.{option_map}
 use Rattle.std.proofs.lemmas.List.Elements.{All-contains}
 use Rattle.std.proofs.lemmas.Option.{same_Some}
+use Rattle.fm_base.proofs.OptionLemmas.{mapped_some}
 use Rattle.dap_model.specs.declared.declaration.Decl.{Decl}
 use Rattle.dap_model.specs.declared.projection.Clause.{Clause}
 use Rattle.dap_model.specs.declared.projection.Sent.{Sent}
@@ -14,7 +15,7 @@ use Rattle.dap_model.specs.ProjectionFacts.{AreNamedApart, IsGridded, StandsBefo
 use Rattle.dap_model.proofs.ProjectionAgreeLemmas.{Sound, Sound-from_none, decl_named-is, picked_if_given, Faultless, Faultless-first, slabs_of-given, given-slabs_of}
 use Rattle.dap_model.proofs.ProjectionFitLemmas.{whole_slabs-fit, given-fit}
 use Rattle.dap_model.proofs.WholeClauseLemmas.{slabs_of-all}
-use Rattle.dap_model.proofs.ListLemmas.{Has, Has-slice_get, Has-from_contains, contains_from_Has, Has-flat_map, Source-flat_map, Has-filter_map, Source-filter_map, within_range, Has-range, slice_get-numbered, Has-numbered, mapped_some}
+use Rattle.dap_model.proofs.ListLemmas.{Has, Has-slice_get, Has-from_contains, contains_from_Has, Has-flat_map, Source-flat_map, Has-filter_map, Source-filter_map, within_range, Has-range, slice_get-numbered, Has-numbered}
 use Rattle.dap_model.proofs.OrderLemmas.{Ordered, Ordered-from_pairs, Ordered-filter_map, Ordered-flat_map, Ordered-range, Ordered-numbered}
 
 -- a part that is sent
@@ -58,6 +59,7 @@ Has-sent_of clauses placed sent s =
     ∙ ap (λ (place : ℕ). Some (with_slabs place sent.part sent.slabs))
     (sym s.place_is))
 
+-- each part that is sent has the facts of one
 pub PartSent-all_sent : (decls : List Decl) (clauses : List Clause) (sent : Sent)
     → Has (all_sent decls clauses).sent sent → PartSent decls clauses sent
 unfolding all_sent

@@ -1,6 +1,6 @@
 -- Items with a byte after each, and one more item at the end.
 use Rattle.std.proofs.Common.{◌≡◌, ℕ, List, [], ◌∷◌, ◌++◌, refl, sym, ap, subst, ◌∙◌, append_assoc, append-nil}
-use Rattle.fm_base.specs.Spelling.{Spelled}
+use Rattle.nc_model.specs.Spelling.{Spelled}
 use Rattle.dap_model.specs.Constraint.{Separated}
 
 -- an item and the byte after it

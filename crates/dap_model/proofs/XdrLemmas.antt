@@ -7,11 +7,12 @@ use Rattle.std.proofs.lemmas.List.Sums.{sum_by-cons}
 use Rattle.std.proofs.Math.Nat.{mul_comm}
 use Rattle.std.proofs.lemmas.Nat.{mul-add-lt}
 use Rattle.std.proofs.lemmas.Option.{slice_get-get_or}
-use Rattle.fm_base.specs.Format.{padded_len}
+use Rattle.nc_model.specs.Format.{padded_len}
 use Rattle.dap_model.specs.declared.declaration.DapKind.{DapKind}
 use Rattle.dap_model.specs.declared.declaration.DapKind.TheVariants.{Byte, Int16, Int32, Float32, Float64, Text}
 use Rattle.dap_model.specs.Xdr.{number_bytes, elements_bytes, count_twice, array_bytes, text_bytes, texts_bytes, zeros_after, number_len, element_bytes, element_len, elements_len, text_len, texts_len}
 
+-- the length of a number in XDR
 pub length-number_bytes : (kind : DapKind) (bits : ℕ) → length (number_bytes kind bits) ≡ number_len kind
 unfolding number_bytes number_len
 length-number_bytes Byte bits = refl
@@ -21,6 +22,7 @@ length-number_bytes Float32 bits = refl
 length-number_bytes Float64 bits = refl
 length-number_bytes Text bits = refl
 
+-- the length of an element in XDR
 pub length-element_bytes : (kind : DapKind) (bits : ℕ) → length (element_bytes kind bits) ≡ element_len kind
 unfolding element_bytes element_len number_bytes
 length-element_bytes Byte bits = refl
@@ -98,6 +100,7 @@ length-elements_bytes kind numbers =
     (length-pieces (element_bytes kind) (element_len kind) (length-element_bytes kind) numbers)
     ∙ length-zeros_after bytes
 
+-- the length of an array in XDR
 pub length-array_bytes : (kind : DapKind) (numbers : List ℕ)
     → length (array_bytes kind numbers) ≡ 8 + elements_len kind (length numbers)
 unfolding array_bytes count_twice
@@ -125,6 +128,7 @@ get_or-array_bytes kind numbers place offset within inside =
     ∙ get_or-pieces (element_bytes kind) (element_len kind)
     (length-element_bytes kind) numbers place offset within inside
 
+-- the length of a text in XDR
 pub length-text_bytes : (text : List ℕ) → length (text_bytes text) ≡ text_len (length text)
 unfolding text_bytes
 length-text_bytes text =

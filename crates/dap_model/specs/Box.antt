@@ -1,7 +1,7 @@
 -- The places that slabs pick out of an array (ESE-RFC-004, constraint expressions).
 use Rattle.std.specs.Prelude.{◌≡◌, ℕ, ◌+◌, ◌-◌, ◌*◌, ◌/◌, ◌%◌, ◌≤◌, List, [], ◌∷◌, map, nat_le, ◌==◌, if◌then◌else◌}
 use Rattle.std.specs.List.{flat_map, range_with_len}
-use Rattle.fm_base.specs.Layout.{product}
+use Rattle.nc_model.specs.Layout.{product}
 use Rattle.dap_model.specs.declared.projection.Slab.{Slab}
 
 -- how many indices a slab has: none where its stop is before its start

@@ -4,8 +4,8 @@ use Rattle.std.specs.Prelude.{◌≡◌, ◌⊎◌, ℕ, ◌<◌, ◌≤◌, Lis
 use Rattle.std.specs.Char.{is_ascii_digit}
 use Rattle.std.specs.List.{list_all}
 use Rattle.fm_base.specs.Name.{is_name_byte}
-use Rattle.fm_base.specs.Spelling.{Spelled}
-use Rattle.fm_base.specs.Stamp.{number_of}
+use Rattle.nc_model.specs.Spelling.{Spelled}
+use Rattle.nc_model.specs.Stamp.{number_of}
 use Rattle.dap_model.specs.declared.fault.CeFault.{CeFault}
 use Rattle.dap_model.specs.declared.fault.CeFault.TheVariants.{BadConstraint, Selection}
 use Rattle.dap_model.specs.declared.projection.Clause.{Clause}

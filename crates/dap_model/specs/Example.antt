@@ -1,7 +1,7 @@
 -- A dataset for the examples: the best view of a collection with three times on a grid of two by two.
 use Rattle.std.specs.Prelude.{ℕ, List, [], ◌∷◌, codes, Result}
 use Rattle.std.specs.Result.{result_unwrap_or}
-use Rattle.fm_base.specs.declared.header.Dim.{Dim}
+use Rattle.nc_model.specs.declared.header.Dim.{Dim}
 use Rattle.dap_model.specs.ConstraintReading.{constraint_of}
 use Rattle.dap_model.specs.Projection.{projection_of}
 use Rattle.dap_model.specs.declared.declaration.Array.{Array}

@@ -1,7 +1,7 @@
 -- What a fault of a clause says of the dataset (ESE-RFC-004, constraint expressions).
 use Rattle.std.specs.Prelude.{◌≡◌, ◌≢◌, ◌⊎◌, ℕ, ◌<◌, ◌≤◌, List, [], ◌∷◌, length, slice_get, Contains, Some}
 use Rattle.std.specs.List.{join_with_byte}
-use Rattle.fm_base.specs.declared.header.Dim.{Dim}
+use Rattle.nc_model.specs.declared.header.Dim.{Dim}
 use Rattle.dap_model.specs.Picking.{name_of, named_parts, parts_of, dims_of, given_by}
 use Rattle.dap_model.specs.ProjectionFacts.{Names}
 use Rattle.dap_model.specs.declared.declaration.Array.{Array}

@@ -2,7 +2,7 @@
 use Rattle.std.specs.Prelude.{ℕ, zero, suc, List, [], ◌∷◌, map, take, drop, find, position, Bool, true, false, ◌==◌, if◌then◌else◌, Option, Some, None, slice_get}
 use Rattle.std.specs.Option.{option_map_or}
 use Rattle.std.specs.Str.{bytes_eq}
-use Rattle.fm_base.specs.declared.header.Dim.{Dim}
+use Rattle.nc_model.specs.declared.header.Dim.{Dim}
 use Rattle.dap_model.specs.Box.{whole_slab}
 use Rattle.dap_model.specs.declared.declaration.Array.{Array}
 use Rattle.dap_model.specs.declared.declaration.Decl.{Decl}

@@ -2,7 +2,7 @@
 use Rattle.std.specs.Prelude.{ℕ, List, [], ◌∷◌, length, map, filter, Bool, true, Option, Some, None, Result, Ok, Err, slice_get}
 use Rattle.std.specs.List.{enumerate_from, filter_map, flat_map, list_any, range_with_len, zip}
 use Rattle.std.specs.Option.{option_map}
-use Rattle.fm_base.specs.declared.header.Dim.{Dim}
+use Rattle.nc_model.specs.declared.header.Dim.{Dim}
 use Rattle.dap_model.specs.Box.{slab_count}
 use Rattle.dap_model.specs.declared.declaration.Array.{Array}
 use Rattle.dap_model.specs.declared.declaration.Decl.{Decl}

@@ -1,7 +1,7 @@
 -- What a reader wants to know of a projection: which parts are sent, in which order, and that their slabs fit.
 use Rattle.std.specs.Prelude.{◌≡◌, ◌≢◌, ◌⊎◌, ℕ, ◌<◌, ◌≤◌, List, [], ◌∷◌, length, map, take, slice_get, AllPairs, Contains, Some, None}
 use Rattle.std.specs.List.{AllZip}
-use Rattle.fm_base.specs.declared.header.Dim.{Dim}
+use Rattle.nc_model.specs.declared.header.Dim.{Dim}
 use Rattle.dap_model.specs.Box.{HasStride}
 use Rattle.dap_model.specs.ClauseFaults.{clause_fault}
 use Rattle.dap_model.specs.Picking.{name_of, named_parts, parts_of, part_dims, whole_slabs, given_by}

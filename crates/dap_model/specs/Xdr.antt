@@ -2,7 +2,7 @@
 use Rattle.std.specs.Prelude.{ℕ, ◌+◌, ◌-◌, ◌*◌, ◌^◌, ◌<◌, List, [], ◌∷◌, ◌++◌, length, map, replicate}
 use Rattle.std.specs.Int.{w16, w32, w64, to_be_bytes, cast_signed, cast_unsigned}
 use Rattle.std.specs.List.{flat_map, sum_by}
-use Rattle.fm_base.specs.Format.{padded_len}
+use Rattle.nc_model.specs.Format.{padded_len}
 use Rattle.dap_model.specs.Box.{box_of}
 use Rattle.dap_model.specs.declared.declaration.DapKind.{DapKind}
 use Rattle.dap_model.specs.declared.declaration.DapKind.TheVariants.{Byte, Int16, Int32, Float32, Float64, Text}

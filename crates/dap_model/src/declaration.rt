@@ -1,6 +1,7 @@
 //! Declarations of a dataset (ESE-RFC-004, data model).
 
-use fm_base::{Bytes, Dim, List};
+use fm_base::{Bytes, List};
+use nc_model::Dim;
 
 /// What a value of a DAP array is. `Text` is DAP's `String`.
 #[derive(Clone, Copy, Debug, PartialEq, Eq)]

@@ -1,14 +1,15 @@
 -- What clauses without a fault give to parts can be cut, and its counts fit 64 bits.
-use Rattle.std.proofs.Common.{true, false, ◌≡◌, ℕ, zero, suc, ◌+◌, ◌-◌, ◌<◌, ◌≤◌, ◌^◌, ◌/◌, List, [], ◌∷◌, ◌==◌, map, drop, slice_get, All, Option, Some, sym, ap, subst, ◌∙◌, inl, inr, arith}
+use Rattle.std.proofs.Common.{◌≡◌, ℕ, zero, suc, ◌+◌, ◌-◌, ◌<◌, ◌≤◌, ◌^◌, List, [], ◌∷◌, ◌==◌, map, drop, slice_get, All, Option, Some, sym, ap, subst, ◌∙◌, inl, inr, arith}
 use Rattle.std.proofs.Math.Nat.{div-le_self}
-use Rattle.std.proofs.lemmas.Bool.{cases_Bool, cond-true, cond-false, eqb-false}
+use Rattle.std.proofs.lemmas.Bool.{cases_Bool, cond-true, cond-false}
 use Rattle.std.proofs.lemmas.List.Elements.{All-cons, All-contains, All-drop, All-nil, All-take}
-use Rattle.std.proofs.lemmas.Option.{none-some}
+use Rattle.std.proofs.lemmas.Option.{none-some, same_Some}
 use Rattle.std.specs.List.{filter_map}
 use Rattle.std.specs.Option.{option_map_or}
-use Rattle.fm_base.specs.declared.header.Dim.{Dim}
+use Rattle.nc_model.specs.declared.header.Dim.{Dim}
 use Rattle.dap_model.proofs.ListLemmas.{Has, contains_from_Has, Has-slice_get, Source-filter_map}
-use Rattle.dap_model.specs.Box.{whole_slab}
+use Rattle.dap_model.proofs.SlabLemmas.{count_cases, slab_count-whole}
+use Rattle.dap_model.specs.Box.{slab_count, whole_slab, HasStride}
 use Rattle.dap_model.specs.Picking.{Picked, nothing, every, only, given_by, or_whole, part_dims, parts_of, picked_by, slabs_for, spread, whole_slabs}
 use Rattle.dap_model.specs.Projection.{clauses_for, slabs_of, whole_clause}
 use Rattle.dap_model.specs.declared.declaration.Array.{Array}
@@ -24,14 +25,11 @@ use Rattle.dap_project.proofs.NoteLemmas.{slots_of}
 use Rattle.dap_project.proofs.SentLemmas.{slabs_noted}
 use Rattle.dap_project.proofs.SlotLemmas.{slot_at, slot_from, slot_slabs}
 
-some_is : {A : Type 0} (x y : A) → Some x ≡ Some y → x ≡ y
-some_is x y h = cc
-
 -- what holds of each item holds of the one at a place
 at_place : {A : Type 0} (P : A → Type 0) (xs : List A) (place : ℕ) (x : A) → All P xs
     → slice_get xs place ≡ Some x → P x
 at_place P [] place x all e = absurd cc
-at_place P (y ∷ xs) zero x all e = subst P (some_is y x e) (all 0 y (omega arith))
+at_place P (y ∷ xs) zero x all e = subst P (same_Some y x e) (all 0 y (omega arith))
 at_place P (y ∷ xs) (suc place) x all e =
     at_place P xs place x (λ (k : ℕ) d within. all (suc k) d (omega (arith, within))) e
 
@@ -40,7 +38,7 @@ whole_at : (dims : List Dim) (place : ℕ) (dim : Dim) (slab : Slab) → slice_g
 unfolding whole_slabs
 whole_at [] place dim slab a b = absurd cc
 whole_at (first ∷ dims) zero dim slab a b =
-    sym (some_is (whole_slab first.size) slab b) ∙ ap (λ (d : Dim). whole_slab d.size) (some_is first dim a)
+    sym (same_Some (whole_slab first.size) slab b) ∙ ap (λ (d : Dim). whole_slab d.size) (same_Some first dim a)
 whole_at (first ∷ dims) (suc place) dim slab a b = whole_at dims place dim slab a b
 
 or_whole_cuts : (dims : List Dim) (slabs : List Slab) → All IsCountable slabs → AreCuts dims (or_whole dims slabs)
@@ -60,11 +58,11 @@ given_cuts decl clause part slabs countable e = go (picked_by decl clause.path) 
   go : (picked : Picked) → slabs_for decl clause.slabs part picked ≡ Some slabs → AreCuts (part_dims decl part) slabs
   go nothing h = absurd cc
   go every h =
-      subst (AreCuts (part_dims decl part)) (some_is _ slabs h)
+      subst (AreCuts (part_dims decl part)) (same_Some _ slabs h)
       (or_whole_cuts (part_dims decl part) (spread clause.slabs part) (spread_countable clause.slabs part countable))
   go (only other) h = elim (cases_Bool (other == part)) [
     | inl same ↦
-        subst (AreCuts (part_dims decl part)) (some_is _ slabs (sym (cond-true _ _ _ same) ∙ h))
+        subst (AreCuts (part_dims decl part)) (same_Some _ slabs (sym (cond-true _ _ _ same) ∙ h))
         (or_whole_cuts (part_dims decl part) clause.slabs countable)
     | inr apart ↦ absurd (none-some slabs (sym (cond-false _ _ _ apart) ∙ h))
   ]
@@ -79,7 +77,7 @@ all_for (clause ∷ clauses) decl all = all
 map_at : {A B : Type 0} (f : A → B) (xs : List A) (place : ℕ) (x : A) (y : B) → slice_get xs place ≡ Some x
     → slice_get (map f xs) place ≡ Some y → y ≡ f x
 map_at f [] place x y a b = absurd cc
-map_at f (z ∷ xs) zero x y a b = sym (some_is (f z) y b) ∙ ap f (some_is z x a)
+map_at f (z ∷ xs) zero x y a b = sym (same_Some (f z) y b) ∙ ap f (same_Some z x a)
 map_at f (z ∷ xs) (suc place) x y a b = map_at f xs place x y a b
 
 -- the slabs that a part is sent with
@@ -124,28 +122,21 @@ notes_cut clauses decls all = λ place decl note is_decl is_note.
 
 -- ---- counts
 
-no_index : (size : ℕ) → (size == 0) ≡ true → (whole_slab size).start ≤ (whole_slab size).stop → ⊥
+whole_stride : (size : ℕ) → HasStride (whole_slab size)
 unfolding whole_slab
-no_index size none some =
-    let below : 1 ≤ 0 = subst (λ (s : Slab). s.start ≤ s.stop) (cond-true _ _ _ none) some in
-    omega (arith, below)
+whole_stride zero = omega arith
+whole_stride (suc last) = grind arith
 
-whole_countable : (size : ℕ) → (size == 0) ≡ false → size < 2 ^ 64 → IsCountable (whole_slab size)
-unfolding whole_slab
-whole_countable size more fits =
-    subst IsCountable (sym (cond-false _ _ _ more))
-    (record { stride = omega arith; few = omega (arith, fits, eqb-false size 0 more) })
+-- a slab that can be cut has a stride
+pub cut_stride : (size : ℕ) (slab : Slab) → IsCut size slab → HasStride slab
+cut_stride size slab (inl countable) = countable.stride
+cut_stride size slab (inr whole) = subst HasStride (sym whole) (whole_stride size)
 
--- a slab that can be cut and has an index is countable
-pub countable_if : (size : ℕ) (slab : Slab) → size < 2 ^ 64 → slab.start ≤ slab.stop → IsCut size slab
-    → IsCountable slab
-countable_if size slab fits some (inl countable) = countable
-countable_if size slab fits some (inr whole) = elim (cases_Bool (size == 0)) [
-  | inl none ↦ absurd (no_index size none (subst (λ (s : Slab). s.start ≤ s.stop) whole some))
-  | inr more ↦ subst IsCountable (sym whole) (whole_countable size more fits)
+-- and its count fits 64 bits
+pub cut_few : (size : ℕ) (slab : Slab) → size < 2 ^ 64 → IsCut size slab → slab_count slab < 2 ^ 64
+cut_few size slab fits (inl countable) = elim (count_cases slab) [
+  | inl t ↦ omega (arith, t.1, div-le_self (slab.stop - slab.start) slab.stride, countable.few)
+  | inr f ↦ omega (arith, f.1)
 ]
-
-pub few_indices : (slab : Slab) → slab.start ≤ slab.stop → IsCountable slab
-    → (slab.stop - slab.start) / slab.stride + 1 < 2 ^ 64
-few_indices slab some countable =
-    omega (arith, div-le_self (slab.stop - slab.start) slab.stride, countable.few)
+cut_few size slab fits (inr whole) =
+    subst (λ (n : ℕ). n < 2 ^ 64) (sym (ap slab_count whole ∙ slab_count-whole size)) fits

@@ -67,11 +67,6 @@ none_left decls clauses at notes past same are =
     ∙ ap (λ (l : List Note). Ok l)
     (sym (are ∙ ap (λ (l : List Clause). map (note_of l) decls) (take_all at clauses past)))
 
-pub same_notes : (clauses : List Clause) (decls : List Decl) → (clauses ≡ [] → ⊥)
-    → map (note_of clauses) decls ≡ map (note_for clauses) decls
-same_notes [] decls some = absurd (some refl)
-same_notes (clause ∷ clauses) decls some = refl
-
 -- ---- the projection for notes or a fault
 
 projected : (decls : List Decl) (clauses : List Clause) (fault : Option ProjectFault)

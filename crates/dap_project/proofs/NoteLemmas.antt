@@ -9,7 +9,7 @@ use Rattle.dap_model.specs.declared.fault.ProjectFault.TheVariants.{SlabConflict
 use Rattle.dap_model.specs.declared.projection.Clause.{Clause}
 use Rattle.dap_project.specs.Notes.{free_slots, fresh_note, note_after, note_from, note_of, notes_after, slots_differ}
 use Rattle.dap_project.specs.declared.note.Note.{Note}
-use Rattle.dap_project.proofs.SlotLemmas.{differ_from, slots_from, slots_from-none, slots_from-step}
+use Rattle.dap_project.proofs.SlotLemmas.{differ_from, slots_from, slots_from-none, slots_from-step, or-assoc, or-none}
 
 pub note_from-push : (decl : Decl) (note : Note) (clauses : List Clause) (clause : Clause)
     → note_from decl note (clauses ++ clause ∷ []) ≡ note_after decl clause (note_from decl note clauses)
@@ -41,14 +41,6 @@ pub slots_of : (decl : Decl) (clauses : List Clause)
     → (note_of clauses decl).slots ≡ slots_from decl 0 (free_slots (parts_of decl)) clauses
 unfolding fresh_note
 slots_of decl clauses = slots_of_note decl (fresh_note decl) clauses
-
-or-none : (b : Bool) → b ≡ (b || false)
-or-none true = refl
-or-none false = refl
-
-or-assoc : (a b c : Bool) → ((a || b) || c) ≡ (a || (b || c))
-or-assoc true b c = refl
-or-assoc false b c = refl
 
 picked_from : (decl : Decl) (note : Note) (clauses : List Clause)
     → (note_from decl note clauses).picked

@@ -3,7 +3,7 @@ use Rattle.std.proofs.Common.{◌≡◌, ℕ, zero, suc, ◌+◌, ◌<◌, ◌�
 use Rattle.std.proofs.lemmas.Bool.{cond-true}
 use Rattle.std.proofs.lemmas.List.{drop_all, drop_more, length-take-le, take_all, take_more}
 use Rattle.std.proofs.lemmas.List.Elements.{All-push}
-use Rattle.fm_base.specs.declared.header.Dim.{Dim}
+use Rattle.nc_model.specs.declared.header.Dim.{Dim}
 use Rattle.dap_model.specs.ClauseFaults.{is_within, path_text, range_fault}
 use Rattle.dap_model.specs.Picking.{decl_named, is_picked, picked_by}
 use Rattle.dap_model.specs.declared.declaration.Array.{Array}

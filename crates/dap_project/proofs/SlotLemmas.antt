@@ -1,4 +1,4 @@
--- A slot keeps the first slabs that clauses give its part, and tells whether others differ from some of them.
+-- A slot keeps the first slabs that clauses give its part, and says whether others differ from some of them.
 use Rattle.std.proofs.Common.{arith, ◌≡◌, ℕ, zero, suc, ◌+◌, Bool, true, false, not, ◌||◌, List, [], ◌∷◌, length, slice_get, Option, Some, None, refl, sym, ap, ap₂, ◌∙◌, inl, inr}
 use Rattle.std.proofs.lemmas.Bool.{cases_Bool, true≢false}
 use Rattle.std.proofs.lemmas.Slice.Eq.{slice_eq-Decides}
@@ -41,11 +41,11 @@ slots_from-step decl part (slot ∷ slots) clause clauses =
 
 -- ---- whether slabs differ
 
-or-none : (b : Bool) → b ≡ (b || false)
+pub or-none : (b : Bool) → b ≡ (b || false)
 or-none true = refl
 or-none false = refl
 
-or-assoc : (a b c : Bool) → ((a || b) || c) ≡ (a || (b || c))
+pub or-assoc : (a b c : Bool) → ((a || b) || c) ≡ (a || (b || c))
 or-assoc true b c = refl
 or-assoc false b c = refl
 

@@ -9,7 +9,8 @@ use crate::note::{Note, slots_differ};
 use crate::part::picked_dims;
 use crate::picked::{name_of, picked_by, place_named};
 use dap_model::{Clause, Decl, ProjectFault, Slab};
-use fm_base::{Bytes, Dim, Fail, List, NoMemory};
+use fm_base::{Bytes, Fail, List, NoMemory};
+use nc_model::Dim;
 use std::alloc::Global;
 
 // A path as it is written, without slabs.

@@ -6,20 +6,17 @@ ghost use Rattle.dap_model.specs.Projection as spec;
 ghost use Rattle.dap_project.specs.Checks.{AreCuts, IsCut};
 
 use dap_model::{Array, Slab};
-use fm_base::{Bytes, Dim, List, NoMemory};
+use dap_slab::slab_count;
+use fm_base::{Bytes, List, NoMemory};
+use nc_model::Dim;
 use std::alloc::Global;
 
-// How many indices a slab has that is countable, or that of a whole dimension.
-#[tactic(auto, unfolding(dap_model::specs::Box::slab_count))]
-fn slab_count(size: u64, slab: Slab) -> u64
+// The indices of a slab that can be cut from a dimension of this size. They are no more than the size, or countable.
+fn cut_size(size: u64, slab: Slab) -> u64
     requires { IsCut size slab }
     ensures { result ≡ boxes.slab_count slab }
 {
-    if slab.start > slab.stop {
-        0
-    } else {
-        (slab.stop - slab.start) / slab.stride + 1
-    }
+    slab_count(slab)
 }
 
 // A dimension as long as its slab has indices.
@@ -27,7 +24,7 @@ fn cut_dim(alloc: Global, dim: &Dim, slab: Slab) -> Result<Dim, NoMemory>
     requires { IsCut dim.now.size slab }
     ensures { IfOk result (λ cut. cut ≡ spec.cut_dim (dim.now, slab)) }
 {
-    let size = slab_count(dim.size, slab);
+    let size = cut_size(dim.size, slab);
     let name = Bytes::copy_of(alloc, dim.name.as_slice())?;
     Ok(Dim { name, size })
 }

@@ -1,35 +1,18 @@
 //! The parts of a declaration.
-ghost use Rattle.std.specs.Prelude.{◌≡◌, MatchOption, None, Some, length, slice_get};
+ghost use Rattle.std.specs.Prelude.{◌≡◌, length};
 ghost use Rattle.dap_model.specs.Picking as spec;
 ghost use Rattle.dap_project.specs.Notes.{picked_of};
 
 use crate::picked::Choice;
-use dap_model::{Array, Decl};
-use fm_base::Dim;
-
-// The part of a declaration that has this number.
-pub(crate) fn part_at(decl: &Decl, part: usize) -> Option<&Array>
-    ensures { MatchOption result (slice_get (spec.parts_of decl.now) part ≡ None)
-        (λ found. slice_get (spec.parts_of decl.now) part ≡ Some found.now) }
-{
-    match decl {
-        Decl::Plain(array) => if part == 0 { Some(array) } else { None },
-        Decl::Grid { array, maps, .. } => {
-            if part == 0 {
-                Some(array)
-            } else {
-                maps.as_slice().get(part - 1)
-            }
-        }
-        Decl::Structure { members, .. } => members.as_slice().get(part),
-    }
-}
+use dap_model::Decl;
+use dap_slab::part_of;
+use nc_model::Dim;
 
 // The dimensions of a part, by its number; none past the last.
 pub(crate) fn part_dims(decl: &Decl, part: usize) -> &[Dim]
     ensures { result.now ≡ spec.part_dims decl.now part }
 {
-    match part_at(decl, part) {
+    match part_of(decl, part) {
         Some(array) => array.dims.as_slice(),
         None => &[],
     }

@@ -7,10 +7,10 @@ ghost use Rattle.dap_project.specs.Noted as spec;
 
 use crate::cut::cut_array;
 use crate::note::Note;
-use crate::part::part_at;
 use crate::picked::name_of;
 use crate::slot::Slot;
 use dap_model::{Array, Decl, Projected, Sent};
+use dap_slab::part_of;
 use fm_base::{Bytes, List, NoMemory};
 use std::alloc::Global;
 
@@ -38,7 +38,7 @@ fn cut_parts(alloc: Global, decl: &Decl, slots: &[Slot]) -> Result<List<Array>, 
 {
     let mut parts = List::new(alloc);
     for part in 0..slots.len() {
-        let Some(array) = part_at(decl, part) else {
+        let Some(array) = part_of(decl, part) else {
             return Ok(parts);
         };
         add_cut(alloc, array, &slots[part], &mut parts)?;

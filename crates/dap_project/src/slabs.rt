@@ -7,7 +7,8 @@ ghost use Rattle.dap_project.specs.Notes.{picked_of};
 use crate::part::part_dims;
 use crate::picked::Choice;
 use dap_model::{Decl, Slab};
-use fm_base::{Dim, List, NoMemory};
+use fm_base::{List, NoMemory};
+use nc_model::Dim;
 use std::alloc::Global;
 
 // The slab of a whole dimension.

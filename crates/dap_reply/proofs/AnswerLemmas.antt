@@ -8,7 +8,7 @@ use Rattle.fm_model.specs.declared.proto.Proto.{Proto}
 use Rattle.fm_model.specs.declared.row.Row.{Row}
 use Rattle.fm_model.specs.Rows.{rows}
 use Rattle.fm_dataset.specs.Values.{Shown}
-use Rattle.fm_shown.proofs.RowFacts.{shown-some}
+use Rattle.fm_views.proofs.RowFacts.{shown-some}
 use Rattle.dap_ce.specs.Asked.{as_projection}
 use Rattle.dap_model.specs.declared.projection.Clause.{Clause}
 use Rattle.dap_model.specs.declared.projection.Projected.{Projected}

@@ -1,12 +1,13 @@
 -- A Grid of a view has one map for each dimension of its array, over that dimension alone.
-use Rattle.std.proofs.Common.{◌≡◌, ℕ, zero, suc, ◌-◌, ◌≤◌, ◌==◌, ◌&&◌, List, [], ◌∷◌, length, map, take, drop, Bool, true, false, not, cond, Option, Some, None, All, refl, sym, ap, ap₂, subst, ◌∙◌, arith}
+use Rattle.std.proofs.Common.{◌≡◌, ℕ, zero, suc, ◌-◌, ◌==◌, ◌&&◌, List, [], ◌∷◌, length, map, take, drop, Bool, true, false, not, cond, Option, Some, None, All, refl, sym, ap, ap₂, subst, ◌∙◌, arith}
 use Rattle.std.specs.Prelude.{IsTrue}
 use Rattle.std.specs.List.{cons_option, filter_map, list_any}
 use Rattle.std.specs.Str.{bytes_eq}
 use Rattle.std.proofs.lemmas.Bool.{and_parts, eqb-true, false≢true, not-true, or_parts}
 use Rattle.std.proofs.lemmas.List.{append_assoc, take_all}
 use Rattle.std.proofs.lemmas.Slice.Eq.{bytes_eq-Decides}
-use Rattle.fm_base.specs.declared.header.Dim.{Dim}
+use Rattle.nc_model.specs.declared.header.Dim.{Dim}
+use Rattle.fm_base.proofs.ListLemmas.{length-filter_map}
 use Rattle.fm_model.specs.declared.proto.Proto.{Proto}
 use Rattle.fm_model.specs.declared.proto.ProtoVar.{ProtoVar}
 use Rattle.fm_model.specs.Attribute.{is_char}
@@ -19,16 +20,6 @@ use Rattle.dap_model.specs.declared.declaration.Decl.{Decl}
 use Rattle.dap_model.specs.declared.declaration.Decl.TheVariants.{Grid, Plain}
 use Rattle.dap_model.specs.ProjectionFacts.{IsGridded}
 use Rattle.fm_dataset.specs.Declarations.{array_dims, array_of, coordinate_of, coordinates_of, decl_of, decls_of, dim_at, dims_in, have_coordinates, is_coordinate_of, is_coordinate_var, is_grid, maps_of, may_be_grid, repeats, rows_dim, seconds_of_rows}
-
--- no more are made than there are items
-made-few : {A B : Type 0} (make : A → Option B) (items : List A) → length (filter_map make items) ≤ length items
-made-few make [] = omega arith
-made-few {B} make (item ∷ items) = by_made (make item) (made-few make items)
-  where
-    by_made : (o : Option B) → length (filter_map make items) ≤ length items
-        → length (cons_option o (filter_map make items)) ≤ suc (length items)
-    by_made None few = omega (arith, few)
-    by_made (Some made) few = omega (arith, few)
 
 -- no other dimension is the axis's
 Others : ℕ → List ℕ → Type 0
@@ -146,7 +137,7 @@ module _ (proto : Proto) (count : ℕ) (sound : IsSound proto) where
           ≡ map (λ (dim : Dim). dim ∷ []) (map single ids))
           → map (λ (part : Array). part.dims) (map (array_of proto count) (cons_option o others))
           ≡ (single id ∷ []) ∷ map (λ (dim : Dim). dim ∷ []) (map single ids)
-      by_found None is all rest = absurd (omega (arith, all, made-few (coordinate_of proto) ids))
+      by_found None is all rest = absurd (omega (arith, all, length-filter_map (coordinate_of proto) ids))
       by_found (Some var) is all rest =
           let there = in_find (is_coordinate_of proto id) proto.vars var is in
           ap₂ (λ d ds. d ∷ ds) (coordinate-dims var there.0 id there.1) (rest (omega (arith, all)))

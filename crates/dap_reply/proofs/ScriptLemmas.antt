@@ -17,6 +17,7 @@ unfolding script_of
 script-none proto ops [] before = refl
 script-none proto ops (revision ∷ revisions) before = refl
 
+-- the script of more replies is that of the first ones and the rest
 pub script-append : (proto : Proto) (ops : List Op) (revisions more : List ℕ) (items : List Item) (before : ℕ)
     → script_of proto ops (revisions ++ more) items before
     ≡ script_of proto ops revisions items before
@@ -35,6 +36,7 @@ script-append proto ops (revision ∷ revisions) more (item ∷ items) before =
     ++ script_of proto ops more (drop (length revisions) items) n)) same
     ∙ sym (append_assoc reply (script_of proto ops revisions items (before + 1)) _)
 
+-- later operations leave the script of replies that came before them
 pub script-later : (proto : Proto) (ops later : List Op) (revisions : List ℕ) (items : List Item) (before : ℕ)
     → All (λ (revision : ℕ). revision ≤ length ops) revisions
     → script_of proto (ops ++ later) revisions items before ≡ script_of proto ops revisions items before

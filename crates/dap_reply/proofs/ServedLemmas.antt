@@ -52,6 +52,7 @@ served-script call served sound ample =
     (λ place mark item there is. ⊎_elim (λ whole. whole) (λ cut. absurd (sound cut.0))
     (served.writes.whole place mark item there is))
 
+-- a request is the last exactly where the link ends after it
 pub last-ends : (item : Item) (before : ℕ) → is_last item (before + 1) ≡ is_some (end_after (asked_of item) before)
 unfolding is_last
 last-ends bad_head before = refl

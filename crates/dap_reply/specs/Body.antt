@@ -13,7 +13,7 @@ use Rattle.dap_model.specs.StructureText.{dds_of}
 use Rattle.dap_das.specs.AttributeText.{das_of}
 use Rattle.fm_dataset.specs.Declarations.{decls_of}
 use Rattle.fm_dataset.specs.Values.{Shown}
-use Rattle.fm_shown.specs.View.{shown_or_none}
+use Rattle.fm_views.specs.View.{shown_or_none}
 use Rattle.web_path.specs.declared.target.Service.{Service}
 use Rattle.web_path.specs.declared.target.Service.TheVariants.{Dds, Das, Dods}
 use Rattle.web_path.specs.declared.target.Target.{Target}

@@ -1,5 +1,5 @@
 -- The reply to an item of a connection (RFC 9112; RFC 9110), over the collection that some operations left.
-use Rattle.std.specs.Prelude.{ℕ, ◌==◌, List, [], ◌++◌, length, Bool, true, false, ◌||◌, if◌then◌else◌, IsOk, Result, Ok, Err}
+use Rattle.std.specs.Prelude.{ℕ, ◌==◌, List, [], ◌++◌, length, Bool, true, false, ◌||◌, if◌then◌else◌, Result, Ok, Err}
 use Rattle.fm_base.specs.Chain.{◌>>=◌, fault_as}
 use Rattle.fm_model.specs.declared.loaded.Loaded.{Loaded}
 use Rattle.fm_model.specs.declared.proto.Proto.{Proto}
@@ -41,10 +41,6 @@ unfoldable pub asked_by : Site → Item → Result Target DapFault
 asked_by site (request r target) = target_asked site r target
 asked_by site bad_head = Err BadHead
 asked_by site head_too_long = Err HeadTooLong
-
--- an item is wanted: a collection is looked at for it
-abbrev pub IsWanted : Site → Item → Type 0
-IsWanted site item = IsOk (asked_by site item)
 
 -- whether a reply has its head alone
 abbrev pub has_head_alone : Item → Bool

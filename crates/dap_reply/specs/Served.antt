@@ -4,7 +4,7 @@ use Rattle.std.specs.Prelude.{◌≡◌, ◌≢◌, ◌⊎◌, ℕ, ◌+◌, ◌
 use Rattle.fm_model.specs.declared.op.Op.{Op}
 use Rattle.fm_model.specs.declared.proto.Proto.{Proto}
 use Rattle.fm_model.specs.Collection.{coll}
-use Rattle.pub_plain.specs.History.{Continues}
+use Rattle.pub_look.specs.History.{Continues}
 use Rattle.web_frame.specs.Items.{bad_head, head_too_long, heads_of, request, Item, ReadsTo}
 use Rattle.web_frame.specs.Stream.{held_after, next_of}
 use Rattle.web_session.specs.declared.action.Asked.{Asked}

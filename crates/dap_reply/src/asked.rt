@@ -17,12 +17,11 @@ use dap_das::das_text_of;
 use dap_dds::dds_text;
 use dap_model::{Decl, Projected, Sent};
 use dap_project::project;
-use fm_base::{Bytes, Fail, List, NoMemory};
+use fm_base::{Bytes, Fail, List, NoMemory, fault_as};
 use fm_dataset::{Dataset, decls};
 use fm_edition::Edition;
 use fm_model::Proto;
-use fm_shown::shown;
-use fm_views::row_count;
+use fm_views::{row_count, shown};
 use std::alloc::Global;
 use web_path::{Service, Target};
 
@@ -61,16 +60,9 @@ fn dataset_asked(
 fn projected_of(alloc: Global, decls: &[Decl], target: &Target) -> Result<Projected, Fail<DapFault>>
     ensures { Answers (projected_of decls.now target.now.constraint) result }
 {
-    let asked = match read_constraint(alloc, target.constraint.as_slice()) {
-        Ok(asked) => asked,
-        Err(Fail::NoMemory) => return Err(Fail::NoMemory),
-        Err(Fail::Fault(fault)) => return Err(Fail::Fault(DapFault::Constraint(fault))),
-    };
-    match project(alloc, decls, &asked) {
-        Ok(projected) => Ok(projected),
-        Err(Fail::NoMemory) => Err(Fail::NoMemory),
-        Err(Fail::Fault(fault)) => Err(Fail::Fault(DapFault::Projection(fault))),
-    }
+    let asked = read_constraint(alloc, target.constraint.as_slice());
+    let asked = fault_as(asked, DapFault::Constraint)?;
+    fault_as(project(alloc, decls, &asked), DapFault::Projection)
 }
 
 // A body that is a text, within the limit.

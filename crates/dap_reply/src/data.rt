@@ -34,7 +34,7 @@ fn part_len(source: &Dataset, part: &Sent) -> u64
     xdr_len(source, part) as u64
 }
 
-// Writes the data of a part, which takes `len` bytes, from a place on over the front of a buffer, as much as fits.
+// Writes the data of a part, which takes `len` bytes, from an offset on over the front of a buffer, as much as fits.
 fn put_part(source: &Dataset, part: &Sent, len: u64, from: u64, out: &mut [u8]) -> usize
     requires sent { IsSentOf source.now part.now }
     requires len { len ≡ length (part_data (content_of source.now) part.now) }
@@ -46,7 +46,7 @@ fn put_part(source: &Dataset, part: &Sent, len: u64, from: u64, out: &mut [u8]) 
     xdr_piece(source, part, from, out)
 }
 
-// Writes the data from a place on over the front of a buffer, as much as fits.
+// Writes the data from an offset on over the front of a buffer, as much as fits.
 pub(crate) fn put_data(source: &Dataset, sent: &[Sent], from: u64, out: &mut [u8]) -> usize
     requires sent { All (IsSentOf source.now) sent.now }
     requires small { length (data_of (content_of source.now) sent.now) < 2 ^ 64 }
@@ -66,7 +66,7 @@ pub(crate) fn put_data(source: &Dataset, sent: &[Sent], from: u64, out: &mut [u8
     filled
 }
 
-// The longest stretch of the data from a place on that stands in a file as it is sent.
+// The longest stretch of the data from an offset on that stands in a file as it is sent.
 pub(crate) fn lent_data<'a>(source: &'a Dataset, sent: &[Sent], from: u64) -> &'a [u8]
     requires sent { All (IsSentOf source.now) sent.now }
     requires small { length (data_of (content_of source.now) sent.now) < 2 ^ 64 }

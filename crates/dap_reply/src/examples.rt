@@ -1,5 +1,5 @@
 //! Worked examples, which the prover computes.
-ghost use Rattle.std.specs.Prelude.{◌≡◌, codes, false, length, true};
+ghost use Rattle.std.specs.Prelude.{◌≡◌, ◌++◌, codes, false, length, true};
 ghost use Rattle.dap_reply.specs.declared.fault.DapFault.{DapFault};
 ghost use Rattle.dap_reply.specs.declared.body.BodyKind.TheVariants.{Data, Structure};
 ghost use Rattle.dap_reply.specs.declared.status.Status.TheVariants.{Accepted};
@@ -16,11 +16,14 @@ pub fn no_rows()
 
 /// The head of a structure text of 369 bytes, over a collection that one operation left.
 pub fn head_of_a_structure_text()
-    ensures { length (head_text (record { status = Accepted; kind = Structure; len = 369; revision = 1; last = false })) ≡ 171 }
+    ensures { length (head_text (record { status = Accepted; kind = Structure; len = 369; revision = 1; last = false }))
+        ≡ 171 }
 {}
 
 /// The head of a reply with data, which is a connection's last.
 pub fn head_of_data()
     ensures { head_text (record { status = Accepted; kind = Data; len = 575; revision = 12; last = true })
-        ≡ codes "HTTP/1.1 200 OK\r\nXDODS-Server: dods/3.2\r\nContent-Description: dods_data\r\nContent-Type: application/octet-stream\r\nX-Collection-Revision: 12\r\nContent-Length: 575\r\nConnection: close\r\n\r\n" }
+        ≡ codes "HTTP/1.1 200 OK\r\nXDODS-Server: dods/3.2\r\nContent-Description: dods_data\r\n"
+        ++ codes "Content-Type: application/octet-stream\r\nX-Collection-Revision: 12\r\n"
+        ++ codes "Content-Length: 575\r\nConnection: close\r\n\r\n" }
 {}

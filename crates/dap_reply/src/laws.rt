@@ -22,8 +22,8 @@ ghost use Rattle.dap_reply.specs.declared.served.Mark.{Mark};
 ghost use Rattle.dap_reply.specs.declared.served.Stop.{Stop};
 ghost use Rattle.dap_reply.specs.Served.{asked_of, items_of, LinkCall, Served};
 
-/// What a connection is sent for more replies begins with what it is sent for fewer, and goes on with the replies to the
-/// items after them.
+/// What a connection is sent for more replies begins with what it is sent for fewer, and goes on with the replies to
+/// the items after them.
 #[tactic(auto, using(crate::proofs::ScriptLemmas::scripts))]
 pub fn a_script_goes_on()
     ensures { (proto : Proto) (ops : List Op) (revisions more : List ℕ) (items : List Item) (before : ℕ)
@@ -40,8 +40,9 @@ pub fn later_operations_change_no_script()
         → script_of proto (ops ++ later) revisions items before ≡ script_of proto ops revisions items before }
 {}
 
-/// A request without a fault gets what it asks for: of a view that has rows, for a constraint that is one and that names
-/// what is there, within the limit of bodies, the structure text, the attribute text, or the structure text and the data.
+/// A request without a fault gets what it asks for: of a view that has rows, for a constraint that is one and that
+/// names what is there, within the limit of bodies, the structure text, the attribute text, or the structure text and
+/// the data.
 #[tactic(auto, using(crate::proofs::AnswerLemmas::answers))]
 pub fn a_request_without_a_fault_gets_what_it_asks_for()
     ensures structure { (proto : Proto) (files : List Loaded) (item : Item) (target : Target) (clauses : List Clause)
@@ -67,8 +68,8 @@ pub fn a_reply_in_parts_is_the_reply()
         bytes_of (reply_parts answer revision head_alone last) ≡ reply_text answer revision head_alone last }
 {}
 
-/// A link that neither failed nor was left without memory was sent the replies to the first requests of its input, whole
-/// and in order, each over the collection that the operations of its revision left.
+/// A link that neither failed nor was left without memory was sent the replies to the first requests of its input,
+/// whole and in order, each over the collection that the operations of its revision left.
 #[tactic(auto, using(crate::proofs::ServedLemmas::served))]
 pub fn a_served_link_is_sent_a_script()
     ensures { (call : LinkCall) → Served call → call.stop ≢ Stop.Ended End.LinkFault

@@ -6,7 +6,7 @@ ghost use Rattle.dap_reply.specs.Reply.{asked_by, has_head_alone, target_asked};
 
 use crate::fault::DapFault;
 use crate::wanted::{Dap, Order};
-use fm_base::{Fail, NoMemory};
+use fm_base::{Fail, NoMemory, fault_as};
 use fm_model::Site;
 use std::alloc::Global;
 use web_frame::{Method, Request};
@@ -29,11 +29,7 @@ fn target_asked(
     if request.has_body {
         return Err(Fail::Fault(DapFault::BodyNotTaken));
     }
-    match read_target(alloc, target, site) {
-        Ok(target) => Ok(target),
-        Err(Fail::NoMemory) => Err(Fail::NoMemory),
-        Err(Fail::Fault(fault)) => Err(Fail::Fault(DapFault::Path(fault))),
-    }
+    fault_as(read_target(alloc, target, site), DapFault::Path)
 }
 
 // What an item asks for, or the first fault for which no collection is looked at.
@@ -64,8 +60,8 @@ fn has_head_alone(asked: Asked, target: &[u8]) -> bool
 }
 
 /// What is to be done for what a session asks for, whose present target is handed in: the first of the faults for which
-/// no collection is looked at, in their order, or a request that is wanted. `last` says whether the connection ends after
-/// the reply.
+/// no collection is looked at, in their order, or a request that is wanted. `last` says whether the connection ends
+/// after the reply.
 #[tactic(auto, unfolding(crate::specs::Order::order_of))]
 pub fn order(
     alloc: Global,

@@ -31,7 +31,8 @@ impl Model for Plan {
 
     ghost view = { λ plan. record { front = plan.front; source = plan.source; sent = plan.sent } };
 
-    ghost invariant = { λ plan. IsPlan (record { front = plan.front; source = plan.source; sent = plan.sent }) plan.len };
+    ghost invariant = { λ plan.
+        IsPlan (record { front = plan.front; source = plan.source; sent = plan.sent }) plan.len };
 }
 
 impl Plan {
@@ -91,8 +92,8 @@ impl Plan {
         self.len
     }
 
-    /// Writes the bytes from a place on over the front of a buffer, as many as fit, and returns how many that are. It
-    /// takes no memory. The caller has a place among the bytes or right after them.
+    /// Writes the bytes from an offset on over the front of a buffer, as many as fit, and returns how many that are. It
+    /// takes no memory. The offset is at most `len`.
     pub fn piece(&self, from: u64, out: &mut [u8]) -> usize
         requires { from ≤ length (bytes_of self.now) }
         ensures count { result ≡ min (length out.old) (length (bytes_of self.now) - from) }
@@ -109,8 +110,8 @@ impl Plan {
         }
     }
 
-    /// Lends the longest stretch from a place on that stands in the front or in a file as it is sent. It may be empty,
-    /// and is a front of the bytes from that place on. It takes no memory.
+    /// Lends the longest stretch from an offset on that stands in the front or in a file as it is sent. It is a front of
+    /// the bytes from that offset on, and may be empty. It takes no memory.
     pub fn lent(&self, from: u64) -> &[u8]
         ensures { take (length result.now) (drop from (bytes_of self.now)) ≡ result.now }
     {

@@ -7,7 +7,7 @@ use crate::replying::plan;
 use crate::wanted::Dap;
 use fm_base::NoMemory;
 use fm_edition::Edition;
-use pub_plain::Query;
+use pub_look::Query;
 use std::alloc::Global;
 
 impl Query for Dap {

@@ -1,8 +1,9 @@
-//! What serving a link tells.
+//! What serving a link shows.
 
 use web_session::End;
 
-/// A reply that was begun: the number of the operations that left its collection, and how many of its bytes were written.
+/// A reply that was begun: the number of the operations that left its collection, and how many of its bytes were
+/// written.
 #[derive(Clone, Copy, Debug, PartialEq, Eq)]
 pub struct Mark {
     pub revision: u64,

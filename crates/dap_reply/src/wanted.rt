@@ -3,8 +3,8 @@
 use crate::fault::DapFault;
 use web_path::Target;
 
-/// A request that a collection is looked at for: what it asks for, whether the reply has its head alone, and whether the
-/// connection ends after it.
+/// A request that a collection is looked at for: what it asks for, whether the reply has its head alone, and whether
+/// the connection ends after it.
 #[derive(Debug, Drop)]
 pub struct Dap {
     pub target: Target,

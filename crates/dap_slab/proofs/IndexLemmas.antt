@@ -1,12 +1,12 @@
 -- The index lists of a box, and of two boxes together.
-use Rattle.std.proofs.Common.{◌≡◌, ℕ, suc, ◌+◌, ◌-◌, ◌*◌, ◌/◌, ◌%◌, ◌<◌, List, [], ◌∷◌, ◌++◌, length, refl, sym, ap, subst, ◌∙◌, inl, inr, arith}
+use Rattle.std.proofs.Common.{◌≡◌, ℕ, ◌+◌, ◌-◌, ◌*◌, ◌/◌, ◌%◌, ◌<◌, List, [], ◌∷◌, ◌++◌, sym, ap, subst, ◌∙◌, inl, inr, arith}
 use Rattle.std.specs.List.{All}
 use Rattle.std.proofs.lemmas.List.Elements.{All-tail}
 use Rattle.std.proofs.lemmas.Nat.{mul-add-lt}
 use Rattle.std.proofs.Math.Nat.{mul-le-mul_right, mul_comm}
-use Rattle.fm_base.specs.Layout.{product}
+use Rattle.nc_model.specs.Layout.{product}
 use Rattle.dap_model.specs.declared.projection.Slab.{Slab}
-use Rattle.dap_model.specs.Box.{HasStride, slab_count, slab_index, box_len, index_at}
+use Rattle.dap_model.specs.Box.{slab_count, slab_index, box_len, index_at}
 use Rattle.dap_model.proofs.BoxLemmas.{index_at-cons, split_of}
 use Rattle.dap_model.proofs.SlabLemmas.{count_cases}
 use Rattle.dap_slab.specs.Walking.{HasIndex}
@@ -17,9 +17,6 @@ count_of_index slab has = elim (count_cases slab) [
   | inl t ↦ t.1
   | inr f ↦ absurd (omega (arith, f.0, has.ordered))
 ]
-
-pub HasStride-each : (slabs : List Slab) → All HasIndex slabs → All HasStride slabs
-HasStride-each slabs each = λ k d within. (each k d within).stride
 
 -- slabs with an index pick something
 pub box_len-pos : (slabs : List Slab) → All HasIndex slabs → 0 < box_len slabs
@@ -36,11 +33,6 @@ pub box_len-append : (front back : List Slab) → box_len (front ++ back) ≡ bo
 unfolding box_len product
 box_len-append [] back = omega arith
 box_len-append (slab ∷ front) back = ap (λ (n : ℕ). slab_count slab * n) (box_len-append front back) ∙ grind arith
-
-pub length-index_at : (slabs : List Slab) (place : ℕ) → length (index_at slabs place) ≡ length slabs
-unfolding index_at
-length-index_at [] place = refl
-length-index_at (slab ∷ slabs) place = ap suc (length-index_at slabs (place % box_len slabs))
 
 -- the index list at a place of two boxes together
 pub index_at-append : (front back : List Slab) (place rest : ℕ) → place < box_len front → rest < box_len back

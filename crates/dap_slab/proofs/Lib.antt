@@ -1,3 +1,4 @@
 pub mod CountLemmas
 pub mod IndexLemmas
+pub mod PlaceLemmas
 pub mod WalkLemmas

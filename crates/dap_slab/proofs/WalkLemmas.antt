@@ -9,13 +9,13 @@ use Rattle.std.proofs.lemmas.Nat.{mul-add-lt}
 use Rattle.std.proofs.lemmas.Option.{slice_get-get_or, slice_get_past}
 use Rattle.std.proofs.lemmas.Bool.{cases_lt}
 use Rattle.std.proofs.Math.Nat.{mul-le-mul_right, mul_comm}
-use Rattle.fm_base.specs.Layout.{product}
+use Rattle.nc_model.specs.Layout.{product}
 use Rattle.dap_model.specs.declared.projection.Slab.{Slab}
 use Rattle.dap_model.specs.Box.{slab_count, slab_index, box_of, box_len, index_at}
-use Rattle.dap_model.proofs.BoxLemmas.{index_at-cons, split_of, length-box_of, get_or-box_of}
+use Rattle.dap_model.proofs.BoxLemmas.{index_at-cons, split_of, length-box_of, get_or-box_of, length-index_at, slab_at}
 use Rattle.dap_model.proofs.SlabLemmas.{count_cases, Picks-slab_index, strides_within}
 use Rattle.dap_slab.specs.Walking.{HasIndex}
-use Rattle.dap_slab.proofs.IndexLemmas.{box_len-pos, box_len-append, length-index_at, index_at-append}
+use Rattle.dap_slab.proofs.IndexLemmas.{box_len-pos, box_len-append, index_at-append}
 
 -- an index list on its way to the next: its last indices start again, and the first are as they were
 pub record Carried (front back : List Slab) (index : List ℕ) (next : ℕ) : Type 0 where
@@ -187,10 +187,6 @@ turn_at front slab back index next has some s =
         | inl further ↦ absurd (omega (arith, (Picks-slab_index slab (strides + 1) has.stride further).to_stop))
         | inr last ↦ omega arith
       ]
-
--- the slab at a place, or one that is never read
-abbrev pub slab_at : List Slab → ℕ → Slab
-slab_at slabs at = get_or slabs at (record { start = 0; stride = 0; stop = 0 })
 
 -- one turn of the loop: where all slabs behind the one at a place have started again, so has it, or it is moved on
 pub Turn-carried : (slabs : List Slab) (index : List ℕ) (next at : ℕ) → All HasIndex slabs → at < length slabs

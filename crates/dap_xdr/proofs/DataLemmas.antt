@@ -3,11 +3,12 @@ use Rattle.std.proofs.Common.{◌≡◌, ◌≢◌, ℕ, ◌+◌, ◌*◌, ◌<�
 use Rattle.std.specs.List.{AllZip}
 use Rattle.std.specs.Option.{option_map_or}
 use Rattle.std.proofs.lemmas.List.{length-map}
-use Rattle.fm_base.specs.declared.header.Dim.{Dim}
-use Rattle.fm_base.specs.Layout.{IsIndex}
+use Rattle.nc_model.specs.declared.header.Dim.{Dim}
+use Rattle.nc_model.specs.Layout.{IsIndex}
 use Rattle.dap_model.specs.declared.declaration.Decl.{Decl}
 use Rattle.dap_model.specs.ProjectionFacts.{FitsDim}
-use Rattle.dap_xdr.proofs.ExtentLemmas.{fits-long, sizes_of}
+use Rattle.dap_xdr.proofs.ExtentLemmas.{sizes_of}
+use Rattle.dap_xdr.proofs.FitLemmas.{as_many}
 use Rattle.dap_model.specs.declared.declaration.Array.{Array}
 use Rattle.dap_model.specs.declared.declaration.DapKind.{DapKind}
 use Rattle.dap_model.specs.declared.declaration.DapKind.TheVariants.{Byte, Int16, Int32, Float32, Float64, Text}
@@ -17,7 +18,8 @@ use Rattle.dap_model.specs.Box.{box_len, box_of}
 use Rattle.dap_model.specs.Xdr.{elements_len, element_len, number_bytes, numbers_at, text_bytes, texts_at, values_at, xdr_of, Values}
 use Rattle.dap_model.proofs.XdrLemmas.{length-array_bytes}
 use Rattle.dap_model.proofs.BoxLemmas.{length-box_of}
-use Rattle.dap_xdr.specs.Content.{array_data, array_in, part_data, Content, FitsArray, HasNumberAt, HasTextAt}
+use Rattle.fm_dataset.specs.Values.{HasNumberAt, HasTextAt}
+use Rattle.dap_xdr.specs.Content.{array_data, array_in, part_data, Content, FitsArray}
 use Rattle.dap_xdr.specs.Portion.{array_of, bits_in, text_in, texts_of, IsPortion, Portion}
 
 -- the data of what is sent is that of its array
@@ -120,4 +122,4 @@ numbers-small content n most number many small =
 -- slabs that fit are few
 pub few-slabs : (n : Portion) → IsPortion n → length n.sent.slabs ≤ 1025
 few-slabs n portion =
-    subst (λ (m : ℕ). m ≤ 1025) (sym (fits-long n.array.dims n.sent.slabs portion.fits)) portion.small.rank
+    subst (λ (m : ℕ). m ≤ 1025) (sym (as_many n.array.dims n.sent.slabs portion.fits)) portion.small.rank

@@ -8,13 +8,13 @@ use Rattle.std.proofs.lemmas.Bool.{and_parts, lt-ltb, ltb-true, not-true}
 use Rattle.std.proofs.lemmas.List.Elements.{All-cons, All-drop, All-nil, All-take}
 use Rattle.std.proofs.lemmas.Option.{same_Some}
 use Rattle.std.proofs.lemmas.Nat.{be_bytes_2, be_bytes_4, be_bytes_8}
-use Rattle.fm_base.specs.declared.kind.Kind.{Kind}
-use Rattle.fm_base.specs.declared.kind.Kind.TheVariants as kinds
-use Rattle.fm_base.specs.Format.{IsBytes}
-use Rattle.fm_base.specs.Kind.{size_of}
-use Rattle.fm_base.specs.Layout.{indices_of, rank_in, IsIndex}
-use Rattle.fm_base.specs.Pattern.{width_of}
-use Rattle.fm_base.proofs.Steps.{IsOfParts-bytes}
+use Rattle.nc_model.specs.declared.kind.Kind.{Kind}
+use Rattle.nc_model.specs.declared.kind.Kind.TheVariants as kinds
+use Rattle.nc_model.specs.Format.{IsBytes}
+use Rattle.nc_model.specs.Kind.{size_of}
+use Rattle.nc_model.specs.Layout.{indices_of, rank_in, IsIndex}
+use Rattle.nc_model.specs.Pattern.{width_of}
+use Rattle.nc_model.proofs.Steps.{IsOfParts-bytes}
 use Rattle.nc_layout.proofs.OrderLemmas.{All-indices_of}
 use Rattle.fm_model.specs.declared.proto.ProtoVar.{ProtoVar}
 use Rattle.fm_model.specs.Attribute.{is_char}
@@ -27,14 +27,13 @@ use Rattle.dap_model.specs.declared.declaration.DapKind.TheVariants as daps
 use Rattle.dap_model.specs.Xdr.{bits_in, AreBitsOf}
 use Rattle.fm_dataset.specs.Declarations.{array_of, dap_kind_of, decls_of, is_axis_of, kind_in}
 use Rattle.fm_dataset.specs.Rows.{AreRows}
-use Rattle.fm_dataset.specs.Values as values
-use Rattle.fm_dataset.specs.Values.{array_at, bits_of, element_of, is_stored, left_in_row, raw_of, shape_of_array, text_of_part, var_bits, var_of_part, var_raw, HasNumber, HasStored, HasText, IsPart, Shown}
+use Rattle.fm_dataset.specs.Values.{array_at, bits_of, element_of, is_stored, left_in_row, raw_of, shape_of_array, text_of_part, var_bits, var_of_part, var_raw, HasNumber, HasNumberAt, HasStored, HasText, HasTextAt, IsSmall, Shown}
 use Rattle.fm_dataset.proofs.ElementLemmas.{stored_len}
 use Rattle.fm_dataset.proofs.OrderLemmas.{follow_in_array}
 use Rattle.fm_dataset.proofs.PartLemmas.{part_is}
 use Rattle.fm_dataset.proofs.ReadLemmas.{numeric, some_of}
 use Rattle.fm_dataset.proofs.TextLemmas.{short_texts, small_arrays}
-use Rattle.dap_xdr.specs.Content.{array_in, HasNumberAt, HasTextAt, IsSmall}
+use Rattle.dap_xdr.specs.Content.{array_in}
 use Rattle.dap_xdr.specs.Stretch.{stored_bytes, AreBytesOf, AreStored}
 
 -- the array of a part of a dataset
@@ -43,48 +42,30 @@ pub same_array : (shown : Shown) (decl part : ℕ)
 unfolding array_in array_at
 same_array shown decl part = refl
 
-weaker : {A : Type 0} (o : Option A) (P Q : A → Type 0) → ((x : A) → P x → Q x) → IsSomeAnd o P → IsSomeAnd o Q
-weaker None P Q more holds = absurd holds
-weaker (Some x) P Q more holds = more x holds
-
 -- an index list of numbers or texts
 pub has_number : (shown : Shown) (decl part : ℕ) (index : List ℕ)
     → IsSomeAnd (array_in (decls_of shown.proto (length shown.rows)) decl part) (HasNumberAt index)
     → HasNumber shown decl part index
 has_number shown decl part index has =
-    subst (λ (o : Option Array). IsSomeAnd o (values.HasNumberAt index)) (same_array shown decl part)
-    (weaker (array_in (decls_of shown.proto (length shown.rows)) decl part) (HasNumberAt index)
-    (values.HasNumberAt index) (λ array is. record { number = is.number; index_is = is.index_is }) has)
+    subst (λ (o : Option Array). IsSomeAnd o (HasNumberAt index)) (same_array shown decl part) has
 
 pub has_text : (shown : Shown) (decl part : ℕ) (index : List ℕ)
     → IsSomeAnd (array_in (decls_of shown.proto (length shown.rows)) decl part) (HasTextAt index)
     → HasText shown decl part index
 has_text shown decl part index has =
-    subst (λ (o : Option Array). IsSomeAnd o (values.HasTextAt index)) (same_array shown decl part)
-    (weaker (array_in (decls_of shown.proto (length shown.rows)) decl part) (HasTextAt index)
-    (values.HasTextAt index) (λ array is. record { text = is.text; index_is = is.index_is }) has)
+    subst (λ (o : Option Array). IsSomeAnd o (HasTextAt index)) (same_array shown decl part) has
 
 -- each array is small, and each text is short
 pub small : (shown : Shown) → IsPrototype shown.proto → AreRows shown.proto shown.rows → (decl part : ℕ)
     (array : Array) → array_in (decls_of shown.proto (length shown.rows)) decl part ≡ Some array → IsSmall array
 small shown given rows_are decl part array e =
-    let is = small_arrays shown decl part array given rows_are (sym (same_array shown decl part) ∙ e) in
-    record { rank = is.rank; sizes = is.sizes; few = is.few }
+    small_arrays shown decl part array given rows_are (sym (same_array shown decl part) ∙ e)
 
 pub short : (shown : Shown) (decl part : ℕ) (index : List ℕ) → IsPrototype shown.proto
     → AreRows shown.proto shown.rows → HasText shown decl part index
     → length (text_of_part shown decl part index) < 2 ^ 32
 short shown decl part index given rows_are has =
     let is = short_texts shown decl part index given rows_are has in omega (arith, is)
-
--- nothing is lent
-pub nothing_stored : (array : Array) (bits : List ℕ → ℕ) (index : List ℕ) (most : ℕ)
-    → AreStored array bits index most []
-nothing_stored array bits index most = record {
-  count = 0;
-  few = omega arith;
-  bytes_are = record { fit = All-nil (AreBitsOf array.kind); bytes_are = refl };
-}
 
 -- a number of a kind by its bytes, the most significant first
 record IsNumber (kind : Kind) (text : List ℕ) : Type 0 where
@@ -181,10 +162,10 @@ stored shown decl part index most bytes array given rows_are has raw are_bytes e
     let is = part_is shown decl part array has.of_variable e in
     let var = is.var in
     let other : is_axis_of proto var ≡ false = rw is.var_is at has.other in
-    let found = some_of (array_at shown decl part) (values.HasNumberAt index) has.has in
+    let found = some_of (array_at shown decl part) (HasNumberAt index) has.has in
     let same : found.0 ≡ array = same_Some found.0 array (sym found.1 ∙ e) in
-    let at : values.HasNumberAt index (array_of proto count var) =
-    subst (values.HasNumberAt index) (same ∙ is.array_is) found.2 in
+    let at : HasNumberAt index (array_of proto count var) =
+    subst (HasNumberAt index) (same ∙ is.array_is) found.2 in
     let number = numeric proto var at.number other in
     let shape : List ℕ = shape_of_array (array_of proto count var) in
     let few : ℕ = min most (left_in_row proto var index) in
@@ -216,9 +197,9 @@ stored shown decl part index most bytes array given rows_are has raw are_bytes e
         → IsIndex (shape_of_array array) x → array_at shown decl part ≡ Some array → HasStored shown decl part x
     moved shown decl part index x array has index_is e = record {
       has =
-          let found = some_of (array_at shown decl part) (values.HasNumberAt index) has.has in
+          let found = some_of (array_at shown decl part) (HasNumberAt index) has.has in
           let same : found.0 ≡ array = same_Some found.0 array (sym found.1 ∙ e) in
-          subst (λ (o : Option Array). IsSomeAnd o (values.HasNumberAt x)) (sym e)
+          subst (λ (o : Option Array). IsSomeAnd o (HasNumberAt x)) (sym e)
           (record { number = subst (λ (a : Array). a.kind ≢ daps.Text) same found.2.number; index_is = index_is });
       of_variable = has.of_variable;
       other = has.other;

@@ -5,26 +5,14 @@ use Rattle.std.proofs.Math.Nat.{div-mul-le_self, le-mul_of_pos_right, mul-le-mul
 use Rattle.std.proofs.lemmas.Nat.{mul-le}
 use Rattle.std.proofs.Math.Seq.{drop-cons}
 use Rattle.std.proofs.lemmas.List.Elements.{All-tail}
-use Rattle.fm_base.specs.Layout.{product}
-use Rattle.fm_base.specs.declared.header.Dim.{Dim}
+use Rattle.nc_model.specs.Layout.{product}
+use Rattle.nc_model.specs.declared.header.Dim.{Dim}
 use Rattle.dap_model.specs.declared.projection.Slab.{Slab}
-use Rattle.dap_model.specs.Box.{slab_count}
+use Rattle.dap_model.specs.Box.{slab_count, HasStride}
 use Rattle.dap_model.specs.ProjectionFacts.{FitsDim}
 use Rattle.dap_model.proofs.SlabLemmas.{count_cases}
 use Rattle.dap_xdr.specs.Stretch.{extent_before, extent_of}
-
-abbrev pub dim_at : List Dim → ℕ → Dim
-dim_at dims at = get_or dims at (record { name = []; size = 0 })
-
-abbrev pub slab_at : List Slab → ℕ → Slab
-slab_at slabs at = get_or slabs at (record { start = 0; stride = 0; stop = 0 })
-
--- slabs that fit dimensions are as many
-pub fits-long : (dims : List Dim) (slabs : List Slab) → AllZip FitsDim dims slabs → length slabs ≡ length dims
-fits-long [] [] fits = refl
-fits-long [] (slab ∷ slabs) fits = absurd fits
-fits-long (dim ∷ dims) [] fits = absurd fits
-fits-long (dim ∷ dims) (slab ∷ slabs) fits = ap suc (fits-long dims slabs fits.1)
+use Rattle.dap_xdr.proofs.FitLemmas.{as_many}
 
 -- each slab fits the dimension at its place
 pub fits-at : (dims : List Dim) (slabs : List Slab) (at : ℕ) (d : Dim) (s : Slab) → AllZip FitsDim dims slabs
@@ -34,6 +22,11 @@ fits-at [] (slab ∷ slabs) at d s fits within = absurd fits
 fits-at (dim ∷ dims) [] at d s fits within = absurd fits
 fits-at (dim ∷ dims) (slab ∷ slabs) zero d s fits within = fits.0
 fits-at (dim ∷ dims) (slab ∷ slabs) (suc at) d s fits within = fits-at dims slabs at d s fits.1 (omega arith)
+
+-- slabs that fit dimensions have strides
+pub have_strides : (dims : List Dim) (slabs : List Slab) → AllZip FitsDim dims slabs → All HasStride slabs
+have_strides dims slabs fits = λ at slab within.
+    (fits-at dims slabs at (record { name = []; size = 0 }) slab fits within).stride
 
 -- the extent of no slab
 pub extent_of-past : (dims : List Dim) (slabs : List Slab) (at : ℕ) → AllZip FitsDim dims slabs → length slabs ≤ at
@@ -54,7 +47,7 @@ pub extent_of-before : (dims : List Dim) (slabs : List Slab) (at : ℕ) (d : Dim
 unfolding extent_of
 extent_of-before dims slabs zero d s fits some within = absurd (omega arith)
 extent_of-before dims slabs (suc at) d s fits some within =
-    let long : at < length dims = subst (λ (n : ℕ). at < n) (fits-long dims slabs fits) within in
+    let long : at < length dims = subst (λ (n : ℕ). at < n) (as_many dims slabs fits) within in
     let same : at ≡ suc at - 1 = omega arith in
     subst (λ (n : ℕ). extent_of (drop n dims) (drop n slabs)
     ≡ extent_before (get_or dims n d).size (get_or slabs n s) (extent_of (drop (suc at) dims) (drop (suc at) slabs)))
@@ -67,12 +60,6 @@ sizes_of dims = map (λ (dim : Dim). dim.size) dims
 abbrev pub HaveSizes : List Dim → Type 0
 HaveSizes dims = All (λ (dim : Dim). 1 ≤ dim.size) dims
 
-pub sizes-pos : (dims : List Dim) → HaveSizes dims → 1 ≤ product (sizes_of dims)
-unfolding product
-sizes-pos [] sizes = omega arith
-sizes-pos (dim ∷ dims) sizes =
-    mul-le 1 1 _ _ (sizes 0 dim (omega arith)) (sizes-pos dims (All-tail (λ (d : Dim). 1 ≤ d.size) dim dims sizes))
-
 pub fits-drop : (dims : List Dim) (slabs : List Slab) (at : ℕ) → AllZip FitsDim dims slabs
     → AllZip FitsDim (drop at dims) (drop at slabs)
 fits-drop dims slabs zero fits = fits
@@ -81,13 +68,14 @@ fits-drop [] (slab ∷ slabs) (suc at) fits = absurd fits
 fits-drop (dim ∷ dims) [] (suc at) fits = absurd fits
 fits-drop (dim ∷ dims) (slab ∷ slabs) (suc at) fits = fits-drop dims slabs at fits.1
 
--- a slab picks at most as many indices as its dimension has
-count-within : (dim : Dim) (slab : Slab) → FitsDim dim slab → slab_count slab ≤ dim.size
-count-within dim slab fits = elim (count_cases slab) [
+-- a slab picks at most as many indices as a dimension has within which it lies
+pub count_within : (size : ℕ) (slab : Slab) → HasStride slab → (slab.start ≤ slab.stop → slab.stop < size)
+    → slab_count slab ≤ size
+count_within size slab stride within = elim (count_cases slab) [
   | inl t ↦
-      let least = le-mul_of_pos_right ((slab.stop - slab.start) / slab.stride) fits.stride in
+      let least = le-mul_of_pos_right ((slab.stop - slab.start) / slab.stride) stride in
       let split = div-mul-le_self (slab.stop - slab.start) slab.stride in
-      let last = fits.within t.0 in
+      let last = within t.0 in
       omega (arith, t.1)
   | inr f ↦ omega (arith, f.1)
 ]
@@ -99,7 +87,7 @@ unfolding extent_of product slab_count
 count-most [] slabs fits = omega arith
 count-most (dim ∷ dims) [] fits = absurd fits
 count-most (dim ∷ dims) (slab ∷ slabs) fits =
-    mul-le _ _ _ _ (count-within dim slab fits.0) (count-most dims slabs fits.1)
+    mul-le _ _ _ _ (count_within dim.size slab fits.0.stride fits.0.within) (count-most dims slabs fits.1)
 
 -- what is left of the dimensions has at most as many index lists as all
 pub product-drop : (dims : List Dim) (at : ℕ) → HaveSizes dims
@@ -120,7 +108,7 @@ pub extent-fits : (dims : List Dim) (slabs : List Slab) (at : ℕ) (d : Dim) →
 unfolding product
 extent-fits dims slabs zero d fits sizes some within = absurd (omega arith)
 extent-fits dims slabs (suc at) d fits sizes some within =
-    let long : at < length dims = subst (λ (n : ℕ). at < n) (fits-long dims slabs fits) within in
+    let long : at < length dims = subst (λ (n : ℕ). at < n) (as_many dims slabs fits) within in
     let most = count-most (drop (suc at) dims) (drop (suc at) slabs) (fits-drop dims slabs (suc at) fits) in
     let whole : product (sizes_of (drop at dims))
     ≡ (get_or dims at d).size * product (sizes_of (drop (suc at) dims)) =
@@ -131,4 +119,4 @@ extent-fits dims slabs (suc at) d fits sizes some within =
     subst (λ (n : ℕ). (get_or dims n d).size * (extent_of (drop (suc at) dims) (drop (suc at) slabs)).count
     ≤ product (sizes_of dims)) same (omega (arith, whole, all, bound))
 
-pub ruleset extents = (fits-long, fits-at, extent_of-past, extent_of-before, extent-fits)
+pub ruleset extents = (as_many, fits-at, extent_of-past, extent_of-before, extent-fits)

@@ -2,7 +2,7 @@
 use Rattle.std.proofs.Common.{◌≡◌, List, length}
 use Rattle.std.specs.List.{AllZip}
 use Rattle.std.proofs.lemmas.Slice.Zip.{AllZip-long}
-use Rattle.fm_base.specs.declared.header.Dim.{Dim}
+use Rattle.nc_model.specs.declared.header.Dim.{Dim}
 use Rattle.dap_model.specs.declared.projection.Slab.{Slab}
 use Rattle.dap_model.specs.ProjectionFacts.{FitsDim}
 

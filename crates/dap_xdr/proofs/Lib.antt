@@ -4,7 +4,6 @@ pub mod ElementLemmas
 pub mod ExtentLemmas
 pub mod FitLemmas
 pub mod FrontLemmas
-pub mod IndexLemmas
 pub mod LendingLemmas
 pub mod PickedLemmas
 pub mod SoFarLemmas

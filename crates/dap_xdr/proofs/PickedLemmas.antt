@@ -1,34 +1,27 @@
 -- What a source has one after the other is what slabs pick one after the other, as long as they stay together.
 use Rattle.std.proofs.Common.{◌≡◌, ◌≢◌, ℕ, zero, suc, ◌+◌, ◌-◌, ◌%◌, ◌<◌, ◌≤◌, List, [], ◌∷◌, length, map, take, drop, slice_get, min, IsSomeAnd, Option, Some, refl, sym, ap, subst, ◌∙◌, arith}
-use Rattle.std.specs.List.{All, AllZip}
+use Rattle.std.specs.List.{AllZip}
 use Rattle.std.proofs.Math.Path.{subst₂}
 use Rattle.std.proofs.Math.Seq.{drop-cons}
-use Rattle.std.proofs.lemmas.List.Elements.{All-cons, All-nil}
 use Rattle.std.proofs.lemmas.Option.{get_or_from_slice_get, slice_get_within}
-use Rattle.fm_base.specs.Layout.{IsIndex, indices_of, rank_in}
-use Rattle.fm_base.specs.declared.header.Dim.{Dim}
+use Rattle.nc_model.specs.Layout.{IsIndex, indices_of, rank_in}
+use Rattle.nc_model.specs.declared.header.Dim.{Dim}
 use Rattle.nc_layout.proofs.OrderLemmas.{slice_get-indices_of}
 use Rattle.dap_model.specs.declared.projection.Slab.{Slab}
 use Rattle.dap_model.specs.declared.declaration.Array.{Array}
 use Rattle.dap_model.specs.declared.declaration.DapKind.TheVariants.{Text}
-use Rattle.dap_model.specs.Box.{box_len, box_of, index_at, HasStride}
+use Rattle.dap_model.specs.Box.{box_len, box_of, index_at}
 use Rattle.dap_model.specs.ProjectionFacts.{FitsDim}
 use Rattle.dap_model.proofs.BoxLemmas.{EachPicks-index_at, get_or-box_of, length-box_of, split_of}
 use Rattle.dap_model.proofs.ProjectionFitLemmas.{picked_within}
 use Rattle.dap_model.specs.declared.declaration.Decl.{Decl}
-use Rattle.dap_xdr.specs.Content.{array_in, HasNumberAt, HasTextAt}
+use Rattle.fm_dataset.specs.Values.{HasNumberAt, HasTextAt}
+use Rattle.dap_xdr.specs.Content.{array_in}
 use Rattle.dap_xdr.specs.Portion.{IsPortion, Portion}
 use Rattle.dap_xdr.specs.declared.slabs.Extent.{Extent}
 use Rattle.dap_xdr.specs.Stretch.{extent_of, left_at, AreBytesOf, AreStored, ArePicked}
-use Rattle.dap_xdr.proofs.ExtentLemmas.{sizes_of}
+use Rattle.dap_xdr.proofs.ExtentLemmas.{have_strides, sizes_of}
 use Rattle.dap_xdr.proofs.StretchLemmas.{stretch_of, within_turns}
-
-fits-strides : (dims : List Dim) (slabs : List Slab) → AllZip FitsDim dims slabs → All HasStride slabs
-fits-strides [] [] fits = All-nil HasStride
-fits-strides [] (slab ∷ slabs) fits = absurd fits
-fits-strides (dim ∷ dims) [] fits = absurd fits
-fits-strides (dim ∷ dims) (slab ∷ slabs) fits =
-    All-cons HasStride slab slabs fits.0.stride (fits-strides dims slabs fits.1)
 
 sized-index : (dims : List Dim) (index : List ℕ) → AllZip (λ (dim : Dim) (i : ℕ). i < dim.size) dims index
     → IsIndex (sizes_of dims) index
@@ -42,7 +35,7 @@ pub index_at-within : (dims : List Dim) (slabs : List Slab) (place : ℕ) → Al
     → place < box_len slabs → IsIndex (sizes_of dims) (index_at slabs place)
 index_at-within dims slabs place fits within =
     sized-index dims (index_at slabs place) (picked_within dims slabs (index_at slabs place) fits
-    (EachPicks-index_at slabs place (fits-strides dims slabs fits) within))
+    (EachPicks-index_at slabs place (have_strides dims slabs fits) within))
 
 -- the list of all index lists, from the number of one of them on
 drop-rank : (shape index : List ℕ) (rank : ℕ) → IsIndex shape index → rank_in shape index ≡ rank

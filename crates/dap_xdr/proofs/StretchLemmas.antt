@@ -1,11 +1,11 @@
--- Part that slabs pick one after the other and that the array has one after the other.
+-- Numbers that slabs pick one after the other and that the array has one after the other.
 use Rattle.std.proofs.Common.{◌≡◌, ℕ, suc, ◌+◌, ◌-◌, ◌*◌, ◌/◌, ◌%◌, ◌<◌, ◌≤◌, List, [], ◌∷◌, Bool, true, false, ◌==◌, ◌&&◌, inl, inr, refl, sym, ap, ap₂, subst, ◌∙◌, arith}
 use Rattle.std.specs.List.{AllZip}
 use Rattle.std.proofs.Math.Nat.{div-lt_iff_lt-mul, div-one, mul-add-mod_self_right, mul-le-mul_right, mul_assoc}
 use Rattle.std.proofs.lemmas.Bool.{and_parts, cond-true, cond-false, eqb-true}
 use Rattle.std.proofs.lemmas.Nat.{div-add-mod'}
-use Rattle.fm_base.specs.Layout.{product, rank_in}
-use Rattle.fm_base.specs.declared.header.Dim.{Dim}
+use Rattle.nc_model.specs.Layout.{product, rank_in}
+use Rattle.nc_model.specs.declared.header.Dim.{Dim}
 use Rattle.dap_model.specs.declared.projection.Slab.{Slab}
 use Rattle.dap_model.specs.Box.{box_len, index_at, slab_count, slab_index}
 use Rattle.dap_model.specs.ProjectionFacts.{FitsDim}
@@ -76,7 +76,7 @@ all_whole (dim ∷ dims) (slab ∷ slabs) fits whole =
           ∙ split.whole;
     }
 
--- in each turn of so many places the array has the numbers one after the other
+-- in each turn of `unit` places the array has the numbers one after the other
 pub record Stretch (unit : ℕ) (dims : List Dim) (slabs : List Slab) : Type 0 where
   pub times : ℕ
   pub turns : box_len slabs ≡ times * unit

@@ -1,4 +1,4 @@
--- Part of two bytes, one after the other, in four bytes each.
+-- Numbers of two bytes, one after the other, in four bytes each.
 use Rattle.std.proofs.Common.{◌≡◌, ℕ, zero, suc, ◌+◌, ◌*◌, ◌<◌, ◌≤◌, List, [], ◌∷◌, ◌++◌, length, get_or, take, drop, refl, sym, ap, ap₂, ◌∙◌, arith}
 use Rattle.std.specs.Int.{w16, from_be_bytes}
 use Rattle.std.proofs.Math.Seq.{drop-append-add, take-append-add, take-append_seam}

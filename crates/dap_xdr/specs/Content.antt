@@ -1,15 +1,12 @@
 -- What is sent of a dataset's values (ESE-RFC-004, the data of DAP 2.0), by what a source of values shows.
-use Rattle.std.specs.Prelude.{◌≡◌, ◌≢◌, ℕ, ◌<◌, ◌≤◌, ◌^◌, List, [], length, slice_get, Option, Some, option_and_then, All}
+use Rattle.std.specs.Prelude.{ℕ, List, [], slice_get, Option, option_and_then}
 use Rattle.std.specs.List.{flat_map, AllZip}
 use Rattle.std.specs.Option.{option_map_or}
-use Rattle.fm_base.specs.declared.header.Dim.{Dim}
-use Rattle.fm_base.specs.Layout.{product, IsIndex}
-use Rattle.dap_model.specs.declared.declaration.DapKind.TheVariants.{Text}
 use Rattle.dap_model.specs.declared.declaration.Array.{Array}
 use Rattle.dap_model.specs.declared.declaration.Decl.{Decl}
 use Rattle.dap_model.specs.declared.projection.Sent.{Sent}
 use Rattle.dap_model.specs.Picking.{parts_of}
-use Rattle.dap_model.specs.ProjectionFacts.{array_lengths, FitsDim}
+use Rattle.dap_model.specs.ProjectionFacts.{FitsDim}
 use Rattle.dap_model.specs.Xdr.{xdr_of, values_at}
 
 -- what a source of values shows: its declarations, and by declaration, part and index list the bits of each number and
@@ -36,27 +33,6 @@ part_data content sent = option_map_or (array_data content sent)
 -- the bytes of all parts that are sent, one after the other
 unfoldable pub data_of : Content → List Sent → List ℕ
 data_of content sent = flat_map (part_data content) sent
-
--- a part of some declaration, with a slab for each of its dimensions that lies within it
-pub record IsPart (decls : List Decl) (sent : Sent) (array : Array) : Type 0 where
-  pub array_is : array_in decls sent.decl sent.part ≡ Some array
-  pub fits : AllZip FitsDim array.dims sent.slabs
-
--- an array has few dimensions, none of them empty, and few elements
-pub record IsSmall (array : Array) : Type 0 where
-  pub rank : length array.dims ≤ 1025
-  pub sizes : All (λ (dim : Dim). 1 ≤ dim.size) array.dims
-  pub few : product (array_lengths array) < 2 ^ 64
-
--- an array is of numbers, and has this index list
-pub record HasNumberAt (index : List ℕ) (array : Array) : Type 0 where
-  pub number : array.kind ≢ Text
-  pub index_is : IsIndex (array_lengths array) index
-
--- an array is of texts, and has this index list
-pub record HasTextAt (index : List ℕ) (array : Array) : Type 0 where
-  pub text : array.kind ≡ Text
-  pub index_is : IsIndex (array_lengths array) index
 
 -- the slabs of what is sent fit an array
 abbrev pub FitsArray : Sent → Array → Type 0

@@ -4,7 +4,7 @@ use Rattle.std.specs.Int.{w16, from_be_bytes}
 use Rattle.dap_model.specs.Xdr.{number_bytes}
 use Rattle.dap_model.specs.declared.declaration.DapKind.TheVariants.{Int16}
 
--- so many of these bytes stand over the front of the buffer
+-- the first `count` of these bytes stand over the front of the buffer
 pub record IsFront (bytes old new : List ℕ) (count : ℕ) : Type 0 where
   pub fits : count ≤ length old
   pub within : count ≤ length bytes

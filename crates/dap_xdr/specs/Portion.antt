@@ -6,7 +6,8 @@ use Rattle.dap_model.specs.declared.projection.Sent.{Sent}
 use Rattle.dap_model.specs.Box.{box_len, box_of}
 use Rattle.dap_model.specs.ProjectionFacts.{FitsDim}
 use Rattle.dap_model.specs.Xdr.{array_bytes, element_bytes, element_len, texts_bytes, zeros_after}
-use Rattle.dap_xdr.specs.Content.{array_in, Content, IsSmall}
+use Rattle.fm_dataset.specs.Values.{IsSmall}
+use Rattle.dap_xdr.specs.Content.{array_in, Content}
 
 -- an array, and what is sent of it
 pub record Portion : Type 0 where

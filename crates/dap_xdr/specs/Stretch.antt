@@ -1,9 +1,9 @@
--- Part that an array has one after the other and slabs pick one after the other.
+-- Numbers that an array has one after the other and slabs pick one after the other.
 use Rattle.std.specs.Prelude.{◌≡◌, ℕ, ◌-◌, ◌%◌, ◌+◌, ◌*◌, ◌≤◌, List, [], ◌∷◌, map, take, drop, Bool, true, ◌==◌, ◌&&◌, if◌then◌else◌, All}
 use Rattle.std.specs.Int.{w16, w32, w64, to_be_bytes}
 use Rattle.std.specs.List.{flat_map}
-use Rattle.fm_base.specs.declared.header.Dim.{Dim}
-use Rattle.fm_base.specs.Layout.{rank_in, indices_of}
+use Rattle.nc_model.specs.declared.header.Dim.{Dim}
+use Rattle.nc_model.specs.Layout.{rank_in, indices_of}
 use Rattle.dap_xdr.specs.declared.slabs.Extent.{Extent}
 use Rattle.dap_model.specs.Box.{box_of, slab_count}
 use Rattle.dap_model.specs.declared.declaration.Array.{Array}

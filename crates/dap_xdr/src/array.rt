@@ -30,7 +30,7 @@ fn count_twice(count: u64) -> [u8; 8]
     [a, b, c, d, a, b, c, d]
 }
 
-// Writes the zero bytes after `len` bytes, from a place among them on.
+// Writes the zero bytes after `len` bytes, from an offset among them on.
 pub(crate) fn put_zeros(len: u64, from: u64, out: &mut [u8]) -> usize
     ensures { IsPut (drop from (zeros_after len)) out.old out.new result }
 {
@@ -39,7 +39,7 @@ pub(crate) fn put_zeros(len: u64, from: u64, out: &mut [u8]) -> usize
     put(zeros, from, out)
 }
 
-// Writes the numbers and the zero bytes after them from a place among them on.
+// Writes the numbers and the zero bytes after them from an offset on.
 fn put_body<S: Source>(
     source: &S,
     part: &Part,
@@ -59,8 +59,8 @@ fn put_body<S: Source>(
     count + put_zeros(len, from.saturating_sub(len), rest)
 }
 
-// Writes the bytes of an array of numbers from a place among them on, as much as fits. The buffer `index` has room for
-// an index list.
+// Writes the bytes of an array of numbers from an offset on, as many as fit. The buffer `index` has room for an index
+// list.
 pub(crate) fn put_array<S: Source>(
     source: &S,
     part: &Part,

@@ -10,6 +10,7 @@ impl Source for Dataset {
     ghost content = { λ shown. content_of shown };
 
     fn decls(&self) -> &[Decl] {
+        // What `proto` ensures of the rows: each array is small.
         let _proto = self.proto();
         Dataset::decls(self).as_slice()
     }
@@ -19,11 +20,13 @@ impl Source for Dataset {
     }
 
     fn text(&self, decl: u32, part: u32, index: &[u64]) -> &[u8] {
+        // What `proto` ensures of the rows: each text is short.
         let _proto = self.proto();
         Dataset::text(self, decl, part, index)
     }
 
     fn raw(&self, decl: u32, part: u32, index: &[u64], most: u64) -> &[u8] {
+        // What `proto` ensures of the rows: elements are as long as their kind.
         let _proto = self.proto();
         if !self.is_stored(decl, part) {
             return b"".as_slice();

@@ -12,107 +12,112 @@ use crate::part::Part;
 use crate::source::Source;
 use crate::stored::put_stored;
 
-// Writes numbers from a place on, from a place among the bytes of the first one on, as they stand in a file: maybe
-// nothing. The index list of the place stands in `index`.
+// The place of a number among those that are sent, and how many of its bytes are passed over.
+#[derive(Clone, Copy)]
+pub(crate) struct Position {
+    place: u64,
+    skip: u64,
+}
+
+// Writes numbers from a position on, as they stand in a file: maybe nothing. The index list of its place stands in
+// `index`.
 fn put_in_place<S: Source>(
     source: &S,
     part: &Part,
-    place: u64,
-    skip: u64,
+    at: Position,
     out: &mut [u8],
     index: &[u64],
 ) -> usize
     requires source { IsOf (S.content source.now) part.now }
     requires number { part.now.array.kind ≢ DapKind.Text }
-    requires place { place < box_len part.now.sent.slabs }
+    requires place { at.place < box_len part.now.sent.slabs }
     requires room { 0 < length out.old }
-    requires index { index.now ≡ index_at part.now.sent.slabs place }
-    ensures { IsFront (drop skip (numbers_from (S.content source.now) part.now place)) out.old out.new result }
+    requires index { index.now ≡ index_at part.now.sent.slabs at.place }
+    ensures { IsFront (drop at.skip (numbers_from (S.content source.now) part.now at.place)) out.old out.new result }
 {
-    let stored = part.raw(source, place, index, out.len() as u64);
-    put_stored(part.kind(), stored, skip, out)
+    let stored = part.raw(source, at.place, index, out.len() as u64);
+    put_stored(part.kind(), stored, at.skip, out)
 }
 
-// Writes the number at a place, from a place among its bytes on. The index list of the place stands in `index`.
+// Writes the number at a position. The index list of its place stands in `index`.
 fn put_first<S: Source>(
     source: &S,
     part: &Part,
-    place: u64,
-    skip: u64,
+    at: Position,
     out: &mut [u8],
     index: &[u64],
 ) -> usize
     requires source { IsOf (S.content source.now) part.now }
     requires number { part.now.array.kind ≢ DapKind.Text }
-    requires place { place < box_len part.now.sent.slabs }
-    requires skip { skip < element_len part.now.array.kind }
+    requires place { at.place < box_len part.now.sent.slabs }
+    requires skip { at.skip < element_len part.now.array.kind }
     requires room { 0 < length out.old }
-    requires index { index.now ≡ index_at part.now.sent.slabs place }
+    requires index { index.now ≡ index_at part.now.sent.slabs at.place }
     ensures some { 1 ≤ result }
-    ensures front { IsFront (drop skip (numbers_from (S.content source.now) part.now place)) out.old out.new result }
+    ensures front { IsFront (drop at.skip (numbers_from (S.content source.now) part.now at.place)) out.old out.new
+        result }
 {
-    let bits = part.bits(source, place, index);
-    put_element(part.kind(), bits, skip, out)
+    let bits = part.bits(source, at.place, index);
+    put_element(part.kind(), bits, at.skip, out)
 }
 
-// Writes numbers from a place on, from a place among the bytes of the first one on: at least one byte.
+// Writes numbers from a position on: at least one byte.
 #[tactic(auto, using(crate::proofs::FrontLemmas::nothing))]
 fn put_some<S: Source>(
     source: &S,
     part: &Part,
-    place: u64,
-    skip: u64,
+    at: Position,
     out: &mut [u8],
     index: &mut [u64],
 ) -> usize
     requires source { IsOf (S.content source.now) part.now }
     requires number { part.now.array.kind ≢ DapKind.Text }
-    requires place { place < box_len part.now.sent.slabs }
-    requires skip { skip < element_len part.now.array.kind }
+    requires place { at.place < box_len part.now.sent.slabs }
+    requires skip { at.skip < element_len part.now.array.kind }
     requires room { 0 < length out.old }
     requires index { length index.old ≡ length part.now.sent.slabs }
     ensures some { 1 ≤ result }
-    ensures front { IsFront (drop skip (numbers_from (S.content source.now) part.now place)) out.old out.new result }
+    ensures front { IsFront (drop at.skip (numbers_from (S.content source.now) part.now at.place)) out.old out.new
+        result }
     ensures index { length index.new ≡ length index.old }
 {
-    part.put_index(place, index);
-    let count = put_in_place(source, part, place, skip, out, index);
+    part.put_index(at.place, index);
+    let count = put_in_place(source, part, at, out, index);
     if count > 0 {
         return count;
     }
-    put_first(source, part, place, skip, out, index)
+    put_first(source, part, at, out, index)
 }
 
-// The same behind what stands in the buffer already.
+// The same behind the first `filled` bytes of the buffer.
 fn put_more<S: Source>(
     source: &S,
     part: &Part,
-    place: u64,
-    skip: u64,
+    at: Position,
     filled: usize,
     out: &mut [u8],
     index: &mut [u64],
 ) -> usize
     requires source { IsOf (S.content source.now) part.now }
     requires number { part.now.array.kind ≢ DapKind.Text }
-    requires place { place < box_len part.now.sent.slabs }
-    requires skip { skip < element_len part.now.array.kind }
+    requires place { at.place < box_len part.now.sent.slabs }
+    requires skip { at.skip < element_len part.now.array.kind }
     requires room { filled < length out.old }
     requires index { length index.old ≡ length part.now.sent.slabs }
     ensures some { 1 ≤ result }
     ensures fits { filled + result ≤ length out.old }
-    ensures within { result ≤ length (drop skip (numbers_from (S.content source.now) part.now place)) }
+    ensures within { result ≤ length (drop at.skip (numbers_from (S.content source.now) part.now at.place)) }
     ensures bytes { out.new ≡ take filled out.old
-        ++ (take result (drop skip (numbers_from (S.content source.now) part.now place)) ++ drop (filled + result)
+        ++ (take result (drop at.skip (numbers_from (S.content source.now) part.now at.place)) ++ drop (filled + result)
         out.old) }
     ensures index { length index.new ≡ length index.old }
 {
     let (_, rest) = out.split_at_mut(filled);
-    put_some(source, part, place, skip, rest, index)
+    put_some(source, part, at, rest, index)
 }
 
-// Writes the bytes of the numbers that are sent from a place among them on, as much as fits, and returns how many bytes
-// that are. The buffer `index` has room for an index list.
+// Writes the bytes of the numbers that are sent from an offset on, as many as fit, and returns how many that are. The
+// buffer `index` has room for an index list.
 pub(crate) fn put_elements<S: Source>(
     source: &S,
     part: &Part,
@@ -133,7 +138,7 @@ pub(crate) fn put_elements<S: Source>(
     let mut skip = from % width;
     let mut filled = 0;
     while place < part.count() && filled < out.len() {
-        let count = put_more(source, part, place, skip, filled, out, index);
+        let count = put_more(source, part, Position { place, skip }, filled, out, index);
         let passed = skip + count as u64;
         place += passed / width;
         skip = passed % width;

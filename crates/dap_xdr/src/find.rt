@@ -1,25 +1,11 @@
 //! The array that is a part of a declaration.
-ghost use Rattle.std.specs.Prelude.{◌≡◌, IsSomeAnd, MatchOption, None, Some, slice_get};
-ghost use Rattle.dap_model.specs.Picking.{parts_of};
+ghost use Rattle.std.specs.Prelude.{◌≡◌, IsSomeAnd, Some};
 ghost use Rattle.dap_xdr.specs.Content.{array_data, array_in, part_data, FitsArray};
 ghost use Rattle.dap_xdr.specs.Portion.{IsOf, IsPortion};
 
 use crate::source::Source;
 use dap_model::{Array, Decl, Sent};
-
-// The part of a declaration of this number.
-pub(crate) fn part_of(decl: &Decl, part: usize) -> Option<&Array>
-    ensures { MatchOption result (slice_get (parts_of decl.now) part ≡ None)
-        (λ array. slice_get (parts_of decl.now) part ≡ Some array.now) }
-{
-    match decl {
-        Decl::Plain(array) if part == 0 => Some(array),
-        Decl::Plain(_) => None,
-        Decl::Grid { array, .. } if part == 0 => Some(array),
-        Decl::Grid { maps, .. } => maps.as_slice().get(part - 1),
-        Decl::Structure { members, .. } => members.as_slice().get(part),
-    }
-}
+use dap_slab::part_of;
 
 // The array of what is sent.
 #[tactic(auto, unfolding(crate::specs::Content::array_in))]

@@ -4,10 +4,10 @@ ghost use Rattle.std.specs.List.{AllZip};
 ghost use Rattle.dap_model.specs.ProjectionFacts.{FitsDim};
 ghost use Rattle.dap_xdr.specs.Content.{array_in, FitsArray};
 
-use crate::find::part_of;
 use crate::source::Source;
 use dap_model::{Sent, Slab};
-use fm_base::Dim;
+use dap_slab::part_of;
+use nc_model::Dim;
 
 // Whether a slab has a stride, and its indices lie within a dimension.
 fn fits_dim(dim: &Dim, slab: Slab) -> bool

@@ -1,4 +1,4 @@
-//! Part as XDR, by their kind.
+//! Numbers as XDR, by their kind.
 ghost use Rattle.std.specs.Prelude.{◌≡◌, ◌-◌, drop, length, min};
 ghost use Rattle.dap_model.specs.Xdr.{element_bytes, element_len, number_bytes, number_len, AreBitsOf};
 ghost use Rattle.dap_xdr.specs.Overlay.{overlay};
@@ -27,7 +27,7 @@ pub(crate) fn widened(bits: u16) -> [u8; 4]
     i32::from(bits.cast_signed()).cast_unsigned().to_be_bytes()
 }
 
-// Writes the bytes of an element of an array from a place among them on.
+// Writes the bytes of an element of an array from an offset on.
 #[tactic(auto, unfolding(dap_model::specs::Xdr::element_bytes, dap_model::specs::Xdr::number_bytes, dap_model::specs::Xdr::bits_in))]
 pub(crate) fn put_element(kind: DapKind, bits: u64, from: u64, out: &mut [u8]) -> usize
     requires { AreBitsOf kind bits }
@@ -43,7 +43,7 @@ pub(crate) fn put_element(kind: DapKind, bits: u64, from: u64, out: &mut [u8]) -
     }
 }
 
-// Writes the bytes of a number alone from a place among them on: a byte alone takes four.
+// Writes the bytes of a number alone from an offset on: a byte alone takes four.
 #[tactic(auto, unfolding(dap_model::specs::Xdr::number_bytes, dap_model::specs::Xdr::bits_in))]
 pub(crate) fn put_number(kind: DapKind, bits: u64, from: u64, out: &mut [u8]) -> usize
     requires { AreBitsOf kind bits }

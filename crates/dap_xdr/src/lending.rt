@@ -10,7 +10,7 @@ use crate::part::{FEW, MAX_RANK, Part};
 use crate::source::Source;
 use dap_model::{Array, DapKind, Sent};
 
-// The bytes of numbers from a place among the bytes of all on, as far as they stand together in a file.
+// The bytes of all numbers from an offset on, as far as they stand together in a file.
 fn lent_numbers<'a, S: Source>(source: &'a S, part: &Part, from: u64, index: &mut [u64]) -> &'a [u8]
     requires source { IsOf (S.content source.now) part.now }
     requires number { part.now.array.kind ≢ Kind.Text }
@@ -53,9 +53,9 @@ fn lent_array<'a, S: Source>(
 }
 
 /// Lends a stretch of a part's data from a place on that stands in a file as it is sent: of an array of bytes, or of
-/// numbers of four or eight bytes, as far as its last slabs are whole and the source has them together. It may be empty,
-/// and is a front of the data from that place on. It takes no memory. The caller has a part of the source with slabs
-/// that fit it.
+/// numbers of four or eight bytes, as far as its last slabs are whole and the source has them together. It may be
+/// empty, and is a front of the data from that place on. It takes no memory. The caller has a part of the source with
+/// slabs that fit it.
 pub fn lent<'a, S: Source>(source: &'a S, sent: &Sent, from: u64) -> &'a [u8]
     requires { IsSomeAnd (array_in (S.content source.now).decls sent.now.decl sent.now.part) (FitsArray sent.now) }
     ensures { take (length result.now) (drop from (part_data (S.content source.now) sent.now)) ≡ result.now }

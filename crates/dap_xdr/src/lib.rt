@@ -1,4 +1,4 @@
-//! The data of DAP 2.0: the values of a part that is sent, as XDR, from any place.
+//! The data of DAP 2.0: the values of a part that is sent, as XDR, from any offset.
 #![tactic(auto)]
 
 mod array;

@@ -6,9 +6,10 @@ ghost use Rattle.dap_model.specs.declared.declaration.DapKind.{DapKind};
 ghost use Rattle.dap_xdr.specs.Portion.{bits_in, text_in, IsPortion, IsOf};
 ghost use Rattle.dap_xdr.specs.Stretch.{left_at, ArePicked};
 
-use crate::slabs::{Extent, extent_of, put_index};
+use crate::slabs::{Extent, extent_of};
 use crate::source::Source;
 use dap_model::{Array, DapKind, Sent};
+use dap_slab::put_index;
 use std::marker::Model;
 
 // The greatest rank of an array.
@@ -66,18 +67,13 @@ impl<'a> Part<'a> {
     }
 
     // Writes the index list at a place.
+    #[tactic(auto, using(crate::proofs::ExtentLemmas::have_strides))]
     pub fn put_index(&self, place: u64, index: &mut [u64])
         requires place { place < box_len self.now.sent.slabs }
         requires room { length index.old ≡ length self.now.sent.slabs }
         ensures { index.new ≡ index_at self.now.sent.slabs place }
     {
-        put_index(
-            self.array.dims.as_slice(),
-            self.sent.slabs.as_slice(),
-            self.count(),
-            place,
-            index,
-        );
+        put_index(self.sent.slabs.as_slice(), self.count(), place, index);
     }
 
     // The bits of the number at a place, whose index list stands in `index`.
@@ -101,7 +97,7 @@ impl<'a> Part<'a> {
         self.extent.unit - place % self.extent.unit
     }
 
-    // Part from a place on as they stand in a file, at most `most` and maybe none; their index list stands in `index`.
+    // Numbers from a place on, as they stand in a file: at most `most`, maybe none. Their index list stands in `index`.
     pub fn raw<'b, S: Source>(
         &self,
         source: &'b S,

@@ -1,4 +1,4 @@
-//! The bytes of a part from any place.
+//! The bytes of a part from any offset.
 ghost use Rattle.std.specs.Prelude.{◌≡◌, ◌≢◌, ◌-◌, ◌^◌, ◌<◌, ◌≤◌, [], drop, length, min, IsSomeAnd};
 ghost use Rattle.dap_xdr.specs.Content.{array_data, array_in, part_data, FitsArray};
 ghost use Rattle.dap_xdr.specs.Overlay.{overlay, IsPut};
@@ -50,11 +50,11 @@ fn put_many<S: Source>(
     }
 }
 
-/// Writes the data of a part from a place on over the front of a buffer, as much as fits, and returns how many bytes
+/// Writes the data of a part from an offset on over the front of a buffer, as many bytes as fit, and returns how many
 /// that are (RFC 4506; ESE-RFC-004, the data of DAP 2.0). It takes no memory. The caller has a part of the source with
 /// slabs that fit it, and fewer than 2^64 bytes of data.
 ///
-/// A piece of numbers costs the same from each place. A piece of an array of texts costs a walk over the texts before
+/// A piece of numbers costs the same from each offset. A piece of an array of texts costs a walk over the texts before
 /// it.
 pub fn xdr_piece<S: Source>(source: &S, sent: &Sent, from: u64, out: &mut [u8]) -> usize
     requires part { IsSomeAnd (array_in (S.content source.now).decls sent.now.decl sent.now.part) (FitsArray sent.now) }

@@ -1,13 +1,14 @@
 //! How many index lists slabs pick, and how many of them stand together.
-ghost use Rattle.std.specs.Prelude.{◌≡◌, ◌*◌, ◌<◌, ◌≤◌, ◌^◌, length, map, All};
+ghost use Rattle.std.specs.Prelude.{◌≡◌, ◌*◌, ◌<◌, ◌≤◌, ◌^◌, map, All};
 ghost use Rattle.std.specs.List.{AllZip};
-ghost use Rattle.fm_base.specs.Layout.{product};
-ghost use Rattle.dap_model.specs.Box.{box_len, index_at, slab_count, slab_index, HasStride};
+ghost use Rattle.nc_model.specs.Layout.{product};
+ghost use Rattle.dap_model.specs.Box.{HasStride};
 ghost use Rattle.dap_model.specs.ProjectionFacts.{FitsDim};
 ghost use Rattle.dap_xdr.specs.Stretch.{extent_before, extent_of, is_whole};
 
 use dap_model::Slab;
-use fm_base::Dim;
+use dap_slab::slab_count;
+use nc_model::Dim;
 
 // How many index lists slabs pick, how many of them stand together in the array, and whether each slab is whole.
 #[derive(Clone, Copy)]
@@ -15,20 +16,6 @@ pub(crate) struct Extent {
     pub count: u64,
     pub unit: u64,
     pub whole: bool,
-}
-
-// How many indices a slab picks of a dimension of this size.
-#[tactic(auto, unfolding(dap_model::specs::Box::slab_count))]
-pub(crate) fn count_in(size: u64, slab: Slab) -> u64
-    requires stride { HasStride slab }
-    requires within { slab.start ≤ slab.stop → slab.stop < size }
-    ensures exact { result ≡ slab_count slab }
-    ensures within { result ≤ size }
-{
-    if slab.start > slab.stop {
-        return 0;
-    }
-    (slab.stop - slab.start) / slab.stride + 1
 }
 
 // Whether a slab is the whole of a dimension of this size.
@@ -46,7 +33,7 @@ fn with_slab(extent: Extent, size: u64, slab: Slab) -> Extent
     requires few { size * extent.count < 2 ^ 64 }
     ensures { result ≡ extent_before size slab extent }
 {
-    let count = count_in(size, slab) * extent.count;
+    let count = slab_count(slab) * extent.count;
     Extent {
         count,
         unit: if slab.stride == 1 && extent.whole {
@@ -77,31 +64,4 @@ pub(crate) fn extent_of(dims: &[Dim], slabs: &[Slab]) -> Extent
         extent = with_slab(extent, dims[at].size, slabs[at]);
     }
     extent
-}
-
-// The index at a place of a slab.
-#[tactic(auto, using(crate::proofs::IndexLemmas::indices))]
-fn index_in(slab: Slab, place: u64) -> u64
-    requires stride { HasStride slab }
-    requires place { place < slab_count slab }
-    ensures { result ≡ slab_index slab place }
-{
-    slab.start + place * slab.stride
-}
-
-// Writes the index list at a place among those that slabs pick; `count` is how many they pick.
-pub(crate) fn put_index(dims: &[Dim], slabs: &[Slab], count: u64, place: u64, index: &mut [u64])
-    requires fits { AllZip FitsDim dims.now slabs.now }
-    requires count { count ≡ box_len slabs.now }
-    requires place { place < count }
-    requires room { length index.old ≡ length slabs.now }
-    ensures { index.new ≡ index_at slabs.now place }
-{
-    let mut others = count;
-    let mut rest = place;
-    for (at, slab) in slabs.iter().enumerate() {
-        others /= count_in(dims[at].size, *slab);
-        index[at] = index_in(*slab, rest / others);
-        rest %= others;
-    }
 }

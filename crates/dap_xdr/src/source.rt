@@ -2,7 +2,8 @@
 ghost use Rattle.std.specs.Prelude.{◌≡◌, ◌<◌, ◌≤◌, ◌^◌, ℕ, IsSomeAnd, Some, length};
 ghost use Rattle.dap_model.specs.declared.declaration.Array.{Array as SpecArray};
 ghost use Rattle.dap_model.specs.Xdr.{AreBitsOf};
-ghost use Rattle.dap_xdr.specs.Content.{array_in, Content, HasNumberAt, HasTextAt, IsSmall};
+ghost use Rattle.fm_dataset.specs.Values.{HasNumberAt, HasTextAt, IsSmall};
+ghost use Rattle.dap_xdr.specs.Content.{array_in, Content};
 ghost use Rattle.dap_xdr.specs.Stretch.{AreStored};
 
 use dap_model::Decl;
@@ -31,8 +32,8 @@ pub trait Source {
         ensures exact { result.now ≡ (content self.now).text decl part index.now }
         ensures short { length result.now < 2 ^ 32 };
 
-    /// Part from an index list on, in row-major order, as they stand one after the other in a file; at most `most`,
-    /// and maybe none.
+    /// Numbers from an index list on, in row-major order, as they stand one after the other in a file: at most `most`,
+    /// maybe none.
     fn raw(&self, decl: u32, part: u32, index: &[u64], most: u64) -> &[u8]
         requires has { IsSomeAnd (array_in (content self.now).decls decl part) (HasNumberAt index.now) }
         requires some { 1 ≤ most }

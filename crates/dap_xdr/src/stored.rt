@@ -1,4 +1,4 @@
-//! Part that stand in a file, written as elements of an array.
+//! Numbers that stand in a file, written as elements of an array.
 ghost use Rattle.std.specs.Prelude.{ℕ, List, drop};
 ghost use Rattle.std.specs.List.{flat_map};
 ghost use Rattle.dap_model.specs.Xdr.{element_bytes};
@@ -9,7 +9,7 @@ use crate::widen::widen;
 use crate::writing::put;
 use dap_model::DapKind;
 
-// Writes numbers that stand in a file, from a place among their bytes on, as much as can be written at once: maybe
+// Writes numbers that stand in a file, from an offset among their bytes on, as many as can be written at once: maybe
 // nothing.
 #[tactic(auto, using(crate::proofs::StoredLemmas::stored))]
 pub(crate) fn put_stored(kind: DapKind, stored: &[u8], skip: u64, out: &mut [u8]) -> usize

@@ -6,7 +6,7 @@ ghost use Rattle.dap_xdr.specs.Overlay.{IsPut};
 use crate::array::{count_bytes, put_zeros};
 use crate::writing::put;
 
-// Writes a text's bytes and the zero bytes after them from a place among them on.
+// Writes a text's bytes and the zero bytes after them from an offset on.
 fn put_padded(text: &[u8], from: u64, out: &mut [u8]) -> usize
     ensures { IsPut (drop from (text.now ++ zeros_after (length text.now))) out.old out.new result }
 {
@@ -16,7 +16,7 @@ fn put_padded(text: &[u8], from: u64, out: &mut [u8]) -> usize
     count + put_zeros(len, from.saturating_sub(len), rest)
 }
 
-// Writes a text as XDR from a place among its bytes on: its length, its bytes, and zero bytes up to a multiple of four.
+// Writes a text as XDR from an offset on: its length, its bytes, and zero bytes up to a multiple of four.
 pub(crate) fn put_text(text: &[u8], from: u64, out: &mut [u8]) -> usize
     ensures { IsPut (drop from (text_bytes text.now)) out.old out.new result }
 {

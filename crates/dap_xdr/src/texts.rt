@@ -10,8 +10,8 @@ use crate::source::Source;
 use crate::text::{put_text, text_len};
 use crate::writing::put;
 
-// Writes an array of texts from a place among its bytes on, as much as fits. The texts before that place are passed
-// over one by one. The buffer `index` has room for an index list.
+// Writes an array of texts from an offset on, as many bytes as fit. The texts before that offset are passed over one
+// by one. The buffer `index` has room for an index list.
 pub(crate) fn put_texts<S: Source>(
     source: &S,
     part: &Part,

@@ -1,10 +1,10 @@
-//! Part of two bytes, each written in four.
+//! Numbers of two bytes, each written in four.
 ghost use Rattle.std.specs.Prelude.{◌≡◌, ◌+◌, ◌*◌, ◌/◌, ◌≤◌, ◌++◌, drop, length, min, take};
 ghost use Rattle.dap_xdr.specs.Front.{widened_bytes};
 
 use crate::kind::widened;
 
-// Writes four bytes at a place.
+// Writes four bytes at an offset.
 fn put_four(four: [u8; 4], at: usize, out: &mut [u8])
     requires { at + 4 ≤ length out.old }
     ensures { out.new ≡ take at out.old ++ (four ++ drop (at + 4) out.old) }

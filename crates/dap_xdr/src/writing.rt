@@ -2,7 +2,7 @@
 ghost use Rattle.std.specs.Prelude.{◌≡◌, ◌-◌, drop, length, min};
 ghost use Rattle.dap_xdr.specs.Overlay.{overlay};
 
-/// Writes what stands from a place on over the front of a buffer, as much as fits, and returns how many bytes that are.
+/// Writes bytes from an offset on over the front of a buffer, as many as fit, and returns how many that are.
 #[tactic(auto, unfolding(crate::specs::Overlay::overlay))]
 pub fn put(bytes: &[u8], from: u64, out: &mut [u8]) -> usize
     ensures count { result ≡ min (length out.old) (length bytes.now - from) }

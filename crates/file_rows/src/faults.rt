@@ -1,7 +1,8 @@
 //! Faults in words, each with its number and all that it carries.
 
-use fm_base::{HeaderFault, LayoutFault, NoMemory, UnitsFault};
+use fm_base::NoMemory;
 use fm_model::{LoadFault, ProtoFault};
+use nc_model::{HeaderFault, LayoutFault, UnitsFault};
 use row_text::put_shown;
 
 /// Appends a fault of a header.
@@ -94,7 +95,7 @@ fn put_named(what: &str, name: &[u8], out: &mut String) -> Result<(), NoMemory> 
     Ok(put_shown(name, out)?)
 }
 
-// Appends what is wrong with a run or a time.
+// Appends the fault of a run or a time.
 fn put_moment_fault(fault: &LoadFault, out: &mut String) -> Result<(), NoMemory> {
     match fault {
         LoadFault::NoRunTime => out.push_str("no run")?,

@@ -1,4 +1,4 @@
-//! What a collection holds after some operations.
+//! A collection after some operations.
 ghost use Rattle.std.specs.Prelude.{IfOk, IfSome};
 ghost use Rattle.fm_edition.specs.Held.{OpFits};
 
@@ -10,7 +10,7 @@ use fm_sample::edition_of;
 use row_text::{Field, File, Row, content, put_shown};
 use std::alloc::Global;
 
-/// What is held after the operations of a row, in their order: `put: NAME FILE`, `expire: SECONDS` and `retract: NAME`.
+/// The collection after the operations of a row, in order: `put: NAME FILE`, `expire: SECONDS` and `retract: NAME`.
 pub fn answer(alloc: Global, files: &[File], row: &Row<'_>) -> Result<Option<String>, NoMemory> {
     if !row.has_only(&["collection", "put", "expire", "retract"]) {
         return Ok(None);
@@ -38,7 +38,7 @@ fn is_operation(field: &Field<'_>) -> bool {
     matches!(field.key, "put" | "expire" | "retract")
 }
 
-// The edition after the operation of a field, of which a copy is made.
+// The edition after a copy of the operation of a field.
 fn after(
     alloc: Global,
     edition: &Edition,
@@ -102,7 +102,7 @@ fn put(
     }
 }
 
-// What is held: how much, and for each run and valid time the file and the place of the time in it.
+// The text of a collection: its counts, and for each run and valid time the file and the index of the time in it.
 fn text_of(alloc: Global, edition: &Edition) -> Result<String, NoMemory> {
     let tally = edition.tally();
     let mut out = String::new(alloc);
@@ -114,9 +114,9 @@ fn text_of(alloc: Global, edition: &Edition) -> Result<String, NoMemory> {
     for run in edition.runs(alloc)?.as_slice() {
         for time in edition.times_of(alloc, *run)?.as_slice() {
             write!(out, "\nrun {run}, time {time}: ")?;
-            if let Some((file, place)) = edition.cell(*run, *time) {
+            if let Some((file, index)) = edition.cell(*run, *time) {
                 put_shown(file.get().name.as_slice(), &mut out)?;
-                write!(out, " at {place}")?;
+                write!(out, " at {index}")?;
             }
         }
     }

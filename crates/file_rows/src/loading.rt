@@ -11,8 +11,8 @@ use fm_model::{Loaded, Proto};
 use row_text::{File, Row, content};
 use std::alloc::Global;
 
-/// What comes of a row that loads a file, as `called`, over the prototype `over`. Where it says no such thing, they are the
-/// name of the run of 2024-01-01 and `A.nc`; the epoch is the beginning of 2020.
+/// What comes of a row that loads a file, as `called`, over the prototype `over`. Where it says no such thing, they are
+/// the name of the run of 2024-01-01 and `A.nc`; the epoch is the beginning of 2020.
 pub fn answer(alloc: Global, files: &[File], row: &Row<'_>) -> Result<Option<String>, NoMemory> {
     if !row.has_only(&["load", "called", "over", "epoch", "cuts"]) {
         return Ok(None);

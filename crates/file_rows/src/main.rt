@@ -13,7 +13,7 @@ mod words;
 
 use fm_base::NoMemory;
 use question::Question;
-use row_text::{Answers, Count, File, Row, content, end, read_inputs, run};
+use row_text::{Answers, File, Row, content, read_inputs, run_all, without_folders};
 use std::alloc::{AllocError, Global};
 use std::io;
 use std::process::ExitCode;
@@ -80,32 +80,10 @@ impl Rows {
     }
 }
 
-// The files by their names without folders.
-fn without_folders(alloc: Global, files: Vec<File>) -> Result<Vec<File>, AllocError> {
-    let mut named = Vec::new(alloc);
-    for file in files {
-        let name = String::from_str(alloc, file.name.rsplit('/').next().unwrap_or(""))?;
-        let content = file.content;
-        named.push(File { name, content })?;
-    }
-    Ok(named)
-}
-
 fn main(rt: HostRuntime) -> io::Result<ExitCode> {
     let alloc = rt.alloc();
     let inputs = read_inputs(&rt)?;
     let files = without_folders(alloc, inputs.files)?;
     let rows = Rows { files };
-    let mut count = Count::default();
-    for text in &inputs.texts {
-        run(
-            &rt,
-            alloc,
-            text.path.as_str(),
-            text.text.as_str(),
-            &rows,
-            &mut count,
-        )?;
-    }
-    end(&rt, count)
+    run_all(&rt, alloc, inputs.texts.as_slice(), &rows)
 }

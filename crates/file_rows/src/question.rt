@@ -1,4 +1,4 @@
-//! What is asked of a file.
+//! Questions about a file.
 
 use crate::layouts::{put_elements, put_layout};
 use crate::loading::put_loaded;
@@ -8,7 +8,7 @@ use fm_base::NoMemory;
 use fm_model::{MAX_FILE_BYTES, Proto};
 use std::alloc::Global;
 
-/// What is asked: of the bytes alone, or over a prototype and under a name.
+/// A question about the bytes alone, or over a prototype and under a name.
 #[derive(Clone, Copy, Debug)]
 pub enum Question<'a> {
     Header,
@@ -19,9 +19,9 @@ pub enum Question<'a> {
 }
 
 impl Question<'_> {
-    /// The answer about some bytes; or, where `cuts` says `FROM TO`, about the first so many of them, for each length from
-    /// the one to the other: a line where the answer is another than that of the length before. `None` where there are no
-    /// such lengths.
+    /// The answer about some bytes. Where `cuts` says `FROM to TO`, it is about the first `len` bytes for each `len` in
+    /// that range, with a line where the answer differs from that of the length before. `None` where there are no such
+    /// lengths.
     pub fn asked(
         &self,
         alloc: Global,

@@ -1,8 +1,9 @@
 //! Headers in words.
 
 use crate::faults::put_header_fault;
-use fm_base::{Attr, Dim, Fail, Header, Kind, NcVar, NoMemory};
+use fm_base::{Fail, NoMemory};
 use nc_header::read_header;
+use nc_model::{Attr, Dim, Header, Kind, NcVar};
 use row_text::{put_hex, put_shown};
 use std::alloc::Global;
 

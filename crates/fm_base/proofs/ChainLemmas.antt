@@ -15,20 +15,24 @@ pub refuse_ok : {B E : Type 0} (o : Option E) (next : Result B E) (b : B) → (r
 refuse_ok None next b e = (refl, e)
 refuse_ok (Some fault) next b e = absurd cc
 
+-- a refusal that was passed
 pub refuse_if_ok : {B E : Type 0} (bad : Bool) (fault : E) (next : Result B E) (b : B)
     → (refuse_if bad fault >> next) ≡ Ok b → (bad ≡ false) × (next ≡ Ok b)
 refuse_if_ok false fault next b e = (refl, e)
 refuse_if_ok true fault next b e = absurd cc
 
+-- a check that was passed
 pub check_ok : {B E : Type 0} (check : Check E) (next : Result B E) (b : B) → (check >> next) ≡ Ok b → (check ≡ Ok tt)
     × (next ≡ Ok b)
 check_ok (Ok tt) next b e = (refl, e)
 check_ok (Err fault) next b e = absurd cc
 
+-- a value that was there
 pub ok_or_ok : {A E : Type 0} (o : Option A) (fault : E) (a : A) → ok_or o fault ≡ Ok a → o ≡ Some a
 ok_or_ok None fault a e = absurd cc
 ok_or_ok (Some x) fault a e = cc
 
+-- two successes that are the same have the same value
 pub same_Ok : {A E : Type 0} (a b : A) → ◌≡◌ {A = Result A E} (Ok a) (Ok b) → a ≡ b
 same_Ok a b e = cc
 

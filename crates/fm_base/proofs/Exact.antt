@@ -29,7 +29,7 @@ pub record Took {A : Type 0} (S : List ℕ → A → Type 0) (i : Input) (a : A)
   pub text : List ℕ
   pub spelled : S text a
   pub split : i.rest ≡ text ++ j.rest
-  pub place : j.at ≡ i.at + length text
+  pub offset : j.at ≡ i.at + length text
 
 -- What is read of an input of this sort is spelled so, and what is spelled so is read where this may follow.
 pub record ExactOn {A E : Type 0} (Of : List ℕ → Type 0) (S : List ℕ → A → Type 0) (Follows : List ℕ → Type 0)
@@ -92,7 +92,7 @@ ExactOn-then {A} {B} {E} {Of} {S} {T} {P} {Q} {p} {q} parts ep eq follows = reco
           text_is = refl;
         };
         split = first.split ∙ onto first.text second.split ∙ sym (append_assoc first.text second.text k.rest);
-        place = omega (arith, first.place, second.place, length-append first.text second.text);
+        offset = omega (arith, first.offset, second.offset, length-append first.text second.text);
       };
   again = λ at text rest b s may.
       let whole : text ++ rest ≡ s.front ++ (s.back ++ rest) = ap (λ (l : List ℕ). l ++ rest) s.text_is
@@ -131,11 +131,12 @@ ExactOn-as {Of = Of} parts to from ep = record {
         spelled = to t.text a (parts.front t.text j.rest (subst Of t.split of)) t.spelled;
         split =
             t.split;
-        place = t.place;
+        offset = t.offset;
       };
   again = λ at text rest a s may. ep.again at text rest a (from text a s) may;
 }
 
+-- the same parser, with what it reads said otherwise
 pub Exact-as : {A E : Type 0} {S T : List ℕ → A → Type 0} {P : List ℕ → Type 0} {p : Parser A E}
     → ((text : List ℕ) (a : A) → S text a → T text a)
     → ((text : List ℕ) (a : A) → T text a → S text a) → Exact S P p → Exact T P p
@@ -150,7 +151,7 @@ Exact-before weaker ep = record {
   again = λ at text rest a s may. ep.again at text rest a s (weaker rest may);
 }
 
--- at any place
+-- at any offset
 pub Exact-located : {A E : Type 0} {Of : List ℕ → Type 0} {S : List ℕ → A → Type 0} {P : List ℕ → Type 0}
     {f : ℕ → Parser A E}
     → ((at : ℕ) → ExactOn Of S P (f at)) → ExactOn Of S P (located f)
@@ -181,6 +182,7 @@ done x = Ok x
 ok_is : {A E : Type 0} (x y : A) → done {A = A} {E = E} x ≡ done y → x ≡ y
 ok_is x y e = cc
 
+-- two successes that are the same
 pub ok_pair : {A E : Type 0} (x a : A) (i j : Input) → done {A = A × Input} {E = E} (x, i) ≡ done {A = A × Input} (a, j)
     → (x ≡ a) × (i ≡ j)
 ok_pair {A = A} {E = E} x a i j e = let same : (x, i) ≡ (a, j) = ok_is {A = A × Input} {E = E} (x, i) (a, j) e in
@@ -192,9 +194,10 @@ took_none i a j s same = record {
   text = [];
   spelled = s;
   split = ap (λ (n : Input). n.rest) same;
-  place = let h = ap (λ (n : Input). n.at) same in omega arith;
+  offset = let h = ap (λ (n : Input). n.at) same in omega arith;
 }
 
+-- a step that reads nothing, before other bytes
 pub none_again : {A E : Type 0} (x a : A) (at : ℕ) (text rest : List ℕ) → x ≡ a → text ≡ []
     → done {A = A × Input} {E = E} (x, input at (text ++ rest)) ≡ Ok (a, input (at + length text) rest)
 none_again {A = A} x a at text rest value none =
@@ -203,6 +206,7 @@ none_again {A = A} x a at text rest value none =
     ap (λ (l : List ℕ). Ok (x, input at l)) whole ∙ ap (λ (y : A). Ok (y, input at rest)) value
     ∙ ap (λ (n : ℕ). Ok (a, input n rest)) len
 
+-- a test of what was read
 pub Exact-unless : {A E : Type 0} {Of : List ℕ → Type 0} (bad : Bool) (fault : E) (x : A)
     → ExactOn Of (Passes bad x) Anything (unless bad fault x)
 Exact-unless true fault x = record {
@@ -215,12 +219,14 @@ Exact-unless {A = A} false fault x = record {
   again = λ at text rest a s may. none_again x a at text rest s.value s.text_is;
 }
 
+-- a step that reads nothing
 pub Exact-pure : {A E : Type 0} {Of : List ℕ → Type 0} (x : A) → ExactOn {E = E} Of (Is x) Anything (pure x)
 Exact-pure x = record {
   takes = λ i a j of e. let k = ok_pair x a i j e in took_none i a j (record { value = k.0; text_is = refl }) k.1;
   again = λ at text rest a s may. none_again x a at text rest s.value s.text_is;
 }
 
+-- a value that is known or at fault
 pub Exact-known : {A E : Type 0} {Of : List ℕ → Type 0} (fault : E) (found : Option A)
     → ExactOn Of (Finds found) Anything (known fault found)
 Exact-known fault None = record {

@@ -25,3 +25,21 @@ abbrev pub OnFault : {A E : Type 0} → Result A (Fail E) → Type 0 → Type 0
 OnFault (Ok found) P = Unit {0}
 OnFault (Err fails.NoMemory) P = Unit {0}
 OnFault (Err (fails.Fault fault)) P = P
+
+-- the fact holds of the result's fault, if it has one
+abbrev pub ForFault : {A E : Type 0} → Result A (Fail E) → (E → Type 0) → Type 0
+ForFault (Ok value) P = Unit {0}
+ForFault (Err fails.NoMemory) P = Unit {0}
+ForFault (Err (fails.Fault fault)) P = P fault
+
+-- the result is a fault, of which the fact holds
+abbrev pub IsFaultAnd : {A E : Type 0} → Result A (Fail E) → (E → Type 0) → Type 0
+IsFaultAnd (Ok value) P = ⊥
+IsFaultAnd (Err fails.NoMemory) P = ⊥
+IsFaultAnd (Err (fails.Fault fault)) P = P fault
+
+-- the later result is the earlier one, with its fault in words that this relation gives it
+abbrev pub Renames : {A D E : Type 0} → (D → E → Type 0) → Result A (Fail D) → Result A (Fail E) → Type 0
+Renames names (Ok value) later = later ≡ Ok value
+Renames names (Err fails.NoMemory) later = later ≡ Err fails.NoMemory
+Renames names (Err (fails.Fault fault)) later = IsFaultAnd later (names fault)

@@ -1,4 +1,4 @@
--- Numbers at a place of some bytes.
+-- Numbers at an offset of some bytes.
 use Rattle.std.specs.Prelude.{ℕ, ◌+◌, List, length, take, drop, nat_lt, if◌then◌else◌, Option, Some, None}
 use Rattle.std.specs.Int.{Width, byte_len, from_be_bytes}
 

@@ -27,7 +27,7 @@ pure value = λ i. Ok (value, i)
 abbrev pub refuse : {A E : Type 0} → E → Parser A E
 refuse fault = λ i. Err fault
 
--- a parser that knows its place
+-- a parser by its offset
 abbrev pub located : {A E : Type 0} → (ℕ → Parser A E) → Parser A E
 located f = λ i. f i.at i
 
@@ -40,7 +40,7 @@ abbrev pub known : {A E : Type 0} → E → Option A → Parser A E
 known fault None = refuse fault
 known fault (Some value) = pure value
 
--- the value that was read, without what is left
+-- the value that was read, without the remaining input
 abbrev pub value_of : {A E : Type 0} → Outcome A E → Result A E
 value_of (Ok read) = Ok read.0
 value_of (Err fault) = Err fault

@@ -1,4 +1,5 @@
 //! Why a call that takes memory gave no value.
+ghost use Rattle.fm_base.specs.Answer.{ForFault, Renames};
 
 use std::alloc::{AllocError, AllocFailed};
 
@@ -55,5 +56,20 @@ impl<E, T: Drop> From<AllocFailed<T>> for Fail<E> {
 
     fn from(_error: AllocFailed<T>) -> Fail<E> {
         Fail::NoMemory
+    }
+}
+
+/// The same result, with a fault in the words of the whole chain.
+pub fn fault_as<T, D, E, N: FnOnce(D) -> E>(
+    found: Result<T, Fail<D>>,
+    name: N,
+) -> Result<T, Fail<E>>
+    requires { ForFault found (N.pre name) }
+    ensures { Renames (N.post name) found result }
+{
+    match found {
+        Ok(value) => Ok(value),
+        Err(Fail::NoMemory) => Err(Fail::NoMemory),
+        Err(Fail::Fault(fault)) => Err(Fail::Fault(name(fault))),
     }
 }

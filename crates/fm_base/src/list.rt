@@ -65,13 +65,13 @@ impl<T: Drop> List<T> {
         Ok(())
     }
 
-    /// Puts an item at a place, before the item that stands there. An `Err` changes nothing.
-    pub fn insert(&mut self, place: usize, item: T) -> Result<(), NoMemory>
-        requires { place ≤ length self.old }
-        ensures ok { OnOk result (self.new ≡ insert self.old place item) }
+    /// Puts an item at an index, before the item that stands there. An `Err` changes nothing.
+    pub fn insert(&mut self, index: usize, item: T) -> Result<(), NoMemory>
+        requires { index ≤ length self.old }
+        ensures ok { OnOk result (self.new ≡ insert self.old index item) }
         ensures err { OnErr result (self.new ≡ self.old) }
     {
-        self.items.insert(place, item)?;
+        self.items.insert(index, item)?;
         Ok(())
     }
 }

@@ -12,7 +12,7 @@ use Rattle.std.proofs.lemmas.Fmt.{decimal_is_IsNumeral_wide}
 use Rattle.std.proofs.lemmas.Int.{ints}
 use Rattle.std.proofs.lemmas.Int.Digits.{digits_push, digits_value_push}
 use Rattle.std.proofs.lemmas.Nat.{mul-pow, pow-add, div-add-mod'}
-use Rattle.fm_base.specs.Pattern.{with_sign}
+use Rattle.nc_model.specs.Pattern.{with_sign}
 use Rattle.fm_bits.specs.Denotes.{DenotesDecimal, DenotesHexadecimal, DenotesMagnitude, after_point}
 use Rattle.fm_bits.specs.Digits.{fixed_digits}
 use Rattle.fm_bits.specs.Text.{whole_text, decimals_text, hex_text, hex_fraction, hex_len, exponent_text, high_place, magnitude_text}

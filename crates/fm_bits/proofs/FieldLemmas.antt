@@ -3,7 +3,7 @@ use Rattle.std.proofs.Common.{◌≡◌, ℕ, ◌+◌, ◌*◌, ◌/◌, ◌^◌
 use Rattle.std.proofs.Math.Nat.{div-eq_of_lt, div-eq_of_lt-le, div-div-eq-div-mul, mod-add-div', mul_comm}
 use Rattle.std.proofs.lemmas.Bool.{le-leb, lt-leb, cases_lt, cond-true, cond-false}
 use Rattle.std.proofs.lemmas.Nat.{pow-add, mul-add-lt, div-mul-add, mod-mul-add}
-use Rattle.fm_base.specs.Pattern.{bits_of_fields, float_value, value_of_fields}
+use Rattle.nc_model.specs.Pattern.{bits_of_fields, float_value, value_of_fields}
 
 -- the value by equal fields
 same_fields : (w f : ℕ) (s t : Bool) (a b x y : ℕ) → s ≡ t → a ≡ b → x ≡ y

@@ -1,10 +1,9 @@
 -- Where odd numbers times powers of two are the same, so are the odd numbers and the powers.
 use Rattle.std.proofs.Common.{◌≡◌, ℕ, zero, suc, ◌+◌, ◌-◌, ◌*◌, ◌/◌, ◌%◌, ◌^◌, ◌<◌, ◌≤◌, ◌⊎◌, inl, inr, sym, ap, ◌∙◌, arith, refl, pos}
 use Rattle.std.proofs.Math.Nat.{pow-zero, pow-suc, mul-pos, mul-le-mul_right, mul-lt-mul_of_pos_right, mod-eq-sub-mod, mod-eq_of_lt}
-use Rattle.std.proofs.Math.Arith.{mod-mul}
 use Rattle.std.proofs.lemmas.Nat.{leading_top, pow_pos, pow-add, div-add-mod'}
 use Rattle.std.specs.Int.{w64, trailing_zeros}
-use Rattle.std.specs.Int.Count.{count_trailing_zeros, under}
+use Rattle.fm_base.proofs.NumberLemmas.{two_pow_divides}
 use Rattle.fm_bits.specs.Text.{high_place}
 
 -- one more factor of two
@@ -77,19 +76,6 @@ pub rest_injective : (m a b : ℕ) → m ≤ a → a < 2 * m → m ≤ b → b <
 rest_injective m a b p q r s e =
     let one : a % m ≡ a - m = mod-eq-sub-mod p ∙ mod-eq_of_lt (omega arith) in
     let two : b % m ≡ b - m = mod-eq-sub-mod r ∙ mod-eq_of_lt (omega arith) in omega arith
-
--- a number is a multiple of its factors of two
-pub two_pow_divides : (k n : ℕ) → n % 2 ^ count_trailing_zeros k n ≡ 0
-unfolding count_trailing_zeros
-two_pow_divides zero n = omega arith
-two_pow_divides (suc k) n = by_last (n % 2) refl (two_pow_divides k (n / 2))
-  where
-    by_last : (d : ℕ) → d ≡ n % 2 → n / 2 % 2 ^ count_trailing_zeros k (n / 2) ≡ 0
-        → n % 2 ^ under d (count_trailing_zeros k (n / 2)) ≡ 0
-    by_last zero e half =
-        let t = count_trailing_zeros k (n / 2) in
-        ap (λ x. n % x) (pow-suc 2 t) ∙ mod-mul n (pow_pos t) (omega arith) ∙ omega arith
-    by_last (suc d) e half = omega arith
 
 pub odd_part_keeps : (n : ℕ) → n / 2 ^ trailing_zeros w64 n * 2 ^ trailing_zeros w64 n ≡ n
 odd_part_keeps n = omega (arith, div-add-mod' n (2 ^ trailing_zeros w64 n), two_pow_divides 64 n)

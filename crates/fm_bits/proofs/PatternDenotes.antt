@@ -5,13 +5,13 @@ use Rattle.std.specs.Int.{cast_signed, is_negative, trailing_zeros}
 use Rattle.std.proofs.lemmas.Bool.{cond_both, cond-false, le-ltb, eqb-true}
 use Rattle.std.proofs.lemmas.Fmt.{decimal_is_IsNumeral_wide}
 use Rattle.std.proofs.lemmas.Int.{ints}
-use Rattle.fm_base.specs.declared.kind.Kind.{Kind}
-use Rattle.fm_base.specs.declared.kind.Kind.TheVariants as kinds
-use Rattle.fm_base.specs.declared.pattern.Pattern.{Pattern}
-use Rattle.fm_base.specs.declared.pattern.Value.{Value}
-use Rattle.fm_base.specs.declared.pattern.Value.TheVariants.{Finite, Infinite, NotANumber}
-use Rattle.fm_base.specs.Kind.{size_of}
-use Rattle.fm_base.specs.Pattern.{IsPattern, finite, float_value, whole_value}
+use Rattle.nc_model.specs.declared.kind.Kind.{Kind}
+use Rattle.nc_model.specs.declared.kind.Kind.TheVariants as kinds
+use Rattle.nc_model.specs.declared.pattern.Pattern.{Pattern}
+use Rattle.nc_model.specs.declared.pattern.Value.{Value}
+use Rattle.nc_model.specs.declared.pattern.Value.TheVariants.{Finite, Infinite, NotANumber}
+use Rattle.nc_model.specs.Kind.{size_of}
+use Rattle.nc_model.specs.Pattern.{IsPattern, finite, float_value, whole_value}
 use Rattle.fm_bits.specs.Denotes.{Denotes, DenotesWhole, shown_value}
 use Rattle.fm_bits.specs.Text.{value_text, text_of_bits, pattern_text}
 use Rattle.fm_bits.proofs.DenotesLemmas.{magnitude_denotes}

@@ -6,11 +6,11 @@ use lib.Signed.{mag}
 use Rattle.std.proofs.lemmas.Bool.{cond_both, eqb-false}
 use Rattle.std.proofs.lemmas.Fmt.{signed_decimal_injective}
 use Rattle.std.proofs.lemmas.Nat.Bits.{bit_at-trailing_zeros}
-use Rattle.fm_base.specs.Pattern.{IsPattern, finite, value_of_fields, lowest_exponent, float_value, pattern_value, value_of_bits, whole_value}
-use Rattle.fm_base.specs.declared.kind.Kind.{Kind}
-use Rattle.fm_base.specs.declared.kind.Kind.TheVariants as kinds
-use Rattle.fm_base.specs.declared.pattern.Pattern.{Pattern}
-use Rattle.fm_base.specs.Kind.{size_of}
+use Rattle.nc_model.specs.Pattern.{IsPattern, finite, value_of_fields, lowest_exponent, float_value, pattern_value, value_of_bits, whole_value}
+use Rattle.nc_model.specs.declared.kind.Kind.{Kind}
+use Rattle.nc_model.specs.declared.kind.Kind.TheVariants as kinds
+use Rattle.nc_model.specs.declared.pattern.Pattern.{Pattern}
+use Rattle.nc_model.specs.Kind.{size_of}
 use Rattle.fm_bits.specs.Text.{pattern_text, text_of_bits}
 use Rattle.fm_bits.proofs.DigitLemmas.{decimal_injective}
 use Rattle.fm_bits.proofs.HexLemmas.{abs-add}

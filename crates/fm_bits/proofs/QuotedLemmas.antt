@@ -4,6 +4,7 @@ use Rattle.std.specs.Fmt.{digit_glyph}
 use Rattle.std.specs.List.{flat_map}
 use Rattle.std.proofs.lemmas.Bool.{cases_Bool, cond-true, cond-false, or_cases, or_parts, eqb-true, eqb-false}
 use Rattle.std.proofs.lemmas.List.{append_assoc}
+use Rattle.fm_base.proofs.ListLemmas.{turned}
 use Rattle.fm_bits.specs.Digits.{fixed_digits}
 use Rattle.fm_bits.specs.Quoted.{escaped, quoted}
 use Rattle.fm_bits.proofs.DigitLemmas.{glyph_within, fixed_digits_injective, first_injective}
@@ -70,9 +71,6 @@ marked_or_octal b c us vs p e =
 -- a plain byte isn't the mark
 plain_or_mark : (c : ℕ) (us vs : List ℕ) → c ≢ 92 → 92 ∷ us ≡ c ∷ vs → ⊥
 plain_or_mark c us vs n e = n (sym (first_injective 92 c us vs e))
-
-turned : (a b c d us vs : List ℕ) → a ≡ b → c ≡ d → a ++ us ≡ c ++ vs → b ++ us ≡ d ++ vs
-turned a b c d us vs p q e = cc
 
 -- two bytes by how they are written
 by_blocks : (b c : ℕ) (us vs : List ℕ) → b < 256 → c < 256 → Block b → Block c → escaped b ++ us ≡ escaped c ++ vs

@@ -4,9 +4,9 @@ use Rattle.std.proofs.lemmas.Bool.{cond-true, cond-false, le-ltb, eq-eqb}
 use Rattle.std.proofs.lemmas.Bool.Decides.{nat_tests, eqb_tells}
 use Rattle.std.proofs.lemmas.Int.{ints}
 use Rattle.std.proofs.lemmas.Nat.{pow_pos, div-add-mod', div-mul-add, mod-mul-add}
-use Rattle.fm_base.specs.Pattern.{in_i64, with_sign, whole_times, IsTimes}
-use Rattle.fm_base.specs.declared.pattern.Value.{Value}
-use Rattle.fm_base.specs.declared.pattern.Value.TheVariants.{Finite, Infinite, NotANumber}
+use Rattle.nc_model.specs.Pattern.{in_i64, with_sign, whole_times, IsTimes}
+use Rattle.nc_model.specs.declared.pattern.Value.{Value}
+use Rattle.nc_model.specs.declared.pattern.Value.TheVariants.{Finite, Infinite, NotANumber}
 
 -- what fits is the number with its sign
 in_i64-some : (negative : Bool) (n : ℕ) (z : ℤ) → in_i64 negative n ≡ Some z → z ≡ with_sign negative n

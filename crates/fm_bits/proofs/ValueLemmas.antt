@@ -1,8 +1,8 @@
 -- Values with the same text are the same, their signs too.
 use Rattle.std.proofs.Common.{◌≡◌, ◌≢◌, ℕ, suc, ◌*◌, ◌/◌, ◌^◌, ◌<◌, ◌⊎◌, inl, inr, Bool, true, false, List, [], ◌∷◌, ◌++◌, codes, sym, ap, ◌∙◌, arith, refl, subst, ℤ, pos, negsuc}
 use Rattle.std.specs.Fmt.{decimal, sign_text}
-use Rattle.fm_base.specs.declared.pattern.Value.{Value}
-use Rattle.fm_base.specs.declared.pattern.Value.TheVariants.{Finite, Infinite, NotANumber}
+use Rattle.nc_model.specs.declared.pattern.Value.{Value}
+use Rattle.nc_model.specs.declared.pattern.Value.TheVariants.{Finite, Infinite, NotANumber}
 use Rattle.fm_bits.specs.Digits.{fixed_digits}
 use Rattle.fm_bits.specs.Text.{magnitude_text, hex_text, value_text}
 use Rattle.fm_bits.proofs.DigitLemmas.{Within, decimal_within, cut_injective, first_injective}

@@ -2,11 +2,11 @@
 use Rattle.std.specs.Prelude.{◌≡◌, ◌⊎◌, ℕ, ◌+◌, ◌*◌, ◌^◌, List, [], ◌∷◌, ◌++◌, length, codes, Bool, if◌then◌else◌, ℤ, pos, ◌+ℤ◌}
 use Rattle.std.specs.Fmt.{sign_text}
 use Rattle.std.specs.Str.Parse.{AllDigits, IsNumeral, digits_value}
-use Rattle.fm_base.specs.declared.kind.Kind.{Kind}
-use Rattle.fm_base.specs.declared.kind.Kind.TheVariants as kinds
-use Rattle.fm_base.specs.declared.pattern.Value.{Value}
-use Rattle.fm_base.specs.declared.pattern.Value.TheVariants.{Finite, Infinite, NotANumber}
-use Rattle.fm_base.specs.Pattern.{value_of_bits, whole_value, with_sign}
+use Rattle.nc_model.specs.declared.kind.Kind.{Kind}
+use Rattle.nc_model.specs.declared.kind.Kind.TheVariants as kinds
+use Rattle.nc_model.specs.declared.pattern.Value.{Value}
+use Rattle.nc_model.specs.declared.pattern.Value.TheVariants.{Finite, Infinite, NotANumber}
+use Rattle.nc_model.specs.Pattern.{value_of_bits, whole_value, with_sign}
 
 -- a * 2^d and b * 2^e are one number: as whole numbers, `up` above the one exponent and `other_up` above the other
 pub record IsSameNumber (a : ℕ) (d : ℤ) (b : ℕ) (e : ℤ) : Type 0 where

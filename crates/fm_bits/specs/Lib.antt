@@ -2,4 +2,4 @@ pub mod Denotes
 pub mod Digits
 pub mod Quoted
 pub mod Text
-pub use Rattle.fm_base.specs.Pattern
+pub use Rattle.nc_model.specs.Pattern

@@ -2,12 +2,12 @@
 use Rattle.std.specs.Prelude.{ℕ, suc, ◌+◌, ◌-◌, ◌*◌, ◌/◌, ◌^◌, List, [], ◌++◌, codes, nat_lt, nat_le, ◌&&◌, ◌==◌, if◌then◌else◌, ℤ, pos, negsuc, ◌+ℤ◌, unsigned_abs}
 use Rattle.std.specs.Fmt.{decimal, signed_decimal, sign_text}
 use Rattle.std.specs.Int.{w16, w32, w64, cast_signed, is_negative, leading_zeros}
-use Rattle.fm_base.specs.declared.kind.Kind.{Kind}
-use Rattle.fm_base.specs.declared.kind.Kind.TheVariants as kinds
-use Rattle.fm_base.specs.declared.pattern.Pattern.{Pattern}
-use Rattle.fm_base.specs.declared.pattern.Value.{Value}
-use Rattle.fm_base.specs.declared.pattern.Value.TheVariants.{Finite, Infinite, NotANumber}
-use Rattle.fm_base.specs.Pattern.{value_of_bits}
+use Rattle.nc_model.specs.declared.kind.Kind.{Kind}
+use Rattle.nc_model.specs.declared.kind.Kind.TheVariants as kinds
+use Rattle.nc_model.specs.declared.pattern.Pattern.{Pattern}
+use Rattle.nc_model.specs.declared.pattern.Value.{Value}
+use Rattle.nc_model.specs.declared.pattern.Value.TheVariants.{Finite, Infinite, NotANumber}
+use Rattle.nc_model.specs.Pattern.{value_of_bits}
 use Rattle.fm_bits.specs.Digits.{fixed_digits}
 
 -- a whole number: all its digits

@@ -1,13 +1,13 @@
 //! What a reader believes of texts, numbers and bits, each as the contract of a call that does nothing.
 ghost use Rattle.std.specs.Prelude.{◌≡◌, ◌+◌, ◌*◌, ◌/◌, ◌%◌, ◌^◌, ◌<◌, pos, ◌+ℤ◌, nat_le};
 ghost use Rattle.std.specs.Int.{trailing_zeros, w64};
-ghost use Rattle.fm_base.specs.Pattern.{IsPattern, pattern_value};
-ghost use Rattle.fm_base.specs.Pattern.{bits_of_fields, float_value, value_of_fields};
+ghost use Rattle.nc_model.specs.Pattern.{IsPattern, pattern_value};
+ghost use Rattle.nc_model.specs.Pattern.{bits_of_fields, float_value, value_of_fields};
 ghost use Rattle.fm_bits.specs.Denotes.{Denotes, shown_value};
 ghost use Rattle.fm_bits.specs.Quoted.{quoted};
 ghost use Rattle.fm_bits.specs.Text.{pattern_text};
 
-use fm_base::Pattern;
+use nc_model::Pattern;
 
 /// The text of a pattern denotes its value, and for a byte that of its bits without a sign: its digits, read as one
 /// number, over 10 to the power of how many stand after the point, or `1.H` in hexadecimal times 2 to the power of `E`.
@@ -39,7 +39,7 @@ pub fn odd_part_is_one(a: u64, d: i32, i: u32, b: u64, e: i32, j: u32)
     ensures exponent { a * 2 ^ i ≡ b * 2 ^ j → d ≡ e }
 {}
 
-/// What is left of a number without its factors of two is odd, and times these factors it is the number.
+/// A number without its factors of two is odd, and times these factors it is the number.
 pub fn odd_part_is_odd(n: u64)
     requires { 0 < n }
     ensures odd { n / 2 ^ trailing_zeros w64 n % 2 ≡ 1 }

@@ -11,7 +11,7 @@ mod seconds;
 mod text;
 mod value;
 
-pub use fm_base::Pattern;
+pub use nc_model::Pattern;
 pub use pattern::pattern_at;
 pub use quoted::put_quoted;
 pub use seconds::whole_seconds;

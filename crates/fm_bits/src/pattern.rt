@@ -1,9 +1,10 @@
 //! Patterns from the bytes of a file.
 ghost use Rattle.std.specs.Prelude.{◌≡◌, ◌↔◌, ◌⊎◌, ◌≢◌, length, IfSome, IsNone};
-ghost use Rattle.fm_base.specs.Kind.{size_of};
-ghost use Rattle.fm_base.specs.Pattern.{IsPattern, pattern_of_bytes};
+ghost use Rattle.nc_model.specs.Kind.{size_of};
+ghost use Rattle.nc_model.specs.Pattern.{IsPattern, pattern_of_bytes};
 
-use fm_base::{Kind, Pattern, be16, be32, be64};
+use fm_base::{be16, be32, be64};
+use nc_model::{Kind, Pattern};
 
 /// The pattern whose bytes these are, the most significant first. `None` exactly where the kind is `Char` or the length
 /// isn't the kind's size.

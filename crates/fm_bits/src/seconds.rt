@@ -1,11 +1,11 @@
 //! Times as whole seconds.
 ghost use Rattle.std.specs.Prelude.{◌≡◌, ℤ, ◌^◌, ◌<◌, IfSome, IfNone, FitsSigned};
 ghost use Rattle.std.specs.Int.{w64};
-ghost use Rattle.fm_base.specs.Pattern.{IsPattern, IsTimes, in_i64, pattern_value, whole_seconds_of, whole_times};
+ghost use Rattle.nc_model.specs.Pattern.{IsPattern, IsTimes, in_i64, pattern_value, whole_seconds_of, whole_times};
 
 use crate::scale::{over_two, times_two};
 use crate::value::value_of;
-use fm_base::{Pattern, Value};
+use nc_model::{Pattern, Value};
 
 /// A time in units of `per` seconds, in seconds. `None` exactly where the product isn't a whole number or doesn't fit
 /// 64 bits, and for infinities and NaNs.

@@ -1,14 +1,15 @@
 //! One exact text for each pattern.
 ghost use Rattle.std.specs.Prelude.{◌≡◌, ◌++◌, false, OnOk, OnErr};
 ghost use Rattle.std.specs.Fmt.{sign_text};
-ghost use Rattle.fm_base.specs.Pattern.{IsPattern, IsReduced};
+ghost use Rattle.nc_model.specs.Pattern.{IsPattern, IsReduced};
 ghost use Rattle.fm_bits.specs.Text.{magnitude_text, pattern_text, value_text};
 
 use crate::digits::{put_count, put_digits};
 use crate::hexadecimal::put_hexadecimal;
 use crate::scale::{times_five, times_two};
 use crate::value::value_of;
-use fm_base::{Bytes, Kind, NoMemory, Pattern, Value, put_decimal};
+use fm_base::{Bytes, NoMemory, put_decimal};
+use nc_model::{Kind, Pattern, Value};
 use std::alloc::Global;
 
 /// Writes the text of a pattern at the end of `out`. An `Err` changes nothing.

@@ -1,9 +1,9 @@
 //! What the bits of a number stand for.
 ghost use Rattle.std.specs.Prelude.{◌≡◌, pos, ◌+ℤ◌, ◌≤ℤ◌, ◌+◌, ◌*◌, ◌<◌, ◌≤◌, ◌^◌};
-ghost use Rattle.fm_base.specs.Pattern.{IsPattern, IsReduced, pattern_value};
-ghost use Rattle.fm_base.specs.Pattern.{finite, lowest_exponent, value_of_fields, whole_value};
+ghost use Rattle.nc_model.specs.Pattern.{IsPattern, IsReduced, pattern_value};
+ghost use Rattle.nc_model.specs.Pattern.{finite, lowest_exponent, value_of_fields, whole_value};
 
-use fm_base::{Kind, Pattern, Value};
+use nc_model::{Kind, Pattern, Value};
 
 // What a pattern stands for: a whole number in two's complement, or a number of IEEE 754's formats binary32 and
 // binary64.
@@ -44,7 +44,7 @@ fn whole(n: i64) -> Value
 }
 
 // The number whose sign, biased exponent and fraction these are.
-#[tactic(auto, unfolding(fm_base::specs::Pattern::value_of_fields))]
+#[tactic(auto, unfolding(nc_model::specs::Pattern::value_of_fields))]
 fn from_fields(width: u32, fraction_width: u32, negative: bool, biased: u64, fraction: u64) -> Value
     requires some_exponent { 1 ≤ width }
     requires exponent { width ≤ 11 }
@@ -91,7 +91,7 @@ fn lowest_exponent(width: u32, fraction_width: u32, biased: u64) -> i32
 }
 
 // The number `n * 2^exponent`, written with an odd number.
-#[tactic(auto, unfolding(fm_base::specs::Pattern::finite))]
+#[tactic(auto, unfolding(nc_model::specs::Pattern::finite))]
 fn finite(negative: bool, n: u64, exponent: i32) -> Value
     requires { exponent ≤ℤ pos 2047 }
     ensures value { result ≡ finite negative n exponent }

@@ -3,10 +3,10 @@ use Rattle.std.proofs.Common.{◌≡◌, ℕ, ◌+◌, ◌*◌, ◌<◌, ◌≤�
 use Rattle.std.proofs.Math.Nat.{le-mul_of_pos_right, mul-le-mul_left, mul_assoc, mul_comm}
 use Rattle.std.proofs.lemmas.List.{drop-map, take-append-drop}
 use Rattle.std.proofs.lemmas.List.Elements.{All-drop}
-use Rattle.fm_base.specs.declared.kind.Kind.{Kind}
-use Rattle.fm_base.specs.declared.kind.Kind.TheVariants as kinds
-use Rattle.fm_base.specs.Kind.{size_of}
-use Rattle.fm_base.specs.Layout.{product, rank_in}
+use Rattle.nc_model.specs.declared.kind.Kind.{Kind}
+use Rattle.nc_model.specs.declared.kind.Kind.TheVariants as kinds
+use Rattle.nc_model.specs.Kind.{size_of}
+use Rattle.nc_model.specs.Layout.{product, rank_in}
 use Rattle.nc_layout.proofs.ProductLemmas.{product-pos, product_more}
 
 -- the product so far with one length more is at most the whole product

@@ -2,9 +2,9 @@
 use Rattle.std.proofs.Common.{◌≡◌, ℕ, zero, suc, ◌+◌, ◌*◌, Bool, true, false, cond, List, [], ◌∷◌, length, get_or, find, Option, Some, None, inl, inr, refl, sym, ap, subst, ◌∙◌, arith}
 use Rattle.std.specs.Prelude.{slice_get, slice_index, option_and_then}
 use Rattle.std.proofs.lemmas.Option.{none-some, slice_get_cases, slice_get-get_or}
-use Rattle.fm_base.specs.Kind.{size_of}
-use Rattle.fm_base.specs.Layout.{rank_in}
-use Rattle.fm_base.proofs.EndLaws.{rank_in-lt}
+use Rattle.nc_model.specs.Kind.{size_of}
+use Rattle.nc_model.specs.Layout.{rank_in}
+use Rattle.nc_model.proofs.EndLaws.{rank_in-lt}
 use Rattle.fm_model.specs.declared.loaded.Slot.{Slot}
 use Rattle.fm_model.specs.declared.proto.Proto.{Proto}
 use Rattle.fm_model.specs.declared.proto.ProtoVar.{ProtoVar}
@@ -96,6 +96,7 @@ var_there proto decl (suc k) var e = by_decl (slice_get proto.vars decl) e
     by_decl None e = absurd (none-some var e)
     by_decl (Some v) e = by_dim (slice_get (array_dims v) k) e
 
+-- the length of an element that a file holds
 pub stored_len : (shown : Shown) (decl part : ℕ) (index : List ℕ) (var : ProtoVar) → IsSound shown.proto
     → AreRows shown.proto shown.rows → HasStored shown decl part index → var_of_part shown.proto decl part ≡ Some var
     → length (element_of shown.proto shown.rows var index) ≡ size_of var.kind

@@ -1,11 +1,11 @@
 -- The elements of a variable are at most as many as the bytes of its file, times the number of records.
 use Rattle.std.proofs.Common.{◌≡◌, ℕ, zero, suc, ◌+◌, ◌-◌, ◌*◌, ◌^◌, ◌<◌, ◌≤◌, Bool, true, false, cond, List, map, drop, refl, sym, ap, subst, ◌∙◌, arith}
 use Rattle.std.proofs.lemmas.Nat.{mul-le}
-use Rattle.fm_base.specs.declared.header.Header.{Header}
-use Rattle.fm_base.specs.declared.header.NcVar.{NcVar}
-use Rattle.fm_base.specs.Kind.{size_of}
-use Rattle.fm_base.specs.Layout.{fixed_shape, is_record_var, last_index, place_of, product, rank_in, shape_of}
-use Rattle.fm_base.proofs.EndLaws.{rank_in-last, EndsWithin}
+use Rattle.nc_model.specs.declared.header.Header.{Header}
+use Rattle.nc_model.specs.declared.header.NcVar.{NcVar}
+use Rattle.nc_model.specs.Kind.{size_of}
+use Rattle.nc_model.specs.Layout.{fixed_shape, is_record_var, last_index, place_of, product, rank_in, shape_of}
+use Rattle.nc_model.proofs.EndLaws.{rank_in-last, EndsWithin}
 use Rattle.nc_layout.specs.Kept.{part_of}
 use Rattle.nc_layout.specs.Places.{part_begin}
 use Rattle.nc_layout.proofs.HeaderLemmas.{place_of-part, shape_of-fixed, shape_of-record}

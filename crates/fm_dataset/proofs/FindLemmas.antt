@@ -1,17 +1,12 @@
 -- A search that stops at the first item that passes finds that item, and what is found for one more of some numbers.
-use Rattle.std.proofs.Common.{◌≡◌, ℕ, zero, suc, ◌+◌, ◌<◌, ◌≤◌, List, [], ◌∷◌, ◌++◌, drop, take, find, length, map, get_or, Bool, true, false, ◌||◌, Option, arith, refl, sym, ap, ◌∙◌}
+use Rattle.std.proofs.Common.{◌≡◌, ℕ, ◌+◌, ◌<◌, ◌≤◌, List, [], ◌∷◌, ◌++◌, drop, take, find, length, map, get_or, Bool, true, false, ◌||◌, Option, refl, sym, ap, ◌∙◌}
 use Rattle.std.specs.List.{slice_get, filter_map, cons_option}
 use Rattle.std.proofs.lemmas.List.{take_more, drop_more, drop_all, map-append}
 use Rattle.std.proofs.lemmas.List.Elements.{filter_map-append}
 use Rattle.std.proofs.lemmas.Option.{slice_get_past}
+use Rattle.fm_base.proofs.ListLemmas.{find-there}
 use Rattle.fm_model.specs.Variable.{lies_along}
 use Rattle.fm_dataset.specs.Declarations.{repeats}
-
-find-there : {A : Type 0} (p : A → Bool) (xs : List A) (x : A) (n : ℕ) → n < length xs → x ≡ get_or xs n x
-    → p x ≡ true → find p (drop n xs) ≡ slice_get xs n
-find-there p [] x n within there passes = grind arith
-find-there p (y ∷ ys) x zero within there passes = grind arith
-find-there p (y ∷ ys) x (suc n) within there passes = find-there p ys x n (omega arith) there passes
 
 -- the search ends at the item that passes
 pub find-at : {A : Type 0} (p : A → Bool) (xs : List A) (x : A) (n : ℕ) → find p (drop n xs) ≡ find p xs

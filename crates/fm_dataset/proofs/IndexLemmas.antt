@@ -2,8 +2,8 @@
 use Rattle.std.proofs.Common.{◌≡◌, ℕ, ◌<◌, Bool, true, false, List, [], ◌∷◌, length, map, drop, Option, Some, None, refl, sym, ap, subst, ◌∙◌, arith}
 use Rattle.std.specs.Prelude.{slice_get, slice_index, unwrap_or}
 use Rattle.std.specs.Option.{option_map_or}
-use Rattle.fm_base.specs.declared.header.Dim.{Dim}
-use Rattle.fm_base.specs.Layout.{IsIndex}
+use Rattle.nc_model.specs.declared.header.Dim.{Dim}
+use Rattle.nc_model.specs.Layout.{IsIndex}
 use Rattle.fm_model.specs.declared.proto.Proto.{Proto}
 use Rattle.fm_model.specs.declared.proto.ProtoVar.{ProtoVar}
 use Rattle.fm_model.specs.Prototype.{lengths_of}

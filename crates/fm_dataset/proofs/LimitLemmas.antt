@@ -1,36 +1,20 @@
 -- What is small in a header that was read, whatever the bytes: the number of records, the dimensions, and the ranks.
-use Rattle.std.proofs.Common.{◌≡◌, ℕ, zero, suc, ◌+◌, ◌^◌, ◌<◌, ◌≤◌, Bool, true, false, List, [], ◌∷◌, ◌++◌, length, map, Ok, Err, refl, ap, subst, length-append, arith}
+use Rattle.std.proofs.Common.{◌≡◌, ℕ, zero, suc, ◌+◌, ◌^◌, ◌<◌, ◌≤◌, List, [], ◌∷◌, ◌++◌, length, map, Ok, Err, refl, ap, subst, length-append, arith}
 use Rattle.std.specs.Prelude.{◌&&◌, ◌==◌, nat_le, nat_lt}
 use Rattle.std.proofs.lemmas.Bool.{leb-false, ltb-false}
-use Rattle.fm_base.specs.declared.fault.HeaderFault.{HeaderFault}
-use Rattle.fm_base.specs.declared.fault.HeaderFault.TheVariants.{BadCount, Streaming, TwoRecordDims}
-use Rattle.fm_base.specs.declared.header.Attr.{Attr}
-use Rattle.fm_base.specs.declared.header.Dim.{Dim}
-use Rattle.fm_base.specs.declared.header.Header.{Header}
-use Rattle.fm_base.specs.declared.header.NcVar.{NcVar}
-use Rattle.fm_base.specs.declared.kind.Kind.{Kind}
-use Rattle.fm_base.specs.Format.{ATTRIBUTE_TAG, DIMENSION_TAG, VARIABLE_TAG, STREAMING as STREAMING_COUNT, MAX_RANK, has_record_dim}
+use Rattle.nc_model.specs.declared.fault.HeaderFault.{HeaderFault}
+use Rattle.nc_model.specs.declared.fault.HeaderFault.TheVariants.{BadCount, Streaming, TwoRecordDims}
+use Rattle.nc_model.specs.declared.header.Attr.{Attr}
+use Rattle.nc_model.specs.declared.header.Dim.{Dim}
+use Rattle.nc_model.specs.declared.header.Header.{Header}
+use Rattle.nc_model.specs.declared.header.NcVar.{NcVar}
+use Rattle.nc_model.specs.declared.kind.Kind.{Kind}
+use Rattle.nc_model.specs.Format.{ATTRIBUTE_TAG, DIMENSION_TAG, VARIABLE_TAG, STREAMING as STREAMING_COUNT, MAX_RANK, has_record_dim}
 use Rattle.fm_base.specs.Input.{Input, whole}
-use Rattle.fm_base.specs.Parser.{Outcome, ◌>>=◌, and_then, pure, unless, value_of}
-use Rattle.fm_base.specs.Reading.{HeaderParser, word, count, field, name_at, kind_at, rank_at, begin_at, attr_at, dim_size, version_at, numrecs_at, items_from, tag_at, list_count, list_at, dim_at, dim_id_at, var_at, header_at, header_or_fault}
+use Rattle.fm_base.specs.Parser.{Outcome, ◌>>=◌, pure, unless, value_of}
+use Rattle.nc_model.specs.Reading.{HeaderParser, word, count, field, name_at, kind_at, rank_at, begin_at, attr_at, dim_size, version_at, numrecs_at, items_from, tag_at, list_count, list_at, dim_at, dim_id_at, var_at, header_at, header_or_fault}
+use Rattle.nc_model.proofs.ReadFacts.{then_ok, pure_ok, unless_ok}
 use Rattle.fm_model.proofs.Members.{Each, Each-push}
-
--- what was read, and what is left
-abbrev Read : Type 0 → Type 0
-Read A = Outcome A HeaderFault
-
-then_ok : {A B : Type 0} (r : Read A) (next : A → HeaderParser B) (b : B × Input) → and_then r next ≡ Ok b
-    → (a : A × Input) × (r ≡ Ok a) × (next a.0 a.1 ≡ Ok b)
-then_ok (Ok a) next b e = (a, refl, e)
-then_ok (Err fault) next b e = absurd cc
-
-unless_ok : {A : Type 0} (bad : Bool) (fault : HeaderFault) (value : A) (i : Input) (b : A × Input)
-    → unless bad fault value i ≡ Ok b → (bad ≡ false) × (value ≡ b.0)
-unless_ok true fault value i b e = absurd cc
-unless_ok false fault value i b e = (refl, cc)
-
-pure_ok : {A : Type 0} (value : A) (i : Input) (b : A × Input) → ◌≡◌ {A = Read A} (pure value i) (Ok b) → value ≡ b.0
-pure_ok value i b e = cc
 
 -- a fact of each item that was read
 items_each : {A : Type 0} (P : A → Type 0) (item : List A → HeaderParser A)

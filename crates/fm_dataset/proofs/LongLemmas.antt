@@ -1,13 +1,12 @@
 -- Each dimension of a variable but the axis's has a length.
 use Rattle.std.proofs.Common.{◌≡◌, ℕ, zero, suc, ◌-◌, ◌<◌, ◌≤◌, Bool, true, false, cond, not, List, [], ◌∷◌, length, map, take, drop, Some, inl, inr, refl, sym, ap, ◌∙◌, arith}
 use Rattle.std.specs.Prelude.{slice_get, IsTrue, ◌==◌}
-use Rattle.std.specs.List.{list_any}
-use Rattle.std.proofs.lemmas.Bool.{and_parts, both_ways, eq-eqb, not-true, or_parts}
+use Rattle.std.proofs.lemmas.Bool.{and_parts, not-true}
 use Rattle.std.proofs.lemmas.List.{take_all}
 use Rattle.std.proofs.lemmas.Nat.{mul-le}
 use Rattle.std.proofs.lemmas.Option.{slice_get_cases}
-use Rattle.fm_base.specs.declared.header.Dim.{Dim}
-use Rattle.fm_base.specs.Layout.{product}
+use Rattle.nc_model.specs.declared.header.Dim.{Dim}
+use Rattle.nc_model.specs.Layout.{product}
 use Rattle.fm_model.specs.declared.proto.Proto.{Proto}
 use Rattle.fm_model.specs.declared.proto.ProtoVar.{ProtoVar}
 use Rattle.fm_model.specs.Attribute.{is_char}
@@ -15,16 +14,10 @@ use Rattle.fm_model.specs.Prototype.{HasDims, IsSound, LiesFirst}
 use Rattle.fm_model.specs.Variable.{lies_along, stands_first_alone}
 use Rattle.fm_model.proofs.CellLemmas.{in_from_slice_get}
 use Rattle.fm_model.proofs.Members.{Each, Each-in, each_from_All, In}
+use Rattle.fm_model.proofs.WithinLemmas.{dim_named, not_along}
 use Rattle.fm_dataset.specs.Declarations.{array_dims, dim_at}
 use Rattle.fm_dataset.specs.Values.{row_dims}
-use Rattle.fm_dataset.proofs.NameLemmas.{dim_named, one_place}
-
-not_along : (id : ℕ) (ids : List ℕ) → lies_along id ids ≡ false → Each (λ other. id ≡ other → ⊥) ids
-unfolding lies_along
-not_along id [] e = tt
-not_along id (first ∷ ids) e =
-    let parts = or_parts (first == id) (list_any (λ other. other == id) ids) e in
-    (λ same. both_ways (first == id) parts.0 (eq-eqb first id (sym same)), not_along id ids parts.1)
+use Rattle.fm_dataset.proofs.NameLemmas.{one_place}
 
 pub Each-take : {A : Type 0} (P : A → Type 0) (n : ℕ) (xs : List A) → Each P xs → Each P (take n xs)
 Each-take P zero xs each = tt

@@ -1,15 +1,12 @@
 -- Where names differ, one name is at one place.
-use Rattle.std.proofs.Common.{◌≡◌, ℕ, zero, suc, true, false, List, [], ◌∷◌, map, Option, Some, None, inl, inr, refl, sym, ap, subst, ◌∙◌}
-use Rattle.std.specs.Prelude.{slice_get, IsTrue}
+use Rattle.std.proofs.Common.{◌≡◌, ℕ, zero, suc, false, List, [], ◌∷◌, map, Some, inl, inr, refl, sym, ap, subst, ◌∙◌}
+use Rattle.std.specs.Prelude.{slice_get}
 use Rattle.std.specs.List.{AllByRecursion, IsDistinct}
-use Rattle.std.specs.Option.{option_map_or}
 use Rattle.std.specs.Str.{bytes_eq}
-use Rattle.std.proofs.lemmas.Bool.{both_ways, false≢true}
+use Rattle.std.proofs.lemmas.Bool.{both_ways}
 use Rattle.std.proofs.lemmas.Option.{none-some, same_Some}
 use Rattle.std.proofs.lemmas.Slice.Eq.{bytes_eq-Decides}
-use Rattle.fm_base.specs.declared.header.Dim.{Dim}
-use Rattle.fm_base.specs.Spelling.{AreDistinct}
-use Rattle.fm_model.specs.Variable.{is_named}
+use Rattle.nc_model.specs.Spelling.{AreDistinct}
 use Rattle.fm_model.proofs.Members.{In}
 
 -- what holds of each name holds of the one at a place
@@ -40,15 +37,3 @@ pub place_in : {A : Type 0} (x : A) (xs : List A) → In x xs → (n : ℕ) × (
 place_in x [] h = absurd h
 place_in x (y ∷ ys) (inl e) = (0, ap Some e)
 place_in x (y ∷ ys) (inr h) = let found = place_in x ys h in (suc found.0, found.1)
-
--- the dimension of this name
-pub dim_named : (dims : List Dim) (name : List ℕ) (id : ℕ) → IsTrue (is_named dims name id)
-    → (dim : Dim) × (slice_get dims id ≡ Some dim) × (dim.name ≡ name)
-unfolding is_named
-dim_named dims name id e = by_dim (slice_get dims id) refl e
-  where
-    by_dim : (o : Option Dim) → slice_get dims id ≡ o
-        → option_map_or (λ (dim : Dim). bytes_eq dim.name name) o false ≡ true
-        → (dim : Dim) × (slice_get dims id ≡ Some dim) × (dim.name ≡ name)
-    by_dim None is e = absurd (false≢true e)
-    by_dim (Some dim) is e = (dim, is, (bytes_eq-Decides dim.name name).0 e)

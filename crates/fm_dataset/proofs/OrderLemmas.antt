@@ -3,8 +3,8 @@ use Rattle.std.proofs.Common.{◌≡◌, ℕ, zero, suc, ◌+◌, ◌-◌, ◌*�
 use Rattle.std.specs.List.{flat_map, range_with_len}
 use Rattle.std.proofs.Math.Seq.{drop-append-add}
 use Rattle.std.proofs.lemmas.List.{drop-append-le, length-drop, length-map, take-append-le, take_min}
-use Rattle.fm_base.specs.Layout.{product, rank_in, indices_of, IsIndex}
-use Rattle.fm_base.proofs.EndLaws.{rank_in-lt}
+use Rattle.nc_model.specs.Layout.{product, rank_in, indices_of, IsIndex}
+use Rattle.nc_model.proofs.EndLaws.{rank_in-lt}
 use Rattle.nc_layout.proofs.OrderLemmas.{length-indices_of}
 use Rattle.fm_model.specs.declared.proto.Proto.{Proto}
 use Rattle.fm_model.specs.declared.proto.ProtoVar.{ProtoVar}
@@ -33,7 +33,7 @@ drop_blocks g whole long a (suc n) (suc i) r below few =
     rw (at, here, left) (drop-append-add (g a) (flat_map g (range_with_len (a + 1) n)) (i * whole + r)
     ∙ drop_blocks g whole long (a + 1) n i r (omega arith) few)
 
--- at most so many of the index lists that begin with one, from one of them on, are as many of those of all rows
+-- at most `most` of the index lists that begin with one, from one of them on, are as many of those of all rows
 row_of_all : (shape : List ℕ) (count i rank most : ℕ) → i < count → rank ≤ product shape
     → take most (drop rank (map (λ (rest : List ℕ). i ∷ rest) (indices_of shape)))
     ≡ take (min most (product shape - rank)) (drop (i * product shape + rank) (indices_of (count ∷ shape)))

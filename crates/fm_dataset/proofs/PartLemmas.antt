@@ -7,6 +7,7 @@ use Rattle.std.proofs.lemmas.Bool.{eqb-true, and_parts, cases_order}
 use Rattle.std.proofs.lemmas.List.{length-map}
 use Rattle.std.proofs.lemmas.List.Elements.{All-get_or}
 use Rattle.std.proofs.lemmas.Option.{none-some, same_Some, slice_get-map, slice_get_past, slice_get_within, get_or_from_slice_get}
+use Rattle.fm_base.proofs.ListLemmas.{length-filter_map, slice_get-append}
 use Rattle.fm_model.specs.declared.proto.Proto.{Proto}
 use Rattle.fm_model.specs.declared.proto.ProtoVar.{ProtoVar}
 use Rattle.fm_model.specs.Attribute.{is_char}
@@ -18,12 +19,6 @@ use Rattle.dap_model.specs.Picking.{parts_of}
 use Rattle.fm_dataset.specs.Declarations.{array_dims, array_of, coordinate_of, coordinates_of, decl_of, decls_of, have_coordinates, is_grid, maps_of, rows_dim, seconds_of_rows}
 use Rattle.fm_dataset.specs.Values.{array_at, var_of_part, IsPart, Shown}
 
--- an item of the first of two lists
-slice_get-append : {A : Type 0} (xs ys : List A) (n : ℕ) → n < length xs → slice_get (xs ++ ys) n ≡ slice_get xs n
-slice_get-append [] ys n below = absurd (omega arith)
-slice_get-append (x ∷ xs) ys zero below = refl
-slice_get-append (x ∷ xs) ys (suc n) below = slice_get-append xs ys n (omega arith)
-
 -- or of the second
 pub slice_get-after : {A : Type 0} (xs ys : List A) (n : ℕ) → length xs ≤ n
     → slice_get (xs ++ ys) n ≡ slice_get ys (n - length xs)
@@ -32,15 +27,6 @@ slice_get-after (x ∷ xs) ys zero past = absurd (omega arith)
 slice_get-after (x ∷ xs) ys (suc n) past =
     let same : n - length xs ≡ suc n - suc (length xs) = omega arith in
     slice_get-after xs ys n (omega arith) ∙ ap (slice_get ys) same
-
-length-filter_map : {A B : Type 0} (f : A → Option B) (xs : List A) → length (filter_map f xs) ≤ length xs
-length-filter_map f [] = omega arith
-length-filter_map {B = B} f (x ∷ xs) = by_case (f x) (length-filter_map f xs)
-  where
-    by_case : (o : Option B) → length (filter_map f xs) ≤ length xs
-        → length (cons_option o (filter_map f xs)) ≤ suc (length xs)
-    by_case None most = omega (arith, most)
-    by_case (Some y) most = omega (arith, most)
 
 -- where each item gives something, what it gives stands at its place
 filter_map-at : {A B : Type 0} (f : A → Option B) (xs : List A) (n : ℕ) → length (filter_map f xs) ≡ length xs

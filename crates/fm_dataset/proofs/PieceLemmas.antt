@@ -5,8 +5,8 @@ use Rattle.std.specs.List.{flat_map, range_with_len}
 use Rattle.std.proofs.lemmas.Bool.{false≢true}
 use Rattle.std.proofs.lemmas.List.{drop-map, length-drop, length-take-le, take-append-drop, take-map}
 use Rattle.std.proofs.lemmas.List.Folds.{flat_map-map}
-use Rattle.fm_base.specs.Kind.{size_of}
-use Rattle.fm_base.specs.Layout.{product, rank_in, indices_of}
+use Rattle.nc_model.specs.Kind.{size_of}
+use Rattle.nc_model.specs.Layout.{product, rank_in, indices_of}
 use Rattle.nc_layout.proofs.OrderLemmas.{map-rank_in, flat_map_all}
 use Rattle.nc_array.proofs.PartLemmas.{elements_at, pieces}
 use Rattle.fm_model.specs.declared.proto.Proto.{Proto}
@@ -17,7 +17,7 @@ use Rattle.fm_dataset.specs.Kept.{IsBlock}
 use Rattle.fm_dataset.specs.Values.{characters, element_of, indices_from, indices_in_row, row_index, row_shape, var_raw}
 use Rattle.fm_dataset.proofs.CountLemmas.{pieces_within, rank-append}
 
--- a range without its first numbers, and with no more than so many
+-- a range without its first `k` numbers
 drop-range : (a n k : ℕ) → drop k (range_with_len a n) ≡ range_with_len (a + k) (n - k)
 drop-range a n zero =
     let from : a ≡ a + 0 = omega arith in

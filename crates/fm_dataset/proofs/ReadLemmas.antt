@@ -4,10 +4,10 @@ use Rattle.std.specs.Prelude.{slice_get, slice_index, IsSomeAnd}
 use Rattle.std.proofs.lemmas.List.{length-map, length-take-le}
 use Rattle.std.proofs.lemmas.List.Elements.{All-get_or}
 use Rattle.std.proofs.lemmas.Option.{same_Some, slice_get_within, get_or_from_slice_get}
-use Rattle.fm_base.specs.declared.kind.Kind.{Kind}
-use Rattle.fm_base.specs.declared.kind.Kind.TheVariants as kinds
-use Rattle.fm_base.specs.Kind.{size_of}
-use Rattle.fm_base.specs.Layout.{IsIndex}
+use Rattle.nc_model.specs.declared.kind.Kind.{Kind}
+use Rattle.nc_model.specs.declared.kind.Kind.TheVariants as kinds
+use Rattle.nc_model.specs.Kind.{size_of}
+use Rattle.nc_model.specs.Layout.{IsIndex}
 use Rattle.nc_layout.proofs.RankLemmas.{length-index}
 use Rattle.fm_model.specs.declared.proto.Proto.{Proto}
 use Rattle.fm_model.specs.declared.proto.ProtoVar.{ProtoVar}

@@ -2,11 +2,11 @@
 use Rattle.std.proofs.Common.{◌≡◌, ℕ, ◌^◌, ◌<◌, ◌≤◌, Bool, true, false, cond, List, length, Some, None, refl, sym, ap, subst, ◌∙◌, arith}
 use Rattle.std.specs.Prelude.{◌==◌}
 use Rattle.std.proofs.lemmas.Option.{same_Some}
-use Rattle.fm_base.specs.declared.kind.Kind.{Kind}
-use Rattle.fm_base.specs.declared.kind.Kind.TheVariants as kinds
-use Rattle.fm_base.specs.declared.pattern.Pattern.{Pattern}
-use Rattle.fm_base.specs.Kind.{size_of}
-use Rattle.fm_base.specs.Pattern.{pattern_of_bytes, IsPattern}
+use Rattle.nc_model.specs.declared.kind.Kind.{Kind}
+use Rattle.nc_model.specs.declared.kind.Kind.TheVariants as kinds
+use Rattle.nc_model.specs.declared.pattern.Pattern.{Pattern}
+use Rattle.nc_model.specs.Kind.{size_of}
+use Rattle.nc_model.specs.Pattern.{pattern_of_bytes, IsPattern}
 use Rattle.fm_model.specs.declared.proto.Proto.{Proto}
 use Rattle.fm_model.specs.declared.proto.ProtoVar.{ProtoVar}
 use Rattle.dap_model.specs.declared.declaration.Array.{Array}

@@ -5,11 +5,11 @@ use Rattle.std.specs.Int.{w32, cast_unsigned, from_be_bytes}
 use Rattle.std.specs.List.{flat_map}
 use Rattle.std.specs.Option.{option_map_or}
 use Rattle.std.specs.Result.{result_unwrap_or}
-use Rattle.fm_base.specs.declared.header.Dim.{Dim}
+use Rattle.nc_model.specs.declared.header.Dim.{Dim}
 use Rattle.fm_base.specs.Chain.{◌>>=◌}
-use Rattle.fm_base.specs.Kind.{size_of}
-use Rattle.fm_base.specs.Layout.{element, indices_of, product, rank_in, IsIndex}
-use Rattle.fm_base.specs.Pattern.{width_of}
+use Rattle.nc_model.specs.Kind.{size_of}
+use Rattle.nc_model.specs.Layout.{element, indices_of, product, rank_in, IsIndex}
+use Rattle.nc_model.specs.Pattern.{width_of}
 use Rattle.fm_model.specs.declared.loaded.Loaded.{Loaded}
 use Rattle.fm_model.specs.declared.proto.Proto.{Proto}
 use Rattle.fm_model.specs.declared.proto.ProtoVar.{ProtoVar}
@@ -120,7 +120,7 @@ indices_from proto var index =
 abbrev pub left_in_row : Proto → ProtoVar → List ℕ → ℕ
 left_in_row proto var index = product (row_shape proto var) - rank_in (row_shape proto var) (row_index var index)
 
--- the bytes of at most so many elements of a variable, from an index list on
+-- the bytes of at most `most` elements of a variable, from an index list on
 unfoldable pub var_raw : Proto → List Row → ProtoVar → List ℕ → ℕ → List ℕ
 var_raw proto rows var index most =
     flat_map (element_of proto rows var) (take most (indices_from proto var index))
@@ -145,7 +145,7 @@ unfoldable pub text_of_part : Shown → ℕ → ℕ → List ℕ → List ℕ
 text_of_part shown decl part index =
     option_map_or (λ var. var_text shown.proto shown.rows var index) (var_of_part shown.proto decl part) []
 
--- the bytes of at most so many elements of a part as they stand in a file or in the prototype, from an index list on
+-- the bytes of at most `most` elements of a part as they stand in a file or in the prototype, from an index list on
 unfoldable pub raw_of : Shown → ℕ → ℕ → List ℕ → ℕ → List ℕ
 raw_of shown decl part index most =
     option_map_or (λ var. var_raw shown.proto shown.rows var index most) (var_of_part shown.proto decl part) []

@@ -1,18 +1,13 @@
 //! The arrays as which variables are shown.
 ghost use Rattle.std.specs.Prelude.{◌≡◌, ◌++◌, IfOk, OnOk, drop, map};
-ghost use Rattle.fm_model.specs.Attribute.{is_char};
 ghost use Rattle.fm_dataset.specs.Declarations as spec;
 
 use dap_model::{Array, DapKind};
-use fm_base::{Bytes, Dim, Kind, List, NoMemory};
+use fm_base::{Bytes, List, NoMemory};
+use fm_file::is_char;
 use fm_model::{Proto, ProtoVar};
+use nc_model::{Dim, Kind};
 use std::alloc::Global;
-
-fn is_char(kind: Kind) -> bool
-    ensures { result ≡ is_char kind }
-{
-    matches!(kind, Kind::Char)
-}
 
 // The kind as which values of a kind are sent.
 fn dap_kind_of(kind: Kind) -> DapKind

@@ -6,7 +6,7 @@ use crate::index::first_of;
 use fm_model::{Proto, ProtoVar, Row, Slot};
 use fm_rows::Rows;
 
-// Some bytes, and the place in them where elements begin that lie one after another.
+// Some bytes, and the offset in them where elements begin that lie one after another.
 #[derive(Clone, Copy)]
 pub(crate) struct Block<'a> {
     pub(crate) bytes: &'a [u8],

@@ -1,45 +1,19 @@
 //! Building the dataset of a view.
 ghost use Rattle.std.specs.Prelude.{◌≡◌, IfOk};
 ghost use Rattle.fm_model.specs.Site.{IsPrototype};
-ghost use Rattle.fm_dataset.specs.Kept.{IsKept};
 ghost use Rattle.fm_dataset.specs.Rows.{AreRows};
 
 use crate::declare::decls;
 use crate::shown::Dataset;
 use crate::table::{coordinate_numbers, slot_numbers};
-use dap_model::Decl;
-use fm_base::{Arc, Bytes, List, NoMemory};
+use fm_base::{Arc, Bytes, NoMemory};
 use fm_model::{Proto, ViewName};
 use fm_rows::Rows;
 use std::alloc::Global;
 
-// A dataset of these parts.
-fn dataset_of(
-    proto: Arc<Proto>,
-    rows: Rows,
-    view: ViewName,
-    label: Bytes,
-    decls: List<Decl>,
-    coordinates: List<usize>,
-    slots: List<usize>,
-) -> Dataset
-    requires { IsKept proto rows decls coordinates slots }
-    ensures { result ≡ record { proto = proto; rows = rows; view = view; label = label } }
-{
-    Dataset {
-        proto,
-        rows,
-        view,
-        label,
-        decls,
-        coordinates,
-        slots,
-    }
-}
-
 /// The dataset of a view: its rows over a prototype, under a label. The caller has 1 to 262,144 rows, each of a file
-/// that fits the prototype, of at most 3,221,225,472 bytes,
-/// with that file's run, a place among its times, and the time at that place as valid time.
+/// that fits the prototype, of at most 3,221,225,472 bytes, with that file's run, a place among its times, and the time
+/// at that place as valid time.
 ///
 /// The rows are moved, in pages that others may share, and the prototype is shared; it takes memory and time for the
 /// declarations alone.
@@ -59,5 +33,13 @@ pub fn dataset(
     let coordinates = coordinate_numbers(alloc, proto.get())?;
     let slots = slot_numbers(alloc, proto.get())?;
     let proto = proto.share()?;
-    Ok(dataset_of(proto, rows, view, label, decls, coordinates, slots))
+    Ok(Dataset {
+        proto,
+        rows,
+        view,
+        label,
+        decls,
+        coordinates,
+        slots,
+    })
 }

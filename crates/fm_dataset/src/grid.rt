@@ -1,30 +1,21 @@
 //! Which variables are Grids, and the maps that they have.
 ghost use Rattle.std.specs.Prelude.{◌≡◌, slice_get};
-ghost use Rattle.fm_model.specs.Variable as model;
 ghost use Rattle.fm_dataset.specs.Declarations as spec;
 
 use crate::array::array_dims;
-use fm_base::{Dim, Kind};
+use fm_file::{is_coordinate, lies_along};
 use fm_model::{Proto, ProtoVar};
 
-#[tactic(auto, unfolding(fm_model::specs::Variable::is_named))]
-fn is_named(dims: &[Dim], name: &[u8], id: u32) -> bool
-    ensures { result ≡ model.is_named dims.now name.now id }
-{
-    dims.get(id as usize)
-        .is_some_and(|dim| dim.name.as_slice() == name)
-}
-
 // Whether a variable is a coordinate variable.
-#[tactic(auto, unfolding(fm_model::specs::Variable::is_coordinate))]
-fn is_coordinate(proto: &Proto, var: &ProtoVar) -> bool
+fn is_coordinate_var(proto: &Proto, var: &ProtoVar) -> bool
     ensures { result ≡ spec.is_coordinate_var proto.now var.now }
 {
-    match var.dims.as_slice() {
-        [id] => is_named(proto.dims.as_slice(), var.name.as_slice(), *id)
-            && !matches!(var.kind, Kind::Char),
-        _ => false,
-    }
+    is_coordinate(
+        proto.dims.as_slice(),
+        var.name.as_slice(),
+        var.kind,
+        var.dims.as_slice(),
+    )
 }
 
 // Whether a variable is the coordinate variable of the dimension of this number.
@@ -33,16 +24,9 @@ fn is_coordinate_of(proto: &Proto, id: usize, var: &ProtoVar) -> bool
     ensures { result ≡ spec.is_coordinate_of proto.now id var.now }
 {
     match var.dims.as_slice() {
-        [only] => *only as usize == id && is_coordinate(proto, var),
+        [only] => *only as usize == id && is_coordinate_var(proto, var),
         _ => false,
     }
-}
-
-#[tactic(auto, unfolding(fm_model::specs::Variable::lies_along))]
-fn lies_along(id: u32, ids: &[u32]) -> bool
-    ensures { result ≡ model.lies_along id ids.now }
-{
-    ids.iter().any(|other| *other == id)
 }
 
 // Whether a number stands twice.
@@ -79,5 +63,5 @@ pub(crate) fn may_be_grid(proto: &Proto, var: &ProtoVar) -> bool
     ensures { result ≡ spec.may_be_grid proto.now var.now }
 {
     let ids = array_dims(var);
-    !ids.is_empty() && !is_coordinate(proto, var) && !repeats(ids)
+    !ids.is_empty() && !is_coordinate_var(proto, var) && !repeats(ids)
 }

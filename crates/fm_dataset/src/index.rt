@@ -1,6 +1,6 @@
 //! Index lists, and the dimensions that they are over.
 ghost use Rattle.std.specs.Prelude.{◌≡◌, ◌≤◌, All, map, slice_index};
-ghost use Rattle.fm_base.specs.Layout.{product, rank_in, IsIndex};
+ghost use Rattle.nc_model.specs.Layout.{product, rank_in, IsIndex};
 ghost use Rattle.fm_dataset.specs.Kept.{length_at};
 ghost use Rattle.fm_dataset.specs.Values.{row_dims, row_index};
 
@@ -51,7 +51,7 @@ pub(crate) fn length_at(proto: &Proto, id: u32) -> u64
     }
 }
 
-// The number of an index list in row-major order, over these dimensions, which have at most so many elements.
+// The number of an index list in row-major order, over these dimensions, which have at most `most` elements.
 #[tactic(auto, using(nc_layout::proofs::RankLemmas::ranks))]
 pub(crate) fn rank(proto: &Proto, ids: &[u32], index: &[u64], most: u64) -> u64
     requires index { IsIndex (map (length_at proto.now) ids.now) index.now }
@@ -65,7 +65,7 @@ pub(crate) fn rank(proto: &Proto, ids: &[u32], index: &[u64], most: u64) -> u64
     rank
 }
 
-// How many elements these dimensions have, which are at most so many.
+// How many elements these dimensions have: at most `most`.
 #[tactic(auto, using(nc_layout::proofs::ProductLemmas::products, crate::proofs::CountLemmas::product_so_far))]
 pub(crate) fn count_in(proto: &Proto, ids: &[u32], most: u64) -> u64
     requires some { All (λ n. 1 ≤ n) (map (length_at proto.now) ids.now) }

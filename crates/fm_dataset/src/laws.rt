@@ -1,8 +1,8 @@
 //! What a reader believes of the definitions, each as the contract of a call that does nothing.
 ghost use Rattle.std.specs.Prelude.{◌≡◌, ◌+◌, ◌^◌, ◌<◌, ◌∷◌, ℕ, List, Some, Contains, length, slice_get, take, drop};
 ghost use Rattle.std.specs.Prelude.{min, false, true};
-ghost use Rattle.fm_base.specs.Kind.{size_of};
-ghost use Rattle.fm_base.specs.Layout.{indices_of, rank_in, IsIndex};
+ghost use Rattle.nc_model.specs.Kind.{size_of};
+ghost use Rattle.nc_model.specs.Layout.{indices_of, rank_in, IsIndex};
 ghost use Rattle.fm_model.specs.Attribute.{is_char};
 ghost use Rattle.fm_model.specs.declared.loaded.Loaded.{Loaded};
 ghost use Rattle.fm_model.specs.declared.proto.Proto.{Proto};
@@ -61,8 +61,8 @@ pub fn an_element_is_as_long_as_its_kind()
         → length (element_of shown.proto shown.rows var index) ≡ size_of var.kind }
 {}
 
-/// Each array of a dataset has at most 1,025 dimensions, none of them empty, and fewer than 2^64 elements: a variable of
-/// a header has at most 1,024 dimensions, there is a row, and the elements of one row lie in its file.
+/// Each array of a dataset has at most 1,025 dimensions, none of them empty, and fewer than 2^64 elements: a variable
+/// of a header has at most 1,024 dimensions, there is a row, and the elements of one row lie in its file.
 pub fn each_array_is_small()
     ensures { (shown : Shown) (decl part : ℕ) (array : Array) → IsPrototype shown.proto
         → AreRows shown.proto shown.rows → array_at shown decl part ≡ Some array → IsSmall array }

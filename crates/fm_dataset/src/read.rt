@@ -1,6 +1,6 @@
 //! The values of a dataset, in place.
 ghost use Rattle.std.specs.Prelude.{◌≡◌, ◌*◌, ℕ, List, IfSome, IsTrue, Some, length, min};
-ghost use Rattle.fm_base.specs.Kind.{size_of};
+ghost use Rattle.nc_model.specs.Kind.{size_of};
 ghost use Rattle.dap_model.specs.declared.declaration.Array.{Array};
 ghost use Rattle.dap_model.specs.Xdr.{AreBitsOf};
 ghost use Rattle.fm_dataset.specs.Declarations.{kind_in};

@@ -1,13 +1,13 @@
 //! The elements and the texts of a variable.
 ghost use Rattle.std.specs.Prelude.{◌≡◌, ◌*◌, ◌≤◌, length, map, min};
-ghost use Rattle.fm_model.specs.Attribute.{trimmed};
-ghost use Rattle.fm_base.specs.Kind.{size_of};
-ghost use Rattle.fm_base.specs.Layout.{product};
+ghost use Rattle.nc_model.specs.Kind.{size_of};
+ghost use Rattle.nc_model.specs.Layout.{product};
 ghost use Rattle.fm_dataset.specs.Kept.{length_at, HasCharacters, HasElement};
 ghost use Rattle.fm_dataset.specs.Values as spec;
 
 use crate::block::{block_of, pieces_of};
 use crate::index::{count_in, length_at, rank, row_dims, row_index};
+use fm_file::trimmed;
 use fm_model::{Proto, ProtoVar};
 use fm_rows::Rows;
 
@@ -29,13 +29,7 @@ pub(crate) fn element_of<'a>(
     pieces_of(block, u64::from(var.kind.size()), rank, 1)
 }
 
-fn lesser(count: u64, other: u64) -> u64
-    ensures { result ≡ min count other }
-{
-    if count < other { count } else { other }
-}
-
-// The elements that follow an index list in its row, itself the first: at most so many.
+// The elements that follow an index list in its row, itself the first: at most `most`.
 pub(crate) fn raw_of<'a>(
     proto: &Proto,
     rows: &'a Rows,
@@ -54,19 +48,7 @@ pub(crate) fn raw_of<'a>(
     let ids = row_dims(var);
     let first = rank(proto, ids, row_index(var, index), bytes);
     let left = count_in(proto, ids, bytes) - first;
-    pieces_of(block, u64::from(var.kind.size()), first, lesser(most, left))
-}
-
-// Some bytes without the zero bytes at their end.
-#[tactic(auto, unfolding(fm_model::specs::Attribute::trimmed))]
-fn trimmed(bytes: &[u8]) -> &[u8]
-    ensures { result.now ≡ trimmed bytes.now }
-{
-    let mut len = bytes.len();
-    while len > 0 && bytes[len - 1] == 0 {
-        len -= 1;
-    }
-    &bytes[..len]
+    pieces_of(block, u64::from(var.kind.size()), first, most.min(left))
 }
 
 // How many characters a text has: the length of the last dimension, where one is left.

@@ -30,7 +30,7 @@ neither false false none = (refl, refl)
 neither false true none = absurd (false≢true (sym none))
 neither true b none = absurd (false≢true (sym none))
 
--- a number that no instant up to a place touches is touched by none of those before it, and by none between
+-- a number that no instant up to an index touches is touched by none of those before it, and by none between
 pub touches-less : (touched : List ℤ) (from at : ℕ) (d number : ℤ) → from < at → at ≤ length touched
     → touches (take at touched) number ≡ false
     → (touches (take from touched) number ≡ false) × (int_eq (page_of (get_or touched from d)) number ≡ false)
@@ -48,7 +48,7 @@ touches-less (key ∷ keys) (suc from) (suc at) d number lt le none =
     both true b x y = absurd (false≢true (sym x))
     both false true x y = absurd (false≢true (sym y))
 
--- the instant before a place touches its page
+-- the instant before an index touches its page
 pub touches-last : (touched : List ℤ) (i : ℕ) (d : ℤ) → i < length touched
     → touches (take (i + 1) touched) (page_of (get_or touched i d)) ≡ true
 touches-last touched i d lt =

@@ -36,7 +36,7 @@ lt_next a b = grind (arith, nat_tests)
 lt_first : (b : ℕ) → nat_lt 0 (suc b) ≡ true
 lt_first b = grind (arith, nat_tests)
 
--- there is a first place exactly where some item passes
+-- there is a first index exactly where some item passes
 below_length : {A : Type 0} (test : A → Bool) (items : List A) → nat_lt (position_or_len test items) (length items)
     ≡ list_any test items
 below_length test [] = refl
@@ -56,16 +56,16 @@ pub cell_in-own_run : (run valid : ℤ) (file : Loaded) → int_eq file.run run 
 unfolding cell_in has_cell has_time place_of_time
 cell_in-own_run run valid file e = rw (e, below_length (λ time. int_eq time valid) file.times) refl
 
--- what the place in a file says of its cell
-found_parts : (run valid : ℤ) (file : Loaded) (place : ℕ) → cell_in run valid file ≡ Some place
-    → (has_cell run valid file ≡ true) × (place_of_time valid file ≡ place)
+-- the cell of a file, by the time's index in it
+found_parts : (run valid : ℤ) (file : Loaded) (index : ℕ) → cell_in run valid file ≡ Some index
+    → (has_cell run valid file ≡ true) × (place_of_time valid file ≡ index)
 unfolding cell_in
-found_parts run valid file place e = by_test (has_cell run valid file) refl e
+found_parts run valid file index e = by_test (has_cell run valid file) refl e
   where
-    by_test : (b : Bool) → has_cell run valid file ≡ b → cond b (Some (place_of_time valid file)) None ≡ Some place
-        → (has_cell run valid file ≡ true) × (place_of_time valid file ≡ place)
-    by_test true is e = (is, same_Some (place_of_time valid file) place e)
-    by_test false is e = absurd (none-some place e)
+    by_test : (b : Bool) → has_cell run valid file ≡ b → cond b (Some (place_of_time valid file)) None ≡ Some index
+        → (has_cell run valid file ≡ true) × (place_of_time valid file ≡ index)
+    by_test true is e = (is, same_Some (place_of_time valid file) index e)
+    by_test false is e = absurd (none-some index e)
 
 lacks_cell : (run valid : ℤ) (file : Loaded) → cell_in run valid file ≡ None → has_cell run valid file ≡ false
 unfolding cell_in
@@ -77,14 +77,14 @@ lacks_cell run valid file e = by_test (has_cell run valid file) refl e
     by_test false is e = is
 
 -- the file at which the walk stops has the cell
-pub cell-found : (files : List Loaded) (run valid : ℤ) (i before : ℕ) (file : Loaded) (place : ℕ) → i + 1 ≡ before
+pub cell-found : (files : List Loaded) (run valid : ℤ) (i before : ℕ) (file : Loaded) (index : ℕ) → i + 1 ≡ before
     → i < length files
-    → file ≡ get_or files i file → cell_in run valid file ≡ Some place
+    → file ≡ get_or files i file → cell_in run valid file ≡ Some index
     → last_such (has_cell run valid) (take before files) ≡ last_such (has_cell run valid) files
-    → cell files run valid ≡ Some (file, place)
+    → cell files run valid ≡ Some (file, index)
 unfolding cell
-cell-found files run valid i before file place next lt is found same =
-    let parts = found_parts run valid file place found in
+cell-found files run valid i before file index next lt is found same =
+    let parts = found_parts run valid file index found in
     let passes : has_cell run valid (get_or files i file) ≡ true = ap (has_cell run valid) (sym is) ∙ parts.0 in
     let last : last_such (has_cell run valid) files ≡ Some file =
     sym same ∙ ap (λ n. last_such (has_cell run valid) (take n files)) (sym next)

@@ -83,17 +83,6 @@ counted_page make count items rest whole sum =
     ap length (filter_map-append make items rest) ∙ length-append (filter_map make items) (filter_map make rest) in
     omega (arith, parts, sum)
 
--- no more is made than there are items
-pub length-filter_map-le : {A B : Type 0} (make : A → Option B) (items : List A)
-    → length (filter_map make items) ≤ length items
-length-filter_map-le make [] = omega arith
-length-filter_map-le {A} {B} make (item ∷ items) = by_item (make item) (length-filter_map-le make items)
-  where
-    by_item : (o : Option B) → length (filter_map make items) ≤ length items
-        → length (cons_option o (filter_map make items)) ≤ length (item ∷ items)
-    by_item None le = omega (arith, le)
-    by_item (Some made) le = omega (arith, le)
-
 length-insert_once : (instant : ℤ) (instants : List ℤ) → length (insert_once instant instants) ≤ length instants + 1
 unfolding insert_once
 length-insert_once instant [] = omega arith
@@ -111,7 +100,8 @@ length-insert_once instant (first ∷ more) = by_tests (int_eq instant first) (l
         by_less true le = omega arith
         by_less false le = omega (arith, le)
 
-length-rising : (instants : List ℤ) → length (rising instants) ≤ length instants
+-- a list in order is no longer than the list
+pub length-rising : (instants : List ℤ) → length (rising instants) ≤ length instants
 unfolding rising
 length-rising [] = omega arith
 length-rising (instant ∷ more) = omega (arith, length-rising more, length-insert_once instant (rising more))

@@ -65,6 +65,7 @@ edition_from : (held : Held) (ops : List Op) → IsEdition held → IsLogFrom he
 edition_from held [] is log = is
 edition_from held (op ∷ ops) is log = edition_from (held_after held op) ops (IsEdition-after held op is log.0) log.1
 
+-- what the operations of a log leave is an edition
 pub IsEdition-from_log : (proto : Proto) (ops : List Op) → IsPrototype proto → IsLog proto ops
     → IsEdition (held_of proto ops)
 unfolding coll

@@ -12,6 +12,7 @@ use Rattle.fm_model.specs.Cell.{best, cell, has_cell, has_time, last_such, place
 use Rattle.fm_model.proofs.BestLemmas.{IsBest-from_best, best-from_IsBest, no_best_both}
 use Rattle.fm_model.proofs.CellLemmas.{in-has}
 use Rattle.fm_model.proofs.Members.{All-from_each, Any-from_in, Each-from_in, In-filter, in_filter, in_from_Any, in_from_Contains}
+use Rattle.fm_model.proofs.CollectionLemmas.{filter-filter}
 use Rattle.fm_edition.specs.declared.maps.by.By.{By}
 use Rattle.fm_edition.specs.declared.maps.by.By.TheVariants.{Run, Time}
 use Rattle.fm_edition.specs.Indexes.{in_page, or_none, page_of, part, selects, shown_in, AreParts, HaveTime, Pages}
@@ -68,19 +69,10 @@ pub best-part : (files : List Loaded) (valid : ℤ) (least : Option ℤ)
 unfolding part selects
 best-part files valid least = best_both files valid least (best files valid least) refl
 
-filter-again : {A : Type 0} (test : A → Bool) (xs : List A) → filter test (filter test xs) ≡ filter test xs
-filter-again test [] = refl
-filter-again {A} test (x ∷ xs) = by_test (test x) refl (filter-again test xs)
-  where
-    by_test : (b : Bool) → test x ≡ b → filter test (filter test xs) ≡ filter test xs
-        → filter test (filter test (x ∷ xs)) ≡ filter test (x ∷ xs)
-    by_test true is more = simp is (ap (λ l. x ∷ l) more)
-    by_test false is more = simp is more
-
 -- the files of a run have its valid times
 pub times_of_run-part : (files : List Loaded) (run : ℤ) → times_of_run (part Run files run) run ≡ times_of_run files run
 unfolding times_of_run part selects
-times_of_run-part files run = ap times_of (filter-again (λ (f : Loaded). int_eq f.run run) files)
+times_of_run-part files run = ap times_of (filter-filter (λ (f : Loaded). int_eq f.run run) files)
 
 pub few-part : (by : By) (files : List Loaded) (key : ℤ)
     → All (λ (file : Loaded). length file.times ≤ MAX_TIMES) files

@@ -16,6 +16,7 @@ pub record Bounds (files : List Loaded) : Type 0 where
   pub rows : sum_by (λ (f : Loaded). length f.times) files ≤ MAX_ROWS
   pub size : sum_by (λ (f : Loaded). length f.content) files ≤ MAX_BYTES
 
+-- the bounds of a collection within the limits
 pub bounds : (files : List Loaded) → IsWithin (tally files) → Bounds files
 unfolding tally
 bounds files within = record { count = within Files; rows = within Rows; size = within Size }

@@ -105,7 +105,7 @@ impl Edition {
         instants::times_in(alloc, self.files.as_slice(), run)
     }
 
-    /// The last held file of a run with a valid time, and the time's place in it. `None` where there is no such file.
+    /// The last held file of a run with a valid time, and the time's index in it. `None` where there is no such file.
     pub fn cell(&self, run: i64, valid: i64) -> Option<(&Arc<Loaded>, u32)>
         ensures found { IfSome result (λ found. cell self.now.files run valid ≡ Some (found.0.now, found.1)) }
         ensures none { IsNone result → cell self.now.files run valid ≡ None }

@@ -1,12 +1,7 @@
 -- A search that stops at the first item that passes finds that item, which stands at the number reached.
-use Rattle.std.proofs.Common.{◌≡◌, ℕ, zero, suc, ◌<◌, List, [], ◌∷◌, drop, find, length, get_or, Bool, true, arith, sym, ◌∙◌}
+use Rattle.std.proofs.Common.{◌≡◌, ℕ, ◌<◌, List, [], drop, find, length, get_or, Bool, true, sym, ◌∙◌}
 use Rattle.std.specs.List.{slice_get}
-
-find-there : {A : Type 0} (p : A → Bool) (xs : List A) (x : A) (n : ℕ) → n < length xs → x ≡ get_or xs n x
-    → p x ≡ true → find p (drop n xs) ≡ slice_get xs n
-find-there p [] x n within there passes = grind arith
-find-there p (y ∷ ys) x zero within there passes = grind arith
-find-there p (y ∷ ys) x (suc n) within there passes = find-there p ys x n (omega arith) there passes
+use Rattle.fm_base.proofs.ListLemmas.{find-there}
 
 pub find-at : {A : Type 0} (p : A → Bool) (xs : List A) (x : A) (n : ℕ) → find p (drop n xs) ≡ find p xs
     → n < length xs → x ≡ get_or xs n x → p x ≡ true → find p xs ≡ slice_get xs n

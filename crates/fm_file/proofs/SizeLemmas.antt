@@ -9,12 +9,12 @@ use Rattle.std.proofs.lemmas.List.{length-append, length-replicate}
 use Rattle.std.proofs.lemmas.List.Elements.{All-filter, All-head, All-tail}
 use Rattle.std.proofs.lemmas.List.Sums.{count_by-le-length, length-filter, sum_by-cons}
 use Rattle.std.proofs.lemmas.Bool.{and_parts}
-use Rattle.fm_base.specs.declared.fault.LayoutFault.{LayoutFault}
-use Rattle.fm_base.specs.declared.header.Header.{Header}
-use Rattle.fm_base.specs.declared.header.NcVar.{NcVar}
-use Rattle.fm_base.specs.Format.{padded_len, ATTRIBUTE_TAG, VARIABLE_TAG, is_barred, is_name_text}
-use Rattle.fm_base.specs.Layout.{is_record_var, vsize, record_vars, record_size_of, record_size, layout_fault, first_too_large, first_outside}
-use Rattle.fm_base.specs.Spelling.{HeaderOf, Spelled, SpellsAttr, SpellsBegin, SpellsList, SpellsName, SpellsVar}
+use Rattle.nc_model.specs.declared.fault.LayoutFault.{LayoutFault}
+use Rattle.nc_model.specs.declared.header.Header.{Header}
+use Rattle.nc_model.specs.declared.header.NcVar.{NcVar}
+use Rattle.nc_model.specs.Format.{padded_len, ATTRIBUTE_TAG, VARIABLE_TAG, is_barred, is_name_text}
+use Rattle.nc_model.specs.Layout.{is_record_var, vsize, record_vars, record_size_of, record_size, layout_fault, first_too_large, first_outside}
+use Rattle.nc_model.specs.Spelling.{HeaderOf, Spelled, SpellsAttr, SpellsBegin, SpellsList, SpellsName, SpellsVar}
 use Rattle.nc_layout.specs.Meaning.{IsSmall}
 use Rattle.nc_layout.proofs.MeaningLemmas.{All-small}
 use Rattle.nc_layout.proofs.RecordLemmas.{padded_vsize}

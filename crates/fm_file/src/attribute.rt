@@ -2,7 +2,7 @@
 ghost use Rattle.std.specs.Prelude.{◌≡◌, MatchOption, None, Some};
 ghost use Rattle.fm_model.specs.Attribute.{attr_text, has_text, is_char, text_of, trimmed};
 
-use fm_base::{Attr, Kind};
+use nc_model::{Attr, Kind};
 
 /// Whether values of this kind are characters.
 pub fn is_char(kind: Kind) -> bool
@@ -11,9 +11,9 @@ pub fn is_char(kind: Kind) -> bool
     matches!(kind, Kind::Char)
 }
 
-// Some bytes without the zero bytes at their end.
+/// Some bytes without the zero bytes at their end.
 #[tactic(auto, unfolding(fm_model::specs::Attribute::trimmed))]
-pub(crate) fn trimmed(bytes: &[u8]) -> &[u8]
+pub fn trimmed(bytes: &[u8]) -> &[u8]
     ensures { result.now ≡ trimmed bytes.now }
 {
     let mut len = bytes.len();

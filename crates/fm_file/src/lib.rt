@@ -6,7 +6,7 @@ mod attribute;
 mod sound;
 mod variable;
 
-pub use attribute::{has_text, is_char, text_of};
+pub use attribute::{has_text, is_char, text_of, trimmed};
 pub use sound::read_sound;
 pub use variable::{
     axis_of, dim_of_axis, is_coordinate, lies_along, reference_number, reference_of,

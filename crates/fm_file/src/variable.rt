@@ -4,7 +4,7 @@ ghost use Rattle.fm_file.specs.Named.{has_name};
 ghost use Rattle.fm_model.specs.Variable as spec;
 
 use crate::attribute::{has_text, is_char};
-use fm_base::{Dim, Header, Kind, NcVar};
+use nc_model::{Dim, Header, Kind, NcVar};
 
 // Whether the dimension of this number has this name.
 #[tactic(auto, unfolding(fm_model::specs::Variable::is_named))]

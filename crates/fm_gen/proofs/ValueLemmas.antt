@@ -2,6 +2,7 @@
 use Rattle.std.proofs.Common.{◌≡◌, ◌+◌, ◌*◌, ℕ, zero, suc, refl, sym, ap, ◌∙◌, arith}
 use Rattle.fm_gen.specs.Values.{first_number, next, number_after, number_at}
 
+-- the number after n steps and m more
 pub number_after-more : (x n m : ℕ) → number_after (number_after x n) m ≡ number_after x (n + m)
 unfolding number_after
 number_after-more x n zero = ap (number_after x) (plus_none n)

@@ -40,6 +40,6 @@ shape_text (id ∷ ids) = word id ++ shape_text ids
 unfoldable pub var_front : List ℕ → List ℕ → List ℕ
 var_front name ids = counted name ++ word (length ids) ++ shape_text ids
 
--- what stands after a variable's attributes: the number of its kind, how many bytes it takes, and the place of its data
+-- the fields after a variable's attributes: the number of its kind, its bytes, and the offset of its data
 unfoldable pub var_end : ℕ → ℕ → ℕ → List ℕ
 var_end kind size begin = word kind ++ word size ++ word begin

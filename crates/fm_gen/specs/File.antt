@@ -1,8 +1,8 @@
 -- A made file: a CDF-1 file of 65 times on a grid of 8 latitudes and 8 longitudes.
 use Rattle.std.specs.Prelude.{ℕ, List, [], ◌∷◌, ◌++◌, codes}
-use Rattle.fm_base.specs.declared.kind.Kind.TheVariants.{Int, Float}
-use Rattle.fm_base.specs.Format.{DIMENSION_TAG, VARIABLE_TAG, ATTRIBUTE_TAG}
-use Rattle.fm_base.specs.Kind.{code_of}
+use Rattle.nc_model.specs.declared.kind.Kind.TheVariants.{Int, Float}
+use Rattle.nc_model.specs.Format.{DIMENSION_TAG, VARIABLE_TAG, ATTRIBUTE_TAG}
+use Rattle.nc_model.specs.Kind.{code_of}
 use Rattle.fm_gen.specs.Fields.{word, tagged, no_list, attr_text, dim_text, var_front, var_end}
 use Rattle.fm_gen.specs.Values.{records_text, steps_text}
 

@@ -88,7 +88,7 @@ pub(crate) fn put_var_front(name: &[u8], ids: &[u32], out: &mut Bytes) -> Result
     put_shape(ids, out)
 }
 
-/// What stands after a variable's attributes: the number of its kind, how many bytes it takes, and the place of its data.
+/// The fields after a variable's attributes: the number of its kind, its bytes, and the offset of its data.
 #[tactic(auto, unfolding(crate::specs::Fields::var_end))]
 pub(crate) fn put_var_end(kind: u32, size: u32, begin: u32, out: &mut Bytes) -> Result<(), NoMemory>
     ensures { OnOk result (out.new ≡ out.old ++ spec.var_end kind size begin) }

@@ -6,10 +6,10 @@ ghost use Rattle.fm_gen.specs.Values as spec;
 use crate::fields::put_word;
 use fm_base::{Bytes, NoMemory};
 
-// How many values a record has.
+// The number of values of a record.
 const VALUES: u32 = 64;
 
-// How many records a file has.
+// The number of records of a file.
 pub(crate) const RECORDS: u32 = 65;
 
 // The number after a number of the sequence.

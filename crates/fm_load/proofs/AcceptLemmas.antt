@@ -1,6 +1,6 @@
 -- Each step of loading accepts under stated facts.
-use Rattle.std.proofs.Common.{◌≡◌, ◌≢◌, ℕ, suc, ◌+◌, ◌<◌, ◌≤◌, Bool, true, false, not, List, [], ◌∷◌, ◌++◌, length, get_or, Some, None, Result, Ok, ℤ, ◌-ℤ◌, ◌≤ℤ◌, refl, sym, ap, ap₂, subst, ◌∙◌, arith, append_assoc}
-use Rattle.std.specs.Prelude.{AllPairs, ◌==◌, ◌&&◌, if◌then◌else◌, int_le, nat_eq, nat_lt, neg_ℤ, slice_get, slice_index}
+use Rattle.std.proofs.Common.{◌≡◌, ◌≢◌, ℕ, suc, ◌+◌, ◌<◌, ◌≤◌, Bool, true, false, not, List, [], ◌∷◌, ◌++◌, length, get_or, Some, None, Result, Ok, ℤ, ◌-ℤ◌, refl, sym, ap, ap₂, subst, ◌∙◌, arith, append_assoc}
+use Rattle.std.specs.Prelude.{AllPairs, ◌==◌, ◌&&◌, if◌then◌else◌, nat_eq, nat_lt, neg_ℤ, slice_get, slice_index}
 use Rattle.std.specs.List.{common_prefix_len, list_any}
 use Rattle.std.specs.Option.{ok_or}
 use Rattle.std.specs.Ordering.{int_eq}
@@ -8,21 +8,20 @@ use Rattle.std.proofs.Math.ListN.{get_or-append}
 use Rattle.std.proofs.Math.Seq.{get_or-append_seam}
 use Rattle.std.proofs.lemmas.Bool.{ne_eqb}
 use Rattle.std.proofs.lemmas.Bool.Decides.{Decides-int_eq, nat_tests}
-use Rattle.std.proofs.lemmas.Int.{ints}
 use Rattle.std.proofs.lemmas.List.{append-nil, length-append}
 use Rattle.std.proofs.lemmas.List.Folds.{list_any_none}
-use Rattle.fm_base.specs.declared.header.Header.{Header as FileHeader}
-use Rattle.fm_base.specs.declared.header.NcVar.{NcVar}
-use Rattle.fm_base.specs.declared.units.Units.{Units as TimeUnits}
+use Rattle.nc_model.specs.declared.header.Header.{Header as FileHeader}
+use Rattle.nc_model.specs.declared.header.NcVar.{NcVar}
+use Rattle.nc_model.specs.declared.units.Units.{Units as TimeUnits}
 use Rattle.fm_base.specs.Chain.{◌>>=◌, ◌>>◌, fault_as, refuse_if}
-use Rattle.fm_base.specs.Layout.{elements_of, size_at}
-use Rattle.fm_base.specs.Sound.{sound_header}
-use Rattle.fm_base.specs.Stamp.{mark_of}
+use Rattle.nc_model.specs.Layout.{elements_of, size_at}
+use Rattle.nc_model.specs.Sound.{sound_header}
+use Rattle.nc_model.specs.Stamp.{mark_of}
+use Rattle.fm_base.proofs.NumberLemmas.{test_at_most}
 use Rattle.fm_model.specs.declared.limit.TheConstants.{MAX_INSTANT, MAX_TIMES}
 use Rattle.fm_model.specs.declared.loaded.Loaded.{Loaded}
 use Rattle.fm_model.specs.declared.loaded.LoadFault.{LoadFault}
 use Rattle.fm_model.specs.declared.loaded.LoadFault.TheVariants.{GridDiffers, MissingVariable, NoRunTime, NoTimes, NotWhole, RunRange, TimeRange, TimeRepeated, TooManyTimes, VariableDiffers}
-use Rattle.fm_model.specs.declared.loaded.Slot.{Slot}
 use Rattle.fm_model.specs.declared.proto.Proto.{Proto}
 use Rattle.fm_model.specs.declared.proto.ProtoVar.{ProtoVar}
 use Rattle.fm_model.specs.declared.site.Site.{Site}
@@ -32,7 +31,9 @@ use Rattle.fm_model.specs.LoadTimes.{file_run, file_times, from_epoch, is_instan
 use Rattle.fm_model.specs.LoadVars.{file_slot, is_like_fixed, is_like_timed, same_bytes, same_grid, slot_in}
 use Rattle.fm_load.specs.Accepted.{IsAccepted}
 use Rattle.fm_model.specs.Variable.{dim_of_axis, is_coordinate, reference_of, var_named}
+use Rattle.fm_model.proofs.LoadLemmas.{taken}
 
+-- a sound header
 pub header-accepted : (bytes : List ℕ) (header : FileHeader) → sound_header bytes ≡ Ok header
     → file_header bytes ≡ Ok header
 unfolding file_header
@@ -43,6 +44,7 @@ pub var-accepted : (header : FileHeader) (name : List ℕ) (var : NcVar) → var
 unfolding file_var
 var-accepted header name var named = ap (λ found. ok_or found (MissingVariable name)) named
 
+-- the axis with the prototype's name
 pub axis-accepted : (proto : Proto) (header : FileHeader) (axis : NcVar) → var_named header proto.axis ≡ Some axis
     → is_coordinate header.dims axis.name axis.kind axis.dims ≡ true → file_axis proto header ≡ Ok axis
 unfolding file_axis
@@ -51,19 +53,17 @@ axis-accepted proto header axis named coordinate =
     (VariableDiffers proto.axis) >> Ok axis) (var-accepted header proto.axis axis named)
     ∙ ap (λ good. refuse_if (not good) (VariableDiffers proto.axis) >> Ok axis) coordinate
 
-test-at_most : (a b : ℤ) → a ≤ℤ b → int_le a b ≡ true
-test-at_most a b at_most = grind (arith, ints)
-
 pub instant-accepted : (seconds : ℤ) → IsInstant seconds → is_instant seconds ≡ true
 unfolding is_instant
 instant-accepted seconds is =
-    ap₂ ◌&&◌ (test-at_most (neg_ℤ MAX_INSTANT) seconds is.low) (test-at_most seconds MAX_INSTANT is.high)
+    ap₂ ◌&&◌ (test_at_most (neg_ℤ MAX_INSTANT) seconds is.low) (test_at_most seconds MAX_INSTANT is.high)
 
 run_in_range-accepted : (seconds : ℤ) → IsInstant seconds → run_in_range seconds ≡ Ok seconds
 unfolding run_in_range
 run_in_range-accepted seconds is =
     ap (λ good. refuse_if (not good) (RunRange seconds) >> Ok seconds) (instant-accepted seconds is)
 
+-- the run by the mark of a name
 pub run-accepted : (site : Site) (name bytes : List ℕ) (header : FileHeader) (moment : ℤ)
     → reference_of header ≡ None → mark_of name site.mark ≡ Some moment → IsInstant (moment -ℤ site.epoch)
     → file_run site name bytes header ≡ Ok (moment -ℤ site.epoch)
@@ -79,6 +79,7 @@ not_zero n some = ne_eqb n 0 (λ is. omega arith)
 not_above : (n most : ℕ) → n ≤ most → nat_lt most n ≡ false
 not_above n most few = grind (arith, nat_tests)
 
+-- a count of times within the limit
 pub count-accepted : (header : FileHeader) (axis : NcVar) (count : ℕ) → size_at header (dim_of_axis axis) ≡ count
     → 0 < count → count ≤ MAX_TIMES → time_count header axis ≡ Ok count
 unfolding time_count
@@ -87,6 +88,7 @@ count-accepted header axis count is some few =
     ∙ ap₂ (λ none many. refuse_if none NoTimes >> (refuse_if many (TooManyTimes count) >> Ok count))
     (not_zero count some) (not_above count MAX_TIMES few)
 
+-- a time that is an instant
 pub time-accepted : (site : Site) (bytes : List ℕ) (header : FileHeader) (axis : NcVar) (units : TimeUnits) (k : ℕ)
     (seconds : ℤ) → seconds_at bytes header axis units (k ∷ []) ≡ Some seconds
     → IsInstant (from_epoch site units seconds)
@@ -133,6 +135,7 @@ module _ (time : ℕ → Result ℤ LoadFault) where
       ∙ times-accepted (found ++ t ∷ []) more (subst (AllPairs Apart) (sym joined) pairs) later
       ∙ ap Ok joined
 
+-- times that are all instants and apart
 pub all_times-accepted : (site : Site) (bytes : List ℕ) (header : FileHeader) (axis : NcVar) (units : TimeUnits)
     (times : List ℤ) → AllPairs Apart times
     → ((k : ℕ) (t : ℤ) → slice_get times k ≡ Some t → time_at site bytes header axis units k ≡ Ok t)
@@ -142,6 +145,7 @@ all_times-accepted site bytes header axis units times pairs each =
     times-accepted (time_at site bytes header axis units) [] times pairs
     (λ k t is. subst (λ n. time_at site bytes header axis units n ≡ Ok t) (omega arith) (each k t is))
 
+-- a variable like that of the prototype has a slot
 pub slot-accepted : (proto : Proto) (header : FileHeader) (axis : NcVar) (wanted : ProtoVar) (var : NcVar)
     → var_named header wanted.name ≡ Some var → is_like_timed proto header axis wanted var ≡ true
     → file_slot proto header axis wanted ≡ Ok (slot_in header axis var)
@@ -172,6 +176,7 @@ bytes-accepted name bytes =
     (GridDiffers name (length bytes) (slice_index bytes (length bytes)) (slice_index bytes (length bytes))))
     (not_below (length bytes))
 
+-- a variable without time that is like that of the prototype, with the same bytes
 pub grid-accepted : (proto : Proto) (bytes : List ℕ) (header : FileHeader) (wanted : ProtoVar) (var : NcVar)
     → var_named header wanted.name ≡ Some var → is_like_fixed proto header wanted var ≡ true
     → elements_of bytes header var ≡ wanted.fixed → same_grid proto bytes header wanted ≡ Ok tt
@@ -183,9 +188,6 @@ grid-accepted proto bytes header wanted var named like same =
     ∙ ap (λ good. refuse_if (not good) (VariableDiffers wanted.name)
     >> same_bytes wanted.name wanted.fixed (elements_of bytes header var)) like
     ∙ ap (same_bytes wanted.name wanted.fixed) same ∙ bytes-accepted wanted.name wanted.fixed
-
-abbrev taken : List ℕ → List ℕ → ℤ → List ℤ → List Slot → Loaded
-taken name bytes run times slots = record { name = name; run = run; times = times; content = bytes; slots = slots }
 
 -- what the steps of loading give, one after the other, is what a file is taken for
 pub file-accepted : (name bytes : List ℕ) (proto : Proto) (file : Loaded) → IsAccepted name bytes proto file

@@ -1,5 +1,5 @@
 -- An instant of a collection fits eight bytes.
-use Rattle.std.proofs.Common.{◌≡◌, ◌≤ℤ◌, ℤ, pos, negsuc, Bool, true, false, not, List, All, Ok, refl, ap, FitsSigned, w64, arith}
+use Rattle.std.proofs.Common.{◌≡◌, ◌≤ℤ◌, ℤ, Bool, true, false, not, List, All, Ok, refl, ap, arith}
 use Rattle.std.specs.Prelude.{ℕ}
 use Rattle.std.specs.List.{list_any}
 use Rattle.std.specs.Ordering.{int_eq}
@@ -10,15 +10,7 @@ use Rattle.std.proofs.lemmas.List.Elements.{All-weaker}
 use Rattle.std.proofs.lemmas.List.Folds.{list_any_none}
 use Rattle.fm_base.specs.Chain.{◌>>◌, refuse_if}
 use Rattle.fm_model.specs.declared.loaded.LoadFault.TheVariants.{RunRange, TimeRange}
-use Rattle.fm_model.specs.LoadTimes.{is_instant, run_in_range, time_in_range, IsInstant}
-use Rattle.fm_model.proofs.RunLemmas.{IsInstant-from_test}
-
-fits : (seconds : ℤ) → IsInstant seconds → FitsSigned w64 seconds
-fits (pos n) is = record { sfits = omega (arith, ints, is.high) }
-fits (negsuc n) is = record { sfits = omega (arith, ints, is.low) }
-
-pub instant_fits : (seconds : ℤ) → not (is_instant seconds) ≡ false → FitsSigned w64 seconds
-instant_fits seconds is = fits seconds (IsInstant-from_test seconds is)
+use Rattle.fm_model.specs.LoadTimes.{is_instant, run_in_range, time_in_range}
 
 pub run_in_range-ok : (seconds : ℤ) → not (is_instant seconds) ≡ false → run_in_range seconds ≡ Ok seconds
 unfolding run_in_range
@@ -38,7 +30,8 @@ clash instant latest earlier later at_most same = grind (arith, ints)
 differs : (instant latest earlier : ℤ) → le_z instant latest ≡ false → earlier ≤ℤ latest
     → int_eq earlier instant ≡ false
 differs instant latest earlier later at_most =
-    no (int_eq earlier instant) (λ same. clash instant latest earlier later at_most ((Decides-int_eq earlier instant).0 same))
+    no (int_eq earlier instant)
+    (λ same. clash instant latest earlier later at_most ((Decides-int_eq earlier instant).0 same))
 
 -- an instant that is later than all is new
 pub later_is_new : (found : List ℤ) (latest instant : ℤ) → All (λ earlier. earlier ≤ℤ latest) found

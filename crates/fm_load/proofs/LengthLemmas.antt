@@ -4,19 +4,15 @@ use Rattle.std.proofs.Common.{◌≡◌, ℕ, zero, suc, ◌+◌, ◌*◌, ◌<�
 use Rattle.std.specs.Prelude.{◌==◌, slice_index}
 use Rattle.std.proofs.lemmas.Bool.{and_parts, eqb-true, ne_eqb}
 use Rattle.std.proofs.lemmas.List.{drop_all, drop_more}
-use Rattle.fm_base.specs.declared.header.Dim.{Dim}
-use Rattle.fm_base.specs.declared.header.Header.{Header}
-use Rattle.fm_base.specs.declared.header.NcVar.{NcVar}
-use Rattle.fm_base.specs.declared.kind.Kind.{Kind}
-use Rattle.fm_base.specs.Layout.{IsIndex, product, shape_of, size_at}
+use Rattle.nc_model.specs.declared.header.Dim.{Dim}
+use Rattle.nc_model.specs.declared.header.Header.{Header}
+use Rattle.nc_model.specs.declared.header.NcVar.{NcVar}
+use Rattle.nc_model.specs.declared.kind.Kind.{Kind}
+use Rattle.nc_model.specs.Layout.{IsIndex, product, shape_of, size_at}
+use Rattle.fm_base.proofs.NumberLemmas.{factors}
 use Rattle.fm_model.specs.Attribute.{is_char}
 use Rattle.fm_model.specs.LoadTimes.{is_one_number}
 use Rattle.fm_model.specs.Variable.{dim_of_axis, is_coordinate}
-
-factors : (m n : ℕ) → 0 < m * n → (0 < m) × (0 < n)
-factors zero n some = absurd (omega arith)
-factors (suc m) zero some = absurd (omega arith)
-factors (suc m) (suc n) some = (omega arith, omega arith)
 
 -- a product is 1 only where each factor is
 one_factor : (n m : ℕ) → n * m ≡ 1 → n ≡ 1

@@ -4,11 +4,11 @@ use Rattle.std.specs.Prelude.{◌==◌, ◌&&◌, slice_get, if◌then◌else◌
 use Rattle.std.specs.Option.{option_map_or}
 use Rattle.std.proofs.Math.Nat.{mul-div_cancel_left}
 use Rattle.std.proofs.lemmas.Bool.{and_parts, eqb-true}
-use Rattle.fm_base.specs.declared.header.Header.{Header}
-use Rattle.fm_base.specs.declared.header.NcVar.{NcVar}
-use Rattle.fm_base.specs.Kind.{size_of}
-use Rattle.fm_base.specs.Layout.{product, record_size, shape_of, size_at, vsize}
-use Rattle.fm_base.specs.Reading.{names_record_dim}
+use Rattle.nc_model.specs.declared.header.Header.{Header}
+use Rattle.nc_model.specs.declared.header.NcVar.{NcVar}
+use Rattle.nc_model.specs.Kind.{size_of}
+use Rattle.nc_model.specs.Layout.{product, record_size, shape_of, size_at, vsize}
+use Rattle.nc_model.specs.Reading.{names_record_dim}
 use Rattle.fm_model.specs.declared.loaded.Slot.{Slot}
 use Rattle.fm_model.specs.declared.proto.Proto.{Proto}
 use Rattle.fm_model.specs.declared.proto.ProtoVar.{ProtoVar}
@@ -34,7 +34,8 @@ bytes_of b size shape = size * product (if b then drop 1 shape else shape)
 
 size-fixed : (header : Header) (id count size : ℕ) (ids : List ℕ) → names_record_dim header.dims id ≡ false
     → stands_first_alone id ids ≡ true → size_at header id ≡ count → 0 < count
-    → bytes_of (option_map_or (names_record_dim header.dims) (slice_get ids 0) false) size (map (size_at header) ids) / count
+    → bytes_of (option_map_or (names_record_dim header.dims) (slice_get ids 0) false) size
+    (map (size_at header) ids) / count
     ≡ size * product (drop 1 (map (size_at header) ids))
 unfolding stands_first_alone product bytes_of
 size-fixed header id count size [] fixed along is some = absurd cc

@@ -41,7 +41,8 @@ module _ (time : ℕ → Result ℤ LoadFault) (count k : ℕ) (found : List ℤ
       → time k ≡ Ok instant → list_any (λ earlier. int_eq earlier instant) found ≡ true → all ≡ Err (TimeRepeated k)
   times-twice instant below many is good twice =
       sym is ∙ opened below many ∙ ap (λ r. r >>= after) good
-      ∙ ap (λ b. refuse_if b (TimeRepeated (length found)) >> times_from time (count - (k + 1)) (found ++ instant ∷ [])) twice
+      ∙ ap (λ b. refuse_if b (TimeRepeated (length found)) >>
+      times_from time (count - (k + 1)) (found ++ instant ∷ [])) twice
       ∙ ap (λ n. Err (TimeRepeated n)) many
 
   pub times-more : (instant : ℤ) → k < count → length found ≡ k → times_from time (count - k) found ≡ all
@@ -49,13 +50,15 @@ module _ (time : ℕ → Result ℤ LoadFault) (count k : ℕ) (found : List ℤ
       → times_from time (count - (k + 1)) (found ++ instant ∷ []) ≡ all
   times-more instant below many is good new =
       sym (sym is ∙ opened below many ∙ ap (λ r. r >>= after) good
-      ∙ ap (λ b. refuse_if b (TimeRepeated (length found)) >> times_from time (count - (k + 1)) (found ++ instant ∷ [])) new)
+      ∙ ap (λ b. refuse_if b (TimeRepeated (length found)) >>
+      times_from time (count - (k + 1)) (found ++ instant ∷ [])) new)
 
 -- none of the times with one more is later than what neither is later than
 pub none_later : (found : List ℤ) (latest instant next : ℤ) → All (λ earlier. earlier ≤ℤ latest) found
     → latest ≤ℤ next → instant ≤ℤ next → All (λ earlier. earlier ≤ℤ next) (found ++ instant ∷ [])
 none_later found latest instant next all later more =
     All-push (λ earlier. earlier ≤ℤ next) found instant
-    (All-weaker (λ earlier. earlier ≤ℤ latest) (λ earlier. earlier ≤ℤ next) (λ earlier at_most. at_most_more earlier latest next at_most later) found all) more
+    (All-weaker (λ earlier. earlier ≤ℤ latest) (λ earlier. earlier ≤ℤ next)
+    (λ earlier at_most. at_most_more earlier latest next at_most later) found all) more
 
 pub ruleset timings = (times-refused, times-twice, times-more)

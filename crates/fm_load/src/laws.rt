@@ -1,12 +1,12 @@
 //! When a file is taken: what each step of loading accepts. A caller that makes a file finds here what it owes.
 ghost use Rattle.std.specs.Prelude.{◌≡◌, ◌≢◌, ◌<◌, ◌≤◌, ◌-ℤ◌, ◌∷◌, ℕ, ℤ};
 ghost use Rattle.std.specs.Prelude.{[], None, Some, List, Ok, AllPairs, length, slice_get, true};
-ghost use Rattle.fm_base.specs.declared.header.Header.{Header as FileHeader};
-ghost use Rattle.fm_base.specs.declared.header.NcVar.{NcVar};
-ghost use Rattle.fm_base.specs.declared.units.Units.{Units as TimeUnits};
-ghost use Rattle.fm_base.specs.Layout.{elements_of, size_at};
-ghost use Rattle.fm_base.specs.Sound.{sound_header};
-ghost use Rattle.fm_base.specs.Stamp.{mark_of};
+ghost use Rattle.nc_model.specs.declared.header.Header.{Header as FileHeader};
+ghost use Rattle.nc_model.specs.declared.header.NcVar.{NcVar};
+ghost use Rattle.nc_model.specs.declared.units.Units.{Units as TimeUnits};
+ghost use Rattle.nc_model.specs.Layout.{elements_of, size_at};
+ghost use Rattle.nc_model.specs.Sound.{sound_header};
+ghost use Rattle.nc_model.specs.Stamp.{mark_of};
 ghost use Rattle.fm_model.specs.declared.limit.TheConstants.{MAX_TIMES};
 ghost use Rattle.fm_model.specs.declared.loaded.Loaded.{Loaded};
 ghost use Rattle.fm_model.specs.declared.proto.Proto.{Proto};

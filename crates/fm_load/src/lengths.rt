@@ -1,14 +1,14 @@
 //! Lengths of dimensions, of a file and of a prototype.
 ghost use Rattle.std.specs.Prelude.{◌≡◌, ◌==◌, drop, map, slice_get};
 ghost use Rattle.std.specs.Option.{option_map_or};
-ghost use Rattle.fm_base.specs.Layout.{product, size_at};
-ghost use Rattle.fm_base.specs.declared.header.Dim.{Dim as DimValue};
+ghost use Rattle.nc_model.specs.Layout.{product, size_at};
+ghost use Rattle.nc_model.specs.declared.header.Dim.{Dim as DimValue};
 ghost use Rattle.fm_model.specs.LoadVars.{lengths_of};
 ghost use Rattle.fm_model.specs.Variable.{are_same};
 
-use fm_base::Header;
 use fm_model::Proto;
 use nc_layout::size_at;
+use nc_model::Header;
 
 // Whether a variable over these dimensions has exactly one element.
 #[tactic(auto, using(crate::proofs::LengthLemmas::ones))]
@@ -40,8 +40,8 @@ pub(crate) fn same_lengths(proto: &Proto, wanted: &[u32], header: &Header, ids: 
     if wanted.len() != ids.len() {
         return false;
     }
-    for (place, id) in ids.iter().enumerate() {
-        if size_in_proto(proto, wanted[place]) != size_at(header, *id) {
+    for (index, id) in ids.iter().enumerate() {
+        if size_in_proto(proto, wanted[index]) != size_at(header, *id) {
             return false;
         }
     }

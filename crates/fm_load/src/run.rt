@@ -1,15 +1,16 @@
 //! The run of a file: by the variable of the run's time where there is one, else by the mark in the file's name.
-ghost use Rattle.std.specs.Prelude.{◌≡◌, IfOk, length, map};
+ghost use Rattle.std.specs.Prelude.{◌≡◌, IfOk, map};
 ghost use Rattle.fm_base.specs.Answer.{Answers};
 ghost use Rattle.fm_model.specs.LoadTimes as spec;
 ghost use Rattle.nc_layout.specs.Places.{IsVar};
 
 use crate::lengths::has_one_element;
 use crate::units::{file_units, from_epoch, is_instant, seconds_at};
-use fm_base::{Fail, Header, List, NcVar, NoMemory};
+use fm_base::{Fail, List, NoMemory};
 use fm_file::{is_char, reference_number};
 use fm_model::{LoadFault, Site};
-use nc_layout::Layout;
+use nc_array::FileView;
+use nc_model::{Header, NcVar};
 use std::alloc::Global;
 use tm_units::read_mark;
 
@@ -45,21 +46,19 @@ fn first_index(alloc: Global, ids: &[u32]) -> Result<List<u64>, NoMemory>
 fn run_by_variable(
     alloc: Global,
     site: &Site,
-    bytes: &[u8],
-    layout: &Layout,
+    file: &FileView<'_>,
     number: u32,
     var: &NcVar,
 ) -> Result<i64, Fail<LoadFault>>
-    requires length { length bytes.now ≡ layout.now.len }
-    requires var { IsVar layout.now number var.now }
-    ensures { Answers (spec.run_by_variable site.now bytes.now layout.now.header var.now) result }
+    requires { IsVar file.now.layout number var.now }
+    ensures { Answers (spec.run_by_variable site.now file.now.bytes file.now.layout.header var.now) result }
 {
-    if !is_one_number(layout.header(), var) {
+    if !is_one_number(file.header(), var) {
         return Err(Fail::Fault(LoadFault::NoRunTime));
     }
     let units = file_units(var)?;
     let index = first_index(alloc, var.dims.as_slice())?;
-    match seconds_at(layout, bytes, number, var, units, index.as_slice()) {
+    match seconds_at(file, number, var, units, index.as_slice()) {
         None => Err(Fail::Fault(LoadFault::RunNotWhole)),
         Some(seconds) => run_in_range(from_epoch(site, units, seconds)),
     }
@@ -83,17 +82,15 @@ pub(crate) fn file_run(
     alloc: Global,
     site: &Site,
     name: &[u8],
-    bytes: &[u8],
-    layout: &Layout,
+    file: &FileView<'_>,
 ) -> Result<i64, Fail<LoadFault>>
-    requires { length bytes.now ≡ layout.now.len }
-    ensures { Answers (spec.file_run site.now name.now bytes.now layout.now.header) result }
+    ensures { Answers (spec.file_run site.now name.now file.now.bytes file.now.layout.header) result }
 {
-    match reference_number(layout.header()) {
+    match reference_number(file.header()) {
         None => run_by_name(site, name),
         Some(number) => {
             let number = number as u32;
-            run_by_variable(alloc, site, bytes, layout, number, layout.var(number))
+            run_by_variable(alloc, site, file, number, file.var(number))
         }
     }
 }

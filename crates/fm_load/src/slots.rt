@@ -1,18 +1,21 @@
 //! Where the data of the variables along the axis lies.
-ghost use Rattle.std.specs.Prelude.{◌≡◌, ◌<◌, ◌^◌, true, length};
+ghost use Rattle.std.specs.Prelude.{◌≡◌, ◌<◌, ◌^◌, true};
 ghost use Rattle.fm_base.specs.Answer.{Answers};
-ghost use Rattle.fm_base.specs.Layout.{record_size, size_at};
+ghost use Rattle.nc_model.specs.Layout.{record_size};
+ghost use Rattle.fm_load.specs.Axis.{IsAxis};
 ghost use Rattle.fm_model.specs.LoadVars as spec;
 ghost use Rattle.fm_model.specs.Variable.{dim_of_axis, stands_first_alone};
 ghost use Rattle.nc_layout.specs.Places.{IsVar};
 
-use crate::axis::file_var;
+use crate::axis::{Axis, file_var};
 use crate::grid::{is_same_kind, same_grid};
 use crate::lengths::{others, same_lengths};
-use fm_base::{Bytes, Fail, Header, List, NcVar};
+use fm_base::{Bytes, Fail, List};
 use fm_file::{dim_of_axis, is_coordinate, stands_first_alone};
 use fm_model::{LoadFault, Proto, ProtoVar, Slot};
-use nc_layout::{Layout, names_record_dim};
+use nc_array::FileView;
+use nc_layout::names_record_dim;
+use nc_model::{Header, NcVar};
 use std::alloc::Global;
 
 // Whether a variable along the axis is like the prototype's: the same kind, the file's axis first, the same other
@@ -37,22 +40,22 @@ fn is_like_timed(
         )
 }
 
-// Where the data of a variable along the axis lies, which has this length.
+// Where the data of a variable along the axis lies.
 #[tactic(auto, using(crate::proofs::SlotLemmas::slots), unfolding(fm_model::specs::LoadVars::slot_in))]
-fn slot_in(layout: &Layout, axis: &NcVar, count: u32, number: u32, var: &NcVar) -> Slot
-    requires small { record_size layout.now.header < 2 ^ 64 }
-    requires count { size_at layout.now.header (dim_of_axis axis.now) ≡ count }
-    requires some { 0 < count }
-    requires var { IsVar layout.now number var.now }
-    requires along { stands_first_alone (dim_of_axis axis.now) var.now.dims ≡ true }
-    ensures { result ≡ spec.slot_in layout.now.header axis.now var.now }
+fn slot_in(file: &FileView<'_>, axis: &Axis<'_>, number: u32, var: &NcVar) -> Slot
+    requires small { record_size file.now.layout.header < 2 ^ 64 }
+    requires axis { IsAxis file.now.layout axis.now.number axis.now.var.now axis.now.count }
+    requires var { IsVar file.now.layout number var.now }
+    requires along { stands_first_alone (dim_of_axis axis.now.var.now) var.now.dims ≡ true }
+    ensures { result ≡ spec.slot_in file.now.layout.header axis.now.var.now var.now }
 {
+    let layout = file.layout();
     Slot {
         begin: var.begin,
-        step: if names_record_dim(layout.header().dims.as_slice(), dim_of_axis(axis)) {
+        step: if names_record_dim(layout.header().dims.as_slice(), dim_of_axis(axis.var)) {
             layout.recsize() as u64
         } else {
-            layout.vsize(number) / u64::from(count)
+            layout.vsize(number) / u64::from(axis.count)
         },
     }
 }
@@ -62,23 +65,21 @@ fn slot_in(layout: &Layout, axis: &NcVar, count: u32, number: u32, var: &NcVar) 
 fn file_slot(
     alloc: Global,
     proto: &Proto,
-    layout: &Layout,
-    axis: &NcVar,
-    count: u32,
+    file: &FileView<'_>,
+    axis: &Axis<'_>,
     wanted: &ProtoVar,
 ) -> Result<Slot, Fail<LoadFault>>
-    requires small { record_size layout.now.header < 2 ^ 64 }
-    requires count { size_at layout.now.header (dim_of_axis axis.now) ≡ count }
-    requires some { 0 < count }
-    ensures { Answers (spec.file_slot proto.now layout.now.header axis.now wanted.now) result }
+    requires small { record_size file.now.layout.header < 2 ^ 64 }
+    requires axis { IsAxis file.now.layout axis.now.number axis.now.var.now axis.now.count }
+    ensures { Answers (spec.file_slot proto.now file.now.layout.header axis.now.var.now wanted.now) result }
 {
     let name = wanted.name.as_slice();
-    let (number, var) = file_var(alloc, layout, name)?;
-    if !is_like_timed(proto, layout.header(), axis, wanted, var) {
+    let (number, var) = file_var(alloc, file, name)?;
+    if !is_like_timed(proto, file.header(), axis.var, wanted, var) {
         let name = Bytes::copy_of(alloc, name)?;
         return Err(Fail::Fault(LoadFault::VariableDiffers(name)));
     }
-    Ok(slot_in(layout, axis, count, number, var))
+    Ok(slot_in(file, axis, number, var))
 }
 
 // Whether files are compared in a variable of the prototype: not the axis, and along the axis or a coordinate variable.
@@ -102,23 +103,20 @@ fn is_compared(proto: &Proto, wanted: &ProtoVar) -> bool
 fn slots_after(
     alloc: Global,
     proto: &Proto,
-    bytes: &[u8],
-    layout: &Layout,
-    axis: &NcVar,
-    count: u32,
+    file: &FileView<'_>,
+    axis: &Axis<'_>,
     mut found: List<Slot>,
     wanted: &ProtoVar,
 ) -> Result<List<Slot>, Fail<LoadFault>>
-    requires length { length bytes.now ≡ layout.now.len }
-    requires small { record_size layout.now.header < 2 ^ 64 }
-    requires count { size_at layout.now.header (dim_of_axis axis.now) ≡ count }
-    requires some { 0 < count }
-    ensures { Answers (spec.slots_after proto.now bytes.now layout.now.header axis.now found wanted.now) result }
+    requires small { record_size file.now.layout.header < 2 ^ 64 }
+    requires axis { IsAxis file.now.layout axis.now.number axis.now.var.now axis.now.count }
+    ensures { Answers (spec.slots_after proto.now file.now.bytes file.now.layout.header
+        axis.now.var.now found wanted.now) result }
 {
     if wanted.timed {
-        found.push(file_slot(alloc, proto, layout, axis, count, wanted)?)?;
+        found.push(file_slot(alloc, proto, file, axis, wanted)?)?;
     } else {
-        same_grid(alloc, proto, bytes, layout, wanted)?;
+        same_grid(alloc, proto, file, wanted)?;
     }
     Ok(found)
 }
@@ -129,21 +127,17 @@ fn slots_after(
 pub(crate) fn file_slots(
     alloc: Global,
     proto: &Proto,
-    bytes: &[u8],
-    layout: &Layout,
-    axis: &NcVar,
-    count: u32,
+    file: &FileView<'_>,
+    axis: &Axis<'_>,
 ) -> Result<List<Slot>, Fail<LoadFault>>
-    requires length { length bytes.now ≡ layout.now.len }
-    requires small { record_size layout.now.header < 2 ^ 64 }
-    requires count { size_at layout.now.header (dim_of_axis axis.now) ≡ count }
-    requires some { 0 < count }
-    ensures { Answers (spec.file_slots proto.now bytes.now layout.now.header axis.now) result }
+    requires small { record_size file.now.layout.header < 2 ^ 64 }
+    requires axis { IsAxis file.now.layout axis.now.number axis.now.var.now axis.now.count }
+    ensures { Answers (spec.file_slots proto.now file.now.bytes file.now.layout.header axis.now.var.now) result }
 {
     let mut found = List::new(alloc);
     for wanted in proto.vars.as_slice() {
         if is_compared(proto, wanted) {
-            found = slots_after(alloc, proto, bytes, layout, axis, count, found, wanted)?;
+            found = slots_after(alloc, proto, file, axis, found, wanted)?;
         }
     }
     Ok(found)

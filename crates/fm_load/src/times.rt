@@ -3,16 +3,19 @@ ghost use Rattle.std.specs.Prelude.{◌≡◌, ◌≤ℤ◌, ◌<◌, ◌∷◌,
 ghost use Rattle.std.specs.List.{list_any};
 ghost use Rattle.std.specs.Ordering.{int_eq};
 ghost use Rattle.fm_base.specs.Answer.{Answers};
-ghost use Rattle.fm_base.specs.Layout.{IsIndex, shape_of, size_at};
+ghost use Rattle.nc_model.specs.Layout.{shape_of, size_at};
 ghost use Rattle.fm_model.specs.LoadTimes as spec;
 ghost use Rattle.fm_model.specs.Variable.{dim_of_axis};
-ghost use Rattle.nc_layout.specs.Places.{IsVar};
+ghost use Rattle.fm_load.specs.Axis.{IsAxis};
 
+use crate::axis::Axis;
 use crate::units::{from_epoch, is_instant, seconds_at};
-use fm_base::{Fail, Header, List, NcVar, Units};
+use fm_base::{Fail, List};
 use fm_file::dim_of_axis;
 use fm_model::{LoadFault, MAX_TIMES, Site};
-use nc_layout::{Layout, size_at};
+use nc_array::FileView;
+use nc_layout::size_at;
+use nc_model::{Header, NcVar};
 use std::alloc::Global;
 
 // The number of times: at least one, and not too many.
@@ -44,32 +47,23 @@ fn time_in_range(k: u32, seconds: i128) -> Result<i64, Fail<LoadFault>>
     Ok(seconds as i64)
 }
 
-// The time at a place.
+// The time of this index.
 #[tactic(auto, unfolding(fm_model::specs::LoadTimes::time_at))]
 fn time_at(
     site: &Site,
-    bytes: &[u8],
-    layout: &Layout,
-    number: u32,
-    axis: &NcVar,
-    units: Units,
+    file: &FileView<'_>,
+    axis: &Axis<'_>,
     k: u32,
 ) -> Result<i64, Fail<LoadFault>>
-    requires length { length bytes.now ≡ layout.now.len }
-    requires var { IsVar layout.now number axis.now }
-    requires there { IsIndex (shape_of layout.now.header axis.now) (k ∷ []) }
-    ensures { Answers (spec.time_at site.now bytes.now layout.now.header axis.now units k) result }
+    requires axis { IsAxis file.now.layout axis.now.number axis.now.var.now axis.now.count }
+    requires there { k < axis.now.count }
+    ensures { Answers
+        (spec.time_at site.now file.now.bytes file.now.layout.header axis.now.var.now axis.now.units k) result }
 {
-    match seconds_at(
-        layout,
-        bytes,
-        number,
-        axis,
-        units,
-        [u64::from(k)].as_slice(),
-    ) {
+    let index = [u64::from(k)];
+    match seconds_at(file, axis.number, axis.var, axis.units, index.as_slice()) {
         None => Err(Fail::Fault(LoadFault::NotWhole(u64::from(k)))),
-        Some(seconds) => time_in_range(k, from_epoch(site, units, seconds)),
+        Some(seconds) => time_in_range(k, from_epoch(site, axis.units, seconds)),
     }
 }
 
@@ -87,22 +81,17 @@ fn is_repeated(found: &[i64], latest: i64, instant: i64) -> bool
 pub(crate) fn file_times(
     alloc: Global,
     site: &Site,
-    bytes: &[u8],
-    layout: &Layout,
-    number: u32,
-    axis: &NcVar,
-    units: Units,
-    count: u32,
+    file: &FileView<'_>,
+    axis: &Axis<'_>,
 ) -> Result<List<i64>, Fail<LoadFault>>
-    requires length { length bytes.now ≡ layout.now.len }
-    requires var { IsVar layout.now number axis.now }
-    requires count { shape_of layout.now.header axis.now ≡ count ∷ [] }
-    ensures { Answers (spec.file_times site.now bytes.now layout.now.header axis.now units count) result }
+    requires { IsAxis file.now.layout axis.now.number axis.now.var.now axis.now.count }
+    ensures { Answers (spec.file_times site.now file.now.bytes file.now.layout.header
+        axis.now.var.now axis.now.units axis.now.count) result }
 {
     let mut found = List::new(alloc);
     let mut latest = i64::MIN;
-    for k in 0..count {
-        let instant = time_at(site, bytes, layout, number, axis, units, k)?;
+    for k in 0..axis.count {
+        let instant = time_at(site, file, axis, k)?;
         if is_repeated(found.as_slice(), latest, instant) {
             return Err(Fail::Fault(LoadFault::TimeRepeated(u64::from(k))));
         }

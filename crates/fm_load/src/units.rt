@@ -1,16 +1,16 @@
 //! Values of time of a file.
-ghost use Rattle.std.specs.Prelude.{◌≡◌, length};
+ghost use Rattle.std.specs.Prelude.{◌≡◌};
 ghost use Rattle.fm_base.specs.Answer.{Answers};
-ghost use Rattle.fm_base.specs.Layout.{IsIndex, shape_of};
+ghost use Rattle.nc_model.specs.Layout.{IsIndex, shape_of};
 ghost use Rattle.fm_model.specs.LoadTimes as spec;
 ghost use Rattle.nc_layout.specs.Places.{IsVar};
 
-use fm_base::{Fail, NcVar, Units};
+use fm_base::Fail;
 use fm_bits::{pattern_at, whole_seconds};
 use fm_file::text_of;
 use fm_model::{LoadFault, MAX_INSTANT, Site};
-use nc_array::element;
-use nc_layout::Layout;
+use nc_array::FileView;
+use nc_model::{NcVar, Units};
 use tm_units::read_units;
 
 // The units of a variable of times, by its `units` and `calendar`; without `units` it has the empty text there.
@@ -32,19 +32,17 @@ pub(crate) fn file_units(var: &NcVar) -> Result<Units, Fail<LoadFault>>
 // The whole seconds of an element, where it is a number and they are whole.
 #[tactic(auto, using(nc_layout::proofs::ReadLemmas::headers_read), unfolding(fm_model::specs::LoadTimes::seconds_at))]
 pub(crate) fn seconds_at(
-    layout: &Layout,
-    bytes: &[u8],
+    file: &FileView<'_>,
     number: u32,
     var: &NcVar,
     units: Units,
     index: &[u64],
 ) -> Option<i64>
-    requires length { length bytes.now ≡ layout.now.len }
-    requires var { IsVar layout.now number var.now }
-    requires index { IsIndex (shape_of layout.now.header var.now) index.now }
-    ensures { result ≡ spec.seconds_at bytes.now layout.now.header var.now units index.now }
+    requires var { IsVar file.now.layout number var.now }
+    requires index { IsIndex (shape_of file.now.layout.header var.now) index.now }
+    ensures { result ≡ spec.seconds_at file.now.bytes file.now.layout.header var.now units index.now }
 {
-    match pattern_at(var.kind, element(layout, bytes, number, index)) {
+    match pattern_at(var.kind, file.element(number, index)) {
         Some(pattern) => whole_seconds(pattern, units.per),
         None => None,
     }

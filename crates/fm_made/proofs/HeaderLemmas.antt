@@ -4,14 +4,14 @@ use Rattle.std.specs.Prelude.{nat_lt}
 use Rattle.std.specs.List.{list_all}
 use Rattle.std.specs.Option.{option_map}
 use Rattle.std.proofs.lemmas.Bool.{and_parts, ltb-true}
-use Rattle.fm_base.specs.declared.header.Header.{Header as FileHeader}
-use Rattle.fm_base.specs.declared.fault.FormatFault.TheVariants.{OfHeader, OfLayout}
+use Rattle.nc_model.specs.declared.header.Header.{Header as FileHeader}
+use Rattle.nc_model.specs.declared.fault.FormatFault.TheVariants.{OfHeader, OfLayout}
 use Rattle.fm_base.specs.Chain.{◌>>=◌, ◌>>◌, refuse, fault_as}
-use Rattle.fm_base.specs.Format.{IsBytes, is_name_text, has_name, has_record_dim}
-use Rattle.fm_base.specs.Layout.{product, vsize, record_size, rank_in, place_of, first_too_large, first_outside, layout_fault}
-use Rattle.fm_base.specs.Reading.{word as word_at, long_word, count, padded, name_at, kind_at, items_from, tag_at, list_count, list_at, dim_size, dim_at, attr_at, rank_at, names_record_dim, dim_id_at, begin_at, var_at, version_at, numrecs_at, header_at, header_or_fault}
-use Rattle.fm_base.specs.Sound.{sound_header}
-use Rattle.fm_base.proofs.HeaderLaws.{HeaderOf-from_read, read-from_HeaderOf}
+use Rattle.nc_model.specs.Format.{IsBytes, is_name_text, has_name, has_record_dim}
+use Rattle.nc_model.specs.Layout.{product, vsize, record_size, rank_in, place_of, first_too_large, first_outside, layout_fault}
+use Rattle.nc_model.specs.Reading.{word as word_at, long_word, count, padded, name_at, kind_at, items_from, tag_at, list_count, list_at, dim_size, dim_at, attr_at, rank_at, names_record_dim, dim_id_at, begin_at, var_at, version_at, numrecs_at, header_at, header_or_fault}
+use Rattle.nc_model.specs.Sound.{sound_header}
+use Rattle.nc_model.proofs.HeaderLaws.{HeaderOf-from_read, read-from_HeaderOf}
 use Rattle.fm_model.specs.Computed.{chars, is_utf8, encode_utf8}
 use Rattle.fm_gen.specs.Fields.{word, counted, dim_text, attr_text, shape_text, var_front, var_end}
 use Rattle.fm_gen.specs.File.{dims_text, time_text, lat_text, lon_text, v_text, vars_text, header_text, made_file}
@@ -20,10 +20,10 @@ use Rattle.fm_made.specs.Made.{made_header}
 
 -- the header alone is read
 read_alone : header_or_fault header_text ≡ Ok made_header
-unfolding is_name_text has_name has_record_dim word_at long_word count padded name_at kind_at items_from tag_at list_count
-    list_at dim_size dim_at attr_at rank_at names_record_dim dim_id_at begin_at var_at version_at numrecs_at header_at
-    header_or_fault chars is_utf8 encode_utf8 word counted dim_text attr_text shape_text var_front var_end dims_text
-    time_text lat_text lon_text v_text vars_text header_text
+unfolding is_name_text has_name has_record_dim word_at long_word count padded name_at kind_at items_from tag_at
+    list_count list_at dim_size dim_at attr_at rank_at names_record_dim dim_id_at begin_at var_at version_at numrecs_at
+    header_at header_or_fault chars is_utf8 encode_utf8 word counted dim_text attr_text shape_text var_front var_end
+    dims_text time_text lat_text lon_text v_text vars_text header_text
 read_alone = refl
 
 all_bytes : list_all (λ byte. nat_lt byte 256) header_text ≡ true
@@ -105,6 +105,7 @@ pub parted : (seed k : ℕ) → made_file seed k ≡ front ++ records_text seed 
 unfolding made_file
 parted seed k = refl
 
+-- a made file has 17,240 bytes
 pub length-made_file : (seed k : ℕ) → length (made_file seed k) ≡ 17240
 length-made_file seed k =
     let whole = ap length (parted seed k) in

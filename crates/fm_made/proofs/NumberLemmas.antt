@@ -1,31 +1,16 @@
 -- A whole number of seconds below 2^31, by its bytes.
-use Rattle.std.proofs.Common.{◌≡◌, ℕ, zero, suc, ◌-◌, ◌*◌, ◌/◌, ◌%◌, ◌^◌, ◌<◌, inl, inr, Bool, false, Some, ℤ, pos, refl, sym, ap, ◌∙◌, arith}
+use Rattle.std.proofs.Common.{◌≡◌, ℕ, ◌-◌, ◌*◌, ◌/◌, ◌^◌, ◌<◌, inl, inr, Bool, false, Some, ℤ, pos, sym, ap, ◌∙◌, arith}
 use Rattle.std.specs.Prelude.{◌==◌, ◌+ℤ◌, option_and_then}
 use Rattle.std.specs.Int.{w32, w64, cast_signed, is_negative, trailing_zeros}
-use Rattle.std.specs.Int.Count.{count_trailing_zeros, under}
-use Rattle.std.proofs.Math.Nat.{pow-suc}
-use Rattle.std.proofs.Math.Arith.{mod-mul}
 use Rattle.std.proofs.lemmas.Bool.{cases_Bool, cond-true, cond-false, eqb-true, le-ltb}
 use Rattle.std.proofs.lemmas.Int.{ints}
-use Rattle.std.proofs.lemmas.Nat.{from_be_bytes-to_be_bytes_4, pow_pos, div-add-mod'}
-use Rattle.fm_base.specs.declared.kind.Kind.TheVariants.{Int}
-use Rattle.fm_base.specs.declared.pattern.Value.{Value}
-use Rattle.fm_base.specs.declared.pattern.Value.TheVariants.{Finite}
-use Rattle.fm_base.specs.Pattern.{finite, in_i64, pattern_of_bytes, whole_seconds_of, whole_times, whole_value}
+use Rattle.std.proofs.lemmas.Nat.{from_be_bytes-to_be_bytes_4, div-add-mod'}
+use Rattle.nc_model.specs.declared.kind.Kind.TheVariants.{Int}
+use Rattle.nc_model.specs.declared.pattern.Value.{Value}
+use Rattle.nc_model.specs.declared.pattern.Value.TheVariants.{Finite}
+use Rattle.nc_model.specs.Pattern.{finite, in_i64, pattern_of_bytes, whole_seconds_of, whole_times, whole_value}
+use Rattle.fm_base.proofs.NumberLemmas.{two_pow_divides}
 use Rattle.fm_gen.specs.Fields.{word}
-
--- a number is a multiple of its factors of two
-two_pow_divides : (k n : ℕ) → n % 2 ^ count_trailing_zeros k n ≡ 0
-unfolding count_trailing_zeros
-two_pow_divides zero n = omega arith
-two_pow_divides (suc k) n = by_last (n % 2) refl (two_pow_divides k (n / 2))
-  where
-    by_last : (d : ℕ) → d ≡ n % 2 → n / 2 % 2 ^ count_trailing_zeros k (n / 2) ≡ 0
-        → n % 2 ^ under d (count_trailing_zeros k (n / 2)) ≡ 0
-    by_last zero e half =
-        let t = count_trailing_zeros k (n / 2) in
-        ap (λ x. n % x) (pow-suc 2 t) ∙ mod-mul n (pow_pos t) (omega arith) ∙ omega arith
-    by_last (suc d) e half = omega arith
 
 odd_part_keeps : (n : ℕ) → n / 2 ^ trailing_zeros w64 n * 1 * 2 ^ trailing_zeros w64 n ≡ n
 odd_part_keeps n = omega (arith, div-add-mod' n (2 ^ trailing_zeros w64 n), two_pow_divides 64 n)

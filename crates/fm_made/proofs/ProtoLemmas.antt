@@ -1,9 +1,9 @@
 -- Each made file is the same prototype.
 use Rattle.std.proofs.Common.{◌≡◌, ℕ, List, Result, Ok, refl, ap, ap₂, ◌∙◌}
 use Rattle.fm_base.specs.Chain.{◌>>=◌, ◌>>◌, fault_as}
-use Rattle.fm_base.specs.declared.header.Header.{Header as FileHeader}
-use Rattle.fm_base.specs.declared.header.NcVar.{NcVar}
-use Rattle.fm_base.specs.Layout.{elements_of}
+use Rattle.nc_model.specs.declared.header.Header.{Header as FileHeader}
+use Rattle.nc_model.specs.declared.header.NcVar.{NcVar}
+use Rattle.nc_model.specs.Layout.{elements_of}
 use Rattle.fm_base.specs.Name.{is_name_byte}
 use Rattle.fm_model.specs.Attribute.{attr_text, has_text, text_of, trimmed}
 use Rattle.fm_model.specs.Prototype.{dims_have_lengths, fault_of_proto, is_char_per_time, is_plain_name, is_reference, kept_vars, names_are_free, names_are_plain, offset_name, proto_axis, proto_header, proto_of, proto_var, proto_with as kept_of, run_name, time_stands_first}
@@ -30,6 +30,7 @@ unfolding attr_text has_text text_of trimmed dims_have_lengths is_char_per_time 
     has_standard_name is_axis is_coordinate is_named lies_along reference_of stands_first_alone is_name_byte
 kept bytes site = refl
 
+-- a made file is a prototype
 pub made_prototype : (site : Site) (seed k : ℕ) → proto_of (made_file seed k) site ≡ Ok (made_proto site)
 unfolding proto_of proto_header
 made_prototype site seed k =

@@ -2,8 +2,8 @@
 use Rattle.std.proofs.Common.{◌≡◌, ℕ, zero, suc, ◌+◌, ◌*◌, ◌<◌, ◌≤◌, ◌⊎◌, inl, inr, List, [], ◌∷◌, ◌++◌, length, take, drop, refl, sym, ap, ◌∙◌, arith, append_assoc}
 use Rattle.std.proofs.Math.Seq.{drop-append-add, take-append_seam}
 use Rattle.std.proofs.lemmas.List.{append-nil, drop-append-le, drop-drop, drop_at}
-use Rattle.fm_base.specs.Layout.{element, elements_of, indices_of, place_of, product, rank_in, record_size, vsize}
-use Rattle.fm_base.specs.Reading.{names_record_dim}
+use Rattle.nc_model.specs.Layout.{element, elements_of, indices_of, place_of, product, rank_in, record_size, vsize}
+use Rattle.nc_model.specs.Reading.{names_record_dim}
 use Rattle.fm_gen.specs.Fields.{word, counted, dim_text, attr_text, shape_text, var_front, var_end}
 use Rattle.fm_gen.specs.File.{dims_text, time_text, lat_text, lon_text, v_text, vars_text, header_text, made_file}
 use Rattle.fm_gen.proofs.ValueLemmas.{number_after-more}
@@ -39,7 +39,7 @@ record Stands (seed k j n : ℕ) : Type 0 where
   rest : List ℕ
   here : drop (260 * j) (records_text seed k n) ≡ record_text seed k j ++ rest
 
-below_or_last : (j n : ℕ) → j < suc n → (j < n) ⊎ (j ≡ n)
+pub below_or_last : (j n : ℕ) → j < suc n → (j < n) ⊎ (j ≡ n)
 below_or_last j n below = grind arith
 
 record_stands : (seed k j n : ℕ) → j < n → Stands seed k j n

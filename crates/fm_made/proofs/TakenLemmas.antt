@@ -2,13 +2,13 @@
 use Rattle.std.proofs.Common.{◌≡◌, ℕ, ◌+◌, ◌*◌, ◌<◌, true, List, [], ◌∷◌, length, Some, None, Result, Ok, ℤ, pos, refl, sym, ap, subst, ◌∙◌, arith}
 use Rattle.std.specs.Prelude.{◌+ℤ◌, ◌-ℤ◌, slice_get, codes}
 use Rattle.std.proofs.lemmas.Int.{ints}
-use Rattle.fm_base.specs.Calendar.{day_number}
+use Rattle.nc_model.specs.Calendar.{day_number}
 use Rattle.fm_base.specs.Chain.{◌>>=◌, ◌>>◌}
-use Rattle.fm_base.specs.Layout.{product, record_size, vsize}
-use Rattle.fm_base.specs.Reading.{names_record_dim}
-use Rattle.fm_base.specs.Stamp.{mark_of}
-use Rattle.fm_base.specs.Units.{is_before_gregorian, is_gregorian, is_proleptic, in_calendar, units_of}
-use Rattle.fm_base.specs.UnitsReading.{end_at, byte_at, letter_at, many_at, some_at, number_at, is_same_word, is_second, is_minute, is_hour, is_day, seconds_per, unit_at, date_at, fraction_at, second_at, time_of_day_at, zone_minute_at, distance_at, zone_at, last_zone_at, clock_at, after_date_at, units_at, written_or_fault}
+use Rattle.nc_model.specs.Layout.{product, record_size, vsize}
+use Rattle.nc_model.specs.Reading.{names_record_dim}
+use Rattle.nc_model.specs.Stamp.{mark_of}
+use Rattle.nc_model.specs.Units.{is_before_gregorian, is_gregorian, is_proleptic, in_calendar, units_of}
+use Rattle.nc_model.specs.UnitsReading.{end_at, byte_at, letter_at, many_at, some_at, number_at, is_same_word, is_second, is_minute, is_hour, is_day, seconds_per, unit_at, date_at, fraction_at, second_at, time_of_day_at, zone_minute_at, distance_at, zone_at, last_zone_at, clock_at, after_date_at, units_at, written_or_fault}
 use Rattle.fm_model.specs.Attribute.{attr_text, has_text, text_of, trimmed}
 use Rattle.fm_model.specs.Computed.{day_count, days_from_civil, days_of_months, days_of_years}
 use Rattle.fm_model.specs.declared.loaded.LoadFault.{LoadFault}
@@ -56,10 +56,10 @@ unfolding reference_of has_standard_name attr_text has_text text_of trimmed
 no_reference = refl
 
 units_are : file_units time_var ≡ Ok made_units
-unfolding day_number is_before_gregorian is_gregorian is_proleptic in_calendar units_of end_at byte_at letter_at many_at some_at number_at is_same_word
-    is_second is_minute is_hour is_day seconds_per unit_at date_at fraction_at second_at time_of_day_at zone_minute_at
-    distance_at zone_at last_zone_at clock_at after_date_at units_at written_or_fault attr_text text_of trimmed
-    file_units day_count days_from_civil days_of_months days_of_years
+unfolding day_number is_before_gregorian is_gregorian is_proleptic in_calendar units_of end_at byte_at letter_at many_at
+    some_at number_at is_same_word is_second is_minute is_hour is_day seconds_per unit_at date_at fraction_at second_at
+    time_of_day_at zone_minute_at distance_at zone_at last_zone_at clock_at after_date_at units_at written_or_fault
+    attr_text text_of trimmed file_units day_count days_from_civil days_of_months days_of_years
 units_are = refl
 
 like_lat : (site : Site) → is_like_fixed (made_proto site) made_header (fixed_of lat_var (steps_text 8)) lat_var ≡ true
@@ -85,14 +85,14 @@ module _ (site : Site) (seed k : ℕ) where
   lat_step : step [] (fixed_of lat_var (steps_text 8)) ≡ Ok []
   unfolding slots_after
   lat_step = ap (λ grid. grid >> Ok [])
-      (grid-accepted (made_proto site) (made_file seed k) made_header (fixed_of lat_var (steps_text 8)) lat_var named_lat
-      (like_lat site) (elements_lat seed k))
+      (grid-accepted (made_proto site) (made_file seed k) made_header (fixed_of lat_var (steps_text 8)) lat_var
+      named_lat (like_lat site) (elements_lat seed k))
 
   lon_step : step [] (fixed_of lon_var (steps_text 8)) ≡ Ok []
   unfolding slots_after
   lon_step = ap (λ grid. grid >> Ok [])
-      (grid-accepted (made_proto site) (made_file seed k) made_header (fixed_of lon_var (steps_text 8)) lon_var named_lon
-      (like_lon site) (elements_lon seed k))
+      (grid-accepted (made_proto site) (made_file seed k) made_header (fixed_of lon_var (steps_text 8)) lon_var
+      named_lon (like_lon site) (elements_lon seed k))
 
   v_step : step [] (timed_of v_var) ≡ Ok (v_slot ∷ [])
   unfolding slots_after
@@ -171,10 +171,12 @@ module _ (site : Site) (seed k : ℕ) where
 same_Ok : {A E : Type 0} (r : Result A E) (x y : A) → r ≡ Ok x → r ≡ Ok y → x ≡ y
 same_Ok r x y first second = cc
 
+-- a made file is loaded over the prototype of a made file
 pub made_file_taken : (site : Site) (proto : Proto) (name : List ℕ) (seed k : ℕ) → k < 400
     → site.epoch ≡ pos 1577836800 → mark_of name site.mark ≡ Some (pos (1577836800 + 21600 * k))
     → proto_of (made_file seed 0) site ≡ Ok proto → load_of name (made_file seed k) proto ≡ Ok (made_loaded name seed k)
 made_file_taken site proto name seed k few is marked made =
     subst (λ (p : Proto). load_of name (made_file seed k) p ≡ Ok (made_loaded name seed k))
-    (same_Ok {E = ProtoFault} (proto_of (made_file seed 0) site) (made_proto site) proto (made_prototype site seed 0) made)
+    (same_Ok {E = ProtoFault} (proto_of (made_file seed 0) site) (made_proto site) proto
+    (made_prototype site seed 0) made)
     (taken site seed k name few is marked)

@@ -1,18 +1,18 @@
 -- The times of a made file.
-use Rattle.std.proofs.Common.{◌≡◌, ◌≢◌, ℕ, zero, suc, ◌<◌, ◌⊎◌, inl, inr, List, [], ◌∷◌, ◌++◌, length, get_or, Option, Some, None, ℤ, pos, refl, sym, ap, subst, ◌∙◌, arith, length-append}
+use Rattle.std.proofs.Common.{◌≡◌, ◌≢◌, ℕ, zero, suc, ◌<◌, inl, inr, List, [], ◌∷◌, ◌++◌, length, get_or, Option, Some, None, ℤ, pos, refl, sym, ap, subst, ◌∙◌, arith, length-append}
 use Rattle.std.specs.Prelude.{AllPairs, slice_get, unwrap_or}
 use Rattle.std.specs.Option.{option_and_then}
 use Rattle.std.proofs.Math.ListN.{get_or-append}
 use Rattle.std.proofs.Math.Seq.{get_or-append_seam}
-use Rattle.std.proofs.lemmas.Option.{slice_get_within, unwrap_or-slice_get}
-use Rattle.fm_base.specs.declared.kind.Kind.TheVariants.{Int}
-use Rattle.fm_base.specs.Pattern.{pattern_of_bytes, whole_seconds_of}
+use Rattle.std.proofs.lemmas.Option.{slice_get_within, unwrap_or-slice_get, same_Some}
+use Rattle.nc_model.specs.declared.kind.Kind.TheVariants.{Int}
+use Rattle.nc_model.specs.Pattern.{pattern_of_bytes, whole_seconds_of}
 use Rattle.fm_model.specs.LoadTimes.{seconds_at}
 use Rattle.fm_gen.specs.File.{made_file}
 use Rattle.fm_gen.specs.Values.{time_of}
 use Rattle.fm_made.specs.Made.{made_header, made_units, time_var, times_of}
 use Rattle.fm_made.proofs.NumberLemmas.{seconds-word}
-use Rattle.fm_made.proofs.RecordLemmas.{element-time}
+use Rattle.fm_made.proofs.RecordLemmas.{element-time, below_or_last}
 
 pub seconds-time : (seed k j : ℕ) → k < 400 → j < 65
     → seconds_at (made_file seed k) made_header time_var made_units (j ∷ []) ≡ Some (pos (time_of k j))
@@ -22,6 +22,7 @@ seconds-time seed k j few below =
     (element-time seed k j below)
     ∙ seconds-word (time_of k j) (omega (arith, few, below))
 
+-- a made file has n times
 pub length-times_of : (k n : ℕ) → length (times_of k n) ≡ n
 unfolding times_of
 length-times_of k zero = refl
@@ -29,9 +30,6 @@ length-times_of k (suc n) =
     let before = length-times_of k n in
     let joined = length-append (times_of k n) (pos (time_of k n) ∷ []) in
     omega (arith, before, joined)
-
-below_or_last : (j n : ℕ) → j < suc n → (j < n) ⊎ (j ≡ n)
-below_or_last j n below = grind arith
 
 get_or-times_of : (k n j : ℕ) (d : ℤ) → j < n → get_or (times_of k n) j d ≡ pos (time_of k j)
 unfolding times_of
@@ -50,12 +48,9 @@ get_or-times_of k (suc n) j d below =
           ∙ ap (λ (i : ℕ). pos (time_of k i)) (sym last)
     ]
 
-some_is : {A : Type 0} (x y : A) → Some x ≡ Some y → x ≡ y
-some_is x y is = cc
-
 given : {A : Type 0} (o : Option A) (x d : A) → o ≡ Some x → unwrap_or o d ≡ x
 given None x d is = absurd cc
-given (Some y) x d is = some_is y x is
+given (Some y) x d is = same_Some y x is
 
 -- the time at a place of the list
 pub time_in : (k j : ℕ) (t : ℤ) → slice_get (times_of k 65) j ≡ Some t → (j < 65) × (t ≡ pos (time_of k j))

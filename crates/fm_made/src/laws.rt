@@ -1,8 +1,8 @@
 //! What made files are, each as the contract of a call that does nothing.
 ghost use Rattle.std.specs.Prelude.{◌≡◌, ◌+◌, ◌*◌, ◌<◌, [], ◌∷◌, ℕ, List, Some, Ok, codes, pos};
-ghost use Rattle.fm_base.specs.Layout.{element, elements_of};
-ghost use Rattle.fm_base.specs.Sound.{sound_header};
-ghost use Rattle.fm_base.specs.Stamp.{mark_of};
+ghost use Rattle.nc_model.specs.Layout.{element, elements_of};
+ghost use Rattle.nc_model.specs.Sound.{sound_header};
+ghost use Rattle.nc_model.specs.Stamp.{mark_of};
 ghost use Rattle.fm_gen.specs.Fields.{word};
 ghost use Rattle.fm_gen.specs.File.{made_file};
 ghost use Rattle.fm_gen.specs.Values.{bits_of, number_at, steps_text};
@@ -12,9 +12,9 @@ ghost use Rattle.fm_model.specs.declared.site.Site.{Site};
 ghost use Rattle.fm_model.specs.Load.{load_of};
 ghost use Rattle.fm_model.specs.Prototype.{proto_of};
 
-/// A made file has a sound header of 65 records, and each of its elements: the times from 21,600 k on, an hour apart, the
-/// latitudes and the longitudes from 0 to 7, and for the value at a time, a latitude and a longitude the number of the
-/// sequence at its place in row-major order.
+/// A made file has a sound header of 65 records, and each of its elements: the times from 21,600 k on, an hour apart,
+/// the latitudes and the longitudes from 0 to 7, and for the value at a time, a latitude and a longitude the number of
+/// the sequence at its index in row-major order.
 #[tactic(auto, using(crate::proofs::HeaderLemmas::header_made, crate::proofs::LawLemmas::elements))]
 pub fn a_made_file_has_these_elements()
     ensures header { (seed k : ℕ) → sound_header (made_file seed k) ≡ Ok made_header }

@@ -40,6 +40,7 @@ Any-from_cell files run valid h =
     Any-from_in (HasCell run valid) found.0 files found.1
     (record { run_is = found.2; time = Contains-from_in valid found.0.times found.3 })
 
+-- there is a cell where some file has one
 pub cell-from_Any : (files : List Loaded) (run valid : ℤ) → Any (HasCell run valid) files
     → IsSome (cell files run valid)
 cell-from_Any files run valid any = let found = in_from_Any
@@ -74,6 +75,7 @@ unfolding has_least_offset
 offset_test None run valid late = refl
 offset_test (Some least) run valid late = grind (arith, ints)
 
+-- an offset that passes the test is not below the least one
 pub offset_from_test : (least : Option ℤ) (run valid : ℤ) → has_least_offset least run valid ≡ true
     → HasLeastOffset least run valid
 unfolding has_least_offset
@@ -93,6 +95,7 @@ unfolding is_usable
 usable_from files valid least run has late =
     and_from (is_some (cell files run valid)) (has_least_offset least run valid) has (offset_test least run valid late)
 
+-- the best run has the facts of the best one
 pub IsBest-from_best : (files : List Loaded) (valid : ℤ) (least : Option ℤ) (run : ℤ)
     → best files valid least ≡ Some run
     → IsBest files valid least run
@@ -133,6 +136,7 @@ no_best files valid least e run has late = both_ways (is_usable files valid leas
 same_instant : (a b : ℤ) → a ≤ℤ b → b ≤ℤ a → a ≡ b
 same_instant a b h k = omega (arith, ints)
 
+-- a run with the facts of the best one is the best run
 pub best-from_IsBest : (files : List Loaded) (valid : ℤ) (least : Option ℤ) (run : ℤ) → IsBest files valid least run
     → best files valid least ≡ Some run
 best-from_IsBest files valid least run b = by_best (best files valid least) refl
@@ -164,6 +168,7 @@ pub best_file : (files : List Loaded) (valid : ℤ) (least : Option ℤ) (run : 
 best_file files valid least run e = cell_file files run valid
     (cell-from_Any files run valid (IsBest-from_best files valid least run e).has)
 
+-- there is no best run exactly where no file has the time
 pub no_best_both : (files : List Loaded) (valid : ℤ) (least : Option ℤ)
     → (best files valid least ≡ None) ↔ All (λ file. ¬ HasTimeFrom valid least file) files
 no_best_both files valid least = (there, back)

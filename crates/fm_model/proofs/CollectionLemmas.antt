@@ -4,11 +4,11 @@ use Rattle.std.specs.Prelude.{All, AllPairs, Any, Contains, filter, fold, int_le
 use Rattle.std.specs.List.{last_or}
 use Rattle.std.specs.Str.{bytes_eq}
 use Rattle.std.proofs.lemmas.Bool.{both_ways, not-true}
-use Rattle.std.proofs.lemmas.Int.{ints}
 use Rattle.std.proofs.lemmas.List.{append-nil, length-append}
 use Rattle.std.proofs.lemmas.List.Elements.{filter-append}
 use Rattle.std.proofs.lemmas.List.Sums.{fold-append}
 use Rattle.std.proofs.lemmas.Slice.Eq.{bytes_eq-Decides}
+use Rattle.fm_base.proofs.NumberLemmas.{at_most_from_test, test_at_most}
 use Rattle.fm_model.specs.declared.loaded.Loaded.{Loaded}
 use Rattle.fm_model.specs.declared.op.Op.{Op}
 use Rattle.fm_model.specs.declared.op.Op.TheVariants.{Put, Expire, Retract}
@@ -29,7 +29,7 @@ other_name file other differs = by_test (named file.name other) refl
     by_test true is = absurd (differs (sym ((bytes_eq-Decides other.name file.name).0 is)))
     by_test false is = is
 
--- what is left of those that pass, without those that pass
+-- the passing elements of a list without the passing ones
 filter-not : {A : Type 0} (test : A → Bool) (items : List A) → filter test (filter (λ x. not (test x)) items) ≡ []
 filter-not test [] = refl
 filter-not {A} test (item ∷ items) = by_test (test item) refl (filter-not test items)
@@ -115,13 +115,6 @@ length-put_new files file all =
     let none = ap length (without-none files file (each_from_All (DifferInName file) files all)) in
     omega (arith, length-append (without file.name files) (file ∷ []), none)
 
--- the test of a cutoff
-from_cutoff : (cutoff run : ℤ) → int_le cutoff run ≡ true → cutoff ≤ℤ run
-from_cutoff cutoff run e = grind (arith, ints)
-
-cutoff_test : (cutoff run : ℤ) → cutoff ≤ℤ run → int_le cutoff run ≡ true
-cutoff_test cutoff run h = grind (arith, ints)
-
 pub Contains-expire : (files : List Loaded) (cutoff : ℤ) (file : Loaded)
     → Contains (after_op files (Expire cutoff)) file ↔ (Contains files file × cutoff ≤ℤ file.run)
 unfolding after_op kept_from
@@ -129,10 +122,10 @@ Contains-expire files cutoff file = (
   λ c.
       let found = in_filter (λ (f : Loaded). int_le cutoff f.run) file files
       (in_from_Contains file (kept_from cutoff files) c) in
-      (Contains-from_in file files found.0, from_cutoff cutoff file.run found.1),
+      (Contains-from_in file files found.0, at_most_from_test cutoff file.run found.1),
   λ h. Contains-from_in file (kept_from cutoff files)
       (In-filter (λ (f : Loaded). int_le cutoff f.run) file files (in_from_Contains file files h.0)
-      (cutoff_test cutoff file.run h.1)),
+      (test_at_most cutoff file.run h.1)),
 )
 
 pub expire-append : (files more : List Loaded) (cutoff : ℤ)
@@ -160,6 +153,7 @@ EachPair-filter {A} R test (item ∷ items) pairs = by_test (test item) (EachPai
     )
     by_test false others = others
 
+-- names of files differ after an operation as before it
 pub differ_after : (files : List Loaded) (op : Op) → EachPair DifferInName files
     → EachPair DifferInName (after_op files op)
 unfolding after_op without kept_from
@@ -184,10 +178,12 @@ pub names_differ : (ops : List Op) → AllPairs DifferInName (coll ops)
 unfolding coll
 names_differ ops = AllPairs-from_each DifferInName (coll ops) (differ_from [] ops tt)
 
+-- the collection after no operation is empty
 pub coll-none : coll [] ≡ []
 unfolding coll
 coll-none = refl
 
+-- the collection after one operation more
 pub coll-push : (ops : List Op) (op : Op) → coll (ops ++ op ∷ []) ≡ after_op (coll ops) op
 unfolding coll
 coll-push ops op = fold-append after_op [] ops (op ∷ [])

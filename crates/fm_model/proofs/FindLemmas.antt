@@ -4,7 +4,8 @@ use Rattle.std.specs.Prelude.{find}
 use Rattle.std.specs.Option.{option_map}
 use Rattle.std.proofs.lemmas.Option.{none-some, same_Some}
 use Rattle.fm_base.specs.Chain.{refuse}
-use Rattle.fm_model.proofs.LastLemmas.{option_map-none, no_value}
+use Rattle.fm_base.proofs.OptionLemmas.{mapped_none}
+use Rattle.fm_model.proofs.LastLemmas.{no_value}
 use Rattle.fm_model.proofs.Members.{In, Each}
 
 -- the first item that passes is there, and passes
@@ -38,4 +39,4 @@ not_refused (Some fault) e = absurd cc
 pub each_passes : {A E : Type 0} (fault : A → E) (test : A → Bool) (items : List A)
     → refuse (option_map fault (find test items)) ≡ Ok tt → Each (λ item. test item ≡ false) items
 each_passes fault test items e = find-none test items
-    (option_map-none fault (find test items) (not_refused (option_map fault (find test items)) e))
+    (mapped_none fault (find test items) (not_refused (option_map fault (find test items)) e))

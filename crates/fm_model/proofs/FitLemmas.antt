@@ -10,6 +10,7 @@ use Rattle.fm_model.proofs.SlotLemmas.{slots_count, slots_each}
 use Rattle.fm_model.proofs.TimeLemmas.{some-times, few-times, times_differ, times_are_instants, run_is_instant}
 use Rattle.fm_model.proofs.WithinLemmas.{slots_within}
 
+-- a file that was loaded over a prototype has the facts of one that fits
 pub IsFit-from_Fits : (file : Loaded) (proto : Proto) → IsSound proto → Fits file proto → IsFit file proto
 IsFit-from_Fits file proto sound fits =
     let taken = IsTaken-load_of file.name file.content proto file fits in

@@ -123,6 +123,7 @@ full_some held full = (there (full_of held) (answer_of held), back (full_of held
           (omega (arith, first.passed, first.held_is, first.limit_is, fits))
     ]
 
+-- there is room for an operation exactly where the collection after it is within the limits
 pub full_at-none : (files : List Loaded) (op : Op) → (full_at files op ≡ None) ↔ IsWithin (tally (after_op files op))
 unfolding full_at
 full_at-none files op = full_none (tally (after_op files op))
@@ -159,11 +160,13 @@ kept_within keep files within Size =
     let both = sum_by-filter_both keep (λ f. not (keep f)) (λ f. refl) (λ (f : Loaded). length f.content) files in
     omega (arith, most, both)
 
+-- a collection within the limits has room for an expiry
 pub full-expire : (files : List Loaded) (cutoff : ℤ) → IsWithin (tally files) → full_at files (Expire cutoff) ≡ None
 full-expire files cutoff within = (full_at-none files (Expire cutoff)).1
     (subst (λ l. IsWithin (tally l)) (sym (expire-kept files cutoff))
     (kept_within (λ (f : Loaded). int_le cutoff f.run) files within))
 
+-- a collection within the limits has room for a retraction
 pub full-retract : (files : List Loaded) (name : List ℕ) → IsWithin (tally files) → full_at files (Retract name) ≡ None
 full-retract files name within = (full_at-none files (Retract name)).1
     (subst (λ l. IsWithin (tally l)) (sym (retract-kept files name))

@@ -1,17 +1,16 @@
 -- A file that was taken lies on the prototype's grid.
-use Rattle.std.proofs.Common.{◌≡◌, ℕ, suc, ◌+◌, ◌≤◌, Bool, true, false, cond, not, List, [], ◌∷◌, length, take, Some, Ok, refl, sym, ap, ◌∙◌, arith}
+use Rattle.std.proofs.Common.{◌≡◌, ℕ, suc, ◌+◌, ◌≤◌, Bool, true, false, cond, not, List, [], ◌∷◌, length, take, Ok, refl, sym, ap, ◌∙◌, arith}
 use Rattle.std.specs.Prelude.{slice_index, nat_eq, nat_lt}
 use Rattle.std.specs.List.{common_prefix_len}
 use Rattle.std.proofs.lemmas.Bool.{and_parts, eqb-true, ltb-false, not-false}
 use Rattle.std.proofs.lemmas.Option.{same_Some}
 use Rattle.std.proofs.lemmas.Slice.Eq.{bytes_eq-Decides}
-use Rattle.fm_base.specs.declared.header.Header.{Header as FileHeader}
-use Rattle.fm_base.specs.declared.header.NcVar.{NcVar}
-use Rattle.fm_base.specs.declared.kind.Kind.{Kind}
-use Rattle.fm_base.specs.declared.kind.Kind.TheVariants.{Byte, Char, Short, Int, Float, Double}
-use Rattle.fm_base.specs.Kind.{code_of}
-use Rattle.fm_base.specs.Layout.{elements_of, shape_of}
-use Rattle.fm_base.specs.Reading.{kind_of}
+use Rattle.nc_model.specs.declared.header.Header.{Header as FileHeader}
+use Rattle.nc_model.specs.declared.header.NcVar.{NcVar}
+use Rattle.nc_model.specs.declared.kind.Kind.{Kind}
+use Rattle.nc_model.specs.Kind.{code_of}
+use Rattle.nc_model.specs.Layout.{elements_of, shape_of}
+use Rattle.nc_model.specs.Reading.{kind_of}
 use Rattle.fm_model.specs.declared.loaded.LoadFault.TheVariants.{VariableDiffers, GridDiffers}
 use Rattle.fm_model.specs.declared.proto.Proto.{Proto}
 use Rattle.fm_model.specs.declared.proto.ProtoVar.{ProtoVar}
@@ -20,15 +19,7 @@ use Rattle.fm_model.specs.LoadAxis.{file_var}
 use Rattle.fm_model.specs.LoadVars.{lengths_of, is_like_fixed, same_bytes, same_grid}
 use Rattle.fm_model.specs.Variable.{are_same, is_same_kind}
 use Rattle.fm_base.proofs.ChainLemmas.{step_ok, refuse_if_ok, passed_if}
-
--- two kinds of one number are the same
-kind_of-code_of : (kind : Kind) → kind_of (code_of kind) ≡ Some kind
-kind_of-code_of Byte = refl
-kind_of-code_of Char = refl
-kind_of-code_of Short = refl
-kind_of-code_of Int = refl
-kind_of-code_of Float = refl
-kind_of-code_of Double = refl
+use Rattle.nc_model.proofs.Fields.{kind_of-code_of}
 
 pub same_kind : (kind other : Kind) → is_same_kind kind other ≡ true → other ≡ kind
 same_kind kind other e = same_Some other kind
@@ -52,11 +43,11 @@ begins_with (a ∷ proto) (b ∷ file) le = by_first (nat_eq a b) refl le (begin
 begins-same_bytes : (name proto file : List ℕ) → same_bytes name proto file ≡ Ok tt → take (length proto) file ≡ proto
 unfolding same_bytes
 begins-same_bytes name proto file e =
-    let place : ℕ = common_prefix_len nat_eq proto file in
+    let index : ℕ = common_prefix_len nat_eq proto file in
     begins_with proto file
-    (ltb-false place (length proto)
-    (passed_if (nat_lt place (length proto))
-    (GridDiffers name place (slice_index proto place) (slice_index file place)) e))
+    (ltb-false index (length proto)
+    (passed_if (nat_lt index (length proto))
+    (GridDiffers name index (slice_index proto index) (slice_index file index)) e))
 
 -- the file's variable of the name of a prototype's coordinate variable is of the same kind and length, and its elements
 -- begin with the prototype's

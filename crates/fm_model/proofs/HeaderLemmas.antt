@@ -4,9 +4,9 @@ use Rattle.std.specs.Prelude.{Contains, IsTrue}
 use Rattle.std.specs.Str.{bytes_eq}
 use Rattle.std.proofs.lemmas.Bool.{not-false}
 use Rattle.std.proofs.lemmas.Slice.Eq.{bytes_eq-Decides}
-use Rattle.fm_base.specs.declared.header.Header.{Header as FileHeader}
-use Rattle.fm_base.specs.declared.header.NcVar.{NcVar}
-use Rattle.fm_base.specs.Sound.{sound_header}
+use Rattle.nc_model.specs.declared.header.Header.{Header as FileHeader}
+use Rattle.nc_model.specs.declared.header.NcVar.{NcVar}
+use Rattle.nc_model.specs.Sound.{sound_header}
 use Rattle.fm_model.specs.declared.loaded.LoadFault.{LoadFault}
 use Rattle.fm_model.specs.declared.loaded.LoadFault.TheVariants as load
 use Rattle.fm_model.specs.declared.proto.Proto.{Proto}
@@ -15,10 +15,11 @@ use Rattle.fm_model.specs.LoadAxis.{fault_of_load, file_header, file_var, file_a
 use Rattle.fm_model.specs.Prototype.{fault_of_proto, proto_header}
 use Rattle.fm_model.specs.Variable.{is_coordinate, var_named}
 use Rattle.fm_base.proofs.ChainLemmas.{step_ok, refuse_if_ok, ok_or_ok, same_Ok}
-use Rattle.fm_base.proofs.SoundLaws.{HasData, ok-fault_as, sound_header-ok}
+use Rattle.nc_model.proofs.SoundLaws.{HasData, ok-fault_as, sound_header-ok}
 use Rattle.fm_model.proofs.FindLemmas.{in_find}
 use Rattle.fm_model.proofs.Members.{Contains-from_in}
 
+-- the header of a prototype has its data within the file
 pub proto_has_data : (bytes : List ℕ) (header : FileHeader) → proto_header bytes ≡ Ok header → HasData bytes header
 unfolding proto_header
 proto_has_data bytes header e = sound_header-ok bytes header (ok-fault_as fault_of_proto (sound_header bytes) header e)
@@ -27,7 +28,7 @@ pub file_has_data : (bytes : List ℕ) (header : FileHeader) → file_header byt
 unfolding file_header
 file_has_data bytes header e = sound_header-ok bytes header (ok-fault_as fault_of_load (sound_header bytes) header e)
 
--- what is known of the axis of a file
+-- facts on the axis of a file
 pub record IsFileAxis (proto : Proto) (header : FileHeader) (axis : NcVar) : Type 0 where
   pub held : Contains header.vars axis
   pub name_is : axis.name ≡ proto.axis

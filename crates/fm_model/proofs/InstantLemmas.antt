@@ -16,11 +16,13 @@ pub value-from_some : {A : Type 0} (o : Option A) → IsSome o → (x : A) × (o
 value-from_some None h = absurd (false≢true h)
 value-from_some (Some x) h = (x, refl)
 
+-- a file's run is among the runs of all
 pub In-runs_of : (files : List Loaded) (file : Loaded) → In file files → In file.run (runs_of files)
 unfolding runs_of
 In-runs_of files file held = In-rising file.run (map (λ (f : Loaded). f.run) files)
     (In-map (λ (f : Loaded). f.run) file files held)
 
+-- a time of a file is among the times of all
 pub In-times_of : (files : List Loaded) (file : Loaded) (valid : ℤ) → In file files → In valid file.times
     → In valid (times_of files)
 unfolding times_of
@@ -33,10 +35,12 @@ pub in_times_of : (files : List Loaded) (valid : ℤ) → In valid (times_of fil
 unfolding times_of
 in_times_of files valid h = in_flat_map (λ (f : Loaded). f.times) valid files (in_rising valid _ h)
 
+-- the runs of some files rise
 pub rises_runs_of : (files : List Loaded) → EachPair Above (runs_of files)
 unfolding runs_of
 rises_runs_of files = rises_rising (map (λ (f : Loaded). f.run) files)
 
+-- the times of some files rise
 pub rises_times_of : (files : List Loaded) → EachPair Above (times_of files)
 unfolding times_of
 rises_times_of files = rises_rising _

@@ -5,16 +5,16 @@ use Rattle.std.specs.List.{AllByRecursion, IsDistinct}
 use Rattle.std.specs.Option.{option_map, option_map_or}
 use Rattle.std.specs.Str.{bytes_eq}
 use Rattle.std.proofs.lemmas.Option.{slice_get-map}
-use Rattle.fm_base.specs.declared.header.Dim.{Dim}
-use Rattle.fm_base.specs.declared.header.Header.{Header as FileHeader}
-use Rattle.fm_base.specs.declared.header.NcVar.{NcVar}
-use Rattle.fm_base.specs.Kind.{size_of}
-use Rattle.fm_base.specs.Layout.{product, size_at, size_in}
-use Rattle.fm_base.specs.Spelling.{AreDistinct}
+use Rattle.nc_model.specs.declared.header.Dim.{Dim}
+use Rattle.nc_model.specs.declared.header.Header.{Header as FileHeader}
+use Rattle.nc_model.specs.declared.header.NcVar.{NcVar}
+use Rattle.nc_model.specs.Kind.{size_of}
+use Rattle.nc_model.specs.Layout.{product, size_at, size_in}
+use Rattle.nc_model.specs.Spelling.{AreDistinct}
 use Rattle.fm_model.specs.declared.proto.ProtoVar.{ProtoVar}
 use Rattle.fm_model.specs.declared.site.Site.{Site}
 use Rattle.fm_model.specs.Prototype.{kept_vars, proto_var, with_length, proto_with, lengths_of, HasElements}
-use Rattle.fm_base.proofs.EndLaws.{EndsWithin, length-elements_of}
+use Rattle.nc_model.proofs.EndLaws.{EndsWithin, length-elements_of}
 use Rattle.fm_model.proofs.Members.{In, Each-from_in, All-from_each}
 
 -- lengths change no name
@@ -89,6 +89,7 @@ lengths_kept bytes site header axis (id ∷ ids) = ap₂ (λ (n : ℕ) (l : List
     same None = refl
     same (Some dim) = refl
 
+-- a variable that ends within its file has its elements in the prototype
 pub has_elements : (bytes : List ℕ) (site : Site) (header : FileHeader) (axis : NcVar) (var : NcVar)
     → EndsWithin header (length bytes) var
     → HasElements (proto_with bytes site header axis) (proto_var bytes header axis var)

@@ -1,21 +1,13 @@
 -- The last item of a list that passes a test.
 use Rattle.std.proofs.Common.{◌≡◌, Bool, true, false, cond, List, [], ◌∷◌, ◌++◌, Option, Some, None, refl, sym, ap, ◌∙◌}
-use Rattle.std.specs.Option.{option_map, option_or}
+use Rattle.std.specs.Option.{option_or}
 use Rattle.std.proofs.lemmas.Option.{none-some, same_Some}
 use Rattle.fm_model.specs.Cell.{last_such}
 use Rattle.fm_model.proofs.Members.{Each}
 
+-- a value that is there is not nothing
 pub no_value : {A : Type 0} (x : A) → Some x ≡ None → ⊥
 no_value x e = none-some x (sym e)
-
-pub option_map-some : {A B : Type 0} (f : A → B) (o : Option A) (y : B) → option_map f o ≡ Some y
-    → (x : A) × (o ≡ Some x) × (f x ≡ y)
-option_map-some f None y e = absurd (none-some y e)
-option_map-some f (Some x) y e = (x, refl, same_Some (f x) y e)
-
-pub option_map-none : {A B : Type 0} (f : A → B) (o : Option A) → option_map f o ≡ None → o ≡ None
-option_map-none f None e = refl
-option_map-none f (Some x) e = absurd (no_value (f x) e)
 
 -- the last item that passes, between items before it and items that don't pass
 pub record IsLast {A : Type 0} (test : A → Bool) (items : List A) (item : A) : Type 0 where
@@ -42,6 +34,7 @@ pub last_such-none : {A : Type 0} (test : A → Bool) (items : List A) → Each 
 last_such-none test [] each = refl
 last_such-none test (item ∷ items) each = rw (last_such-none test items each.1, each.0) refl
 
+-- the last item that passes, where none behind it passes
 pub last_such-is : {A : Type 0} (test : A → Bool) (before : List A) (item : A) (after : List A) → test item ≡ true
     → Each (λ other. test other ≡ false) after
     → last_such test (before ++ item ∷ after) ≡ Some item

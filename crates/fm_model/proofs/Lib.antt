@@ -2,6 +2,7 @@ pub mod BestFromLemmas
 pub mod BestLemmas
 pub mod CellLemmas
 pub mod CollectionLemmas
+pub mod Computing
 pub mod FindLemmas
 pub mod FitLemmas
 pub mod FullLemmas

@@ -1,8 +1,8 @@
 -- What is known of a file that was taken: each step of loading.
 use Rattle.std.proofs.Common.{◌≡◌, ℕ, List, Result, Ok, ℤ, refl, sym, ap, subst, ◌∙◌}
-use Rattle.fm_base.specs.declared.header.Header.{Header as FileHeader}
-use Rattle.fm_base.specs.declared.header.NcVar.{NcVar}
-use Rattle.fm_base.specs.declared.units.Units.{Units as TimeUnits}
+use Rattle.nc_model.specs.declared.header.Header.{Header as FileHeader}
+use Rattle.nc_model.specs.declared.header.NcVar.{NcVar}
+use Rattle.nc_model.specs.declared.units.Units.{Units as TimeUnits}
 use Rattle.fm_model.specs.declared.loaded.Loaded.{Loaded}
 use Rattle.fm_model.specs.declared.loaded.LoadFault.{LoadFault}
 use Rattle.fm_model.specs.declared.loaded.Slot.{Slot}
@@ -30,11 +30,11 @@ pub record IsTaken (name bytes : List ℕ) (proto : Proto) (file : Loaded) : Typ
   pub name_is : file.name ≡ name
   pub content_is : file.content ≡ bytes
 
-abbrev taken : List ℕ → List ℕ → ℤ → List ℤ → List Slot → Loaded
+abbrev pub taken : List ℕ → List ℕ → ℤ → List ℤ → List Slot → Loaded
 taken name bytes run times slots = record { name = name; run = run; times = times; content = bytes; slots = slots }
 
 module _ (name bytes : List ℕ) (proto : Proto) where
-  -- what is left of loading after each step
+  -- the remaining steps of loading after each step
   abbrev after_times : FileHeader → NcVar → ℤ → List ℤ → Result Loaded LoadFault
   after_times header axis run times = file_slots proto bytes header axis >>= λ slots. Ok
       (taken name bytes run times slots)

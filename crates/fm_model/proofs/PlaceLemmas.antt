@@ -3,15 +3,15 @@ use Rattle.std.proofs.Common.{◌≡◌, ℕ, ◌+◌, ◌*◌, Bool, true, fals
 use Rattle.std.specs.Prelude.{IsTrue, slice_get, ◌==◌}
 use Rattle.std.specs.Option.{option_map_or}
 use Rattle.std.proofs.lemmas.Bool.{and_parts, eqb-true, false≢true}
-use Rattle.fm_base.specs.declared.header.Header.{Header as FileHeader}
-use Rattle.fm_base.specs.declared.header.NcVar.{NcVar}
-use Rattle.fm_base.specs.Kind.{size_of}
-use Rattle.fm_base.specs.Layout.{is_record_var, place_of, product, rank_in, shape_of, size_at}
-use Rattle.fm_base.specs.Reading.{names_record_dim}
+use Rattle.nc_model.specs.declared.header.Header.{Header as FileHeader}
+use Rattle.nc_model.specs.declared.header.NcVar.{NcVar}
+use Rattle.nc_model.specs.Kind.{size_of}
+use Rattle.nc_model.specs.Layout.{is_record_var, place_of, product, rank_in, shape_of, size_at}
+use Rattle.nc_model.specs.Reading.{names_record_dim}
 use Rattle.fm_model.specs.LoadVars.{slot_in}
 use Rattle.fm_model.specs.Variable.{dim_of_axis, stands_first_alone, lies_along}
 
--- the place of an element by the slot of its variable
+-- the offset of an element by the slot of its variable
 place_by_slot : (header : FileHeader) (axis var : NcVar) (first : ℕ) (others : List ℕ) (k : ℕ) (index : List ℕ)
     → var.dims ≡ first ∷ others → first ≡ dim_of_axis axis
     → place_of header var (k ∷ index) ≡ (slot_in header axis var).begin + k * (slot_in header axis var).step
@@ -41,6 +41,7 @@ place_by_slot header axis var first others k index dims same = by_record (names_
         ∙ is in
         rw (has, along, shape_is) (omega arith)
 
+-- where an element stands, by the slot of its variable
 pub place_of-slot : (header : FileHeader) (axis var : NcVar) (k : ℕ) (index : List ℕ)
     → IsTrue (stands_first_alone (dim_of_axis axis) var.dims)
     → place_of header var (k ∷ index) ≡ (slot_in header axis var).begin + k * (slot_in header axis var).step

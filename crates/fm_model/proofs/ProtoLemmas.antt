@@ -8,10 +8,10 @@ use Rattle.std.proofs.lemmas.Bool.{and_cases, and_parts, both_ways, eq-eqb, eqb-
 use Rattle.std.proofs.lemmas.List.{length-map}
 use Rattle.std.proofs.lemmas.Option.{slice_get-map}
 use Rattle.std.proofs.lemmas.Slice.Eq.{bytes_eq-Decides}
-use Rattle.fm_base.specs.declared.header.Dim.{Dim}
-use Rattle.fm_base.specs.declared.header.Header.{Header as FileHeader}
-use Rattle.fm_base.specs.declared.header.NcVar.{NcVar}
-use Rattle.fm_base.specs.Layout.{size_in}
+use Rattle.nc_model.specs.declared.header.Dim.{Dim}
+use Rattle.nc_model.specs.declared.header.Header.{Header as FileHeader}
+use Rattle.nc_model.specs.declared.header.NcVar.{NcVar}
+use Rattle.nc_model.specs.Layout.{size_in}
 use Rattle.fm_model.specs.declared.proto.Proto.{Proto}
 use Rattle.fm_model.specs.declared.proto.ProtoFault.{ProtoFault}
 use Rattle.fm_model.specs.declared.proto.ProtoFault.TheVariants.{NoTimeAxis, TimeNotFirst, BadProtoName, NameTaken, EmptyDimension}
@@ -21,8 +21,8 @@ use Rattle.fm_model.specs.Attribute.{is_char}
 use Rattle.fm_model.specs.Prototype.{proto_header, proto_axis, time_stands_first, is_plain_name, names_are_plain, kept_vars, run_name, offset_name, names_are_free, dims_have_lengths, proto_var, with_length, proto_with, proto_of, LiesFirst, HasFreeName, HasElements, HasDims, IsSound}
 use Rattle.fm_model.specs.Site.{IsPrototype}
 use Rattle.fm_model.specs.Variable.{is_named, is_coordinate, is_axis, axis_of, dim_of_axis, lies_along, stands_first_alone}
-use Rattle.fm_base.proofs.EndLaws.{EndsWithin, ends_within}
-use Rattle.fm_base.proofs.ReadFacts.{IsNamed-from_read}
+use Rattle.nc_model.proofs.EndLaws.{EndsWithin, ends_within}
+use Rattle.nc_model.proofs.ReadFacts.{IsNamed-from_read}
 use Rattle.fm_model.proofs.HeaderLemmas.{proto_has_data}
 use Rattle.fm_base.proofs.ChainLemmas.{step_ok, check_ok, ok_or_ok, same_Ok}
 use Rattle.fm_model.proofs.Members.{In, Each-in, Each-from_in, All-from_each, each_from_All, Any-from_in, In-append_left, In-append_right, In-filter, in_filter, In-map, in_map}
@@ -41,6 +41,7 @@ pub record IsProto (bytes : List ℕ) (site : Site) (proto : Proto) : Type 0 whe
   pub lengths : dims_have_lengths header axis ≡ Ok tt
   pub proto_is : proto_with bytes site header axis ≡ proto
 
+-- what was read as a prototype has the facts of one
 pub IsProto-proto_of : (bytes : List ℕ) (site : Site) (proto : Proto) → proto_of bytes site ≡ Ok proto
     → IsProto bytes site proto
 unfolding proto_of proto_axis
@@ -67,6 +68,7 @@ pub one_proto : (bytes : List ℕ) (site : Site) (proto other : Proto) → proto
     → proto_of bytes site ≡ Ok other → proto ≡ other
 one_proto bytes site proto other e d = same_Ok {E = ProtoFault} proto other (sym e ∙ d)
 
+-- a prototype keeps the site that it was read for
 pub site-proto_of : (bytes : List ℕ) (site : Site) (proto : Proto) → proto_of bytes site ≡ Ok proto → proto.site ≡ site
 unfolding proto_with
 site-proto_of bytes site proto e = let p = IsProto-proto_of bytes site proto e in ap (λ (q : Proto). q.site)
@@ -238,5 +240,6 @@ pub IsSound-proto_of : (bytes : List ℕ) (site : Site) (proto : Proto) → prot
 IsSound-proto_of bytes site proto e = let p = IsProto-proto_of bytes site proto e in subst IsSound p.proto_is
     (sound bytes site proto p)
 
+-- a prototype is sound
 pub IsSound-given : (proto : Proto) → IsPrototype proto → IsSound proto
 IsSound-given proto p = IsSound-proto_of p.bytes proto.site proto p.made

@@ -98,7 +98,7 @@ retract-one before after file differ =
     without-append file.name before (file ∷ after)
     ∙ ap₂ (λ (a b : List Loaded). a ++ b) earlier (without_first file after ∙ later)
 
--- the tests of what is held
+-- the tests of held names
 held_from_test : (test : Loaded → Bool) (files : List Loaded) → list_any test files ≡ true
     → (file : Loaded) × In file files × (test file ≡ true)
 held_from_test test [] e = absurd (false≢true e)

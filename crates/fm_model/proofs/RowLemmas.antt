@@ -3,6 +3,7 @@ use Rattle.std.proofs.Common.{◌≡◌, ◌↔◌, ℕ, List, [], ◌∷◌, ma
 use Rattle.std.specs.Prelude.{Any, Contains, IsSome, is_some}
 use Rattle.std.specs.List.{filter_map, cons_option}
 use Rattle.std.proofs.lemmas.Option.{option_and_then_some}
+use Rattle.fm_base.proofs.OptionLemmas.{mapped_some}
 use Rattle.fm_model.specs.declared.loaded.Loaded.{Loaded}
 use Rattle.fm_model.specs.declared.row.Row.{Row}
 use Rattle.fm_model.specs.declared.row.ViewName.{ViewName}
@@ -13,7 +14,6 @@ use Rattle.fm_model.specs.Rows.{row_at, best_row, rows, instant_in, Shows, HasHe
 use Rattle.fm_model.proofs.BestLemmas.{cell-from_Any, time_of_run_of_cell, run_of_cell, time_of_cell, IsBest-from_best, best-from_file}
 use Rattle.fm_model.proofs.InstantLemmas.{value-from_some, rises_runs_of, rises_times_of, rises_times_of_run, in_times_of_run, in_times_of, In-times_of}
 use Rattle.fm_model.proofs.CellLemmas.{IsCell-from_cell, held-from_cell, cell-from_file}
-use Rattle.fm_model.proofs.LastLemmas.{option_map-some}
 use Rattle.fm_model.proofs.Members.{In, Each, EachPair, Contains-from_in, in_from_Contains, in_map, In-filter_map, in_filter_map, Each-in, Each-from_in, AllPairs-from_each, Any-from_in, in_from_Any}
 use Rattle.fm_model.proofs.RisingLemmas.{Above}
 
@@ -27,7 +27,7 @@ pub IsRowAt-from_row_at : (files : List Loaded) (run valid : ℤ) (row : Row) �
     → IsRowAt files run valid row
 unfolding row_at
 IsRowAt-from_row_at files run valid row e =
-    let found = option_map-some (λ (c : Loaded × ℕ). record { valid = valid; run = run; file = c.0; place = c.1 })
+    let found = mapped_some (λ (c : Loaded × ℕ). record { valid = valid; run = run; file = c.0; place = c.1 })
     (cell files run valid) row e in
     subst (IsRowAt files run valid) found.2 (record { run_is = refl; valid_is = refl; cell_is = found.1 })
 
@@ -154,6 +154,7 @@ in_from_shown files (Forecast valid) row shown =
     In-filter_map (λ run. row_at files run valid) row row.run (runs_of files) (run_of_cell files row.run row.valid has)
     (ap (row_at files row.run) (sym shown.1) ∙ row_at-from_cell files row shown.0)
 
+-- a view has exactly the rows that are shown
 pub Contains-rows : (files : List Loaded) (view : ViewName) (row : Row)
     → Contains (rows files view) row ↔ IsShown files view row
 Contains-rows files view row = (
@@ -214,6 +215,7 @@ Contains-best files valid = (there, back)
         (Contains-from_in valid (times_of files)
         (In-times_of files found.0 valid found.1 (in_from_Contains valid found.0.times found.2)))
 
+-- each row of a view has a file of the collection
 pub HasHeldFile-rows : (files : List Loaded) (view : ViewName) (row : Row) → Contains (rows files view) row
     → HasHeldFile files row
 HasHeldFile-rows files view row c =

@@ -1,12 +1,12 @@
 -- The run of a file that was taken is an instant.
-use Rattle.std.proofs.Common.{◌≡◌, ℕ, true, false, not, List, Option, Some, None, Ok, ℤ, ◌≤ℤ◌, ◌-ℤ◌, map, subst, arith}
+use Rattle.std.proofs.Common.{◌≡◌, ℕ, false, not, List, Option, Some, None, Ok, ℤ, ◌-ℤ◌, pos, negsuc, map, subst, FitsSigned, w64, arith}
+use Rattle.std.proofs.lemmas.Int.{ints}
 use Rattle.std.specs.Prelude.{int_le, neg_ℤ}
 use Rattle.std.specs.Option.{ok_or}
 use Rattle.std.proofs.lemmas.Bool.{and_parts, not-false}
-use Rattle.std.proofs.lemmas.Int.{ints}
-use Rattle.fm_base.specs.declared.header.Header.{Header as FileHeader}
-use Rattle.fm_base.specs.declared.header.NcVar.{NcVar}
-use Rattle.fm_base.specs.Stamp.{mark_of}
+use Rattle.nc_model.specs.declared.header.Header.{Header as FileHeader}
+use Rattle.nc_model.specs.declared.header.NcVar.{NcVar}
+use Rattle.nc_model.specs.Stamp.{mark_of}
 use Rattle.fm_model.specs.declared.limit.TheConstants.{MAX_INSTANT}
 use Rattle.fm_model.specs.declared.loaded.LoadFault.{LoadFault}
 use Rattle.fm_model.specs.declared.loaded.LoadFault.TheVariants.{NoRunTime, RunNotWhole}
@@ -14,10 +14,9 @@ use Rattle.fm_model.specs.declared.site.Site.{Site}
 use Rattle.fm_model.specs.LoadTimes.{file_units, seconds_at, from_epoch, is_instant, run_in_range, run_by, run_by_variable, run_by_name, file_run, IsInstant}
 use Rattle.fm_model.specs.Variable.{reference_of}
 use Rattle.fm_base.proofs.ChainLemmas.{step_ok, refuse_if_ok, same_Ok}
+use Rattle.fm_base.proofs.NumberLemmas.{at_most_from_test}
 
-at_most_from_test : (a b : ℤ) → int_le a b ≡ true → a ≤ℤ b
-at_most_from_test a b e = grind (arith, ints)
-
+-- seconds that pass the test are an instant
 pub IsInstant-from_test : (seconds : ℤ) → not (is_instant seconds) ≡ false → IsInstant seconds
 unfolding is_instant
 IsInstant-from_test seconds e =
@@ -58,3 +57,11 @@ IsInstant-file_run site name bytes header run e = by_reference (reference_of hea
     by_reference : (o : Option NcVar) → run_by site name bytes header o ≡ Ok run → IsInstant run
     by_reference (Some var) e = IsInstant-by_variable site bytes header var run e
     by_reference None e = IsInstant-by_name site name run e
+
+fits : (seconds : ℤ) → IsInstant seconds → FitsSigned w64 seconds
+fits (pos n) is = record { sfits = omega (arith, ints, is.high) }
+fits (negsuc n) is = record { sfits = omega (arith, ints, is.low) }
+
+-- an instant of a collection fits eight bytes
+pub instant_fits : (seconds : ℤ) → not (is_instant seconds) ≡ false → FitsSigned w64 seconds
+instant_fits seconds is = fits seconds (IsInstant-from_test seconds is)

@@ -6,9 +6,9 @@ use Rattle.std.specs.Str.{bytes_eq}
 use Rattle.std.proofs.lemmas.Bool.{and_parts, false≢true, not-false}
 use Rattle.std.proofs.lemmas.List.{append-nil, append_assoc}
 use Rattle.std.proofs.lemmas.Slice.Eq.{bytes_eq-Decides}
-use Rattle.fm_base.specs.declared.header.Header.{Header as FileHeader}
-use Rattle.fm_base.specs.declared.header.NcVar.{NcVar}
-use Rattle.fm_base.specs.Layout.{shape_of}
+use Rattle.nc_model.specs.declared.header.Header.{Header as FileHeader}
+use Rattle.nc_model.specs.declared.header.NcVar.{NcVar}
+use Rattle.nc_model.specs.Layout.{shape_of}
 use Rattle.fm_model.specs.declared.loaded.Loaded.{Loaded}
 use Rattle.fm_model.specs.declared.loaded.LoadFault.{LoadFault}
 use Rattle.fm_model.specs.declared.loaded.LoadFault.TheVariants.{VariableDiffers}
@@ -196,11 +196,13 @@ slots_taken file proto t =
     (slots_zip proto file.content t.header t.axis []
     (filter (is_compared proto) proto.vars) [] file.slots tt t.slots_is)
 
+-- a file that fits has a slot for each variable along the axis
 pub slots_count : (file : Loaded) (proto : Proto) → Fits file proto → length file.slots ≡ length (slotted_vars proto)
 slots_count file proto fits =
     let t = IsTaken-load_of file.name file.content proto file fits in
     sym (length-AllZip (IsSlotOf proto t.header t.axis) (slotted_vars proto) file.slots (slots_taken file proto t))
 
+-- each slot of a file that fits is that of its variable
 pub slots_each : (file : Loaded) (proto : Proto) (header : FileHeader) (axis : NcVar) → Fits file proto
     → file_header file.content ≡ Ok header → file_axis proto header ≡ Ok axis
     → AllZip (IsSlotOf proto header axis) (slotted_vars proto) file.slots

@@ -19,13 +19,13 @@ kept bytes = length bytes - zeros bytes
 zero_after : (bytes : List ℕ) (k : ℕ) (d : ℕ) → k < zeros bytes → get_or (drop (kept bytes) bytes) k d ≡ 0
 zero_after bytes k d lt =
     let most : zeros bytes ≤ length bytes = suffix_len-le-length (λ byte. byte == 0) bytes in
-    let place : length bytes - 1 - (length bytes - 1 - (kept bytes + k)) ≡ kept bytes + k = omega arith in
+    let index : length bytes - 1 - (length bytes - 1 - (kept bytes + k)) ≡ kept bytes + k = omega arith in
     let there : get_or (reverse bytes) (length bytes - 1 - (kept bytes + k)) d ≡ get_or bytes
     (length bytes - 1 - (length bytes - 1 - (kept bytes + k))) d = get_or-reverse bytes
     (length bytes - 1 - (kept bytes + k)) d (omega arith) in
     let zero : get_or (reverse bytes) (length bytes - 1 - (kept bytes + k)) d ≡ 0 = eqb-true _ 0
     (prefix_len_passes (λ byte. byte == 0) (reverse bytes) (length bytes - 1 - (kept bytes + k)) d (omega arith)) in
-    get_or-drop (kept bytes) bytes k d ∙ ap (λ n. get_or bytes n d) (sym place) ∙ sym there ∙ zero
+    get_or-drop (kept bytes) bytes k d ∙ ap (λ n. get_or bytes n d) (sym index) ∙ sym there ∙ zero
 
 pub trimmed-zeros : (bytes : List ℕ) → bytes ≡ trimmed bytes ++ replicate (length bytes - length (trimmed bytes)) 0
 unfolding trimmed
@@ -53,9 +53,9 @@ trimmed-last bytes front last e same =
     ≡ last = ap (λ (l : List ℕ). get_or l (length front) 1) e ∙ get_or_push front last 1 (length front) refl in
     let within : get_or (take (kept bytes) bytes) (length front) 1 ≡ get_or bytes (length front) 1 = get_or-take
     (kept bytes) bytes (length front) 1 (omega arith) in
-    let place : length bytes - 1 - zeros bytes ≡ length front = omega arith in
+    let index : length bytes - 1 - zeros bytes ≡ length front = omega arith in
     let there : get_or (reverse bytes) (zeros bytes) 1 ≡ get_or bytes
     (length bytes - 1 - zeros bytes) 1 = get_or-reverse bytes (zeros bytes) 1 (omega arith) in
     let stops = prefix_len_stops (λ byte. byte == 0) (reverse bytes) 1 (omega (arith, length-reverse bytes)) in
     eqb-false (get_or (reverse bytes) (zeros bytes) 1) 0 stops
-    (there ∙ ap (λ n. get_or bytes n 1) place ∙ sym within ∙ at_last ∙ same)
+    (there ∙ ap (λ n. get_or bytes n 1) index ∙ sym within ∙ at_last ∙ same)

@@ -1,5 +1,5 @@
 -- The times of a file that was taken.
-use Rattle.std.proofs.Common.{None, ◌≡◌, ◌≢◌, ℕ, zero, suc, ◌+◌, ◌<◌, ◌≤◌, false, not, List, [], ◌∷◌, ◌++◌, length, Some, Result, Ok, ℤ, refl, sym, ap, ap₂, subst, ◌∙◌, inl, inr, zero-add, arith}
+use Rattle.std.proofs.Common.{None, ◌≡◌, ◌≢◌, ℕ, zero, suc, ◌+◌, ◌<◌, ◌≤◌, false, not, List, [], ◌∷◌, ◌++◌, length, Some, Result, Ok, ℤ, sym, ap, ap₂, subst, ◌∙◌, inl, inr, zero-add, arith}
 use Rattle.std.specs.Prelude.{All, AllPairs, slice_get}
 use Rattle.std.specs.List.{list_any}
 use Rattle.std.specs.Ordering.{int_eq}
@@ -7,10 +7,10 @@ use Rattle.std.specs.Option.{ok_or}
 use Rattle.std.specs.Result.{result_ok}
 use Rattle.std.proofs.lemmas.Bool.{both_ways, cases_order, eqb-false, ltb-false}
 use Rattle.std.proofs.lemmas.List.{length-append}
-use Rattle.fm_base.specs.declared.header.Header.{Header as FileHeader}
-use Rattle.fm_base.specs.declared.header.NcVar.{NcVar}
-use Rattle.fm_base.specs.declared.units.Units.{Units as TimeUnits}
-use Rattle.fm_base.specs.Layout.{size_at}
+use Rattle.nc_model.specs.declared.header.Header.{Header as FileHeader}
+use Rattle.nc_model.specs.declared.header.NcVar.{NcVar}
+use Rattle.nc_model.specs.declared.units.Units.{Units as TimeUnits}
+use Rattle.nc_model.specs.Layout.{size_at}
 use Rattle.fm_model.specs.declared.limit.TheConstants.{MAX_TIMES}
 use Rattle.fm_model.specs.declared.loaded.Loaded.{Loaded}
 use Rattle.fm_model.specs.declared.loaded.LoadFault.{LoadFault}
@@ -23,6 +23,7 @@ use Rattle.fm_model.specs.LoadTimes.{file_units, file_run, seconds_at, from_epoc
 use Rattle.fm_model.specs.Variable.{dim_of_axis, reference_of}
 use Rattle.fm_model.proofs.CellLemmas.{in-has}
 use Rattle.fm_base.proofs.ChainLemmas.{step_ok, refuse_if_ok, same_Ok}
+use Rattle.fm_base.proofs.ListLemmas.{slice_get-append, slice_get-push}
 use Rattle.fm_model.proofs.LoadLemmas.{IsTaken, IsTaken-load_of}
 use Rattle.fm_model.proofs.Members.{In, Each, EachPair, Each-from_in, Each-push, EachPair-push, All-from_each, AllPairs-from_each}
 use Rattle.fm_model.proofs.RunLemmas.{IsInstant-from_test, IsInstant-file_run}
@@ -114,15 +115,6 @@ instants-times_from time sound (suc n) found all each e =
     instants-times_from time sound n (found ++ next.instant ∷ []) all
     (Each-push IsInstant found next.instant each (sound (length found) next.instant next.time_is)) next.more
 
-slice_get-append_left : {A : Type 0} (xs ys : List A) (k : ℕ) → k < length xs → slice_get (xs ++ ys) k ≡ slice_get xs k
-slice_get-append_left [] ys k lt = absurd (omega arith)
-slice_get-append_left (x ∷ xs) ys zero lt = refl
-slice_get-append_left (x ∷ xs) ys (suc k) lt = slice_get-append_left xs ys k (omega arith)
-
-slice_get-push : {A : Type 0} (xs : List A) (x : A) → slice_get (xs ++ x ∷ []) (length xs) ≡ Some x
-slice_get-push [] x = refl
-slice_get-push (y ∷ xs) x = slice_get-push xs x
-
 -- those that were found stay in front
 front-times_from : (time : ℕ → Result ℤ LoadFault) (n : ℕ) (found all : List ℤ) → times_from time n found ≡ Ok all
     → (k : ℕ) → k < length found → slice_get all k ≡ slice_get found k
@@ -130,7 +122,7 @@ front-times_from time zero found all e k lt = ap (λ (l : List ℤ). slice_get l
 front-times_from time (suc n) found all e k lt =
     let next = IsNextTime-times_from time n found all e in
     front-times_from time n (found ++ next.instant ∷ []) all next.more k
-    (omega (arith, length-append found (next.instant ∷ []))) ∙ slice_get-append_left found (next.instant ∷ []) k lt
+    (omega (arith, length-append found (next.instant ∷ []))) ∙ slice_get-append found (next.instant ∷ []) k lt
 
 each-times_from : (time : ℕ → Result ℤ LoadFault) (n : ℕ) (found all : List ℤ) → times_from time n found ≡ Ok all
     → (k : ℕ) → length found ≤ k → k < length all → slice_get all k ≡ result_ok (time k)
@@ -184,6 +176,7 @@ fit file proto fits = IsTaken-load_of file.name file.content proto file fits
 pub some-times : (file : Loaded) (proto : Proto) → Fits file proto → 0 < length file.times
 some-times file proto fits = (HasTimes-taken file proto (fit file proto fits)).some
 
+-- a file that fits has no more times than the limit
 pub few-times : (file : Loaded) (proto : Proto) → Fits file proto → length file.times ≤ MAX_TIMES
 few-times file proto fits = (HasTimes-taken file proto (fit file proto fits)).few
 
@@ -191,6 +184,7 @@ pub times_differ : (file : Loaded) (proto : Proto) → Fits file proto → AllPa
 times_differ file proto fits = AllPairs-from_each Apart file.times
     (HasTimes-taken file proto (fit file proto fits)).differ
 
+-- each time of a file that fits is an instant
 pub times_are_instants : (file : Loaded) (proto : Proto) → Fits file proto → All IsInstant file.times
 times_are_instants file proto fits = All-from_each IsInstant file.times
     (HasTimes-taken file proto (fit file proto fits)).instants

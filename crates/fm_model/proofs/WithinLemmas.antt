@@ -9,13 +9,13 @@ use Rattle.std.proofs.lemmas.List.{take_all}
 use Rattle.std.proofs.lemmas.Nat.{mul-le}
 use Rattle.std.proofs.lemmas.Option.{none-some, same_Some}
 use Rattle.std.proofs.lemmas.Slice.Eq.{bytes_eq-Decides}
-use Rattle.fm_base.specs.declared.header.Dim.{Dim}
-use Rattle.fm_base.specs.declared.header.Header.{Header as FileHeader}
-use Rattle.fm_base.specs.declared.header.NcVar.{NcVar}
-use Rattle.fm_base.specs.Kind.{size_of}
-use Rattle.fm_base.specs.Layout.{elements_of, end_of, place_of, product, rank_in, shape_of, size_at}
-use Rattle.fm_base.specs.Spelling.{AreDistinct}
-use Rattle.fm_base.proofs.EndLaws.{EndsWithin, ends_within, length-elements_of, rank_in-last}
+use Rattle.nc_model.specs.declared.header.Dim.{Dim}
+use Rattle.nc_model.specs.declared.header.Header.{Header as FileHeader}
+use Rattle.nc_model.specs.declared.header.NcVar.{NcVar}
+use Rattle.nc_model.specs.Kind.{size_of}
+use Rattle.nc_model.specs.Layout.{elements_of, end_of, place_of, product, rank_in, shape_of, size_at}
+use Rattle.nc_model.specs.Spelling.{AreDistinct}
+use Rattle.nc_model.proofs.EndLaws.{EndsWithin, ends_within, length-elements_of, rank_in-last}
 use Rattle.fm_base.proofs.ChainLemmas.{ok_or_ok}
 use Rattle.fm_model.specs.declared.loaded.Loaded.{Loaded}
 use Rattle.fm_model.specs.declared.loaded.LoadFault.TheVariants.{MissingVariable}
@@ -80,7 +80,7 @@ within_slot bytes header axis var first others k ends dims alone below some =
     subst (λ (l : List ℕ). 0 < product l) (sym shape)
     (positive_product (size_at header first) (product (map (size_at header) others)) (omega arith) some) in
     let last : List ℕ = map (λ n. n - 1) (map (size_at header) others) in
-    let place = place_of-slot header axis var (size_at header first - 1) last alone in
+    let offset = place_of-slot header axis var (size_at header first - 1) last alone in
     let end : end_of header var ≡ place_of header var ((size_at header first - 1) ∷ last) + size_of var.kind =
     ap (λ (l : List ℕ). place_of header var (map (λ n. n - 1) l) + size_of var.kind) shape in
     let begin : ℕ = (slot_in header axis var).begin in
@@ -90,40 +90,40 @@ within_slot bytes header axis var first others k ends dims alone below some =
     slot_end begin step (size_of var.kind) (product (map (size_at header) others))
     (rank_in (map (size_at header) others) last) k
     (size_at header first) (end_of header var) (length bytes) below
-    (sym (end ∙ ap (λ n. n + size_of var.kind) (place ∙ rank)))
+    (sym (end ∙ ap (λ n. n + size_of var.kind) (offset ∙ rank)))
     (rank_in-last (map (size_at header) others) some) (ends elements)
 
-each_name : (P : List ℕ → Type 0) (dims : List Dim) (place : ℕ) (dim : Dim)
+each_name : (P : List ℕ → Type 0) (dims : List Dim) (index : ℕ) (dim : Dim)
     → AllByRecursion P (map (λ (d : Dim). d.name) dims)
-    → slice_get dims place ≡ Some dim → P dim.name
-each_name P [] place dim all e = absurd (none-some dim e)
+    → slice_get dims index ≡ Some dim → P dim.name
+each_name P [] index dim all e = absurd (none-some dim e)
 each_name P (first ∷ dims) zero dim all e = subst (λ (d : Dim). P d.name) (same_Some first dim e) all.0
-each_name P (first ∷ dims) (suc place) dim all e = each_name P dims place dim all.1 e
+each_name P (first ∷ dims) (suc index) dim all e = each_name P dims index dim all.1 e
 
--- where names differ, one name is at one place
-one_place : (dims : List Dim) (i j : ℕ) (a b : Dim) → AreDistinct (map (λ (d : Dim). d.name) dims)
+-- where names differ, one name is at one index
+one_index : (dims : List Dim) (i j : ℕ) (a b : Dim) → AreDistinct (map (λ (d : Dim). d.name) dims)
     → slice_get dims i ≡ Some a → slice_get dims j ≡ Some b
     → a.name ≡ b.name → i ≡ j
 unfolding IsDistinct
-one_place [] i j a b apart e d same = absurd (none-some a e)
-one_place (first ∷ dims) zero zero a b apart e d same = refl
-one_place (first ∷ dims) zero (suc j) a b apart e d same =
+one_index [] i j a b apart e d same = absurd (none-some a e)
+one_index (first ∷ dims) zero zero a b apart e d same = refl
+one_index (first ∷ dims) zero (suc j) a b apart e d same =
     let differs = each_name (λ n. bytes_eq first.name n ≡ false) dims j b apart.0 d in
     let name : first.name ≡ b.name = ap (λ (x : Dim). x.name) (same_Some first a e) ∙ same in
     absurd (both_ways (bytes_eq first.name b.name) differs ((bytes_eq-Decides first.name b.name).1 name))
-one_place (first ∷ dims) (suc i) zero a b apart e d same =
+one_index (first ∷ dims) (suc i) zero a b apart e d same =
     let differs = each_name (λ n. bytes_eq first.name n ≡ false) dims i a apart.0 e in
     let name : first.name ≡ a.name = ap (λ (x : Dim). x.name) (same_Some first b d) ∙ sym same in
     absurd (both_ways (bytes_eq first.name a.name) differs ((bytes_eq-Decides first.name a.name).1 name))
-one_place (first ∷ dims) (suc i) (suc j) a b apart e d same = ap suc (one_place dims i j a b apart.1 e d same)
+one_index (first ∷ dims) (suc i) (suc j) a b apart e d same = ap suc (one_index dims i j a b apart.1 e d same)
 
-dim_there : (dims : List Dim) (place : ℕ) → place < length dims → (dim : Dim) × (slice_get dims place ≡ Some dim)
-dim_there [] place below = absurd (omega arith)
+dim_there : (dims : List Dim) (index : ℕ) → index < length dims → (dim : Dim) × (slice_get dims index ≡ Some dim)
+dim_there [] index below = absurd (omega arith)
 dim_there (dim ∷ dims) zero below = (dim, refl)
-dim_there (dim ∷ dims) (suc place) below = dim_there dims place (omega arith)
+dim_there (dim ∷ dims) (suc index) below = dim_there dims index (omega arith)
 
 -- the dimension of this name
-dim_named : (dims : List Dim) (name : List ℕ) (id : ℕ) → IsTrue (is_named dims name id)
+pub dim_named : (dims : List Dim) (name : List ℕ) (id : ℕ) → IsTrue (is_named dims name id)
     → (dim : Dim) × (slice_get dims id ≡ Some dim) × (dim.name ≡ name)
 unfolding is_named
 dim_named dims name id e = by_dim (slice_get dims id) refl e
@@ -141,13 +141,14 @@ positive_length proto sound id below other =
     let found = dim_there proto.dims id below in
     let axis = dim_named proto.dims proto.axis sound.id sound.named in
     let differs : found.0.name ≢ proto.axis = λ e. other
-    (one_place proto.dims sound.id id axis.0 found.0 sound.dim_names axis.1 found.1 (axis.2 ∙ sym e)) in
+    (one_index proto.dims sound.id id axis.0 found.0 sound.dim_names axis.1 found.1 (axis.2 ∙ sym e)) in
     let some = Each-in (λ (dim : Dim). dim.name ≢ proto.axis → 0 < dim.size) found.0 proto.dims
     (each_from_All (λ (dim : Dim). dim.name ≢ proto.axis → 0 < dim.size) proto.dims sound.lengths)
     (in_from_slice_get proto.dims id found.0 found.1) differs in
     rw found.1 some
 
-not_along : (id : ℕ) (ids : List ℕ) → lies_along id ids ≡ false → Each (λ other. id ≡ other → ⊥) ids
+-- a variable that does not lie along a dimension has no dimension of that number
+pub not_along : (id : ℕ) (ids : List ℕ) → lies_along id ids ≡ false → Each (λ other. id ≡ other → ⊥) ids
 unfolding lies_along
 not_along id [] e = tt
 not_along id (first ∷ ids) e =
@@ -217,6 +218,7 @@ AllZip-each R S (a ∷ as') [] weaker zip = absurd zip
 AllZip-each R S (a ∷ as')
     (b ∷ bs) weaker zip = (weaker a b (inl refl) zip.0, AllZip-each R S as' bs (λ x y h. weaker x y (inr h)) zip.1)
 
+-- the slots of a file that fits lie within its bytes
 pub slots_within : (file : Loaded) (proto : Proto) → IsSound proto → Fits file proto
     → AllZip (LiesWithin proto (length file.times) (length file.content)) (slotted_vars proto) file.slots
 unfolding slotted_vars

@@ -32,11 +32,11 @@ has_time valid file = list_any (λ time. int_eq time valid) file.times
 unfoldable pub has_cell : ℤ → ℤ → Loaded → Bool
 has_cell run valid file = int_eq file.run run && has_time valid file
 
--- the place of a valid time among a file's times
+-- the index of a valid time among a file's times
 unfoldable pub place_of_time : ℤ → Loaded → ℕ
 place_of_time valid file = position_or_len (λ time. int_eq time valid) file.times
 
--- the cell of a run and a valid time: the last file of that run with that time, and the time's place in it
+-- the cell of a run and a valid time: the last file of that run with that time, and the time's index in it
 unfoldable pub cell : List Loaded → ℤ → ℤ → Option (Loaded × ℕ)
 cell files run valid = option_map (λ file. (file, place_of_time valid file)) (last_such (has_cell run valid) files)
 
@@ -58,15 +58,15 @@ pub record HasCell (run valid : ℤ) (file : Loaded) : Type 0 where
   pub run_is : file.run ≡ run
   pub time : Contains file.times valid
 
--- A file and a place are the cell of a run and a valid time: the file is of the run and has the time at that place and
+-- A file and an index are the cell of a run and a valid time: the file is of the run and has the time at that index and
 -- at none before it, and no file after it is of the run and has the time.
-pub record IsCell (files : List Loaded) (run valid : ℤ) (file : Loaded) (place : ℕ) : Type 0 where
+pub record IsCell (files : List Loaded) (run valid : ℤ) (file : Loaded) (index : ℕ) : Type 0 where
   pub before : List Loaded
   pub after : List Loaded
   pub split : files ≡ before ++ file ∷ after
   pub run_is : file.run ≡ run
-  pub time_is : slice_get file.times place ≡ Some valid
-  pub first : (k : ℕ) → k < place → slice_get file.times k ≡ Some valid → ⊥
+  pub time_is : slice_get file.times index ≡ Some valid
+  pub first : (k : ℕ) → k < index → slice_get file.times k ≡ Some valid → ⊥
   pub last : All (λ other. ¬ HasCell run valid other) after
 
 -- a valid time lies at least the least offset after a run, where one is given

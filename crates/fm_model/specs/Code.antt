@@ -1,6 +1,6 @@
 -- The numbers by which it is reported why a file is no prototype, or isn't taken.
 use Rattle.std.specs.Prelude.{ℕ}
-use Rattle.fm_base.specs.Code.{header_fault_code, layout_fault_code, units_fault_code}
+use Rattle.nc_model.specs.Code.{header_fault_code, layout_fault_code, units_fault_code}
 use Rattle.fm_model.specs.declared.loaded.LoadFault.{LoadFault}
 use Rattle.fm_model.specs.declared.loaded.LoadFault.TheVariants as load
 use Rattle.fm_model.specs.declared.proto.ProtoFault.{ProtoFault}

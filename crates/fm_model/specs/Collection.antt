@@ -59,7 +59,7 @@ full_of held =
 unfoldable pub full_at : List Loaded → Op → Option TooMany
 full_at files op = full_of (tally (after_op files op))
 
--- what is counted, and the most that there may be of it
+-- a count and its limit
 abbrev pub number_of : Which → Tally → ℕ
 number_of Files held = held.files
 number_of Rows held = held.rows

@@ -1,11 +1,11 @@
 -- Small files for worked examples. Instants are seconds from the epoch; 21600 seconds are six hours.
 use Rattle.std.specs.Prelude.{ℕ, List, [], ◌∷◌, codes, true, ℤ, pos}
-use Rattle.fm_base.specs.declared.header.Attr.{Attr}
-use Rattle.fm_base.specs.declared.header.Header.{Header}
-use Rattle.fm_base.specs.declared.header.NcVar.{NcVar}
-use Rattle.fm_base.specs.declared.kind.Kind.{Kind}
-use Rattle.fm_base.specs.declared.kind.Kind.TheVariants.{Char, Int, Float}
-use Rattle.fm_base.specs.declared.units.Units.{Units}
+use Rattle.nc_model.specs.declared.header.Attr.{Attr}
+use Rattle.nc_model.specs.declared.header.Header.{Header}
+use Rattle.nc_model.specs.declared.header.NcVar.{NcVar}
+use Rattle.nc_model.specs.declared.kind.Kind.{Kind}
+use Rattle.nc_model.specs.declared.kind.Kind.TheVariants.{Char, Int, Float}
+use Rattle.nc_model.specs.declared.units.Units.{Units}
 use Rattle.fm_model.specs.declared.loaded.Loaded.{Loaded}
 use Rattle.fm_model.specs.declared.proto.Proto.{Proto}
 use Rattle.fm_model.specs.declared.proto.ProtoVar.{ProtoVar}
@@ -32,9 +32,9 @@ midnight_again = file_of (codes "gfs_0000.nc") (pos 0) (pos 0 ∷ pos 21600 ∷ 
 abbrev pub midnight_part : Loaded
 midnight_part = file_of (codes "gfs_0000_part.nc") (pos 0) (pos 64800 ∷ [])
 
--- the row of a file at a place
+-- the row of a file at an index
 abbrev pub row_of : Loaded → ℤ → ℕ → Row
-row_of file valid place = record { valid = valid; run = file.run; file = file; place = place }
+row_of file valid index = record { valid = valid; run = file.run; file = file; place = index }
 
 -- a site whose epoch is 2020-01-01T00:00:00Z
 abbrev pub site : Site

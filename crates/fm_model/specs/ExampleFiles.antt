@@ -1,7 +1,7 @@
 -- Whole files for worked examples, as hexadecimal texts, and what they are taken for. The epoch of the site is
 -- 2020-01-01T00:00:00Z.
 use Rattle.std.specs.Prelude.{ℕ, ◌+◌, ◌-◌, ◌*◌, List, [], ◌∷◌, ◌++◌, codes, drop, false, filter, length, not, nat_lt, pos, replicate, take, true, ◌==◌, if◌then◌else◌}
-use Rattle.fm_base.specs.declared.kind.Kind.TheVariants.{Byte, Char, Short, Int, Float}
+use Rattle.nc_model.specs.declared.kind.Kind.TheVariants.{Byte, Char, Short, Int, Float}
 use Rattle.fm_model.specs.declared.loaded.Loaded.{Loaded}
 use Rattle.fm_model.specs.declared.proto.Proto.{Proto}
 use Rattle.fm_model.specs.declared.proto.ProtoVar.{ProtoVar}
@@ -21,7 +21,7 @@ bytes_of (high ∷ low ∷ more) = (16 * digit_of high + digit_of low) ∷ bytes
 abbrev pub hex : List ℕ → List ℕ
 hex text = bytes_of (filter (λ code. not (code == 32)) text)
 
--- a file with other bytes from a place on
+-- a file with other bytes from an offset on
 abbrev pub patched : ℕ → List ℕ → List ℕ → List ℕ
 patched at bytes file = take at file ++ bytes ++ drop (at + length bytes) file
 

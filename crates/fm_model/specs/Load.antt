@@ -8,7 +8,7 @@ use Rattle.fm_model.specs.LoadAxis.{file_header, file_axis}
 use Rattle.fm_model.specs.LoadTimes.{file_units, file_run, time_count, file_times}
 use Rattle.fm_model.specs.LoadVars.{file_slots}
 
--- what a file of this name with these bytes is taken for, or its first fault
+-- the loaded file of this name and these bytes, or the first fault
 unfoldable pub load_of : List ℕ → List ℕ → Proto → Result Loaded LoadFault
 load_of name bytes proto = do
   header ← file_header bytes

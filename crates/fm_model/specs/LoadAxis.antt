@@ -1,11 +1,11 @@
 -- The header of a file that is to be taken, and its axis.
 use Rattle.std.specs.Prelude.{ℕ, List, not, Result, Ok}
 use Rattle.std.specs.Option.{ok_or}
-use Rattle.fm_base.specs.declared.header.Header.{Header as FileHeader}
-use Rattle.fm_base.specs.declared.header.NcVar.{NcVar}
-use Rattle.fm_base.specs.declared.fault.FormatFault.{FormatFault}
-use Rattle.fm_base.specs.declared.fault.FormatFault.TheVariants.{OfHeader, OfLayout}
-use Rattle.fm_base.specs.Sound.{sound_header}
+use Rattle.nc_model.specs.declared.header.Header.{Header as FileHeader}
+use Rattle.nc_model.specs.declared.header.NcVar.{NcVar}
+use Rattle.nc_model.specs.declared.fault.FormatFault.{FormatFault}
+use Rattle.nc_model.specs.declared.fault.FormatFault.TheVariants.{OfHeader, OfLayout}
+use Rattle.nc_model.specs.Sound.{sound_header}
 use Rattle.fm_model.specs.declared.loaded.LoadFault.{LoadFault}
 use Rattle.fm_model.specs.declared.loaded.LoadFault.TheVariants.{Header, Layout, MissingVariable, VariableDiffers}
 use Rattle.fm_model.specs.declared.proto.Proto.{Proto}

@@ -3,13 +3,13 @@ use Rattle.std.specs.Prelude.{◌≤ℤ◌, ℕ, zero, suc, List, [], ◌∷◌,
 use Rattle.std.specs.List.{list_any}
 use Rattle.std.specs.Option.{ok_or}
 use Rattle.std.specs.Ordering.{int_eq}
-use Rattle.fm_base.specs.declared.header.Header.{Header as FileHeader}
-use Rattle.fm_base.specs.declared.header.NcVar.{NcVar}
-use Rattle.fm_base.specs.declared.units.Units.{Units as TimeUnits}
-use Rattle.fm_base.specs.Layout.{size_at, shape_of, product, element}
-use Rattle.fm_base.specs.Pattern.{pattern_of_bytes, whole_seconds_of}
-use Rattle.fm_base.specs.Stamp.{mark_of}
-use Rattle.fm_base.specs.Units.{units_of}
+use Rattle.nc_model.specs.declared.header.Header.{Header as FileHeader}
+use Rattle.nc_model.specs.declared.header.NcVar.{NcVar}
+use Rattle.nc_model.specs.declared.units.Units.{Units as TimeUnits}
+use Rattle.nc_model.specs.Layout.{size_at, shape_of, product, element}
+use Rattle.nc_model.specs.Pattern.{pattern_of_bytes, whole_seconds_of}
+use Rattle.nc_model.specs.Stamp.{mark_of}
+use Rattle.nc_model.specs.Units.{units_of}
 use Rattle.fm_model.specs.declared.limit.TheConstants.{MAX_INSTANT, MAX_TIMES}
 use Rattle.fm_model.specs.declared.loaded.LoadFault.{LoadFault}
 use Rattle.fm_model.specs.declared.loaded.LoadFault.TheVariants.{Units, NoRunTime, NotWhole, TimeRange, TimeRepeated, NoTimes, TooManyTimes, RunNotWhole, RunRange}
@@ -80,19 +80,19 @@ time_count header axis = do
   refuse_if (nat_lt MAX_TIMES (length_of_axis header axis)) (TooManyTimes (length_of_axis header axis))
   Ok (length_of_axis header axis)
 
--- a time at a place that is an instant
+-- the time at index k, which has to be an instant
 unfoldable pub time_in_range : ℕ → ℤ → Result ℤ LoadFault
 time_in_range k seconds = do
   refuse_if (not (is_instant seconds)) (TimeRange k seconds)
   Ok seconds
 
--- the time at a place
+-- the time at index k
 unfoldable pub time_at : Site → List ℕ → FileHeader → NcVar → TimeUnits → ℕ → Result ℤ LoadFault
 time_at site bytes header axis units k = do
   seconds ← ok_or (seconds_at bytes header axis units (k ∷ [])) (NotWhole k)
   time_in_range k (from_epoch site units seconds)
 
--- n more times after those that were found, each by its place, and each unlike those before it
+-- n more times after those that were found, each by its index, and each unlike those before it
 unfoldable pub times_from : (ℕ → Result ℤ LoadFault) → ℕ → List ℤ → Result (List ℤ) LoadFault
 times_from time zero found = Ok found
 times_from time (suc n) found = do

@@ -2,11 +2,11 @@
 use Rattle.std.specs.Prelude.{◌≡◌, ◌<◌, ◌≤◌, IsTrue, ℕ, ◌+◌, ◌*◌, List, [], ◌∷◌, ◌++◌, length, drop, map, filter, slice_index, Bool, not, ◌&&◌, ◌||◌, nat_eq, nat_lt, if◌then◌else◌, Result, Ok}
 use Rattle.std.specs.List.{common_prefix_len}
 use Rattle.std.specs.Str.{bytes_eq}
-use Rattle.fm_base.specs.declared.header.Header.{Header as FileHeader}
-use Rattle.fm_base.specs.declared.header.NcVar.{NcVar}
-use Rattle.fm_base.specs.Kind.{size_of}
-use Rattle.fm_base.specs.Layout.{shape_of, product, record_size, elements_of}
-use Rattle.fm_base.specs.Reading.{names_record_dim}
+use Rattle.nc_model.specs.declared.header.Header.{Header as FileHeader}
+use Rattle.nc_model.specs.declared.header.NcVar.{NcVar}
+use Rattle.nc_model.specs.Kind.{size_of}
+use Rattle.nc_model.specs.Layout.{shape_of, product, record_size, elements_of}
+use Rattle.nc_model.specs.Reading.{names_record_dim}
 use Rattle.fm_model.specs.declared.loaded.LoadFault.{LoadFault}
 use Rattle.fm_model.specs.declared.loaded.LoadFault.TheVariants.{VariableDiffers, GridDiffers}
 use Rattle.fm_model.specs.declared.loaded.Slot.{Slot}
@@ -43,11 +43,11 @@ unfoldable pub is_like_fixed : Proto → FileHeader → ProtoVar → NcVar → B
 is_like_fixed proto header wanted var = is_same_kind wanted.kind var.kind && are_same (lengths_of proto wanted.dims)
     (shape_of header var)
 
--- two lists of bytes are the same, or differ first at a place
+-- two lists of bytes are the same, or differ first at an index
 unfoldable pub same_bytes : List ℕ → List ℕ → List ℕ → Check LoadFault
 same_bytes name proto file =
-    let place : ℕ = common_prefix_len nat_eq proto file in
-    refuse_if (nat_lt place (length proto)) (GridDiffers name place (slice_index proto place) (slice_index file place))
+    let index : ℕ = common_prefix_len nat_eq proto file in
+    refuse_if (nat_lt index (length proto)) (GridDiffers name index (slice_index proto index) (slice_index file index))
 
 -- the file's coordinate variable has the prototype's elements
 unfoldable pub same_grid : Proto → List ℕ → FileHeader → ProtoVar → Check LoadFault

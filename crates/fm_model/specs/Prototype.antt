@@ -3,16 +3,16 @@ use Rattle.std.specs.Prelude.{◌≡◌, ◌≢◌, ◌<◌, ◌*◌, All, Any, 
 use Rattle.std.specs.List.{list_all}
 use Rattle.std.specs.Option.{ok_or, option_map, option_map_or}
 use Rattle.std.specs.Str.{bytes_eq}
-use Rattle.fm_base.specs.declared.header.Dim.{Dim}
-use Rattle.fm_base.specs.declared.header.Header.{Header as FileHeader}
-use Rattle.fm_base.specs.declared.header.NcVar.{NcVar}
-use Rattle.fm_base.specs.Kind.{size_of}
-use Rattle.fm_base.specs.Layout.{size_in, product, elements_of}
+use Rattle.nc_model.specs.declared.header.Dim.{Dim}
+use Rattle.nc_model.specs.declared.header.Header.{Header as FileHeader}
+use Rattle.nc_model.specs.declared.header.NcVar.{NcVar}
+use Rattle.nc_model.specs.Kind.{size_of}
+use Rattle.nc_model.specs.Layout.{size_in, product, elements_of}
 use Rattle.fm_base.specs.Name.{is_name_byte}
-use Rattle.fm_base.specs.Spelling.{AreDistinct}
-use Rattle.fm_base.specs.declared.fault.FormatFault.{FormatFault}
-use Rattle.fm_base.specs.declared.fault.FormatFault.TheVariants.{OfHeader, OfLayout}
-use Rattle.fm_base.specs.Sound.{sound_header}
+use Rattle.nc_model.specs.Spelling.{AreDistinct}
+use Rattle.nc_model.specs.declared.fault.FormatFault.{FormatFault}
+use Rattle.nc_model.specs.declared.fault.FormatFault.TheVariants.{OfHeader, OfLayout}
+use Rattle.nc_model.specs.Sound.{sound_header}
 use Rattle.fm_model.specs.declared.proto.Proto.{Proto}
 use Rattle.fm_model.specs.declared.proto.ProtoFault.{ProtoFault}
 use Rattle.fm_model.specs.declared.proto.ProtoFault.TheVariants.{Header, Layout, NoTimeAxis, TimeNotFirst, BadProtoName, NameTaken, EmptyDimension}

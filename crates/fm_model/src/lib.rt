@@ -1,4 +1,4 @@
-//! What a collection of forecast runs is: what a file is taken for, what is done to the files, and which rows the
+//! The definition of a collection of forecast runs: loading a file, the operations on files, and the rows that the
 //! views of them have (THREDDS Data Server, Forecast Model Run Collections). The definitions stand in `specs/`, on
 //! plain lists.
 #![tactic(auto)]

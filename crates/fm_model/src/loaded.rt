@@ -2,7 +2,8 @@
 ghost use Rattle.std.specs.Prelude.{◌≡◌};
 ghost use Rattle.fm_model.specs.Code.{load_code};
 
-use fm_base::{Bytes, HeaderFault, LayoutFault, List, UnitsFault};
+use fm_base::{Bytes, List};
+use nc_model::{HeaderFault, LayoutFault, UnitsFault};
 
 /// Where a variable's data lies in a file: its data at the k-th time begins at `begin + k * step`.
 #[derive(Clone, Copy, Debug, PartialEq, Eq)]
@@ -23,7 +24,7 @@ pub struct Loaded {
     pub slots: List<Slot>,
 }
 
-/// Why a file isn't taken. Names are those of the prototype's variables, `k` is the place of a time in the file, and
+/// Why a file isn't taken. Names are those of the prototype's variables, `k` is the index of a time in the file, and
 /// seconds are from the collection's epoch.
 #[derive(Debug, Drop)]
 pub enum LoadFault {
@@ -32,9 +33,9 @@ pub enum LoadFault {
     Units(UnitsFault),
     /// The variable of the run's time isn't one number, or the file's name has no mark.
     NoRunTime,
-    /// The time at this place isn't a whole number of seconds.
+    /// The time at this index isn't a whole number of seconds.
     NotWhole(u64),
-    /// The time at this place, in seconds from the epoch, lies outside the range of instants.
+    /// The time at this index, in seconds from the epoch, lies outside the range of instants.
     TimeRange(u64, i128),
     /// An earlier time is the same.
     TimeRepeated(u64),
@@ -42,7 +43,7 @@ pub enum LoadFault {
     MissingVariable(Bytes),
     /// The variable has another kind, other lengths or other dimensions than the prototype's.
     VariableDiffers(Bytes),
-    /// A coordinate variable has another byte than the prototype's at this place among its elements.
+    /// A coordinate variable has another byte than the prototype's at this offset among its elements.
     GridDiffers {
         name: Bytes,
         byte: u64,

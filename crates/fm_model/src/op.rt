@@ -5,7 +5,7 @@ use crate::loaded::Loaded;
 use fm_base::{Arc, Bytes, NoMemory};
 use std::alloc::Global;
 
-/// A change of a collection: a file takes the place of the one with its name, the runs below a cutoff go, in seconds
+/// A change of a collection: a file replaces the one with its name, the runs below a cutoff go, in seconds
 /// from the collection's epoch, or the file of a name is taken back.
 #[derive(Drop)]
 pub enum Op {

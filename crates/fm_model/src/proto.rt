@@ -3,7 +3,8 @@ ghost use Rattle.std.specs.Prelude.{◌≡◌};
 ghost use Rattle.fm_model.specs.Code.{proto_code};
 
 use crate::site::Site;
-use fm_base::{Attr, Bytes, Dim, HeaderFault, Kind, LayoutFault, List};
+use fm_base::{Bytes, List};
+use nc_model::{Attr, Dim, HeaderFault, Kind, LayoutFault};
 
 /// A variable that the views show. A variable is `timed` where it lies along the axis; the elements of one that isn't
 /// are `fixed`, in row-major order.

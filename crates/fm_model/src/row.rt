@@ -3,7 +3,7 @@
 use crate::loaded::Loaded;
 use fm_base::Arc;
 
-/// A row of a view: what the file of the run has for the valid time, at that place among the file's times. Instants are
+/// A row of a view: the data of the run's file for the valid time, at index `place` of the file's times. Instants are
 /// seconds from the collection's epoch.
 #[derive(Drop)]
 pub struct Row {

@@ -3,8 +3,8 @@ use Rattle.std.specs.Prelude.{false, ◌≡◌, Bool, Option, None, Some, MatchO
 use Rattle.std.specs.Borrow.{Bor}
 use Rattle.std.specs.Option.{option_map_or}
 use Rattle.std.specs.Str.{bytes_eq}
-use Rattle.fm_base.specs.declared.header.Header.{Header}
-use Rattle.fm_base.specs.declared.header.NcVar.{NcVar}
+use Rattle.nc_model.specs.declared.header.Header.{Header}
+use Rattle.nc_model.specs.declared.header.NcVar.{NcVar}
 use Rattle.fm_model.specs.Variable.{reference_of}
 
 -- what was found is the variable of the run's time of a header, or nothing where it has none

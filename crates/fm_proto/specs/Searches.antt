@@ -1,7 +1,7 @@
 -- What the search for a name looks for, in the words of the definition of a prototype.
 use Rattle.std.specs.Prelude.{ℕ, List, find, not, Option}
-use Rattle.fm_base.specs.declared.header.Dim.{Dim}
-use Rattle.fm_base.specs.declared.header.NcVar.{NcVar}
+use Rattle.nc_model.specs.declared.header.Dim.{Dim}
+use Rattle.nc_model.specs.declared.header.NcVar.{NcVar}
 use Rattle.fm_model.specs.Prototype.{is_plain_name}
 
 -- the name of a dimension, and of a variable

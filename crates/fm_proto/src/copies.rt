@@ -1,7 +1,8 @@
 //! Copies of what a header has of a variable.
 ghost use Rattle.std.specs.Prelude.{◌≡◌, IfOk};
 
-use fm_base::{Attr, Bytes, List, NoMemory};
+use fm_base::{Bytes, List, NoMemory};
+use nc_model::Attr;
 use std::alloc::Global;
 
 fn copy_attr(alloc: Global, attr: &Attr) -> Result<Attr, NoMemory>

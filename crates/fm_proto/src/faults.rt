@@ -1,13 +1,13 @@
 //! The first variable or dimension that a step refuses.
 ghost use Rattle.std.specs.Prelude.{◌≡◌, ◌≢◌, ◌++◌, ℕ, List, MatchOption, None, Some, find, map};
-ghost use Rattle.fm_base.specs.Name.{is_name_byte};
 ghost use Rattle.fm_model.specs.Prototype.{has_taken_name, has_time_later, is_empty, is_plain_name, kept_vars, names_of};
 ghost use Rattle.fm_proto.specs.Kept.{IsReferenceOf};
 ghost use Rattle.fm_proto.specs.Searches.{dim_name, var_name, first_bad_name};
 
 use crate::kept::is_shown;
-use fm_base::{Dim, Header, NcVar};
+use fm_base::is_name_byte;
 use fm_file::{dim_of_axis, lies_along};
+use nc_model::{Dim, Header, NcVar};
 
 #[tactic(auto, unfolding(fm_model::specs::Variable::lies_along))]
 fn has_time_later(axis: &NcVar, var: &NcVar) -> bool
@@ -31,13 +31,6 @@ pub(crate) fn first_misplaced<'a>(header: &'a Header, axis: &NcVar) -> Option<&'
         }
     }
     None
-}
-
-#[tactic(auto, unfolding(fm_base::specs::Name::is_name_byte))]
-fn is_name_byte(byte: u8) -> bool
-    ensures { result ≡ is_name_byte byte }
-{
-    byte.is_ascii_alphanumeric() || byte == b'_' || byte == b'-'
 }
 
 #[tactic(auto, unfolding(fm_model::specs::Prototype::is_plain_name))]
@@ -106,7 +99,7 @@ fn has_taken_name(axis: &NcVar, var: &NcVar) -> bool
     }
 }
 
-// The first variable of those that the views show that has one of these names.
+// The first variable that the views show under one of these names.
 #[tactic(auto, unfolding(fm_model::specs::Prototype::kept_vars))]
 pub(crate) fn first_taken<'a>(
     header: &'a Header,

@@ -1,11 +1,11 @@
 //! Which variables a prototype keeps.
 ghost use Rattle.std.specs.Prelude.{◌≡◌};
-ghost use Rattle.fm_base.specs.declared.header.Header.{Header as HeaderValue};
+ghost use Rattle.nc_model.specs.declared.header.Header.{Header as HeaderValue};
 ghost use Rattle.fm_model.specs.Prototype.{is_char_per_time, is_kept};
 ghost use Rattle.fm_proto.specs.Kept.{is_named_as, IsReferenceOf};
 
-use fm_base::NcVar;
 use fm_file::{dim_of_axis, is_char};
+use nc_model::NcVar;
 
 #[tactic(auto, unfolding(fm_model::specs::Prototype::is_char_per_time))]
 fn is_char_per_time(axis: &NcVar, var: &NcVar) -> bool

@@ -1,16 +1,16 @@
-//! What a prototype keeps of its file.
+//! A prototype, made of what it keeps of its file.
 ghost use Rattle.std.specs.Prelude.{◌≡◌, ◌<◌, ◌^◌, IfOk, Some, [], if◌then◌else◌, length, map, slice_get};
-ghost use Rattle.fm_base.specs.Layout.{elements_of};
+ghost use Rattle.nc_model.specs.Layout.{elements_of};
 ghost use Rattle.fm_model.specs.Prototype as spec;
 ghost use Rattle.fm_proto.specs.Kept.{IsReferenceOf};
 
 use crate::copies::{copy_attrs, copy_ids};
 use crate::kept::is_shown;
-use fm_base::{Bytes, Dim, Header, List, NcVar, NoMemory};
+use fm_base::{Bytes, List, NoMemory};
 use fm_file::{dim_of_axis, lies_along};
 use fm_model::{Proto, ProtoVar, Site};
-use nc_array::whole;
-use nc_layout::Layout;
+use nc_array::FileView;
+use nc_model::{Dim, Header, NcVar};
 use std::alloc::Global;
 
 fn dim_with_length(alloc: Global, header: &Header, dim: &Dim) -> Result<Dim, NoMemory>
@@ -37,21 +37,14 @@ fn dims_with_lengths(alloc: Global, header: &Header) -> Result<List<Dim>, NoMemo
 }
 
 // The elements of a variable that doesn't lie along the axis.
-fn fixed_of(
-    alloc: Global,
-    bytes: &[u8],
-    layout: &Layout,
-    number: u32,
-    timed: bool,
-) -> Result<Bytes, NoMemory>
-    requires length { length bytes.now ≡ layout.now.len }
-    requires number { number < length layout.now.header.vars }
-    ensures { IfOk result (λ fixed. (var : _) → slice_get layout.now.header.vars number ≡ Some var
-        → fixed ≡ (if timed then [] else elements_of bytes.now layout.now.header var)) }
+fn fixed_of(alloc: Global, file: &FileView<'_>, number: u32, timed: bool) -> Result<Bytes, NoMemory>
+    requires { number < length file.now.layout.header.vars }
+    ensures { IfOk result (λ fixed. (var : _) → slice_get file.now.layout.header.vars number ≡ Some var
+        → fixed ≡ (if timed then [] else elements_of file.now.bytes file.now.layout.header var)) }
 {
     let mut fixed = Bytes::new(alloc);
     if !timed {
-        whole(alloc, layout, bytes, number, &mut fixed)?;
+        file.append_elements(number, &mut fixed)?;
     }
     Ok(fixed)
 }
@@ -60,15 +53,14 @@ fn fixed_of(
 #[tactic(auto, unfolding(fm_model::specs::Prototype::proto_var))]
 fn proto_var(
     alloc: Global,
-    bytes: &[u8],
-    layout: &Layout,
+    file: &FileView<'_>,
     axis: &NcVar,
     number: u32,
     var: &NcVar,
 ) -> Result<ProtoVar, NoMemory>
-    requires length { length bytes.now ≡ layout.now.len }
-    requires number { slice_get layout.now.header.vars number ≡ Some var.now }
-    ensures { IfOk result (λ kept. kept ≡ spec.proto_var bytes.now layout.now.header axis.now var.now) }
+    requires { slice_get file.now.layout.header.vars number ≡ Some var.now }
+    ensures { IfOk result (λ kept. kept
+        ≡ spec.proto_var file.now.bytes file.now.layout.header axis.now var.now) }
 {
     let timed = lies_along(dim_of_axis(axis), var.dims.as_slice());
     Ok(ProtoVar {
@@ -77,7 +69,7 @@ fn proto_var(
         dims: copy_ids(alloc, var.dims.as_slice())?,
         attrs: copy_attrs(alloc, var.attrs.as_slice())?,
         timed,
-        fixed: fixed_of(alloc, bytes, layout, number, timed)?,
+        fixed: fixed_of(alloc, file, number, timed)?,
     })
 }
 
@@ -85,49 +77,46 @@ fn proto_var(
 #[tactic(auto, unfolding(fm_model::specs::Prototype::kept_vars))]
 fn proto_vars(
     alloc: Global,
-    bytes: &[u8],
-    layout: &Layout,
+    file: &FileView<'_>,
     reference: Option<&NcVar>,
     axis: &NcVar,
 ) -> Result<List<ProtoVar>, NoMemory>
-    requires length { length bytes.now ≡ layout.now.len }
-    requires few { length layout.now.header.vars < 2 ^ 32 }
-    requires reference { IsReferenceOf layout.now.header reference }
+    requires few { length file.now.layout.header.vars < 2 ^ 32 }
+    requires reference { IsReferenceOf file.now.layout.header reference }
     ensures { IfOk result (λ vars. vars
-        ≡ map (spec.proto_var bytes.now layout.now.header axis.now)
-        (spec.kept_vars layout.now.header axis.now)) }
+        ≡ map (spec.proto_var file.now.bytes file.now.layout.header axis.now)
+        (spec.kept_vars file.now.layout.header axis.now)) }
 {
     let mut vars = List::new(alloc);
-    for (number, var) in layout.header().vars.as_slice().iter().enumerate() {
+    for (number, var) in file.header().vars.as_slice().iter().enumerate() {
         if is_shown(reference, axis, var) {
-            vars.push(proto_var(alloc, bytes, layout, axis, number as u32, var)?)?;
+            vars.push(proto_var(alloc, file, axis, number as u32, var)?)?;
         }
     }
     Ok(vars)
 }
 
-// What a prototype keeps of its file: its dimensions with their lengths, its attributes, and the variables that the
-// views show, of which those that don't lie along the axis keep their elements.
+// The prototype that a file is: its dimensions with their lengths, its attributes, and the variables that the views
+// show. A variable that doesn't lie along the axis keeps its elements.
 #[tactic(auto, unfolding(fm_model::specs::Prototype::proto_with))]
 pub(crate) fn proto_with(
     alloc: Global,
-    bytes: &[u8],
     site: Site,
-    layout: &Layout,
+    file: &FileView<'_>,
     reference: Option<&NcVar>,
     axis: &NcVar,
 ) -> Result<Proto, NoMemory>
-    requires length { length bytes.now ≡ layout.now.len }
-    requires few { length layout.now.header.vars < 2 ^ 32 }
-    requires reference { IsReferenceOf layout.now.header reference }
-    ensures { IfOk result (λ proto. proto ≡ spec.proto_with bytes.now site layout.now.header axis.now) }
+    requires few { length file.now.layout.header.vars < 2 ^ 32 }
+    requires reference { IsReferenceOf file.now.layout.header reference }
+    ensures { IfOk result (λ proto. proto
+        ≡ spec.proto_with file.now.bytes site file.now.layout.header axis.now) }
 {
-    let header = layout.header();
+    let header = file.header();
     Ok(Proto {
         site,
         axis: Bytes::copy_of(alloc, axis.name.as_slice())?,
         dims: dims_with_lengths(alloc, header)?,
         attrs: copy_attrs(alloc, header.attrs.as_slice())?,
-        vars: proto_vars(alloc, bytes, layout, reference, axis)?,
+        vars: proto_vars(alloc, file, reference, axis)?,
     })
 }

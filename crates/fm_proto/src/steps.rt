@@ -4,9 +4,10 @@ ghost use Rattle.fm_model.specs.Prototype as spec;
 ghost use Rattle.fm_proto.specs.Kept.{IsReferenceOf};
 
 use crate::faults::{first_bad_name, first_empty, first_misplaced, first_taken};
-use fm_base::{Bytes, Fail, Header, NcVar};
+use fm_base::{Bytes, Fail};
 use fm_file::axis_of;
 use fm_model::ProtoFault;
+use nc_model::{Header, NcVar};
 use std::alloc::Global;
 
 // There is a time axis.

@@ -1,5 +1,5 @@
-//! Small files, as words of four bytes. Those of the second collection were written by a program outside of this repository
-//! from the values that stand over them.
+//! Small files, as words of four bytes. Those of the second collection were written by a program outside of this
+//! repository from the values that stand over them.
 
 use fm_base::{Bytes, NoMemory};
 use nc_sample::{SAMPLE, bytes_of};
@@ -72,11 +72,13 @@ static LATER: [u32; 88] = [
 
 // A CDF-1 file with two records along `time`: each kind of value, and texts.
 //
-// `time` 0.0 and 6.0 hours; `x` (Short, 3) 10, -20, 300; `y` (Double, 2) 0.5, -0.5; `b` (Byte, x) 1, 2, 255; `one` (Byte)
-// 255; `s` (Short, x) 1, -2, 3; `five` (Byte, m of length 5) 1, 2, 3, 4, 255; `c0` (Char) "a"; `c1` (Char, n of length 4)
-// "ab"; `c2` (Char, y, n) "ab", "cdef". Along time, for each of the two: `bt` (Byte) 127; 128. `st` (Short, x) 1, -2, 3; 4,
-// -5, 6. `it` (Int) 100; -100. `ft` (Float, y, x) 1 to 6; 7 to 12. `dt` (Double, y) 0.25, 0.5; 0.75, 1.0. `ct` (Char) "a";
-// "b". `names` (Char, n) "ab"; "cdef". `lines` (Char, y, n) "one", "two"; "six", "ten".
+// `time` 0.0 and 6.0 hours; `x` (Short, 3) 10, -20, 300; `y` (Double, 2) 0.5, -0.5; `b` (Byte, x) 1, 2, 255; `one`
+// (Byte) 255; `s` (Short, x) 1, -2, 3; `five` (Byte, m of length 5) 1, 2, 3, 4, 255; `c0` (Char) "a"; `c1` (Char, n of
+// length 4) "ab"; `c2` (Char, y, n) "ab", "cdef". Along time, for each of the two: `bt` (Byte) 127; 128. `st` (Short,
+// x) 1,
+// -2, 3; 4,
+// -5, 6. `it` (Int) 100; -100. `ft` (Float, y, x) 1 to 6; 7 to 12. `dt` (Double, y) 0.25, 0.5; 0.75, 1.0. `ct` (Char)
+// "a"; "b". `names` (Char, n) "ab"; "cdef". `lines` (Char, y, n) "one", "two"; "six", "ten".
 #[rattlefmt::skip]
 static KINDS: [u32; 260] = [
     0x4344_4601, 0x0000_0002, 0x0000_000a, 0x0000_0005, 0x0000_0004, 0x7469_6d65, 0x0000_0000, 0x0000_0001,
@@ -114,11 +116,11 @@ static KINDS: [u32; 260] = [
     0x6200_0000, 0x6364_6566, 0x7369_7800, 0x7465_6e00,
 ];
 
-// A CDF-2 file without records. Its dimensions and variables stand in another order, times are whole seconds, the run is in
-// a variable, and `unused` is none of the prototype's.
+// A CDF-2 file without records. Its dimensions and variables stand in another order, times are whole seconds, the run
+// is in a variable, and `unused` is none of the prototype's.
 //
-// `time` 06:00 and 12:00; `bt` 1; 255. `st` 7, -8, 9; 10, -11, 12. `it` 200; -200. `ft` 17 to 22; 23 to 28. `dt` 1.25, 1.5;
-// 1.75, 2.0. `ct` "c"; "". `names` "g"; a zero byte and "h". `lines` "red", "blue"; "", "gold".
+// `time` 06:00 and 12:00; `bt` 1; 255. `st` 7, -8, 9; 10, -11, 12. `it` 200; -200. `ft` 17 to 22; 23 to 28. `dt` 1.25,
+// 1.5; 1.75, 2.0. `ct` "c"; "". `names` "g"; a zero byte and "h". `lines` "red", "blue"; "", "gold".
 #[rattlefmt::skip]
 static KINDS_LATER: [u32; 239] = [
     0x4344_4602, 0x0000_0000, 0x0000_000a, 0x0000_0004, 0x0000_0001, 0x6e00_0000, 0x0000_0004, 0x0000_0001,

@@ -1,1 +1,3 @@
+pub mod RowCounts
+pub mod RowFacts
 pub mod RowSteps

@@ -1,1 +1,4 @@
+pub mod View
+pub use Rattle.fm_dataset.specs.Values
+pub use Rattle.fm_edition.specs.Held
 pub use Rattle.fm_model.specs.Rows

@@ -29,6 +29,7 @@ pub(crate) fn row_of(edition: &Edition, run: i64, valid: i64) -> Result<Option<R
 fn row_after(edition: &Edition, run: i64, seconds: i64) -> Result<Option<Row>, NoMemory>
     ensures { IfOk result (λ row. row ≡ row_at edition.now.files run (run +ℤ seconds)) }
 {
+    // `proto` ensures what an edition keeps: a sum that does not fit 64 bits is no instant of it.
     let _ = edition.proto();
     match run.checked_add(seconds) {
         Some(valid) => row_of(edition, run, valid),
@@ -50,6 +51,7 @@ pub(crate) fn has_row(edition: &Edition, run: i64, valid: i64) -> bool
 pub(crate) fn has_row_after(edition: &Edition, run: i64, seconds: i64) -> bool
     ensures { result ≡ is_some (row_at edition.now.files run (run +ℤ seconds)) }
 {
+    // `proto` ensures what an edition keeps: a sum that does not fit 64 bits is no instant of it.
     let _ = edition.proto();
     match run.checked_add(seconds) {
         Some(valid) => has_row(edition, run, valid),

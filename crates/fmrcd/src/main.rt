@@ -1,8 +1,8 @@
 //! The data server: a run over the devices of the machine.
 #![tactic(auto)]
 
-use fm_devices::{unread, words};
-use fm_host::host_world;
+use dev_host::host_world;
+use dev_std::{unread, words};
 use srv_run::run_process;
 use std::io::IsTerminal;
 use std::process::ExitCode;

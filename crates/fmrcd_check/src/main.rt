@@ -1,8 +1,8 @@
 //! The program `fmrcd` again, for a second stored run: a check of a broken file.
 #![tactic(auto)]
 
-use fm_devices::{unread, words};
-use fm_host::host_world;
+use dev_host::host_world;
+use dev_std::{unread, words};
 use srv_run::run_process;
 use std::io::IsTerminal;
 use std::process::ExitCode;

@@ -26,8 +26,8 @@ struct Both {
     list: plain_list::Edition,
 }
 
-// The operation of some numbers over a prototype: one of sixteen lets runs expire, three take a name back, the others put
-// a file.
+// The operation of some numbers over a prototype: one of sixteen lets runs expire, three take a name back, the others
+// put a file.
 fn op_of(rt: &impl Abort, alloc: Global, proto: &Proto, x: [u8; 3]) -> Result<Op, Fail>
     ensures { IfOk result (OpFits proto.now) }
 {
@@ -80,8 +80,8 @@ fn same_rows(one: Option<&Row>, other: Option<&Row>) -> bool {
 // The two have the same cell, or none.
 fn same_cell(one: Option<(&Arc<Loaded>, u32)>, other: Option<(&Arc<Loaded>, u32)>) -> bool {
     match (one, other) {
-        (Some((file, place)), Some((same, there))) => {
-            place == there && same_file(file.get(), same.get())
+        (Some((file, index)), Some((same, there))) => {
+            index == there && same_file(file.get(), same.get())
         }
         (None, None) => true,
         _ => false,
@@ -124,8 +124,8 @@ fn same_best(rt: &impl Abort, alloc: Global, both: &Both, least: Option<i64>) ->
     let others = both.list.best_rows(alloc, least)?;
     assert_eq!(rt; rows.len(), others.len());
     assert_eq!(rt; rows.len(), both.maps.best_count(least));
-    for place in 0..rows.len() {
-        assert!(rt; same_rows(rows.get(place), others.get(place)));
+    for index in 0..rows.len() {
+        assert!(rt; same_rows(rows.get(index), others.get(index)));
     }
     Ok(())
 }

@@ -1,5 +1,5 @@
-//! Random interleavings of operations and of events of sessions, each against a second computation: what no clause says,
-//! that memory suffices, and that definitions mean what a reader expects.
+//! Random interleavings of operations and of events of sessions, each against a second computation: what no clause
+//! says, that memory suffices, and that definitions mean what a reader expects.
 #![tactic(auto)]
 
 #[cfg(test)]

@@ -60,7 +60,7 @@ pub fn file_of(
     Ok(Arc::new(alloc, made)?)
 }
 
-// What a step publishes or does.
+// The event of a step.
 fn event_of(
     alloc: Global,
     proto: &Proto,
@@ -86,7 +86,7 @@ fn event_of(
     }
 }
 
-// What some steps publish or do.
+// The events of some steps.
 fn events_of(
     alloc: Global,
     proto: &Proto,
@@ -105,7 +105,7 @@ fn events_of(
     Ok(events)
 }
 
-/// Runs some steps over so many sessions.
+/// Runs some steps over `sessions` sessions.
 pub fn play(
     rt: &impl Abort,
     alloc: Global,
@@ -119,8 +119,8 @@ pub fn play(
     Ok(run_all(alloc, proto, sessions, &events)?)
 }
 
-/// What the session of a number was sent, and how many operations it has seen.
-pub fn told(outcome: &Outcome, number: usize) -> (&[u8], u64) {
+/// The bytes that the session of a number was sent, and the number of operations it has seen.
+pub fn sent_and_seen(outcome: &Outcome, number: usize) -> (&[u8], u64) {
     match (
         outcome.outputs.as_slice().get(number),
         outcome.seen.as_slice().get(number),

@@ -1,6 +1,6 @@
 //! Random lists of steps, against the second machine.
 
-use crate::playing::{Step, play, told};
+use crate::playing::{Step, play, sent_and_seen};
 use crate::second::Second;
 use std::alloc::Global;
 use std::process::Abort;
@@ -22,7 +22,7 @@ GET /thredds/dodsC/gfs/gfs_best.ncd.dds?none HTTP/1.0\r\n\r\nno request\r\n\r\n"
 #[derive(Drop)]
 struct Random {
     x: u32,
-    places: [usize; 3],
+    offsets: [usize; 3],
 }
 
 impl Random {
@@ -35,18 +35,18 @@ impl Random {
     // The next bytes of the stream for a session that waits, and other bytes for one that doesn't.
     fn piece(&mut self, number: u32, waits: bool) -> &'static [u8] {
         let count = 1 + (self.next() % 90) as usize;
-        let Some(place) = self.places.get_mut(number as usize) else {
+        let Some(offset) = self.offsets.get_mut(number as usize) else {
             return b"?";
         };
-        let (_, left) = STREAM.split_at((*place).min(STREAM.len()));
+        let (_, left) = STREAM.split_at((*offset).min(STREAM.len()));
         let (piece, _) = left.split_at(count.min(left.len()));
         if waits {
-            *place = place.saturating_add(piece.len());
+            *offset = offset.saturating_add(piece.len());
         }
         piece
     }
 
-    // How many bytes to send where so many are left: all, one too many, or half of them.
+    // The bytes to send of the `left` ones: all, one too many, or half of them.
     fn count(&mut self, left: u64) -> u64 {
         match self.next() % 4 {
             0 | 1 => left,
@@ -89,7 +89,7 @@ impl Random {
 fn compare(rt: &impl Abort, alloc: Global, seed: u32) -> Result<Option<usize>, Fail> {
     let mut random = Random {
         x: seed,
-        places: [0; 3],
+        offsets: [0; 3],
     };
     let mut second = Second::new(alloc, SESSIONS)?;
     let mut steps = Vec::new(alloc);
@@ -101,7 +101,7 @@ fn compare(rt: &impl Abort, alloc: Global, seed: u32) -> Result<Option<usize>, F
     let outcome = play(rt, alloc, SESSIONS, steps.as_slice())?;
     let mut sent = 0usize;
     for (number, talk) in second.talks.iter().enumerate() {
-        if told(&outcome, number) != (talk.output(), talk.seen) {
+        if sent_and_seen(&outcome, number) != (talk.output(), talk.seen) {
             return Ok(None);
         }
         sent = sent.saturating_add(talk.output().len());

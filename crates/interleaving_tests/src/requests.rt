@@ -5,7 +5,7 @@ use std::alloc::Global;
 use web_frame::{Frame, MAX_HEAD, Next};
 use web_session::{Asked, MAX_REPLIES};
 
-/// A request: what a reply is asked for, and its target.
+/// A request: the item of a stream, and its target.
 #[derive(Drop)]
 pub struct Request {
     pub asked: Asked,

@@ -9,7 +9,7 @@ use fm_base::{Arc, Bytes, NoMemory};
 use fm_edition::Edition;
 use fm_model::{Op, Proto};
 use fm_sample::File;
-use pub_plain::{Look, Plain, Query};
+use pub_look::{Look, Plain, Query};
 use std::alloc::Global;
 use std::process::Abort;
 use std::test::Fail;
@@ -94,6 +94,16 @@ impl Talk {
         sent
     }
 
+    // The order of the first request without a reply.
+    fn next_order(&self, alloc: Global, proto: &Proto) -> Result<Option<Order>, NoMemory> {
+        let Some(request) = self.requests.all.get(self.begun) else {
+            return Ok(None);
+        };
+        let last = is_last(request.asked, self.begun.saturating_add(1));
+        let target = request.target.as_slice();
+        Ok(Some(order(alloc, request.asked, target, last, &proto.site)?))
+    }
+
     // Ends after a last reply, and begins a refusal that is due.
     fn settle(&mut self, alloc: Global, proto: &Proto) -> Result<(), NoMemory> {
         if self.left() > 0 {
@@ -104,18 +114,7 @@ impl Talk {
                 self.ended = self.ended || is_last(request.asked, self.begun);
             }
         }
-        let Some(request) = self.requests.all.get(self.begun) else {
-            return Ok(());
-        };
-        let last = is_last(request.asked, self.begun.saturating_add(1));
-        let order = order(
-            alloc,
-            request.asked,
-            request.target.as_slice(),
-            last,
-            &proto.site,
-        )?;
-        if let Order::Refused { fault, head, last } = order {
+        if let Some(Order::Refused { fault, head, last }) = self.next_order(alloc, proto)? {
             if !self.ended {
                 let plan = refusal(alloc, &fault, self.seen, head, last)?;
                 add_plan(alloc, &mut self.script, &plan)?;
@@ -127,21 +126,10 @@ impl Talk {
 
     // Looks, where a request asks for it.
     fn look(&mut self, alloc: Global, plain: &mut Plain, proto: &Proto) -> Result<(), NoMemory> {
-        let Some(request) = self.requests.all.get(self.begun) else {
-            return Ok(());
-        };
         if self.left() > 0 || self.ended {
             return Ok(());
         }
-        let last = is_last(request.asked, self.begun.saturating_add(1));
-        let order = order(
-            alloc,
-            request.asked,
-            request.target.as_slice(),
-            last,
-            &proto.site,
-        )?;
-        if let Order::Wanted(dap) = order {
+        if let Some(Order::Wanted(dap)) = self.next_order(alloc, proto)? {
             let (plan, seen) = plain.ask(alloc, &dap)?;
             add_plan(alloc, &mut self.script, &plan)?;
             self.begun = self.begun.saturating_add(1);
@@ -186,7 +174,7 @@ impl Talk {
 }
 
 impl Second {
-    /// So many sessions over the empty collection.
+    /// `sessions` sessions over the empty collection.
     pub fn new(alloc: Global, sessions: u32) -> Result<Second, Fail> {
         let plain = Plain::open(alloc, proto_of(alloc)?)?;
         let mut talks = Vec::new(alloc);

@@ -5,10 +5,10 @@ use Rattle.std.proofs.Math.Seq.{take-add}
 use Rattle.std.proofs.lemmas.List.{drop-drop}
 use Rattle.std.proofs.lemmas.List.Concat.{flat_map-append}
 use Rattle.std.proofs.lemmas.List.Folds.{flat_map-map}
-use Rattle.fm_base.specs.declared.header.Header.{Header}
-use Rattle.fm_base.specs.declared.header.NcVar.{NcVar}
-use Rattle.fm_base.specs.Kind.{size_of}
-use Rattle.fm_base.specs.Layout.{product, rank_in, indices_of, is_record_var, fixed_shape, vsize, element, elements_of}
+use Rattle.nc_model.specs.declared.header.Header.{Header}
+use Rattle.nc_model.specs.declared.header.NcVar.{NcVar}
+use Rattle.nc_model.specs.Kind.{size_of}
+use Rattle.nc_model.specs.Layout.{product, rank_in, indices_of, is_record_var, fixed_shape, vsize, element, elements_of}
 use Rattle.nc_layout.specs.Places.{part_begin, part_count}
 use Rattle.nc_layout.proofs.HeaderLemmas.{shape_of-fixed, shape_of-record, place_of-part}
 use Rattle.nc_layout.proofs.OrderLemmas.{flat_map_all, map-rank_in, range-append}

@@ -1,2 +1,3 @@
+pub mod File
 pub mod Parts
 pub use Rattle.nc_layout.specs.Places

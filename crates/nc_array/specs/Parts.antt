@@ -1,8 +1,8 @@
 -- The bytes of a variable that hold elements one after another.
 use Rattle.std.specs.Prelude.{ℕ, List, take, drop}
-use Rattle.fm_base.specs.declared.header.Header.{Header}
-use Rattle.fm_base.specs.declared.header.NcVar.{NcVar}
-use Rattle.fm_base.specs.Layout.{vsize}
+use Rattle.nc_model.specs.declared.header.Header.{Header}
+use Rattle.nc_model.specs.declared.header.NcVar.{NcVar}
+use Rattle.nc_model.specs.Layout.{vsize}
 use Rattle.nc_layout.specs.Places.{part_begin}
 
 -- the bytes of a part of a variable

@@ -1,8 +1,7 @@
-//! The bytes of the elements of a netCDF classic file: of one in place, and of all of a variable.
+//! A netCDF classic file as its bytes and their layout: the bytes of one element in place, and of all of a variable.
 #![tactic(auto)]
 
-mod elements;
-mod parts;
+mod file;
 
-pub use elements::{element, whole};
+pub use file::FileView;
 pub use nc_layout::Layout;

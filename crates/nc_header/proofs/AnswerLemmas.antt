@@ -2,12 +2,12 @@
 use Rattle.std.proofs.Common.{◌≡◌, List, ℕ, Result, Ok, Err, refl, sym, ◌∙◌}
 use Rattle.fm_base.specs.declared.fail.Fail.{Fail}
 use Rattle.fm_base.specs.declared.fail.Fail.TheVariants as fails
-use Rattle.fm_base.specs.declared.fault.HeaderFault.{HeaderFault}
-use Rattle.fm_base.specs.declared.header.Header.{Header}
-use Rattle.fm_base.specs.Reading.{Reads, header_at, header_or_fault}
+use Rattle.nc_model.specs.declared.fault.HeaderFault.{HeaderFault}
+use Rattle.nc_model.specs.declared.header.Header.{Header}
+use Rattle.nc_model.specs.Reading.{Reads, header_at, header_or_fault}
 use Rattle.fm_base.specs.Input.{Input, whole}
-use Rattle.fm_base.specs.Spelling.{HeaderOf}
-use Rattle.fm_base.proofs.HeaderLaws.{read-from_HeaderOf}
+use Rattle.nc_model.specs.Spelling.{HeaderOf}
+use Rattle.nc_model.proofs.HeaderLaws.{read-from_HeaderOf}
 use Rattle.fm_base.specs.Answer.{Answers, IsReadAs, OnFault}
 use Rattle.nc_header.specs.NoHeader.{HasNoHeader}
 

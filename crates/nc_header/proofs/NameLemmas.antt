@@ -9,7 +9,7 @@ use Rattle.std.proofs.lemmas.Str.{IsUtf8-from_is_utf8, is_utf8-from_IsUtf8}
 use Rattle.std.proofs.Math.Bool.{or-false}
 use Rattle.std.proofs.lemmas.List.Folds.{list_any-append}
 use Rattle.std.proofs.lemmas.Map.Text.{is_eq-slice_cmp}
-use Rattle.fm_base.specs.Format.{has_name}
+use Rattle.nc_model.specs.Format.{has_name}
 use Rattle.nc_header.specs.Names.{holds_name, HoldsNames}
 
 -- what isn't UTF-8 fails the test

@@ -1,10 +1,10 @@
 -- What a loop over a count does, turn by turn.
 use Rattle.std.proofs.Common.{◌≡◌, ℕ, suc, ◌+◌, ◌-◌, ◌<◌, ◌≤◌, List, [], ◌∷◌, ◌++◌, Ok, Err, ap, ◌∙◌, refl, arith}
 use Rattle.fm_base.specs.Input.{Input}
-use Rattle.fm_base.specs.Reading.{items_from, HeaderParser}
+use Rattle.nc_model.specs.Reading.{items_from, HeaderParser}
 use Rattle.nc_header.specs.Turns.{one_more}
 use Rattle.fm_base.specs.Parser.{Outcome, and_then, pure}
-use Rattle.fm_base.specs.declared.fault.HeaderFault.{HeaderFault}
+use Rattle.nc_model.specs.declared.fault.HeaderFault.{HeaderFault}
 
 -- one item, and then the others
 pub items_from-turn : {A : Type 0} (item : List A → HeaderParser A) (n at : ℕ) (found : List A) (i : Input) → at < n

@@ -1,6 +1,6 @@
 pub use Rattle.fm_base.specs.Answer
-pub use Rattle.fm_base.specs.Reading
-pub use Rattle.fm_base.specs.Spelling
+pub use Rattle.nc_model.specs.Reading
+pub use Rattle.nc_model.specs.Spelling
 pub mod Names
 pub mod NoHeader
 pub mod Turns

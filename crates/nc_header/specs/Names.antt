@@ -4,7 +4,7 @@ use Rattle.std.specs.BTreeSet.{BTreeSet, contains_by}
 use Rattle.std.specs.Cmp.Lexicographic.{slice_cmp}
 use Rattle.std.specs.Ordering.{nat_cmp}
 use Rattle.std.specs.Borrow.{Bor}
-use Rattle.fm_base.specs.Format.{has_name}
+use Rattle.nc_model.specs.Format.{has_name}
 
 -- whether the name is in the set
 abbrev pub holds_name : BTreeSet (Bor (List ℕ)) → List ℕ → Bool

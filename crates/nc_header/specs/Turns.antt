@@ -1,6 +1,6 @@
 -- One turn of a loop that reads a list.
 use Rattle.std.specs.Prelude.{List, [], ◌∷◌, ◌++◌}
-use Rattle.fm_base.specs.Reading.{HeaderParser}
+use Rattle.nc_model.specs.Reading.{HeaderParser}
 use Rattle.fm_base.specs.Parser.{◌>>=◌, pure}
 
 -- an item more after those that were found

@@ -1,20 +1,21 @@
 //! Lists of attributes, of the file and of a variable.
 ghost use Rattle.std.specs.Prelude.{◌≡◌, []};
-ghost use Rattle.fm_base.specs.Format.{ATTRIBUTE_TAG};
-ghost use Rattle.fm_base.specs.Reading as spec;
-ghost use Rattle.fm_base.specs.Reading.{Reads};
+ghost use Rattle.nc_model.specs.Format.{ATTRIBUTE_TAG};
+ghost use Rattle.nc_model.specs.Reading as spec;
+ghost use Rattle.nc_model.specs.Reading.{Reads};
 ghost use Rattle.nc_header.specs.Turns.{one_more};
 
 use crate::found::Found;
 use crate::names::read_name;
 use crate::reader::Reader;
-use fm_base::{Attr, Bytes, Fail, HeaderFault, List};
+use fm_base::{Bytes, Fail, List};
+use nc_model::{Attr, HeaderFault};
 use std::alloc::Global;
 
 // The tag of the list.
 const TAG: u32 = 12;
 
-#[tactic(auto, unfolding(fm_base::specs::Reading::attr_at, crate::specs::Turns::one_more))]
+#[tactic(auto, unfolding(nc_model::specs::Reading::attr_at, crate::specs::Turns::one_more))]
 fn read_attr<'a>(
     alloc: Global,
     reader: &mut Reader<'a>,
@@ -53,7 +54,7 @@ fn read_attrs(
 }
 
 // Reads a list of attributes.
-#[tactic(auto, unfolding(fm_base::specs::Reading::list_at))]
+#[tactic(auto, unfolding(nc_model::specs::Reading::list_at))]
 pub(crate) fn read_attr_list(
     alloc: Global,
     reader: &mut Reader<'_>,

@@ -1,27 +1,28 @@
 //! The list of the dimensions.
 ghost use Rattle.std.specs.Prelude.{◌≡◌, []};
-ghost use Rattle.fm_base.specs.Format.{DIMENSION_TAG, has_record_dim};
-ghost use Rattle.fm_base.specs.Reading as spec;
-ghost use Rattle.fm_base.specs.Reading.{Reads};
+ghost use Rattle.nc_model.specs.Format.{DIMENSION_TAG, has_record_dim};
+ghost use Rattle.nc_model.specs.Reading as spec;
+ghost use Rattle.nc_model.specs.Reading.{Reads};
 ghost use Rattle.nc_header.specs.Turns.{one_more};
 
 use crate::found::Found;
 use crate::names::read_name;
 use crate::reader::Reader;
-use fm_base::{Bytes, Dim, Fail, HeaderFault, List};
+use fm_base::{Bytes, Fail, List};
+use nc_model::{Dim, HeaderFault};
 use std::alloc::Global;
 
 // The tag of the list.
 const TAG: u32 = 10;
 
-#[tactic(auto, unfolding(fm_base::specs::Format::has_record_dim))]
+#[tactic(auto, unfolding(nc_model::specs::Format::has_record_dim))]
 fn has_record_dim(dims: &[Dim]) -> bool
     ensures { result ≡ has_record_dim dims.now }
 {
     dims.iter().any(|dim| dim.size == 0)
 }
 
-#[tactic(auto, unfolding(fm_base::specs::Reading::dim_size))]
+#[tactic(auto, unfolding(nc_model::specs::Reading::dim_size))]
 fn read_size(reader: &mut Reader<'_>, found: &[Dim]) -> Result<u32, Fail<HeaderFault>>
     ensures { Reads (λ size. size) (spec.dim_size found.now reader.old) result reader.new }
 {
@@ -33,7 +34,7 @@ fn read_size(reader: &mut Reader<'_>, found: &[Dim]) -> Result<u32, Fail<HeaderF
     Ok(size)
 }
 
-#[tactic(auto, unfolding(fm_base::specs::Reading::dim_at, crate::specs::Turns::one_more))]
+#[tactic(auto, unfolding(nc_model::specs::Reading::dim_at, crate::specs::Turns::one_more))]
 fn read_dim<'a>(
     alloc: Global,
     reader: &mut Reader<'a>,
@@ -69,7 +70,7 @@ fn read_dims(
 }
 
 // Reads the list of the dimensions.
-#[tactic(auto, unfolding(fm_base::specs::Reading::list_at))]
+#[tactic(auto, unfolding(nc_model::specs::Reading::list_at))]
 pub(crate) fn read_dim_list(
     alloc: Global,
     reader: &mut Reader<'_>,

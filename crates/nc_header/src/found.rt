@@ -1,8 +1,9 @@
 //! The items of a list that were read so far, with their names in a set.
 ghost use Rattle.std.specs.Prelude.{◌≡◌, [], ◌∷◌, ◌++◌, map, OnOk, OnErr};
-ghost use Rattle.fm_base.specs.Format.{has_name};
+ghost use Rattle.nc_model.specs.Format.{has_name};
 
-use fm_base::{Attr, Dim, List, NcVar, NoMemory};
+use fm_base::{List, NoMemory};
+use nc_model::{Attr, Dim, NcVar};
 use std::alloc::Global;
 use std::collections::BTreeSet;
 use std::marker::Model;

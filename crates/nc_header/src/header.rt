@@ -1,8 +1,8 @@
 //! The whole header.
 ghost use Rattle.std.specs.Prelude.{◌≡◌, Ok, IfOk};
-ghost use Rattle.fm_base.specs.Reading as spec;
-ghost use Rattle.fm_base.specs.Reading.{Reads, header_or_fault};
-ghost use Rattle.fm_base.specs.Spelling.{HeaderOf};
+ghost use Rattle.nc_model.specs.Reading as spec;
+ghost use Rattle.nc_model.specs.Reading.{Reads, header_or_fault};
+ghost use Rattle.nc_model.specs.Spelling.{HeaderOf};
 ghost use Rattle.fm_base.specs.Answer.{Answers, IsReadAs, OnFault};
 ghost use Rattle.nc_header.specs.NoHeader.{HasNoHeader};
 
@@ -10,10 +10,11 @@ use crate::attrs::read_attr_list;
 use crate::dims::read_dim_list;
 use crate::reader::Reader;
 use crate::vars::read_var_list;
-use fm_base::{Fail, Header, HeaderFault};
+use fm_base::Fail;
+use nc_model::{Header, HeaderFault};
 use std::alloc::Global;
 
-#[tactic(auto, unfolding(fm_base::specs::Reading::header_at))]
+#[tactic(auto, unfolding(nc_model::specs::Reading::header_at))]
 fn read_fields(alloc: Global, reader: &mut Reader<'_>) -> Result<Header, Fail<HeaderFault>>
     ensures { Reads (λ header. header) (spec.header_at reader.old) result reader.new }
 {
@@ -32,10 +33,10 @@ fn read_fields(alloc: Global, reader: &mut Reader<'_>) -> Result<Header, Fail<He
 }
 
 /// The header that a file in the netCDF classic format begins with (CDF-1 or CDF-2), or its first fault in the order
-/// of the fields in the file, with the place of the field at fault.
+/// of the fields in the file, with the offset of the field at fault.
 ///
 /// A count in the file takes no memory by itself: each list grows as its items are read.
-#[tactic(auto, using(fm_base::proofs::HeaderLaws::header_laws), unfolding(fm_base::specs::Reading::header_or_fault))]
+#[tactic(auto, using(nc_model::proofs::HeaderLaws::header_laws), unfolding(nc_model::specs::Reading::header_or_fault))]
 pub fn read_header(alloc: Global, bytes: &[u8]) -> Result<Header, Fail<HeaderFault>>
     ensures exact { Answers (header_or_fault bytes.now) result }
 

@@ -1,4 +1,4 @@
-//! The header of a netCDF classic file, read from bytes of any kind: a header, or the first fault with its place.
+//! The header of a netCDF classic file, read from bytes of any kind: a header, or the first fault with its offset.
 #![tactic(auto)]
 
 mod attrs;
@@ -10,6 +10,7 @@ mod names;
 mod reader;
 mod vars;
 
-pub use fm_base::{Fail, Header, HeaderFault};
+pub use fm_base::Fail;
 pub use header::read_header;
 pub use laws::a_fault_is_settled_by_its_field;
+pub use nc_model::{Header, HeaderFault};

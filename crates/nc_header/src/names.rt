@@ -2,13 +2,14 @@
 ghost use Rattle.std.specs.Prelude.{◌≡◌, map};
 ghost use Rattle.std.specs.Str.{is_utf8};
 ghost use Rattle.std.specs.List.{list_any};
-ghost use Rattle.fm_base.specs.Format.{is_barred, is_name_text};
-ghost use Rattle.fm_base.specs.Reading as spec;
-ghost use Rattle.fm_base.specs.Reading.{Reads};
+ghost use Rattle.nc_model.specs.Format.{is_barred, is_name_text};
+ghost use Rattle.nc_model.specs.Reading as spec;
+ghost use Rattle.nc_model.specs.Reading.{Reads};
 
 use crate::found::{Found, Named};
 use crate::reader::Reader;
-use fm_base::{Fail, HeaderFault};
+use fm_base::Fail;
+use nc_model::HeaderFault;
 
 #[tactic(auto, using(crate::proofs::NameLemmas::utf8_laws))]
 fn is_utf8(text: &[u8]) -> bool
@@ -24,7 +25,7 @@ fn has_barred(text: &[u8]) -> bool
 }
 
 // Whether a text may be a name: UTF-8, not empty, without a zero byte and without a slash.
-#[tactic(auto, unfolding(fm_base::specs::Format::is_name_text))]
+#[tactic(auto, unfolding(nc_model::specs::Format::is_name_text))]
 fn is_name(text: &[u8]) -> bool
     ensures { result ≡ is_name_text text.now }
 {
@@ -32,7 +33,7 @@ fn is_name(text: &[u8]) -> bool
 }
 
 // Reads a name that none of the items has.
-#[tactic(auto, unfolding(fm_base::specs::Reading::name_at))]
+#[tactic(auto, unfolding(nc_model::specs::Reading::name_at))]
 pub(crate) fn read_name<'a, T: Named>(
     reader: &mut Reader<'a>,
     found: &Found<'_, T>,

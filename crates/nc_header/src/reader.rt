@@ -1,13 +1,14 @@
-//! A reader over bytes that knows its place, and the fields that are one number.
+//! A reader over bytes that knows its offset, and the fields that are one number.
 ghost use Rattle.std.specs.Prelude.{◌≡◌, ◌+◌, ◌<◌, ◌^◌, length};
 ghost use Rattle.fm_base.specs.Input.{whole};
-ghost use Rattle.fm_base.specs.Reading as spec;
-ghost use Rattle.fm_base.specs.Reading.{Reads};
+ghost use Rattle.nc_model.specs.Reading as spec;
+ghost use Rattle.nc_model.specs.Reading.{Reads};
 
-use fm_base::{Fail, HeaderFault, Kind};
+use fm_base::Fail;
+use nc_model::{HeaderFault, Kind};
 use std::marker::Model;
 
-// The bytes that are left, and the place of the first in the whole.
+// The bytes that are left, and the offset of the first in the whole.
 #[derive(Drop)]
 pub(crate) struct Reader<'a> {
     at: u64,
@@ -63,7 +64,7 @@ impl<'a> Reader<'a> {
     }
 
     /// Takes `len` bytes with padding to a multiple of four, which are one field.
-    #[tactic(auto, unfolding(fm_base::specs::Reading::padded))]
+    #[tactic(auto, unfolding(nc_model::specs::Reading::padded))]
     pub fn padded(&mut self, len: u64) -> Result<&'a [u8], Fail<HeaderFault>>
         requires { len < 2 ^ 62 }
         ensures { Reads (λ bytes. bytes.now) (spec.padded len self.old) result self.new }
@@ -74,7 +75,7 @@ impl<'a> Reader<'a> {
     }
 
     /// Takes a number of four bytes.
-    #[tactic(auto, unfolding(fm_base::specs::Reading::word))]
+    #[tactic(auto, unfolding(nc_model::specs::Reading::word))]
     pub fn word(&mut self) -> Result<u32, Fail<HeaderFault>>
         ensures { Reads (λ n. n) (spec.word self.old) result self.new }
     {
@@ -83,7 +84,7 @@ impl<'a> Reader<'a> {
     }
 
     /// Takes a number of eight bytes.
-    #[tactic(auto, unfolding(fm_base::specs::Reading::long_word))]
+    #[tactic(auto, unfolding(nc_model::specs::Reading::long_word))]
     pub fn long_word(&mut self) -> Result<u64, Fail<HeaderFault>>
         ensures { Reads (λ n. n) (spec.long_word self.old) result self.new }
     {
@@ -94,7 +95,7 @@ impl<'a> Reader<'a> {
     }
 
     /// Takes a count, which is below 2^31.
-    #[tactic(auto, unfolding(fm_base::specs::Reading::count))]
+    #[tactic(auto, unfolding(nc_model::specs::Reading::count))]
     pub fn count(&mut self) -> Result<u32, Fail<HeaderFault>>
         ensures { Reads (λ n. n) (spec.count self.old) result self.new }
     {
@@ -107,7 +108,7 @@ impl<'a> Reader<'a> {
     }
 
     /// Takes `CDF` and the version.
-    #[tactic(auto, unfolding(fm_base::specs::Reading::version_at))]
+    #[tactic(auto, unfolding(nc_model::specs::Reading::version_at))]
     pub fn version(&mut self) -> Result<u8, Fail<HeaderFault>>
         ensures { Reads (λ n. n) (spec.version_at self.old) result self.new }
     {
@@ -125,7 +126,7 @@ impl<'a> Reader<'a> {
     }
 
     /// Takes the number of records, which is known.
-    #[tactic(auto, unfolding(fm_base::specs::Reading::numrecs_at))]
+    #[tactic(auto, unfolding(nc_model::specs::Reading::numrecs_at))]
     pub fn numrecs(&mut self) -> Result<u32, Fail<HeaderFault>>
         ensures { Reads (λ n. n) (spec.numrecs_at self.old) result self.new }
     {
@@ -141,7 +142,7 @@ impl<'a> Reader<'a> {
     }
 
     /// Takes the tag of a list, or 0 where the list is left out.
-    #[tactic(auto, unfolding(fm_base::specs::Reading::tag_at))]
+    #[tactic(auto, unfolding(nc_model::specs::Reading::tag_at))]
     pub fn tag(&mut self, tag: u32) -> Result<u32, Fail<HeaderFault>>
         ensures { Reads (λ n. n) (spec.tag_at tag self.old) result self.new }
     {
@@ -154,7 +155,7 @@ impl<'a> Reader<'a> {
     }
 
     /// Takes the number of items of a list with this tag, which is 0 where the list is left out.
-    #[tactic(auto, unfolding(fm_base::specs::Reading::list_count))]
+    #[tactic(auto, unfolding(nc_model::specs::Reading::list_count))]
     pub fn list_count(&mut self, tag: u32) -> Result<u32, Fail<HeaderFault>>
         ensures { Reads (λ n. n) (spec.list_count tag self.old) result self.new }
     {
@@ -167,7 +168,7 @@ impl<'a> Reader<'a> {
     }
 
     /// Takes the number of a kind.
-    #[tactic(auto, unfolding(fm_base::specs::Reading::kind_at))]
+    #[tactic(auto, unfolding(nc_model::specs::Reading::kind_at))]
     pub fn kind(&mut self) -> Result<Kind, Fail<HeaderFault>>
         ensures { Reads (λ kind. kind) (spec.kind_at self.old) result self.new }
     {
@@ -177,7 +178,7 @@ impl<'a> Reader<'a> {
     }
 
     /// Takes the rank of a variable.
-    #[tactic(auto, unfolding(fm_base::specs::Reading::rank_at))]
+    #[tactic(auto, unfolding(nc_model::specs::Reading::rank_at))]
     pub fn rank(&mut self) -> Result<u32, Fail<HeaderFault>>
         ensures { Reads (λ n. n) (spec.rank_at self.old) result self.new }
     {
@@ -189,8 +190,8 @@ impl<'a> Reader<'a> {
         Ok(rank)
     }
 
-    /// Takes the place of a variable's data: four bytes in version 1, eight in version 2.
-    #[tactic(auto, unfolding(fm_base::specs::Reading::begin_at))]
+    /// Takes the offset of a variable's data: four bytes in version 1, eight in version 2.
+    #[tactic(auto, unfolding(nc_model::specs::Reading::begin_at))]
     pub fn begin(&mut self, version: u8) -> Result<u64, Fail<HeaderFault>>
         ensures { Reads (λ n. n) (spec.begin_at version self.old) result self.new }
     {

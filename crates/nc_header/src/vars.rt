@@ -1,21 +1,22 @@
 //! The list of the variables.
 ghost use Rattle.std.specs.Prelude.{◌≡◌, []};
-ghost use Rattle.fm_base.specs.Format.{VARIABLE_TAG};
-ghost use Rattle.fm_base.specs.Reading as spec;
-ghost use Rattle.fm_base.specs.Reading.{Reads};
+ghost use Rattle.nc_model.specs.Format.{VARIABLE_TAG};
+ghost use Rattle.nc_model.specs.Reading as spec;
+ghost use Rattle.nc_model.specs.Reading.{Reads};
 ghost use Rattle.nc_header.specs.Turns.{one_more};
 
 use crate::attrs::read_attr_list;
 use crate::found::Found;
 use crate::names::read_name;
 use crate::reader::Reader;
-use fm_base::{Bytes, Dim, Fail, HeaderFault, List, NcVar};
+use fm_base::{Bytes, Fail, List};
+use nc_model::{Dim, HeaderFault, NcVar};
 use std::alloc::Global;
 
 // The tag of the list.
 const TAG: u32 = 11;
 
-#[tactic(auto, unfolding(fm_base::specs::Reading::dim_id_at, fm_base::specs::Reading::names_record_dim))]
+#[tactic(auto, unfolding(nc_model::specs::Reading::dim_id_at, nc_model::specs::Reading::names_record_dim))]
 fn read_dim_id(
     reader: &mut Reader<'_>,
     dims: &[Dim],
@@ -52,7 +53,7 @@ fn read_dim_ids(
     Ok(found)
 }
 
-#[tactic(auto, unfolding(fm_base::specs::Reading::var_at, crate::specs::Turns::one_more))]
+#[tactic(auto, unfolding(nc_model::specs::Reading::var_at, crate::specs::Turns::one_more))]
 fn read_var<'a>(
     alloc: Global,
     reader: &mut Reader<'a>,
@@ -100,7 +101,7 @@ fn read_vars(
 }
 
 // Reads the list of the variables of a file with these dimensions.
-#[tactic(auto, unfolding(fm_base::specs::Reading::list_at))]
+#[tactic(auto, unfolding(nc_model::specs::Reading::list_at))]
 pub(crate) fn read_var_list(
     alloc: Global,
     reader: &mut Reader<'_>,

@@ -4,10 +4,10 @@ use Rattle.std.specs.List.{slice_get, filter}
 use Rattle.std.proofs.lemmas.Bool.{cases_eq, cases_order, cond_both}
 use Rattle.std.proofs.lemmas.List.Sums.{sum_by-cons}
 use Rattle.std.proofs.lemmas.Nat.{mul-le}
-use Rattle.fm_base.specs.declared.header.Header.{Header}
-use Rattle.fm_base.specs.declared.header.NcVar.{NcVar}
-use Rattle.fm_base.specs.Kind.{size_of}
-use Rattle.fm_base.specs.Layout.{rank_in, is_record_var, shape_of, fixed_shape, vsize, record_vars, record_size, place_of, IsIndex}
+use Rattle.nc_model.specs.declared.header.Header.{Header}
+use Rattle.nc_model.specs.declared.header.NcVar.{NcVar}
+use Rattle.nc_model.specs.Kind.{size_of}
+use Rattle.nc_model.specs.Layout.{rank_in, is_record_var, shape_of, fixed_shape, vsize, record_vars, record_size, place_of, IsIndex}
 use Rattle.nc_layout.specs.Kept.{part_of, index_in_part}
 use Rattle.nc_layout.specs.Meaning.{AreApart}
 use Rattle.nc_layout.specs.Places.{part_begin, part_count}

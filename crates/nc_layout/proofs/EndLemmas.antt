@@ -4,15 +4,15 @@ use Rattle.std.specs.List.{slice_index}
 use Rattle.std.proofs.Math.Nat.{le-mul_of_pos_right}
 use Rattle.std.proofs.lemmas.Bool.{ne_eqb}
 use Rattle.std.proofs.lemmas.Nat.{mul-le}
-use Rattle.fm_base.specs.declared.header.Header.{Header}
-use Rattle.fm_base.specs.declared.header.NcVar.{NcVar}
-use Rattle.fm_base.specs.Kind.{size_of}
-use Rattle.fm_base.specs.Layout.{product, rank_in, is_record_var, shape_of, fixed_shape, vsize, record_size, place_of, last_index, end_of, has_elements, IsIndex}
+use Rattle.nc_model.specs.declared.header.Header.{Header}
+use Rattle.nc_model.specs.declared.header.NcVar.{NcVar}
+use Rattle.nc_model.specs.Kind.{size_of}
+use Rattle.nc_model.specs.Layout.{product, rank_in, is_record_var, shape_of, fixed_shape, vsize, record_size, place_of, last_index, end_of, has_elements, IsIndex}
 use Rattle.nc_layout.specs.Kept.{HasLengths, end_if_any, part_of, index_in_part}
 use Rattle.nc_layout.specs.Places.{part_begin, part_count}
 use Rattle.nc_layout.proofs.HeaderLemmas.{shape_of-fixed, shape_of-record, place_of-part, index-part}
 use Rattle.nc_layout.proofs.ProductLemmas.{product-pos}
-use Rattle.fm_base.proofs.EndLaws.{rank_in-last, rank_in-lt, place_of-le-end_of}
+use Rattle.nc_model.proofs.EndLaws.{rank_in-last, rank_in-lt, place_of-le-end_of}
 
 times_last : (size rank whole : ℕ) → rank + 1 ≡ whole → size * rank + size ≡ size * whole
 times_last size rank whole e = rw (← e) (omega arith)

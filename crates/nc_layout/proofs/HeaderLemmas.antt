@@ -6,14 +6,14 @@ use Rattle.std.proofs.lemmas.Option.{slice_get_cases}
 use Rattle.std.proofs.lemmas.Bool.{eqb-false}
 use Rattle.std.proofs.lemmas.List.{drop-map}
 use Rattle.std.proofs.lemmas.List.Elements.{All-nil, All-cons, All-weaker, All-from_recursion}
-use Rattle.fm_base.specs.declared.header.Dim.{Dim}
-use Rattle.fm_base.specs.declared.header.Header.{Header}
-use Rattle.fm_base.specs.declared.header.NcVar.{NcVar}
-use Rattle.fm_base.specs.Format.{is_record_dim}
-use Rattle.fm_base.specs.Kind.{size_of}
-use Rattle.fm_base.specs.Layout.{size_in, size_at, is_record_var, shape_of, fixed_shape, record_size, rank_in, place_of, IsIndex}
-use Rattle.fm_base.specs.Reading.{names_record_dim}
-use Rattle.fm_base.specs.Spelling.{IsSoundVar, NamesNoRecord}
+use Rattle.nc_model.specs.declared.header.Dim.{Dim}
+use Rattle.nc_model.specs.declared.header.Header.{Header}
+use Rattle.nc_model.specs.declared.header.NcVar.{NcVar}
+use Rattle.nc_model.specs.Format.{is_record_dim}
+use Rattle.nc_model.specs.Kind.{size_of}
+use Rattle.nc_model.specs.Layout.{size_in, size_at, is_record_var, shape_of, fixed_shape, record_size, rank_in, place_of, IsIndex}
+use Rattle.nc_model.specs.Reading.{names_record_dim}
+use Rattle.nc_model.specs.Spelling.{IsSoundVar, NamesNoRecord}
 use Rattle.nc_layout.specs.Faults.{CanLayOut}
 use Rattle.nc_layout.specs.Kept.{HasLengths, part_of, index_in_part}
 use Rattle.nc_layout.specs.Places.{part_begin, part_count}

@@ -2,10 +2,10 @@
 use Rattle.std.proofs.Common.{◌≡◌, ℕ, List, Option, None, Some, Ok, Err, refl}
 use Rattle.fm_base.specs.declared.fail.Fail.{Fail}
 use Rattle.fm_base.specs.declared.fail.Fail.TheVariants as fails
-use Rattle.fm_base.specs.declared.fault.LayoutFault.{LayoutFault}
-use Rattle.fm_base.specs.declared.header.Header.{Header}
+use Rattle.nc_model.specs.declared.fault.LayoutFault.{LayoutFault}
+use Rattle.nc_model.specs.declared.header.Header.{Header}
 use Rattle.fm_base.specs.Answer.{Answers}
-use Rattle.fm_base.specs.Layout.{first_too_large, first_outside, layout_fault}
+use Rattle.nc_model.specs.Layout.{first_too_large, first_outside, layout_fault}
 use Rattle.nc_layout.specs.Faults.{fault_or, layout_or_fault}
 use Rattle.nc_layout.specs.Kept.{vsizes_of}
 use Rattle.nc_layout.specs.Places.{LaidOut}

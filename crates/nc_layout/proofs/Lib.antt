@@ -1,4 +1,5 @@
 pub mod ApartLaws
+pub mod Computing
 pub mod EndLemmas
 pub mod HeaderLemmas
 pub mod LayingLemmas

@@ -7,8 +7,8 @@ use Rattle.std.proofs.lemmas.List.FromFn.{length-range_with_len, get_or-range_wi
 use Rattle.std.proofs.lemmas.Option.{slice_get-get_or}
 use Rattle.std.proofs.lemmas.Bool.{cases_order}
 use Rattle.std.proofs.lemmas.Nat.{mul-le}
-use Rattle.fm_base.specs.Layout.{product, rank_in, indices_of, IsIndex}
-use Rattle.fm_base.proofs.EndLaws.{rank_in-lt}
+use Rattle.nc_model.specs.Layout.{product, rank_in, indices_of, IsIndex}
+use Rattle.nc_model.proofs.EndLaws.{rank_in-lt}
 
 -- a range is cut in two
 pub range-append : (a n m : ℕ) → range_with_len a n ++ range_with_len (a + n) m ≡ range_with_len a (n + m)
@@ -31,6 +31,7 @@ map-flat_map : {A B C : Type 0} (f : B → C) (g : A → List B) (xs : List A)
 map-flat_map f g [] = refl
 map-flat_map f g (x ∷ xs) = map-append f (g x) (flat_map g xs) ∙ ap (λ ys. map f (g x) ++ ys) (map-flat_map f g xs)
 
+-- two functions with the same lists have the same lists in a row
 pub flat_map_all : {A B : Type 0} (f g : A → List B) → ((x : A) → f x ≡ g x) → (xs : List A)
     → flat_map f xs ≡ flat_map g xs
 flat_map_all f g same [] = refl

@@ -3,11 +3,11 @@ use Rattle.std.proofs.Common.{◌≡◌, ℕ, ◌+◌, ◌*◌, ◌^◌, ◌<◌
 use Rattle.std.specs.List.{slice_get}
 use Rattle.std.proofs.lemmas.List.Elements.{All-get_or}
 use Rattle.std.proofs.lemmas.Option.{MatchOption-at_none, slice_get_within, get_or_from_slice_get}
-use Rattle.fm_base.specs.declared.header.Header.{Header}
-use Rattle.fm_base.specs.declared.header.NcVar.{NcVar}
-use Rattle.fm_base.specs.declared.kind.Kind.{Kind}
-use Rattle.fm_base.specs.Kind.{size_of}
-use Rattle.fm_base.specs.Layout.{product, fixed_shape, vsize, record_size}
+use Rattle.nc_model.specs.declared.header.Header.{Header}
+use Rattle.nc_model.specs.declared.header.NcVar.{NcVar}
+use Rattle.nc_model.specs.declared.kind.Kind.{Kind}
+use Rattle.nc_model.specs.Kind.{size_of}
+use Rattle.nc_model.specs.Layout.{product, fixed_shape, vsize, record_size}
 use Rattle.nc_layout.specs.Kept.{HasLengths, IsWithin, IsLaidOut}
 use Rattle.nc_layout.specs.Meaning.{IsInside, IsSmall, EndsWithin, Says}
 use Rattle.nc_layout.specs.Places.{part_count}

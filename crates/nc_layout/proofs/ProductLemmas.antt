@@ -4,8 +4,9 @@ use Rattle.std.proofs.Math.Nat.{mul_assoc, le-mul_of_pos_right}
 use Rattle.std.proofs.lemmas.List.{drop_more, drop_all, drop-map}
 use Rattle.std.proofs.lemmas.List.Elements.{All-head, All-tail, All-drop}
 use Rattle.std.proofs.lemmas.Nat.{mul-le}
-use Rattle.fm_base.specs.Layout.{product}
+use Rattle.nc_model.specs.Layout.{product}
 
+-- numbers that are not 0 have a product that is not 0
 pub product-pos : (ns : List ℕ) → All (λ n. 1 ≤ n) ns → 1 ≤ product ns
 unfolding product
 product-pos [] all = omega arith

@@ -4,8 +4,8 @@ use Rattle.std.proofs.Math.Nat.{mul_comm, le-mul_of_pos_right}
 use Rattle.std.proofs.lemmas.Nat.{mul-add-lt}
 use Rattle.std.proofs.lemmas.List.{drop_more, drop_all, drop-map, length-map}
 use Rattle.std.proofs.lemmas.List.Elements.{All-nil, All-cons, All-drop, All-head, All-tail}
-use Rattle.fm_base.specs.Layout.{product, rank_in, IsIndex}
-use Rattle.fm_base.proofs.EndLaws.{rank_in-lt}
+use Rattle.nc_model.specs.Layout.{product, rank_in, IsIndex}
+use Rattle.nc_model.proofs.EndLaws.{rank_in-lt}
 use Rattle.nc_layout.proofs.ProductLemmas.{product-pos}
 
 -- an index list has one index for each length

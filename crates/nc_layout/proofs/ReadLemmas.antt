@@ -1,11 +1,11 @@
 -- For callers: a header that was read can be laid out, and what it says of a variable holds of the layout.
 use Rattle.std.proofs.Common.{◌≡◌, ℕ, ◌^◌, ◌<◌, List, length, Some, None, Ok, Err, inl, inr, ap, arith}
 use Rattle.std.specs.List.{slice_get}
-use Rattle.fm_base.specs.declared.fault.LayoutFault.{LayoutFault}
-use Rattle.fm_base.specs.declared.header.Header.{Header}
-use Rattle.fm_base.specs.declared.header.NcVar.{NcVar}
-use Rattle.fm_base.specs.Spelling.{HeaderOf, SpellsList}
-use Rattle.fm_base.specs.Layout.{shape_of, layout_fault, IsIndex}
+use Rattle.nc_model.specs.declared.fault.LayoutFault.{LayoutFault}
+use Rattle.nc_model.specs.declared.header.Header.{Header}
+use Rattle.nc_model.specs.declared.header.NcVar.{NcVar}
+use Rattle.nc_model.specs.Spelling.{HeaderOf, SpellsList}
+use Rattle.nc_model.specs.Layout.{shape_of, layout_fault, IsIndex}
 use Rattle.nc_layout.specs.Faults.{CanLayOut, layout_or_fault}
 use Rattle.nc_layout.specs.Places.{LaidOut, IsVar, HasElement, HasDim, HasPart, part_count}
 use Rattle.nc_layout.proofs.LayingLemmas.{fault_or-none, fault_or-some}

@@ -1,13 +1,13 @@
 -- Headers of small files.
 use Rattle.std.specs.Prelude.{ℕ, List, [], ◌∷◌, ◌++◌, map, codes}
-use Rattle.fm_base.specs.declared.header.Attr.{Attr}
-use Rattle.fm_base.specs.declared.header.Dim.{Dim}
-use Rattle.fm_base.specs.declared.header.Header.{Header}
-use Rattle.fm_base.specs.declared.header.NcVar.{NcVar}
-use Rattle.fm_base.specs.declared.kind.Kind.TheVariants.{Char, Float, Int, Short}
-use Rattle.fm_base.specs.Layout.{shape_of, place_of, indices_of}
+use Rattle.nc_model.specs.declared.header.Attr.{Attr}
+use Rattle.nc_model.specs.declared.header.Dim.{Dim}
+use Rattle.nc_model.specs.declared.header.Header.{Header}
+use Rattle.nc_model.specs.declared.header.NcVar.{NcVar}
+use Rattle.nc_model.specs.declared.kind.Kind.TheVariants.{Char, Float, Int, Short}
+use Rattle.nc_model.specs.Layout.{shape_of, place_of, indices_of}
 
--- the places of all elements of a variable, in row-major order
+-- the offsets of all elements of a variable, in row-major order
 abbrev pub places_of : Header → NcVar → List ℕ
 places_of header var = map (place_of header var) (indices_of (shape_of header var))
 
@@ -31,7 +31,7 @@ two_shorts = three_records (short_at 100 ∷ short_at 104 ∷ [])
 abbrev pub no_record : Header
 no_record = record one_short { numrecs = 0 }
 
--- the records and the places of a grid, with so many latitudes and longitudes
+-- the records and the points of a grid, with this many latitudes and longitudes
 abbrev pub grid_dims : ℕ → ℕ → List Dim
 grid_dims lats lons = record { name = codes "time"; size = 0 } ∷ record { name = codes "lat"; size = lats }
     ∷ record { name = codes "lon"; size = lons } ∷ []
@@ -48,12 +48,12 @@ time_var = record { name = codes "time"; dims = 0 ∷ []; attrs = units_attr ∷
 abbrev pub float_var : List ℕ → List ℕ → ℕ → NcVar
 float_var name dims begin = record { name = name; dims = dims; attrs = []; kind = Float; begin = begin }
 
--- the times, the places of a grid from these dimensions and bytes, and a field from this byte
+-- the times, the points of a grid from these dimensions and bytes, and a field from this byte
 abbrev pub grid_vars : List ℕ → List ℕ → ℕ → List NcVar
 grid_vars lats lons field = time_var ∷ float_var (codes "lat") lats 276 ∷ float_var (codes "lon") lons 284
     ∷ float_var (codes "t") (0 ∷ 1 ∷ 2 ∷ []) field ∷ []
 
--- a file of 352 bytes: three times on a grid of two by two places
+-- a file of 352 bytes: three times on a grid of two by two points
 abbrev pub sample : Header
 sample = record {
   version = 1;

@@ -1,9 +1,9 @@
 -- What a header has to be to be laid out, and how that ends.
 use Rattle.std.specs.Prelude.{ℕ, ◌^◌, ◌<◌, length, Option, Some, None, Result, Ok, Err}
-use Rattle.fm_base.specs.declared.fault.LayoutFault.{LayoutFault}
-use Rattle.fm_base.specs.declared.header.Header.{Header}
-use Rattle.fm_base.specs.Layout.{layout_fault}
-use Rattle.fm_base.specs.Spelling.{IsSound}
+use Rattle.nc_model.specs.declared.fault.LayoutFault.{LayoutFault}
+use Rattle.nc_model.specs.declared.header.Header.{Header}
+use Rattle.nc_model.specs.Layout.{layout_fault}
+use Rattle.nc_model.specs.Spelling.{IsSound}
 use Rattle.nc_layout.specs.Places.{LaidOut}
 
 -- what a reader of headers ensures: the header is sound, and its variables can be numbered with four bytes
@@ -16,6 +16,6 @@ abbrev pub fault_or : {A : Type 0} → Option LayoutFault → A → Result A Lay
 fault_or None value = Ok value
 fault_or (Some fault) value = Err fault
 
--- a header laid out over this length, or what is wrong with where its elements lie
+-- a header laid out over this length, or the first fault of where its elements lie
 unfoldable pub layout_or_fault : Header → ℕ → Result LaidOut LayoutFault
 layout_or_fault header len = fault_or (layout_fault header len) (record { header = header; len = len })

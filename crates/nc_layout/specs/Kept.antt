@@ -1,8 +1,8 @@
 -- What a layout keeps beside its header and its length, and what holds of its variables.
 use Rattle.std.specs.Prelude.{◌≡◌, ℕ, ◌≤◌, List, map, drop, slice_index, All, Option, Some, None, if◌then◌else◌}
-use Rattle.fm_base.specs.declared.header.Header.{Header}
-use Rattle.fm_base.specs.declared.header.NcVar.{NcVar}
-use Rattle.fm_base.specs.Layout.{is_record_var, fixed_shape, vsize, record_size, has_elements, end_of, layout_fault}
+use Rattle.nc_model.specs.declared.header.Header.{Header}
+use Rattle.nc_model.specs.declared.header.NcVar.{NcVar}
+use Rattle.nc_model.specs.Layout.{is_record_var, fixed_shape, vsize, record_size, has_elements, end_of, layout_fault}
 use Rattle.nc_layout.specs.Faults.{CanLayOut}
 use Rattle.nc_layout.specs.Meaning.{IsSmall, EndsWithin}
 

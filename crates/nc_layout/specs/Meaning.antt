@@ -1,10 +1,10 @@
 -- What a fault of a layout says of the header's variables.
 use Rattle.std.specs.Prelude.{◌+◌, ◌⊎◌, ◌≡◌, ℕ, ◌^◌, ◌<◌, ◌≤◌, take, All, true, Some, slice_get}
-use Rattle.fm_base.specs.declared.fault.LayoutFault.{LayoutFault}
-use Rattle.fm_base.specs.declared.fault.LayoutFault.TheVariants.{TooLarge, DataOutside}
-use Rattle.fm_base.specs.declared.header.Header.{Header}
-use Rattle.fm_base.specs.declared.header.NcVar.{NcVar}
-use Rattle.fm_base.specs.Layout.{vsize, has_elements, end_of}
+use Rattle.nc_model.specs.declared.fault.LayoutFault.{LayoutFault}
+use Rattle.nc_model.specs.declared.fault.LayoutFault.TheVariants.{TooLarge, DataOutside}
+use Rattle.nc_model.specs.declared.header.Header.{Header}
+use Rattle.nc_model.specs.declared.header.NcVar.{NcVar}
+use Rattle.nc_model.specs.Layout.{vsize, has_elements, end_of}
 
 -- the variable takes 2^40 bytes at most in one record, or in all where it has no records
 abbrev pub IsSmall : Header → NcVar → Type 0
@@ -42,6 +42,6 @@ abbrev pub Says : Header → ℕ → LayoutFault → Type 0
 Says header len (TooLarge number) = IsFirstTooLarge header number
 Says header len (DataOutside number end length) = IsFirstOutside header len number end × (length ≡ len)
 
--- n bytes at one of these places and n bytes at the other have none in common
+-- `size` bytes at one of these offsets and `size` bytes at the other have none in common
 abbrev pub AreApart : ℕ → ℕ → ℕ → Type 0
 AreApart size place other = (place + size ≤ other) ⊎ (other + size ≤ place)

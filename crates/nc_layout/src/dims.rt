@@ -1,10 +1,10 @@
 //! The dimensions of a header's variables.
 ghost use Rattle.std.specs.Prelude.{◌≡◌, map};
-ghost use Rattle.fm_base.specs.Layout.{size_at, is_record_var, fixed_shape};
-ghost use Rattle.fm_base.specs.Reading.{names_record_dim};
+ghost use Rattle.nc_model.specs.Layout.{size_at, is_record_var, fixed_shape};
+ghost use Rattle.nc_model.specs.Reading.{names_record_dim};
 ghost use Rattle.nc_layout.specs.Places.{part_count};
 
-use fm_base::{Dim, Header, NcVar};
+use nc_model::{Dim, Header, NcVar};
 
 /// The length of the dimension of this number. That of the records is their number.
 pub fn size_at(header: &Header, id: u32) -> u64
@@ -18,7 +18,7 @@ pub fn size_at(header: &Header, id: u32) -> u64
 }
 
 /// Whether this is the number of the record dimension.
-#[tactic(auto, unfolding(fm_base::specs::Reading::names_record_dim))]
+#[tactic(auto, unfolding(nc_model::specs::Reading::names_record_dim))]
 pub fn names_record_dim(dims: &[Dim], id: u32) -> bool
     ensures { result ≡ names_record_dim dims.now id }
 {
@@ -49,7 +49,7 @@ pub(crate) fn fixed_dims<'a>(header: &Header, var: &'a NcVar) -> &'a [u32]
     }
 }
 
-// In how many parts a variable's elements lie: one in each record, or one where it has no records.
+// The number of parts in which a variable's elements lie: one for each record, or one where it has no records.
 pub(crate) fn part_count_of(header: &Header, var: &NcVar) -> u32
     ensures { result ≡ part_count header.now var.now }
 {

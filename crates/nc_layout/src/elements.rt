@@ -1,13 +1,13 @@
 //! Where one element and one part of a variable lie.
 ghost use Rattle.std.specs.Prelude.{◌≡◌, ◌+◌, ◌*◌, ◌<◌, ◌≤◌, ◌^◌, map};
-ghost use Rattle.fm_base.specs.Kind.{size_of};
-ghost use Rattle.fm_base.specs.Layout.{size_at, shape_of, fixed_shape, product, rank_in, vsize, record_size, place_of, IsIndex};
+ghost use Rattle.nc_model.specs.Kind.{size_of};
+ghost use Rattle.nc_model.specs.Layout.{size_at, shape_of, fixed_shape, product, rank_in, vsize, record_size, place_of, IsIndex};
 ghost use Rattle.nc_layout.specs.Kept.{IsWithin, part_of, index_in_part};
 ghost use Rattle.nc_layout.specs.Meaning.{IsSmall};
 ghost use Rattle.nc_layout.specs.Places.{part_begin, part_count};
 
 use crate::dims::{fixed_dims, is_record_var, size_at};
-use fm_base::{Header, NcVar};
+use nc_model::{Header, NcVar};
 
 // The number of an index list in row-major order, over these dimensions.
 #[tactic(auto, using(crate::proofs::RankLemmas::ranks))]
@@ -23,7 +23,7 @@ fn rank(header: &Header, ids: &[u32], index: &[u64]) -> u64
     rank
 }
 
-// The place in the file of the first byte of a part of a variable.
+// The offset in the file of the first byte of a part of a variable.
 #[tactic(auto, using(crate::proofs::PlaceLemmas::parts))]
 pub(crate) fn part_begin_of(header: &Header, len: u64, recsize: u128, var: &NcVar, k: u64) -> u64
     requires recsize { recsize ≡ record_size header.now }
@@ -35,7 +35,7 @@ pub(crate) fn part_begin_of(header: &Header, len: u64, recsize: u128, var: &NcVa
     (u128::from(var.begin) + u128::from(k) * recsize) as u64
 }
 
-// The place of an element in its part.
+// The offset of an element in its part.
 #[tactic(auto, using(crate::proofs::PlaceLemmas::parts))]
 fn offset(header: &Header, var: &NcVar, index: &[u64]) -> u64
     requires small { IsSmall header.now var.now }
@@ -60,7 +60,7 @@ fn split_index<'a>(header: &Header, var: &NcVar, index: &'a [u64]) -> (u64, &'a 
     }
 }
 
-// The place in the file of the first byte of an element of a variable.
+// The offset in the file of the first byte of an element of a variable.
 #[tactic(auto, using(crate::proofs::PlaceLemmas::places))]
 pub(crate) fn place_of(header: &Header, len: u64, recsize: u128, var: &NcVar, index: &[u64]) -> u64
     requires recsize { recsize ≡ record_size header.now }

@@ -1,11 +1,11 @@
 //! Where the last elements of variables end, and the first variable that has an element past the file's end.
 ghost use Rattle.std.specs.Prelude.{◌≡◌, ◌<◌, ◌^◌, All};
-ghost use Rattle.fm_base.specs.Layout.{vsize, record_size, first_outside};
+ghost use Rattle.nc_model.specs.Layout.{vsize, record_size, first_outside};
 ghost use Rattle.nc_layout.specs.Kept.{HasLengths, vsizes_of, end_if_any};
 ghost use Rattle.nc_layout.specs.Meaning.{IsSmall};
 
 use crate::dims::part_count_of;
-use fm_base::{Header, LayoutFault, NcVar};
+use nc_model::{Header, LayoutFault, NcVar};
 
 // Where the last element of a variable ends, if it has one.
 #[tactic(auto, using(crate::proofs::EndLemmas::ends))]
@@ -25,7 +25,7 @@ fn end_of(header: &Header, recsize: u128, var: &NcVar, size: u64) -> Option<u128
 }
 
 // The first variable that has an element past this length.
-#[tactic(auto, unfolding(fm_base::specs::Layout::first_outside))]
+#[tactic(auto, unfolding(nc_model::specs::Layout::first_outside))]
 pub(crate) fn first_outside(
     header: &Header,
     len: u64,

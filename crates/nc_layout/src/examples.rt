@@ -1,9 +1,9 @@
 //! Small files, worked by the definitions.
-#![tactic(auto, unfolding(fm_base::specs::Layout::product, fm_base::specs::Layout::vsize, fm_base::specs::Layout::record_size, fm_base::specs::Layout::rank_in, fm_base::specs::Layout::place_of, fm_base::specs::Layout::indices_of, fm_base::specs::Layout::first_too_large, fm_base::specs::Layout::first_outside, fm_base::specs::Layout::layout_fault, fm_base::specs::Reading::names_record_dim))]
+#![tactic(auto, unfolding(crate::proofs::Computing::layouts))]
 
 ghost use Rattle.std.specs.Prelude.{◌≡◌, ◌<◌, ◌≤◌, [], ◌∷◌, None, Some};
-ghost use Rattle.fm_base.specs.declared.fault.LayoutFault.TheVariants.{TooLarge, DataOutside};
-ghost use Rattle.fm_base.specs.Layout.{record_size, layout_fault};
+ghost use Rattle.nc_model.specs.declared.fault.LayoutFault.TheVariants.{TooLarge, DataOutside};
+ghost use Rattle.nc_model.specs.Layout.{record_size, layout_fault};
 ghost use Rattle.nc_layout.specs.Examples.{
   places_of,
   short_at,

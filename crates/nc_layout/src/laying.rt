@@ -7,10 +7,11 @@ use crate::ends::first_outside;
 use crate::layout::Layout;
 use crate::records::record_size;
 use crate::vsizes::vsizes;
-use fm_base::{Fail, Header, LayoutFault};
+use fm_base::Fail;
+use nc_model::{Header, LayoutFault};
 use std::alloc::Global;
 
-/// Lays out a header over a file of this length, or returns what is wrong with where its elements lie: first, over all
+/// Lays out a header over a file of this length, or returns the first fault of where its elements lie: first, over all
 /// variables in order, one that takes more than 2^40 bytes in one record, and then one with an element past the end.
 ///
 /// It takes eight bytes of memory for each variable. The headers that `read_header` returns can be laid out.

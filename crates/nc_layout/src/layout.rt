@@ -1,11 +1,12 @@
 //! A layout, and what it returns.
 ghost use Rattle.std.specs.Prelude.{◌≡◌, ◌+◌, ◌<◌, ◌≤◌, None, length, slice_index};
-ghost use Rattle.fm_base.specs.Kind.{size_of};
-ghost use Rattle.fm_base.specs.Layout.{shape_of, vsize, record_size, place_of, layout_fault};
+ghost use Rattle.nc_model.specs.Kind.{size_of};
+ghost use Rattle.nc_model.specs.Layout.{shape_of, vsize, record_size, place_of, layout_fault};
 
 use crate::dims::{part_count_of, size_at};
 use crate::elements::{part_begin_of, place_of};
-use fm_base::{Header, List, NcVar};
+use fm_base::List;
+use nc_model::{Header, NcVar};
 use std::marker::Model;
 
 /// A header, and where the elements of its variables lie in a file of a known length. No element that a variable has
@@ -64,7 +65,7 @@ impl Layout {
         &self.header.vars.as_slice()[var as usize]
     }
 
-    /// The length of a dimension of a variable, by its place in the variable's shape. That of the records is their
+    /// The length of a dimension of a variable, by its index in the variable's shape. That of the records is their
     /// number.
     pub fn size(&self, var: u32, dim: u32) -> u64
         requires { HasDim self.now var dim }
@@ -74,7 +75,7 @@ impl Layout {
         size_at(&self.header, self.var(var).dims.as_slice()[dim as usize])
     }
 
-    /// The place in the file of the first byte of an element. All of its bytes lie in the file.
+    /// The offset in the file of the first byte of an element. All of its bytes lie in the file.
     pub fn place(&self, var: u32, index: &[u64]) -> u64
         requires { HasElement self.now var index.now }
         ensures exact { (v : _) → IsVar self.now var v
@@ -91,8 +92,8 @@ impl Layout {
         )
     }
 
-    /// In how many parts a variable's elements lie one after another: one in each record, or one where it has no
-    /// records.
+    /// The number of parts in which a variable's elements lie one after another: one for each record, or one where it
+    /// has no records.
     pub fn part_count(&self, var: u32) -> u32
         requires { var < length self.now.header.vars }
         ensures { (v : _) → IsVar self.now var v → result ≡ part_count self.now.header v }
@@ -100,7 +101,7 @@ impl Layout {
         part_count_of(&self.header, self.var(var))
     }
 
-    /// How many bytes a part takes, without padding.
+    /// The bytes that a part takes, without padding.
     pub fn vsize(&self, var: u32) -> u64
         requires { var < length self.now.header.vars }
         ensures { (v : _) → IsVar self.now var v → result ≡ vsize self.now.header v }
@@ -108,7 +109,7 @@ impl Layout {
         self.vsizes.as_slice()[var as usize]
     }
 
-    /// The place in the file of the first byte of a part. All of its bytes lie in the file.
+    /// The offset in the file of the first byte of a part. All of its bytes lie in the file.
     pub fn part_begin(&self, var: u32, k: u32) -> u64
         requires { HasPart self.now var k }
         ensures exact { (v : _) → IsVar self.now var v
@@ -125,7 +126,7 @@ impl Layout {
         )
     }
 
-    /// How many bytes one record takes, over all record variables.
+    /// The bytes that one record takes, over all record variables.
     pub fn recsize(&self) -> u128
         ensures { result ≡ record_size self.now.header }
     {

@@ -12,6 +12,7 @@ mod records;
 mod vsizes;
 
 pub use dims::{names_record_dim, size_at};
-pub use fm_base::{Fail, LayoutFault};
+pub use fm_base::Fail;
 pub use laying::lay_out;
 pub use layout::Layout;
+pub use nc_model::LayoutFault;

@@ -1,13 +1,13 @@
-//! How many bytes one record takes, over all record variables.
+//! The bytes that one record takes, over all record variables.
 ghost use Rattle.std.specs.Prelude.{◌≡◌, ◌<◌, ◌≤◌, ◌^◌, All, length, if◌then◌else◌, nat_lt};
-ghost use Rattle.fm_base.specs.Format.{padded_len};
-ghost use Rattle.fm_base.specs.Kind.{size_of};
-ghost use Rattle.fm_base.specs.Layout.{record_size};
+ghost use Rattle.nc_model.specs.Format.{padded_len};
+ghost use Rattle.nc_model.specs.Kind.{size_of};
+ghost use Rattle.nc_model.specs.Layout.{record_size};
 ghost use Rattle.nc_layout.specs.Kept.{vsizes_of};
 ghost use Rattle.nc_layout.specs.Meaning.{IsSmall};
 
 use crate::dims::is_record_var;
-use fm_base::{Header, Kind};
+use nc_model::{Header, Kind};
 
 fn padded_len(vsize: u64) -> u64
     requires { vsize ≤ 2 ^ 40 }
@@ -27,7 +27,7 @@ fn lone_len(kind: Kind, vsize: u64) -> u64
     }
 }
 
-// How many bytes one record takes. Each variable's part is padded to a multiple of four bytes, but where there is one
+// The bytes that one record takes. Each variable's part is padded to a multiple of four bytes, but where there is one
 // record variable alone and its kind is smaller than four bytes.
 #[tactic(auto, using(crate::proofs::RecordLemmas::records))]
 pub(crate) fn record_size(header: &Header, vsizes: &[u64]) -> u128

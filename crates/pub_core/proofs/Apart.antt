@@ -11,21 +11,21 @@ use Rattle.pub_core.specs.Apart.{concerns}
 use Rattle.pub_core.specs.Happening.{after, after_at, happens, happens_to, published, run}
 use Rattle.pub_core.specs.World.{start, SessionState, World}
 
--- ---- one place of a list
+-- ---- one index of a list
 
-get-set : {A : Type 0} (all : List A) (place : ℕ) (a b : A) → slice_get all place ≡ Some b
-    → slice_get (set all place a) place ≡ Some a
-get-set [] place a b is = absurd (cc)
+get-set : {A : Type 0} (all : List A) (index : ℕ) (a b : A) → slice_get all index ≡ Some b
+    → slice_get (set all index a) index ≡ Some a
+get-set [] index a b is = absurd (cc)
 get-set (c ∷ all) zero a b is = refl
-get-set (c ∷ all) (suc place) a b is = get-set all place a b is
+get-set (c ∷ all) (suc index) a b is = get-set all index a b is
 
-get-other : {A : Type 0} (all : List A) (place other : ℕ) (a : A) → (place ≡ other → ⊥)
-    → slice_get (set all place a) other ≡ slice_get all other
-get-other [] place other a differ = refl
+get-other : {A : Type 0} (all : List A) (index other : ℕ) (a : A) → (index ≡ other → ⊥)
+    → slice_get (set all index a) other ≡ slice_get all other
+get-other [] index other a differ = refl
 get-other (c ∷ all) zero zero a differ = absurd (differ refl)
 get-other (c ∷ all) zero (suc other) a differ = refl
-get-other (c ∷ all) (suc place) zero a differ = refl
-get-other (c ∷ all) (suc place) (suc other) a differ = get-other all place other a (λ same. differ (ap suc same))
+get-other (c ∷ all) (suc index) zero a differ = refl
+get-other (c ∷ all) (suc index) (suc other) a differ = get-other all index other a (λ same. differ (ap suc same))
 
 -- ---- an event of a session
 

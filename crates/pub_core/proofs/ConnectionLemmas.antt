@@ -11,6 +11,7 @@ use Rattle.web_session.specs.declared.action.Asked.{Asked}
 use Rattle.web_session.specs.declared.event.Event.TheVariants as step
 use Rattle.web_session.specs.Event.{after_event}
 use Rattle.web_session.specs.State.{action_of, State}
+use Rattle.web_session.proofs.StartLemmas.{start-same}
 use Rattle.dap_reply.specs.Parts.{bytes_of, Parts}
 use Rattle.pub_core.specs.declared.connection.Connection.{Connection}
 use Rattle.pub_core.specs.declared.event.Event.TheVariants.{Look, Learn, Bytes, Sent, End, Fault}
@@ -18,7 +19,7 @@ use Rattle.pub_core.specs.Happening.{after, begun, effect_of, is_possible_to}
 use Rattle.pub_core.specs.Shown.{IsShown, Shows}
 use Rattle.pub_core.specs.World.{sends, waits, SessionState}
 use Rattle.pub_core.proofs.EndSteps.{shown-ended, shown-same}
-use Rattle.pub_core.proofs.MachineLemmas.{ends-machine, fails-reading, fails-sending, start-same}
+use Rattle.pub_core.proofs.MachineLemmas.{ends-machine, fails-reading, fails-sending}
 use Rattle.pub_core.proofs.Replying.{sends-reply}
 use Rattle.pub_core.proofs.Resting.{waits-rest}
 use Rattle.pub_core.proofs.ShownLemmas.{asks-none, reading, restarted, sending-so, sends-none, shown-begun, waits-none, with_machine, Reads, Sends}
@@ -35,7 +36,7 @@ pub due-action : (c : Connection) (machine : State) (action : Action) → Starte
     → action ≡ action_of c.session
 due-action c machine action st = st.action_is ∙ ap action_of (st.machine_is ∙ start-same c.session)
 
--- what is shown by the connection is shown with the machine
+-- the view of the connection is that of the machine
 pub on-machine : (P : Connection → Type 0) (c : Connection) (machine : State) (action : Action)
     → Started c machine action → P c → P (with_machine c machine)
 on-machine P c machine action st = subst P (sym (restarted c machine st.machine_is))
@@ -82,7 +83,7 @@ feed-misfit proto log c s number room piece machine action st is misfit shown =
     (subst (IsShown proto log c) (sym (feed-unfit number piece r.rests r.none
     (ap (λ (n : ℕ). ltb 0 (length piece) && leb (length piece) n) (sym r.room_is) ∙ misfit))) shown)
 
--- what is shown before a refusal that is due is begun
+-- the view before a refusal that is due is begun
 pub feed-fit : (proto : Proto) (log : List Op) (c : Connection) (s : SessionState) (room : ℕ) (piece : Bor (List ℕ))
     (machine : State) (action : Action) (after_it : State) → Started c machine action → action ≡ Read room
     → length piece.now ≤ room → after_it ≡ after_event machine (step.Bytes piece) → IsShown proto log c s
@@ -137,7 +138,7 @@ send-misfit proto log c s number count from reply machine action st is plan misf
     some-same : {A : Type 0} {a b : A} → Some a ≡ Some b → a ≡ b
     some-same is = cc
 
--- what is shown before a refusal that is due is begun
+-- the view before a refusal that is due is begun
 pub send-fit : (proto : Proto) (log : List Op) (c now : Connection) (s : SessionState) (number count from : ℕ)
     (reply : Parts) (machine : State) (action : Action) → Started c machine action → action ≡ Send from
     → c.plan ≡ Some reply → 0 < count → count ≤ length (bytes_of reply) - from

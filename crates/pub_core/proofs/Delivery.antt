@@ -1,4 +1,4 @@
--- What a session was sent, once bytes of a reply were sent.
+-- The bytes that a session was sent, once bytes of a reply were sent.
 use Rattle.std.proofs.Common.{◌≡◌, ◌≤◌, ◌<◌, zero, suc, ℕ, ◌+◌, Bool, true, false, cond, ltb, List, [], ◌∷◌, ◌++◌, length, take, Option, Some, None, refl, sym, ap, ap₂, ◌∙◌, arith}
 use Rattle.std.proofs.lemmas.Bool.{lt-ltb, ltb-true, ltb-false}
 use Rattle.std.proofs.lemmas.List.{take_all, take-append-le}
@@ -55,8 +55,8 @@ pub output-sent : {proto : Proto} {log : List Op} {s : SessionState} {left befor
     → output_of proto log (sent_more s count) ≡ before ++ take (from + count) reply
 unfolding output_of script_in
 output-sent {s = s} {before = before} {reply = reply} {from = from} count r =
-    let place : s.sent + count ≡ length before + (from + count) = omega (arith, r.sent_is) in
-    ap₂ take place r.script_is ∙ take-append-add before reply (from + count)
+    let sent_to : s.sent + count ≡ length before + (from + count) = omega (arith, r.sent_is) in
+    ap₂ take sent_to r.script_is ∙ take-append-add before reply (from + count)
 
 output-start : {proto : Proto} {log : List Op} {s : SessionState} {left before reply : List ℕ} {item : Item}
     (count : ℕ) → Replies proto log s left item before reply 0

@@ -1,5 +1,5 @@
 -- The requests of the bytes that a session was fed, one by one.
-use Rattle.std.proofs.Common.{◌≡◌, ◌<◌, zero, suc, ℕ, true, false, List, [], ◌∷◌, ◌++◌, length, take, drop, Some, None, refl, sym, ap, subst, ◌∙◌, append-nil, arith}
+use Rattle.std.proofs.Common.{◌≡◌, ◌<◌, zero, suc, ℕ, true, false, List, [], ◌∷◌, ◌++◌, length, take, drop, Some, None, refl, sym, ap, subst, ◌∙◌, append-nil}
 use Rattle.std.specs.Prelude.{slice_get}
 use Rattle.std.proofs.lemmas.List.{take-append-drop}
 use Rattle.web_frame.specs.declared.limit.TheConstants.{MAX_HEAD}
@@ -13,32 +13,25 @@ use Rattle.pub_core.specs.Standing.{first_item, item_at}
 
 -- ---- lists
 
--- what stands at a place of a list stands there in one that begins with it
-pub get-before : {A : Type 0} (first more : List A) (place : ℕ) → place < length first
-    → slice_get (first ++ more) place ≡ slice_get first place
-get-before [] more place below = absurd (omega arith)
-get-before (a ∷ first) more zero below = refl
-get-before (a ∷ first) more (suc place) below = get-before first more place (omega arith)
-
 -- what follows a list
 pub get-after : {A : Type 0} (first more : List A) → slice_get (first ++ more) (length first) ≡ slice_get more 0
 get-after [] more = refl
 get-after (a ∷ first) more = get-after first more
 
--- what stands at a place of a front stands there in the list
-pub get-take : {A : Type 0} (n : ℕ) (all : List A) (place : ℕ) (a : A) → slice_get (take n all) place ≡ Some a
-    → slice_get all place ≡ Some a
-get-take zero all place a is = absurd (cc)
-get-take (suc n) [] place a is = is
+-- an item at an index of a front stands there in the list
+pub get-take : {A : Type 0} (n : ℕ) (all : List A) (index : ℕ) (a : A) → slice_get (take n all) index ≡ Some a
+    → slice_get all index ≡ Some a
+get-take zero all index a is = absurd (cc)
+get-take (suc n) [] index a is = is
 get-take (suc n) (b ∷ all) zero a is = is
-get-take (suc n) (b ∷ all) (suc place) a is = get-take n all place a is
+get-take (suc n) (b ∷ all) (suc index) a is = get-take n all index a is
 
--- the rest of a list from a place on
-pub drop-get : {A : Type 0} (all : List A) (place : ℕ) (a : A) → slice_get all place ≡ Some a
-    → drop place all ≡ a ∷ drop (suc place) all
-drop-get [] place a is = absurd (cc)
+-- the rest of a list from an index on
+pub drop-get : {A : Type 0} (all : List A) (index : ℕ) (a : A) → slice_get all index ≡ Some a
+    → drop index all ≡ a ∷ drop (suc index) all
+drop-get [] index a is = absurd (cc)
 drop-get (b ∷ all) zero a is = ap (λ (x : _). x ∷ all) (cc)
-drop-get (b ∷ all) (suc place) a is = drop-get all place a is
+drop-get (b ∷ all) (suc index) a is = drop-get all index a is
 
 -- ---- what is read
 
@@ -75,7 +68,7 @@ pub first-there : (left : List ℕ) → slice_get (heads_of left).items 0 ≡ fi
 unfolding first_item
 first-there left = first-by left (cut_of left) refl
 
--- the request after those that are read
+-- the request after the ones that are read
 pub next-there : {bytes : List ℕ} {items : List Item} {left : List ℕ} → ReadsTo bytes items left
     → slice_get (heads_of bytes).items (length items) ≡ first_item left
 next-there {bytes} {items} {left} reads =

@@ -1,4 +1,4 @@
--- The events of a served link lead to a session that was sent what was written to the link. It is long, since one
+-- The events of a served link lead to a session that was sent the bytes written to the link. It is long, since one
 -- induction over the replies needs all that holds where a reply is whole.
 use Rattle.std.proofs.Common.{◌≡◌, ◌≤◌, ◌<◌, suc, ℕ, ◌+◌, false, List, [], ◌∷◌, ◌++◌, length, take, drop, Some, refl, sym, ap, ap₂, subst, ◌∙◌, arith, length-append, length-take, append_assoc, append-nil}
 use Rattle.std.specs.Prelude.{slice_get}
@@ -25,32 +25,32 @@ use Rattle.pub_core.proofs.Replying.{sent_more, send-whole}
 use Rattle.pub_core.proofs.SoFar.{script-published}
 use Rattle.pub_core.proofs.Turns.{begin-reply, fronts, BeginsReply}
 
--- what marks say of the replies to items, of which so many come before
+-- the facts in marks on the replies to items, after `count` others
 pub record AreMarked (proto : Proto) (ops : List Op) (marks : List Mark) (items : List Item) (count : ℕ) : Type 0 where
-  pub within : (place : ℕ) (mark : Mark) (item : Item) → slice_get marks place ≡ Some mark
-      → slice_get items place ≡ Some item
-      → mark.sent ≤ length (marked_reply proto ops mark item (count + place + 1))
-  pub whole : (place : ℕ) (mark : Mark) (item : Item) → place + 1 < length marks → slice_get marks place ≡ Some mark
-      → slice_get items place ≡ Some item
-      → mark.sent ≡ length (marked_reply proto ops mark item (count + place + 1))
-  pub goes_on : (place : ℕ) (item : Item) → place + 1 < length marks → slice_get items place ≡ Some item
-      → is_last item (count + place + 1) ≡ false
+  pub within : (index : ℕ) (mark : Mark) (item : Item) → slice_get marks index ≡ Some mark
+      → slice_get items index ≡ Some item
+      → mark.sent ≤ length (marked_reply proto ops mark item (count + index + 1))
+  pub whole : (index : ℕ) (mark : Mark) (item : Item) → index + 1 < length marks → slice_get marks index ≡ Some mark
+      → slice_get items index ≡ Some item
+      → mark.sent ≡ length (marked_reply proto ops mark item (count + index + 1))
+  pub goes_on : (index : ℕ) (item : Item) → index + 1 < length marks → slice_get items index ≡ Some item
+      → is_last item (count + index + 1) ≡ false
 
-later-number : (count place : ℕ) → count + suc place + 1 ≡ count + 1 + place + 1
-later-number count place = omega arith
+later-number : (count index : ℕ) → count + suc index + 1 ≡ count + 1 + index + 1
+later-number count index = omega arith
 
 marked-rest : (proto : Proto) (ops : List Op) (mark : Mark) (marks : List Mark) (item : Item) (items : List Item)
     (count : ℕ) → AreMarked proto ops (mark ∷ marks) (item ∷ items) count → AreMarked proto ops marks items (count + 1)
 marked-rest proto ops mark marks item items count m = record {
-  within = λ place one_mark one_item mark_is item_is.
-      subst (λ (n : ℕ). one_mark.sent ≤ length (marked_reply proto ops one_mark one_item n)) (later-number count place)
-      (m.within (suc place) one_mark one_item mark_is item_is);
-  whole = λ place one_mark one_item below mark_is item_is.
-      subst (λ (n : ℕ). one_mark.sent ≡ length (marked_reply proto ops one_mark one_item n)) (later-number count place)
-      (m.whole (suc place) one_mark one_item (omega arith) mark_is item_is);
-  goes_on = λ place one_item below item_is.
-      subst (λ (n : ℕ). is_last one_item n ≡ false) (later-number count place)
-      (m.goes_on (suc place) one_item (omega arith) item_is);
+  within = λ index one_mark one_item mark_is item_is.
+      subst (λ (n : ℕ). one_mark.sent ≤ length (marked_reply proto ops one_mark one_item n)) (later-number count index)
+      (m.within (suc index) one_mark one_item mark_is item_is);
+  whole = λ index one_mark one_item below mark_is item_is.
+      subst (λ (n : ℕ). one_mark.sent ≡ length (marked_reply proto ops one_mark one_item n)) (later-number count index)
+      (m.whole (suc index) one_mark one_item (omega arith) mark_is item_is);
+  goes_on = λ index one_item below item_is.
+      subst (λ (n : ℕ). is_last one_item n ≡ false) (later-number count index)
+      (m.goes_on (suc index) one_item (omega arith) item_is);
 }
 
 rises-le : (from to : ℕ) (marks : List Mark) → Rises from marks to → from ≤ to
@@ -123,7 +123,7 @@ turned proto ops n s left input mark marks item items taken ready = record {
 
     omega_within : (revs : List ℕ) → All (λ (revision : ℕ). revision ≤ n) revs
         → All (λ (revision : ℕ). revision ≤ length (take n ops)) revs
-    omega_within revs all = λ place d below. omega (arith, all place d below, length-take n ops, to, ready.rises.0)
+    omega_within revs all = λ index d below. omega (arith, all index d below, length-take n ops, to, ready.rises.0)
 
     b : BeginsReply proto ops f.after f.behind mark item looks (one (take n ops) (begun proto (take n ops) f.after))
     b = begin-reply proto ops n f.after f.behind mark item f.rests f.item_is taken ready.rises.0 to within
@@ -137,7 +137,7 @@ reply-at proto ops mark item count number is =
     let same : number + 0 + 1 ≡ count + 1 = omega (arith, is) in
     ap (marked_reply proto ops mark item) same
 
--- what the replies that are left lead to
+-- the session that the replies that are left lead to
 abbrev pub Leads : Proto → List Op → List Mark → List Item → Type 0
 Leads proto ops marks items =
     (n : ℕ) (s : SessionState) (left input : List ℕ) → Ready proto ops n s left input marks items

@@ -9,7 +9,7 @@ use Rattle.web_frame.specs.Items.{bad_head, head_too_long, item_of, request, Ite
 use Rattle.web_frame.specs.Stream.{held_after, held_by, held_len, next_by, next_by_item, next_of, target_of, Held}
 use Rattle.web_session.specs.declared.action.Action.TheVariants.{Read, Ask, Send}
 use Rattle.web_session.specs.declared.action.End.{End}
-use Rattle.web_session.specs.declared.event.Event.TheVariants.{Start, Bytes, Answer, Sent, EndOfInput, Fault}
+use Rattle.web_session.specs.declared.event.Event.TheVariants.{Bytes, Answer, Sent, EndOfInput, Fault}
 use Rattle.web_session.specs.declared.phase.Phase.{Phase}
 use Rattle.web_session.specs.declared.phase.Phase.TheVariants.{Waiting, Asking, Sending, Ended}
 use Rattle.web_session.specs.Event.{after_event, after_in}
@@ -24,16 +24,6 @@ use Rattle.pub_core.specs.Standing.{first_item, item_at}
 use Rattle.pub_core.proofs.ItemLemmas.{cut-none}
 
 -- ---- asking for the action that is due
-
-start-at : (phase : Phase) (s : State) → after_in phase s Start ≡ s
-start-at Waiting s = refl
-start-at (Asking asked) s = refl
-start-at (Sending asked from len) s = refl
-start-at (Ended end) s = refl
-
-pub start-same : (s : State) → after_event s Start ≡ s
-unfolding after_event
-start-same s = start-at s.phase s
 
 -- ---- at rest
 
@@ -60,7 +50,7 @@ pub phase-of : (left : List ℕ) (front : Option Item) → first_item left ≡ f
     → phase_after (next_of left) ≡ phase_at front
 phase-of left front is = phase-first left ∙ ap phase_at is
 
--- what it does next
+-- its next action
 pub acts-rest : (left : List ℕ) (count : ℕ) (front : Option Item) → first_item left ≡ front
     → action_of (resting left count) ≡ action_at (phase_at front) (held_after left)
 unfolding action_of

@@ -2,13 +2,14 @@
 -- a few lines, since a statement is made for each function of the machine.
 use Rattle.std.proofs.Common.{◌≡◌, ℕ, List, [], ◌∷◌, ◌++◌, map, replicate, take, length, get_or, ◌<◌, ◌≤◌, ◌+◌, IfOk, Option, Some, None, Result, Ok, Err, Bool, false, cond, refl, sym, ap, ap₂, subst, ◌∙◌}
 use Rattle.std.specs.Prelude.{is_none}
-use Rattle.std.proofs.lemmas.List.Sums.{fold-append, fold_more}
+use Rattle.std.proofs.lemmas.List.Sums.{fold_more}
 use Rattle.std.proofs.lemmas.List.{take_all}
 use Rattle.fm_model.specs.declared.full.Full.{Full as TooMany}
 use Rattle.fm_model.specs.declared.loaded.Loaded.{Loaded}
 use Rattle.fm_model.specs.declared.op.Op.{Op}
 use Rattle.fm_model.specs.declared.proto.Proto.{Proto}
-use Rattle.fm_model.specs.Collection.{after_op, coll, full_at}
+use Rattle.fm_model.specs.Collection.{coll, full_at}
+use Rattle.fm_model.proofs.CollectionLemmas.{coll-push}
 use Rattle.fm_edition.specs.Held.{held_after, next_or_full, unless_full, Held}
 use Rattle.fm_edition.specs.Log.{held_of}
 use Rattle.pub_core.specs.declared.connection.Connection.{Connection}
@@ -21,10 +22,6 @@ use Rattle.pub_core.specs.Outcome.{outcome_of}
 use Rattle.pub_core.specs.Shown.{AreShown}
 use Rattle.pub_core.specs.World.{start, untouched, World}
 use Rattle.pub_core.proofs.ManyShown.{all-published, outputs-shown, seen-shown}
-
-coll-more : (log : List Op) (op : Op) → coll (log ++ op ∷ []) ≡ after_op (coll log) op
-unfolding coll
-coll-more log op = fold-append after_op [] log (op ∷ [])
 
 taken-by : (full : Option TooMany) (held next : Held) → unless_full full held ≡ Ok next
     → (full ≡ None) × (held ≡ next)
@@ -56,7 +53,7 @@ machine-published proto m world next log op is taken more =
     let both = taken-by (full_at (coll world.log) op) (held_after (held_of proto world.log) op) next same in
     subst (IsMachine proto (record m { edition = next; log = log })) (sym (published-taken world op both.0)) (record {
       edition_is = sym both.1 ∙ ap (λ (l : List Loaded). record { proto = proto; files = l })
-          (sym (coll-more world.log op));
+          (sym (coll-push world.log op));
       log_is = more ∙ ap (λ (l : List Op). l ++ op ∷ []) is.log_is;
       shown = all-published proto world.log (op ∷ []) m.connections world.sessions is.shown;
     })
@@ -112,45 +109,45 @@ own-event proto world number event is own =
     ap (happens_to proto world number) is ∙ sym own ∙ ap (happens proto world) (sym is)
 
 -- one event more
-pub run-more : (proto : Proto) (world : World) (events : List Event) (place : ℕ) (event : Event)
-    → place < length events
-    → run proto world (take (place + 1) events)
-    ≡ happens proto (run proto world (take place events)) (get_or events place event)
+pub run-more : (proto : Proto) (world : World) (events : List Event) (index : ℕ) (event : Event)
+    → index < length events
+    → run proto world (take (index + 1) events)
+    ≡ happens proto (run proto world (take index events)) (get_or events index event)
 unfolding run
-run-more proto world events place event below = fold_more (happens proto) world events place event below
+run-more proto world events index event below = fold_more (happens proto) world events index event below
 
 -- the prototype of a machine
 pub machine-proto : {proto : Proto} {m : Machine} {world : World} → IsMachine proto m world → m.edition.proto ≡ proto
 machine-proto is = ap (λ (h : Held). h.proto) is.edition_is
 
 -- a machine after one event more
-pub machine-more : (proto : Proto) (m now : Machine) (world : World) (events : List Event) (place : ℕ) (event : Event)
-    → IsMachine proto m (run proto world (take place events)) → event ≡ get_or events place event
-    → place < length events
+pub machine-more : (proto : Proto) (m now : Machine) (world : World) (events : List Event) (index : ℕ) (event : Event)
+    → IsMachine proto m (run proto world (take index events)) → event ≡ get_or events index event
+    → index < length events
     → ((w : World) → IsMachine m.edition.proto m w → IsMachine m.edition.proto now (happens m.edition.proto w event))
-    → IsMachine proto now (run proto world (take (place + 1) events))
-machine-more proto m now world events place event is event_is below leads =
+    → IsMachine proto now (run proto world (take (index + 1) events))
+machine-more proto m now world events index event is event_is below leads =
     let own : (w : World) → IsMachine proto m w → IsMachine proto now (happens proto w event) =
     subst (λ (p : Proto). (w : World) → IsMachine p m w → IsMachine p now (happens p w event)) (machine-proto is)
     leads in
     subst (IsMachine proto now)
-    (ap (happens proto (run proto world (take place events))) event_is
-    ∙ sym (run-more proto world events place event below))
-    (own (run proto world (take place events)) is)
+    (ap (happens proto (run proto world (take index events))) event_is
+    ∙ sym (run-more proto world events index event below))
+    (own (run proto world (take index events)) is)
 
 if-ok : {T E : Type 0} (P Q : T → Type 0) (result : Result T E) → ((t : T) → P t → Q t) → IfOk result P
     → IfOk result Q
 if-ok P Q (Ok t) follows is = follows t is
 if-ok P Q (Err e) follows is = is
 
--- what is told once all events were run
-pub machine-ends : {E : Type 0} (proto : Proto) (m : Machine) (world : World) (items events : List Event) (place : ℕ)
-    (result : Result Outcome E) → IsMachine proto m (run proto world (take place items)) → items ≡ events
-    → length items ≤ place
+-- the outcome once all events were run
+pub machine-ends : {E : Type 0} (proto : Proto) (m : Machine) (world : World) (items events : List Event) (index : ℕ)
+    (result : Result Outcome E) → IsMachine proto m (run proto world (take index items)) → items ≡ events
+    → length items ≤ index
     → IfOk result (λ outcome. (w : World) → IsMachine m.edition.proto m w → outcome ≡ outcome_of m.edition.proto w)
     → IfOk result (λ outcome. outcome ≡ outcome_of proto (run proto world events))
-machine-ends proto m world items events place result is same past told =
-    let all : take place items ≡ events = take_all place items past ∙ same in
+machine-ends proto m world items events index result is same past told =
+    let all : take index items ≡ events = take_all index items past ∙ same in
     let here : IsMachine proto m (run proto world events) =
     subst (λ (l : List Event). IsMachine proto m (run proto world l)) all is in
     if-ok (λ outcome. (w : World) → IsMachine m.edition.proto m w → outcome ≡ outcome_of m.edition.proto w)

@@ -155,7 +155,7 @@ shown-past proto log connections sessions n event shown past =
     (elim o [ None ↦ sessions | Some s ↦ set sessions n (after proto log event s) ]))
     (sym (past-shown proto log connections sessions n shown past)) shown
 
--- the one of a number, and what stands in its place
+-- the session of a number, and its replacement
 record At (proto : Proto) (log : List Op) (connections : List Connection) (sessions : List SessionState) (n : ℕ)
     (c : Connection) : Type 0 where
   s : SessionState
@@ -200,7 +200,7 @@ shown-at proto log connections sessions n event c now there shown below happens 
     (here.then now (after proto log event here.s)
     (happens here.s (subst (λ (x : Connection). IsShown proto log x here.s) (sym there) here.shown)))
 
--- ---- what is told of them
+-- ---- their outcome
 
 pub outputs-shown : (proto : Proto) (log : List Op) (connections : List Connection) (sessions : List SessionState)
     → AreShown proto log connections sessions

@@ -94,7 +94,7 @@ publishes proto s (op ∷ ops) log rest all is taken =
 
 pub all-le : (revs : List ℕ) (n m : ℕ) → n ≤ m → All (λ (revision : ℕ). revision ≤ n) revs
     → All (λ (revision : ℕ). revision ≤ m) revs
-all-le revs n m le within = λ place d below. omega (arith, within place d below)
+all-le revs n m le within = λ index d below. omega (arith, within index d below)
 
 pub all-more : (revs : List ℕ) (n m : ℕ) → n ≤ m → All (λ (revision : ℕ). revision ≤ n) revs
     → All (λ (revision : ℕ). revision ≤ m) (revs ++ m ∷ [])

@@ -20,6 +20,7 @@ use Rattle.web_session.specs.declared.phase.Phase.{Phase}
 use Rattle.web_session.specs.Event.{after_event}
 use Rattle.web_session.specs.Run.{item_asked}
 use Rattle.web_session.specs.State.{is_last as ends_link, State}
+use Rattle.web_session.proofs.StartLemmas.{start-same}
 use Rattle.dap_reply.specs.declared.body.Answer.{Answer}
 use Rattle.dap_reply.specs.declared.fault.DapFault.{DapFault}
 use Rattle.dap_reply.specs.declared.wanted.Dap.{Dap}
@@ -38,14 +39,14 @@ use Rattle.pub_core.specs.Shown.{resting, IsShown, Shows}
 use Rattle.pub_core.specs.Standing.{first_item}
 use Rattle.pub_core.specs.World.{is_refused_at, is_wanted_at, SessionState}
 use Rattle.pub_core.proofs.ConnectionLemmas.{due-action, on-machine, Started}
-use Rattle.pub_core.proofs.MachineLemmas.{item-said, phase-of, start-same}
+use Rattle.pub_core.proofs.MachineLemmas.{item-said, phase-of}
 use Rattle.pub_core.proofs.Resting.{asks-rest, due-rest}
 use Rattle.pub_core.proofs.ShownLemmas.{asking, shown-begun, with_machine, Asks}
 use Rattle.pub_core.proofs.ShownSteps.{shown-with-reply}
 use Rattle.pub_core.proofs.SoFar.{with_reply}
 use Rattle.pub_core.proofs.Steps.{begins, look-no, looks}
 
--- ---- what an order is of
+-- ---- the item of an order
 
 -- the order for an item, whose reply has a number
 abbrev pub OrderFor : Proto → Item → ℕ → Order → Type 0
@@ -121,7 +122,7 @@ unfolding order_of
 not-wanted proto item number order is other =
     err-by (asked_by proto.site item) (has_head_alone item) (is_last item number) (λ dap e. other dap (is ∙ e))
 
--- ---- the order for what a machine asks
+-- ---- the order for a machine's question
 
 last-rest : (left : List ℕ) (count : ℕ) (item : Item) → first_item left ≡ Some item
     → ends_link (resting left count).phase count ≡ is_last item (count + 1)
@@ -145,7 +146,7 @@ ordered {proto} {asked = asked} site machine order a same start is =
 
 -- ---- a refusal that is due
 
--- what the code does before it begins a reply
+-- the code before it begins a reply
 pub record Orders (proto : Proto) (c : Connection) (machine : State) (action : Action) (asked : Asked) (order : Order)
     : Type 0 where
   pub started : Started c machine action
@@ -230,8 +231,8 @@ pub look-wanted : (proto : Proto) (log : List Op) (c now : Connection) (s : Sess
     → IsShown proto log now (after proto log (Look number) s)
 look-wanted proto log c now s number machine action asked dap reply revision o bytes b seen known shown =
     let a : Asks proto log c s asked = asks-so o shown.shows in
-    let place : ℕ = length a.rests.done + 1 in
-    let answer = answer-is proto (coll log) revision place a.item dap (order-so o a) in
+    let reply_number : ℕ = length a.rests.done + 1 in
+    let answer = answer-is proto (coll log) revision reply_number a.item dap (order-so o a) in
     let all : take (length log) log ≡ log = take_all (length log) log (omega arith) in
     let so_far : now.seen ≡ length log = seen ∙ known in
     subst (IsShown proto log now)
@@ -239,5 +240,5 @@ look-wanted proto log c now s number machine action asked dap reply revision o b
     ∙ sym (looks number a.item a.rests a.item_is answer.1))
     (shown-with-reply now reply (length log) shown.shows a
     (bytes ∙ answer.0
-    ∙ ap₂ (λ (l : List Op) (n : ℕ). reply_of proto (coll l) n a.item place) (sym all) known)
+    ∙ ap₂ (λ (l : List Op) (n : ℕ). reply_of proto (coll l) n a.item reply_number) (sym all) known)
     (omega arith) (omega (arith, so_far)) (machine-begins o.started b) b.plan_is b.output_is)

@@ -14,7 +14,7 @@ use Rattle.pub_core.specs.Standing.{first_item, Replies, Rests}
 use Rattle.pub_core.proofs.ItemLemmas.{heads-read, next-there}
 use Rattle.pub_core.proofs.SoFar.{fed_more, last-fed, script-begun, script-fed, with_reply}
 
-and-false : (b : Bool) → (b && false) ≡ false
+pub and-false : (b : Bool) → (b && false) ≡ false
 and-false true = refl
 and-false false = refl
 

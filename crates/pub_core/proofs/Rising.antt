@@ -81,24 +81,24 @@ keeps-after proto log event s keeps = keeps-by proto log event s (is_possible_to
 KeepAll : World → Type 0
 KeepAll world = (number : ℕ) (s : SessionState) → slice_get world.sessions number ≡ Some s → Keeps world.log s
 
-set-cases : {A : Type 0} (all : List A) (place number : ℕ) (a b : A) → slice_get (set all place a) number ≡ Some b
+set-cases : {A : Type 0} (all : List A) (index number : ℕ) (a b : A) → slice_get (set all index a) number ≡ Some b
     → (a ≡ b) ⊎ (slice_get all number ≡ Some b)
-set-cases [] place number a b is = inr is
+set-cases [] index number a b is = inr is
 set-cases (c ∷ all) zero zero a b is = inl (cc)
 set-cases (c ∷ all) zero (suc number) a b is = inr is
-set-cases (c ∷ all) (suc place) zero a b is = inr is
-set-cases (c ∷ all) (suc place) (suc number) a b is = set-cases all place number a b is
+set-cases (c ∷ all) (suc index) zero a b is = inr is
+set-cases (c ∷ all) (suc index) (suc number) a b is = set-cases all index number a b is
 
-keep-set : (proto : Proto) (log : List Op) (sessions : List SessionState) (place : ℕ) (event : Event)
-    (there : Option SessionState) → slice_get sessions place ≡ there
+keep-set : (proto : Proto) (log : List Op) (sessions : List SessionState) (index : ℕ) (event : Event)
+    (there : Option SessionState) → slice_get sessions index ≡ there
     → ((number : ℕ) (s : SessionState) → slice_get sessions number ≡ Some s → Keeps log s)
     → (number : ℕ) (s : SessionState)
-    → slice_get (elim there [ None ↦ sessions | Some t ↦ set sessions place (after proto log event t) ]) number ≡ Some s
+    → slice_get (elim there [ None ↦ sessions | Some t ↦ set sessions index (after proto log event t) ]) number ≡ Some s
     → Keeps log s
-keep-set proto log sessions place event None here keeps number s is = keeps number s is
-keep-set proto log sessions place event (Some t) here keeps number s is =
-    elim (set-cases sessions place number (after proto log event t) s is) [
-      | inl same ↦ subst (Keeps log) same (keeps-after proto log event t (keeps place t here))
+keep-set proto log sessions index event None here keeps number s is = keeps number s is
+keep-set proto log sessions index event (Some t) here keeps number s is =
+    elim (set-cases sessions index number (after proto log event t) s is) [
+      | inl same ↦ subst (Keeps log) same (keeps-after proto log event t (keeps index t here))
       | inr other ↦ keeps number s other
     ]
 

@@ -20,7 +20,7 @@ use Rattle.pub_core.proofs.LinkLaw.{here, leads, AreMarked, Ready}
 use Rattle.pub_core.proofs.OneSession.{happens-learn, one, publishes, run-append, run-one}
 use Rattle.pub_core.proofs.Steps.{after-yes, settled-rest}
 
--- a session that knows of so many operations, and to which nothing else happened
+-- a session that knows of `n` operations, and to which nothing else happened
 knowing : ℕ → SessionState
 knowing n = record untouched { seen = n }
 
@@ -61,25 +61,25 @@ opened proto ops n known taken =
 
 -- ---- what is known of a served link
 
-cut-within : (call : LinkCall) (place : ℕ) (mark : Mark) (item : Item) → IsWholeOrCut call place mark item
-    → mark.sent ≤ length (marked_reply call.proto call.seen_after mark item (number_at call place))
-cut-within call place mark item (inl whole) = omega (arith, whole)
-cut-within call place mark item (inr (stop, last, within)) = within
+cut-within : (call : LinkCall) (index : ℕ) (mark : Mark) (item : Item) → IsWholeOrCut call index mark item
+    → mark.sent ≤ length (marked_reply call.proto call.seen_after mark item (number_at call index))
+cut-within call index mark item (inl whole) = omega (arith, whole)
+cut-within call index mark item (inr (stop, last, within)) = within
 
-cut-whole : (call : LinkCall) (place : ℕ) (mark : Mark) (item : Item) → IsWholeOrCut call place mark item
-    → place + 1 < length call.trail
-    → mark.sent ≡ length (marked_reply call.proto call.seen_after mark item (number_at call place))
-cut-whole call place mark item (inl whole) below = whole
-cut-whole call place mark item (inr (stop, last, within)) below = absurd (omega (arith, last, below))
+cut-whole : (call : LinkCall) (index : ℕ) (mark : Mark) (item : Item) → IsWholeOrCut call index mark item
+    → index + 1 < length call.trail
+    → mark.sent ≡ length (marked_reply call.proto call.seen_after mark item (number_at call index))
+cut-whole call index mark item (inl whole) below = whole
+cut-whole call index mark item (inr (stop, last, within)) below = absurd (omega (arith, last, below))
 
 marked : (call : LinkCall) → Served call
     → AreMarked call.proto call.seen_after call.trail (items_of call) call.session.before
 marked call served = record {
-  within = λ place mark item mark_is item_is.
-      cut-within call place mark item (served.writes.whole place mark item mark_is item_is);
-  whole = λ place mark item below mark_is item_is.
-      cut-whole call place mark item (served.writes.whole place mark item mark_is item_is) below;
-  goes_on = λ place item below item_is. served.answers.goes_on place item below item_is;
+  within = λ index mark item mark_is item_is.
+      cut-within call index mark item (served.writes.whole index mark item mark_is item_is);
+  whole = λ index mark item below mark_is item_is.
+      cut-whole call index mark item (served.writes.whole index mark item mark_is item_is) below;
+  goes_on = λ index item below item_is. served.answers.goes_on index item below item_is;
 }
 
 known : (call : LinkCall) → Served call → length call.seen ≤ length call.seen_after

@@ -14,6 +14,7 @@ use Rattle.web_session.specs.declared.phase.Phase.{Phase}
 use Rattle.web_session.specs.declared.phase.Phase.TheVariants.{Ended}
 use Rattle.web_session.specs.Event.{after_event}
 use Rattle.web_session.specs.State.{action_at, action_of, State}
+use Rattle.web_session.proofs.StartLemmas.{start-same}
 use Rattle.dap_reply.specs.Parts.{bytes_of, Parts}
 use Rattle.dap_reply.specs.Served.{asked_of}
 use Rattle.pub_core.specs.declared.connection.Connection.{Connection}
@@ -22,9 +23,9 @@ use Rattle.pub_core.specs.Shown.{resting, sending, IsShown, Shows, Stands}
 use Rattle.pub_core.specs.Shown.Stands.{at_end, at_rest, in_reply}
 use Rattle.pub_core.specs.Standing.{first_item, Replies, Rests}
 use Rattle.pub_core.specs.World.{asks, is_due, is_idle, is_refused_at, is_wanted_at, next_item, rests, sends, waits, SessionState}
-use Rattle.pub_core.proofs.MachineLemmas.{asks-rest-for, reads-rest, start-same}
+use Rattle.pub_core.proofs.MachineLemmas.{asks-rest-for, reads-rest}
 use Rattle.pub_core.proofs.Replying.{asks-reply, due-reply, waits-reply}
-use Rattle.pub_core.proofs.Resting.{asks-rest, due-rest, sends-rest, waits-rest}
+use Rattle.pub_core.proofs.Resting.{asks-rest, due-rest, sends-rest, waits-rest, and-false}
 use Rattle.pub_core.proofs.Steps.{begun-no, due-ended}
 
 -- a connection whose machine stands so
@@ -149,10 +150,10 @@ sends-rest-by {from = from} left (Some item) r machine first is =
 sends-by : {proto : Proto} {log : List Op} {c : Connection} {s : SessionState} {from : ℕ}
     → Stands proto log s c.session c.plan → action_of c.session ≡ Send from → Sends proto log c s from
 sends-by (at_rest left r machine) is = sends-rest-by left (first_item left) r machine refl is
-sends-by {proto} {log} {c} {s} {from} (in_reply left item before reply place r plan machine) is =
-    let all : Send place ≡ Send from =
-    sym (ap action_of machine ∙ action-sending left (length r.done) item place (length (bytes_of reply))) ∙ is in
-    let same : place ≡ from = cc in
+sends-by {proto} {log} {c} {s} {from} (in_reply left item before reply offset r plan machine) is =
+    let all : Send offset ≡ Send from =
+    sym (ap action_of machine ∙ action-sending left (length r.done) item offset (length (bytes_of reply))) ∙ is in
+    let same : offset ≡ from = cc in
     subst (Sends proto log c s) same (record {
       left = left;
       item = item;
@@ -171,10 +172,6 @@ pub sending-so : {proto : Proto} {log : List Op} {c : Connection} {s : SessionSt
 sending-so shows is = sends-by shows.stands is
 
 -- ---- by another action
-
-and-false : (b : Bool) → (b && false) ≡ false
-and-false true = refl
-and-false false = refl
 
 -- a session that ended
 pub idle-ended : (proto : Proto) (log : List Op) (s : SessionState) → s.ended ≡ true → is_idle proto log s ≡ false

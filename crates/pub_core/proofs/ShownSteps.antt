@@ -38,11 +38,11 @@ pub stands-rest : {proto : Proto} {log : List Op} {s : SessionState} {left : Lis
 stands-rest {left = left} r is = at_rest left r (is ∙ ap (resting left) r.count)
 
 pub stands-reply : {proto : Proto} {log : List Op} {s : SessionState} {left before : List ℕ} {item : Item}
-    {reply : Parts} {from : ℕ} {machine : State} {plan : Option Parts} (place : ℕ)
-    → Replies proto log s left item before (bytes_of reply) from → plan ≡ Some reply → length s.revs ≡ place + 1
-    → machine ≡ sending left place item from (length (bytes_of reply)) → Stands proto log s machine plan
-stands-reply {left = left} {before = before} {item = item} {reply = reply} {from = from} place r plan number is =
-    let same : place ≡ length r.done = omega (arith, number, r.count) in
+    {reply : Parts} {from : ℕ} {machine : State} {plan : Option Parts} (index : ℕ)
+    → Replies proto log s left item before (bytes_of reply) from → plan ≡ Some reply → length s.revs ≡ index + 1
+    → machine ≡ sending left index item from (length (bytes_of reply)) → Stands proto log s machine plan
+stands-reply {left = left} {before = before} {item = item} {reply = reply} {from = from} index r plan number is =
+    let same : index ≡ length r.done = omega (arith, number, r.count) in
     in_reply left item before reply from r plan
     (is ∙ ap (λ (n : ℕ). sending left n item from (length (bytes_of reply))) same)
 
@@ -128,7 +128,7 @@ shown-with-reply {proto} {log} {c} {s} now reply revision shows a bytes known wi
 
 -- ---- bytes of it are sent
 
--- what a session is after bytes are sent, before a reply that is due is begun
+-- a session after bytes are sent, before a reply that is due is begun
 pub record Sending (proto : Proto) (log : List Op) (now : Connection) (s after_it : SessionState) : Type 0 where
   pub here : SessionState
   pub shows : Shows proto log now here
@@ -143,7 +143,7 @@ output-more {proto} {log} {s} {before = before} {reply = reply} {from = from} co
     ∙ ap (λ (l : List ℕ). take s.sent (script_in proto log s) ++ take count l)
     (ap₂ drop r.sent_is r.script_is ∙ drop-append-add before reply from)
 
--- a connection that was sent so much more
+-- a connection that was sent more bytes
 pub record Given (proto : Proto) (log : List Op) (c now : Connection) (s : SessionState) (from count : ℕ)
     (r : Sends proto log c s from) : Type 0 where
   pub output_is : now.output ≡ c.output ++ take count (drop from (bytes_of r.reply))
@@ -211,9 +211,9 @@ sent-last : {proto : Proto} {log : List Op} {c : Connection} {s : SessionState} 
     → 0 < count → from + count ≡ length (bytes_of r.reply) → is_last r.item (length s.revs) ≡ true
     → Sending proto log now s (after proto log (Sent number count) s)
 sent-last {proto} {log} {c} {s} {from} now number count shows r given some all last =
-    let place : length s.revs ≡ length r.replies.done + 1 = omega (arith, r.replies.count) in
+    let numbered : length s.revs ≡ length r.replies.done + 1 = omega (arith, r.replies.count) in
     let ends = sends-last-machine r.left (length r.replies.done) count from (length (bytes_of r.reply)) r.item
-    (omega (arith, all)) (ap (is_last r.item) (sym place) ∙ last) in
+    (omega (arith, all)) (ap (is_last r.item) (sym numbered) ∙ last) in
     let output : now.output ≡ output_of proto log (sent_more s count) =
     given.output_is ∙ ap (λ (l : List ℕ). l ++ take count (drop from (bytes_of r.reply))) shows.output_is
     ∙ sym (output-more count r.replies) in
@@ -232,15 +232,15 @@ sent-whole : {proto : Proto} {log : List Op} {c : Connection} {s : SessionState}
     → 0 < count → from + count ≡ length (bytes_of r.reply) → is_last r.item (length s.revs) ≡ false
     → Sending proto log now s (after proto log (Sent number count) s)
 sent-whole {proto} {log} {c} {s} {from} now number count shows r given some all goes =
-    let place : length s.revs ≡ length r.replies.done + 1 = omega (arith, r.replies.count) in
+    let numbered : length s.revs ≡ length r.replies.done + 1 = omega (arith, r.replies.count) in
     record {
       here = sent_more s count;
       shows = shows-sent-by now count shows r given
           (stands-rest (send-whole count r.replies all goes)
           (machine-sent r given
           ∙ sends-whole-machine r.left (length r.replies.done) count from (length (bytes_of r.reply)) r.item
-          (omega (arith, all)) (ap (is_last r.item) (sym place) ∙ goes)
-          ∙ ap (resting (held_after r.left).rest) (sym place)));
+          (omega (arith, all)) (ap (is_last r.item) (sym numbered) ∙ goes)
+          ∙ ap (resting (held_after r.left).rest) (sym numbered)));
       after_is = sends-whole number count r.replies some all goes;
     }
 

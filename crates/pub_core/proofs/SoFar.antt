@@ -1,6 +1,7 @@
 -- The replies that were begun, where a session is fed more, more is published, or one more is begun.
 use Rattle.std.proofs.Common.{◌≡◌, ◌≤◌, ◌<◌, zero, suc, ℕ, ◌+◌, false, List, [], ◌∷◌, ◌++◌, length, take, drop, Option, Some, None, refl, ap, ◌∙◌, append-nil, arith}
 use Rattle.std.specs.List.{All}
+use Rattle.fm_base.proofs.ListLemmas.{slice_get-append}
 use Rattle.fm_model.specs.declared.loaded.Loaded.{Loaded}
 use Rattle.fm_model.specs.declared.op.Op.{Op}
 use Rattle.fm_model.specs.declared.proto.Proto.{Proto}
@@ -12,9 +13,9 @@ use Rattle.dap_reply.specs.Script.{script_of}
 use Rattle.dap_reply.proofs.ScriptLemmas.{script-append, script-later}
 use Rattle.pub_core.specs.World.{items_fed, next_item, script_in, SessionState}
 use Rattle.pub_core.specs.Happening.{is_last_before}
-use Rattle.pub_core.proofs.ItemLemmas.{drop-get, get-before, items-more}
+use Rattle.pub_core.proofs.ItemLemmas.{drop-get, items-more}
 
--- items past those that have a revision make no difference
+-- items without a revision make no difference
 script-front : (proto : Proto) (ops : List Op) (revs : List ℕ) (items more : List Item) (before : ℕ)
     → length revs ≤ length items
     → script_of proto ops revs (items ++ more) before ≡ script_of proto ops revs items before
@@ -37,12 +38,12 @@ script-fed proto log s piece few =
     ∙ script-front proto log s.revs (items_fed s)
     (drop (length (items_fed s)) (heads_of (s.fed ++ piece)).items) 0 few
 
-last-front : (items more : List Item) (place : ℕ) → place ≤ length items
-    → is_last_before (items ++ more) place ≡ is_last_before items place
+last-front : (items more : List Item) (index : ℕ) → index ≤ length items
+    → is_last_before (items ++ more) index ≡ is_last_before items index
 last-front items more zero few = refl
-last-front items more (suc place) few =
-    ap (λ (o : Option Item). elim o [ None ↦ false | Some item ↦ is_last item (suc place) ])
-    (get-before items more place few)
+last-front items more (suc index) few =
+    ap (λ (o : Option Item). elim o [ None ↦ false | Some item ↦ is_last item (suc index) ])
+    (slice_get-append items more index few)
 
 pub last-fed : (s : SessionState) (piece : List ℕ) → length s.revs ≤ length (items_fed s)
     → is_last_before (items_fed (fed_more s piece)) (length s.revs) ≡ is_last_before (items_fed s) (length s.revs)

@@ -15,7 +15,7 @@ use Rattle.pub_core.specs.Happening.{after, begun, effect_of, is_possible_to, se
 use Rattle.pub_core.specs.Standing.{first_item, Replies, Rests}
 use Rattle.pub_core.proofs.ItemLemmas.{rest-none}
 use Rattle.pub_core.proofs.SoFar.{fed_more, some-reply, with_reply}
-use Rattle.pub_core.proofs.Resting.{asks-rest, begin-rest, closed-rest, due-rest, feed-rest, waits-rest}
+use Rattle.pub_core.proofs.Resting.{asks-rest, begin-rest, closed-rest, due-rest, feed-rest, waits-rest, and-false}
 use Rattle.pub_core.proofs.Replying.{closed-reply, due-reply, sent_more, send-last, send-part, send-whole, sends-reply, unsent-reply}
 
 -- ---- an event that is possible, and one that isn't
@@ -54,10 +54,6 @@ pub settled-reply : {proto : Proto} {log : List Op} {s : SessionState} {left bef
 unfolding settled
 settled-reply {proto} {log} {s} r =
     ap (begun proto log) (closed-reply r) ∙ begun-no proto log s (due-reply r)
-
-and-false : (b : Bool) → (b && false) ≡ false
-and-false true = refl
-and-false false = refl
 
 -- nothing is due of a session that ended
 pub due-ended : (proto : Proto) (log : List Op) (s : SessionState) → s.ended ≡ true → is_due proto log s ≡ false

@@ -69,7 +69,7 @@ begin-front proto ops s left mark item events world r first is =
       seen_is = refl;
     }
 
--- after a look, once what comes before its revision is published
+-- after a look, once the operations before its revision are published
 begin-wanted : (proto : Proto) (ops : List Op) (n : ℕ) (s : SessionState) (left : List ℕ) (mark : Mark) (item : Item)
     → Rests proto (take n ops) s left → first_item left ≡ Some item → is_wanted_at proto.site (Some item) ≡ true
     → AreTakenInTurn ops → n ≤ mark.revision → mark.revision ≤ length ops

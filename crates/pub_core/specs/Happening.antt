@@ -22,7 +22,7 @@ is_possible_to proto log (Sent number count) s =
 is_possible_to proto log (End number) s = waits proto log s
 is_possible_to proto log (Fault number) s = waits proto log s || sends proto log s
 
--- what it then does to it: a look begins a reply over the whole log
+-- a session after a possible event: a look begins a reply over the whole log
 unfoldable pub effect_of : List Op → Event → SessionState → SessionState
 effect_of log (Publish op) s = s
 effect_of log (Look number) s = record s { revs = s.revs ++ length log ∷ []; seen = length log }
@@ -32,11 +32,11 @@ effect_of log (Sent number count) s = record s { sent = s.sent + count }
 effect_of log (End number) s = record s { ended = true }
 effect_of log (Fault number) s = record s { ended = true }
 
--- whether the reply to the item before a place is a connection's last
+-- whether the reply to the item before an index is a connection's last
 abbrev pub is_last_before : List Item → ℕ → Bool
 is_last_before items zero = false
-is_last_before items (suc place) =
-    elim (slice_get items place) [ None ↦ false | Some item ↦ is_last item (suc place) ]
+is_last_before items (suc index) =
+    elim (slice_get items index) [ None ↦ false | Some item ↦ is_last item (suc index) ]
 
 -- a session that rests after a connection's last reply has ended
 unfoldable pub closed : Proto → List Op → SessionState → SessionState

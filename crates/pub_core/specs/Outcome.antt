@@ -1,4 +1,4 @@
--- What is told of a run, and which events it may be of.
+-- The outcome of a run, and the events that it may be of.
 use Rattle.std.specs.Prelude.{map}
 use Rattle.fm_model.specs.declared.proto.Proto.{Proto}
 use Rattle.fm_edition.specs.Held.{OpFits}
@@ -7,7 +7,7 @@ use Rattle.pub_core.specs.declared.event.Event.TheVariants.{Publish, Look, Learn
 use Rattle.pub_core.specs.declared.outcome.Outcome.{Outcome}
 use Rattle.pub_core.specs.World.{output_of, SessionState, World}
 
--- the log of a world, and what each session was sent and has seen
+-- the log of a world, and the bytes that each session was sent and the operations that it has seen
 unfoldable pub outcome_of : Proto → World → Outcome
 outcome_of proto world = record {
   log = world.log;

@@ -22,7 +22,7 @@ AreTakenInTurn ops = (earlier later : List Op) (op : Op) → ops ≡ earlier ++ 
 unfoldable pub first_waits : Proto → World → Bool
 first_waits proto world = elim (slice_get world.sessions 0) [ None ↦ false | Some s ↦ waits proto world.log s ]
 
--- what the first session was sent
+-- the bytes that the first session was sent
 unfoldable pub first_output : Proto → World → List ℕ
 first_output proto world = elim (slice_get world.sessions 0) [ None ↦ [] | Some s ↦ output_of proto world.log s ]
 
@@ -39,7 +39,7 @@ feeding proto world (byte ∷ bytes) =
     else []
 
 -- where a collection is looked at for a request, the operations up to the revision of its reply are published, of which
--- so many were published before, and it looks
+-- `seen` were published before, and it looks
 unfoldable pub looking : Proto → List Op → ℕ → Mark → Item → List Event
 looking proto ops seen mark item =
     if is_ok (asked_by proto.site item) then map Publish (slice_range ops seen mark.revision) ++ Look 0 ∷ [] else []
@@ -57,7 +57,7 @@ replying proto ops world seen input mark item =
 unfoldable pub left_after : Proto → World → List ℕ → List ℕ
 left_after proto world input = drop (length (feeding proto world input)) input
 
--- the replies that were begun, one after the other, from a world in which so many of the operations were published
+-- the replies that were begun, one after the other, from a world in which `seen` operations were published
 unfoldable pub replies : Proto → List Op → World → ℕ → List ℕ → List Mark → List Item → List Event
 replies proto ops world seen input [] items = []
 replies proto ops world seen input (mark ∷ marks) [] = []

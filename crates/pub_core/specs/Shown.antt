@@ -13,11 +13,11 @@ use Rattle.pub_core.specs.declared.connection.Connection.{Connection}
 use Rattle.pub_core.specs.Standing.{Replies, Rests}
 use Rattle.pub_core.specs.World.{is_due, output_of, SessionState}
 
--- a machine that rests with some bytes, after so many replies
+-- a machine that rests with some bytes, after `count` replies
 abbrev pub resting : List ℕ → ℕ → State
 resting bytes count = record { phase = phase_after (next_of bytes); held = held_after bytes; before = count }
 
--- one that sends the reply to an item at their front, of this length, from a place on
+-- one that sends the reply to an item at their front, of this length, from an offset on
 abbrev pub sending : List ℕ → ℕ → Item → ℕ → ℕ → State
 sending bytes count item from len =
     record { phase = Sending (asked_of item) from len; held = held_after bytes; before = count }

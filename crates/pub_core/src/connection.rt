@@ -188,7 +188,7 @@ impl Connection {
         }
     }
 
-    // The session learns that so many operations were published.
+    // The session learns the number of operations that were published.
     fn learn(&mut self, count: u64, published: u64)
         ensures { (proto : Proto) (log : List Op) (s : SessionState) (number : ℕ) → published ≡ length log
             → IsShown proto log self.old s
@@ -199,7 +199,7 @@ impl Connection {
         }
     }
 
-    // An event of the session, over the edition that so many operations left.
+    // An event of the session, over the edition that the published operations left.
     pub fn happen(
         &mut self,
         alloc: Global,

@@ -10,7 +10,7 @@ pub enum Event {
     Publish(Op),
     /// The collection is looked at for the session's next request.
     Look(u32),
-    /// The session learns that so many operations were published.
+    /// The session learns the number of operations that were published.
     Learn(u32, u64),
     /// The session is fed bytes.
     Bytes(u32, Bytes),

@@ -27,7 +27,7 @@ pub(crate) struct Machine {
     pub connections: List<Connection>,
 }
 
-// So many sessions to which nothing happened.
+// New connections, one for each of the sessions.
 fn untouched(alloc: Global, sessions: u32) -> Result<List<Connection>, NoMemory>
     ensures { IfOk result (λ made. (proto : _) → AreShown proto [] made (replicate sessions untouched)) }
 {
@@ -38,7 +38,7 @@ fn untouched(alloc: Global, sessions: u32) -> Result<List<Connection>, NoMemory>
     Ok(made)
 }
 
-// What each session was sent.
+// The bytes that each session was sent.
 fn outputs_of(alloc: Global, connections: &[Connection]) -> Result<List<Bytes>, NoMemory>
     ensures { IfOk result (λ outputs. outputs ≡ map (λ (c : Speaker). c.output) connections.now) }
 {
@@ -165,7 +165,7 @@ impl Machine {
         }
     }
 
-    // What is told of the run that led here.
+    // The outcome of the run that led here.
     pub fn outcome(self, alloc: Global) -> Result<Outcome, NoMemory>
         ensures { IfOk result (λ outcome. (world : World) → IsMachine self.edition.proto self world
             → outcome ≡ outcome_of self.edition.proto world) }

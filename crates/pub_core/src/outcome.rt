@@ -1,4 +1,4 @@
-//! What is told of a run.
+//! The outcome of a run.
 
 use fm_base::{Bytes, List};
 use fm_model::Op;

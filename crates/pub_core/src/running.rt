@@ -12,9 +12,10 @@ use fm_base::{Arc, List, NoMemory};
 use fm_model::Proto;
 use std::alloc::Global;
 
-/// Runs events over so many sessions to which nothing happened, and returns what was published, and what each session
-/// was sent and has seen. An event that isn't possible where it comes changes nothing: a look where no request waits
-/// for one, an operation for which there is no room, a session that isn't there.
+/// Runs events over `sessions` sessions to which nothing happened. Returns the operations published, and the bytes
+/// that each session was sent with the number that it has seen. An event that isn't possible where it comes changes
+/// nothing: a look where no request waits for one, an operation for which there is no room, a session that isn't
+/// there.
 pub fn run_all(
     alloc: Global,
     proto: Arc<Proto>,

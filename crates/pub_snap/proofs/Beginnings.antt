@@ -1,15 +1,8 @@
 -- Beginnings of one list.
-use Rattle.std.proofs.Common.{◌≡◌, ◌≤◌, List, [], ◌∷◌, ◌++◌, length, refl, ap, sym, ◌∙◌, arith, append_assoc}
-use Rattle.std.proofs.lemmas.List.{append-nil}
+use Rattle.std.proofs.Common.{◌≡◌, ◌≤◌, List, [], ◌∷◌, length, refl, sym, arith}
 use mathlib.Core.List.{IsPrefix}
 use Rattle.fm_model.specs.declared.op.Op.{Op}
-use Rattle.pub_plain.specs.History.{Continues}
-
-pub continues_itself : (xs : List Op) → Continues xs xs
-continues_itself xs = ([], sym (append-nil xs))
-
-pub continues_on : (xs ys zs : List Op) → Continues xs ys → Continues ys zs → Continues xs zs
-continues_on xs ys zs p q = (p.0 ++ q.0, q.1 ∙ (ap (λ w. w ++ q.0) p.1 ∙ append_assoc xs p.0 q.0))
+use Rattle.pub_look.specs.History.{Continues}
 
 -- a list that another begins goes on from it
 pub continues : (xs ys : List Op) → IsPrefix xs ys → Continues xs ys
@@ -32,7 +25,3 @@ whole [] [] p le = refl
 whole [] (y ∷ ys) p le = absurd (omega arith)
 whole (x ∷ xs) [] p le = absurd (cc (p.1))
 whole (x ∷ xs) (y ∷ ys) p le = let rest = whole xs ys (p.0, cc (p.1)) (omega arith) in cc (p.1, rest)
-
--- of two lists of one length that one begins, both are the same
-pub same_length : (xs ys : List Op) → Continues xs ys → length ys ≡ length xs → ys ≡ xs
-same_length xs ys p e = sym (whole xs ys (p.0, sym p.1) (omega (arith, e)))

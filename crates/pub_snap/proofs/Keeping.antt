@@ -7,10 +7,10 @@ use Rattle.atomic_table.proofs.Lists.{at_set, at_snoc}
 use Rattle.logbook.specs.Pages.{Book}
 use Rattle.fm_model.specs.declared.op.Op.{Op}
 use Rattle.fm_model.specs.declared.proto.Proto.{Proto}
-use Rattle.pub_plain.specs.History.{Continues}
+use Rattle.pub_look.specs.History.{Continues}
+use Rattle.pub_look.proofs.HistoryLemmas.{continues_on, continues_itself}
 use Rattle.pub_snap.specs.declared.rule.Known.{Known}
 use Rattle.pub_snap.specs.Rule.{AllBegin, Copy, Enters, IsShown}
-use Rattle.pub_snap.proofs.Beginnings.{continues_itself, continues_on}
 
 -- one seat has seen another beginning
 set_begins : (log : List Op) (views : List Known) (seat : ℕ) (view : Known) → AllBegin log views
@@ -74,7 +74,7 @@ module _ (book : Book) (proto : Proto) where
         (grown_begins shown.log next.log views is.begin on) (continues_itself next.log);
   }
 
--- of several copies that take each other's place the last stays
+-- of several copies that replace each other the last stays
 pub last_stays : {A : Type 0} (first : A) (copies before : List A) (last : A) → copies ≡ before ++ last ∷ []
     → fold (λ _ next. next) first copies ≡ last
 last_stays {A} first copies before last is = ap (λ (l : List A). fold (λ _ next. next) first l) is

@@ -11,11 +11,11 @@ use Rattle.fm_model.specs.Collection.{coll}
 use Rattle.fm_model.specs.Site.{IsPrototype}
 use Rattle.fm_edition.specs.Log.{held_of, CanFollow, IsLog}
 use Rattle.fm_edition.proofs.EditionLemmas.{IsLog-push}
-use Rattle.pub_plain.specs.History.{Continues, Keeps}
+use Rattle.pub_look.specs.History.{Continues, Keeps}
+use Rattle.pub_look.proofs.HistoryLemmas.{continues_on, continues_itself}
 use Rattle.pub_snap.specs.declared.rule.Known.{Known}
 use Rattle.pub_snap.specs.Rule.{longer, AllKnown, IsKept, IsShown, Publication}
 use Rattle.pub_snap.specs.Steps.{copy_of, entered, opened, published, receipted, unseated, with_learnt, with_seat}
-use Rattle.pub_snap.proofs.Beginnings.{continues_itself, continues_on}
 use Rattle.pub_snap.proofs.Keeping.{comes, enters, newcomer_begins, shows}
 
 -- what a log leaves stands for it
@@ -109,16 +109,16 @@ longer_begins : (log own told : List Op) (b : Bool) → Continues own log → Co
 longer_begins log own told true p q = q
 longer_begins log own told false p q = p
 
-pub rule-learnt : (book : Book) (proto : Proto) (now : Publication) (place other : ℕ) (own told : List Op)
-    → IsKept book proto now → get_elem? now.learnt place ≡ some own → get_elem? now.learnt other ≡ some told
-    → IsKept book proto (with_learnt now place own told)
-rule-learnt book proto now place other own told is mine its =
+pub rule-learnt : (book : Book) (proto : Proto) (now : Publication) (index other : ℕ) (own told : List Op)
+    → IsKept book proto now → get_elem? now.learnt index ≡ some own → get_elem? now.learnt other ≡ some told
+    → IsKept book proto (with_learnt now index own told)
+rule-learnt book proto now index other own told is mine its =
     let begins : Continues (longer own told) now.log =
     longer_begins now.log own told (nat_lt (length own) (length told))
-    (is.learnt place own mine) (is.learnt other told its)
+    (is.learnt index own mine) (is.learnt other told its)
     in
-    of_learnt book proto now (set now.learnt place (longer own told)) is
+    of_learnt book proto now (set now.learnt index (longer own told)) is
     (λ i list at. ⊎_elim
-    (λ (here : (i ≡ place) × (longer own told ≡ list)). subst (λ (l : List Op). Continues l now.log) here.1 begins)
-    (λ (there : (i ≢ place) × (get_elem? now.learnt i ≡ some list)). is.learnt i list there.1)
-    (at_set now.learnt place i (longer own told) list at))
+    (λ (here : (i ≡ index) × (longer own told ≡ list)). subst (λ (l : List Op). Continues l now.log) here.1 begins)
+    (λ (there : (i ≢ index) × (get_elem? now.learnt i ≡ some list)). is.learnt i list there.1)
+    (at_set now.learnt index i (longer own told) list at))

@@ -8,8 +8,8 @@ pub record Counts (cells : List Cell) (log : List Op) : Type 0 where
   pub words : cells ≡ (length log, true) ∷ (0, true) ∷ []
 
 -- the word of a book that holds the length of the log
-abbrev pub head_of : Book → Named
-head_of book = record { tracked = true; key = 0; book = book }
+abbrev pub length_word : Book → Named
+length_word book = record { tracked = true; key = 0; book = book }
 
 -- the operation was added to all that had been seen; or the log was longer than that
 abbrev pub Adds : Step Op → View Op ℕ → ℕ → View Op ℕ → Type 0

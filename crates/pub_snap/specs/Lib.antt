@@ -2,5 +2,5 @@ pub mod Book
 pub mod Opening
 pub mod Rule
 pub mod Steps
-pub use Rattle.pub_plain.specs.History
+pub use Rattle.pub_look.specs.History
 pub use Rattle.fm_edition.specs.Log

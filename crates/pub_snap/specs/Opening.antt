@@ -1,10 +1,10 @@
--- What a desk, its passes and its shares are opened with.
+-- The values that a desk, its passes and its shares are opened with.
 use Rattle.std.specs.Prelude.{◌≡◌, ℕ, [], pos}
 use Rattle.logbook.specs.Pages.{Book}
 use Rattle.fm_model.specs.declared.proto.Proto.{Proto}
-use Rattle.pub_plain.specs.History.{History}
+use Rattle.pub_look.specs.History.{History}
 
--- the place of the log, the name of the ledger, the prototype, and how many passes and shares there are
+-- the book of the log, the name of the ledger, the prototype, and the numbers of passes and shares
 pub record Opening : Type 0 where
   pub book : Book
   pub ledger : ℕ
@@ -12,7 +12,7 @@ pub record Opening : Type 0 where
   pub passes : ℕ
   pub shares : ℕ
 
--- a name with these members stands for what is opened
+-- a name with these members stands for an opening
 pub record IsNamed (opening : Opening) (book : Book) (ledger : ℕ) (proto : Proto) (parts : ℕ) : Type 0 where
   pub book_is : opening.book ≡ book
   pub ledger_is : opening.ledger ≡ ledger

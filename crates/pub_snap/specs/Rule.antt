@@ -7,7 +7,7 @@ use Rattle.fm_model.specs.declared.op.Op.{Op}
 use Rattle.fm_model.specs.declared.proto.Proto.{Proto}
 use Rattle.fm_edition.specs.Held.{Held}
 use Rattle.fm_edition.specs.Log.{IsLog}
-use Rattle.pub_plain.specs.History.{Continues, Keeps}
+use Rattle.pub_look.specs.History.{Continues, Keeps}
 use Rattle.pub_snap.specs.declared.rule.Known.{Known}
 
 -- a copy: an edition, and the beginning of the log that it stands for
@@ -36,7 +36,7 @@ pub record IsAtDesk (proto : Proto) (log : List Op) (shown : Copy) (writer : Kno
   pub seen : writer.seen ≡ log
   pub counted : booked ≡ length log
 
--- what a pass or a receipt knows is of this desk, and each operation could be done to what those before it left
+-- a pass or a receipt knows this desk's log, and each operation could be done to what those before it left
 pub record IsOf (book : Book) (proto : Proto) (known : Book) (log : List Op) : Type 0 where
   pub same : known ≡ book
   pub sound : IsLog proto log
@@ -45,7 +45,7 @@ pub record IsOf (book : Book) (proto : Proto) (known : Book) (log : List Op) : T
 abbrev pub AllKnown : List Op → List (List Op) → Type 0
 AllKnown log lists = (i : ℕ) (list : List Op) → get_elem? lists i ≡ some list → Continues list log
 
--- what stands between two calls of the desk: the log, the copy that readers enter and the other, what the writer and
+-- a publication between two calls of the desk: the log, the copy that readers enter and the other, what the writer and
 -- all seats have seen, what passes have learnt and receipts say, and the total of the ledger
 pub record Publication : Type 0 where
   pub log : List Op

@@ -1,4 +1,4 @@
--- The steps of a publication, each as what stands after it.
+-- The steps of a publication, each as the publication after it.
 use Rattle.std.specs.Prelude.{◌+◌, ℕ, List, [], ◌∷◌, ◌++◌, slice_set}
 use Rattle.logbook.specs.Pages.{Book}
 use Rattle.fm_model.specs.declared.op.Op.{Op}
@@ -7,7 +7,7 @@ use Rattle.fm_edition.specs.Log.{held_of}
 use Rattle.pub_snap.specs.declared.rule.Known.{Known}
 use Rattle.pub_snap.specs.Rule.{longer, Copy, Publication}
 
--- the copy of what a log leaves
+-- the copy that stands for a log
 abbrev pub copy_of : Book → Proto → List Op → Copy
 copy_of book proto log = record { held = held_of proto log; book = book; log = log }
 
@@ -15,7 +15,7 @@ copy_of book proto log = record { held = held_of proto log; book = book; log = l
 abbrev pub unseated : Known
 unseated = record { seen = []; looks = [] }
 
--- what is opened, with no seat but the writer's yet
+-- a publication at its opening, with no seat but the writer's yet
 abbrev pub opened : Book → Proto → Publication
 opened book proto = record {
   log = [];
@@ -36,11 +36,11 @@ abbrev pub entered : Publication → ℕ → List ℕ → Publication
 entered now seat looks =
     record now { seats = slice_set now.seats seat (record { seen = now.shown.log; looks = looks }) }
 
--- what the writer has seen once an operation is published
+-- the writer's knowledge once an operation is published
 abbrev pub writer_after : Publication → Op → Known
 writer_after now op = record { seen = now.log ++ op ∷ []; looks = now.writer.looks }
 
--- the writer, at its seat, adds an operation to the log, shows the copy of what it leaves, and books it
+-- the writer, at its seat, adds an operation to the log, shows the copy that stands for the log, and books it
 abbrev pub published : Book → Proto → Publication → ℕ → Op → Publication
 published book proto now seat op = record {
   log = now.log ++ op ∷ [];
@@ -58,4 +58,4 @@ receipted now = record now { learnt = now.learnt ++ now.log ∷ [] }
 
 -- a pass that knows one list learns another
 abbrev pub with_learnt : Publication → ℕ → List Op → List Op → Publication
-with_learnt now place own told = record now { learnt = slice_set now.learnt place (longer own told) }
+with_learnt now index own told = record now { learnt = slice_set now.learnt index (longer own told) }

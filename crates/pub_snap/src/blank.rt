@@ -47,7 +47,7 @@ impl Model for Blank {
         × (blank.ledger.parts ≡ blank.shares) × (0 < blank.passes) × (blank.passes ≤ 25) };
 }
 
-/// Takes what a desk of the empty collection over a prototype needs, for so many passes and shares.
+/// Prepares a desk of the empty collection over a prototype, with this number of passes and shares.
 pub fn prepare(
     alloc: Global,
     proto: Arc<Proto>,
@@ -106,7 +106,7 @@ impl Blank {
     }
 }
 
-// So many passes without a seat.
+// `count` passes without a seat.
 fn unseated<N: Name>(alloc: Global, front: &Front, count: u32) -> Result<List<Pass<N>>, NoMemory>
     requires known { IsOf N.book N.proto front.now.seen.book front.now.seen.log }
     requires empty { front.now.seen.log ≡ [] }

@@ -5,7 +5,7 @@ ghost use Rattle.fm_model.specs.declared.op.Op.TheVariants as ops;
 ghost use Rattle.fm_model.specs.Collection.{coll, full_at, holds, holds_older, tally};
 ghost use Rattle.fm_edition.specs.Held.{unless_full, OpFits};
 ghost use Rattle.left_right.specs.Sides.{view};
-ghost use Rattle.pub_plain.specs.History.{Keeps};
+ghost use Rattle.pub_look.specs.History.{Keeps};
 ghost use Rattle.pub_snap.specs.Rule.{IsOf};
 
 use crate::log::{Front, Page};
@@ -51,7 +51,7 @@ impl<N: Name> Model for Desk<N> {
         × (desk.rest.parts ≡ 0) × (desk.rest.amount ≡ 0) × (length desk.marks ≡ length desk.front.seen.log) };
 }
 
-/// What stands at the end of a desk: how much is held, the number of operations, and the sum of all shares.
+/// The end of a desk: how much is held, the number of operations, and the sum of all shares.
 #[derive(Clone, Copy, Debug, PartialEq, Eq)]
 pub struct Closed {
     pub tally: Tally,
@@ -86,7 +86,7 @@ impl<N: Name> Desk<N> {
         }
     }
 
-    /// Publishes an operation as the last in the log, and returns the log; or what there would be too many of. An `Err`
+    /// Publishes an operation as the last in the log, and returns the log, or the limit that it would pass. An `Err`
     /// changes nothing. It waits for readers that are inside the copy that it changes.
     pub fn publish<R: Wait>(
         &mut self,
@@ -134,16 +134,17 @@ impl<N: Name> Desk<N> {
         Ok(Some(receipt))
     }
 
-    /// Publishes that the file of a name goes, where one is held, and returns the log and whether it was. An `Err`
-    /// changes nothing. It waits as `publish` does.
+    /// Publishes that the file of a name goes, and returns the log. `None`, and nothing changed, where no held file has
+    /// the name. An `Err` changes nothing. It waits as `publish` does.
     pub fn retract<R: Wait>(
         &mut self,
         alloc: Global,
         rt: &R,
         share: &mut Share<N>,
         name: &[u8],
-    ) -> Result<(Receipt<N>, bool), NoMemory>
-        ensures answer { IfOk result (λ found. (found.0 ≡ self.new) × (found.1 ≡ holds (coll self.old) name.now)) }
+    ) -> Result<Option<Receipt<N>>, NoMemory>
+        ensures answer { IfOk result (λ receipt. receipt
+            ≡ (if holds (coll self.old) name.now then Some (self.old ++ ops.Retract name.now ∷ []) else None)) }
         ensures ok { OnOk result
             (self.new ≡ (if holds (coll self.old) name.now then self.old ++ ops.Retract name.now ∷ [] else self.old)) }
         ensures counted { OnOk result
@@ -152,11 +153,11 @@ impl<N: Name> Desk<N> {
         ensures uncounted { OnErr result (share.new ≡ share.old) }
     {
         if !self.edition().holds(name) {
-            return Ok((self.receipt(), false));
+            return Ok(None);
         }
         let name = Bytes::copy_of(alloc, name)?;
         let receipt = self.take_out(alloc, rt, share, Op::Retract(name))?;
-        Ok((receipt, true))
+        Ok(Some(receipt))
     }
 
     /// The whole log.

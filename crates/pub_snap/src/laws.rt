@@ -26,7 +26,7 @@ pub fn each_step_keeps_the_rule()
         → IsKept book proto (published book proto now seat op) }
     ensures telling { (book : Book) (proto : Proto) (now : Publication) → IsKept book proto now
         → IsKept book proto (receipted now) }
-    ensures learning { (book : Book) (proto : Proto) (now : Publication) (place other : ℕ) (own told : List Op)
-        → IsKept book proto now → get_elem? now.learnt place ≡ some own → get_elem? now.learnt other ≡ some told
-        → IsKept book proto (with_learnt now place own told) }
+    ensures learning { (book : Book) (proto : Proto) (now : Publication) (index other : ℕ) (own told : List Op)
+        → IsKept book proto now → get_elem? now.learnt index ≡ some own → get_elem? now.learnt other ≡ some told
+        → IsKept book proto (with_learnt now index own told) }
 {}

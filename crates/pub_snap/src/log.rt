@@ -1,7 +1,7 @@
 //! A beginning of the one log, as a token that no call takes away.
 ghost use Rattle.std.specs.Prelude.{◌≡◌, ◌+◌, ◌≤◌, ◌++◌, ◌∷◌, ◌↔◌, [], length, IfSome, IsTrue, IsFalse};
-ghost use Rattle.pub_plain.specs.History.{Continues};
-ghost use Rattle.pub_snap.specs.Book.{head_of};
+ghost use Rattle.pub_look.specs.History.{Continues};
+ghost use Rattle.pub_snap.specs.Book.{length_word};
 
 use fm_model::Op;
 use logbook::{Gain, Offer, Plain, Play, Rule, Seen, Start, Word};
@@ -57,7 +57,7 @@ impl Plain<Op, Op, u64> for Add {
 #[derive(Drop)]
 pub struct Page {
     head: Word<Op, u64, Law>,
-    pub ghost head_is: { head ≡ head_of head.book },
+    pub ghost head_is: { head ≡ length_word head.book },
 }
 
 // A beginning of the log, and its length.

@@ -4,12 +4,12 @@ ghost use Rattle.fm_model.specs.declared.proto.Proto.{Proto as Prototype};
 use std::marker::Brand;
 use std::sync::ledger::Ledger;
 
-/// One desk: its place, its prototype, and by the ledger the number of its shares. What one `open` gives has one name,
-/// so that what belongs to different desks has different types. A caller passes `Brand`, and its proof picks the name.
+/// One desk: its book, its prototype, and by the ledger the number of its shares. What one `open` returns has one name,
+/// so that parts of different desks have different types. A caller passes `Brand`, and its proof picks the name.
 pub trait Name: Ledger {
     ghost use Rattle.logbook.specs.Pages.{Book};
 
-    /// The place of the log.
+    /// The book of the log.
     ghost book: { Book };
 
     /// The prototype of the collection.

@@ -1,8 +1,8 @@
-//! What looks at what is published.
+//! A pass, which looks at the published operations.
 ghost use Rattle.std.specs.Prelude.{◌≡◌, ◌∷◌, [], ◌++◌, length, true, false, IsTrue, IfOk, IfSome, IfNone};
 ghost use Rattle.left_right.specs.Sides.{view};
 ghost use Rattle.fm_edition.specs.Log.{held_of, IsLog};
-ghost use Rattle.pub_plain.specs.History.{Continues};
+ghost use Rattle.pub_look.specs.History.{Continues};
 ghost use Rattle.pub_snap.specs.Opening.{unused};
 ghost use Rattle.pub_snap.specs.Rule.{longer, IsOf};
 
@@ -13,7 +13,7 @@ use crate::rule::{Known, Looks, Meets, Publication};
 use crate::shown::Shown;
 use fm_base::NoMemory;
 use left_right::reader::{Factory, Reader};
-use pub_plain::{Look, Query};
+use pub_look::{Look, Query};
 use std::alloc::Global;
 use std::marker::Model;
 
@@ -24,7 +24,7 @@ pub(crate) type Seat<N> = Reader<Shown, Known, Publication<N>>;
 /// they were at each of its looks.
 #[derive(Drop)]
 pub struct Pass<N: Name> {
-    // None where there was no place for it.
+    // `None` where the copies had no seat left.
     seat: Option<Seat<N>>,
     front: Front,
     // More may have been learnt than the seat has seen.
@@ -34,7 +34,7 @@ pub struct Pass<N: Name> {
 impl<N: Name> Model for Pass<N> {
     ghost use Rattle.std.specs.Prelude.{◌≡◌, [], false, option_map, unwrap_or, IfSome};
     ghost use Rattle.left_right.specs.Sides.{view as view_of};
-    ghost use Rattle.pub_plain.specs.History.{History};
+    ghost use Rattle.pub_look.specs.History.{History};
     ghost use Rattle.pub_snap.specs.declared.rule.Known.{Known};
     ghost use Rattle.pub_snap.specs.Rule.{IsOf};
 
@@ -51,7 +51,7 @@ impl<N: Name> Model for Pass<N> {
         (view_of {V = Known} seat.place).seen ≡ pass.front.seen.log)) };
 }
 
-#[tactic(auto, using(crate::proofs::Beginnings::same_length))]
+#[tactic(auto, using(pub_look::proofs::HistoryLemmas::same_length))]
 impl<N: Name> Pass<N> {
     // A pass that has no seat yet.
     pub(crate) fn unseated(front: Front) -> Pass<N>
@@ -66,7 +66,7 @@ impl<N: Name> Pass<N> {
         }
     }
 
-    // Gives a pass without a seat one that has looked at nothing yet, if there is a place.
+    // Gives a pass without a seat one that has looked at nothing yet, if one is left.
     pub(crate) fn sit(&mut self, factory: &Factory<Shown, Known, Publication<N>>)
         ensures { self.new ≡ self.old }
     {
@@ -93,7 +93,7 @@ impl<N: Name> Pass<N> {
     }
 }
 
-#[tactic(auto, using(crate::proofs::Beginnings::continues_itself))]
+#[tactic(auto, using(pub_look::proofs::HistoryLemmas::continues_itself))]
 impl<N: Name> Look for Pass<N> {
     ghost proto = { λ pass. pass.proto };
 
@@ -129,8 +129,8 @@ impl<N: Name> Look for Pass<N> {
     }
 }
 
-// Sees to it that the seat has seen all that is known: where more may have been learnt, it enters once, without a look.
-// The answer is whether it has.
+// Brings the seat up to all that is known: where more may have been learnt, it enters once, without a look. Returns
+// whether the seat has seen all of it.
 fn meet<N: Name>(seat: Seat<N>, known: &Front, ahead: bool) -> (Seat<N>, bool)
     requires known { known.now.seen.book ≡ N.book }
     requires level { ahead ≡ false → (view seat.place).seen ≡ known.now.seen.log }

@@ -1,4 +1,4 @@
-//! What each seat at the two copies knows, and the rule that all of them keep.
+//! The knowledge of each seat at the two copies, and the rule that all seats keep.
 
 use crate::name::Name;
 use crate::shown::Shown;
@@ -13,7 +13,7 @@ pub struct Known {
     pub looks: LinkedList<u64>,
 }
 
-// What holds of the copy that readers enter, and of all seats.
+// The rule of the copy that readers enter, and of all seats.
 pub struct Publication<N> {
     of: PhantomData<N>,
 }
@@ -40,7 +40,7 @@ impl<N: Name> Outcome<Shown, Known> for Looks<N> {
         × (after.looks ≡ before.looks ++ length shown.log ∷ []) };
 }
 
-// Entering to see what is shown, which is no look.
+// Entering to see the shown copy, which is no look.
 pub struct Meets<N> {
     of: PhantomData<N>,
 }

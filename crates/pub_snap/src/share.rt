@@ -1,4 +1,4 @@
-//! What one publisher has published.
+//! The operations that one publisher has published.
 ghost use Rattle.std.specs.Prelude.{◌≡◌, ◌+◌, ◌<◌, ◌^◌, length, replicate, sum, IfOk, OnOk};
 
 use crate::name::Name;
@@ -25,7 +25,7 @@ impl<N: Name> Model for Share<N> {
 }
 
 impl<N: Name> Share<N> {
-    /// How many operations were published with it.
+    /// The number of operations that were published with it.
     pub fn count(&self) -> u64
         ensures { result ≡ self.now }
     {
@@ -62,7 +62,7 @@ impl<N: Name> Share<N> {
     }
 }
 
-// Cuts so many shares off what no share has of the ledger.
+// Cuts `count` shares off the unshared rest of the ledger.
 pub(crate) fn cut<N: Name>(
     alloc: Global,
     rest: &mut ledger::Share<N>,
@@ -79,7 +79,7 @@ pub(crate) fn cut<N: Name>(
     Ok(shares)
 }
 
-// What all shares counted together, which is the total of the book.
+// The sum of all shares' counts, which is the total of the book.
 pub(crate) fn count_all<N: Name>(
     book: &mut ledger::Book<N>,
     rest: ledger::Share<N>,

@@ -1,6 +1,6 @@
 //! A copy that readers enter: an edition, and the log that it stands for.
 ghost use Rattle.std.specs.Prelude.{◌≡◌, IfOk};
-ghost use Rattle.pub_plain.specs.History.{Keeps};
+ghost use Rattle.pub_look.specs.History.{Keeps};
 
 use crate::log::Front;
 use fm_base::{Arc, NoMemory};
@@ -9,7 +9,7 @@ use left_right::Absorb;
 use std::alloc::AllocError;
 use std::marker::Model;
 
-// An edition, with the beginning of the log that it stands for. The next one takes its place as it is.
+// An edition, with the beginning of the log that it stands for. The next one replaces it as it is.
 #[derive(Drop)]
 pub struct Shown {
     edition: Arc<Edition>,
@@ -17,7 +17,7 @@ pub struct Shown {
 }
 
 impl Model for Shown {
-    ghost use Rattle.pub_plain.specs.History.{Keeps};
+    ghost use Rattle.pub_look.specs.History.{Keeps};
     ghost use Rattle.pub_snap.specs.Rule.{Copy};
 
     ghost Value = { Copy };

@@ -1,7 +1,7 @@
 //! Showing the next copy to readers.
 ghost use Rattle.std.specs.Prelude.{◌≡◌, drop, IsSomeAnd};
 ghost use Rattle.left_right.specs.Sides.{view};
-ghost use Rattle.pub_plain.specs.History.{Continues};
+ghost use Rattle.pub_look.specs.History.{Continues};
 ghost use Rattle.pub_snap.specs.Rule.{Copy, EndsWith, Follows};
 
 use crate::name::Name;

@@ -2,7 +2,7 @@
 
 use crate::collection::ingested;
 use crate::stock::{ABSENT, BACK, CHANGED, FIRST, SECOND, inbox_of};
-use fm_doors::Verdict;
+use dev_traits::Verdict;
 use srv_ingest::{IngestEnd, IngestReport};
 use std::test::Fail;
 

@@ -3,8 +3,8 @@ ghost use Rattle.std.specs.Prelude.{◌≡◌, ◌≤◌};
 ghost use Rattle.pub_snap.specs.Opening.{IsNamed};
 
 use crate::files::prototype;
+use dev_memory::{MemClock, MemInbox};
 use fm_base::Arc;
-use fm_doors::{MemClock, MemInbox};
 use fm_model::Proto;
 use pub_snap::{Blank, Closed, Desk, Name, Pass, Share, prepare};
 use srv_ingest::{ExpireReport, IngestReport, expire_all, ingest_all};
@@ -36,7 +36,7 @@ fn ingests<N: Name, R: Wait>(
     Ok((report, desk.into_inner().close(rt, shares)))
 }
 
-/// What taking in all of an inbox tells, over a fresh collection, and what is held at the end.
+/// The report of taking in all of an inbox, over a fresh collection, and the collection at the end.
 pub fn ingested<R: Wait>(
     rt: &R,
     alloc: Global,
@@ -72,7 +72,7 @@ fn expires<N: Name, R: Wait>(
     Ok(([first, second], desk.into_inner().close(rt, shares)))
 }
 
-/// What letting runs go at the moments of two clocks tells, after taking in all of an inbox, and what is held at the end.
+/// The reports of two clocks, after taking in all of an inbox, and the collection at the end.
 pub fn ingested_and_expired<R: Wait>(
     rt: &R,
     alloc: Global,

@@ -6,7 +6,7 @@ use crate::files::{FIRST_RUN, Files, NAMES, SIX_HOURS};
 use crate::probe::Sketch;
 use fm_base::{Arc, List};
 use fm_model::{Op, Proto};
-use pub_plain::{Look, Plain};
+use pub_look::{Look, Plain};
 use pub_snap::{Desk, Name, Share};
 use std::alloc::Global;
 use std::sync::Wait;
@@ -22,8 +22,8 @@ pub(crate) const SKETCH: Sketch = Sketch {
     second: FIRST_RUN + 2 * SIX_HOURS,
 };
 
-// What is done in each of eight steps, which come again and again: an expiry below a run, a retraction of the file of
-// this place, or a put of it. Each of them changes what is held.
+// One of eight steps, which come again and again: an expiry below a run, a retraction, or a put of the file of this
+// number. Each of them changes the collection.
 #[derive(Clone, Copy)]
 pub(crate) enum Step {
     Put(u64),
@@ -53,12 +53,12 @@ pub(crate) fn publish<N: Name, R: Wait>(
     step: Step,
 ) -> bool {
     match step {
-        Step::Put(place) => match files.put(place) {
+        Step::Put(number) => match files.put(number) {
             Ok(file) => desk.publish(alloc, rt, share, Op::Put(file)).is_ok(),
             Err(_) => false,
         },
         Step::Expire(cutoff) => matches!(desk.expire(alloc, rt, share, cutoff), Ok(Some(_))),
-        Step::Retract => matches!(desk.retract(alloc, rt, share, NAMES[1]), Ok((_, true))),
+        Step::Retract => matches!(desk.retract(alloc, rt, share, NAMES[1]), Ok(Some(_))),
     }
 }
 
@@ -68,7 +68,7 @@ fn publish_plainly<N: Name>(alloc: Global, plain: &mut Plain, files: &Files<N>, 
     ensures { plain.new.proto ≡ plain.old.proto }
 {
     match step {
-        Step::Put(place) => match files.put(place) {
+        Step::Put(number) => match files.put(number) {
             Ok(file) => plain.publish(alloc, Op::Put(file)).is_ok(),
             Err(_) => false,
         },

@@ -2,14 +2,14 @@
 
 use crate::collection::{KEEP, ingested_and_expired};
 use crate::stock::{FIRST, SECOND, clock_of, inbox_of};
-use fm_doors::Expiry;
+use dev_traits::Expiry;
 use srv_ingest::ExpireReport;
 use std::test::Fail;
 
 // The second run, 2024-01-01T06:00:00Z, in seconds from 1970.
 const SECOND_RUN: i64 = 1_704_088_800;
 
-// The report of so many expiries, for which memory sufficed.
+// The report of `expired` expiries, for which memory sufficed.
 fn expired(expired: u64) -> ExpireReport {
     ExpireReport { expired, short: 0 }
 }

@@ -62,11 +62,11 @@ impl<N: Name> Files<N> {
         })
     }
 
-    /// The file of this place.
-    pub fn put(&self, place: u64) -> Result<Arc<Loaded>, NoMemory>
+    /// The file of this number.
+    pub fn put(&self, number: u64) -> Result<Arc<Loaded>, NoMemory>
         ensures { IfOk result (λ file. Fits file N.proto) }
     {
-        match place {
+        match number {
             0 => self.first.share(),
             1 => self.second.share(),
             2 => self.third.share(),

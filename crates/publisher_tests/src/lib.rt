@@ -1,6 +1,6 @@
 //! The publisher of `pub_snap` over threads, and what `srv_ingest` settles over its desk in one thread, on files that
-//! `fm_load` takes. Here stands what no clause says: that memory suffices, that threads change no answer, and that devices
-//! in memory fail where they were made to.
+//! `fm_load` takes. Here stands what no clause says: that memory suffices, that threads change no answer, and that
+//! devices in memory fail where they were made to.
 #![tactic(auto)]
 
 #[cfg(test)]

@@ -4,7 +4,7 @@ ghost use Rattle.std.specs.Prelude.{◌≡◌, IfOk};
 use fm_base::{Arc, NoMemory};
 use fm_edition::Edition;
 use fm_model::{Loaded, Tally};
-use pub_plain::Query;
+use pub_look::Query;
 use std::alloc::Global;
 
 /// How much is held.

@@ -7,7 +7,7 @@ use crate::course::{SKETCH, STEPS, Step, answers, publish, step_at};
 use crate::files::{Files, prototype};
 use fm_base::{Arc, List};
 use fm_model::Proto;
-use pub_plain::Look;
+use pub_look::Look;
 use pub_snap::{Blank, Desk, Name, Pass, Receipt, Share, prepare};
 use std::alloc::Global;
 use std::marker::Brand;

@@ -7,7 +7,7 @@ use crate::files::{FIRST_RUN, NAMES, SIX_HOURS, later, prototype, sample};
 use crate::probe::{FileAt, HowMuch};
 use fm_base::{Arc, Fail as Failure};
 use fm_model::{Full, Loaded, Op, Tally};
-use pub_plain::Look;
+use pub_look::Look;
 use pub_snap::{Blank, Closed, Desk, Name, Pass, Receipt, Share, prepare};
 use std::alloc::Global;
 use std::marker::Brand;

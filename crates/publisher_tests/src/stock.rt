@@ -1,9 +1,8 @@
 //! The files that arrive, and the moments that come.
 
+use dev_memory::{Entry, MemClock, MemInbox};
 use fm_base::{Bytes, List, NoMemory};
-use fm_doors::{MemClock, MemInbox};
 use fm_sample::File;
-use fm_world::Entry;
 use std::alloc::Global;
 
 /// The name of the first run.

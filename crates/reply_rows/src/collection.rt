@@ -10,7 +10,7 @@ use fm_edition::Edition;
 use fm_load::load;
 use fm_model::{Full, Op, Proto, Site, Which};
 use fm_proto::read_proto;
-use pub_plain::{Look, Plain, Query};
+use pub_look::{Look, Plain, Query};
 use row_text::{File, Row, content};
 use std::alloc::Global;
 

@@ -4,7 +4,8 @@ use crate::bytes::{ended, put_text};
 use crate::wrong::Wrong;
 use dap_dds::{dds_len, dds_text};
 use dap_model::{Array, DapKind, Decl};
-use fm_base::{Bytes, Dim, Fail, List};
+use fm_base::{Bytes, Fail, List};
+use nc_model::Dim;
 use row_text::Row;
 use std::alloc::Global;
 

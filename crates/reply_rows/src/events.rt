@@ -13,7 +13,7 @@ use pub_core::{Event, Outcome, run_all};
 use row_text::{File, Row, bytes};
 use std::alloc::Global;
 
-/// What a row's events leave: how many operations were published, and what each session has seen and was sent.
+/// The outcome of a row's events: the number of operations, and for each session its revision and its bytes.
 pub fn said(alloc: Global, files: &[File], row: &Row<'_>) -> Result<String, Fail<Wrong>> {
     if !row.has_only(&["prototype", "epoch", "sessions", "event"]) {
         return Err(Fail::Fault(Wrong::Form));
@@ -25,7 +25,7 @@ pub fn said(alloc: Global, files: &[File], row: &Row<'_>) -> Result<String, Fail
     let words = words_of(alloc, row)?;
     let events = events_of(alloc, files, proto.get(), words.as_slice())?;
     let outcome = run_all(alloc, proto, sessions, &events)?;
-    told(alloc, &outcome)
+    outcome_text(alloc, &outcome)
 }
 
 // The words of a row's events; the only one of `none` is none.
@@ -125,8 +125,8 @@ fn count(word: &str) -> Result<u64, Fail<Wrong>> {
     word.parse::<u64>().ok().ok_or(Fail::Fault(Wrong::Form))
 }
 
-// What is left of a run.
-fn told(alloc: Global, outcome: &Outcome) -> Result<String, Fail<Wrong>> {
+// The outcome as text.
+fn outcome_text(alloc: Global, outcome: &Outcome) -> Result<String, Fail<Wrong>> {
     let mut out = format!(in alloc; "operations {}", outcome.log.len())?;
     for (session, output) in outcome.outputs.as_slice().iter().enumerate() {
         let seen = outcome.seen.as_slice().get(session).copied().unwrap_or(0);

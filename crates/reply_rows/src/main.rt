@@ -13,7 +13,7 @@ mod wrong;
 
 use crate::wrong::Wrong;
 use fm_base::Fail;
-use row_text::{Answers, Count, File, Row, Text, end, read_inputs, rows, run};
+use row_text::{Answers, File, Row, Text, read_inputs, rows, run_all, without_folders};
 use std::alloc::{AllocError, Global};
 use std::io;
 use std::process::ExitCode;
@@ -36,7 +36,7 @@ impl<'a> Collections<'a> {
         None
     }
 
-    // What comes out of a row. The first key that says of what it is decides.
+    // The answer to a row, by the first of these keys that it has.
     fn said(&self, alloc: Global, row: &Row<'_>) -> Result<String, Fail<Wrong>> {
         if row.value("event").is_some() {
             return events::said(alloc, self.files, row);
@@ -59,18 +59,18 @@ impl Answers for Collections<'_> {
         match self.said(alloc, row) {
             Ok(text) => Ok(Some(text)),
             Err(Fail::Fault(Wrong::Form)) => Ok(None),
-            Err(Fail::Fault(Wrong::Taken)) => told(
+            Err(Fail::Fault(Wrong::Taken)) => unwanted(
                 alloc,
                 "\nother bytes where they are taken in another way",
             ),
-            Err(Fail::Fault(Wrong::Data)) => told(alloc, "\nother data than the row describes"),
+            Err(Fail::Fault(Wrong::Data)) => unwanted(alloc, "\nother data than the row describes"),
             Err(Fail::NoMemory) => Err(AllocError),
         }
     }
 }
 
 // A text that no row wants, since it begins with a line end.
-fn told(alloc: Global, text: &str) -> Result<Option<String>, AllocError> {
+fn unwanted(alloc: Global, text: &str) -> Result<Option<String>, AllocError> {
     Ok(Some(String::from_str(alloc, text)?))
 }
 
@@ -85,38 +85,13 @@ fn all_rows(alloc: Global, texts: &[Text]) -> Result<Vec<Row<'_>>, AllocError> {
     Ok(all)
 }
 
-// Files under their names without the folder in front.
-fn without_folders(alloc: Global, files: &[File]) -> Result<Vec<File>, AllocError> {
-    let mut named = Vec::new(alloc);
-    for file in files {
-        let name = file.name.as_str();
-        let (_, last) = name.rsplit_once('/').unwrap_or(("", name));
-        named.push(File {
-            name: String::from_str(alloc, last)?,
-            content: Vec::from_slice(alloc, file.content.as_slice())?,
-        })?;
-    }
-    Ok(named)
-}
-
 fn main(rt: HostRuntime) -> io::Result<ExitCode> {
     let inputs = read_inputs(&rt)?;
-    let files = without_folders(rt.alloc(), inputs.files.as_slice())?;
+    let files = without_folders(rt.alloc(), inputs.files)?;
     let rows = all_rows(rt.alloc(), inputs.texts.as_slice())?;
     let collections = Collections {
         files: files.as_slice(),
         rows,
     };
-    let mut count = Count::default();
-    for text in &inputs.texts {
-        run(
-            &rt,
-            rt.alloc(),
-            text.path.as_str(),
-            text.text.as_str(),
-            &collections,
-            &mut count,
-        )?;
-    }
-    end(&rt, count)
+    run_all(&rt, rt.alloc(), inputs.texts.as_slice(), &collections)
 }

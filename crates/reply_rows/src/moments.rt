@@ -19,7 +19,7 @@ pub fn read_number(word: &str) -> Result<i64, Fail<Wrong>> {
     word.parse::<i64>().ok().ok_or(Fail::Fault(Wrong::Form))
 }
 
-/// Adds the instant so many seconds from an epoch, or the seconds where it lies outside the years 0 to 9999.
+/// Adds the instant `moment` seconds from an epoch, or the seconds where it lies outside the years 0 to 9999.
 pub fn put_moment(
     alloc: Global,
     epoch: i64,

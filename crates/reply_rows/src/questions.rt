@@ -6,7 +6,7 @@ use fm_base::{Fail, NoMemory};
 use fm_edition::Edition;
 use fm_model::{Row, Tally, ViewName};
 use fm_views::{row_count, rows};
-use pub_plain::Query;
+use pub_look::Query;
 use row_text::put_shown;
 use std::alloc::Global;
 

@@ -4,12 +4,12 @@ use crate::collection::ItsProto;
 use crate::wrong::Wrong;
 use dap_reply::{Order, Plan, order, refusal};
 use fm_base::{Bytes, Fail, NoMemory};
-use pub_plain::{Look, Plain};
+use pub_look::{Look, Plain};
 use std::alloc::Global;
 use web_frame::{Frame, Method, Next, Request};
 use web_session::Asked;
 
-/// A request: what a reply is asked for, and its target.
+/// A request: the item of a stream, and its target.
 #[derive(Drop)]
 pub struct Wanted {
     asked: Asked,

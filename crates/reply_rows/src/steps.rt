@@ -8,7 +8,7 @@ use crate::replies::{first_of, get, plan_for};
 use crate::wrong::Wrong;
 use dap_reply::Plan;
 use fm_base::{Bytes, Fail};
-use pub_plain::{Look, Plain};
+use pub_look::{Look, Plain};
 use row_text::{File, Row, bytes};
 use std::alloc::Global;
 
@@ -96,8 +96,8 @@ impl Steps {
     ) -> Result<(), Fail<Wrong>> {
         match key {
             "put" | "puts" | "expire" | "retract" | "ask" => {
-                let text = self.told(alloc, files, key, value)?;
-                self.tell(text.as_str())
+                let text = self.line_of(alloc, files, key, value)?;
+                self.add_line(text.as_str())
             }
             "target" => self.request(alloc, value.as_bytes(), false),
             "request" => match bytes(alloc, value)? {
@@ -113,15 +113,15 @@ impl Steps {
     }
 
     // Adds a line.
-    fn tell(&mut self, text: &str) -> Result<(), Fail<Wrong>> {
+    fn add_line(&mut self, text: &str) -> Result<(), Fail<Wrong>> {
         if !self.out.is_empty() {
             self.out.push('\n')?;
         }
         Ok(self.out.push_str(text)?)
     }
 
-    // What is said of an operation or to a question.
-    fn told(
+    // The line of an operation or of a question.
+    fn line_of(
         &mut self,
         alloc: Global,
         files: &[File],

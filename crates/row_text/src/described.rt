@@ -10,9 +10,10 @@ pub struct File {
     pub content: Vec<u8>,
 }
 
-/// The content that words describe: the name of a file, or `hex` and its bytes; then any of `at OFFSET HEX` (these bytes
-/// replace those from the offset on), `cut LENGTH` (the first bytes alone), `add HEX` (bytes more) and `fill COUNT HEX`
-/// (bytes more, so often). `None` where the words say something else, or an offset or a length lies past the end.
+/// The content that words describe: the name of a file, or `hex` and its bytes; then any of `at OFFSET HEX` (these
+/// bytes replace those from the offset on), `cut LENGTH` (the first bytes alone), `add HEX` (bytes more) and `fill
+/// COUNT HEX` (bytes more, so often). `None` where the words say something else, or an offset or a length lies past the
+/// end.
 pub fn content(alloc: Global, files: &[File], words: &str) -> Result<Option<Vec<u8>>, AllocError> {
     let mut words = words.split_whitespace();
     let first = words.next().unwrap_or("");

@@ -1,5 +1,5 @@
-//! Rows of a text file, each with what is given and what is wanted: reading them, and running each through a call. What
-//! a row says is tested, and no clause; `docs/ROWS.md` describes the format.
+//! Rows of a text file, each with its given values and the wanted answer: reading them, and running each through a
+//! call. A row is a test and no clause; `docs/ROWS.md` describes the format.
 #![tactic(auto)]
 
 mod described;
@@ -9,7 +9,7 @@ mod text;
 mod values;
 
 pub use described::{File, content};
-pub use reading::{Inputs, Text, read_inputs};
-pub use running::{Answers, Count, end, run};
+pub use reading::{Inputs, Text, read_inputs, without_folders};
+pub use running::{Answers, Count, end, run, run_all};
 pub use text::{Field, Row, rows};
 pub use values::{bytes, hex, put_hex, put_shown};

@@ -1,7 +1,7 @@
 //! The files that a program of rows is given by its words.
 
 use crate::described::File;
-use std::alloc::{Alloc, Global};
+use std::alloc::{Alloc, AllocError, Global};
 use std::env::{self, Env};
 use std::fs::{self, Files};
 use std::io;
@@ -20,8 +20,8 @@ pub struct Text {
     pub text: String,
 }
 
-/// Reads the files that the words after the first name: one whose name ends in `.rows` has rows, and each other is a file
-/// that rows begin from.
+/// Reads the files that the words after the first name: one whose name ends in `.rows` has rows, and each other is a
+/// file that rows begin from.
 pub fn read_inputs<R: Env + Files + Alloc<A = Global>>(rt: &R) -> io::Result<Inputs> {
     let alloc = rt.alloc();
     let mut texts = Vec::new(alloc);
@@ -39,4 +39,15 @@ pub fn read_inputs<R: Env + Files + Alloc<A = Global>>(rt: &R) -> io::Result<Inp
         }
     }
     Ok(Inputs { texts, files })
+}
+
+/// The files under their names without the folders in front.
+pub fn without_folders(alloc: Global, files: Vec<File>) -> Result<Vec<File>, AllocError> {
+    let mut named = Vec::new(alloc);
+    for file in files {
+        let name = String::from_str(alloc, file.name.rsplit('/').next().unwrap_or(""))?;
+        let content = file.content;
+        named.push(File { name, content })?;
+    }
+    Ok(named)
 }

@@ -1,24 +1,25 @@
 //! Rows that are run and counted.
 
+use crate::reading::Text;
 use crate::text::{Row, rows};
 use std::alloc::{AllocError, Global};
 use std::io::{self, Eprint, Print};
 use std::process::ExitCode;
 
-/// How many rows were run, and how many of them came out otherwise than they say.
+/// The number of rows that were run, and of those whose answer isn't the wanted one.
 #[derive(Clone, Copy, Debug, Default)]
 pub struct Count {
     pub rows: usize,
     pub wrong: usize,
 }
 
-/// What comes out of a row, in the words of its `want`.
+/// The answer to a row, in the words of its `want`.
 pub trait Answers {
-    /// What came out, or `None` where the row isn't one that this program knows.
+    /// The answer, or `None` where the row isn't one that this program knows.
     fn answer(&self, alloc: Global, row: &Row<'_>) -> Result<Option<String>, AllocError>;
 }
 
-/// Runs and counts the rows of a text. Those that come out otherwise than they say go to standard error, and so does a
+/// Runs and counts the rows of a text. A row with another answer than the wanted one goes to standard error. So does a
 /// row that isn't known, whatever it wants.
 pub fn run<A: Answers>(
     rt: &impl Eprint,
@@ -34,13 +35,13 @@ pub fn run<A: Answers>(
         let right = is_wanted(row, &got);
         if !right {
             count.wrong = count.wrong.saturating_add(1);
-            tell(rt, path, row, &got)?;
+            report(rt, path, row, &got)?;
         }
     }
     Ok(())
 }
 
-// Whether a row came out as it says.
+// Whether an answer is the one that a row wants.
 fn is_wanted(row: &Row<'_>, got: &Option<String>) -> bool {
     match (got, row.value("want")) {
         (Some(got), Some(want)) => got.as_str() == want,
@@ -48,8 +49,8 @@ fn is_wanted(row: &Row<'_>, got: &Option<String>) -> bool {
     }
 }
 
-// Prints what a row says and what came out.
-fn tell(rt: &impl Eprint, path: &str, row: &Row<'_>, got: &Option<String>) -> io::Result<()> {
+// Prints a row's name, its answer and the wanted one.
+fn report(rt: &impl Eprint, path: &str, row: &Row<'_>, got: &Option<String>) -> io::Result<()> {
     eprintln!(rt;
         "{path}:{}: {}",
         row.line,
@@ -60,6 +61,27 @@ fn tell(rt: &impl Eprint, path: &str, row: &Row<'_>, got: &Option<String>) -> io
         None => eprintln!(rt; "-- got a row of another form")?,
     }
     eprintln!(rt; "-- want\n{}", row.value("want").unwrap_or("(no want)"))
+}
+
+/// Runs the rows of all texts, and prints their counts.
+pub fn run_all<A: Answers, R: Eprint + Print>(
+    rt: &R,
+    alloc: Global,
+    texts: &[Text],
+    answers: &A,
+) -> io::Result<ExitCode> {
+    let mut count = Count::default();
+    for text in texts {
+        run(
+            rt,
+            alloc,
+            text.path.as_str(),
+            text.text.as_str(),
+            answers,
+            &mut count,
+        )?;
+    }
+    end(rt, count)
 }
 
 /// Prints the counts. The exit status is 0 where no row was wrong.

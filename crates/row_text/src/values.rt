@@ -3,8 +3,8 @@ ghost use Rattle.std.specs.Prelude.{◌<◌, IfSome};
 
 use std::alloc::{AllocError, Global};
 
-/// The bytes that a value stands for: its own, a carriage return as `\r`, a line feed as `\n`, and any byte as `\xNN`, a
-/// backslash too; `None` where a backslash begins nothing of these.
+/// The bytes that a value stands for: its own, a carriage return as `\r`, a line feed as `\n`, and any byte as `\xNN`,
+/// a backslash too; `None` where a backslash begins nothing of these.
 pub fn bytes(alloc: Global, value: &str) -> Result<Option<Vec<u8>>, AllocError> {
     let mut parts = value.split('\\');
     let mut bytes = Vec::from_slice(alloc, parts.next().unwrap_or("").as_bytes())?;
@@ -82,8 +82,8 @@ fn digit_of(value: u8) -> char {
     }
 }
 
-/// Appends bytes so that a person reads them: printable characters and line feeds stand for themselves, a carriage return
-/// is `\r`, and any other byte and a backslash `\xNN`.
+/// Appends bytes so that a person reads them: printable characters and line feeds stand for themselves, a carriage
+/// return is `\r`, and any other byte and a backslash `\xNN`.
 pub fn put_shown(bytes: &[u8], out: &mut String) -> Result<(), AllocError> {
     for byte in bytes {
         match *byte {

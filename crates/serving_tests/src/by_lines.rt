@@ -1,7 +1,8 @@
 //! A link in memory whose takes end after each CR.
 ghost use Rattle.std.specs.Prelude.{◌≡◌};
 
-use fm_world::{Failed, Link, MemLink};
+use dev_memory::MemLink;
+use dev_traits::{Failed, Link};
 
 #[derive(Drop)]
 pub(crate) struct ByLines {
@@ -17,7 +18,7 @@ impl Link for ByLines {
 
     fn take(&mut self, buf: &mut [u8]) -> Result<usize, Failed> {
         let end = self.link.left().iter().position(|byte| *byte == b'\r');
-        self.link.most_taken = end.map_or(usize::MAX, |place| place.saturating_add(1));
+        self.link.most_taken = end.map_or(usize::MAX, |offset| offset.saturating_add(1));
         self.link.take(buf)
     }
 

@@ -1,21 +1,19 @@
 //! An inbox and a gate that act in turn: a verdict, a link, and so on.
 ghost use Rattle.std.specs.Prelude.{None};
 
+use dev_memory::{MemClock, MemDoor, MemInbox, MemOpener};
+use dev_traits::{Arrival, Failed, Found, Gate, Inbox, Opener, Place, Verdict};
 use fm_base::{Bytes, Fail, NoMemory};
-use fm_doors::{
-    Arrival, Gate, Inbox, MemClock, MemDoor, MemInbox, MemOpener, Opener, Place, Verdict,
-};
-use fm_world::{Failed, Found};
 use std::alloc::Global;
 use std::sync::atomic::{AtomicU64, Ordering};
 
 // For how many turns one waits for the other.
 const TURNS: u64 = 1_000_000_000;
 
-// How many verdicts were told, how many links were served, and how often one gave up to wait for the other.
+// The number of verdicts, of links that were served, and of waits for the other that were given up.
 #[derive(Drop)]
 pub(crate) struct Course {
-    pub(crate) told: AtomicU64,
+    pub(crate) settled: AtomicU64,
     pub(crate) served: AtomicU64,
     pub(crate) gave_up: AtomicU64,
 }
@@ -23,7 +21,7 @@ pub(crate) struct Course {
 impl Course {
     pub(crate) fn new() -> Course {
         Course {
-            told: AtomicU64::new(0),
+            settled: AtomicU64::new(0),
             served: AtomicU64::new(0),
             gave_up: AtomicU64::new(0),
         }
@@ -40,7 +38,7 @@ impl Course {
     }
 }
 
-// Holds each link until a verdict more was told than links were served.
+// Holds each link until there is a verdict more than links were served.
 #[derive(Drop)]
 pub(crate) struct InStep<'a> {
     pub(crate) course: &'a Course,
@@ -52,7 +50,7 @@ impl<'a> Gate for InStep<'a> {
         match place {
             Place::Accepted(_) => {
                 let served = course.served.load(Ordering::SeqCst);
-                course.wait(&course.told, served.saturating_add(1));
+                course.wait(&course.settled, served.saturating_add(1));
             }
             Place::Finished(_) => {
                 course.served.fetch_add(1, Ordering::SeqCst);
@@ -63,13 +61,13 @@ impl<'a> Gate for InStep<'a> {
 
 // An inbox in memory that gives a name once a link was served for each verdict.
 #[derive(Drop)]
-pub(crate) struct Telling<'a> {
+pub(crate) struct CountedInbox<'a> {
     inbox: MemInbox,
     course: &'a Course,
 }
 
-impl<'a> Inbox for Telling<'a> {
-    ghost shown = { λ telling. ⟦<MemInbox as Inbox>⟧.shown telling.inbox };
+impl<'a> Inbox for CountedInbox<'a> {
+    ghost shown = { λ counted. ⟦<MemInbox as Inbox>⟧.shown counted.inbox };
 
     fn faults(&self) -> u64 {
         self.inbox.faults()
@@ -77,7 +75,7 @@ impl<'a> Inbox for Telling<'a> {
 
     fn next(&mut self, alloc: Global) -> Result<Arrival, Fail<Failed>> {
         let course = self.course;
-        course.wait(&course.served, course.told.load(Ordering::SeqCst));
+        course.wait(&course.served, course.settled.load(Ordering::SeqCst));
         self.inbox.next(alloc)
     }
 
@@ -87,22 +85,22 @@ impl<'a> Inbox for Telling<'a> {
 
     fn settle(&mut self, name: &[u8], verdict: Verdict) -> Result<(), Failed> {
         let settled = self.inbox.settle(name, verdict);
-        self.course.told.fetch_add(1, Ordering::SeqCst);
+        self.course.settled.fetch_add(1, Ordering::SeqCst);
         settled
     }
 }
 
 // An opener in memory whose inboxes tell. It says nothing of what it holds.
 #[derive(Drop)]
-pub(crate) struct TellingOpener<'a> {
+pub(crate) struct CountedOpener<'a> {
     pub(crate) opener: MemOpener,
     pub(crate) course: &'a Course,
 }
 
-impl<'a> Opener for TellingOpener<'a> {
+impl<'a> Opener for CountedOpener<'a> {
     type D = MemDoor;
 
-    type I = Telling<'a>;
+    type I = CountedInbox<'a>;
 
     type C = MemClock;
 
@@ -124,9 +122,9 @@ impl<'a> Opener for TellingOpener<'a> {
         self.opener.door(alloc, address, connections)
     }
 
-    fn inbox(&mut self, alloc: Global, folder: &[u8]) -> Result<Telling<'a>, Fail<Failed>> {
+    fn inbox(&mut self, alloc: Global, folder: &[u8]) -> Result<CountedInbox<'a>, Fail<Failed>> {
         let inbox = self.opener.inbox(alloc, folder)?;
-        Ok(Telling {
+        Ok(CountedInbox {
             inbox,
             course: self.course,
         })

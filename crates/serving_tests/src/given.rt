@@ -1,12 +1,12 @@
-//! What a run is given.
+//! The words and the world of a run.
 ghost use Rattle.std.specs.Prelude.{◌≡◌, All, IfOk};
-ghost use Rattle.fm_doors.specs.Door.{IsFresh};
+ghost use Rattle.dev_traits.specs.Door.{IsFresh};
 
 use crate::texts::STRUCTURE;
+use dev_memory::{Entry, MemDoor, MemFiles, MemInbox, MemLink, MemOpener, MemSink};
+use dev_traits::{Door, Gate, Link, OpenGate, Opener, World};
 use fm_base::{Bytes, List, NoMemory};
-use fm_doors::{Door, Gate, MemDoor, MemInbox, MemOpener, OpenGate, Opener, World};
 use fm_sample::File;
-use fm_world::{Entry, Link, MemFiles, MemLink, MemSink};
 use srv_run::run;
 use std::alloc::Global;
 use std::marker::{Send, Sync};
@@ -47,7 +47,7 @@ pub(crate) fn runs(alloc: Global) -> Result<List<Entry>, NoMemory> {
     Ok(files)
 }
 
-// A link with this input and room for so many bytes of output, whose call of a number fails; 0 stands for none.
+// A link with this input and room for `room` bytes of output, whose call number `failing` fails; 0 stands for none.
 pub(crate) fn link_of(
     alloc: Global,
     input: &[u8],

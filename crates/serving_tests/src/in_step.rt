@@ -1,10 +1,10 @@
 //! Links that are served between files that arrive.
 
-use crate::course::{Course, InStep, TellingOpener};
+use crate::course::{CountedOpener, Course, InStep};
 use crate::given::{asking_door, link_of, opener_of, ran, world_of};
 use crate::texts::REPLIES;
+use dev_memory::MemDoor;
 use fm_base::List;
-use fm_doors::MemDoor;
 use std::sync::atomic::Ordering;
 use std::test::Fail;
 
@@ -32,7 +32,7 @@ fn each_link_is_served_from_all_that_was_settled_before_it(rt: HostRuntime) -> R
     let course = Course::new();
     let mut doors = List::new(alloc);
     doors.push(asking_door(alloc, true)?)?;
-    let opener = TellingOpener {
+    let opener = CountedOpener {
         opener: opener_of(alloc, doors, "gfs_20240101_0000.nc gfs_20240101_0600.nc")?,
         course: &course,
     };

@@ -1,5 +1,5 @@
-//! Runs of `serve` and `once` that no row describes: workers that wait for each other, and links that are cut or fail at
-//! every place in turn.
+//! Runs of `serve` and `once` that no row describes: workers that wait for each other, and links that are cut or fail
+//! at every offset in turn.
 #![tactic(auto)]
 
 #[cfg(test)]

@@ -2,8 +2,9 @@
 
 use crate::course::Course;
 use crate::given::{TWO, asked, asking_door, link_of, opener_of, ran, words_of, world_of};
+use dev_memory::MemDoor;
+use dev_traits::{Gate, Place};
 use fm_base::List;
-use fm_doors::{Gate, MemDoor, Place};
 use srv_run::run_serve;
 use std::sync::atomic::Ordering;
 use std::test::Fail;
@@ -18,8 +19,8 @@ impl Gate for Meeting {
     fn pass(&self, place: Place) {
         if let Place::Accepted(_) = place {
             let course = &self.course;
-            course.told.fetch_add(1, Ordering::SeqCst);
-            course.wait(&course.told, 2);
+            course.settled.fetch_add(1, Ordering::SeqCst);
+            course.wait(&course.settled, 2);
         }
     }
 }

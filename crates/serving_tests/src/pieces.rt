@@ -1,4 +1,4 @@
-//! Links that are cut or fail at every place in turn, and one of many requests.
+//! Links that are cut or fail at every offset in turn, and one of many requests.
 
 use crate::by_lines::ByLines;
 use crate::given::{ONCE, asked, link_of};

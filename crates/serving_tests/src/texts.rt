@@ -4,8 +4,8 @@
 pub(crate) const STRUCTURE: &[u8] = b"GET /thredds/dodsC/gfs/gfs_best.ncd.dds HTTP/1.1\r\n\r\n";
 
 // The same, and two of its times.
-pub(crate) const REQUESTS: &[u8] =
-    b"GET /thredds/dodsC/gfs/gfs_best.ncd.dds HTTP/1.1\r\n\r\nGET /thredds/dodsC/gfs/gfs_best.ncd.dods?time%5B0:2:2%5D HTTP/1.1\r\n\r\n";
+pub(crate) const REQUESTS: &[u8] = b"GET /thredds/dodsC/gfs/gfs_best.ncd.dds HTTP/1.1\r\n\r\n\
+    GET /thredds/dodsC/gfs/gfs_best.ncd.dods?time%5B0:2:2%5D HTTP/1.1\r\n\r\n";
 
 // The replies to both; the first has 540 bytes, the second 259.
 pub(crate) const REPLIES: &[u8] = b"HTTP/1.1 200 OK\r

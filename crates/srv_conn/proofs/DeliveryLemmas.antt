@@ -3,7 +3,7 @@ use Rattle.std.proofs.Common.{◌≡◌, ◌≤◌, ℕ, List, ◌++◌, length,
 use Rattle.std.specs.Prelude.{IfOk}
 use Rattle.std.proofs.Math.Seq.{take-append_seam}
 use Rattle.std.proofs.lemmas.List.{length-take, take-take}
-use Rattle.fm_world.specs.Link.{after_put, Wire}
+use Rattle.dev_traits.specs.Link.{after_put, Wire}
 use Rattle.dap_xdr.specs.Overlay.{overlay}
 use Rattle.dap_xdr.proofs.FrontLemmas.{overlay-front}
 
@@ -13,7 +13,7 @@ piece-front : (bytes piece : List ℕ) (count : ℕ) → take (length piece) byt
 piece-front bytes piece count front within =
     ap (take count) (sym front) ∙ take-take count (length piece) bytes within
 
--- what is put of a piece is put of the bytes that it is a front of
+-- the put bytes of a piece are put of the bytes that it is a front of
 pub put-piece : {E : Type 0} (r : Result ℕ E) (bytes piece : List ℕ) (old new : Option Wire)
     → take (length piece) bytes ≡ piece → IfOk r (λ count. count ≤ length piece)
     → IfOk r (λ count. new ≡ after_put (take count piece) old)
@@ -22,7 +22,7 @@ put-piece (Ok count) bytes piece old new front within put =
     put ∙ ap (λ (l : List ℕ). after_put l old) (piece-front bytes piece count front within)
 put-piece (Err e) bytes piece old new front within put = tt
 
--- what a plan wrote into the room is a front of its bytes
+-- the bytes that a plan wrote into the room are a front of its bytes
 pub room-front : (bytes old new piece : List ℕ) (count : ℕ) → count ≡ min (length old) (length bytes)
     → new ≡ overlay bytes old → piece ≡ take count new → take (length piece) bytes ≡ piece
 room-front bytes old new piece count is over cut =

@@ -11,19 +11,19 @@ Each P [] items number = Unit {0}
 Each P (mark ∷ marks) [] number = Unit {0}
 Each P (mark ∷ marks) (item ∷ items) number = P number mark item × Each P marks items (number + 1)
 
-pub Each-at : (P : ℕ → Mark → Item → Type 0) (marks : List Mark) (items : List Item) (number place : ℕ) (mark : Mark)
-    (item : Item) → Each P marks items number → slice_get marks place ≡ Some mark → slice_get items place ≡ Some item
-    → P (number + place) mark item
-Each-at P [] items number place mark item each there is = absurd (none-some mark there)
-Each-at P (m ∷ marks) [] number place mark item each there is = absurd (none-some item is)
+pub Each-at : (P : ℕ → Mark → Item → Type 0) (marks : List Mark) (items : List Item) (number index : ℕ) (mark : Mark)
+    (item : Item) → Each P marks items number → slice_get marks index ≡ Some mark → slice_get items index ≡ Some item
+    → P (number + index) mark item
+Each-at P [] items number index mark item each there is = absurd (none-some mark there)
+Each-at P (m ∷ marks) [] number index mark item each there is = absurd (none-some item is)
 Each-at P (m ∷ marks) (i ∷ items) number zero mark item each there is =
     let same : number ≡ number + 0 = omega arith in
     subst (λ (n : ℕ). P n mark item) same
     (subst (λ (x : Mark). P number x item) (same_Some m mark there)
     (subst (λ (x : Item). P number m x) (same_Some i item is) each.0))
-Each-at P (m ∷ marks) (i ∷ items) number (suc place) mark item each there is =
-    let same : number + 1 + place ≡ number + suc place = omega arith in
-    subst (λ (n : ℕ). P n mark item) same (Each-at P marks items (number + 1) place mark item each.1 there is)
+Each-at P (m ∷ marks) (i ∷ items) number (suc index) mark item each there is =
+    let same : number + 1 + index ≡ number + suc index = omega arith in
+    subst (λ (n : ℕ). P n mark item) same (Each-at P marks items (number + 1) index mark item each.1 there is)
 
 pub Each-append : (P : ℕ → Mark → Item → Type 0) (marks more : List Mark) (items others : List Item) (number : ℕ)
     → length marks ≡ length items → Each P marks items number → Each P more others (number + length marks)
@@ -48,16 +48,16 @@ Each-map P Q (m ∷ marks) [] number step each = tt
 Each-map P Q (m ∷ marks) (i ∷ items) number step each =
     (step number m i each.0, Each-map P Q marks items (number + 1) step each.1)
 
--- the reply at a place that has an item
-pub Each-item : (P : ℕ → Item → Type 0) (marks : List Mark) (items : List Item) (number place : ℕ) (item : Item)
-    → length marks ≡ length items → Each (λ n _ i. P n i) marks items number → slice_get items place ≡ Some item
-    → P (number + place) item
-Each-item P [] [] number place item same each is = absurd (none-some item is)
-Each-item P [] (i ∷ items) number place item same each is = absurd (omega arith)
-Each-item P (m ∷ marks) [] number place item same each is = absurd (none-some item is)
+-- the reply at an index that has an item
+pub Each-item : (P : ℕ → Item → Type 0) (marks : List Mark) (items : List Item) (number index : ℕ) (item : Item)
+    → length marks ≡ length items → Each (λ n _ i. P n i) marks items number → slice_get items index ≡ Some item
+    → P (number + index) item
+Each-item P [] [] number index item same each is = absurd (none-some item is)
+Each-item P [] (i ∷ items) number index item same each is = absurd (omega arith)
+Each-item P (m ∷ marks) [] number index item same each is = absurd (none-some item is)
 Each-item P (m ∷ marks) (i ∷ items) number zero item same each is =
     let start : number ≡ number + 0 = omega arith in
     subst (λ (n : ℕ). P n item) start (subst (λ (x : Item). P number x) (same_Some i item is) each.0)
-Each-item P (m ∷ marks) (i ∷ items) number (suc place) item same each is =
-    let next : number + 1 + place ≡ number + suc place = omega arith in
-    subst (λ (n : ℕ). P n item) next (Each-item P marks items (number + 1) place item (omega arith) each.1 is)
+Each-item P (m ∷ marks) (i ∷ items) number (suc index) item same each is =
+    let next : number + 1 + index ≡ number + suc index = omega arith in
+    subst (λ (n : ℕ). P n item) next (Each-item P marks items (number + 1) index item (omega arith) each.1 is)

@@ -16,21 +16,21 @@ use Rattle.web_session.specs.declared.phase.Phase.TheVariants.{Waiting, Asking, 
 use Rattle.web_session.specs.Event.{after_event, after_in}
 use Rattle.web_session.specs.State.{action_at, action_of, end_after, end_of_input, looked, phase_after, replied, replied_by, sent, State}
 use Rattle.dap_reply.specs.Served.{held_bytes, IsAtRest}
-use Rattle.srv_conn.specs.Turn.{end_said, resting}
+use Rattle.srv_conn.specs.Turn.{end_said, at_rest}
 use Rattle.srv_conn.proofs.SessionLemmas.{ends-so, waiting-held}
 
 -- ---- while it waits
 
 pub feeds : (s : State) (piece : Bor (List ℕ)) → IsAtRest s → s.phase ≡ Waiting
     → length piece.now ≤ MAX_HEAD - held_len s.held
-    → after_event s (Bytes piece) ≡ resting (held_bytes s ++ piece.now) s.before
+    → after_event s (Bytes piece) ≡ at_rest (held_bytes s ++ piece.now) s.before
 unfolding after_event looked
 feeds s piece rests is fits =
     let same : s.held ≡ record { head = []; rest = held_bytes s } = waiting-held s rests is in
     let fed : List ℕ = take (MAX_HEAD - held_len s.held) piece.now in
     ap (λ (p : Phase). after_in p s (Bytes piece)) is
-    ∙ ap (λ (h : Held). resting (h.rest ++ fed) s.before) same
-    ∙ ap (λ (l : List ℕ). resting (held_bytes s ++ l) s.before)
+    ∙ ap (λ (h : Held). at_rest (h.rest ++ fed) s.before) same
+    ∙ ap (λ (l : List ℕ). at_rest (held_bytes s ++ l) s.before)
     (take_all (MAX_HEAD - held_len s.held) piece.now fits)
 
 pub input-ends : (s : State) → IsAtRest s → s.phase ≡ Waiting
@@ -74,7 +74,7 @@ unfolding after_event looked
 sent-replied s (Some end) count = refl
 sent-replied s None count = sent-next (next_of s.held.rest) (looked s.held (s.before + 1)) count
 
--- the length of a reply is told
+-- the session gets the length of a reply
 told : (s : State) (asked : Asked) (len : ℕ) → s.phase ≡ Asking asked
     → after_event s (Answer len) ≡ cond (ltb 0 len) (at_phase s (Sending asked 0 len)) (replied s asked)
 unfolding after_event sent at_phase
@@ -128,7 +128,7 @@ pub said-replied : (s : State) (asked : Asked) → end_said (action_of (replied 
 unfolding replied
 said-replied s asked = said-by s (end_after asked s.before)
 
--- what a session is told of a reply, and says
+-- the events of a reply, and the session's actions
 pub tells-whole : (s told after : State) (asked : Asked) (len : ℕ) (action : Action) → s.phase ≡ Asking asked
     → told ≡ after_event s (Answer len) → after ≡ after_event told (Sent len) → action ≡ action_of after
     → (after ≡ replied s asked) × (end_said action ≡ end_after asked s.before)

@@ -3,8 +3,8 @@ use Rattle.std.proofs.Common.{◌≡◌, ◌<◌, ⊎_elim, ℕ, ◌+◌, List, 
 use Rattle.std.specs.Prelude.{slice_get}
 use Rattle.std.proofs.lemmas.Option.{slice_get_within}
 use Rattle.fm_model.specs.declared.proto.Proto.{Proto}
-use Rattle.fm_world.specs.Cause.{one_more}
-use Rattle.fm_world.specs.Shown.{LinkShown}
+use Rattle.dev_traits.specs.Cause.{one_more}
+use Rattle.dev_traits.specs.Shown.{LinkShown}
 use Rattle.web_frame.specs.Items.{heads_of, Heads, Item, ReadsTo}
 use Rattle.web_session.specs.declared.action.End.{End}
 use Rattle.web_session.specs.declared.action.End.TheVariants as ends
@@ -27,14 +27,14 @@ use Rattle.srv_conn.proofs.SessionLemmas.{rests-at, waiting-cut}
 goes-on-at : (call : LinkCall) (done others : List Item) → items_of call ≡ done ++ others
     → length call.trail ≡ length done
     → Each (GoesOn call.proto call.seen_after) call.trail done (call.session.before + 1)
-    → (place : ℕ) (item : Item) → place < length call.trail → slice_get (items_of call) place ≡ Some item
-    → is_last item (number_at call place) ≡ false
-goes-on-at call done others items count each place item below is =
-    let here : slice_get done place ≡ Some item = front-at done others place item (omega (arith, count, below))
-    (ap (λ (l : List Item). slice_get l place) (sym items) ∙ is) in
-    let number : call.session.before + 1 + place ≡ number_at call place = omega arith in
+    → (index : ℕ) (item : Item) → index < length call.trail → slice_get (items_of call) index ≡ Some item
+    → is_last item (number_at call index) ≡ false
+goes-on-at call done others items count each index item below is =
+    let here : slice_get done index ≡ Some item = front-at done others index item (omega (arith, count, below))
+    (ap (λ (l : List Item). slice_get l index) (sym items) ∙ is) in
+    let number : call.session.before + 1 + index ≡ number_at call index = omega arith in
     subst (λ (n : ℕ). is_last item n ≡ false) number
-    (Each-item (λ n i. is_last i n ≡ false) call.trail done (call.session.before + 1) place item count
+    (Each-item (λ n i. is_last i n ≡ false) call.trail done (call.session.before + 1) index item count
     (Each-map (GoesOn call.proto call.seen_after) (λ n _ i. is_last i n ≡ false) call.trail done
     (call.session.before + 1) (λ n mark i goes. goes.2) each) here)
 
@@ -144,9 +144,9 @@ serves-none proto still start now link session most end s more f = ⊎_elim at_f
         let all : AnswersAll (call true) = record {
           all = every;
           more = more;
-          goes_on = λ place item is.
-              goes-on-at (call true) s.done [] (items true) s.begun.count s.each place item
-              (omega (arith, every, slice_get_within (items_of (call true)) place item is)) is;
+          goes_on = λ index item is.
+              goes-on-at (call true) s.done [] (items true) s.begun.count s.each index item
+              (omega (arith, every, slice_get_within (items_of (call true)) index item is)) is;
         } in
         let rest : (heads_of (held_bytes start.session ++ taken)).rest ≡ left = ap (λ (h : Heads). h.rest) heads in
         serves-so proto still start after taken s.written [] [] true most (stops.Ended end) s.done []

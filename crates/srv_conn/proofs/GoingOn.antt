@@ -15,14 +15,14 @@ use Rattle.dap_reply.specs.Reply.{is_last}
 use Rattle.dap_reply.specs.Served.{asked_of, held_bytes}
 use Rattle.dap_reply.proofs.ServedLemmas.{last-ends}
 use Rattle.srv_conn.specs.Serves.{Moment}
-use Rattle.srv_conn.specs.Turn.{item_of_turn, resting, IsWhole}
+use Rattle.srv_conn.specs.Turn.{item_of_turn, at_rest, IsWhole}
 use Rattle.srv_conn.proofs.EachLemmas.{Each, Each-append}
 use Rattle.srv_conn.proofs.HeadLemmas.{passes}
 use Rattle.srv_conn.proofs.ScriptLemmas.{last-append, last_revision}
 use Rattle.srv_conn.proofs.Serving.{each-later, Begun-replies, GoesOn, Serving}
 use Rattle.srv_conn.proofs.SessionLemmas.{held-at}
 
--- what is asked for with an item is what the item is asked for
+-- the question of an item is the session's question
 pub asked-back : (asked : Asked) (held : Held) → asked_of (item_asked asked held) ≡ asked
 asked-back (says.Head r) held = refl
 asked-back says.BadHead held = refl
@@ -44,7 +44,7 @@ goes_on_with says.HeadTooLong text left done before none reads asking = absurd (
 
 -- where a reply leads on
 leads-on : (s : State) (asked : Asked) → end_after asked s.before ≡ None
-    → replied s asked ≡ resting s.held.rest (s.before + 1)
+    → replied s asked ≡ at_rest s.held.rest (s.before + 1)
 unfolding replied looked
 leads-on s asked none = ap (λ (end : Option End). replied_by end s) none
 
@@ -70,7 +70,7 @@ Serving-goes proto still start now after asked s asking w = record {
       (sym held_is)
       (goes_on_with asked (held_bytes start.session ++ s.taken) (held_bytes now.session) s.done now.session.before none
       s.reads asks));
-  session_is = session ∙ ap₂ resting (sym held) counted;
+  session_is = session ∙ ap₂ at_rest (sym held) counted;
 }
   where
     item : Item
@@ -98,7 +98,7 @@ Serving-goes proto still start now after asked s asking w = record {
       last-said asked now.session.held now.session.before ∙ ap is_some none,
     )
 
-    session : after.session ≡ resting now.session.held.rest (now.session.before + 1)
+    session : after.session ≡ at_rest now.session.held.rest (now.session.before + 1)
     session = w.session_is ∙ leads-on now.session asked none
 
     held : held_bytes after.session ≡ now.session.held.rest

@@ -13,12 +13,12 @@ use Rattle.web_session.specs.Run.{item_asked}
 use Rattle.web_session.specs.State.{phase_after}
 use Rattle.web_session.proofs.LookLemmas.{first_asked, held_after-cut, next_of-cut}
 
--- the items and what follows them, of some that are the first
+-- the first items, and the bytes that follow them
 pub rest_of : (items all : List Item) → AreFirst items all → all ≡ items ++ drop (length items) all
 rest_of items all first =
     sym (take-append-drop (length items) all) ∙ ap (λ (l : List Item). l ++ drop (length items) all) first
 
--- what is asked for is the next item
+-- the question is the next item
 pub asked-first : (text left : List ℕ) (done : List Item) (asked : Asked) → ReadsTo text done left
     → phase_after (next_of left) ≡ Asking asked
     → AreFirst (done ++ item_asked asked (held_after left) ∷ []) (heads_of text).items

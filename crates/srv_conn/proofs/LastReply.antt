@@ -3,7 +3,7 @@ use Rattle.std.proofs.Common.{◌≡◌, ◌≢◌, ◌<◌, inl, inr, ℕ, ◌+
 use Rattle.std.specs.Prelude.{slice_get}
 use Rattle.std.proofs.lemmas.Option.{same_Some}
 use Rattle.fm_model.specs.declared.proto.Proto.{Proto}
-use Rattle.fm_world.specs.Cause.{one_more}
+use Rattle.dev_traits.specs.Cause.{one_more}
 use Rattle.web_frame.specs.Items.{Item, AreFirst}
 use Rattle.web_frame.specs.Stream.{held_after, Held}
 use Rattle.web_session.specs.declared.action.Asked.{Asked}
@@ -27,9 +27,9 @@ use Rattle.srv_conn.proofs.ServedParts.{ended-of, ends-reply, failed, Ended, Who
 use Rattle.srv_conn.proofs.Serving.{each-later, Begun, Begun-replies, Serving}
 
 -- the item at the seam
-seam : (done : List Item) (item : Item) (others : List Item) (place : ℕ) → place ≡ length done
-    → slice_get ((done ++ item ∷ []) ++ others) place ≡ Some item
-seam done item others place is =
+seam : (done : List Item) (item : Item) (others : List Item) (index : ℕ) → index ≡ length done
+    → slice_get ((done ++ item ∷ []) ++ others) index ≡ Some item
+seam done item others index is =
     ap (slice_get ((done ++ item ∷ []) ++ others)) is ∙ at_seam done item others
   where
     at_seam : (front : List Item) (here : Item) (back : List Item)

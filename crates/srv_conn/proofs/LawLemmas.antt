@@ -19,12 +19,12 @@ fault-failed : (call : LinkCall) → Served call → call.stop ≡ stops.Ended e
 unfolding StopsBy EndsBy
 fault-failed call served is = (subst (StopsBy call) is served.stops).1
 
-pub whole-unless : (call : LinkCall) → Served call → ¬ (HasFailed call) → (place : ℕ) (mark : Mark) (item : Item)
-    → slice_get call.trail place ≡ Some mark → slice_get (items_of call) place ≡ Some item
-    → mark.sent ≡ length (marked_reply call.proto call.seen_after mark item (number_at call place))
-whole-unless call served sound place mark item there is =
+pub whole-unless : (call : LinkCall) → Served call → ¬ (HasFailed call) → (index : ℕ) (mark : Mark) (item : Item)
+    → slice_get call.trail index ≡ Some mark → slice_get (items_of call) index ≡ Some item
+    → mark.sent ≡ length (marked_reply call.proto call.seen_after mark item (number_at call index))
+whole-unless call served sound index mark item there is =
     ⊎_elim (λ whole. whole) (λ cut. absurd (sound (fault-failed call served cut.0)))
-    (served.writes.whole place mark item there is)
+    (served.writes.whole index mark item there is)
 
 -- the reply after which a connection ends is its last
 last-there : (call : LinkCall) (end : End) (a : EndsAfterReply call end)
@@ -35,21 +35,21 @@ last-there call end a goes =
     cc
 
 -- a request that is read is answered
-reached : (call : LinkCall) → ¬ (HasFailed call) → call.stop ≢ stops.Ended ends.NoMemory → (place : ℕ) (item : Item)
-    → place < call.most → slice_get (items_of call) place ≡ Some item → GoesOnBefore call place
-    → (stop : Stop) → StopsBy call stop → stop ≡ call.stop → place < length call.trail
+reached : (call : LinkCall) → ¬ (HasFailed call) → call.stop ≢ stops.Ended ends.NoMemory → (index : ℕ) (item : Item)
+    → index < call.most → slice_get (items_of call) index ≡ Some item → GoesOnBefore call index
+    → (stop : Stop) → StopsBy call stop → stop ≡ call.stop → index < length call.trail
 unfolding StopsBy EndsBy
-reached call sound ample place item below is goes = by_stop
+reached call sound ample index item below is goes = by_stop
   where
-    all_read : length call.trail ≡ length (items_of call) → place < length call.trail
-    all_read all = omega (arith, all, slice_get_within (items_of call) place item is)
+    all_read : length call.trail ≡ length (items_of call) → index < length call.trail
+    all_read all = omega (arith, all, slice_get_within (items_of call) index item is)
 
-    after_reply : (end : End) → EndsAfterReply call end → place < length call.trail
+    after_reply : (end : End) → EndsAfterReply call end → index < length call.trail
     after_reply end a = ⊎_elim (λ here. here)
         (λ past. absurd (last-there call end a (goes a.place a.item (omega (arith, past, a.place_is)) a.item_is)))
-        (cases_lt place (length call.trail))
+        (cases_lt index (length call.trail))
 
-    by_end : (end : End) → EndsBy call end → stops.Ended end ≡ call.stop → place < length call.trail
+    by_end : (end : End) → EndsBy call end → stops.Ended end ≡ call.stop → index < length call.trail
     by_end ends.Closed why same = all_read why.1.all
     by_end (ends.Cut left) why same = all_read why.1.all
     by_end ends.LinkFault why same = absurd (sound why)
@@ -60,20 +60,20 @@ reached call sound ample place item below is goes = by_stop
     by_end ends.BodyNotTaken why same = after_reply ends.BodyNotTaken why
     by_end ends.RequestLimit why same = after_reply ends.RequestLimit why
 
-    by_stop : (stop : Stop) → StopsBy call stop → stop ≡ call.stop → place < length call.trail
+    by_stop : (stop : Stop) → StopsBy call stop → stop ≡ call.stop → index < length call.trail
     by_stop stops.Enough why same = omega (arith, below, why.all)
     by_stop (stops.Ended end) why same = by_end end why.1 same
 
 pub all-answered : (call : LinkCall) → Served call → ¬ (HasFailed call) → call.stop ≢ stops.Ended ends.NoMemory
-    → (place : ℕ) (item : Item) → place < call.most → slice_get (items_of call) place ≡ Some item
-    → GoesOnBefore call place → IsAnswered call place item
-all-answered call served sound ample place item below is goes =
-    let there : place < length call.trail =
-    reached call sound ample place item below is goes call.stop served.stops refl in
+    → (index : ℕ) (item : Item) → index < call.most → slice_get (items_of call) index ≡ Some item
+    → GoesOnBefore call index → IsAnswered call index item
+all-answered call served sound ample index item below is goes =
+    let there : index < length call.trail =
+    reached call sound ample index item below is goes call.stop served.stops refl in
     ⊎_elim (λ found. record {
       mark = found.0;
       mark_is = found.2;
-      whole = whole-unless call served sound place found.0 item found.2 is;
-    }) (λ past. absurd (omega (arith, there, past.0))) (slice_get_cases call.trail place).1
+      whole = whole-unless call served sound index found.0 item found.2 is;
+    }) (λ past. absurd (omega (arith, there, past.0))) (slice_get_cases call.trail index).1
 
 pub ruleset laws = (whole-unless, all-answered)

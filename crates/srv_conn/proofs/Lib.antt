@@ -1,4 +1,6 @@
 pub mod DeliveryLemmas
+pub mod DoorNextLemmas
+pub mod DoorTurnLemmas
 pub mod EachLemmas
 pub mod EventLemmas
 pub mod Exits

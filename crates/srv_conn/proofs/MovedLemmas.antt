@@ -3,7 +3,7 @@ use Rattle.std.proofs.Common.{◌≡◌, ◌≤◌, ℕ, ◌+◌, List, [], ◌+
 use Rattle.std.specs.Prelude.{IfSome}
 use Rattle.std.proofs.Math.Seq.{take-add}
 use Rattle.std.proofs.lemmas.List.{drop-drop, length-take}
-use Rattle.fm_world.specs.Link.{Wire, after_put, after_take, GivesNext}
+use Rattle.dev_traits.specs.Link.{Wire, after_put, after_take, GivesNext}
 use Rattle.srv_conn.specs.Moved.{moved, AreNext, IsOver}
 
 -- a wire of these bytes

@@ -1,7 +1,7 @@
--- A link is served, by what was written after the last reply and what was looked at for nothing.
+-- A served link, by the bytes written after the last reply and the looks without a reply.
 use Rattle.std.proofs.Common.{◌≡◌, ◌≢◌, ◌≤◌, ◌⊎◌, inr, ℕ, List, [], ◌++◌, length, take, Bool, true, refl, sym, ap, subst, ◌∙◌, append-nil, arith}
 use Rattle.fm_model.specs.declared.proto.Proto.{Proto}
-use Rattle.pub_plain.specs.History.{Continues}
+use Rattle.pub_look.specs.History.{Continues}
 use Rattle.web_frame.specs.Items.{Item}
 use Rattle.web_session.specs.declared.action.End.TheVariants as ends
 use Rattle.dap_reply.specs.declared.served.Stop.{Stop}

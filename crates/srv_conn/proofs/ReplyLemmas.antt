@@ -1,4 +1,4 @@
--- The reply to what a session asks for.
+-- The reply to a session's question.
 use Rattle.std.proofs.Common.{◌≡◌, ℕ, ◌+◌, List, Bool, refl, sym, ap, ap₂, ◌∙◌}
 use Rattle.fm_model.specs.declared.loaded.Loaded.{Loaded}
 use Rattle.fm_model.specs.declared.proto.Proto.{Proto}

@@ -51,7 +51,7 @@ pub sent-one : (proto : Proto) (ops : List Op) (mark : Mark) (item : Item) (item
 unfolding sent_by
 sent-one proto ops mark item items before = append-nil (take mark.sent (marked_reply proto ops mark item (before + 1)))
 
--- items past those that have a mark make no difference
+-- items without a mark make no difference
 pub sent-front : (proto : Proto) (ops : List Op) (marks : List Mark) (items others : List Item) (before : ℕ)
     → length marks ≡ length items
     → sent_by proto ops marks (items ++ others) before ≡ sent_by proto ops marks items before

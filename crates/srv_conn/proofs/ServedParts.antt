@@ -2,7 +2,7 @@
 use Rattle.std.proofs.Common.{◌≡◌, ◌<◌, ◌≤◌, ◌⊎◌, inl, inr, zero, suc, ℕ, ◌+◌, List, [], ◌∷◌, ◌++◌, length, Bool, true, false, cond, Some, None, sym, ap, subst, ◌∙◌, arith, length-append}
 use Rattle.std.specs.Prelude.{slice_get}
 use Rattle.std.proofs.lemmas.Option.{none-some, same_Some, slice_get_within}
-use Rattle.fm_world.specs.Cause.{one_more}
+use Rattle.dev_traits.specs.Cause.{one_more}
 use Rattle.web_frame.specs.Items.{Item}
 use Rattle.web_session.specs.declared.action.Asked.{Asked}
 use Rattle.web_session.specs.declared.action.Asked.TheVariants as says
@@ -16,12 +16,12 @@ use Rattle.dap_reply.specs.Served.{items_of, marked_reply, number_at, AnswersInO
 use Rattle.srv_conn.proofs.EachLemmas.{Each, Each-at, Each-item, Each-map}
 use Rattle.srv_conn.proofs.Serving.{GoesOn}
 
--- an item at a place within a front
-pub front-at : (done others : List Item) (place : ℕ) (item : Item) → place < length done
-    → slice_get (done ++ others) place ≡ Some item → slice_get done place ≡ Some item
-front-at [] others place item below is = absurd (omega arith)
+-- an item at an index within a front
+pub front-at : (done others : List Item) (index : ℕ) (item : Item) → index < length done
+    → slice_get (done ++ others) index ≡ Some item → slice_get done index ≡ Some item
+front-at [] others index item below is = absurd (omega arith)
 front-at (i ∷ done) others zero item below is = is
-front-at (i ∷ done) others (suc place) item below is = front-at done others place item (omega arith) is
+front-at (i ∷ done) others (suc index) item below is = front-at done others index item (omega arith) is
 
 -- a reply is whole, or the last one where the link failed
 abbrev pub WholeOrCut : LinkCall → ℕ → Mark → Item → Type 0
@@ -57,34 +57,34 @@ answers-part call done others a = record {
   few = a.few;
   read = subst (λ (l : List Item). length call.trail ≤ length l) (sym a.items_are)
       (omega (arith, a.count, length-append done others));
-  goes_on = λ place item below is.
-      let here : slice_get done place ≡ Some item = front-at done others place item (omega (arith, a.count))
-      (ap (λ (l : List Item). slice_get l place) (sym a.items_are) ∙ is) in
-      let number : call.session.before + 1 + place ≡ number_at call place = omega arith in
+  goes_on = λ index item below is.
+      let here : slice_get done index ≡ Some item = front-at done others index item (omega (arith, a.count))
+      (ap (λ (l : List Item). slice_get l index) (sym a.items_are) ∙ is) in
+      let number : call.session.before + 1 + index ≡ number_at call index = omega arith in
       subst (λ (n : ℕ). is_last item n ≡ false) number
-      (Each-item (LastAtEnd call) call.trail done (call.session.before + 1) place item a.count
+      (Each-item (LastAtEnd call) call.trail done (call.session.before + 1) index item a.count
       (Each-map (Ended call) (λ n _ i. LastAtEnd call n i) call.trail done (call.session.before + 1)
       (λ n mark i holds. holds.1) a.each) here (omega (arith, below)));
 }
 
 pub whole-part : (call : LinkCall) (done others : List Item) → Answered call done others
-    → (place : ℕ) (mark : Mark) (item : Item) → slice_get call.trail place ≡ Some mark
-    → slice_get (items_of call) place ≡ Some item → IsWholeOrCut call place mark item
-whole-part call done others a place mark item there is =
+    → (index : ℕ) (mark : Mark) (item : Item) → slice_get call.trail index ≡ Some mark
+    → slice_get (items_of call) index ≡ Some item → IsWholeOrCut call index mark item
+whole-part call done others a index mark item there is =
     by_case (subst (λ (n : ℕ). WholeOrCut call n mark item) number
-    (Each-at (Ended call) call.trail done (call.session.before + 1) place mark item a.each there here).0)
+    (Each-at (Ended call) call.trail done (call.session.before + 1) index mark item a.each there here).0)
   where
-    below : place < length call.trail
-    below = slice_get_within call.trail place mark there
+    below : index < length call.trail
+    below = slice_get_within call.trail index mark there
 
-    here : slice_get done place ≡ Some item
-    here = front-at done others place item (omega (arith, below, a.count))
-        (ap (λ (l : List Item). slice_get l place) (sym a.items_are) ∙ is)
+    here : slice_get done index ≡ Some item
+    here = front-at done others index item (omega (arith, below, a.count))
+        (ap (λ (l : List Item). slice_get l index) (sym a.items_are) ∙ is)
 
-    number : call.session.before + 1 + place ≡ number_at call place
+    number : call.session.before + 1 + index ≡ number_at call index
     number = omega arith
 
-    by_case : WholeOrCut call (number_at call place) mark item → IsWholeOrCut call place mark item
+    by_case : WholeOrCut call (number_at call index) mark item → IsWholeOrCut call index mark item
     by_case (inl whole) = inl whole
     by_case (inr cut) = inr (cut.0, omega (arith, cut.1), cut.2)
 

@@ -3,9 +3,10 @@ use Rattle.std.proofs.Common.{◌≡◌, ◌≤◌, ℕ, ◌+◌, List, [], ◌�
 use Rattle.std.specs.Prelude.{is_ok, if◌then◌else◌}
 use Rattle.fm_model.specs.declared.op.Op.{Op}
 use Rattle.fm_model.specs.declared.proto.Proto.{Proto}
-use Rattle.fm_world.specs.Link.{after_put}
-use Rattle.fm_world.specs.Shown.{LinkShown}
-use Rattle.pub_plain.specs.History.{Continues}
+use Rattle.dev_traits.specs.Link.{after_put}
+use Rattle.dev_traits.specs.Shown.{LinkShown}
+use Rattle.pub_look.specs.History.{Continues}
+use Rattle.pub_look.proofs.HistoryLemmas.{continues_on, continues_length}
 use Rattle.web_frame.specs.Items.{Item, ReadsTo}
 use Rattle.web_frame.proofs.ItemLemmas.{ReadsTo-feed, ReadsTo-start}
 use Rattle.web_session.specs.declared.action.Asked.{Asked}
@@ -15,7 +16,7 @@ use Rattle.dap_reply.specs.Reply.{asked_by, is_last}
 use Rattle.dap_reply.specs.Served.{held_bytes, marked_reply, sent_by, wanted_revisions, IsAtRest, RepeatsUnwanted, Rises}
 use Rattle.srv_conn.specs.Moved.{moved, AreNext}
 use Rattle.srv_conn.specs.Serves.{Moment}
-use Rattle.srv_conn.specs.Turn.{item_of_turn, reply_of_turn, resting, Replies, Takes}
+use Rattle.srv_conn.specs.Turn.{item_of_turn, reply_of_turn, at_rest, Replies, Takes}
 use Rattle.srv_conn.proofs.EachLemmas.{Each, Each-map}
 use Rattle.srv_conn.proofs.MovedLemmas.{moved-more, moved-none, moved-put, next-more, next-none}
 use Rattle.srv_conn.proofs.ScriptLemmas.{last_revision, marked-later, repeats-append, repeats-none, repeats-one, rises-append, rises-none, rises-one, sent-append, sent-later, sent-none, sent-one, wanted-append, wanted-none, wanted-one}
@@ -50,7 +51,7 @@ pub record Serving (proto : Proto) (still : Bool) (start now : Moment) : Type 0 
   pub each : Each (GoesOn proto now.seen) now.trail done (start.session.before + 1)
   pub faults_are : now.link.faults ≡ start.link.faults
   pub reads : ReadsTo (held_bytes start.session ++ taken) done (held_bytes now.session)
-  pub session_is : now.session ≡ resting (held_bytes now.session) (start.session.before + length done)
+  pub session_is : now.session ≡ at_rest (held_bytes now.session) (start.session.before + length done)
 
 -- ---- the start
 
@@ -82,7 +83,7 @@ Serving-start proto still start none rests = record {
   reads = subst (λ (l : List ℕ). ReadsTo l [] (held_bytes start.session)) (sym (append-nil (held_bytes start.session)))
       (ReadsTo-start (held_bytes start.session));
   session_is = let same : start.session.before ≡ start.session.before + 0 = omega arith in
-      rests-so start.session rests ∙ ap (resting (held_bytes start.session)) same;
+      rests-so start.session rests ∙ ap (at_rest (held_bytes start.session)) same;
 }
 
 -- ---- bytes are taken
@@ -129,24 +130,13 @@ Serving-takes proto still start now link session more s takes = record {
   faults_are = takes.faults_are ∙ s.faults_are;
   reads = subst (ReadsTo (held_bytes start.session ++ (s.taken ++ more)) s.done) (sym held)
       (reads-more start.session now.session s.taken more s.done s.reads);
-  session_is = takes.session_is ∙ ap₂ resting (sym held) (ap (λ (x : State). x.before) s.session_is);
+  session_is = takes.session_is ∙ ap₂ at_rest (sym held) (ap (λ (x : State). x.before) s.session_is);
 }
   where
     held : held_bytes session ≡ held_bytes now.session ++ more
     held = held-at session (held_bytes now.session ++ more) now.session.before takes.session_is
 
 -- ---- a reply is begun
-
-pub continues-le : (earlier later : List Op) → Continues earlier later → length earlier ≤ length later
-continues-le earlier later grows =
-    let same : length later ≡ length earlier + length grows.0 =
-    ap length grows.1 ∙ length-append earlier grows.0 in
-    omega arith
-
-pub continues-then : (first second third : List Op) → Continues first second → Continues second third
-    → Continues first third
-continues-then first second third one two =
-    (one.0 ++ two.0, two.1 ∙ ap (λ (l : List Op). l ++ two.0) one.1 ∙ append_assoc first one.0 two.0)
 
 -- replies that are whole stay so
 pub each-later : (proto : Proto) (ops later : List Op) (marks : List Mark) (items : List Item) (number : ℕ)
@@ -182,7 +172,7 @@ pub Begun-replies : (proto : Proto) (still : Bool) (start now after : Moment) (a
 Begun-replies proto still start now after asked mark s replies = record {
   moved_is = replies.put_is ∙ ap (after_put bytes) b.moved_is ∙ moved-put s.taken s.written bytes start.link.held;
   next = b.next;
-  grows = continues-then start.seen now.seen after.seen b.grows replies.looks.grows;
+  grows = continues_on start.seen now.seen after.seen b.grows replies.looks.grows;
   stays = λ still_is. replies.looks.stays still_is ∙ b.stays still_is;
   count = ap length replies.trail_is ∙ length-append now.trail (mark ∷ [])
       ∙ ap (λ (n : ℕ). n + 1) b.count ∙ sym (length-append s.done (item ∷ []));
@@ -225,7 +215,7 @@ Begun-replies proto still start now after asked mark s replies = record {
     b = s.begun
 
     longer : length now.seen ≤ length after.seen
-    longer = continues-le now.seen after.seen replies.looks.grows
+    longer = continues_length now.seen after.seen replies.looks.grows
 
     one_look : ℕ → List ℕ
     one_look n = if is_ok (asked_by proto.site item) then n ∷ [] else []

@@ -10,14 +10,12 @@ use Rattle.web_frame.specs.Stream.{held_after, held_by, held_len, next_by, next_
 use Rattle.web_session.specs.declared.action.Action.TheVariants.{Read, Ask, Close}
 use Rattle.web_session.specs.declared.action.Asked.{Asked}
 use Rattle.web_session.specs.declared.action.End.{End}
-use Rattle.web_session.specs.declared.event.Event.TheVariants.{Start}
 use Rattle.web_session.specs.declared.phase.Phase.{Phase}
 use Rattle.web_session.specs.declared.phase.Phase.TheVariants.{Waiting, Asking, Sending, Ended}
-use Rattle.web_session.specs.Event.{after_event, after_in}
 use Rattle.web_session.specs.State.{action_at, action_of, phase_after, State}
 use Rattle.web_session.proofs.LookLemmas.{held_after-cut, next_of-cut}
 use Rattle.dap_reply.specs.Served.{held_bytes, IsAtRest}
-use Rattle.srv_conn.specs.Turn.{resting}
+use Rattle.srv_conn.specs.Turn.{at_rest}
 
 -- ---- a session at rest
 
@@ -34,20 +32,20 @@ held-whole bytes =
 state_at : ℕ → Phase → Held → State
 state_at before phase held = record { phase = phase; held = held; before = before }
 
-pub rests-so : (s : State) → IsAtRest s → s ≡ resting (held_bytes s) s.before
+pub rests-so : (s : State) → IsAtRest s → s ≡ at_rest (held_bytes s) s.before
 unfolding state_at
 rests-so s rests = ap₂ (state_at s.before) rests.phase_is rests.held_is
 
-pub rests : (bytes : List ℕ) (before : ℕ) → IsAtRest (resting bytes before)
+pub rests : (bytes : List ℕ) (before : ℕ) → IsAtRest (at_rest bytes before)
 rests bytes before = record {
   phase_is = ap (λ (l : List ℕ). phase_after (next_of l)) (sym (held-whole bytes));
   held_is = ap held_after (sym (held-whole bytes));
 }
 
-pub rests-at : (s : State) (bytes : List ℕ) (before : ℕ) → s ≡ resting bytes before → IsAtRest s
+pub rests-at : (s : State) (bytes : List ℕ) (before : ℕ) → s ≡ at_rest bytes before → IsAtRest s
 rests-at s bytes before is = subst IsAtRest (sym is) (rests bytes before)
 
-pub held-at : (s : State) (bytes : List ℕ) (before : ℕ) → s ≡ resting bytes before → held_bytes s ≡ bytes
+pub held-at : (s : State) (bytes : List ℕ) (before : ℕ) → s ≡ at_rest bytes before → held_bytes s ≡ bytes
 held-at s bytes before is = ap held_bytes is ∙ held-whole bytes
 
 -- a session that rests stands so
@@ -118,13 +116,3 @@ unfolding action_of
 ends-so s end is = ap (λ (p : Phase). action_at p s.held) is
 
 -- ---- events
-
-start-at : (phase : Phase) (s : State) → after_in phase s Start ≡ s
-start-at Waiting s = refl
-start-at (Asking asked) s = refl
-start-at (Sending asked from len) s = refl
-start-at (Ended end) s = refl
-
-pub start-same : (s : State) → after_event s Start ≡ s
-unfolding after_event
-start-same s = start-at s.phase s

@@ -2,9 +2,10 @@
 use Rattle.std.proofs.Common.{◌≡◌, ◌<◌, ◌≤◌, inl, inr, ⊎_elim, ℕ, ◌+◌, List, [], ◌∷◌, ◌++◌, length, take, drop, Bool, false, Option, Some, refl, sym, ap, subst, ◌∙◌, append-nil, arith}
 use Rattle.std.proofs.lemmas.List.{take_all, length-take}
 use Rattle.std.proofs.lemmas.Option.{same_Some}
+use Rattle.pub_look.proofs.HistoryLemmas.{continues_on, continues_length}
 use Rattle.fm_model.specs.declared.proto.Proto.{Proto}
-use Rattle.fm_world.specs.Cause.{one_more}
-use Rattle.fm_world.specs.Link.{after_put}
+use Rattle.dev_traits.specs.Cause.{one_more}
+use Rattle.dev_traits.specs.Link.{after_put}
 use Rattle.web_frame.specs.Items.{Item}
 use Rattle.web_session.specs.declared.action.End.{End}
 use Rattle.web_session.specs.declared.action.End.TheVariants as ends
@@ -21,7 +22,7 @@ use Rattle.srv_conn.proofs.MovedLemmas.{moved-put}
 use Rattle.srv_conn.proofs.Ran.{moves_of, serves-so}
 use Rattle.srv_conn.proofs.ScriptLemmas.{rises-append, rises-none}
 use Rattle.srv_conn.proofs.ServedParts.{ended-of, failed, Ended}
-use Rattle.srv_conn.proofs.Serving.{continues-le, continues-then, each-later, same-sent, Serving}
+use Rattle.srv_conn.proofs.Serving.{each-later, same-sent, Serving}
 
 serves-said : (proto : Proto) (still : Bool) (start now after : Moment) (most : ℕ) (end : Option End) (more : List ℕ)
     → Serving proto still start now → length now.trail < most → IsShort still now after end
@@ -35,12 +36,12 @@ serves-said proto still start now after most end more s few w looks one =
       moved_is = w.put_is ∙ ap (after_put farewell) s.begun.moved_is
           ∙ moved-put s.taken s.written farewell start.link.held;
       next = s.begun.next;
-      grows = continues-then start.seen now.seen after.seen s.begun.grows w.grows;
+      grows = continues_on start.seen now.seen after.seen s.begun.grows w.grows;
       stays = λ still_is. w.stays still_is ∙ s.begun.stays still_is;
       rises = subst (λ (l : List Mark). Rises (length start.seen) l (length after.seen))
           (append-nil now.trail ∙ sym w.trail_is)
           (rises-append (length start.seen) (length now.seen) (length after.seen) now.trail [] s.begun.rises
-          (rises-none (length now.seen) (length after.seen) (continues-le now.seen after.seen w.grows)));
+          (rises-none (length now.seen) (length after.seen) (continues_length now.seen after.seen w.grows)));
       repeats = subst (λ (l : List Mark). RepeatsUnwanted proto (length start.seen) l s.done) (sym w.trail_is)
           s.begun.repeats;
       looks_are = looks ∙ ap (λ (l : List ℕ). l ++ more) s.begun.looks_are

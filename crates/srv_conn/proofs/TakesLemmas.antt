@@ -1,6 +1,6 @@
 -- Bytes that are taken, call by call.
-use Rattle.std.proofs.Common.{◌≡◌, ◌<◌, ℕ, ◌+◌, ◌-◌, List, [], ◌++◌, length, refl, sym, ap, ap₂, subst, ◌∙◌, append_assoc, append-nil, arith, length-append}
-use Rattle.fm_world.specs.Shown.{LinkShown}
+use Rattle.std.proofs.Common.{◌≡◌, ◌<◌, ℕ, ◌+◌, ◌-◌, List, [], ◌++◌, length, sym, ap, ap₂, subst, ◌∙◌, append_assoc, arith, length-append}
+use Rattle.dev_traits.specs.Shown.{LinkShown}
 use Rattle.web_frame.specs.declared.limit.TheConstants.{MAX_HEAD}
 use Rattle.web_session.specs.declared.action.Action.TheVariants.{Read}
 use Rattle.web_session.specs.declared.action.End.{End}
@@ -8,19 +8,12 @@ use Rattle.web_session.specs.declared.phase.Phase.TheVariants.{Ended}
 use Rattle.web_session.specs.declared.event.Event.TheVariants.{Start}
 use Rattle.web_session.specs.Event.{after_event}
 use Rattle.web_session.specs.State.{action_of, State}
+use Rattle.web_session.proofs.StartLemmas.{start-same}
 use Rattle.dap_reply.specs.Served.{held_bytes, IsAtRest}
 use Rattle.srv_conn.specs.Moved.{moved, AreNext}
-use Rattle.srv_conn.specs.Turn.{resting, EndsReading, FindsNone, Takes}
-use Rattle.srv_conn.proofs.MovedLemmas.{moved-more, moved-none, next-more, next-none}
-use Rattle.srv_conn.proofs.SessionLemmas.{held-at, reads-waiting, rests-at, rests-so, start-same}
-
-pub takes-none : (link : LinkShown) (s now : State) → IsAtRest s → now ≡ s → Takes link link s now []
-takes-none link s now rests is = record {
-  moved_is = sym (moved-none link.held);
-  next = next-none link.held;
-  faults_are = refl;
-  session_is = is ∙ rests-so s rests ∙ ap (λ (l : List ℕ). resting l s.before) (sym (append-nil (held_bytes s)));
-}
+use Rattle.srv_conn.specs.Turn.{at_rest, EndsReading, FindsNone, Takes}
+use Rattle.srv_conn.proofs.MovedLemmas.{moved-more, next-more}
+use Rattle.srv_conn.proofs.SessionLemmas.{held-at, reads-waiting, rests-at}
 
 -- what a session holds after bytes were taken
 pub takes-held : (link now : LinkShown) (s after : State) (taken : List ℕ) → Takes link now s after taken
@@ -37,7 +30,7 @@ takes-then first second third s mid after taken more one two = record {
   moved_is = two.moved_is ∙ ap (moved more []) one.moved_is ∙ moved-more taken more [] first.held;
   next = next-more taken more [] first.held one.next (subst (AreNext more) one.moved_is two.next);
   faults_are = two.faults_are ∙ one.faults_are;
-  session_is = two.session_is ∙ ap₂ resting
+  session_is = two.session_is ∙ ap₂ at_rest
       (ap (λ (l : List ℕ). l ++ more) (takes-held first second s mid taken one)
       ∙ append_assoc (held_bytes s) taken more)
       (ap (λ (x : State). x.before) one.session_is);

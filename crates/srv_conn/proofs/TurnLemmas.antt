@@ -7,10 +7,10 @@ use Rattle.fm_model.specs.declared.op.Op.{Op}
 use Rattle.fm_model.specs.declared.proto.Proto.{Proto}
 use Rattle.fm_model.specs.declared.site.Site.{Site}
 use Rattle.fm_model.specs.Collection.{coll}
-use Rattle.fm_world.specs.Cause.{one_more, HasCause}
-use Rattle.fm_world.specs.Link.{after_put}
-use Rattle.fm_world.specs.Shown.{LinkShown}
-use Rattle.pub_plain.specs.History.{Continues}
+use Rattle.dev_traits.specs.Cause.{one_more, HasCause}
+use Rattle.dev_traits.specs.Link.{after_put}
+use Rattle.dev_traits.specs.Shown.{LinkShown}
+use Rattle.pub_look.specs.History.{Continues}
 use Rattle.web_frame.specs.Items.{Item}
 use Rattle.web_session.specs.declared.action.Asked.{Asked}
 use Rattle.web_session.specs.declared.action.End.{End}

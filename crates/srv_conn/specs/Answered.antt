@@ -5,13 +5,13 @@ use Rattle.dap_reply.specs.declared.served.Mark.{Mark}
 use Rattle.dap_reply.specs.Reply.{is_last}
 use Rattle.dap_reply.specs.Served.{items_of, marked_reply, number_at, LinkCall}
 
--- no request before a place has a connection's last reply
+-- no request before an index has a connection's last reply
 abbrev pub GoesOnBefore : LinkCall → ℕ → Type 0
-GoesOnBefore call place = (earlier : ℕ) (item : Item) → earlier < place → slice_get (items_of call) earlier ≡ Some item
+GoesOnBefore call index = (earlier : ℕ) (item : Item) → earlier < index → slice_get (items_of call) earlier ≡ Some item
     → is_last item (number_at call earlier) ≡ false
 
--- the request at a place has its whole reply
-pub record IsAnswered (call : LinkCall) (place : ℕ) (item : Item) : Type 0 where
+-- the request at an index has its whole reply
+pub record IsAnswered (call : LinkCall) (index : ℕ) (item : Item) : Type 0 where
   pub mark : Mark
-  pub mark_is : slice_get call.trail place ≡ Some mark
-  pub whole : mark.sent ≡ length (marked_reply call.proto call.seen_after mark item (number_at call place))
+  pub mark_is : slice_get call.trail index ≡ Some mark
+  pub whole : mark.sent ≡ length (marked_reply call.proto call.seen_after mark item (number_at call index))

@@ -1,4 +1,5 @@
 pub mod Answered
+pub mod DoorTurns
 pub mod Moved
 pub mod Serves
 pub mod Turn

@@ -1,6 +1,6 @@
--- What moved over a link.
+-- The bytes that moved over a link.
 use Rattle.std.specs.Prelude.{◌≡◌, ℕ, List, [], ◌++◌, length, take, drop, Option, Some, None, IfSome}
-use Rattle.fm_world.specs.Link.{Wire}
+use Rattle.dev_traits.specs.Link.{Wire}
 
 -- a link after these bytes were taken from it, and these were written to it
 abbrev pub moved : List ℕ → List ℕ → Option Wire → Option Wire

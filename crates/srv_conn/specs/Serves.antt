@@ -1,8 +1,8 @@
--- What a call that serves a link did, by what is seen of all that it was handed.
+-- A call that serves a link, by the views of its arguments before and after.
 use Rattle.std.specs.Prelude.{◌≡◌, ◌≢◌, ℕ, List, Bool, true}
 use Rattle.fm_model.specs.declared.op.Op.{Op}
 use Rattle.fm_model.specs.declared.proto.Proto.{Proto}
-use Rattle.fm_world.specs.Shown.{LinkShown}
+use Rattle.dev_traits.specs.Shown.{LinkShown}
 use Rattle.web_session.specs.declared.action.End.TheVariants as ends
 use Rattle.web_session.specs.State.{State}
 use Rattle.dap_reply.specs.declared.served.Mark.{Mark}
@@ -11,8 +11,8 @@ use Rattle.dap_reply.specs.declared.served.Stop.TheVariants as stops
 use Rattle.dap_reply.specs.Served.{LinkCall, Served}
 use Rattle.srv_conn.specs.Moved.{moved, AreNext, IsOver}
 
--- what is seen at one moment: the link, the operations seen and how many there were at each look, the session, and the
--- replies that were begun
+-- one moment of a served link: the link as it shows, the operations seen, their number at each look, the session, and
+-- the replies that were begun
 pub record Moment : Type 0 where
   pub link : LinkShown
   pub seen : List Op
@@ -20,7 +20,12 @@ pub record Moment : Type 0 where
   pub session : State
   pub trail : List Mark
 
--- the bytes that a call took from a link, those that it wrote to it, and whether the link said that its input is over
+-- a moment, by its members
+abbrev pub moment_of : LinkShown → List Op → List ℕ → State → List Mark → Moment
+moment_of link seen looks session trail =
+    record { link = link; seen = seen; looks = looks; session = session; trail = trail }
+
+-- the bytes that a call took from a link, the bytes that it wrote, and whether the link said that its input is over
 pub record Moves : Type 0 where
   pub taken : List ℕ
   pub written : List ℕ
@@ -52,9 +57,9 @@ abbrev pub IsCalm : Moment → Moment → Stop → Type 0
 IsCalm before after stop = stop ≢ stops.Ended ends.LinkFault → stop ≢ stops.Ended ends.NoMemory
     → after.link.faults ≡ before.link.faults
 
--- a call from one moment to another served a link: it is a served link, what it took from the link were the next bytes,
--- and what it wrote was put; where the link says what it holds, its input is over only where nothing is left; a call of
--- the link that failed is blamed
+-- a call from one moment to another served a link: it is a served link, the bytes taken from the link were its next
+-- ones, and the bytes written were put; where the link shows what it holds, its input is over only where nothing is
+-- left; a call of the link that failed is blamed
 pub record Serves (proto : Proto) (still : Bool) (before after : Moment) (most : ℕ) (stop : Stop) : Type 0 where
   pub moves : Moves
   pub served : Served (call_of proto still before after moves most stop)

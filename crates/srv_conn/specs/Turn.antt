@@ -1,10 +1,10 @@
 -- The turns of a served link: reading until a session asks for a reply, and replying.
-use Rattle.std.specs.Prelude.{◌≡◌, ◌⊎◌, ℕ, ◌+◌, ◌≤◌, List, [], ◌∷◌, ◌++◌, length, take, Bool, true, false, if◌then◌else◌, Option, Some, None, is_ok}
+use Rattle.std.specs.Prelude.{◌≡◌, ◌⊎◌, ℕ, ◌+◌, ◌<◌, ◌≤◌, List, [], ◌∷◌, ◌++◌, length, take, Bool, true, false, if◌then◌else◌, Option, Some, None, is_ok}
 use Rattle.fm_model.specs.declared.proto.Proto.{Proto}
-use Rattle.fm_world.specs.Cause.{one_more}
-use Rattle.fm_world.specs.Link.{after_put}
-use Rattle.fm_world.specs.Shown.{LinkShown}
-use Rattle.pub_plain.specs.History.{Continues, MayHaveLooked}
+use Rattle.dev_traits.specs.Cause.{one_more}
+use Rattle.dev_traits.specs.Link.{after_put}
+use Rattle.dev_traits.specs.Shown.{LinkShown}
+use Rattle.pub_look.specs.History.{Continues, MayHaveLooked}
 use Rattle.web_frame.specs.Items.{Item}
 use Rattle.web_frame.specs.Stream.{held_after, next_of}
 use Rattle.web_session.specs.declared.action.Action.{Action}
@@ -22,9 +22,9 @@ use Rattle.dap_reply.specs.Served.{held_bytes, marked_reply}
 use Rattle.srv_conn.specs.Moved.{moved, AreNext, IsOver}
 use Rattle.srv_conn.specs.Serves.{Moment}
 
--- a session that rests with these bytes, after so many replies
-abbrev pub resting : List ℕ → ℕ → State
-resting bytes before =
+-- the session that rests with these bytes, after this number of replies
+abbrev pub at_rest : List ℕ → ℕ → State
+at_rest bytes before =
     record { phase = phase_after (next_of bytes); held = held_after bytes; before = before }
 
 -- the end that an action says
@@ -39,7 +39,13 @@ pub record Takes (before after : LinkShown) (session session_after : State) (tak
   pub moved_is : after.held ≡ moved taken [] before.held
   pub next : AreNext taken before.held
   pub faults_are : after.faults ≡ before.faults
-  pub session_is : session_after ≡ resting (held_bytes session ++ taken) session.before
+  pub session_is : session_after ≡ at_rest (held_bytes session ++ taken) session.before
+
+-- some bytes were taken
+pub record TakesSome (before after : LinkShown) (session session_after : State) : Type 0 where
+  pub taken : List ℕ
+  pub some : 0 < length taken
+  pub takes : Takes before after session session_after taken
 
 -- a link that was read from ends a session: a call failed, or input is over and these bytes are left
 abbrev pub EndsReading : LinkShown → LinkShown → List ℕ → End → Type 0
@@ -62,7 +68,7 @@ pub record FindsNone (before after : LinkShown) (session session_after : State) 
   pub ended : session_after.phase ≡ Ended end
   pub why : EndsReading before after (held_bytes session ++ taken) end
 
--- a giver of looks was asked for the answer to an item, or wasn't
+-- an item's answer was asked of a look, or wasn't
 pub record Looks (proto : Proto) (still : Bool) (before after : Moment) (item : Item) : Type 0 where
   pub grows : Continues before.seen after.seen
   pub stays : still ≡ true → after.seen ≡ before.seen
@@ -121,7 +127,7 @@ pub record IsShort (still : Bool) (before after : Moment) (end : Option End) : T
   pub ended : after.session.phase ≡ Ended ends.NoMemory
   pub end_is : end ≡ Some ends.NoMemory
 
--- what a session asked for was replied to, in one of these ways
+-- a session's question got its reply, in one of these ways
 pub data Turn (proto : Proto) (still : Bool) (before after : Moment) (asked : Asked) (end : Option End) : Type 0 where
   whole : IsWhole proto still before after asked end → Turn proto still before after asked end
   cut : IsCut proto still before after asked end → Turn proto still before after asked end

@@ -2,7 +2,7 @@
 ghost use Rattle.std.specs.Prelude.{◌≡◌, ◌+◌, ◌∷◌, ◌++◌, [], IfOk, OnErr, OnOk, false, is_ok, length, true};
 ghost use Rattle.std.specs.Prelude.{if◌then◌else◌};
 ghost use Rattle.fm_model.specs.Collection.{coll};
-ghost use Rattle.pub_plain.specs.History.{Continues, MayHaveLooked};
+ghost use Rattle.pub_look.specs.History.{Continues, MayHaveLooked};
 ghost use Rattle.web_session.specs.declared.phase.Phase.TheVariants.{Asking};
 ghost use Rattle.web_session.specs.Run.{item_asked};
 ghost use Rattle.dap_reply.specs.Order.{item_by};
@@ -13,29 +13,37 @@ use crate::trail::Trail;
 use dap_reply::{Mark, Order, Plan, order, refusal};
 use fm_base::NoMemory;
 use fm_model::Site;
-use pub_plain::Look;
+use pub_look::Look;
 use std::alloc::Global;
 use web_session::{Asked, Session};
 
-// The reply to what is asked for, whose present target is handed in, and its revision. There is one look where a
-// collection has to be looked at, and else none. `last` says whether the connection ends after the reply.
+/// A session's question, and the site that it goes to.
+#[derive(Clone, Copy)]
+pub(crate) struct Request<'a> {
+    pub(crate) asked: Asked,
+    pub(crate) site: &'a Site,
+}
+
+// The reply to a request, whose present target is handed in, and its revision. There is one look where a collection has
+// to be looked at, and else none. `last` says whether the connection ends after the reply.
 #[tactic(auto, unfolding(dap_reply::specs::Order::order_of, dap_reply::specs::Planned::planned, dap_reply::specs::Planned::answer_over, dap_reply::specs::Planned::refused, dap_reply::specs::Reply::answer_to), using(dap_reply::proofs::ReplyLemmas::parts))]
 fn answer<K: Look>(
     alloc: Global,
     look: &mut K,
-    asked: Asked,
+    request: &Request<'_>,
     target: &[u8],
     last: bool,
-    site: &Site,
 ) -> Result<(Plan, u64), NoMemory>
-    requires { site.now ≡ (K.proto look.old).site }
+    requires { request.now.site.now ≡ (K.proto look.old).site }
     ensures reply { IfOk result (λ found. bytes_of found.0
-        ≡ reply_text (answer_to (K.proto look.new) (coll (K.log look.new)) (item_by asked target.now)) found.1
-        (has_head_alone (item_by asked target.now)) last) }
+        ≡ reply_text
+        (answer_to (K.proto look.new) (coll (K.log look.new)) (item_by request.now.asked target.now)) found.1
+        (has_head_alone (item_by request.now.asked target.now)) last) }
     ensures revision { IfOk result (λ found. found.1 ≡ length (K.log look.new)) }
     ensures looked { OnOk result (K.looks look.new ≡ K.looks look.old
-        ++ (if is_ok (asked_by site.now (item_by asked target.now)) then length (K.log look.new) ∷ [] else [])) }
-    ensures unwanted { is_ok (asked_by site.now (item_by asked target.now)) ≡ false
+        ++ (if is_ok (asked_by request.now.site.now (item_by request.now.asked target.now))
+        then length (K.log look.new) ∷ [] else [])) }
+    ensures unwanted { is_ok (asked_by request.now.site.now (item_by request.now.asked target.now)) ≡ false
         → K.log look.new ≡ K.log look.old }
     ensures err { OnErr result (MayHaveLooked (K.looks look.old) (length (K.log look.new)) (K.looks look.new)) }
     ensures later { Continues (K.log look.old) (K.log look.new) }
@@ -43,7 +51,7 @@ fn answer<K: Look>(
     ensures same_proto { K.proto look.new ≡ K.proto look.old }
     ensures same_still { K.still look.new ≡ K.still look.old }
 {
-    match order(alloc, asked, target, last, site)? {
+    match order(alloc, request.asked, target, last, request.site)? {
         Order::Wanted(dap) => look.ask(alloc, &dap),
         Order::Refused { fault, head, last } => {
             let revision = look.seen();
@@ -53,25 +61,25 @@ fn answer<K: Look>(
     }
 }
 
-/// The reply to what a session asks for, which is marked as begun.
+/// The reply to a session's request, which is marked as begun.
 pub(crate) fn begin<K: Look>(
     alloc: Global,
     look: &mut K,
     session: &Session,
-    site: &Site,
-    asked: Asked,
+    request: &Request<'_>,
     trail: &mut Trail,
 ) -> Result<Plan, NoMemory>
-    requires site { site.now ≡ (K.proto look.old).site }
-    requires asking { session.now.phase ≡ Asking asked }
+    requires site { request.now.site.now ≡ (K.proto look.old).site }
+    requires asking { session.now.phase ≡ Asking request.now.asked }
     ensures reply { IfOk result (λ plan. bytes_of plan
         ≡ reply_of (K.proto look.new) (coll (K.log look.new)) (length (K.log look.new))
-        (item_asked asked session.now.held) (session.now.before + 1)) }
+        (item_asked request.now.asked session.now.held) (session.now.before + 1)) }
     ensures begun { OnOk result (trail.new
         ≡ trail.old ++ record { revision = length (K.log look.new); sent = 0 } ∷ []) }
     ensures looked { OnOk result (K.looks look.new ≡ K.looks look.old
-        ++ (if is_ok (asked_by site.now (item_asked asked session.now.held)) then length (K.log look.new) ∷ [] else [])) }
-    ensures unwanted { is_ok (asked_by site.now (item_asked asked session.now.held)) ≡ false
+        ++ (if is_ok (asked_by request.now.site.now (item_asked request.now.asked session.now.held))
+        then length (K.log look.new) ∷ [] else [])) }
+    ensures unwanted { is_ok (asked_by request.now.site.now (item_asked request.now.asked session.now.held)) ≡ false
         → K.log look.new ≡ K.log look.old }
     ensures err { OnErr result (trail.new ≡ trail.old) }
     ensures may_have_looked { OnErr result
@@ -81,7 +89,7 @@ pub(crate) fn begin<K: Look>(
     ensures same_proto { K.proto look.new ≡ K.proto look.old }
     ensures same_still { K.still look.new ≡ K.still look.old }
 {
-    let (plan, revision) = answer(alloc, look, asked, session.target(), session.last(), site)?;
+    let (plan, revision) = answer(alloc, look, request, session.target(), session.last())?;
     trail.push(Mark { revision, sent: 0 })?;
     Ok(plan)
 }

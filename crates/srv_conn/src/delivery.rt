@@ -1,16 +1,16 @@
 //! The bytes of a reply, sent over a link.
 ghost use Rattle.std.specs.Prelude.{◌≡◌, ◌<◌, ◌≤◌, ◌+◌, drop, length, take, IfOk, OnErr};
-ghost use Rattle.fm_world.specs.Cause.{HasCause, one_more};
-ghost use Rattle.fm_world.specs.Link.{after_put};
+ghost use Rattle.dev_traits.specs.Cause.{HasCause, one_more};
+ghost use Rattle.dev_traits.specs.Link.{after_put};
 ghost use Rattle.dap_reply.specs.Parts.{bytes_of};
 
 use dap_reply::Plan;
-use fm_world::{Failed, Link};
+use dev_traits::{Failed, Link};
 
-// Sends the next bytes of a plan: those that stand ready or in a file, where they fill the room or are all that is left,
-// and else a piece in the room. Returns how many were sent.
+// Sends the next bytes of a plan, from an offset. Bytes that stand ready or in a file are sent as they lie there, where
+// they fill the room or are all that is left; else the room is filled. Returns the number of bytes sent.
 fn put_next<L: Link>(link: &mut L, plan: &Plan, from: u64, room: &mut [u8]) -> Result<usize, Failed>
-    requires place { from < length (bytes_of plan.now) }
+    requires offset { from < length (bytes_of plan.now) }
     requires room { 0 < length room.old }
     ensures some { IfOk result (λ count. 0 < count) }
     ensures within { IfOk result (λ count. from + count ≤ length (bytes_of plan.now)) }
@@ -28,8 +28,8 @@ fn put_next<L: Link>(link: &mut L, plan: &Plan, from: u64, room: &mut [u8]) -> R
     link.put(piece)
 }
 
-#[tactic(auto, using(fm_world::proofs::LinkLemmas::after_put_more))]
-/// Sends the bytes of a plan, or a front of them where the link fails. Returns how many were sent.
+#[tactic(auto, using(dev_traits::proofs::LinkLemmas::after_put_more))]
+/// Sends the bytes of a plan, or a front of them where the link fails. Returns the number of bytes sent.
 pub(crate) fn deliver<L: Link>(link: &mut L, plan: &Plan, room: &mut [u8]) -> u64
     requires { 0 < length room.old }
     ensures within { result ≤ length (bytes_of plan.now) }

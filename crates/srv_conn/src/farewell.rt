@@ -1,10 +1,10 @@
 //! The reply where memory runs out.
 ghost use Rattle.std.specs.Prelude.{◌≡◌, ◌≤◌, ℕ, OnErr, OnOk, length, take};
-ghost use Rattle.fm_world.specs.Cause.{HasCause};
-ghost use Rattle.fm_world.specs.Link.{after_put};
+ghost use Rattle.dev_traits.specs.Cause.{HasCause};
+ghost use Rattle.dev_traits.specs.Link.{after_put};
 ghost use Rattle.dap_reply.specs.Head.{no_memory_reply};
 
-use fm_world::{Failed, Link, put_all};
+use dev_traits::{Failed, Link, put_all};
 
 // The reply, which is a connection's last.
 const NO_MEMORY: &[u8] =

@@ -1,4 +1,4 @@
-//! What a reader believes of served links, each as the contract of a call that does nothing.
+//! Laws of served links, each as the contract of a call that does nothing.
 ghost use Rattle.std.specs.Prelude.{◌≡◌, ◌≢◌, ◌<◌, ℕ, length, slice_get, Some};
 ghost use Rattle.web_frame.specs.Items.{Item};
 ghost use Rattle.web_session.specs.declared.action.End.TheVariants.{NoMemory};
@@ -12,14 +12,14 @@ ghost use Rattle.srv_conn.specs.Answered.{GoesOnBefore, IsAnswered};
 #[tactic(auto, using(crate::proofs::LawLemmas::laws))]
 pub fn each_request_that_is_read_has_its_whole_reply()
     ensures { (call : LinkCall) → Served call → ¬ (HasFailed call) → call.stop ≢ Ended NoMemory
-        → (place : ℕ) (item : Item) → place < call.most → slice_get (items_of call) place ≡ Some item
-        → GoesOnBefore call place → IsAnswered call place item }
+        → (index : ℕ) (item : Item) → index < call.most → slice_get (items_of call) index ≡ Some item
+        → GoesOnBefore call index → IsAnswered call index item }
 {}
 
 /// A reply that was begun is written whole, unless a call of the link failed. Memory that runs out cuts none.
 #[tactic(auto, using(crate::proofs::LawLemmas::laws))]
 pub fn a_reply_that_is_begun_is_whole_unless_the_link_fails()
-    ensures { (call : LinkCall) → Served call → ¬ (HasFailed call) → (place : ℕ) (mark : Mark) (item : Item)
-        → slice_get call.trail place ≡ Some mark → slice_get (items_of call) place ≡ Some item
-        → mark.sent ≡ length (marked_reply call.proto call.seen_after mark item (number_at call place)) }
+    ensures { (call : LinkCall) → Served call → ¬ (HasFailed call) → (index : ℕ) (mark : Mark) (item : Item)
+        → slice_get call.trail index ≡ Some mark → slice_get (items_of call) index ≡ Some item
+        → mark.sent ≡ length (marked_reply call.proto call.seen_after mark item (number_at call index)) }
 {}

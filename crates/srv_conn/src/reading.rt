@@ -1,28 +1,26 @@
 //! Reading from a link until a session asks for a reply.
-ghost use Rattle.std.specs.Prelude.{◌≡◌, ◌<◌, ◌≤◌, ◌⊎◌, [], length, take, IfOk, IfErr};
+ghost use Rattle.std.specs.Prelude.{◌≡◌, ◌<◌, ◌≤◌, ◌⊎◌, [], length, IfOk, IfErr, OnOk};
 ghost use Rattle.web_session.specs.declared.action.Action.TheVariants.{Read};
 ghost use Rattle.web_session.specs.declared.phase.Phase.TheVariants.{Ended};
 ghost use Rattle.web_session.specs.State.{action_of};
 ghost use Rattle.dap_reply.specs.Served.{held_bytes, IsAtRest};
-ghost use Rattle.srv_conn.specs.Turn.{EndsReading, Finds, FindsNone, Takes};
+ghost use Rattle.srv_conn.specs.Turn.{EndsReading, Finds, FindsNone, TakesSome};
 
-use fm_world::Link;
+use dev_traits::Link;
 use web_session::{Action, Asked, End, Event, Session};
 
-// Reads the next bytes, at most `count`, and tells the session. Returns how many they are, or the end of the session.
+// Reads the next bytes, at most `count`, into the session, or returns the end of the session.
 fn read_more<L: Link>(
     link: &mut L,
     session: &mut Session,
     room: &mut [u8],
     count: usize,
-) -> Result<usize, End>
+) -> Result<(), End>
     requires rests { IsAtRest session.old }
     requires reads { action_of session.old ≡ Read count }
     requires some { 0 < count }
     requires room { 0 < length room.old }
-    ensures some { IfOk result (λ read. 0 < length (take read room.new)) }
-    ensures takes { IfOk result (λ read.
-        Takes (L.shown link.old) (L.shown link.new) session.old session.new (take read room.new)) }
+    ensures takes { OnOk result (TakesSome (L.shown link.old) (L.shown link.new) session.old session.new) }
     ensures ended { IfErr result (λ end. session.new.phase ≡ Ended end) }
     ensures held { IfErr result (λ end. (L.shown link.new).held ≡ (L.shown link.old).held) }
     ensures why { IfErr result (EndsReading (L.shown link.old) (L.shown link.new) (held_bytes session.old)) }
@@ -36,7 +34,7 @@ fn read_more<L: Link>(
         Ok(read) => {
             let (bytes, _) = front.split_at(read);
             session.on(Event::Bytes(bytes));
-            Ok(read)
+            Ok(())
         }
         Err(_) => {
             session.on(Event::Fault);
@@ -45,7 +43,7 @@ fn read_more<L: Link>(
     }
 }
 
-/// Reads until the session asks for a reply, and returns what it asks for, or its end.
+/// Reads until the session asks for a reply. Returns its question, or its end.
 pub(crate) fn next_asked<L: Link>(
     link: &mut L,
     session: &mut Session,
@@ -58,11 +56,7 @@ pub(crate) fn next_asked<L: Link>(
 {
     loop {
         match session.on(Event::Start) {
-            Action::Read(count) => {
-                if let Err(end) = read_more(link, session, room, count) {
-                    return Err(end);
-                }
-            }
+            Action::Read(count) => read_more(link, session, room, count)?,
             Action::Ask(asked) => return Ok(asked),
             _ => unreachable!(),
         }

@@ -1,15 +1,16 @@
 //! Serving a link.
 ghost use Rattle.std.specs.Prelude.{◌≡◌, []};
 ghost use Rattle.dap_reply.specs.Served.{IsAtRest};
-ghost use Rattle.srv_conn.specs.Serves.{Serves};
+ghost use Rattle.srv_conn.specs.Serves.{moment_of, Serves};
 
+use crate::answer::Request;
 use crate::reading::next_asked;
 use crate::replying::reply;
 use crate::trail::Trail;
 use dap_reply::Stop;
+use dev_traits::Link;
 use fm_model::Site;
-use fm_world::Link;
-use pub_plain::Look;
+use pub_look::Look;
 use std::alloc::Global;
 use web_session::Session;
 
@@ -29,20 +30,8 @@ pub fn serve_link<L: Link, K: Look>(
     requires site { site.now ≡ (K.proto look.old).site }
     requires rests { IsAtRest session.old }
     ensures serves { Serves (K.proto look.old) (K.still look.old)
-        (record {
-          link = L.shown link.old;
-          seen = K.log look.old;
-          looks = K.looks look.old;
-          session = session.old;
-          trail = [];
-        })
-        (record {
-          link = L.shown link.new;
-          seen = K.log look.new;
-          looks = K.looks look.new;
-          session = session.new;
-          trail = result.1;
-        })
+        (moment_of (L.shown link.old) (K.log look.old) (K.looks look.old) session.old [])
+        (moment_of (L.shown link.new) (K.log look.new) (K.looks look.new) session.new result.1)
         most result.0 }
     ensures rests { result.0 ≡ Stop.Enough → IsAtRest session.new }
     ensures same_proto { K.proto look.new ≡ K.proto look.old }
@@ -55,9 +44,8 @@ pub fn serve_link<L: Link, K: Look>(
             Ok(asked) => asked,
             Err(end) => return (Stop::Ended(end), trail),
         };
-        if let Some(end) = reply(
-            alloc, look, link, session, site, asked, &mut room, &mut trail,
-        ) {
+        let request = Request { asked, site };
+        if let Some(end) = reply(alloc, look, link, session, &request, &mut room, &mut trail) {
             return (Stop::Ended(end), trail);
         }
     }

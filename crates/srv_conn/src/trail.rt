@@ -8,7 +8,7 @@ use fm_base::List;
 /// A mark for each reply that was begun, in order.
 pub type Trail = List<Mark>;
 
-/// Notes how many bytes were sent of the reply that was begun last. It takes no memory.
+/// Notes the number of bytes sent of the reply that was begun last. It takes no memory.
 pub(crate) fn note(trail: &mut Trail, sent: u64)
     ensures { (front : Lists Begun) (mark : Begun) → trail.old ≡ front ++ mark ∷ []
         → trail.new ≡ front ++ record mark { sent = sent } ∷ [] }

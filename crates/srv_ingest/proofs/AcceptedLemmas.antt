@@ -2,17 +2,17 @@
 use Rattle.std.proofs.Common.{◌≡◌, ◌≢◌, ℕ, All, List, Option, Some, None, Result, Ok, inl, inr, refl, sym, ap, subst, ◌∙◌}
 use Rattle.std.proofs.lemmas.List.Elements.{All-weaker}
 use Rattle.std.proofs.lemmas.Option.{none-some}
-use Rattle.fm_doors.specs.declared.inbox.Verdict.{Verdict}
-use Rattle.fm_doors.specs.declared.inbox.Verdict.TheVariants as kinds
-use Rattle.fm_doors.specs.Inbox.{Post}
+use Rattle.dev_traits.specs.declared.inbox.Verdict.{Verdict}
+use Rattle.dev_traits.specs.declared.inbox.Verdict.TheVariants as kinds
+use Rattle.dev_traits.specs.Inbox.{Post}
 use Rattle.fm_model.specs.declared.limit.TheConstants.{MAX_FILE_BYTES}
 use Rattle.fm_model.specs.declared.loaded.Loaded.{Loaded}
 use Rattle.fm_model.specs.declared.loaded.LoadFault.{LoadFault}
 use Rattle.fm_model.specs.declared.op.Op.{Op}
 use Rattle.fm_model.specs.declared.proto.Proto.{Proto}
-use Rattle.fm_world.specs.declared.files.Found.{Found}
-use Rattle.fm_world.specs.Files.{found_of}
-use Rattle.pub_plain.specs.History.{History}
+use Rattle.dev_traits.specs.declared.files.Found.{Found}
+use Rattle.dev_traits.specs.Files.{found_of}
+use Rattle.pub_look.specs.History.{History}
 use Rattle.srv_ingest.specs.declared.report.IngestEnd.{IngestEnd}
 use Rattle.srv_ingest.specs.declared.report.IngestEnd.TheVariants as ends
 use Rattle.srv_ingest.specs.declared.report.IngestReport.{IngestReport}
@@ -27,7 +27,7 @@ on-file ops file (kinds.Published number) is = is
 on-file ops file (kinds.Full count) is = is
 on-file ops file verdict is = absurd is
 
--- what is accepted is the file that the verdict is on
+-- the accepted file is the one that the verdict is on
 file-is : (proto : Proto) (content : List ℕ → Option (List ℕ)) (name : List ℕ) (file : Loaded)
     → IsAccepted proto content name file
     → file_or_verdict proto name (found_of MAX_FILE_BYTES (content name)) ≡ Ok file

@@ -1,23 +1,19 @@
 -- What a desk was asked for, and its log, as a pass then sees it.
-use Rattle.std.proofs.Common.{◌≡◌, ℕ, ◌+◌, ◌≤◌, Bool, true, false, List, [], ◌∷◌, ◌++◌, length, slice_get, Some, None, refl, sym, ap, subst, ◌∙◌, append-nil, length-append, arith, lt-ltb, if◌then◌else◌}
+use Rattle.std.proofs.Common.{◌≡◌, ℕ, ◌+◌, ◌≤◌, Bool, true, false, List, [], ◌∷◌, ◌++◌, length, Some, None, refl, sym, ap, subst, ◌∙◌, append-nil, length-append, arith, lt-ltb, if◌then◌else◌}
 use Rattle.std.proofs.lemmas.Option.{none-some}
+use Rattle.fm_base.proofs.ListLemmas.{slice_get-push}
 use Rattle.fm_model.specs.declared.op.Op.{Op}
-use Rattle.pub_plain.specs.History.{Continues, History}
+use Rattle.pub_look.specs.History.{Continues, History}
 use Rattle.pub_snap.specs.Rule.{longer}
 use Rattle.srv_ingest.specs.declared.attempt.Attempt.{Attempt}
 use Rattle.srv_ingest.specs.declared.attempt.Attempt.TheVariants.{Done}
 use Rattle.srv_ingest.specs.Attempts.{OnlyLearnt, Tried}
 use Rattle.srv_ingest.specs.Verdicts.{IsNumbered}
 
--- the last of a list
-slice_get-last : {A : Type 0} (xs : List A) (x : A) → slice_get (xs ++ x ∷ []) (length xs) ≡ Some x
-slice_get-last [] x = refl
-slice_get-last (first ∷ more) x = slice_get-last more x
-
 -- the last operation has the length for its number
 IsNumbered-last : (ops : List Op) (op : Op) → IsNumbered (ops ++ op ∷ []) (length (ops ++ op ∷ [])) op
 IsNumbered-last ops op =
-    record { place = length ops; number_is = length-append ops (op ∷ []); op_is = slice_get-last ops op }
+    record { index = length ops; number_is = length-append ops (op ∷ []); op_is = slice_get-push ops op }
 
 -- a log with one operation more is the longer of it and a list that isn't longer than the log
 longer-more : (own ops : List Op) (op : Op) → length own ≤ length ops
@@ -57,7 +53,7 @@ OnlyLearnt-learnt pass pass' log is later = record {
 pub OnlyLearnt-none : (pass : History) → OnlyLearnt pass pass
 OnlyLearnt-none pass = record { proto = refl; later = ([], sym (append-nil pass.seen)); looks = refl }
 
--- what is chosen by a test that is true, and by one that is false
+-- the choice of a test that is true, and of one that is false
 pub chosen-true : {A : Type 0} (b : Bool) (x y z : A) → true ≡ b → z ≡ (if b then x else y) → z ≡ x
 chosen-true {A} b x y z is chosen = chosen ∙ ap (λ (t : Bool). if t then x else y) (sym is)
 

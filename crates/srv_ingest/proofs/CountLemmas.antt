@@ -1,10 +1,11 @@
 -- A report that counts one name more.
 use Rattle.std.proofs.Common.{◌≡◌, ℕ, ◌+◌, ◌&&◌, Bool, cond, List, [], ◌∷◌, ◌++◌, Option, Some, None, is_none, is_some, count_by, refl, sym, ap, ◌∙◌, arith}
 use Rattle.std.proofs.lemmas.List.Sums.{sum_by_push}
-use Rattle.fm_doors.specs.declared.inbox.Verdict.{Verdict}
-use Rattle.fm_doors.specs.declared.inbox.Verdict.TheVariants as kinds
+use Rattle.dev_traits.specs.declared.inbox.Verdict.{Verdict}
+use Rattle.dev_traits.specs.declared.inbox.Verdict.TheVariants as kinds
+use Rattle.dev_traits.specs.Cause.{capped}
 use Rattle.srv_ingest.specs.declared.report.IngestReport.{IngestReport}
-use Rattle.srv_ingest.specs.Ingests.{counted, Counts, has_come, is_published, is_refused, is_retracted, is_short, Settlement}
+use Rattle.srv_ingest.specs.Ingests.{Counts, has_come, is_published, is_refused, is_retracted, is_short, Settlement}
 use Rattle.srv_ingest.specs.Turns.{GrowsByOne, with_published, with_settled}
 use Rattle.srv_ingest.specs.Verdicts.{taken_back}
 
@@ -45,8 +46,8 @@ retracted-turn report (Some back) verdict = omega arith
 
 -- the names that were refused, with one name more
 refused-turn : (report : IngestReport) (back : Option (List ℕ)) (verdict : Verdict) (count : ℕ)
-    → report.refused ≡ counted count
-    → (after_turn report back verdict).refused ≡ counted (count + cond (is_refused verdict) 1 0)
+    → report.refused ≡ capped count
+    → (after_turn report back verdict).refused ≡ capped (count + cond (is_refused verdict) 1 0)
 unfolding with_published with_settled is_refused
 refused-turn report None (kinds.Published number) count is = omega (arith, is)
 refused-turn report (Some back) (kinds.Published number) count is = omega (arith, is)
@@ -59,8 +60,8 @@ refused-turn report (Some back) verdict count is = omega (arith, is)
 
 -- the names at which memory ran out, with one name more
 short-turn : (report : IngestReport) (back : Option (List ℕ)) (verdict : Verdict) (count : ℕ)
-    → report.short ≡ counted count
-    → (after_turn report back verdict).short ≡ counted (count + cond (is_short verdict) 1 0)
+    → report.short ≡ capped count
+    → (after_turn report back verdict).short ≡ capped (count + cond (is_short verdict) 1 0)
 unfolding with_published with_settled is_short
 short-turn report None (kinds.Published number) count is = omega (arith, is)
 short-turn report (Some back) (kinds.Published number) count is = omega (arith, is)
@@ -73,8 +74,8 @@ short-turn report (Some back) verdict count is = omega (arith, is)
 
 -- a report that counts each name that was settled
 Counts-exact : (settled : List Settlement) (report : IngestReport)
-    → report.refused ≡ counted (count_by (λ it. is_refused it.verdict) settled)
-    → report.short ≡ counted (count_by (λ it. is_short it.verdict) settled)
+    → report.refused ≡ capped (count_by (λ it. is_refused it.verdict) settled)
+    → report.short ≡ capped (count_by (λ it. is_short it.verdict) settled)
     → report.published ≡ count_by has_come settled → report.retracted ≡ count_by is_retracted settled
     → Counts settled None report
 Counts-exact settled report refused_is short_is published_is retracted_is = record {
@@ -102,9 +103,9 @@ Counts-more settled it report counts =
     let short : Settlement → Bool = λ x. is_short x.verdict in
     Counts-exact (settled ++ it ∷ []) (after_turn report back it.verdict)
     (refused-turn report back it.verdict (count_by refused settled) counts.refused_is
-    ∙ ap counted (sym (count-more refused settled it)))
+    ∙ ap capped (sym (count-more refused settled it)))
     (short-turn report back it.verdict (count_by short settled) counts.short_is
-    ∙ ap counted (sym (count-more short settled it)))
+    ∙ ap capped (sym (count-more short settled it)))
     (come-turn report back it.verdict ∙ ap (λ (n : ℕ). n + cond (has_come it) 1 0) (counts.published_is refl)
     ∙ sym (count-more has_come settled it))
     (retracted-turn report back it.verdict ∙ ap (λ (n : ℕ). n + cond (is_retracted it) 1 0) (counts.retracted_is refl)

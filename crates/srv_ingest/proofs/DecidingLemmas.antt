@@ -2,7 +2,7 @@
 use Rattle.std.proofs.Common.{◌≡◌, ℕ, ◌+◌, ◌<◌, ◌≤◌, List, [], ◌∷◌, length, sym, subst, ◌∙◌, append-nil, arith}
 use Rattle.std.proofs.lemmas.Option.{slice_get_within}
 use Rattle.fm_model.specs.declared.op.Op.{Op}
-use Rattle.pub_plain.specs.History.{History}
+use Rattle.pub_look.specs.History.{History}
 use Rattle.srv_ingest.specs.Attempts.{Decides, OnlyLearnt, RiseBetween, Sees}
 use Rattle.srv_ingest.specs.Verdicts.{IsNumbered}
 use Rattle.srv_ingest.proofs.SeesLemmas.{IsPickedFrom-none, Sees-itself, Sees-then}
@@ -47,7 +47,7 @@ Decides-after a b c s t u published looked first second = record {
 
 -- an operation that has a number was seen
 IsNumbered-within : (ops : List Op) (number : ℕ) (op : Op) → IsNumbered ops number op → number ≤ length ops
-IsNumbered-within ops number op is = omega (arith, is.number_is, slice_get_within ops is.place op is.op_is)
+IsNumbered-within ops number op is = omega (arith, is.number_is, slice_get_within ops is.index op is.op_is)
 
 -- an operation was published
 pub Decides-done : (op : Op) (a b : History) (s t number : ℕ) → IsNumbered b.seen number op → length a.seen < number

@@ -1,7 +1,7 @@
 -- All moments were settled.
 use Rattle.std.proofs.Common.{◌≡◌, ℕ, ℤ, List, [], ◌++◌, map, Option, Some, None, IfSome, IsSomeAnd, sym, ap, subst, ◌∙◌, append-nil}
-use Rattle.fm_doors.specs.Clock.{Moments}
-use Rattle.pub_plain.specs.History.{Continues, History}
+use Rattle.dev_traits.specs.Clock.{Moments}
+use Rattle.pub_look.specs.History.{Continues, History}
 use Rattle.srv_ingest.specs.declared.report.ExpireReport.{ExpireReport}
 use Rattle.srv_ingest.specs.Expires.{AllSettledWith, AreAll, SettledMoment}
 use Rattle.srv_ingest.specs.Turns.{HasNoMoment}

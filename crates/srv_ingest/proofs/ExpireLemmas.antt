@@ -3,14 +3,13 @@ use Rattle.std.proofs.Common.{◌≡◌, ℕ, ℤ, ◌+◌, if◌then◌else◌,
 use Rattle.std.proofs.lemmas.List.{map-append}
 use Rattle.std.proofs.lemmas.List.Elements.{All-append, All-cons, All-nil, All-weaker}
 use Rattle.std.proofs.lemmas.Option.{none-some, same_Some}
-use Rattle.fm_doors.specs.declared.clock.Expiry.{Expiry}
-use Rattle.fm_doors.specs.Clock.{after_moment, after_verdict, Moments}
-use Rattle.fm_doors.specs.Door.{first_of}
-use Rattle.fm_world.specs.Cause.{one_more}
-use Rattle.pub_plain.specs.History.{History}
+use Rattle.dev_traits.specs.declared.clock.Expiry.{Expiry}
+use Rattle.dev_traits.specs.Clock.{after_moment, after_verdict, Moments}
+use Rattle.dev_traits.specs.Door.{first_of}
+use Rattle.dev_traits.specs.Cause.{capped, one_more}
+use Rattle.pub_look.specs.History.{History}
 use Rattle.srv_ingest.specs.Attempts.{expired_number, idle_number, Sees}
 use Rattle.srv_ingest.specs.Expires.{expired_numbers, idle_numbers, is_expired, IsRightAt, is_short_moment, SettledMoment}
-use Rattle.srv_ingest.specs.Ingests.{counted}
 use Rattle.srv_ingest.specs.Turns.{SettlesMoment}
 use Rattle.srv_ingest.specs.Verdicts.{cutoff_at}
 use Rattle.srv_ingest.proofs.LaterLemmas.{IsExpiry-later}
@@ -36,7 +35,7 @@ pub record MomentsSoFar (keep : ℕ) (epoch : ℤ) (clock clock' : Option Moment
   pub each : All (IsRightAt keep epoch pass'.seen) settled
   pub sees : Sees pass pass' (expired_numbers settled) (idle_numbers settled)
   pub expired_is : expired ≡ count_by (λ it. is_expired it.verdict) settled
-  pub short_is : short ≡ counted (count_by (λ it. is_short_moment it.verdict) settled)
+  pub short_is : short ≡ capped (count_by (λ it. is_short_moment it.verdict) settled)
 
 -- no moment was settled yet
 pub MomentsSoFar-none : (keep : ℕ) (epoch : ℤ) (clock : Option Moments) (pass : History)
@@ -111,7 +110,7 @@ MomentsSoFar-more keep epoch a b c pass pass' pass'' share share' expired expire
           ∙ sym (count-more is_expired far.settled it);
       short_is = short_is
           ∙ short-one verdict short (count_by (λ it. is_short_moment it.verdict) far.settled) far.short_is
-          ∙ ap counted (sym (count-more is_short_moment far.settled it));
+          ∙ ap capped (sym (count-more is_short_moment far.settled it));
     }
   where
     it : SettledMoment

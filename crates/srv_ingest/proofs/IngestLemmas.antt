@@ -3,15 +3,15 @@ use Rattle.std.proofs.Common.{◌≡◌, ℕ, List, [], ◌∷◌, ◌++◌, map
 use Rattle.std.proofs.lemmas.List.{map-append}
 use Rattle.std.proofs.lemmas.List.Elements.{All-append, All-cons, All-nil, All-weaker}
 use Rattle.std.proofs.lemmas.Grind.{flat_map-append}
-use Rattle.fm_doors.specs.declared.inbox.Arrival.TheVariants as arrivals
-use Rattle.fm_doors.specs.declared.inbox.Verdict.{Verdict}
-use Rattle.fm_doors.specs.Door.{first_of}
-use Rattle.fm_doors.specs.Inbox.{after_next, after_settle, InboxShown, Post}
+use Rattle.dev_traits.specs.declared.inbox.Arrival.TheVariants as arrivals
+use Rattle.dev_traits.specs.declared.inbox.Verdict.{Verdict}
+use Rattle.dev_traits.specs.Door.{first_of}
+use Rattle.dev_traits.specs.Inbox.{after_next, after_settle, InboxShown, Post}
 use Rattle.fm_model.specs.declared.op.Op.{Op}
 use Rattle.fm_model.specs.declared.proto.Proto.{Proto}
-use Rattle.pub_plain.specs.History.{Continues, History}
+use Rattle.pub_look.specs.History.{Continues, History}
 use Rattle.srv_ingest.specs.Attempts.{looked_number, published_number, Sees}
-use Rattle.srv_ingest.specs.Ingests.{AllRight, IsRight, looked_numbers, Moves, MovesIn, published_numbers, Settled, Settlement}
+use Rattle.srv_ingest.specs.Ingests.{AllRight, IsRight, looked_numbers, MovesOn, MovesIn, published_numbers, Settled, Settlement}
 use Rattle.srv_ingest.specs.Verdicts.{taken_back}
 use Rattle.srv_ingest.proofs.LaterLemmas.{IsVerdict-later}
 use Rattle.srv_ingest.proofs.SeesLemmas.{Sees-itself, Sees-then}
@@ -57,7 +57,7 @@ MovesIn-one : (held held' : Option Post) (it : Settlement)
     → held' ≡ after_settle it.verdict (after_next (arrivals.Name it.name) held) → MovesIn held held' (it ∷ []) None
 MovesIn-one None held' it first is = tt
 MovesIn-one (Some post) held' it first is =
-    subst (λ (h : Option Post). IsSomeAnd h (λ post'. Moves post post' (it ∷ []) None)) (sym is) (record {
+    subst (λ (h : Option Post). IsSomeAnd h (λ post'. MovesOn post post' (it ∷ []) None)) (sym is) (record {
       left_is = first-is post.left it.name first;
       verdicts_are = refl;
       content_is = refl;

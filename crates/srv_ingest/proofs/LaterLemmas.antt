@@ -2,35 +2,35 @@
 use Rattle.std.proofs.Common.{◌≡◌, ℕ, zero, suc, ℤ, ◌≤◌, List, [], ◌∷◌, ◌++◌, length, take, slice_get, Option, Some, None, Result, Ok, Err, IsSome, false, inl, inr, sym, ap, subst, ◌∙◌, arith}
 use Rattle.std.proofs.lemmas.List.{take-append-le}
 use Rattle.std.proofs.lemmas.Option.{none-some}
-use Rattle.fm_doors.specs.declared.clock.Expiry.{Expiry}
-use Rattle.fm_doors.specs.declared.clock.Expiry.TheVariants as expiries
-use Rattle.fm_doors.specs.declared.inbox.Verdict.{Verdict}
-use Rattle.fm_doors.specs.declared.inbox.Verdict.TheVariants as verdicts
+use Rattle.dev_traits.specs.declared.clock.Expiry.{Expiry}
+use Rattle.dev_traits.specs.declared.clock.Expiry.TheVariants as expiries
+use Rattle.dev_traits.specs.declared.inbox.Verdict.{Verdict}
+use Rattle.dev_traits.specs.declared.inbox.Verdict.TheVariants as verdicts
 use Rattle.fm_model.specs.declared.loaded.Loaded.{Loaded}
 use Rattle.fm_model.specs.declared.op.Op.{Op}
 use Rattle.fm_model.specs.declared.op.Op.TheVariants.{Expire, Put, Retract}
 use Rattle.fm_model.specs.declared.limit.TheConstants.{MAX_FILE_BYTES}
 use Rattle.fm_model.specs.declared.proto.Proto.{Proto}
 use Rattle.fm_model.specs.Collection.{coll, full_at, holds, holds_older}
-use Rattle.fm_world.specs.Files.{found_of}
-use Rattle.pub_plain.specs.History.{Continues}
+use Rattle.dev_traits.specs.Files.{found_of}
+use Rattle.pub_look.specs.History.{Continues}
+use Rattle.pub_look.proofs.HistoryLemmas.{continues_length}
 use Rattle.srv_ingest.specs.Verdicts.{file_or_verdict, IsExpiry, IsNumbered, IsVerdict, IsVerdictOnFile, IsVerdictOnRetraction}
-use Rattle.srv_ingest.proofs.SeesLemmas.{Continues-length}
 
--- what a list has at a place, a longer one has there
-slice_get-front : {A : Type 0} (xs ys : List A) (place : ℕ) (x : A) → slice_get xs place ≡ Some x
-    → slice_get (xs ++ ys) place ≡ Some x
-slice_get-front [] ys place x is = absurd (none-some x is)
+-- an item at an index stays there in a longer list
+slice_get-front : {A : Type 0} (xs ys : List A) (index : ℕ) (x : A) → slice_get xs index ≡ Some x
+    → slice_get (xs ++ ys) index ≡ Some x
+slice_get-front [] ys index x is = absurd (none-some x is)
 slice_get-front (y ∷ xs) ys zero x is = is
-slice_get-front (y ∷ xs) ys (suc place) x is = slice_get-front xs ys place x is
+slice_get-front (y ∷ xs) ys (suc index) x is = slice_get-front xs ys index x is
 
 -- an operation keeps its number
 pub IsNumbered-later : (ops ops' : List Op) (number : ℕ) (op : Op) → Continues ops ops' → IsNumbered ops number op
     → IsNumbered ops' number op
 IsNumbered-later ops ops' number op later is = record {
-  place = is.place;
+  index = is.index;
   number_is = is.number_is;
-  op_is = ap (λ (l : List Op). slice_get l is.place) later.1 ∙ slice_get-front ops later.0 is.place op is.op_is;
+  op_is = ap (λ (l : List Op). slice_get l is.index) later.1 ∙ slice_get-front ops later.0 is.index op is.op_is;
 }
 
 -- the first operations stay the first
@@ -41,7 +41,7 @@ take-later ops ops' count later within =
 
 -- no fewer operations are seen
 within-later : (ops ops' : List Op) (count : ℕ) → Continues ops ops' → count ≤ length ops → count ≤ length ops'
-within-later ops ops' count later within = omega (arith, within, Continues-length ops ops' later)
+within-later ops ops' count later within = omega (arith, within, continues_length ops ops' later)
 
 -- a verdict on a file stays right
 IsVerdictOnFile-later : (ops ops' : List Op) (found : Result Loaded Verdict) (verdict : Verdict) → Continues ops ops'

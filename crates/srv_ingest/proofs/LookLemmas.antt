@@ -5,9 +5,10 @@ use Rattle.fm_model.specs.declared.loaded.Loaded.{Loaded}
 use Rattle.fm_model.specs.declared.op.Op.{Op}
 use Rattle.fm_model.specs.declared.op.Op.TheVariants.{Put}
 use Rattle.fm_model.specs.Collection.{coll, full_at, holds, holds_older}
-use Rattle.pub_plain.specs.History.{Continues, History, MayHaveLooked}
+use Rattle.pub_look.specs.History.{Continues, History, MayHaveLooked}
+use Rattle.pub_look.proofs.HistoryLemmas.{continues_length}
 use Rattle.srv_ingest.specs.Attempts.{RiseBetween, Sees}
-use Rattle.srv_ingest.proofs.SeesLemmas.{Continues-length, IsPickedFrom-none, IsPickedFrom-one, Sees-itself}
+use Rattle.srv_ingest.proofs.SeesLemmas.{IsPickedFrom-none, IsPickedFrom-one, Sees-itself}
 
 -- a look that is spoken of
 pub Sees-found : (pass pass' : History) (count : ℕ) → pass'.proto ≡ pass.proto → Continues pass.seen pass'.seen
@@ -16,7 +17,7 @@ unfolding RiseBetween
 Sees-found pass pass' count proto later looked count_is = record {
   proto = proto;
   later = later;
-  rise = Continues-length pass.seen pass'.seen later;
+  rise = continues_length pass.seen pass'.seen later;
   more = count ∷ [];
   looks = looked ∙ ap (λ (n : ℕ). pass.looks ++ n ∷ []) (sym count_is);
   picked = IsPickedFrom-one count;
@@ -29,7 +30,7 @@ unfolding RiseBetween
 Sees-unfound pass pass' proto later looked = record {
   proto = proto;
   later = later;
-  rise = Continues-length pass.seen pass'.seen later;
+  rise = continues_length pass.seen pass'.seen later;
   more = length pass'.seen ∷ [];
   looks = looked;
   picked = IsPickedFrom-none (length pass'.seen ∷ []);
@@ -43,7 +44,7 @@ Sees-maybe pass pass' proto later maybe = elim maybe [
   | inl unlooked ↦ record {
     proto = proto;
     later = later;
-    rise = Continues-length pass.seen pass'.seen later;
+    rise = continues_length pass.seen pass'.seen later;
     more = [];
     looks = unlooked ∙ sym (append-nil pass.looks);
     picked = IsPickedFrom-none [];

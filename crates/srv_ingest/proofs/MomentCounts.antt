@@ -2,12 +2,11 @@
 use Rattle.std.proofs.Common.{◌≡◌, ℕ, ◌+◌, if◌then◌else◌, Bool, cond, List, [], ◌∷◌, ◌++◌, length, count_by, flat_map, refl, sym, ap, ◌∙◌, append-nil, arith}
 use Rattle.std.proofs.lemmas.List.Sums.{sum_by_push}
 use Rattle.std.proofs.lemmas.Grind.{flat_map-append}
-use Rattle.fm_doors.specs.declared.clock.Expiry.{Expiry}
-use Rattle.fm_doors.specs.declared.clock.Expiry.TheVariants as kinds
-use Rattle.fm_world.specs.Cause.{one_more}
+use Rattle.dev_traits.specs.declared.clock.Expiry.{Expiry}
+use Rattle.dev_traits.specs.declared.clock.Expiry.TheVariants as kinds
+use Rattle.dev_traits.specs.Cause.{capped, one_more}
 use Rattle.srv_ingest.specs.Attempts.{expired_number}
 use Rattle.srv_ingest.specs.Expires.{is_expired, is_short_moment, SettledMoment}
-use Rattle.srv_ingest.specs.Ingests.{counted}
 
 -- the numbers of one moment more
 pub numbers-more : (number : Expiry → List ℕ) (settled : List SettledMoment) (it : SettledMoment)
@@ -32,9 +31,9 @@ expired-one (kinds.Idle count) = refl
 expired-one kinds.Short = refl
 
 -- how often memory ran out, with one verdict more
-pub short-one : (verdict : Expiry) (short count : ℕ) → short ≡ counted count
+pub short-one : (verdict : Expiry) (short count : ℕ) → short ≡ capped count
     → (if is_short_moment verdict then one_more short else short)
-    ≡ counted (count + cond (is_short_moment verdict) 1 0)
+    ≡ capped (count + cond (is_short_moment verdict) 1 0)
 unfolding is_short_moment
 short-one (kinds.Expired number) short count is = omega (arith, is)
 short-one (kinds.Idle number) short count is = omega (arith, is)

@@ -1,10 +1,10 @@
 -- The turn of one moment.
 use Rattle.std.proofs.Common.{◌≡◌, ℕ, ℤ, List, [], ◌∷◌, Option, Some, None, IfSome, IsTrue, refl, sym, ap, subst, ◌∙◌}
 use Rattle.std.proofs.lemmas.Option.{none-some}
-use Rattle.fm_doors.specs.declared.clock.Expiry.{Expiry}
-use Rattle.fm_doors.specs.Clock.{after_moment, after_verdict, Moments}
-use Rattle.fm_doors.specs.Door.{first_of}
-use Rattle.pub_plain.specs.History.{History}
+use Rattle.dev_traits.specs.declared.clock.Expiry.{Expiry}
+use Rattle.dev_traits.specs.Clock.{after_moment, after_verdict, Moments}
+use Rattle.dev_traits.specs.Door.{first_of}
+use Rattle.pub_look.specs.History.{History}
 use Rattle.srv_ingest.specs.Attempts.{Decides, expired_number, idle_number}
 use Rattle.srv_ingest.specs.Turns.{HasNoMoment, SettlesMoment}
 use Rattle.srv_ingest.specs.Verdicts.{cutoff_at, IsExpiry}

@@ -1,8 +1,8 @@
 -- What an inbox says comes next.
 use Rattle.std.proofs.Common.{◌≡◌, ℕ, List, [], Option, Some, None, IfSome, sym, subst, ◌∙◌}
-use Rattle.fm_doors.specs.declared.inbox.Arrival.TheVariants as arrivals
-use Rattle.fm_doors.specs.Door.{first_of}
-use Rattle.fm_doors.specs.Inbox.{after_next, InboxShown, IsNext, Post}
+use Rattle.dev_traits.specs.declared.inbox.Arrival.TheVariants as arrivals
+use Rattle.dev_traits.specs.Door.{first_of}
+use Rattle.dev_traits.specs.Inbox.{after_next, InboxShown, IsNext, Post}
 use Rattle.srv_ingest.specs.declared.report.IngestEnd.TheVariants as ends
 use Rattle.srv_ingest.specs.Ingests.{EndsIngest}
 

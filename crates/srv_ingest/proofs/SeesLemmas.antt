@@ -1,17 +1,8 @@
 -- What was seen and looked at, in one step after another.
-use Rattle.std.proofs.Common.{ℕ, ◌≤◌, List, [], ◌∷◌, ◌++◌, length, inl, inr, refl, sym, ap, subst, ◌∙◌, append_assoc, append-nil, length-append, arith}
-use Rattle.fm_model.specs.declared.op.Op.{Op}
-use Rattle.pub_plain.specs.History.{Continues, History}
+use Rattle.std.proofs.Common.{ℕ, ◌≤◌, List, [], ◌∷◌, ◌++◌, length, inl, inr, refl, sym, ap, subst, ◌∙◌, append_assoc, append-nil, arith}
+use Rattle.pub_look.specs.History.{History}
+use Rattle.pub_look.proofs.HistoryLemmas.{continues_on}
 use Rattle.srv_ingest.specs.Attempts.{IsPickedFrom, RiseBetween, Sees}
-
--- what goes on from a list that goes on from another goes on from that
-pub Continues-then : (a b c : List Op) → Continues a b → Continues b c → Continues a c
-Continues-then a b c first second =
-    (first.0 ++ second.0, second.1 ∙ ap (λ (l : List Op). l ++ second.0) first.1 ∙ append_assoc a first.0 second.0)
-
--- a list that goes on is no shorter
-pub Continues-length : (a b : List Op) → Continues a b → length a ≤ length b
-Continues-length a b more = omega (arith, ap (λ (l : List Op). length l) more.1, length-append a more.0)
 
 -- the bounds between which numbers rise are in order
 pub RiseBetween-le : (low high : ℕ) (numbers : List ℕ) → RiseBetween low high numbers → low ≤ high
@@ -77,7 +68,7 @@ pub Sees-then : (a b c : History) (published published' looked looked' : List �
     → Sees b c published' looked' → Sees a c (published ++ published') (looked ++ looked')
 Sees-then a b c published published' looked looked' first second = record {
   proto = second.proto ∙ first.proto;
-  later = Continues-then a.seen b.seen c.seen first.later second.later;
+  later = continues_on a.seen b.seen c.seen first.later second.later;
   rise = RiseBetween-append (length a.seen) (length b.seen) (length c.seen) published published' first.rise second.rise;
   more = first.more ++ second.more;
   looks = second.looks ∙ ap (λ (l : List ℕ). l ++ second.more) first.looks

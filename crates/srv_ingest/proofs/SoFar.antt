@@ -1,9 +1,10 @@
 -- All names that an inbox gave so far were settled.
 use Rattle.std.proofs.Common.{◌≡◌, ℕ, Option, None, List, [], ◌∷◌, ◌++◌, append-nil, refl, sym, ap, subst, ◌∙◌}
-use Rattle.fm_doors.specs.Inbox.{InboxShown}
+use Rattle.dev_traits.specs.Inbox.{InboxShown}
 use Rattle.fm_model.specs.declared.proto.Proto.{Proto}
-use Rattle.fm_world.specs.Cause.{one_more}
-use Rattle.pub_plain.specs.History.{Continues, History}
+use Rattle.dev_traits.specs.Cause.{one_more}
+use Rattle.pub_look.specs.History.{Continues, History}
+use Rattle.pub_look.proofs.HistoryLemmas.{continues_on}
 use Rattle.srv_ingest.specs.declared.report.IngestEnd.{IngestEnd}
 use Rattle.srv_ingest.specs.declared.report.IngestEnd.TheVariants as ends
 use Rattle.srv_ingest.specs.declared.report.IngestReport.{IngestReport}
@@ -12,7 +13,7 @@ use Rattle.srv_ingest.specs.Ingests.{Counts, EndsIngest, looked_numbers, MovesIn
 use Rattle.srv_ingest.specs.Turns.{SettlesNext, StopsNext}
 use Rattle.srv_ingest.proofs.CountLemmas.{Counts-grown, Counts-more, Counts-none}
 use Rattle.srv_ingest.proofs.IngestLemmas.{AllRight-later, MovesIn-then, Settled-more, Settled-none}
-use Rattle.srv_ingest.proofs.SeesLemmas.{Continues-then, Sees-then}
+use Rattle.srv_ingest.proofs.SeesLemmas.{Sees-then}
 
 -- all names that an inbox gave so far were settled, the report counts them, and no call of the inbox failed
 pub record SoFar (proto : Proto) (inbox inbox' : InboxShown) (pass pass' : History) (report : IngestReport)
@@ -106,7 +107,7 @@ pub later-stopped : (proto : Proto) (a b c : InboxShown) (pass pass' pass'' : Hi
     (report report' : IngestReport) (end : IngestEnd) → SoFar proto a b pass pass' report
     → StopsNext b c pass' pass'' report report' end → Continues pass.seen pass''.seen
 later-stopped proto a b c pass pass' pass'' report report' end far stops =
-    Continues-then pass.seen pass'.seen pass''.seen far.is.sees.later stops.sees.later
+    continues_on pass.seen pass'.seen pass''.seen far.is.sees.later stops.sees.later
 
 -- the prototype stays
 pub proto-stopped : (proto : Proto) (a b c : InboxShown) (pass pass' pass'' : History)

@@ -1,18 +1,18 @@
 -- The turn of one name.
 use Rattle.std.proofs.Common.{◌≡◌, ℕ, List, [], ◌∷◌, drop, Option, Some, None, IfSome, IsSomeAnd, refl, sym, ap, subst, ◌∙◌, append-nil}
 use Rattle.std.proofs.lemmas.Option.{none-some, same_Some}
-use Rattle.fm_doors.specs.declared.inbox.Arrival.TheVariants as arrivals
-use Rattle.fm_doors.specs.declared.inbox.Verdict.{Verdict}
-use Rattle.fm_doors.specs.Door.{first_of}
-use Rattle.fm_doors.specs.Inbox.{after_next, after_settle, InboxShown, Post}
+use Rattle.dev_traits.specs.declared.inbox.Arrival.TheVariants as arrivals
+use Rattle.dev_traits.specs.declared.inbox.Verdict.{Verdict}
+use Rattle.dev_traits.specs.Door.{first_of}
+use Rattle.dev_traits.specs.Inbox.{after_next, after_settle, InboxShown, Post}
 use Rattle.fm_model.specs.declared.proto.Proto.{Proto}
-use Rattle.fm_world.specs.Cause.{one_more}
-use Rattle.pub_plain.specs.History.{History}
+use Rattle.dev_traits.specs.Cause.{one_more}
+use Rattle.pub_look.specs.History.{History}
 use Rattle.srv_ingest.specs.declared.report.IngestEnd.{IngestEnd}
 use Rattle.srv_ingest.specs.declared.report.IngestEnd.TheVariants as ends
 use Rattle.srv_ingest.specs.declared.report.IngestReport.{IngestReport}
 use Rattle.srv_ingest.specs.Attempts.{DecidesName, FailsBefore, looked_number, published_number, Sees}
-use Rattle.srv_ingest.specs.Ingests.{EndsIngest, IsRight, Moves, MovesIn}
+use Rattle.srv_ingest.specs.Ingests.{EndsIngest, IsRight, MovesOn, MovesIn}
 use Rattle.srv_ingest.specs.Turns.{GrowsByOne, SettlesNext, StopsNext, with_published, with_settled}
 use Rattle.srv_ingest.specs.Verdicts.{IsVerdict, taken_back}
 use Rattle.srv_ingest.proofs.SeesLemmas.{Sees-itself, Sees-unsaid}
@@ -22,7 +22,7 @@ use Rattle.srv_ingest.proofs.ReportLemmas.{GrowsByOne-itself, GrowsByOne-publish
 pub MovesIn-itself : (held held' : Option Post) → held' ≡ held → MovesIn held held' [] None
 MovesIn-itself None held' is = tt
 MovesIn-itself (Some post) held' is =
-    subst (λ (h : Option Post). IsSomeAnd h (λ post'. Moves post post' [] None)) (sym is) (record {
+    subst (λ (h : Option Post). IsSomeAnd h (λ post'. MovesOn post post' [] None)) (sym is) (record {
       left_is = refl;
       verdicts_are = sym (append-nil post.verdicts);
       content_is = refl;
@@ -39,7 +39,7 @@ MovesIn-taken : (held held' : Option Post) (name : List ℕ) → held' ≡ after
     → IfSome held (λ post. first_of post.left ≡ Some name) → MovesIn held held' [] (Some name)
 MovesIn-taken None held' name is first = tt
 MovesIn-taken (Some post) held' name is first =
-    subst (λ (h : Option Post). IsSomeAnd h (λ post'. Moves post post' [] (Some name))) (sym is) (record {
+    subst (λ (h : Option Post). IsSomeAnd h (λ post'. MovesOn post post' [] (Some name))) (sym is) (record {
       left_is = first-is post.left name first;
       verdicts_are = sym (append-nil post.verdicts);
       content_is = refl;

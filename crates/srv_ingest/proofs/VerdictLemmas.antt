@@ -1,8 +1,8 @@
 -- The verdict on a name, by what was found under it.
 use Rattle.std.proofs.Common.{◌≡◌, ◌⊎◌, ℕ, List, [], Option, Some, None, Result, Ok, Err, IfSome, inl, inr, refl, sym, ap, subst, ◌∙◌}
-use Rattle.fm_doors.specs.declared.inbox.Verdict.{Verdict}
-use Rattle.fm_doors.specs.declared.inbox.Verdict.TheVariants as verdicts
-use Rattle.fm_doors.specs.Inbox.{InboxShown, Post}
+use Rattle.dev_traits.specs.declared.inbox.Verdict.{Verdict}
+use Rattle.dev_traits.specs.declared.inbox.Verdict.TheVariants as verdicts
+use Rattle.dev_traits.specs.Inbox.{InboxShown, Post}
 use Rattle.fm_model.specs.declared.limit.TheConstants.{MAX_FILE_BYTES}
 use Rattle.fm_model.specs.declared.loaded.Loaded.{Loaded}
 use Rattle.fm_model.specs.declared.loaded.LoadFault.{LoadFault}
@@ -10,10 +10,10 @@ use Rattle.fm_model.specs.declared.op.Op.{Op}
 use Rattle.fm_model.specs.declared.proto.Proto.{Proto}
 use Rattle.fm_model.specs.Code.{load_code}
 use Rattle.fm_model.specs.Load.{load_of}
-use Rattle.fm_world.specs.declared.files.Found.{Found}
-use Rattle.fm_world.specs.declared.files.Found.TheVariants as found
-use Rattle.fm_world.specs.Files.{found_of}
-use Rattle.pub_plain.specs.History.{History}
+use Rattle.dev_traits.specs.declared.files.Found.{Found}
+use Rattle.dev_traits.specs.declared.files.Found.TheVariants as found
+use Rattle.dev_traits.specs.Files.{found_of}
+use Rattle.pub_look.specs.History.{History}
 use Rattle.srv_ingest.specs.declared.file.TheConstants.{TOO_LONG}
 use Rattle.srv_ingest.specs.Attempts.{Decides, DecidesName, looked_number, published_number}
 use Rattle.srv_ingest.specs.Verdicts.{file_or_verdict, GivesFile, IsVerdict, IsVerdictOnFile, IsVerdictOnRetraction, taken_back, unless_refused}

@@ -1,7 +1,7 @@
--- Files that a collection accepts, and what becomes of them.
+-- Files that a collection accepts, and their verdicts.
 use Rattle.std.specs.Prelude.{◌≡◌, ℕ, ◌≤◌, List, length, take, Option, None, IsSome, Ok}
-use Rattle.fm_doors.specs.declared.inbox.Verdict.{Verdict}
-use Rattle.fm_doors.specs.declared.inbox.Verdict.TheVariants as kinds
+use Rattle.dev_traits.specs.declared.inbox.Verdict.{Verdict}
+use Rattle.dev_traits.specs.declared.inbox.Verdict.TheVariants as kinds
 use Rattle.fm_model.specs.declared.limit.TheConstants.{MAX_FILE_BYTES}
 use Rattle.fm_model.specs.declared.loaded.Loaded.{Loaded}
 use Rattle.fm_model.specs.declared.op.Op.{Op}
@@ -9,11 +9,11 @@ use Rattle.fm_model.specs.declared.op.Op.TheVariants.{Put}
 use Rattle.fm_model.specs.declared.proto.Proto.{Proto}
 use Rattle.fm_model.specs.Collection.{coll, full_at}
 use Rattle.fm_model.specs.Load.{load_of}
-use Rattle.fm_world.specs.declared.files.Found.TheVariants as found
-use Rattle.fm_world.specs.Files.{found_of}
+use Rattle.dev_traits.specs.declared.files.Found.TheVariants as found
+use Rattle.dev_traits.specs.Files.{found_of}
 use Rattle.srv_ingest.specs.Verdicts.{IsNumbered, taken_back}
 
--- what is found under a name is accepted as this file
+-- the content of a name is accepted as this file
 pub record IsAccepted (proto : Proto) (content : List ℕ → Option (List ℕ)) (name : List ℕ) (file : Loaded)
     : Type 0 where
   pub no_retraction : taken_back name ≡ None
@@ -21,7 +21,7 @@ pub record IsAccepted (proto : Proto) (content : List ℕ → Option (List ℕ))
   pub is_found : found_of MAX_FILE_BYTES (content name) ≡ found.Content bytes
   pub loads : load_of name bytes proto ≡ Ok file
 
--- a file is the operation of a number, or there was no room for it after so many operations, or memory ran out
+-- a file is the operation of a number, or there was no room for it after `count` operations, or memory ran out
 abbrev pub IsPublishedOrFull : List Op → Loaded → Verdict → Type 0
 IsPublishedOrFull ops file (kinds.Published number) = IsNumbered ops number (Put file)
 IsPublishedOrFull ops file (kinds.Full count) =

@@ -1,20 +1,20 @@
--- What a desk was asked for under its lock, and what finding a verdict on one name or moment did.
+-- Attempts to publish at a desk under its lock, and the search for a verdict on one name or moment.
 use Rattle.std.specs.Prelude.{◌≡◌, ◌⊎◌, ℕ, ◌+◌, ◌<◌, ◌≤◌, List, [], ◌∷◌, ◌++◌, length, Option, Some, None, IfSome, Result, Ok, Err, MatchResult}
 use Rattle.fm_model.specs.declared.op.Op.{Op}
 use Rattle.fm_model.specs.declared.proto.Proto.{Proto}
-use Rattle.fm_world.specs.Cause.{one_more}
-use Rattle.fm_doors.specs.declared.clock.Expiry.{Expiry}
-use Rattle.fm_doors.specs.declared.clock.Expiry.TheVariants as expiries
-use Rattle.fm_doors.specs.declared.inbox.Verdict.{Verdict}
-use Rattle.fm_doors.specs.declared.inbox.Verdict.TheVariants as verdicts
-use Rattle.fm_doors.specs.Inbox.{InboxShown}
-use Rattle.pub_plain.specs.History.{Continues, History}
+use Rattle.dev_traits.specs.Cause.{one_more}
+use Rattle.dev_traits.specs.declared.clock.Expiry.{Expiry}
+use Rattle.dev_traits.specs.declared.clock.Expiry.TheVariants as expiries
+use Rattle.dev_traits.specs.declared.inbox.Verdict.{Verdict}
+use Rattle.dev_traits.specs.declared.inbox.Verdict.TheVariants as verdicts
+use Rattle.dev_traits.specs.Inbox.{InboxShown}
+use Rattle.pub_look.specs.History.{Continues, History}
 use Rattle.srv_ingest.specs.declared.attempt.Attempt.{Attempt}
 use Rattle.srv_ingest.specs.declared.attempt.Attempt.TheVariants.{Done, Again, Short}
 use Rattle.srv_ingest.specs.Verdicts.{IsNumbered, IsVerdict, taken_back}
 
--- an attempt to have an operation as the next of the log: it is one that the pass had not seen and now has, and one
--- more is counted; or nothing changed
+-- an attempt to publish an operation: the pass had not seen it and now has, and one more is counted; or nothing
+-- changed
 abbrev pub Tried : Op → History → History → ℕ → ℕ → Attempt → Type 0
 Tried op pass pass' share share' (Done number) =
     IsNumbered pass'.seen number op × (length pass.seen < number) × (share' ≡ share + 1)
@@ -70,7 +70,7 @@ abbrev pub idle_number : Expiry → List ℕ
 idle_number (expiries.Idle count) = count ∷ []
 idle_number verdict = []
 
--- the number of operations at a look, if one was found that shows what was looked for
+-- the number of operations at a look, if it found something
 abbrev pub found_number : {E : Type 0} → Result (Option ℕ) E → List ℕ
 found_number (Ok (Some count)) = count ∷ []
 found_number (Ok None) = []

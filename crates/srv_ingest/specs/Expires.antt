@@ -1,14 +1,14 @@
--- What letting all runs go that get too old does.
+-- All runs that get too old are let go.
 use Rattle.std.specs.Prelude.{◌≡◌, ℕ, ℤ, All, Bool, true, false, List, [], ◌++◌, map, Option, IfSome, IsSomeAnd}
 use Rattle.std.specs.List.{count_by, flat_map}
 use Rattle.fm_model.specs.declared.op.Op.{Op}
-use Rattle.fm_doors.specs.declared.clock.Expiry.{Expiry}
-use Rattle.fm_doors.specs.declared.clock.Expiry.TheVariants as kinds
-use Rattle.fm_doors.specs.Clock.{Moments}
-use Rattle.pub_plain.specs.History.{History}
+use Rattle.dev_traits.specs.declared.clock.Expiry.{Expiry}
+use Rattle.dev_traits.specs.declared.clock.Expiry.TheVariants as kinds
+use Rattle.dev_traits.specs.Clock.{Moments}
+use Rattle.dev_traits.specs.Cause.{capped}
+use Rattle.pub_look.specs.History.{History}
 use Rattle.srv_ingest.specs.declared.report.ExpireReport.{ExpireReport}
 use Rattle.srv_ingest.specs.Attempts.{expired_number, idle_number, Sees}
-use Rattle.srv_ingest.specs.Ingests.{counted}
 use Rattle.srv_ingest.specs.Verdicts.{cutoff_at, IsExpiry}
 
 -- a moment that a clock gave, and its verdict
@@ -54,4 +54,4 @@ pub record AllSettledWith (keep : ℕ) (epoch : ℤ) (clock clock' : Option Mome
   pub each : All (IsRightAt keep epoch pass'.seen) settled
   pub sees : Sees pass pass' (expired_numbers settled) (idle_numbers settled)
   pub expired_is : report.expired ≡ count_by (λ it. is_expired it.verdict) settled
-  pub short_is : report.short ≡ counted (count_by (λ it. is_short_moment it.verdict) settled)
+  pub short_is : report.short ≡ capped (count_by (λ it. is_short_moment it.verdict) settled)

@@ -1,13 +1,13 @@
--- What taking in all that arrives does.
-use Rattle.std.specs.Prelude.{◌≡◌, ◌≢◌, ℕ, ◌+◌, ◌≤◌, ◌-◌, ◌^◌, ◌&&◌, min, All, Bool, true, false, List, [], ◌++◌, map, Option, None, is_none, is_some, IfSome, IsSomeAnd, option_to_list}
+-- All names that arrive are taken in.
+use Rattle.std.specs.Prelude.{◌≡◌, ◌≢◌, ℕ, ◌+◌, ◌≤◌, ◌&&◌, All, Bool, true, false, List, [], ◌++◌, map, Option, None, is_none, is_some, IfSome, IsSomeAnd, option_to_list}
 use Rattle.std.specs.List.{count_by, flat_map}
 use Rattle.fm_model.specs.declared.op.Op.{Op}
 use Rattle.fm_model.specs.declared.proto.Proto.{Proto}
-use Rattle.fm_doors.specs.declared.inbox.Verdict.{Verdict}
-use Rattle.fm_doors.specs.declared.inbox.Verdict.TheVariants as kinds
-use Rattle.fm_doors.specs.Inbox.{InboxShown, Post}
-use Rattle.fm_world.specs.Cause.{one_more}
-use Rattle.pub_plain.specs.History.{History}
+use Rattle.dev_traits.specs.declared.inbox.Verdict.{Verdict}
+use Rattle.dev_traits.specs.declared.inbox.Verdict.TheVariants as kinds
+use Rattle.dev_traits.specs.Inbox.{InboxShown, Post}
+use Rattle.dev_traits.specs.Cause.{capped, one_more}
+use Rattle.pub_look.specs.History.{History}
 use Rattle.srv_ingest.specs.declared.report.IngestEnd.{IngestEnd}
 use Rattle.srv_ingest.specs.declared.report.IngestEnd.TheVariants as ends
 use Rattle.srv_ingest.specs.declared.report.IngestReport.{IngestReport}
@@ -25,18 +25,18 @@ IsRight proto content ops it = IsVerdict proto ops content it.name (taken_back i
 
 -- The names that were left to come are those that were settled, then at most one that was taken and got no verdict, and
 -- those that are still left. The verdicts are the new ones of the inbox, in the order of the names.
-pub record Moves (post post' : Post) (settled : List Settlement) (unsettled : Option (List ℕ)) : Type 0 where
+pub record MovesOn (post post' : Post) (settled : List Settlement) (unsettled : Option (List ℕ)) : Type 0 where
   pub left_is : post.left ≡ (map (λ it. it.name) settled ++ option_to_list unsettled) ++ post'.left
   pub verdicts_are : post'.verdicts ≡ post.verdicts ++ map (λ it. it.verdict) settled
   pub content_is : post'.content ≡ post.content
   pub asked_is : post'.asked ≡ post.asked
 
--- the names of an inbox moved on so, where it is known what it holds
+-- the names of an inbox moved on so, where the inbox shows what it holds
 abbrev pub MovesIn : Option Post → Option Post → List Settlement → Option (List ℕ) → Type 0
 MovesIn inbox inbox' settled unsettled =
-    IfSome inbox (λ post. IsSomeAnd inbox' (λ post'. Moves post post' settled unsettled))
+    IfSome inbox (λ post. IsSomeAnd inbox' (λ post'. MovesOn post post' settled unsettled))
 
--- all verdicts are right, where it is known what the inbox holds
+-- all verdicts are right, where the inbox shows what it holds
 abbrev pub AllRight : Proto → Option Post → List Op → List Settlement → Type 0
 AllRight proto inbox ops settled = IfSome inbox (λ post. All (IsRight proto post.content ops) settled)
 
@@ -44,7 +44,7 @@ AllRight proto inbox ops settled = IfSome inbox (λ post. All (IsRight proto pos
 abbrev pub published_numbers : List Settlement → List ℕ
 published_numbers settled = flat_map (λ it. published_number it.verdict) settled
 
--- how many operations there were at the looks that verdicts speak of
+-- the numbers of operations at the looks that verdicts speak of
 abbrev pub looked_numbers : List Settlement → List ℕ
 looked_numbers settled = flat_map (λ it. looked_number it.verdict) settled
 
@@ -54,10 +54,6 @@ pub record Settled (proto : Proto) (inbox inbox' : Option Post) (pass pass' : Hi
   pub moves : MovesIn inbox inbox' settled unsettled
   pub each : AllRight proto inbox pass'.seen settled
   pub sees : Sees pass pass' (published_numbers settled) (looked_numbers settled)
-
--- a count of a report, which stands still at its greatest number
-abbrev pub counted : ℕ → ℕ
-counted count = min count (2 ^ 64 - 1)
 
 -- whether a name became an operation
 unfoldable pub is_published : Verdict → Bool
@@ -86,8 +82,8 @@ is_short verdict = false
 -- A report counts the names that were settled. Where one name got no verdict, one operation more may have been
 -- published than there are verdicts that say so.
 pub record Counts (settled : List Settlement) (unsettled : Option (List ℕ)) (report : IngestReport) : Type 0 where
-  pub refused_is : report.refused ≡ counted (count_by (λ it. is_refused it.verdict) settled)
-  pub short_is : report.short ≡ counted (count_by (λ it. is_short it.verdict) settled)
+  pub refused_is : report.refused ≡ capped (count_by (λ it. is_refused it.verdict) settled)
+  pub short_is : report.short ≡ capped (count_by (λ it. is_short it.verdict) settled)
   pub published_is : unsettled ≡ None → report.published ≡ count_by has_come settled
   pub retracted_is : unsettled ≡ None → report.retracted ≡ count_by is_retracted settled
   pub published_least : count_by has_come settled ≤ report.published

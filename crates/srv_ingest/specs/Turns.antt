@@ -1,15 +1,15 @@
 -- The turn of one name or moment.
 use Rattle.std.specs.Prelude.{◌≡◌, ◌≢◌, ℕ, ℤ, ◌+◌, ◌≤◌, List, [], Option, Some, None, IfSome, Result, MatchOption, MatchResult}
 use Rattle.fm_model.specs.declared.proto.Proto.{Proto}
-use Rattle.fm_doors.specs.declared.clock.Expiry.{Expiry}
-use Rattle.fm_doors.specs.declared.inbox.Arrival.TheVariants as arrivals
-use Rattle.fm_doors.specs.declared.inbox.Verdict.{Verdict}
-use Rattle.fm_doors.specs.declared.inbox.Verdict.TheVariants as kinds
-use Rattle.fm_doors.specs.Clock.{after_moment, after_verdict, Moments}
-use Rattle.fm_doors.specs.Door.{first_of}
-use Rattle.fm_doors.specs.Inbox.{after_next, after_settle, InboxShown}
-use Rattle.fm_world.specs.Cause.{one_more}
-use Rattle.pub_plain.specs.History.{History}
+use Rattle.dev_traits.specs.declared.clock.Expiry.{Expiry}
+use Rattle.dev_traits.specs.declared.inbox.Arrival.TheVariants as arrivals
+use Rattle.dev_traits.specs.declared.inbox.Verdict.{Verdict}
+use Rattle.dev_traits.specs.declared.inbox.Verdict.TheVariants as kinds
+use Rattle.dev_traits.specs.Clock.{after_moment, after_verdict, Moments}
+use Rattle.dev_traits.specs.Door.{first_of}
+use Rattle.dev_traits.specs.Inbox.{after_next, after_settle, InboxShown}
+use Rattle.dev_traits.specs.Cause.{one_more}
+use Rattle.pub_look.specs.History.{History}
 use Rattle.srv_ingest.specs.declared.report.IngestEnd.{IngestEnd}
 use Rattle.srv_ingest.specs.declared.report.IngestEnd.TheVariants as ends
 use Rattle.srv_ingest.specs.declared.report.IngestReport.{IngestReport}
@@ -37,7 +37,7 @@ with_settled report (kinds.Full count) = record report { refused = one_more repo
 with_settled report kinds.Short = record report { short = one_more report.short }
 with_settled report verdict = report
 
--- how many operations a report counts
+-- the number of operations that a report counts
 abbrev pub operations : IngestReport → ℕ
 operations report = report.published + report.retracted
 

@@ -1,4 +1,4 @@
--- What was said of names that arrived, and of moments at which runs were too old.
+-- Verdicts on names that arrived, and on moments at which runs were too old.
 use Rattle.std.specs.Prelude.{◌≡◌, ◌⊎◌, ℕ, ℤ, ◌+◌, ◌-◌, ◌≤◌, neg_ℤ, List, length, take, drop, slice_get, false, if◌then◌else◌, Option, Some, None, IsSome, codes, Result, Ok, Err, ◌-ℤ◌, pos}
 use Rattle.std.specs.Int.{int_max, int_min}
 use Rattle.std.specs.Str.{bytes_eq}
@@ -11,20 +11,20 @@ use Rattle.fm_model.specs.declared.proto.Proto.{Proto}
 use Rattle.fm_model.specs.Code.{load_code}
 use Rattle.fm_model.specs.Collection.{coll, full_at, holds, holds_older}
 use Rattle.fm_model.specs.Load.{load_of}
-use Rattle.fm_world.specs.declared.files.Found.{Found}
-use Rattle.fm_world.specs.declared.files.Found.TheVariants as found
-use Rattle.fm_world.specs.Files.{found_of}
-use Rattle.fm_doors.specs.declared.clock.Expiry.{Expiry}
-use Rattle.fm_doors.specs.declared.clock.Expiry.TheVariants as expiries
-use Rattle.fm_doors.specs.declared.inbox.Verdict.{Verdict}
-use Rattle.fm_doors.specs.declared.inbox.Verdict.TheVariants as verdicts
+use Rattle.dev_traits.specs.declared.files.Found.{Found}
+use Rattle.dev_traits.specs.declared.files.Found.TheVariants as found
+use Rattle.dev_traits.specs.Files.{found_of}
+use Rattle.dev_traits.specs.declared.clock.Expiry.{Expiry}
+use Rattle.dev_traits.specs.declared.clock.Expiry.TheVariants as expiries
+use Rattle.dev_traits.specs.declared.inbox.Verdict.{Verdict}
+use Rattle.dev_traits.specs.declared.inbox.Verdict.TheVariants as verdicts
 use Rattle.srv_ingest.specs.declared.file.TheConstants.{TOO_LONG}
 
 -- an operation is the one of this number, counted from 1
 pub record IsNumbered (ops : List Op) (number : ℕ) (op : Op) : Type 0 where
-  pub place : ℕ
-  pub number_is : number ≡ place + 1
-  pub op_is : slice_get ops place ≡ Some op
+  pub index : ℕ
+  pub number_is : number ≡ index + 1
+  pub op_is : slice_get ops index ≡ Some op
 
 -- the name of the file that is taken back, where a name ends in `.retract`
 unfoldable pub taken_back : List ℕ → Option (List ℕ)
@@ -36,7 +36,7 @@ abbrev pub unless_refused : Result Loaded LoadFault → Result Loaded Verdict
 unless_refused (Ok file) = Ok file
 unless_refused (Err fault) = Err (verdicts.Refused (load_code fault))
 
--- the file of the collection that is found under a name, or the verdict where there is none
+-- the file under a name, or the verdict where there is none
 unfoldable pub file_or_verdict : Proto → List ℕ → Found → Result Loaded Verdict
 file_or_verdict proto name found.Absent = Err verdicts.Gone
 file_or_verdict proto name (found.TooLong len) = Err (verdicts.Refused TOO_LONG)
@@ -62,14 +62,14 @@ IsVerdictOnRetraction ops name (verdicts.NotHeld count) =
     (count ≤ length ops) × (holds (coll (take count ops)) name ≡ false)
 IsVerdictOnRetraction ops name verdict = ⊥
 
--- the verdict on a name by what it holds; memory may run out at any name
+-- the verdict on a name by its content; memory may run out at any name
 unfoldable pub IsVerdict : Proto → List Op → (List ℕ → Option (List ℕ)) → List ℕ → Option (List ℕ) → Verdict → Type 0
 IsVerdict proto ops content name (Some back) verdict =
     (verdict ≡ verdicts.Short) ⊎ IsVerdictOnRetraction ops back verdict
 IsVerdict proto ops content name None verdict = (verdict ≡ verdicts.Short)
     ⊎ IsVerdictOnFile ops (file_or_verdict proto name (found_of MAX_FILE_BYTES (content name))) verdict
 
--- the cutoff at a moment, from the collection's epoch: what is older than `keep` seconds goes
+-- the cutoff at a moment, from the collection's epoch: runs older than `keep` seconds go
 abbrev pub cutoff_at : ℤ → ℕ → ℤ → ℤ
 cutoff_at moment keep epoch = int_max (neg_ℤ MAX_INSTANT) (int_min MAX_INSTANT (moment -ℤ pos keep -ℤ epoch))
 

@@ -1,22 +1,22 @@
-//! What a desk is asked for under its lock.
+//! Attempts to publish at a desk, under its lock.
 ghost use Rattle.std.specs.Prelude.{◌≡◌, length};
 ghost use Rattle.fm_model.specs.declared.op.Op.TheVariants as ops;
 ghost use Rattle.fm_model.specs.Load.{Fits};
-ghost use Rattle.pub_plain.specs.History.{Continues};
+ghost use Rattle.pub_look.specs.History.{Continues};
 ghost use Rattle.pub_snap.specs.Rule.{longer};
 ghost use Rattle.srv_ingest.specs.Attempts.{OnlyLearnt, Tried};
 
 use fm_base::{Arc, Fail};
 use fm_model::{Loaded, Op};
-use pub_plain::Look;
+use pub_look::Look;
 use pub_snap::{Desk, Name, Pass, Share};
 use std::alloc::Global;
 use std::sync::{Mutex, MutexGuard, Wait};
 
-/// What became of an operation that a desk was asked for.
+/// The outcome of an attempt to publish an operation.
 #[derive(Clone, Copy, Debug, PartialEq, Eq)]
 pub(crate) enum Attempt {
-    /// It is the operation of this number.
+    /// The operation was published, and has this number.
     Done(u64),
     /// The desk turned it down, or didn't have all yet that the pass has seen.
     Again,
@@ -68,8 +68,8 @@ fn retract_at<N: Name, R: Wait>(
         return Attempt::Again;
     }
     match desk.retract(alloc, rt, share, name) {
-        Ok((_, true)) => learn(pass, desk),
-        Ok((_, false)) => Attempt::Again,
+        Ok(Some(_)) => learn(pass, desk),
+        Ok(None) => Attempt::Again,
         Err(_) => Attempt::Short,
     }
 }

@@ -1,6 +1,6 @@
 //! The verdict on one name or moment.
 ghost use Rattle.std.specs.Prelude.{◌≡◌, ◌⊎◌, IfSome, Ok as Good};
-ghost use Rattle.fm_doors.specs.declared.inbox.Verdict.TheVariants as verdicts;
+ghost use Rattle.dev_traits.specs.declared.inbox.Verdict.TheVariants as verdicts;
 ghost use Rattle.fm_model.specs.Load.{Fits};
 ghost use Rattle.srv_ingest.specs.Attempts.{
   Decides,
@@ -17,8 +17,8 @@ ghost use Rattle.srv_ingest.specs.Verdicts.{IsExpiry, IsVerdictOnFile, IsVerdict
 
 use crate::attempt::{Attempt, try_expire, try_put, try_retract};
 use crate::questions::{look_for_name, look_for_older, look_for_room};
+use dev_traits::{Expiry, Verdict};
 use fm_base::Arc;
-use fm_doors::{Expiry, Verdict};
 use fm_model::Loaded;
 use pub_snap::{Desk, Name, Pass, Share};
 use std::alloc::Global;

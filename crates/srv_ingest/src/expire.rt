@@ -1,8 +1,8 @@
 //! Letting runs go that get too old.
 ghost use Rattle.std.specs.Prelude.{◌≡◌, ◌+◌, ◌≤◌, ◌-ℤ◌, length, neg_ℤ, pos, if◌then◌else◌};
 ghost use Rattle.std.specs.Int.{int_max, int_min};
-ghost use Rattle.fm_world.specs.Cause.{one_more};
-ghost use Rattle.pub_plain.specs.History.{Continues};
+ghost use Rattle.dev_traits.specs.Cause.{one_more};
+ghost use Rattle.pub_look.specs.History.{Continues};
 ghost use Rattle.srv_ingest.specs.Attempts.{expired_number};
 ghost use Rattle.srv_ingest.specs.Expires.{AllSettledWith, is_short_moment};
 ghost use Rattle.srv_ingest.specs.Turns.{TakesMoment};
@@ -10,7 +10,7 @@ ghost use Rattle.srv_ingest.specs.Verdicts.{cutoff_at};
 
 use crate::deciding::expire_runs;
 use crate::report::ExpireReport;
-use fm_doors::{Clock, Expiry};
+use dev_traits::{Clock, Expiry};
 use fm_model::{MAX_INSTANT, Site};
 use pub_snap::{Desk, Name, Pass, Share};
 use std::alloc::Global;
@@ -30,7 +30,7 @@ fn to_instant(seconds: i128) -> i64
     }
 }
 
-// The seconds from the collection's epoch to so long before a moment.
+// `moment - keep`, from the collection's epoch.
 fn seconds_before(moment: i64, keep: u32, epoch: i64) -> i128
     ensures { result ≡ moment -ℤ pos keep -ℤ epoch }
 {
@@ -91,7 +91,7 @@ fn count_short(short: u64, verdict: Expiry) -> u64
     }
 }
 
-/// Lets all runs go that are more than `keep` seconds old, at each moment that the clock gives, and returns once it gives
+/// Lets all runs go that are more than `keep` seconds old, at each moment of the clock, and returns once the clock has
 /// no more. It waits for the clock, for the desk, and for readers that are inside the copy that is changed.
 #[tactic(auto, using(crate::proofs::ExpireEnd::moments))]
 pub fn expire_all<N: Name, R: Wait, C: Clock>(

@@ -1,23 +1,22 @@
-//! The file that is found under a name.
+//! The file under a name.
 ghost use Rattle.std.specs.Prelude.{◌≡◌, IfOk, option_map};
 ghost use Rattle.fm_model.specs.Load.{Fits};
-ghost use Rattle.fm_world.specs.Files.{KeepsLimit};
+ghost use Rattle.dev_traits.specs.Files.{KeepsLimit};
 ghost use Rattle.srv_ingest.specs.Verdicts.{file_or_verdict, taken_back, GivesFile};
 
+use dev_traits::{Found, Verdict};
 use fm_base::Fail;
-use fm_doors::Verdict;
 use fm_load::load;
 use fm_model::{Loaded, MAX_FILE_BYTES, Proto};
-use fm_world::Found;
 use std::alloc::Global;
 
-// The number of the reason why a file that is too long is refused.
+// The code of a refusal for a file that is too long.
 pub(crate) const TOO_LONG: u16 = 62;
 
-// How a name ends that takes a file back.
+// The end of a name that takes a file back.
 const BACK: &[u8] = b".retract";
 
-/// The file that is found under a name, or the verdict where there is none, or where memory runs out.
+/// The file under a name, or the verdict where there is none, or where memory runs out.
 #[tactic(auto, unfolding(crate::specs::Verdicts::file_or_verdict))]
 pub(crate) fn file_of(
     alloc: Global,

@@ -1,20 +1,20 @@
 //! Taking in all that arrives.
 ghost use Rattle.std.specs.Prelude.{◌≡◌, ◌+◌};
-ghost use Rattle.pub_plain.specs.History.{Continues};
+ghost use Rattle.pub_look.specs.History.{Continues};
 ghost use Rattle.srv_ingest.specs.Ingests.{EndsIngest, SettledWith};
 
 use crate::report::{IngestEnd, IngestReport};
 use crate::turn::take_next;
+use dev_traits::Inbox;
 use fm_base::Arc;
-use fm_doors::Inbox;
 use fm_model::Proto;
 use pub_snap::{Desk, Name, Pass, Share};
 use std::alloc::Global;
 use std::sync::{Mutex, Wait};
 
-/// Takes in all that arrives until nothing will any more, or the inbox fails: a file comes to the collection, and a name
-/// that ends in `.retract` takes the file before it back. Each name gets its verdict, in order. It waits for the inbox,
-/// for the desk, and for readers that are inside the copy that is changed.
+/// Takes in all names that arrive, until none will arrive any more or the inbox fails. A file comes to the collection,
+/// and a name that ends in `.retract` takes back the file that it names. Each name gets its verdict, in order. It waits
+/// for the inbox, for the desk, and for readers that are inside the copy that is changed.
 #[tactic(auto, using(crate::proofs::SoFar::so_far))]
 pub fn ingest_all<N: Name, R: Wait, I: Inbox>(
     rt: &R,

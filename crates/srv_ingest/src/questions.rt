@@ -1,14 +1,14 @@
 //! Questions about a collection before it is changed.
 ghost use Rattle.std.specs.Prelude.{[], IfOk, IfSome, Ok as Good};
-ghost use Rattle.fm_doors.specs.declared.clock.Expiry.TheVariants as expiries;
-ghost use Rattle.fm_doors.specs.declared.inbox.Verdict.TheVariants as verdicts;
+ghost use Rattle.dev_traits.specs.declared.clock.Expiry.TheVariants as expiries;
+ghost use Rattle.dev_traits.specs.declared.inbox.Verdict.TheVariants as verdicts;
 ghost use Rattle.srv_ingest.specs.Attempts.{found_number, Sees};
 ghost use Rattle.srv_ingest.specs.Verdicts.{IsExpiry, IsVerdictOnFile, IsVerdictOnRetraction};
 
 use fm_base::{Arc, Bytes, NoMemory};
 use fm_edition::Edition;
 use fm_model::{Loaded, Op};
-use pub_plain::{Look, Query};
+use pub_look::{Look, Query};
 use pub_snap::{Name, Pass};
 use std::alloc::Global;
 
@@ -69,7 +69,7 @@ impl Query for HoldsOlder {
     }
 }
 
-/// Looks for room for a file. The answer is after how many operations there was none, where there was none.
+/// Looks for room for a file. Where there was none, the answer is the number of operations at the look.
 #[tactic(auto, using(crate::proofs::LookLemmas::looks))]
 pub(crate) fn look_for_room<N: Name>(
     alloc: Global,
@@ -88,7 +88,7 @@ pub(crate) fn look_for_room<N: Name>(
     }
 }
 
-/// Looks for the file of a name. The answer is after how many operations none was held, where none was.
+/// Looks for the file of a name. Where none was held, the answer is the number of operations at the look.
 #[tactic(auto, using(crate::proofs::LookLemmas::looks))]
 pub(crate) fn look_for_name<N: Name>(
     alloc: Global,
@@ -107,7 +107,7 @@ pub(crate) fn look_for_name<N: Name>(
     }
 }
 
-/// Looks for files of runs below a cutoff. The answer is after how many operations none was held, where none was.
+/// Looks for files of runs below a cutoff. Where none was held, the answer is the number of operations at the look.
 #[tactic(auto, using(crate::proofs::LookLemmas::looks))]
 pub(crate) fn look_for_older<N: Name>(
     alloc: Global,

@@ -1,11 +1,11 @@
-//! What taking in files, and letting runs go, tells.
+//! The reports on files taken in and runs let go.
 ghost use Rattle.std.specs.Prelude.{◌≡◌, ◌+◌, ◌≤◌, length};
 ghost use Rattle.srv_ingest.specs.Attempts.{published_number};
 ghost use Rattle.srv_ingest.specs.Turns.{operations, with_published, with_settled};
 ghost use Rattle.srv_ingest.specs.Verdicts.{taken_back};
 
 use crate::file::taken_back;
-use fm_doors::Verdict;
+use dev_traits::Verdict;
 use pub_snap::{Name, Share};
 
 /// Why taking in stopped.
@@ -19,8 +19,8 @@ pub enum IngestEnd {
     NoMemory,
 }
 
-/// How many names became files of the collection, took files back, were refused or found no room, and for how many memory
-/// ran out. The last two counts stand still at their greatest number.
+/// The numbers of names that became files of the collection, that took files back, that were refused or found no room,
+/// and for which memory ran out. The last two counts stand still at their greatest number.
 #[derive(Clone, Copy, Debug, PartialEq, Eq)]
 pub struct IngestReport {
     pub published: u64,
@@ -30,7 +30,8 @@ pub struct IngestReport {
     pub end: IngestEnd,
 }
 
-/// At how many moments runs went, and at how many memory ran out. The second count stands still at its greatest number.
+/// The number of moments at which runs went, and of those at which memory ran out. The second count stands still at its
+/// greatest number.
 #[derive(Clone, Copy, Debug, PartialEq, Eq)]
 pub struct ExpireReport {
     pub expired: u64,

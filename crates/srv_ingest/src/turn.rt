@@ -6,16 +6,15 @@ ghost use Rattle.srv_ingest.specs.Turns.{NextName, TakesNext, operations};
 use crate::deciding::{publish_file, retract_file};
 use crate::file::{file_of, taken_back};
 use crate::report::{IngestEnd, IngestReport, count_published, count_settled};
+use dev_traits::{Arrival, Failed, Inbox, Verdict};
 use fm_base::{Arc, Bytes, Fail};
-use fm_doors::{Arrival, Inbox, Verdict};
 use fm_model::{MAX_FILE_BYTES, Proto};
-use fm_world::Failed;
 use pub_snap::{Desk, Name, Pass, Share};
 use std::alloc::Global;
 use std::sync::{Mutex, Wait};
 
-// The verdict on a name that arrived: the file that it is comes to the collection, or the file that it names is taken
-// back. An `Err` says that the inbox failed before there was a verdict.
+// The verdict on a name that arrived: its file comes to the collection, or the file that it names is taken back. An
+// `Err` says that the inbox failed before there was a verdict.
 fn verdict_on<N: Name, R: Wait, I: Inbox>(
     rt: &R,
     alloc: Global,
@@ -61,7 +60,7 @@ fn next_name<R: Wait, I: Inbox>(rt: &R, alloc: Global, inbox: &mut I) -> Result<
     unreachable!()
 }
 
-/// Takes the next name, finds the verdict on it and settles it. The answer says why taking in stops, where it does.
+/// Takes the next name, finds the verdict on it and settles it. Returns why taking in stops, where it does.
 #[tactic(auto, using(crate::proofs::TurnLemmas::turns))]
 pub(crate) fn take_next<N: Name, R: Wait, I: Inbox>(
     rt: &R,

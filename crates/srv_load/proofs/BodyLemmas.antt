@@ -29,7 +29,7 @@ within-reply answer revision last head whole len head_is whole_is len_is =
     ap length whole_is ∙ length-append text (bytes_of answer.body.bytes) in
     omega (arith, short, long, len_is)
 
--- what stands behind it is the body
+-- the bytes behind it are the body
 behind : (answer : Answer) (revision : ℕ) (last : Bool) (head whole : List ℕ)
     → head ≡ reply_text answer revision true last → whole ≡ reply_text answer revision false last
     → drop (length head) whole ≡ bytes_of answer.body.bytes

@@ -1,15 +1,15 @@
 -- The moment in the name of a made file is its run time, and so no two of the names are equal.
-use Rattle.std.proofs.Common.{◌≡◌, ◌≢◌, ℕ, ◌+◌, ◌*◌, ◌%◌, ◌<◌, List, ◌++◌, length, Some, ℤ, pos, refl, sym, ap, ◌∙◌, arith, true}
+use Rattle.std.proofs.Common.{◌≡◌, ◌≢◌, ℕ, ◌+◌, ◌*◌, ◌<◌, List, ◌++◌, length, Some, ℤ, pos, refl, sym, ap, ◌∙◌, arith, true}
 use Rattle.std.specs.Prelude.{codes}
-use Rattle.std.specs.Char.{is_ascii_digit}
 use Rattle.std.proofs.lemmas.Int.{ints}
 use Rattle.jiff_core.specs.Calendar.{days_from_civil}
 use Rattle.jiff_core.proofs.CalendarLemmas.{days_in_month_bounds}
 use Rattle.jiff_core.proofs.SignedLemmas.{signed_arith}
-use Rattle.fm_base.specs.Calendar.{moment_of, time_seconds, unix_seconds}
-use Rattle.fm_base.specs.Instant.{four_digits, HasFourDigitYear, instant_text_of, spelled_instant, text_of_day, two_digits}
-use Rattle.fm_base.specs.Stamp.{begins_in_form, mark_of, number_at, number_of, stamp_form, stamp_of}
+use Rattle.nc_model.specs.Calendar.{moment_of, time_seconds, unix_seconds}
+use Rattle.nc_model.specs.Instant.{HasFourDigitYear, instant_text_of, spelled_instant, text_of_day}
+use Rattle.nc_model.specs.Stamp.{begins_in_form, mark_of, number_at, stamp_form, stamp_of}
 use Rattle.tm_units.proofs.InstantLaws.{instant_of-instant_text_of, is_date-civil, is_time-below, moment_of-there, Written, Written-instant_of}
+use Rattle.tm_units.proofs.InstantLemmas.{is_ascii_digit-digit, number_of-two_digits, number_of-four_digits}
 use Rattle.srv_load.specs.Name.{as_stamp, made_name, run_time}
 
 pub year-run_time : (k : ℕ) → k < 400 → HasFourDigitYear (run_time k)
@@ -19,21 +19,12 @@ pub length-instant_text : (t : ℤ) → length (instant_text_of t) ≡ 20
 unfolding instant_text_of text_of_day
 length-instant_text t = refl
 
-is_digit : (n : ℕ) → is_ascii_digit (48 + n % 10) ≡ true
-is_digit n = grind arith
-
-of_two : (n : ℕ) → n < 100 → number_of (two_digits n) ≡ n
-of_two n small = omega arith
-
-of_four : (n : ℕ) → n < 10000 → number_of (four_digits n) ≡ n
-of_four n small = omega arith
-
 in_form : (year month day hour minute second : ℕ) (rest : List ℕ)
     → begins_in_form stamp_form (as_stamp (spelled_instant year month day hour minute second) ++ rest) ≡ true
 unfolding stamp_form
-in_form year month day hour minute second rest = simp is_digit
+in_form year month day hour minute second rest = simp is_ascii_digit-digit
 
--- what stands in a stamp is read
+-- the fields of a stamp are read
 stamp_read : (year month day hour minute second : ℕ) (rest : List ℕ) → year < 10000 → month < 100 → day < 100
     → hour < 100 → minute < 100
     → stamp_of (as_stamp (spelled_instant year month day hour minute second) ++ rest)
@@ -42,11 +33,11 @@ unfolding stamp_of number_at
 stamp_read year month day hour minute second rest y m d h n =
     rw (
       in_form year month day hour minute second rest,
-      of_four year y,
-      of_two month m,
-      of_two day d,
-      of_two hour h,
-      of_two minute n,
+      number_of-four_digits year y,
+      number_of-two_digits month m,
+      number_of-two_digits day d,
+      number_of-two_digits hour h,
+      number_of-two_digits minute n,
     ) refl
 
 -- a moment of whole minutes has no seconds

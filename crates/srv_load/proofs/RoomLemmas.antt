@@ -43,7 +43,7 @@ put_next : (seed k : ℕ) → k < 400 → after_op (files_of seed k) (Put (held_
 unfolding after_op files_of
 put_next seed k few = ap (λ (l : List Loaded). l ++ held_file seed k ∷ []) (without-later seed k k (omega arith) few)
 
--- what the puts leave are the files
+-- the puts leave the files
 pub coll-puts_of : (seed n : ℕ) → n ≤ 400 → coll (puts_of seed n) ≡ files_of seed n
 unfolding puts_of files_of
 coll-puts_of seed zero few = coll-none

@@ -8,29 +8,29 @@ use Rattle.dap_xdr.specs.Overlay.{overlay}
 use Rattle.dap_xdr.proofs.FrontLemmas.{overlay-front}
 use Rattle.srv_load.specs.Asked.{sum_of}
 
--- a sum from a place on is that of the next bytes and of those after them
-sum-split : (bytes : List ℕ) (place count : ℕ)
-    → sum (take count (drop place bytes)) + sum (drop (place + count) bytes) ≡ sum (drop place bytes)
-sum-split bytes place count =
-    ap (λ (l : List ℕ). sum (take count (drop place bytes)) + sum l) (sym (drop-drop count place bytes))
-    ∙ sum_by-take-drop (λ x. x) (drop place bytes) count
+-- a sum from an offset on is that of the next bytes and of those after them
+sum-split : (bytes : List ℕ) (offset count : ℕ)
+    → sum (take count (drop offset bytes)) + sum (drop (offset + count) bytes) ≡ sum (drop offset bytes)
+sum-split bytes offset count =
+    ap (λ (l : List ℕ). sum (take count (drop offset bytes)) + sum l) (sym (drop-drop count offset bytes))
+    ∙ sum_by-take-drop (λ x. x) (drop offset bytes) count
 
--- what is added from a place on is what is to be added from the start on
-pub record Adds (bytes : List ℕ) (start place total : ℕ) : Type 0 where
-  pub sum_is : (total + sum (drop place bytes)) % 2 ^ 32 ≡ sum (drop start bytes) % 2 ^ 32
+-- the sum so far, and the bytes from an offset on, make the sum from the start on
+pub record Adds (bytes : List ℕ) (start offset total : ℕ) : Type 0 where
+  pub sum_is : (total + sum (drop offset bytes)) % 2 ^ 32 ≡ sum (drop start bytes) % 2 ^ 32
 
-pub Adds-next : (bytes : List ℕ) (start place total count next : ℕ) → Adds bytes start place total
-    → next ≡ (total + sum (take count (drop place bytes))) % 2 ^ 32 → Adds bytes start (place + count) next
-Adds-next bytes start place total count next so_far is =
-    let split = sum-split bytes place count in
+pub Adds-next : (bytes : List ℕ) (start offset total count next : ℕ) → Adds bytes start offset total
+    → next ≡ (total + sum (take count (drop offset bytes))) % 2 ^ 32 → Adds bytes start (offset + count) next
+Adds-next bytes start offset total count next so_far is =
+    let split = sum-split bytes offset count in
     let before = so_far.sum_is in
     record { sum_is = omega (arith, split, before, is) }
 
-pub sum_of-whole : (bytes : List ℕ) (start place total : ℕ) → length bytes ≤ place → total < 2 ^ 32
-    → Adds bytes start place total → total ≡ sum_of (drop start bytes)
+pub sum_of-whole : (bytes : List ℕ) (start offset total : ℕ) → length bytes ≤ offset → total < 2 ^ 32
+    → Adds bytes start offset total → total ≡ sum_of (drop start bytes)
 unfolding sum_of
-sum_of-whole bytes start place total past small adds =
-    let none : sum (drop place bytes) ≡ 0 = ap sum (drop_all place bytes past) in
+sum_of-whole bytes start offset total past small adds =
+    let none : sum (drop offset bytes) ≡ 0 = ap sum (drop_all offset bytes past) in
     let is = adds.sum_is in
     omega (arith, none, is, small)
 

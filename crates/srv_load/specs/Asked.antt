@@ -1,4 +1,4 @@
--- What is asked of a collection: all the data of a view, and how it is counted.
+-- Questions to a collection: all the data of a view, and its counts.
 use Rattle.std.specs.Prelude.{ℕ, ◌%◌, ◌^◌, List, [], length, sum}
 use Rattle.fm_edition.specs.Held.{Held}
 use Rattle.fm_model.specs.declared.row.ViewName.{ViewName}

@@ -13,7 +13,7 @@ use Rattle.srv_load.specs.Name.{made_name, made_site}
 abbrev pub load_proto : Proto
 load_proto = made_proto made_site
 
--- what file k is taken for
+-- the outcome of taking file k
 abbrev pub held_file : ℕ → ℕ → Loaded
 held_file seed k = made_loaded (made_name k) seed k
 

@@ -1,6 +1,6 @@
 -- The collection that is made, and the names of its files.
 use Rattle.std.specs.Prelude.{ℕ, ◌+◌, ◌*◌, List, ◌++◌, take, drop, codes, ℤ, pos}
-use Rattle.fm_base.specs.Instant.{instant_text_of}
+use Rattle.nc_model.specs.Instant.{instant_text_of}
 use Rattle.fm_model.specs.declared.site.Site.{Site}
 
 -- the collection `load`, whose epoch is 2020-01-01T00:00:00Z, with `load_` before the moment in the name of a file

@@ -1,6 +1,6 @@
--- What is told of a made collection: how much it holds, and the rows and the bytes of four of its views.
+-- The summary of a made collection: its tally, and the rows and the bytes of four of its views.
 use Rattle.std.specs.Prelude.{ℕ, ◌+◌, ◌-◌, ◌*◌, ◌%◌, ◌^◌, ◌++◌, codes, pos}
-use Rattle.fm_base.specs.Instant.{instant_text_of}
+use Rattle.nc_model.specs.Instant.{instant_text_of}
 use Rattle.fm_edition.specs.Held.{Held}
 use Rattle.fm_model.specs.declared.row.ViewName.TheVariants.{Best, Run, Offset, Forecast}
 use Rattle.fm_model.specs.Collection.{tally}
@@ -25,7 +25,7 @@ abbrev pub forecast_asked : ℕ → Target
 forecast_asked k =
     all_of (Forecast (pos (21600 * k))) (codes "load_ConstantForecast_" ++ instant_text_of (run_time k))
 
--- what is told of a collection whose last file is file k
+-- the summary of a collection whose last file is file k
 unfoldable pub summary_over : Held → ℕ → Summary
 summary_over held k =
     let best = counted held best_asked in
@@ -42,6 +42,6 @@ summary_over held k =
       sum = (best.sum + run.sum + offset.sum + forecast.sum) % 2 ^ 32;
     }
 
--- what is told of the collection of the first n files that are made from a seed
+-- the summary of the collection of the first n files that are made from a seed
 abbrev pub summary_of : ℕ → ℕ → Summary
 summary_of seed n = summary_over (made_collection seed n) (n - 1)

@@ -11,7 +11,7 @@ use fm_base::{Bytes, NoMemory};
 use fm_edition::Edition;
 use fm_model::ViewName;
 use fm_views::row_count;
-use pub_plain::{Look, Plain, Query};
+use pub_look::{Look, Plain, Query};
 use std::alloc::Global;
 use web_path::{Service, Target};
 

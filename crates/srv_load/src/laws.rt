@@ -1,6 +1,6 @@
 //! What a reader believes of a made collection, each as the contract of a call that does nothing.
 ghost use Rattle.std.specs.Prelude.{◌≡◌, ◌≢◌, ◌*◌, ◌<◌, ◌≤◌, ℕ, None, Ok, Some};
-ghost use Rattle.fm_base.specs.Stamp.{mark_of};
+ghost use Rattle.nc_model.specs.Stamp.{mark_of};
 ghost use Rattle.fm_gen.specs.File.{made_file};
 ghost use Rattle.fm_model.specs.declared.op.Op.TheVariants.{Put};
 ghost use Rattle.fm_model.specs.Collection.{coll, full_at, tally};
@@ -16,7 +16,8 @@ pub fn a_made_name_has_its_run_time()
     ensures differ { (i j : ℕ) → i < 400 → j < 400 → i ≢ j → made_name i ≢ made_name j }
 {}
 
-/// A made file is never refused: file 0 is the prototype, each file is taken over it, and the collection has room for it.
+/// A made file is never refused: file 0 is the prototype, each file is taken over it, and the collection has room for
+/// it.
 #[tactic(auto, using(crate::proofs::TakenLemmas::taken, crate::proofs::RoomLemmas::rooms))]
 pub fn a_made_file_is_never_refused()
     ensures prototype { (seed : ℕ) → proto_of (made_file seed 0) made_site ≡ Ok load_proto }

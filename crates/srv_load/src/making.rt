@@ -5,7 +5,7 @@ ghost use Rattle.srv_load.specs.Made as spec;
 use crate::taking::{held_file, made_proto};
 use fm_base::{Arc, Fail, NoMemory};
 use fm_model::{Op, Proto};
-use pub_plain::Plain;
+use pub_look::Plain;
 use std::alloc::Global;
 
 // File k comes to the collection after those before it.

@@ -1,6 +1,6 @@
 //! The names of made files.
 ghost use Rattle.std.specs.Prelude.{◌≡◌, ◌+◌, ◌++◌, ◌<◌, ◌≤◌, IfOk, OnOk, drop, length, take};
-ghost use Rattle.fm_base.specs.Instant.{HasFourDigitYear, instant_text_of};
+ghost use Rattle.nc_model.specs.Instant.{HasFourDigitYear, instant_text_of};
 ghost use Rattle.srv_load.specs.Name as spec;
 
 use fm_base::{Bytes, NoMemory};
@@ -23,7 +23,7 @@ pub(crate) fn run_time(k: u32) -> i64
     i64::from(EPOCH + STEP * k)
 }
 
-// Appends some bytes of a text, from a place on.
+// Appends some bytes of a text, from an offset on.
 fn put_part(text: &[u8], from: usize, count: usize, out: &mut Bytes) -> Result<(), NoMemory>
     requires { from + count ≤ length text.now }
     ensures { OnOk result (out.new ≡ out.old ++ take count (drop from text.now)) }

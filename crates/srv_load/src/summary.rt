@@ -1,6 +1,6 @@
-//! What is told of a made collection.
+//! The summary of a made collection.
 ghost use Rattle.std.specs.Prelude.{◌≡◌, ◌<◌, ◌≤◌, ◌-◌, ◌++◌, IfOk, OnOk, codes};
-ghost use Rattle.fm_base.specs.Instant.{instant_text_of};
+ghost use Rattle.nc_model.specs.Instant.{instant_text_of};
 ghost use Rattle.fm_edition.specs.Log.{held_of};
 ghost use Rattle.srv_load.specs.Asked.{counted};
 ghost use Rattle.srv_load.specs.Name as names;
@@ -11,7 +11,7 @@ use crate::making::made_collection;
 use crate::name::{STEP, put_run_time};
 use fm_base::{Bytes, NoMemory};
 use fm_model::ViewName;
-use pub_plain::Plain;
+use pub_look::Plain;
 use std::alloc::Global;
 
 /// How many files and times a collection holds, how many rows the best time series, the dataset of the first run, of
@@ -78,7 +78,7 @@ fn ask_forecast(alloc: Global, plain: &mut Plain, k: u32) -> Result<Counted, NoM
     Ok(found)
 }
 
-// What is told of a collection whose last file is file k.
+// The summary of a collection whose last file is file k.
 #[tactic(auto, unfolding(crate::specs::Summary::summary_over))]
 fn summary_over(alloc: Global, plain: &mut Plain, k: u32) -> Result<Summary, NoMemory>
     requires { k < 400 }

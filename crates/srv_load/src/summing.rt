@@ -16,10 +16,11 @@ fn added(start: u32, bytes: &[u8]) -> u32
     total
 }
 
-// Adds the next bytes of a plan to a sum: those that stand ready or in a file, where they fill the room or are all that is
-// left, and else a piece in the room. Returns the sum and how many bytes that were.
+// Adds the next bytes of a plan to a sum, from an offset. Bytes that stand ready or in a file are added as they lie
+// there, where they fill the room or are all that is left; else the room is filled. Returns the sum and the number of
+// bytes.
 fn added_next(start: u32, plan: &Plan, from: u64, room: &mut [u8]) -> (u32, usize)
-    requires place { from < length (bytes_of plan.now) }
+    requires offset { from < length (bytes_of plan.now) }
     requires room { 0 < length room.old }
     ensures some { 0 < result.1 }
     ensures within { from + result.1 ≤ length (bytes_of plan.now) }
@@ -34,7 +35,7 @@ fn added_next(start: u32, plan: &Plan, from: u64, room: &mut [u8]) -> (u32, usiz
     (added(start, piece), count)
 }
 
-// The sum of the bytes of a plan from a place on, modulo 2^32.
+// The sum of the bytes of a plan from an offset on, modulo 2^32.
 #[tactic(auto, using(crate::proofs::SumLemmas::sums), unfolding(crate::specs::Asked::sum_of))]
 pub(crate) fn sum_from(plan: &Plan, from: u64) -> u32
     requires { from ≤ length (bytes_of plan.now) }
@@ -42,11 +43,11 @@ pub(crate) fn sum_from(plan: &Plan, from: u64) -> u32
 {
     let mut room = [0; 8192];
     let mut total = 0;
-    let mut place = from;
-    while place < plan.len() {
-        let (more, count) = added_next(total, plan, place, &mut room);
+    let mut offset = from;
+    while offset < plan.len() {
+        let (more, count) = added_next(total, plan, offset, &mut room);
         total = more;
-        place += count as u64;
+        offset += count as u64;
     }
     total
 }

@@ -37,7 +37,7 @@ pub(crate) fn made_proto(alloc: Global, seed: u32) -> Result<Proto, NoMemory>
     }
 }
 
-// What file k is taken for.
+// The outcome of taking file k.
 #[tactic(auto, using(crate::proofs::TakenLemmas::files))]
 pub(crate) fn held_file(alloc: Global, proto: &Proto, seed: u32, k: u32) -> Result<Loaded, NoMemory>
     requires few { k < 400 }

@@ -1,4 +1,4 @@
--- What is known where the link was served for a step.
+-- The facts of a link that was served for a step.
 use Rattle.std.proofs.Common.{◌≡◌, ◌≤◌, ◌<◌, ℕ, true, length, inl, inr, Result, Ok, Err, OnOk, IfErr, List, []}
 use Rattle.fm_model.specs.declared.proto.Proto.{Proto}
 use Rattle.dap_reply.specs.declared.served.Mark.{Mark}
@@ -8,7 +8,7 @@ use Rattle.dap_reply.specs.Served.{StopsBy}
 use Rattle.srv_conn.specs.Serves.{Moment, Serves}
 use Rattle.srv_run.specs.declared.end.End.{End}
 use Rattle.srv_run.specs.declared.end.End.TheVariants.{InputEnded}
-use Rattle.srv_run.specs.Steps.{Answers, end_of_stop, EndsAsk, Line, RestsUnlessEnded, seen_as}
+use Rattle.srv_run.specs.Steps.{AnswersAsk, end_of_stop, EndsAsk, Line, RestsUnlessEnded, seen_as}
 
 -- a served session rests or has ended
 pub rests-Serves : (proto : Proto) (before after : Moment) (most : ℕ) (stop : Stop)
@@ -23,14 +23,14 @@ pub few-Serves : (proto : Proto) (before after : Moment) (most : ℕ) (stop : St
 few-Serves proto before after most stop serves = serves.served.answers.few
 
 -- the step is done, or it isn't
-pub Answers-Serves : {X : Type 0} (count : ℕ) (before after : Line) (stop : Stop) (trail : List Mark)
+pub AnswersAsk-Serves : {X : Type 0} (count : ℕ) (before after : Line) (stop : Stop) (trail : List Mark)
     (result : Result X End) → Serves before.history.proto true (seen_as before []) (seen_as after trail) count stop
     → after.history.proto ≡ before.history.proto
     → OnOk result (length trail ≡ count) → OnOk result (end_of_stop stop ≡ InputEnded)
-    → OnOk result (Answers count before after)
-Answers-Serves count before after stop trail (Ok x) serves proto all calm =
+    → OnOk result (AnswersAsk count before after)
+AnswersAsk-Serves count before after stop trail (Ok x) serves proto all calm =
     record { stop = stop; trail = trail; asks = record { serves = serves; proto_is = proto }; all = all; calm = calm }
-Answers-Serves count before after stop trail (Err e) serves proto all calm = tt
+AnswersAsk-Serves count before after stop trail (Err e) serves proto all calm = tt
 
 pub EndsAsk-Serves : {X : Type 0} (count : ℕ) (before after : Line) (stop : Stop) (trail : List Mark)
     (result : Result X End) → Serves before.history.proto true (seen_as before []) (seen_as after trail) count stop
@@ -46,4 +46,4 @@ EndsAsk-Serves count before after stop trail (Err e) serves proto end short = in
   short = short;
 })
 
-pub ruleset asks = (rests-Serves, few-Serves, Answers-Serves, EndsAsk-Serves)
+pub ruleset asks = (rests-Serves, few-Serves, AnswersAsk-Serves, EndsAsk-Serves)

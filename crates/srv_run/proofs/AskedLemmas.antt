@@ -1,8 +1,8 @@
--- What an ask comes to, where its requests are there.
+-- The outcome of an ask whose requests are there.
 use Rattle.std.proofs.Common.{◌≡◌, ◌⊎◌, inl, inr, ◌<◌, ℕ, ◌+◌, List, [], ◌++◌, length, true, false, Some, sym, ap, subst, ◌∙◌, arith}
 use Rattle.std.specs.Prelude.{is_some, slice_get}
-use Rattle.fm_world.specs.Link.{Wire}
-use Rattle.fm_world.specs.Shown.{LinkShown}
+use Rattle.dev_traits.specs.Link.{Wire}
+use Rattle.dev_traits.specs.Shown.{LinkShown}
 use Rattle.web_frame.specs.declared.frame.Next.{Next}
 use Rattle.web_frame.specs.declared.frame.Next.TheVariants as next
 use Rattle.web_frame.specs.Items.{heads_of, Item, ReadsTo}
@@ -35,16 +35,16 @@ pub record IsOpen (input : List ℕ) (before : ℕ) (link : LinkShown) (session 
 
 -- a reply before this many was a connection's last
 pub record HasLast (input : List ℕ) (before : ℕ) : Type 0 where
-  pub place : ℕ
+  pub index : ℕ
   pub item : Item
-  pub below : place < before
-  pub item_is : slice_get (heads_of input).items place ≡ Some item
-  pub last_is : is_last item (place + 1) ≡ true
+  pub below : index < before
+  pub item_is : slice_get (heads_of input).items index ≡ Some item
+  pub last_is : is_last item (index + 1) ≡ true
 
 -- a connection that goes on after these replies had no last one
 pub no-last : {input : List ℕ} {before : ℕ} → HasLast input before → GoesOnAfter input before → ⊥
 no-last last goes_on =
-    let goes : is_last last.item (last.place + 1) ≡ false = goes_on last.place last.item last.below last.item_is in
+    let goes : is_last last.item (last.index + 1) ≡ false = goes_on last.index last.item last.below last.item_is in
     apart (sym last.last_is ∙ goes)
   where
     apart : true ≡ false → ⊥
@@ -73,7 +73,7 @@ pub record Finds (input : List ℕ) (before : ℕ) (call : LinkCall) : Type 0 wh
 ended-last : {input : List ℕ} {before : ℕ} (call : LinkCall) (end : LinkEnd) → Finds input before call
     → EndsAfterReply call end → HasLast input (before + length call.trail)
 ended-last {input} {before} call end finds after = record {
-  place = before + after.place;
+  index = before + after.place;
   item = after.item;
   below = omega (arith, after.place_is);
   item_is = Reads-there after.place after.item finds.reads after.item_is;
@@ -90,7 +90,7 @@ short-lacks {input} {before} call stop finds why short has calm = by_stop stop w
   where
     by_last : HasLast input (before + length call.trail) → ⊥
     by_last last = no-last last
-        (λ place item below is. has.goes_on place item (omega (arith, below, short)) is)
+        (λ index item below is. has.goes_on index item (omega (arith, below, short)) is)
 
     by_input : call.over ≡ true → length call.trail ≡ length (items_of call) → ⊥
     by_input over all = omega (arith, Reads-all finds.reads (finds.over over), all, short, has.enough)

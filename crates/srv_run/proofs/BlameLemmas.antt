@@ -1,10 +1,10 @@
 -- Which device the status of a run blames.
 use Rattle.std.proofs.Common.{◌≡◌, ◌⊎◌, ◌≤◌, ℕ, List, refl, sym, ap, subst, ◌∙◌, arith, inl, inr, Option, Some, None, Result, Ok, Err, IfErr}
-use Rattle.fm_base.specs.declared.header.Header.{Header}
+use Rattle.nc_model.specs.declared.header.Header.{Header}
 use Rattle.fm_model.specs.declared.proto.Proto.{Proto}
 use Rattle.fm_model.specs.declared.site.Site.{Site}
-use Rattle.fm_world.specs.Cause.{one_more}
-use Rattle.fm_doors.specs.World.{WorldShown}
+use Rattle.dev_traits.specs.Cause.{one_more}
+use Rattle.dev_traits.specs.World.{WorldShown}
 use Rattle.srv_words.specs.declared.job.Job.{Job}
 use Rattle.srv_words.specs.declared.job.Job.TheVariants.{Once, Check, Load, Serve}
 use Rattle.srv_words.specs.declared.job.Serving.{Serving}
@@ -20,7 +20,7 @@ use Rattle.srv_run.specs.Closing.{EndsServing, first_end}
 use Rattle.srv_run.specs.Devices.{StopsAt}
 use Rattle.srv_run.specs.Report.{status_of}
 use Rattle.srv_run.specs.Run.{Blames, BlamesDoor, BlamesInbox, DoesJob, IsShort, Runs}
-use Rattle.srv_run.specs.Serve.{EndsUnopened, GoesOn, HasRun, Serves}
+use Rattle.srv_run.specs.Serve.{EndsUnopened, GoesOn, HasRun, ServesDevices}
 use Rattle.srv_run.specs.Stage.{Shows, Stage}
 use Rattle.srv_run.proofs.EndLemmas.{number_of}
 use Rattle.srv_run.proofs.RunLemmas.{door-failed, end-is-device, inbox-failed}
@@ -51,14 +51,14 @@ is_inbox_fault : (end : End) → status_of end ≡ 8 → (number : ℕ) × (end 
 is_inbox_fault (InboxFault number) is = (number, refl)
 is_inbox_fault end is = absurd (omega (arith, is))
 
--- what the end of a run says of the devices that are there from the start
+-- the blame of an end on the devices that are there from the start
 pub record BlamedIn (end : End) (world world' : WorldShown) : Type 0 where
   pub words : end ≡ BadWords → ⊥
   pub files : end ≡ FileFault → world'.files.faults ≡ one_more world.files.faults
   pub sink : end ≡ SinkFault → world'.sink.faults ≡ one_more world.sink.faults
   pub link : end ≡ LinkFault → one_more world.link.faults ≤ world'.link.faults
 
--- what it says of those that it opened
+-- the blame of an end on the devices that the run opened
 pub record BlamedOn {D I C L : Type 0} (show : Shows D I C L) (end : End) (stage stage' : Stage D I C) : Type 0 where
   pub inside : BlamedIn end stage.outside stage'.outside
   pub door : (number : ℕ) → end ≡ DoorFault number → BlamesDoor show number stage stage'
@@ -186,7 +186,7 @@ served_blamed show serving proto end stage stage' outcome run (Some found) first
     }
 
 goes-on_blamed : {D I C L : Type 0} (show : Shows D I C L) (serving : Serving) (proto : Proto) (end : End)
-    (stage stage' : Stage D I C) → Serves show serving proto stage stage' end → BlamedOn show end stage stage'
+    (stage stage' : Stage D I C) → ServesDevices show serving proto stage stage' end → BlamedOn show end stage stage'
 goes-on_blamed show serving proto end stage stage' (inl unserved) =
     unserved_blamed show serving end stage stage' unserved.stopped.stops
 goes-on_blamed show serving proto end stage stage' (inr served) =

@@ -1,10 +1,10 @@
--- Where a run of `serve` ends for what its workers tell.
+-- The end of a run of `serve` by its workers' reports.
 use Rattle.std.proofs.Common.{◌≡◌, ◌⊎◌, inl, inr, ℕ, zero, suc, ◌+◌, Bool, true, false, if◌then◌else◌, nat_lt, List, [], ◌∷◌, map, All, slice_get, Option, Some, None, IsSomeAnd, refl, sym, ap, subst, arith}
 use Rattle.std.proofs.lemmas.List.Elements.{All-head, All-tail}
 use Rattle.std.specs.Option.{option_or}
-use Rattle.srv_door.specs.declared.report.DoorEnd.{DoorEnd}
-use Rattle.srv_door.specs.declared.report.DoorEnd.TheVariants as door_ends
-use Rattle.srv_door.specs.declared.report.DoorReport.{DoorReport}
+use Rattle.srv_conn.specs.declared.door_report.DoorEnd.{DoorEnd}
+use Rattle.srv_conn.specs.declared.door_report.DoorEnd.TheVariants as door_ends
+use Rattle.srv_conn.specs.declared.door_report.DoorReport.{DoorReport}
 use Rattle.srv_ingest.specs.declared.report.ExpireReport.{ExpireReport}
 use Rattle.srv_ingest.specs.declared.report.IngestEnd.{IngestEnd}
 use Rattle.srv_ingest.specs.declared.report.IngestEnd.TheVariants as inbox_ends
@@ -182,7 +182,7 @@ inbox-end outcome number is =
         at-others (or_some (first_from inbox_end 0 outcome.inboxes) (first_from clock_end 0 outcome.clocks)
         (InboxFault number) first inl inr)
 
--- where what is told of a run says so, what it left is so
+-- a device is as its report says
 pub left-at : {X R : Type 0} (Is : Run X R → Type 0) (Q : R → Type 0) (Z : X → Type 0) (runs : List (Run X R)) (n : ℕ)
     → All Is runs → ((run : Run X R) → Is run → Q run.report → Z run.left)
     → IsSomeAnd (slice_get (map (λ (run : Run X R). run.report) runs) n) Q

@@ -2,7 +2,7 @@
 use Rattle.std.proofs.Common.{◌≡◌, List, ℕ, ap, Option, Some, None, IfSome}
 use Rattle.fm_model.specs.declared.site.Site.{Site}
 use Rattle.fm_base.specs.Chain.{◌>>=◌}
-use Rattle.fm_world.specs.Shown.{FilesShown}
+use Rattle.dev_traits.specs.Shown.{FilesShown}
 use Rattle.srv_run.specs.declared.end.End.TheVariants.{NoMemory}
 use Rattle.srv_run.specs.Once.{EndsOpening}
 use Rattle.srv_run.specs.Reading.{file_or_end, IsEndOf, proto_or_end}

@@ -2,8 +2,8 @@
 use Rattle.std.proofs.Common.{◌≡◌, ◌⊎◌, inl, inr, ℕ, ◌+◌, List, ◌++◌, length, take, drop, true, Some, sym, ap, subst, ◌∙◌, arith, append_assoc, length-append}
 use Rattle.std.proofs.lemmas.List.{length-take, take-append-drop}
 use Rattle.fm_model.specs.declared.proto.Proto.{Proto}
-use Rattle.fm_world.specs.Link.{Wire}
-use Rattle.fm_world.specs.Shown.{LinkShown}
+use Rattle.dev_traits.specs.Link.{Wire}
+use Rattle.dev_traits.specs.Shown.{LinkShown}
 use Rattle.web_frame.specs.Items.{heads_of}
 use Rattle.web_frame.proofs.ItemLemmas.{ReadsTo-feed}
 use Rattle.web_session.specs.declared.action.End.TheVariants as ends
@@ -15,7 +15,7 @@ use Rattle.srv_conn.specs.Moved.{moved, AreNext, IsOver}
 use Rattle.srv_conn.specs.Serves.{call_of, Moment, Serves}
 use Rattle.srv_run.specs.declared.end.End.{End}
 use Rattle.srv_run.specs.declared.end.End.TheVariants.{InputEnded}
-use Rattle.srv_run.specs.Steps.{Answers, end_of_stop, EndsAsk, Line}
+use Rattle.srv_run.specs.Steps.{AnswersAsk, end_of_stop, EndsAsk, Line}
 use Rattle.srv_run.specs.WellFormed.{HasRequests}
 use Rattle.srv_run.proofs.AskedLemmas.{no-last, rests-goes_on, short-lacks, whole-goes, Finds, HasLast, IsOpen}
 use Rattle.srv_run.proofs.RequestLemmas.{items-next, ReadsTo-then}
@@ -115,7 +115,7 @@ excused-ask count at after end (inl o) has (inr over) = absurd (rests-goes_on at
 
 -- and after it the connection stands after its replies
 pub stands-ask : {input : List ℕ} {before : ℕ} (count : ℕ) (at after : Line) → Stands input before at
-    → HasRequests input before count → Answers count at after → Stands input (before + count) after
+    → HasRequests input before count → AnswersAsk count at after → Stands input (before + count) after
 stands-ask count at after (inr last) has answers = absurd (no-last last has.reached)
 stands-ask {input} {before} count at after (inl o) has answers =
     elim (whole-goes _ answers.stop (finds-Serves _ _ _ count answers.stop answers.asks.serves o)

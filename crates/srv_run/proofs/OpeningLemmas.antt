@@ -3,17 +3,17 @@ use Rattle.std.proofs.Common.{◌≡◌, ◌<◌, ℕ, zero, suc, All, List, [],
 use Rattle.std.proofs.lemmas.List.{drop-drop, length-append, map-append}
 use Rattle.std.proofs.lemmas.List.Elements.{All-append, All-cons, All-nil}
 use Rattle.std.specs.Prelude.{IfSome}
-use Rattle.fm_doors.specs.declared.door.DoorAsked.{DoorAsked}
-use Rattle.fm_doors.specs.Door.{DoorShown}
-use Rattle.fm_doors.specs.Inbox.{InboxShown}
-use Rattle.fm_doors.specs.Opener.{Stock, IsNextDoor, IsNextInbox, after_door, after_inbox, door_asked, inbox_asked}
+use Rattle.dev_traits.specs.declared.door.DoorAsked.{DoorAsked}
+use Rattle.dev_traits.specs.Door.{DoorShown}
+use Rattle.dev_traits.specs.Inbox.{InboxShown}
+use Rattle.dev_traits.specs.Opener.{Stock, IsNextDoor, IsNextInbox, after_door, after_inbox, door_asked, inbox_asked}
 use Rattle.srv_run.specs.Opening.{OpensDoors, OpensInboxes, after_doors, after_inboxes, asked_doors, asked_inboxes}
 
 -- one item more is there
 length-more : {X : Type 0} (xs : List X) (x : X) → length (xs ++ x ∷ []) ≡ suc (length xs)
 length-more xs x = length-append xs (x ∷ []) ∙ add-one (length xs)
 
--- what all have, one more has too
+-- a fact of all holds with one more
 All-more : {X : Type 0} (P : X → Type 0) (xs : List X) (x : X) → All P xs → P x → All P (xs ++ x ∷ [])
 All-more P xs x all has = All-append P xs (x ∷ []) all (All-cons P x [] has (All-nil P))
 

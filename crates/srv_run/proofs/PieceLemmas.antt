@@ -4,7 +4,7 @@ use Rattle.std.specs.List.{flat_map}
 use Rattle.std.proofs.Math.Seq.{take-append-add}
 use Rattle.std.proofs.lemmas.List.{take-append-le}
 use Rattle.std.proofs.lemmas.List.Concat.{flat_map-append}
-use Rattle.fm_world.specs.Sink.{after_append}
+use Rattle.dev_traits.specs.Sink.{after_append}
 use Rattle.srv_run.specs.Report.{Appends}
 
 -- first these bytes, and then those
@@ -37,7 +37,7 @@ flat_map-cut {X} f xs i n d below within =
       ) refl,
     )
 
--- what was appended where a piece was cut
+-- the appended bytes where a piece was cut
 pub appended-cut : {X : Type 0} (f : X → List ℕ) (xs : List X) (i : ℕ) (d : X) (before now after : Option (List ℕ))
     → i < length xs → now ≡ after_append (flat_map f (take i xs)) before → (n : ℕ) × (n ≤ length (f (get_or xs i d)))
     × (after ≡ after_append (take n (f (get_or xs i d))) now) → (k : ℕ) × (k ≤ length (flat_map f xs))

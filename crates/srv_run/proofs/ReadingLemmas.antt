@@ -1,4 +1,4 @@
--- What ends a run at the bytes of a file ends it at the file, and is no fault of the files.
+-- An end at the bytes of a file is an end at the file, and no fault of the files.
 use Rattle.std.proofs.Common.{◌≡◌, ℕ, refl, ◌∙◌, Result, Ok, Err, IfErr}
 use Rattle.srv_run.specs.declared.end.End.{End}
 use Rattle.srv_run.specs.declared.end.End.TheVariants.{Refused, NoMemory}

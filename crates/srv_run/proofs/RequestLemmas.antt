@@ -6,7 +6,7 @@ use Rattle.web_frame.specs.Items.{heads_of, items_before, Heads, Item, ReadsTo}
 use Rattle.web_frame.proofs.ItemLemmas.{items_first}
 use Rattle.srv_conn.proofs.HeadLemmas.{rest_of}
 
--- what is read after what was read
+-- the items that are read next
 pub ReadsTo-then : {bytes middle left : List ℕ} {first more : List Item} → ReadsTo bytes first middle
     → ReadsTo middle more left → ReadsTo bytes (first ++ more) left
 ReadsTo-then {bytes} {middle} {left} {first} {more} reads then = record {
@@ -20,23 +20,23 @@ ReadsTo-then {bytes} {middle} {left} {first} {more} reads then = record {
     as_heads items rest = record { items = items; rest = rest }
 
 -- an item after others
-later-at : (first others : List Item) (place : ℕ)
-    → slice_get (first ++ others) (length first + place) ≡ slice_get others place
-later-at [] others place =
-    let same : 0 + place ≡ place = omega arith in
+later-at : (first others : List Item) (index : ℕ)
+    → slice_get (first ++ others) (length first + index) ≡ slice_get others index
+later-at [] others index =
+    let same : 0 + index ≡ index = omega arith in
     ap (slice_get others) same
-later-at (item ∷ first) others place =
-    let same : suc (length first) + place ≡ suc (length first + place) = omega arith in
-    ap (slice_get (item ∷ first ++ others)) same ∙ later-at first others place
+later-at (item ∷ first) others index =
+    let same : suc (length first) + index ≡ suc (length first + index) = omega arith in
+    ap (slice_get (item ∷ first ++ others)) same ∙ later-at first others index
 
 -- an item of a front
-front-there : (front others : List Item) (place : ℕ) (item : Item) → slice_get front place ≡ Some item
-    → slice_get (front ++ others) place ≡ Some item
-front-there [] others place item is = absurd (none-some item is)
+front-there : (front others : List Item) (index : ℕ) (item : Item) → slice_get front index ≡ Some item
+    → slice_get (front ++ others) index ≡ Some item
+front-there [] others index item is = absurd (none-some item is)
 front-there (first ∷ front) others zero item is = is
-front-there (first ∷ front) others (suc place) item is = front-there front others place item is
+front-there (first ∷ front) others (suc index) item is = front-there front others index item is
 
--- what an input holds: the items that were read before, and those of the bytes that are read next and of others
+-- the items of an input: the ones read before, then those of the next bytes and of others
 pub record Reads (input : List ℕ) (before : ℕ) (text : List ℕ) : Type 0 where
   pub done : List Item
   pub count : length done ≡ before
@@ -50,18 +50,18 @@ items-next so_far held taken later done reads =
     ap (λ (h : Heads). h.items) (reads.reads (taken ++ later)
     ∙ ap (λ (l : List ℕ). items_before done (heads_of l)) (sym (append_assoc held taken later)))
 
--- an item that is read next has its place in the input
-pub Reads-there : {input text : List ℕ} {before : ℕ} (place : ℕ) (item : Item) → Reads input before text
-    → slice_get (heads_of text).items place ≡ Some item
-    → slice_get (heads_of input).items (before + place) ≡ Some item
-Reads-there {input} {text} {before} place item reads is =
+-- an item that is read next stands at its index in the input
+pub Reads-there : {input text : List ℕ} {before : ℕ} (index : ℕ) (item : Item) → Reads input before text
+    → slice_get (heads_of text).items index ≡ Some item
+    → slice_get (heads_of input).items (before + index) ≡ Some item
+Reads-there {input} {text} {before} index item reads is =
     let longer : List Item = (heads_of (text ++ reads.later)).items in
     let front : List Item = (heads_of text).items in
-    ap (slice_get (heads_of input).items) (ap (λ (n : ℕ). n + place) (sym reads.count))
-    ∙ ap (λ (l : List Item). slice_get l (length reads.done + place)) reads.items_are
-    ∙ later-at reads.done longer place
-    ∙ ap (λ (l : List Item). slice_get l place) (rest_of front longer (items_first text reads.later))
-    ∙ front-there front (drop (length front) longer) place item is
+    ap (slice_get (heads_of input).items) (ap (λ (n : ℕ). n + index) (sym reads.count))
+    ∙ ap (λ (l : List Item). slice_get l (length reads.done + index)) reads.items_are
+    ∙ later-at reads.done longer index
+    ∙ ap (λ (l : List Item). slice_get l index) (rest_of front longer (items_first text reads.later))
+    ∙ front-there front (drop (length front) longer) index item is
 
 -- where no other bytes follow, these are all items of the input
 pub Reads-all : {input text : List ℕ} {before : ℕ} (reads : Reads input before text) → reads.later ≡ []

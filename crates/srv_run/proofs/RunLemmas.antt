@@ -3,14 +3,14 @@ use Rattle.std.proofs.Common.{◌≡◌, ℕ, ◌+◌, ◌<◌, Bool, true, fals
 use Rattle.std.specs.Option.{option_or}
 use Rattle.std.specs.Prelude.{⊤}
 use Rattle.fm_model.specs.declared.proto.Proto.{Proto}
-use Rattle.fm_world.specs.Cause.{one_more}
-use Rattle.fm_doors.specs.Door.{DoorShown}
-use Rattle.fm_doors.specs.Inbox.{InboxShown}
-use Rattle.fm_doors.specs.Opener.{OpenerShown}
-use Rattle.srv_door.specs.Turns.{EndsDoor}
-use Rattle.srv_door.specs.declared.report.DoorEnd.{DoorEnd}
-use Rattle.srv_door.specs.declared.report.DoorEnd.TheVariants as door_ends
-use Rattle.srv_door.specs.declared.report.DoorReport.{DoorReport}
+use Rattle.dev_traits.specs.Cause.{one_more}
+use Rattle.dev_traits.specs.Door.{DoorShown}
+use Rattle.dev_traits.specs.Inbox.{InboxShown}
+use Rattle.dev_traits.specs.Opener.{OpenerShown}
+use Rattle.srv_conn.specs.DoorTurns.{EndsDoor}
+use Rattle.srv_conn.specs.declared.door_report.DoorEnd.{DoorEnd}
+use Rattle.srv_conn.specs.declared.door_report.DoorEnd.TheVariants as door_ends
+use Rattle.srv_conn.specs.declared.door_report.DoorReport.{DoorReport}
 use Rattle.srv_ingest.specs.Ingests.{EndsIngest}
 use Rattle.srv_ingest.specs.declared.report.IngestEnd.{IngestEnd}
 use Rattle.srv_ingest.specs.declared.report.IngestEnd.TheVariants as inbox_ends

@@ -1,27 +1,14 @@
--- What a session says at rest, and once it has ended.
+-- The actions of a session at rest, and of one that has ended.
 use Rattle.std.proofs.Common.{◌≡◌, refl, sym, ap, subst, inl, inr}
 use Rattle.web_frame.specs.Cut.{cut_of, head_len}
 use Rattle.web_frame.specs.Stream.{Held, held_after, next_of}
 use Rattle.web_session.specs.declared.action.Action.TheVariants.{Close}
 use Rattle.web_session.specs.declared.action.End.{End}
-use Rattle.web_session.specs.declared.event.Event.TheVariants.{Start}
 use Rattle.web_session.specs.declared.phase.Phase.{Phase}
 use Rattle.web_session.specs.declared.phase.Phase.TheVariants.{Waiting, Asking, Sending, Ended}
-use Rattle.web_session.specs.Event.{after_event, after_in}
 use Rattle.web_session.specs.State.{action_at, action_of, fresh, State}
 use Rattle.dap_reply.specs.Served.{IsAtRest}
 use Rattle.srv_run.specs.Steps.{HasEnded, RestsUnlessEnded}
-
-after_in-start : (phase : Phase) (s : State) → after_in phase s Start ≡ s
-after_in-start Waiting s = refl
-after_in-start (Asking asked) s = refl
-after_in-start (Sending asked from len) s = refl
-after_in-start (Ended end) s = refl
-
--- the first event changes nothing
-pub after_event-start : (s : State) → after_event s Start ≡ s
-unfolding after_event
-after_event-start s = after_in-start s.phase s
 
 closes : (phase : Phase) (held : Held) (end : End) → action_at phase held ≡ Close end
     → (how : End) × (phase ≡ Ended how)

@@ -2,8 +2,8 @@
 use Rattle.std.proofs.Common.{◌≡◌, ◌<◌, ℕ, List, [], length, Option, refl, sym, subst}
 use Rattle.fm_base.specs.declared.fail.Fail.{Fail}
 use Rattle.fm_base.specs.declared.fail.Fail.TheVariants.{NoMemory, Fault}
-use Rattle.fm_world.specs.Cause.{count_after}
-use Rattle.fm_doors.specs.Opener.{Stock}
+use Rattle.dev_traits.specs.Cause.{count_after}
+use Rattle.dev_traits.specs.Opener.{Stock}
 use Rattle.srv_words.specs.declared.job.Serving.{Serving}
 use Rattle.srv_run.specs.declared.end.End.TheVariants.{DoorFault, InboxFault}
 use Rattle.srv_run.specs.Devices.{asked_of, OpensDevices, StopsAt}

@@ -2,8 +2,8 @@
 use Rattle.std.proofs.Common.{◌≡◌, ◌⊎◌, ◌≤◌, ℕ, true, List, [], ◌∷◌, sym, ap, subst, ◌∙◌, refl, inl, inr}
 use Rattle.std.specs.Prelude.{⊤}
 use Rattle.fm_model.specs.declared.proto.Proto.{Proto}
-use Rattle.fm_world.specs.Cause.{one_more}
-use Rattle.fm_world.specs.Shown.{FilesShown, LinkShown}
+use Rattle.dev_traits.specs.Cause.{one_more}
+use Rattle.dev_traits.specs.Shown.{FilesShown, LinkShown}
 use Rattle.dap_reply.specs.declared.served.Stop.{Stop}
 use Rattle.dap_reply.specs.declared.served.Stop.TheVariants as stops
 use Rattle.dap_reply.specs.Served.{EndsBy, StopsBy}
@@ -67,7 +67,7 @@ failed_by proto before after most stop serves is =
     let P : Stop → Type 0 = λ s. Serves proto true before after most s in
     failed proto before after most (subst P (stop_is stop is) serves)
 
--- what the end of some steps says of the devices
+-- the blame of the end of some steps on the devices
 pub record Blamed (before after : Progress) (end : End) : Type 0 where
   pub words : end ≡ BadWords → ⊥
   pub sink : end ≡ SinkFault → ⊥

@@ -6,7 +6,7 @@ use Rattle.srv_run.specs.declared.end.End.{End}
 use Rattle.srv_run.specs.declared.end.End.TheVariants.{Done}
 use Rattle.srv_run.specs.Steps.{Does, EndsAt, IsDone, path_of, Progress}
 
--- what the steps from an index on do from here is what all of them do from the start
+-- the steps from an index on, done from here, are all steps done from the start
 abbrev pub Continues : List Step → Progress → ℕ → Progress → Type 0
 Continues steps start i now = (after : Progress) (end : End) (path : List ℕ)
     → Does (drop i steps) now after end path → Does steps start after end path

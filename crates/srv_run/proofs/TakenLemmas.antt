@@ -8,7 +8,7 @@ use Rattle.fm_model.specs.declared.op.Op.{Op}
 use Rattle.fm_model.specs.declared.op.Op.TheVariants.{Put, Expire, Retract}
 use Rattle.fm_model.specs.declared.proto.Proto.{Proto}
 use Rattle.fm_model.specs.Collection.{coll, full_at, holds, holds_older}
-use Rattle.pub_plain.specs.History.{History, with_op}
+use Rattle.pub_look.specs.History.{History, with_op}
 use Rattle.srv_run.specs.declared.end.End.{End}
 use Rattle.srv_run.specs.declared.end.End.TheVariants.{Done, NoMemory, FileFault, LinkFault}
 use Rattle.srv_run.specs.Publishing.{expired, published_or_end, put_or_end, retracted}

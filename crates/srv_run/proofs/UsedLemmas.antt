@@ -3,8 +3,8 @@ use Rattle.std.proofs.Common.{◌≡◌, inl, inr, ℕ, ◌+◌, List, [], ◌�
 use Rattle.std.specs.Prelude.{IfSome}
 use Rattle.fm_base.specs.Chain.{◌>>=◌}
 use Rattle.fm_base.proofs.ChainLemmas.{same_Ok}
-use Rattle.fm_world.specs.Shown.{FilesShown, LinkShown}
-use Rattle.pub_plain.specs.History.{History}
+use Rattle.dev_traits.specs.Shown.{FilesShown, LinkShown}
+use Rattle.pub_look.specs.History.{History}
 use Rattle.web_session.specs.State.{State}
 use Rattle.srv_words.specs.declared.job.Step.{Step}
 use Rattle.srv_words.specs.declared.job.Step.TheVariants.{Put, Expire, Retract, Ask}
@@ -21,7 +21,7 @@ use Rattle.srv_run.proofs.TakenLemmas.{content-alike, excused-value, expired-ali
 pub told : {H : Type 0} (P : H → Type 0) (held : Option H) (known : H) → held ≡ Some known → IfSome held P → P known
 told P held known is there = let Q : Option _ → Type 0 = λ h. IfSome h P in subst Q is there
 
--- where a run stands: the files hold this, what was published is this but for looks, and the link was read so far
+-- the state of a run: the files hold this, these operations were published, and the link was read so far
 pub record StandsAt (held : List ℕ → Option (List ℕ)) (input : List ℕ) (history : History) (before : ℕ)
     (at : Progress) : Type 0 where
   pub files : at.files.held ≡ Some held
@@ -38,7 +38,7 @@ unused at after link session (inr last) = inr last
 
 -- ---- a step that puts
 
--- what a put of a file that is taken leaves
+-- the state after the put of a file that is taken
 put-follows : (path : List ℕ) (held : List ℕ → Option (List ℕ)) (history other next : History) → IsAlike history other
     → (file_or_end (held path) >>= put_or_end other path) ≡ Ok next
     → Follows (file_or_end (held path) >>= put_or_end history path) next

@@ -1,16 +1,16 @@
--- What a run of `serve` leaves that ends well.
+-- The devices after a run of `serve` that ends well.
 use Rattle.std.proofs.Common.{◌≡◌, ◌⊎◌, inl, inr, ℕ, ◌+◌, List, [], ◌∷◌, map, All, Option, Some, None, refl, sym, subst}
 use Rattle.std.proofs.lemmas.List.Elements.{All-cons, All-head, All-nil, All-tail}
 use Rattle.std.specs.Prelude.{IfSome}
 use Rattle.std.specs.Option.{option_or}
-use Rattle.fm_doors.specs.Door.{DoorShown}
-use Rattle.fm_doors.specs.Inbox.{InboxShown}
-use Rattle.fm_world.specs.Shown.{SinkShown}
+use Rattle.dev_traits.specs.Door.{DoorShown}
+use Rattle.dev_traits.specs.Inbox.{InboxShown}
+use Rattle.dev_traits.specs.Shown.{SinkShown}
 use Rattle.fm_model.specs.declared.proto.Proto.{Proto}
-use Rattle.srv_door.specs.Turns.{EndsDoor}
-use Rattle.srv_door.specs.declared.report.DoorEnd.{DoorEnd}
-use Rattle.srv_door.specs.declared.report.DoorEnd.TheVariants as door_ends
-use Rattle.srv_door.specs.declared.report.DoorReport.{DoorReport}
+use Rattle.srv_conn.specs.DoorTurns.{EndsDoor}
+use Rattle.srv_conn.specs.declared.door_report.DoorEnd.{DoorEnd}
+use Rattle.srv_conn.specs.declared.door_report.DoorEnd.TheVariants as door_ends
+use Rattle.srv_conn.specs.declared.door_report.DoorReport.{DoorReport}
 use Rattle.srv_ingest.specs.Ingests.{EndsIngest}
 use Rattle.srv_ingest.specs.declared.report.IngestEnd.{IngestEnd}
 use Rattle.srv_ingest.specs.declared.report.IngestEnd.TheVariants as inbox_ends
@@ -21,7 +21,7 @@ use Rattle.srv_workers.specs.Runs.{AreRuns, IsDoorRun, IsInboxRun, Run}
 use Rattle.srv_run.specs.declared.end.End.{End}
 use Rattle.srv_run.specs.declared.end.End.TheVariants.{Done}
 use Rattle.srv_run.specs.Closing.{clock_end, door_end, end_at_door, end_at_inbox, EndsServing, first_end, first_from, inbox_end}
-use Rattle.srv_run.specs.Serve.{EndsUnopened, GoesOn, HasRun, RunsServe, Serves}
+use Rattle.srv_run.specs.Serve.{EndsUnopened, GoesOn, HasRun, RunsServe, ServesDevices}
 use Rattle.srv_run.specs.Stage.{Shows, Stage}
 use Rattle.srv_run.specs.WellServed.{IsUsedUp}
 use Rattle.srv_run.proofs.RunLemmas.{by_device, IsOfWorkers}
@@ -49,7 +49,7 @@ done n inbox_ends.InboxFault short is = absurd cc
 done n inbox_ends.NoMemory short is = absurd cc
 done n inbox_ends.Done short is = refl
 
--- where what is told of each run says so, what each left is so
+-- each device is as its report says
 all-left : {X R : Type 0} (Is : Run X R → Type 0) (Q : R → Type 0) (Z : X → Type 0) (runs : List (Run X R))
     → All Is runs → ((run : Run X R) → Is run → Q run.report → Z run.left)
     → All Q (map (λ (run : Run X R). run.report) runs) → All Z (map (λ (run : Run X R). run.left) runs)
@@ -110,7 +110,7 @@ no-end outcome (Some end) sink sink' first ends =
     absurd (subst (λ (e : End). IsOfWorkers e) (sym ends.0) (by_device outcome end first))
 
 serves-used : {D I C L : Type 0} (show : Shows D I C L) (serving : Serving) (proto : Proto) (stage stage' : Stage D I C)
-    → Serves show serving proto stage stage' Done → IsUsedUp show stage'
+    → ServesDevices show serving proto stage stage' Done → IsUsedUp show stage'
 serves-used show serving proto stage stage' (inl stopped) = absurd stopped.stopped.stops
 serves-used show serving proto stage stage' (inr ran) =
     run-used show serving proto stage stage' ran.outcome ran.run

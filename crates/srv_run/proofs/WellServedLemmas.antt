@@ -10,7 +10,7 @@ use Rattle.srv_run.specs.declared.end.End.TheVariants.{Done, NoMemory, SinkFault
 use Rattle.srv_run.specs.Closing.{EndsServing, first_end}
 use Rattle.srv_run.specs.Devices.{StopsAt}
 use Rattle.srv_run.specs.Run.{HasFailed, Runs}
-use Rattle.srv_run.specs.Serve.{EndsUnopened, GoesOn, HasRun, RunsServe, Serves}
+use Rattle.srv_run.specs.Serve.{EndsUnopened, GoesOn, HasRun, RunsServe, ServesDevices}
 use Rattle.srv_run.specs.Stage.{Shows, Stage}
 use Rattle.srv_run.specs.WellServed.{IsWellServed}
 use Rattle.srv_run.proofs.BlameLemmas.{unopened_blamed}
@@ -74,7 +74,7 @@ served {D} {I} {C} {L} show serving proto end stage stage' outcome run (Some fou
     by e first is of_workers = absurd of_workers
 
 goes-on : {D I C L : Type 0} (show : Shows D I C L) (serving : Serving) (proto : Proto) (end : End)
-    (stage stage' : Stage D I C) → Serves show serving proto stage stage' end
+    (stage stage' : Stage D I C) → ServesDevices show serving proto stage stage' end
     → IsWellServed show serving stage stage' → (end ≡ Done) ⊎ (end ≡ NoMemory)
 goes-on show serving proto end stage stage' (inl stopped) used =
     unserved show serving end stage stage' stopped.stopped.stops used

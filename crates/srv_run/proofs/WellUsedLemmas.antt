@@ -3,8 +3,8 @@ use Rattle.std.proofs.Common.{◌≡◌, ◌⊎◌, inl, inr, ℕ, List, [], Som
 use Rattle.fm_base.specs.Chain.{◌>>=◌}
 use Rattle.fm_base.proofs.ChainLemmas.{same_Ok}
 use Rattle.fm_model.specs.declared.site.Site.{Site}
-use Rattle.fm_world.specs.Link.{Wire}
-use Rattle.fm_doors.specs.World.{WorldShown}
+use Rattle.dev_traits.specs.Link.{Wire}
+use Rattle.dev_traits.specs.World.{WorldShown}
 use Rattle.web_frame.proofs.ItemLemmas.{ReadsTo-start}
 use Rattle.web_session.specs.State.{fresh}
 use Rattle.srv_words.specs.declared.job.Job.TheVariants.{Once}

@@ -1,10 +1,10 @@
--- What the command `check FILE` does: it reads the header of a file, sees that all the data lies in the file, and says
+-- The command `check FILE`: it reads the header of a file, sees that all the data lies in the file, and says
 -- how many dimensions, variables and records there are.
 use Rattle.std.specs.Prelude.{◌≡◌, ℕ, List, ◌++◌, length, codes, decimal, Option, Result, Ok, Err, IfSome, IfErr}
-use Rattle.fm_base.specs.declared.header.Header.{Header}
+use Rattle.nc_model.specs.declared.header.Header.{Header}
 use Rattle.fm_base.specs.Chain.{◌>>=◌, fault_as}
-use Rattle.fm_base.specs.Sound.{format_fault_code, sound_header}
-use Rattle.fm_world.specs.Shown.{FilesShown, SinkShown}
+use Rattle.nc_model.specs.Sound.{format_fault_code, sound_header}
+use Rattle.dev_traits.specs.Shown.{FilesShown, SinkShown}
 use Rattle.srv_run.specs.declared.end.End.{End}
 use Rattle.srv_run.specs.declared.end.End.TheVariants.{Done, Refused, SinkFault}
 use Rattle.srv_run.specs.Reading.{file_or_end, file_faults_after, Gives, IsEndAtFile}
@@ -14,7 +14,7 @@ use Rattle.srv_run.specs.Report.{CutsLine, line_of, Reports, WritesLine}
 unfoldable pub sound_or_refusal : List ℕ → Result Header End
 sound_or_refusal bytes = fault_as (λ fault. Refused (format_fault_code fault)) (sound_header bytes)
 
--- what a path holds is read whole and has no fault, or the check ends
+-- the file at a path is read whole and has no fault, or the check ends
 unfoldable pub checked_or_end : Option (List ℕ) → Result Header End
 checked_or_end held = file_or_end held >>= sound_or_refusal
 

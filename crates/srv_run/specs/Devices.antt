@@ -1,8 +1,8 @@
--- The devices of a run of `serve`: those that are asked for, and those that were opened.
+-- The devices of a run of `serve`: the requested ones, and the opened ones.
 use Rattle.std.specs.Prelude.{◌≡◌, ℕ, ◌<◌, [], length, Option, Some, None}
-use Rattle.fm_world.specs.Cause.{one_more}
-use Rattle.fm_doors.specs.declared.door.DoorAsked.{DoorAsked}
-use Rattle.fm_doors.specs.Opener.{Stock}
+use Rattle.dev_traits.specs.Cause.{one_more}
+use Rattle.dev_traits.specs.declared.door.DoorAsked.{DoorAsked}
+use Rattle.dev_traits.specs.Opener.{Stock}
 use Rattle.srv_words.specs.declared.job.Serving.{Serving}
 use Rattle.srv_workers.specs.declared.outcome.Devices.{Devices}
 use Rattle.srv_run.specs.declared.end.End.{End}
@@ -10,7 +10,7 @@ use Rattle.srv_run.specs.declared.end.End.TheVariants.{NoMemory, DoorFault, Inbo
 use Rattle.srv_run.specs.Opening.{OpensClock, OpensDoors, OpensInboxes}
 use Rattle.srv_run.specs.Stage.{Shows}
 
--- what each door is asked for
+-- the request for each door
 abbrev pub asked_of : Serving → DoorAsked
 asked_of serving = record { address = serving.listen; connections = serving.connections }
 

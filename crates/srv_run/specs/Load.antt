@@ -1,7 +1,7 @@
--- What the command `load SEED FILES` does: it makes a large collection, reads it by four views, and says how much there
+-- The command `load SEED FILES`: it makes a large collection, reads it by four views, and says how much there
 -- is.
 use Rattle.std.specs.Prelude.{ℕ, List, [], ◌++◌, codes, decimal}
-use Rattle.fm_world.specs.Shown.{SinkShown}
+use Rattle.dev_traits.specs.Shown.{SinkShown}
 use Rattle.srv_load.specs.declared.summary.Summary.{Summary}
 use Rattle.srv_load.specs.Summary.{summary_of}
 use Rattle.srv_run.specs.declared.end.End.{End}

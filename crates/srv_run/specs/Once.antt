@@ -1,11 +1,11 @@
--- What `once` does: it reads a prototype, and does steps on the collection over it.
+-- The command `once`: it reads a prototype, and does steps on the collection over it.
 use Rattle.std.specs.Prelude.{◌≡◌, ◌⊎◌, ℕ, List, [], Ok, IfSome}
 use Rattle.fm_base.specs.Chain.{◌>>=◌}
 use Rattle.fm_model.specs.declared.proto.Proto.{Proto}
 use Rattle.fm_model.specs.declared.site.Site.{Site}
-use Rattle.fm_doors.specs.World.{WorldShown}
-use Rattle.fm_world.specs.Shown.{FilesShown, LinkShown}
-use Rattle.pub_plain.specs.History.{History}
+use Rattle.dev_traits.specs.World.{WorldShown}
+use Rattle.dev_traits.specs.Shown.{FilesShown, LinkShown}
+use Rattle.pub_look.specs.History.{History}
 use Rattle.web_session.specs.State.{fresh, State}
 use Rattle.srv_words.specs.declared.job.Step.{Step}
 use Rattle.srv_run.specs.declared.end.End.{End}

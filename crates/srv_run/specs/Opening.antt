@@ -2,20 +2,20 @@
 use Rattle.std.specs.Prelude.{◌≡◌, ℕ, List, [], ◌∷◌, All, drop, length, map, take, Option, option_map, IfSome}
 use Rattle.fm_base.specs.declared.fail.Fail.{Fail}
 use Rattle.fm_base.specs.declared.fail.Fail.TheVariants.{NoMemory, Fault}
-use Rattle.fm_doors.specs.Clock.{Moments}
-use Rattle.fm_doors.specs.declared.door.DoorAsked.{DoorAsked}
-use Rattle.fm_doors.specs.Door.{DoorShown}
-use Rattle.fm_doors.specs.Inbox.{InboxShown}
-use Rattle.fm_doors.specs.Opener.{Stock, after_clock, door_asked, inbox_asked, next_clock}
+use Rattle.dev_traits.specs.Clock.{Moments}
+use Rattle.dev_traits.specs.declared.door.DoorAsked.{DoorAsked}
+use Rattle.dev_traits.specs.Door.{DoorShown}
+use Rattle.dev_traits.specs.Inbox.{InboxShown}
+use Rattle.dev_traits.specs.Opener.{Stock, after_clock, door_asked, inbox_asked, next_clock}
 use Rattle.srv_run.specs.declared.end.End.{End}
 use Rattle.srv_run.specs.declared.end.End.TheVariants as ends
 
--- an opener after it gave so many doors
+-- an opener after it gave this number of doors
 abbrev pub after_doors : {D I C : Type 0} → ℕ → Option (Stock D I C) → Option (Stock D I C)
 after_doors {D} {I} {C} count stock =
     option_map (λ (s : Stock D I C). record s { doors = drop count s.doors }) stock
 
--- an opener after it gave so many inboxes
+-- an opener after it gave this number of inboxes
 abbrev pub after_inboxes : {D I C : Type 0} → ℕ → Option (Stock D I C) → Option (Stock D I C)
 after_inboxes {D} {I} {C} count stock =
     option_map (λ (s : Stock D I C). record s { inboxes = drop count s.inboxes }) stock
@@ -53,8 +53,8 @@ abbrev pub end_of : {E : Type 0} → Fail E → End → End
 end_of NoMemory end = ends.NoMemory
 end_of (Fault e) end = end
 
--- This clock was opened for so many ticks, or none was: it is the next of an opener's clocks, which has the others
--- left.
+-- This clock was opened for this number of ticks, or none was: it is the next of an opener's clocks, which has the
+-- others left.
 abbrev pub OpensClock : {D I C : Type 0} → (C → Option Moments) → ℕ → Option (Stock D I C) → Option (Stock D I C)
     → List C → Type 0
 OpensClock shown ticks opener opener' [] = opener' ≡ opener

@@ -1,15 +1,16 @@
--- What the steps of `once` publish: a file that comes to the collection, runs that go, and a file that is taken back.
+-- The operations of the steps of `once`: a file that comes to the collection, runs that go, and a file that is taken
+-- back.
 use Rattle.std.specs.Prelude.{◌≡◌, ℕ, List, if◌then◌else◌, Result, Ok, IfSome, ℤ}
 use Rattle.fm_base.specs.Chain.{◌>>=◌}
 use Rattle.fm_model.specs.declared.loaded.Loaded.{Loaded}
 use Rattle.fm_model.specs.declared.op.Op.TheVariants as ops
 use Rattle.fm_model.specs.Collection.{coll, full_at, holds, holds_older}
-use Rattle.fm_world.specs.Shown.{FilesShown}
-use Rattle.pub_plain.specs.History.{History, with_op}
+use Rattle.dev_traits.specs.Shown.{FilesShown}
+use Rattle.pub_look.specs.History.{History, with_op}
 use Rattle.srv_run.specs.declared.end.End.{End}
 use Rattle.srv_run.specs.Reading.{file_or_end, file_faults_after, IsEndAtFile, IsEndOf, loaded_or_end, unless_no_room}
 
--- what was published once a file has come to the collection, or the end of the run
+-- the history once a file has come to the collection, or the end of the run
 unfoldable pub published_or_end : History → Loaded → Result History End
 published_or_end history file =
     unless_no_room (full_at (coll history.seen) (ops.Put file)) (with_op history (ops.Put file))
@@ -18,12 +19,12 @@ published_or_end history file =
 unfoldable pub put_or_end : History → List ℕ → List ℕ → Result History End
 put_or_end history path bytes = loaded_or_end history.proto path bytes >>= published_or_end history
 
--- what was published once the runs below a cutoff have gone, which is nothing more where there is none
+-- the history once the runs below a cutoff have gone, which is the same where there is none
 abbrev pub expired : ℤ → History → History
 expired cutoff history =
     if holds_older (coll history.seen) cutoff then with_op history (ops.Expire cutoff) else history
 
--- what was published once the file of a name was taken back, which is nothing more where there is none
+-- the history once the file of a name was taken back, which is the same where there is none
 abbrev pub retracted : List ℕ → History → History
 retracted name history = if holds (coll history.seen) name then with_op history (ops.Retract name) else history
 

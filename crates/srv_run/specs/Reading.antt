@@ -1,4 +1,4 @@
--- What comes of a path where a file is read, and of the file's bytes: a prototype, or a file of the collection.
+-- The outcome of reading a file at a path, and of its bytes: a prototype, or a file of the collection.
 use Rattle.std.specs.Prelude.{◌≡◌, ⊤, ℕ, ◌==◌, List, Option, Some, None, Result, Ok, Err, MatchResult}
 use Rattle.std.specs.List.{after_last}
 use Rattle.fm_base.specs.Chain.{fault_as}
@@ -10,10 +10,10 @@ use Rattle.fm_model.specs.declared.site.Site.{Site}
 use Rattle.fm_model.specs.Code.{load_code, proto_code}
 use Rattle.fm_model.specs.Load.{load_of}
 use Rattle.fm_model.specs.Prototype.{proto_of}
-use Rattle.fm_world.specs.declared.files.Found.{Found}
-use Rattle.fm_world.specs.declared.files.Found.TheVariants.{Content, Absent, TooLong as TooLongFound}
-use Rattle.fm_world.specs.Cause.{one_more}
-use Rattle.fm_world.specs.Files.{found_of}
+use Rattle.dev_traits.specs.declared.files.Found.{Found}
+use Rattle.dev_traits.specs.declared.files.Found.TheVariants.{Content, Absent, TooLong as TooLongFound}
+use Rattle.dev_traits.specs.Cause.{one_more}
+use Rattle.dev_traits.specs.Files.{found_of}
 use Rattle.srv_run.specs.declared.end.End.{End}
 use Rattle.srv_run.specs.declared.end.End.TheVariants.{Refused, NoMemory, FileFault, NoFile, TooLong}
 use Rattle.srv_run.specs.declared.end.TheConstants.{NO_ROOM}
@@ -24,7 +24,7 @@ content_or_end (Content bytes) = Ok bytes
 content_or_end Absent = Err NoFile
 content_or_end (TooLongFound len) = Err (TooLong len)
 
--- what a path holds is read whole, or ends the run
+-- the file at a path is read whole, or ends the run
 unfoldable pub file_or_end : Option (List ℕ) → Result (List ℕ) End
 file_or_end held = content_or_end (found_of MAX_FILE_BYTES held)
 

@@ -1,9 +1,9 @@
--- What a program says of how it ended: its status and a line.
+-- The report of a program on its end: its status and a line.
 use Rattle.std.specs.Prelude.{◌≡◌, ◌⊎◌, ℕ, ◌≤◌, List, [], ◌++◌, length, take, codes, decimal, Option, Result, MatchResult}
-use Rattle.fm_doors.specs.World.{WorldShown}
-use Rattle.fm_world.specs.Cause.{one_more}
-use Rattle.fm_world.specs.Shown.{SinkShown}
-use Rattle.fm_world.specs.Sink.{after_append}
+use Rattle.dev_traits.specs.World.{WorldShown}
+use Rattle.dev_traits.specs.Cause.{one_more}
+use Rattle.dev_traits.specs.Shown.{SinkShown}
+use Rattle.dev_traits.specs.Sink.{after_append}
 use Rattle.srv_run.specs.declared.end.End.{End}
 use Rattle.srv_run.specs.declared.end.End.TheVariants.{Done, BadWords, Refused, NoMemory, FileFault, SinkFault, LinkFault, DoorFault, InboxFault, NoFile, TooLong, InputEnded}
 

@@ -1,7 +1,7 @@
--- What a run of the program says of its words, its world and its status.
+-- A run of the program, by its words, its world and its status.
 use Rattle.std.specs.Prelude.{◌≡◌, ◌⊎◌, ◌<◌, ◌≤◌, ℕ, List, [], length, slice_get, ⊤, Option, Some, None, IsSomeAnd, Result, Ok, Err}
-use Rattle.fm_world.specs.Cause.{one_more}
-use Rattle.fm_doors.specs.World.{WorldShown}
+use Rattle.dev_traits.specs.Cause.{one_more}
+use Rattle.dev_traits.specs.World.{WorldShown}
 use Rattle.srv_words.specs.declared.job.Job.{Job}
 use Rattle.srv_words.specs.declared.job.Job.TheVariants.{Once, Check, Load, Serve}
 use Rattle.srv_run.specs.declared.end.End.{End}
@@ -92,7 +92,7 @@ BlamesInbox show number stage stage' =
     ((stage'.opener.faults ≡ one_more stage.opener.faults) × (length stage'.devices.inboxes ≡ number))
     ⊎ HasFailed (λ inbox. (show.inbox inbox).faults) stage'.devices.inboxes number
 
--- What a reader looks for first: when the words are refused, and which device a status blames. Memory may run out
+-- Summary: when the words are refused, and which device a status blames. Memory may run out
 -- before the words are read.
 pub record Blames {D I C L : Type 0} (show : Shows D I C L) (job : Option Job) (status : ℕ) (stage stage' : Stage D I C)
     : Type 0 where

@@ -1,8 +1,8 @@
--- What a run of `serve` does: it reads a prototype, opens doors, inboxes and a clock, has workers run over all of them
--- at once, and says what they did together.
+-- A run of `serve`: it reads a prototype, opens doors, inboxes and a clock, has workers run over all of them at once,
+-- and reports on them.
 use Rattle.std.specs.Prelude.{◌≡◌, ◌⊎◌, []}
 use Rattle.fm_model.specs.declared.proto.Proto.{Proto}
-use Rattle.fm_doors.specs.Opener.{OpenerShown}
+use Rattle.dev_traits.specs.Opener.{OpenerShown}
 use Rattle.srv_words.specs.declared.job.Serving.{Serving}
 use Rattle.srv_workers.specs.declared.outcome.Devices.{Devices}
 use Rattle.srv_workers.specs.declared.outcome.Outcome.{Outcome}
@@ -49,8 +49,9 @@ pub record HasServed {D I C L : Type 0} (show : Shows D I C L) (serving : Servin
   pub ends : EndsServing outcome (first_end outcome) end stage.outside.sink stage'.outside.sink
 
 -- A run that has its prototype went on so.
-abbrev pub Serves : {D I C L : Type 0} → Shows D I C L → Serving → Proto → Stage D I C → Stage D I C → End → Type 0
-Serves show serving proto stage stage' end =
+abbrev pub ServesDevices : {D I C L : Type 0} → Shows D I C L → Serving → Proto → Stage D I C → Stage D I C → End
+    → Type 0
+ServesDevices show serving proto stage stage' end =
     EndsUnserved show serving stage stage' end ⊎ HasServed show serving proto stage stage' end
 
 -- The prototype was read, and the run went on with it.
@@ -59,7 +60,7 @@ pub record GoesOn {D I C L : Type 0} (show : Shows D I C L) (serving : Serving) 
   pub proto : Proto
   pub reads : Opens serving.site serving.proto stage.outside.files proto
   pub files : stage'.outside.files ≡ stage.outside.files
-  pub serves : Serves show serving proto stage stage' end
+  pub serves : ServesDevices show serving proto stage stage' end
 
 -- A run of `serve` ended so; the link of the outside wasn't used.
 pub record RunsServe {D I C L : Type 0} (show : Shows D I C L) (serving : Serving) (end : End)

@@ -1,12 +1,12 @@
 -- All that a run of `serve` works with: the outside of the run, and the devices that it opens.
 use Rattle.std.specs.Prelude.{Option}
-use Rattle.fm_world.specs.Shown.{FilesShown, LinkShown, SinkShown}
-use Rattle.fm_doors.specs.declared.world.World.{World}
-use Rattle.fm_doors.specs.Clock.{Moments}
-use Rattle.fm_doors.specs.Door.{DoorShown}
-use Rattle.fm_doors.specs.Inbox.{InboxShown}
-use Rattle.fm_doors.specs.Opener.{OpenerShown}
-use Rattle.fm_doors.specs.World.{WorldShown, world_shown}
+use Rattle.dev_traits.specs.Shown.{FilesShown, LinkShown, SinkShown}
+use Rattle.dev_traits.specs.declared.world.World.{World}
+use Rattle.dev_traits.specs.Clock.{Moments}
+use Rattle.dev_traits.specs.Door.{DoorShown}
+use Rattle.dev_traits.specs.Inbox.{InboxShown}
+use Rattle.dev_traits.specs.Opener.{OpenerShown}
+use Rattle.dev_traits.specs.World.{WorldShown, world_shown}
 use Rattle.srv_workers.specs.declared.outcome.Devices.{Devices}
 
 -- what doors, their links, inboxes and clocks show

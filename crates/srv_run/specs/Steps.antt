@@ -1,7 +1,7 @@
 -- The steps of `once`, and how each takes a run on or ends it.
 use Rattle.std.specs.Prelude.{◌≡◌, ◌⊎◌, ℕ, ◌<◌, List, [], ◌∷◌, length, true}
-use Rattle.fm_world.specs.Shown.{FilesShown, LinkShown}
-use Rattle.pub_plain.specs.History.{History}
+use Rattle.dev_traits.specs.Shown.{FilesShown, LinkShown}
+use Rattle.pub_look.specs.History.{History}
 use Rattle.web_session.specs.declared.action.End.{End as LinkEnd}
 use Rattle.web_session.specs.declared.action.End.TheVariants as ends
 use Rattle.web_session.specs.declared.phase.Phase.TheVariants.{Ended}
@@ -10,14 +10,14 @@ use Rattle.dap_reply.specs.Served.{IsAtRest}
 use Rattle.dap_reply.specs.declared.served.Mark.{Mark}
 use Rattle.dap_reply.specs.declared.served.Stop.{Stop}
 use Rattle.dap_reply.specs.declared.served.Stop.TheVariants as stops
-use Rattle.srv_conn.specs.Serves.{Moment, Serves}
+use Rattle.srv_conn.specs.Serves.{Moment, moment_of, Serves}
 use Rattle.srv_words.specs.declared.job.Step.{Step}
 use Rattle.srv_words.specs.declared.job.Step.TheVariants.{Put, Expire, Retract, Ask}
 use Rattle.srv_run.specs.declared.end.End.{End}
 use Rattle.srv_run.specs.declared.end.End.TheVariants.{Done, NoMemory, LinkFault, InputEnded}
 use Rattle.srv_run.specs.Publishing.{EndsPut, expired, Puts, retracted}
 
--- a connection and what it is served from: what the link shows, what was published and looked at, and the session
+-- a connection and its collection: the link as it shows, the operations published and looked at, and the session
 pub record Line : Type 0 where
   pub link : LinkShown
   pub history : History
@@ -36,27 +36,21 @@ RestsUnlessEnded session = IsAtRest session ⊎ HasEnded session
 
 -- a connection as a call that serves the link sees it
 abbrev pub seen_as : Line → List Mark → Moment
-seen_as at trail = record {
-  link = at.link;
-  seen = at.history.seen;
-  looks = at.history.looks;
-  session = at.session;
-  trail = trail;
-}
+seen_as at trail = moment_of at.link at.history.seen at.history.looks at.session trail
 
 -- The link was served, by looks at the collection as it is.
 pub record Asks (count : ℕ) (before after : Line) (stop : Stop) (trail : List Mark) : Type 0 where
   pub serves : Serves before.history.proto true (seen_as before []) (seen_as after trail) count stop
   pub proto_is : after.history.proto ≡ before.history.proto
 
--- how a run ends whose link stopped so before all replies were written
+-- the end of a run whose link stopped so before all replies were written
 abbrev pub end_of_stop : Stop → End
 end_of_stop (stops.Ended ends.LinkFault) = LinkFault
 end_of_stop (stops.Ended ends.NoMemory) = NoMemory
 end_of_stop stop = InputEnded
 
 -- The replies that were asked for were written whole; the link goes on, or it ended after the last of them.
-pub record Answers (count : ℕ) (before after : Line) : Type 0 where
+pub record AnswersAsk (count : ℕ) (before after : Line) : Type 0 where
   pub stop : Stop
   pub trail : List Mark
   pub asks : Asks count before after stop trail
@@ -104,7 +98,7 @@ IsDone (Put path) before after =
     Puts path before.files after.files before.at.history after.at.history × LeavesLink before.at after.at
 IsDone (Expire cutoff) before after = after ≡ with_history before (expired cutoff before.at.history)
 IsDone (Retract name) before after = after ≡ with_history before (retracted name before.at.history)
-IsDone (Ask count) before after = Answers count before.at after.at × (after.files ≡ before.files)
+IsDone (Ask count) before after = AnswersAsk count before.at after.at × (after.files ≡ before.files)
 
 -- A step isn't done, and the run ends so.
 abbrev pub EndsAt : Step → Progress → Progress → End → Type 0

@@ -3,11 +3,11 @@ use Rattle.std.specs.Prelude.{◌≡◌, ℕ, ◌+◌, ◌-◌, ◌<◌, ◌≤�
 use Rattle.fm_base.specs.Chain.{◌>>=◌}
 use Rattle.fm_model.specs.declared.proto.Proto.{Proto}
 use Rattle.fm_model.specs.declared.site.Site.{Site}
-use Rattle.fm_world.specs.Cause.{one_more}
-use Rattle.fm_world.specs.Link.{Wire}
-use Rattle.fm_doors.specs.World.{WorldShown}
-use Rattle.fm_world.specs.Shown.{Shown}
-use Rattle.pub_plain.specs.History.{History}
+use Rattle.dev_traits.specs.Cause.{one_more}
+use Rattle.dev_traits.specs.Link.{Wire}
+use Rattle.dev_traits.specs.World.{WorldShown}
+use Rattle.dev_traits.specs.Shown.{Shown}
+use Rattle.pub_look.specs.History.{History}
 use Rattle.web_frame.specs.Items.{heads_of, Item}
 use Rattle.dap_reply.specs.Reply.{is_last}
 use Rattle.srv_words.specs.declared.job.Step.{Step}
@@ -27,8 +27,8 @@ AreTaken held history (Ask count ∷ steps) = AreTaken held history steps
 
 -- a connection goes on after each of the first requests of an input
 abbrev pub GoesOnAfter : List ℕ → ℕ → Type 0
-GoesOnAfter input count = (place : ℕ) (item : Item) → place < count → slice_get (heads_of input).items place ≡ Some item
-    → is_last item (place + 1) ≡ false
+GoesOnAfter input count = (index : ℕ) (item : Item) → index < count → slice_get (heads_of input).items index ≡ Some item
+    → is_last item (index + 1) ≡ false
 
 -- an input has `count` requests after the first `before`; the connection goes on after those, and after each of these
 -- but the last

@@ -1,4 +1,4 @@
--- Well-formed use of `serve`, and what a run of it leaves that ends well.
+-- Well-formed use of `serve`, and the devices after a run that ends well.
 use Rattle.std.specs.Prelude.{◌≡◌, ℕ, List, [], All, Option, Some, Ok, IfSome}
 use Rattle.fm_base.specs.Chain.{◌>>=◌}
 use Rattle.fm_model.specs.declared.proto.Proto.{Proto}

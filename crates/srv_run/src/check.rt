@@ -1,6 +1,6 @@
 //! The command that checks one file.
 ghost use Rattle.std.specs.Prelude.{◌≡◌, IfErr, IfSome};
-ghost use Rattle.fm_world.specs.Cause.{HasCause};
+ghost use Rattle.dev_traits.specs.Cause.{HasCause};
 ghost use Rattle.srv_run.specs.Check as spec;
 ghost use Rattle.srv_run.specs.Report.{Appends};
 ghost use Rattle.srv_run.specs.Reading.{BlamesFiles, Gives, IsEndAtBytes, IsEndAtFile};
@@ -8,26 +8,21 @@ ghost use Rattle.srv_run.specs.Reading.{BlamesFiles, Gives, IsEndAtBytes, IsEndA
 use crate::end::End;
 use crate::reading::content_of;
 use crate::report::{put_pieces, report};
-use fm_base::{Bytes, Fail, Header};
-use fm_world::{Failed, Files, Sink};
+use dev_traits::{Failed, Files, Sink};
+use fm_base::{Bytes, Fail};
+use fm_file::read_sound;
 use itoa::Buffer;
-use nc_header::read_header;
-use nc_layout::lay_out;
+use nc_model::Header;
 use std::alloc::Global;
 
 // The header of a file that has no fault.
-#[tactic(auto, using(nc_layout::proofs::ReadLemmas::headers_read), unfolding(crate::specs::Check::sound_or_refusal, fm_base::specs::Sound::sound_header))]
+#[tactic(auto, unfolding(crate::specs::Check::sound_or_refusal))]
 fn sound_header(alloc: Global, bytes: &[u8]) -> Result<Header, End>
     ensures sound { Gives (λ header. header) result (spec.sound_or_refusal bytes.now) }
     ensures calm { IfErr result IsEndAtBytes }
 {
-    let header = match read_header(alloc, bytes) {
-        Ok(header) => header,
-        Err(Fail::NoMemory) => return Err(End::NoMemory),
-        Err(Fail::Fault(fault)) => return Err(End::Refused(fault.code())),
-    };
-    match lay_out(alloc, header, bytes.len() as u64) {
-        Ok(layout) => Ok(layout.into_header()),
+    match read_sound(alloc, bytes) {
+        Ok(file) => Ok(file.into_header()),
         Err(Fail::NoMemory) => Err(End::NoMemory),
         Err(Fail::Fault(fault)) => Err(End::Refused(fault.code())),
     }

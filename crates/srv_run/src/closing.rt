@@ -1,16 +1,16 @@
-//! How a run of `serve` ends for what its workers tell, and its line.
+//! The end of a run of `serve` by its workers' reports, and its line.
 ghost use Rattle.std.specs.Prelude.{◌≡◌, ◌<◌, ◌^◌, ◌++◌, length, sum_by};
 ghost use Rattle.srv_workers.specs.Runs.{told_of};
-ghost use Rattle.fm_world.specs.Cause.{HasCause};
+ghost use Rattle.dev_traits.specs.Cause.{HasCause};
 ghost use Rattle.srv_run.specs.Closing as spec;
 ghost use Rattle.srv_run.specs.Report.{Appends};
 
 use crate::end::End;
 use crate::report::{put_pieces, report};
+use dev_traits::{Failed, Sink};
 use fm_model::Tally;
-use fm_world::{Failed, Sink};
 use itoa::Buffer;
-use srv_door::{DoorEnd, DoorReport};
+use srv_conn::{DoorEnd, DoorReport};
 use srv_ingest::{ExpireReport, IngestEnd, IngestReport};
 use srv_workers::Outcome;
 
@@ -110,7 +110,7 @@ fn published(reports: &[IngestReport]) -> u64
     sum
 }
 
-// How many files were taken back.
+// The number of files that were taken back.
 #[tactic(auto, using(crate::proofs::ClosingLemmas::sums))]
 fn retracted(reports: &[IngestReport]) -> u64
     requires { sum_by (λ (report : _). report.retracted) reports.now < 2 ^ 64 }
@@ -123,7 +123,7 @@ fn retracted(reports: &[IngestReport]) -> u64
     sum
 }
 
-// How many times runs went.
+// The number of times that runs went.
 #[tactic(auto, using(crate::proofs::ClosingLemmas::sums))]
 fn expired(reports: &[ExpireReport]) -> u64
     requires { sum_by (λ (report : _). report.expired) reports.now < 2 ^ 64 }
@@ -136,7 +136,7 @@ fn expired(reports: &[ExpireReport]) -> u64
     sum
 }
 
-// Writes how many files came, were taken back, and how many times runs went. It takes no memory.
+// Writes the numbers of files that came and were taken back, and of times that runs went. It takes no memory.
 #[tactic(auto, unfolding(crate::specs::Closing::changes_text, crate::specs::Load::field))]
 fn put_changes<S: Sink>(
     sink: &mut S,
@@ -164,8 +164,8 @@ fn put_changes<S: Sink>(
     )
 }
 
-// Writes how many files and times are held at the end, how many operations were published, and the end of the line. It
-// takes no memory.
+// Writes the numbers of files and times held at the end and of operations published, and the end of the line. It takes
+// no memory.
 #[tactic(auto, unfolding(crate::specs::Closing::left_text, crate::specs::Load::field))]
 fn put_left<S: Sink>(sink: &mut S, tally: Tally, revision: u64) -> Result<(), Failed>
     ensures put { Appends (spec.left_text tally revision) (S.shown sink.old).held (S.shown sink.new).held result }
@@ -188,7 +188,7 @@ fn put_left<S: Sink>(sink: &mut S, tally: Tally, revision: u64) -> Result<(), Fa
     )
 }
 
-// Writes all of these. It takes no memory.
+// Writes the counts of a run and the end of the line. It takes no memory.
 #[tactic(auto, using(crate::proofs::PieceLemmas::texts))]
 fn put_counts<S: Sink>(
     sink: &mut S,

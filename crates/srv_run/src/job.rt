@@ -1,6 +1,6 @@
-//! Jobs: what the words ask for, and how each is done.
+//! Jobs: the work that the words ask for.
 ghost use Rattle.std.specs.Prelude.{◌≡◌, ◌<◌, ◌≤◌, [], IfOk, Option, Some};
-ghost use Rattle.fm_doors.specs.World.{world_shown};
+ghost use Rattle.dev_traits.specs.World.{world_shown};
 ghost use Rattle.srv_words.specs.declared.job.Job.{Job as Work};
 ghost use Rattle.srv_words.specs.Jobs.{IsJob, job_of};
 ghost use Rattle.srv_run.specs.Run as spec;
@@ -12,9 +12,8 @@ use crate::load::load;
 use crate::once::once;
 use crate::report::say;
 use crate::serve::serve;
+use dev_traits::{Door, Files, Gate, Link, Opener, Sink, World};
 use fm_base::{Bytes, Fail, List};
-use fm_doors::{Door, Gate, Opener, World};
-use fm_world::{Files, Link, Sink};
 use srv_words::{Job, read_job};
 use std::alloc::Global;
 use std::marker::{Send, Sync};
@@ -93,7 +92,7 @@ where
     }
 }
 
-// The job that the words are, or how a run ends without one.
+// The job of the words, or the end of a run without one.
 pub(crate) fn job_or_end(alloc: Global, words: &List<Bytes>) -> Result<Job, End>
     ensures job { spec.IsJobOrEnd (job_of words.now) result }
     ensures sound { IfOk result IsJob }
@@ -160,7 +159,7 @@ pub(crate) fn serve_or_end(alloc: Global, words: &List<Bytes>) -> Result<Job, En
     }
 }
 
-// Does the job that was found, which waits for nobody, or says why there is none, and returns the status of the program.
+// Does the job that was found, which waits for nobody, or says why there is none. Returns the status of the program.
 pub(crate) fn do_found_alone<O: Opener, F: Files, L: Link, S: Sink, G: Gate>(
     alloc: Global,
     found: Result<Job, End>,
@@ -180,7 +179,7 @@ pub(crate) fn do_found_alone<O: Opener, F: Files, L: Link, S: Sink, G: Gate>(
     end.status()
 }
 
-// Does the job that was found, or says why there is none, and returns the status of the program.
+// Does the job that was found, or says why there is none. Returns the status of the program.
 pub(crate) fn do_found<
     R: Threads + Wait + Sync,
     O: Opener,

@@ -1,7 +1,7 @@
 //! What a reader believes of runs, each as the contract of a call that does nothing.
 ghost use Rattle.std.specs.Prelude.{◌≡◌, ◌⊎◌, ℕ, List, Some};
 ghost use Rattle.fm_model.specs.declared.site.Site.{Site};
-ghost use Rattle.fm_doors.specs.World.{WorldShown};
+ghost use Rattle.dev_traits.specs.World.{WorldShown};
 ghost use Rattle.srv_words.specs.declared.job.Job.TheVariants.{Once, Serve};
 ghost use Rattle.srv_words.specs.declared.job.Serving.{Serving};
 ghost use Rattle.srv_words.specs.declared.job.Step.{Step};
@@ -26,9 +26,9 @@ pub fn well_formed_use_of_once_succeeds<D, I, C, L>()
         → IsWellUsed site path steps before.outside after.outside → (status ≡ 0) ⊎ (status ≡ 4) }
 {}
 
-/// Well-formed use of `serve` succeeds, unless memory runs out: where the prototype is there and is one, and no call of
-/// the files, the opener, a door, an inbox or the sink failed, every worker ended well and the line was written, and the
-/// status is 0, or 4.
+/// Well-formed use of `serve` succeeds, unless memory runs out: where the prototype is there and is one, and no call
+/// of the files, the opener, a door, an inbox or the sink failed, every worker ended well and the line was written,
+/// and the status is 0, or 4.
 pub fn well_formed_use_of_serve_succeeds<D, I, C, L>()
     ensures end { (show : Shows D I C L) (serving : Serving) (end : End) (before after : Stage D I C)
         → RunsServe show serving end before after → IsWellServed show serving before after

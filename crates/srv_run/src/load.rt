@@ -5,8 +5,8 @@ ghost use Rattle.srv_run.specs.Load as spec;
 
 use crate::end::End;
 use crate::report::report;
+use dev_traits::Sink;
 use fm_base::{Bytes, NoMemory};
-use fm_world::Sink;
 use itoa::Buffer;
 use srv_load::{Summary, summarize};
 use std::alloc::Global;

@@ -1,7 +1,7 @@
 //! The command that does steps on a collection, and serves it on one connection.
 ghost use Rattle.std.specs.Prelude.{◌≡◌, ◌≤◌, ◌⊎◌, IfErr, IfOk, OnOk, length};
 ghost use Rattle.fm_model.specs.Site.{IsPrototype, IsSite};
-ghost use Rattle.fm_doors.specs.World.{world_shown};
+ghost use Rattle.dev_traits.specs.World.{world_shown};
 ghost use Rattle.web_session.specs.State.{fresh};
 ghost use Rattle.srv_run.specs.Once as spec;
 ghost use Rattle.srv_run.specs.Steps.{Does, path_of, progress, RestsUnlessEnded};
@@ -10,11 +10,10 @@ use crate::end::End;
 use crate::reading::{content_of, proto_of};
 use crate::report::report;
 use crate::service::Service;
+use dev_traits::{Files, Gate, Link, Opener, Sink, World};
 use fm_base::{Arc, NoMemory};
-use fm_doors::{Gate, Opener, World};
 use fm_model::{Proto, Site};
-use fm_world::{Files, Link, Sink};
-use pub_plain::Plain;
+use pub_look::Plain;
 use srv_words::Step;
 use std::alloc::Global;
 use web_session::Session;

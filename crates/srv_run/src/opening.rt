@@ -1,21 +1,20 @@
 //! Opens the doors, the inboxes and the clock of a server.
 ghost use Rattle.std.specs.Prelude.{◌≡◌, ◌<◌, [], length, IfErr, OnErr, OnOk};
-ghost use Rattle.fm_world.specs.Cause.{HasReadCause};
+ghost use Rattle.dev_traits.specs.Cause.{HasReadCause};
 ghost use Rattle.srv_words.specs.Serve.{IsServing};
 ghost use Rattle.srv_run.specs.Devices as devices;
 ghost use Rattle.srv_run.specs.Opening as spec;
 ghost use Rattle.srv_run.specs.Stage.{shows};
 
 use crate::end::End;
+use dev_traits::{Failed, Opener};
 use fm_base::{Bytes, Fail, List, NoMemory};
-use fm_doors::Opener;
-use fm_world::Failed;
 use srv_words::Serving;
 use srv_workers::Devices;
 use std::alloc::Global;
 
-// Opens so many doors at an address for so many links each. Room for all is made first, so that each that was opened stands
-// in the list, also where a further one isn't opened.
+// Opens `count` doors at an address for `connections` links each. Room for all is made first, so each opened door
+// stands in the list, also where a further one isn't opened.
 #[tactic(auto, using(crate::proofs::OpeningLemmas::doors))]
 pub(crate) fn open_doors<O: Opener>(
     alloc: Global,
@@ -84,7 +83,7 @@ fn open_clock<O: Opener>(
     Ok(())
 }
 
-// How opening ends where a call failed, or memory ran out.
+// The end of opening where a call failed, or memory ran out.
 fn end_of(fail: Fail<Failed>, end: End) -> End
     ensures { result ≡ spec.end_of fail end }
 {
@@ -94,7 +93,7 @@ fn end_of(fail: Fail<Failed>, end: End) -> End
     }
 }
 
-// Opens all devices of a server. Where that stops short, those that were opened stand in their lists.
+// Opens all devices of a server. Where that stops short, the opened ones stand in their lists.
 #[tactic(auto, using(crate::proofs::StageLemmas::stages))]
 pub(crate) fn open_devices<O: Opener>(
     alloc: Global,

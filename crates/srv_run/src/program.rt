@@ -9,9 +9,8 @@ use crate::end::End;
 use crate::job::{
     check_or_end, do_found, do_found_alone, job_or_end, load_or_end, once_or_end, serve_or_end,
 };
+use dev_traits::{Door, Files, Gate, Link, Opener, Sink, World};
 use fm_base::{Bytes, List};
-use fm_doors::{Door, Gate, Opener, World};
-use fm_world::{Files, Link, Sink};
 use srv_words::usage_of;
 use std::alloc::Global;
 use std::marker::{Send, Sync};
@@ -19,9 +18,9 @@ use std::process::ExitCode;
 use std::sync::Wait;
 use std::thread::Threads;
 
-/// Runs `once --name NAME --proto PROTO [--epoch INSTANT] [--mark MARK] STEP..`: reads the prototype PROTO, and does the
-/// steps in their order on an empty collection over it and one connection over the link. Returns the status of the
-/// program.
+/// Runs `once --name NAME --proto PROTO [--epoch INSTANT] [--mark MARK] STEP..`: reads the prototype PROTO, and does
+/// the steps in their order on an empty collection over it and one connection over the link. Returns the status of
+/// the program.
 ///
 /// | Step | What it does |
 /// |---|---|
@@ -34,7 +33,7 @@ use std::thread::Threads;
 /// |---|---|---|
 /// | 0 | none | every step was done |
 /// | 2 | `bad words` | exactly where the words aren't the command |
-/// | 3 | `refused PATH code C` | exactly where the prototype or a file is refused; C is the number of its first fault, and 61 where the collection has no room |
+/// | 3 | `refused PATH code C` | exactly where a file is refused: C is its first fault, 61 where there is no room |
 /// | 4 | `no memory` | at any time |
 /// | 5 | `file fault PATH` | only where a call of the files failed |
 /// | 9 | `link fault` | only where a call of the link failed |
@@ -100,9 +99,10 @@ pub fn run_check<O: Opener, F: Files, L: Link, S: Sink, G: Gate>(
 /// | 4 | `no memory` | at any time |
 /// | 7 | the first bytes of the line of 0 | only where a call of the sink failed |
 ///
-/// F and R are the files and the times that the collection holds; B, U, O and C the rows of the best time series, of the
-/// dataset of the first run, of the offset 0, and of the forecast at the last run; S is the sum of the bytes of their data
-/// modulo 2^32. A line of another status that can't be written changes no status. No file is read, nor is the link used.
+/// F and R are the files and the times that the collection holds; B, U, O and C the rows of the best time series, of
+/// the dataset of the first run, of the offset 0, and of the forecast at the last run; S is the sum of the bytes of
+/// their data modulo 2^32. A line of another status that can't be written changes no status. No file is read, nor is
+/// the link used.
 #[tactic(auto, using(crate::proofs::BlameLemmas::runs))]
 pub fn run_load<O: Opener, F: Files, L: Link, S: Sink, G: Gate>(
     alloc: Global,
@@ -120,16 +120,16 @@ pub fn run_load<O: Opener, F: Files, L: Link, S: Sink, G: Gate>(
     do_found_alone(alloc, found, world)
 }
 
-/// Runs `serve --name NAME --proto PROTO --listen ADDRESS [--workers K] [--connections C] [--keep SECONDS] [--ticks T]
-/// [--epoch INSTANT] [--mark MARK] INBOX..`: reads the prototype PROTO, opens K doors at the address, an inbox for each
-/// INBOX, and with `--keep` a clock, and has a worker for each of them, all at once: links that come through the doors are
-/// served from the collection, files that arrive in the inboxes come to it or are taken back from it, and at each moment of
-/// the clock the runs go that are older than SECONDS. Once all workers have ended it says what they did. It waits for all
-/// of them. Returns the status of the program.
+/// Runs `serve --name NAME --proto PROTO --listen ADDRESS [--workers K] [--connections C] [--keep SECONDS] [--ticks
+/// T] [--epoch INSTANT] [--mark MARK] INBOX..`: reads the prototype PROTO, opens K doors at the address, an inbox for
+/// each INBOX, and with `--keep` a clock, and has a worker for each of them, all at once: links that come through the
+/// doors are served from the collection, files that arrive in the inboxes come to it or are taken back from it, and
+/// at each moment of the clock the runs go that are older than SECONDS. Once all workers have ended it says what they
+/// did. It waits for all of them. Returns the status of the program.
 ///
 /// | Status | Line | Comes |
 /// |---|---|---|
-/// | 0 | `published P retracted T expired E held F rows R revision V` | every door closed, nothing arrives any more, the clock has ended, and the line was written |
+/// | 0 | `published P retracted T expired E held F rows R revision V` | all ended well, and the line was written |
 /// | 2 | `bad words` | exactly where the words aren't the command |
 /// | 3 | `refused PROTO code C` | exactly where the prototype is refused; C is the number of its first fault |
 /// | 4 | `no memory` | at any time |
@@ -137,12 +137,12 @@ pub fn run_load<O: Opener, F: Files, L: Link, S: Sink, G: Gate>(
 /// | 6 | `door fault I` | only where door I, from 0, couldn't be opened, or one of its calls failed |
 /// | 7 | the first bytes of the line of 0 | only where a call of the sink failed |
 /// | 8 | `inbox fault I` | only where inbox I, from 0, couldn't be opened, or one of its calls failed |
-/// | 10 | `no file PROTO`, `too long PROTO LEN` | exactly where the path has no file, or one of over 536,870,912 bytes |
+/// | 10 | `no file PROTO`, `too long PROTO LEN` | exactly where PROTO is no file, or has over 536,870,912 bytes |
 ///
-/// P, T and E are the files that came, those that were taken back, and the times that runs went; F and R the files and
-/// times that the collection holds at the end, and V the operations that were published, P + T + E of them. The first
-/// worker that didn't end well gives the status: doors come before inboxes, and these before the clock. A line of another
-/// status that can't be written changes no status. The devices stand in the world as they were left.
+/// P, T and E are the files that came, those that were taken back, and the times that runs went; F and R the files
+/// and times that the collection holds at the end, and V the operations that were published, P + T + E of them. The
+/// first worker that didn't end well gives the status: doors come before inboxes, and these before the clock. A line
+/// of another status that can't be written changes no status. The devices stand in the world as they were left.
 #[tactic(auto, using(crate::proofs::BlameLemmas::runs))]
 pub fn run_serve<R: Threads + Wait + Sync, O: Opener, F: Files, L: Link, S: Sink, G: Gate + Sync>(
     rt: &R,
@@ -191,8 +191,8 @@ where
     do_found(rt, alloc, found, world)
 }
 
-// What a person is told after a run with this status: what is wrong with the words, where they are bad. No clause speaks of
-// the text.
+// What a person is told after a run with this status: what is wrong with the words, where they are bad. No clause
+// speaks of the text.
 fn told(alloc: Global, words: &List<Bytes>, status: u8) -> Option<String> {
     if status == End::BadWords.status() {
         usage_of(alloc, words).ok()
@@ -201,8 +201,8 @@ fn told(alloc: Global, words: &List<Bytes>, status: u8) -> Option<String> {
     }
 }
 
-/// As [`run`], for a process that ends with the status; and what a person is told beside the line where the words are bad:
-/// what `clap` says of them, with the usage. No clause speaks of that text.
+/// As [`run`], for a process that ends with the status; and what a person is told beside the line where the words are
+/// bad: what `clap` says of them, with the usage. No clause speaks of that text.
 pub fn run_process<R: Threads + Wait + Sync, O: Opener, F: Files, L: Link, S: Sink, G: Gate + Sync>(
     rt: &R,
     alloc: Global,

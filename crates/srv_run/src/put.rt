@@ -7,11 +7,11 @@ ghost use Rattle.srv_run.specs.Publishing.{EndsPut, published_or_end, put_or_end
 
 use crate::end::{End, NO_ROOM};
 use crate::reading::{content_of, file_name};
+use dev_traits::Files;
 use fm_base::{Arc, Bytes, Fail};
 use fm_load::load;
 use fm_model::{Loaded, MAX_FILE_BYTES, Op, Proto};
-use fm_world::Files;
-use pub_plain::Plain;
+use pub_look::Plain;
 use std::alloc::Global;
 
 // The file of the collection that the bytes at a path are.

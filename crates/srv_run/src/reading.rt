@@ -6,10 +6,10 @@ ghost use Rattle.srv_run.specs.Reading as spec;
 ghost use Rattle.srv_run.specs.Reading.{BlamesFiles, Gives, IsEndAtBytes, IsEndAtFile};
 
 use crate::end::End;
+use dev_traits::{Files, Found};
 use fm_base::{Bytes, Fail};
 use fm_model::{MAX_FILE_BYTES, Proto, Site};
 use fm_proto::read_proto;
-use fm_world::{Files, Found};
 use std::alloc::Global;
 
 // How many bytes of a path follow its last `/`.

@@ -1,14 +1,13 @@
 //! Reports how a run ended.
 ghost use Rattle.std.specs.Prelude.{◌≡◌, []};
 ghost use Rattle.std.specs.List.{flat_map};
-ghost use Rattle.fm_doors.specs.World.{world_shown};
-ghost use Rattle.fm_world.specs.Cause.{HasCause};
+ghost use Rattle.dev_traits.specs.World.{world_shown};
+ghost use Rattle.dev_traits.specs.Cause.{HasCause};
 ghost use Rattle.srv_run.specs.Report as spec;
 ghost use Rattle.srv_run.specs.Report.{Appends};
 
 use crate::end::End;
-use fm_doors::{Gate, Opener, World};
-use fm_world::{Failed, Files, Link, Sink};
+use dev_traits::{Failed, Files, Gate, Link, Opener, Sink, World};
 use itoa::Buffer;
 
 // Writes the slices one after the other.

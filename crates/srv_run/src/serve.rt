@@ -11,10 +11,9 @@ use crate::end::End;
 use crate::once::read_prototype;
 use crate::opening::open_devices;
 use crate::report::report;
+use dev_traits::{Door, Files, Gate, Link, Opener, Sink, World};
 use fm_base::{Arc, Bytes, List, NoMemory};
-use fm_doors::{Door, Gate, Opener, World};
 use fm_model::{Proto, Site};
-use fm_world::{Files, Link, Sink};
 use srv_words::Serving;
 use srv_workers::{Devices, Outcome, run_workers};
 use std::alloc::Global;
@@ -33,7 +32,7 @@ fn copy_of(alloc: Global, site: &Site) -> Result<Site, NoMemory>
     })
 }
 
-// Reads the prototype of what is served.
+// Reads the prototype of the served collection.
 fn read_shared<F: Files>(alloc: Global, files: &mut F, serving: &Serving) -> Result<Arc<Proto>, End>
     requires { IsSite serving.now.site }
     ensures opens { IfOk result (λ proto. Opens serving.now.site serving.now.proto (F.shown files.old) proto) }
@@ -76,7 +75,7 @@ where
     Ok(outcome)
 }
 
-// Serves over a prototype, and says how that ended.
+// Serves over a prototype, and returns the end.
 fn serve_over<R: Threads + Wait + Sync, O: Opener, F: Files, L: Link, S: Sink, G: Gate + Sync>(
     rt: &R,
     alloc: Global,
@@ -92,7 +91,7 @@ where
     requires serving { IsServing serving.now }
     requires proto { IsPrototype proto.now }
     ensures serves { let stage = stage_of O.shown F.shown L.shown S.shown in
-        spec.Serves (shows O.D.shown O.D.L.shown O.I.shown O.C.shown) serving.now proto.now
+        spec.ServesDevices (shows O.D.shown O.D.L.shown O.I.shown O.C.shown) serving.now proto.now
         (stage world.old) (stage world.new) result }
     ensures files { F.shown world.new.files ≡ F.shown world.old.files }
     ensures link { L.shown world.new.link ≡ L.shown world.old.link }

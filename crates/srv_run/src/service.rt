@@ -8,10 +8,10 @@ ghost use Rattle.srv_run.specs.Steps as spec;
 use crate::end::End;
 use crate::put::put;
 use dap_reply::Stop;
+use dev_traits::{Files, Link};
 use fm_base::{Arc, NoMemory};
 use fm_model::Proto;
-use fm_world::{Files, Link};
-use pub_plain::Plain;
+use pub_look::Plain;
 use srv_conn::serve_link;
 use srv_words::Step;
 use std::alloc::Global;
@@ -48,7 +48,7 @@ fn retract(alloc: Global, plain: &mut Plain, name: &[u8]) -> Result<(), End>
     Ok(())
 }
 
-// How a run ends whose link stopped so before all replies were written.
+// The end of a run whose link stopped so before all replies were written.
 fn end_of_stop(stop: Stop) -> End
     ensures { result ≡ spec.end_of_stop stop }
 {
@@ -68,7 +68,7 @@ fn has_ended(session: &mut Session) -> bool
     matches!(session.on(Event::Start), Action::Close(_))
 }
 
-// How a step ends for which so many replies were begun of those that were asked for.
+// Ok if all `count` replies were begun, else the end of a run whose link stopped so.
 fn outcome_of(stop: Stop, begun: usize, count: u32) -> Result<(), End>
     requires { begun ≤ count }
     ensures whole { OnOk result (begun ≡ count) }
@@ -82,7 +82,7 @@ fn outcome_of(stop: Stop, begun: usize, count: u32) -> Result<(), End>
     }
 }
 
-// Replies to so many requests.
+// Replies to `count` requests.
 #[tactic(auto, using(crate::proofs::AskLemmas::asks))]
 fn ask<L: Link>(
     alloc: Global,
@@ -94,7 +94,7 @@ fn ask<L: Link>(
 ) -> Result<(), End>
     requires proto { plain.old.proto ≡ proto.now }
     requires stands { spec.RestsUnlessEnded session.old }
-    ensures done { OnOk result (spec.Answers count
+    ensures done { OnOk result (spec.AnswersAsk count
         (spec.line plain.old session.old (L.shown link.old)) (spec.line plain.new session.new (L.shown link.new))) }
     ensures ends { IfErr result (λ end. spec.EndsAsk count
         (spec.line plain.old session.old (L.shown link.old)) (spec.line plain.new session.new (L.shown link.new)) end) }

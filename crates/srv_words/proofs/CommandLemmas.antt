@@ -26,7 +26,7 @@ fmrcd_is_free = refl
 pub fmrcd_is_simple : is_simple fmrcd ≡ true
 fmrcd_is_simple = (and_parts (is_simple fmrcd) (is_free_app (built fmrcd)) fmrcd_is_free).0
 
--- what a command like it matches in words is what it matches
+-- a command like it has the same matches
 pub used_by : (a : App) (words : List Text) (r : Result ArgMatches Error) → a ≡ fmrcd → IfOk r (HasMatchesOf a words)
     → IfOk r (λ m. subcommand_rows_of m ≡ used words)
 unfolding used

@@ -1,9 +1,11 @@
 -- Each value of a job lies in its range.
 use Rattle.std.proofs.Common.{◌≡◌, ℕ, Bool, true, false, ◌&&◌, List, Option, Some, None, subst, arith, codes}
+use Rattle.std.proofs.lemmas.Option.{same_Some}
 use Rattle.std.specs.Prelude.{if◌then◌else◌}
 use Rattle.std.specs.List.{list_all}
 use Rattle.std.specs.Option.{option_and_then}
 use Rattle.std.specs.Str.{bytes_eq, is_utf8}
+use Rattle.fm_base.proofs.OptionLemmas.{mapped_some}
 use Rattle.clap.specs.Walk.{Row, Text, first_of}
 use Rattle.srv_words.specs.declared.job.Job.{Job}
 use Rattle.srv_words.specs.declared.job.Job.TheVariants.{Check, Load}
@@ -14,12 +16,12 @@ use Rattle.srv_words.specs.Reads.{◌>>=◌}
 use Rattle.srv_words.specs.Values.{number_in}
 use Rattle.srv_words.proofs.OnceLemmas.{once_of-some}
 use Rattle.srv_words.proofs.ServeLemmas.{serve_of-some}
-use Rattle.srv_words.proofs.SomeLemmas.{step_some, then_some, map_some, some_is, number_in-some}
+use Rattle.srv_words.proofs.SomeLemmas.{step_some, then_some, number_in-some}
 
 check_of-some : (rows : List Row) (job : Job) → check_of rows ≡ Some job → IsJob job
 unfolding check_of
 check_of-some rows job is =
-    let read = map_some Check (first_of (codes "FILE") rows) job is in
+    let read = mapped_some Check (first_of (codes "FILE") rows) job is in
     subst IsJob read.2 tt
 
 load_of-some : (rows : List Row) (job : Job) → load_of rows ≡ Some job → IsJob job
@@ -34,7 +36,7 @@ load_of-some rows job is =
     let second = then_some (number_in 1 MAX_MADE) (first_of (codes "FILES") rows) files.0 files.1 in
     let sound = number_in-some 0 MAX_SEED seed.0 first.0 first.2 in
     let few = number_in-some 1 MAX_MADE files.0 second.0 second.2 in
-    subst IsJob (some_is (Load seed.0 files.0) job files.2) (sound.2, omega (arith, few.0), few.1)
+    subst IsJob (same_Some (Load seed.0 files.0) job files.2) (sound.2, omega (arith, few.0), few.1)
 
 if_some : {A P : Type 0} (test : Bool) (first second : Option A) (x : A)
     → (if test then first else second) ≡ Some x → (first ≡ Some x → P) → (second ≡ Some x → P) → P
@@ -60,7 +62,7 @@ job_in-some name rows job is =
     (λ (others : last ≡ Some job). if_some is_serve (serve_of rows) None job others (serve_of-some rows job)
     (λ (never : None ≡ Some job). none_is job never))))
 
--- what words are a job, each of its values lies in its range
+-- each value of a job lies in its range
 pub IsJob_of : (words : List (List ℕ)) (job : Job) → job_of words ≡ Some job → IsJob job
 unfolding job_of
 IsJob_of words job is =

@@ -9,4 +9,3 @@ pub mod SiteLemmas
 pub mod SomeLemmas
 pub mod StepLemmas
 pub mod TextLemmas
-pub mod ValueLemmas

@@ -1,20 +1,15 @@
 -- A text is read as the number of 32 bits of which it is the decimal, and no other text is read as it.
-use Rattle.std.proofs.Common.{◌≡◌, ℕ, ◌<◌, ◌^◌, Bool, true, false, ◌&&◌, nat_lt, List, Option, Some, None, Ok, Err, Result, refl, sym, ap, subst, ◌∙◌, arith}
+use Rattle.std.proofs.Common.{◌≡◌, ℕ, ◌<◌, ◌^◌, Bool, true, false, ◌&&◌, nat_lt, List, Some, None, Ok, Err, Result, refl, sym, ap, subst, ◌∙◌, arith}
 use Rattle.std.proofs.lemmas.Bool.{ltb-true, lt-ltb}
 use Rattle.std.proofs.lemmas.Str.{IsUtf8-from_ascii}
-use Rattle.std.proofs.lemmas.Slice.Eq.{bytes_eq-Decides}
 use Rattle.srv_words.specs.Reads.{if_so}
 use Rattle.std.proofs.lemmas.Fmt.{IsAscii-decimal, parse-decimal, decimal_is_IsNumeral}
 use Rattle.std.specs.Fmt.{decimal}
 use Rattle.std.specs.Str.{IsAscii, IsUtf8, bytes_eq}
 use Rattle.std.specs.Str.Parse.{ParsesUnsigned, digits_value}
+use Rattle.fm_base.proofs.ListLemmas.{same_bytes, bytes_same}
+use Rattle.fm_base.proofs.OptionLemmas.{none_unless}
 use Rattle.srv_words.specs.Values.{decimal_of}
-
-same_bytes : (xs ys : List ℕ) → xs ≡ ys → bytes_eq xs ys ≡ true
-same_bytes xs ys is = (bytes_eq-Decides xs ys).1 is
-
-bytes_same : (xs ys : List ℕ) → bytes_eq xs ys ≡ true → xs ≡ ys
-bytes_same xs ys is = (bytes_eq-Decides xs ys).0 is
 
 -- what is there only where two tests pass
 pub both_pass : {A : Type 0} (a b : Bool) (x y : A) → if_so (a && b) x ≡ Some y
@@ -46,10 +41,6 @@ decimal_of-some text n is =
       subst (λ (k : ℕ). k < 2 ^ 32) there.2 (ltb-true m (2 ^ 32) there.1),
     )
 
-none_unless : {A : Type 0} (o : Option A) → ((x : A) → o ≡ Some x → ⊥) → None ≡ o
-none_unless None never = refl
-none_unless (Some x) never = absurd (never x refl)
-
 -- a text that is read parses as its number
 parses_if_read : {E : Type 0} (text : List ℕ) (n : ℕ) (r : Result ℕ E) → ParsesUnsigned 32 10 text r
     → decimal_of text ≡ Some n → r ≡ Ok n
@@ -57,7 +48,7 @@ parses_if_read text n r h is =
     let read = decimal_of-some text n is in
     parse-decimal 32 n text r read.1 (omega (arith, read.1)) read.0 h
 
--- what isn't UTF-8 is no number
+-- bytes that aren't UTF-8 are no number
 pub none_not_utf8 : (text : List ℕ) → ¬ IsUtf8 text → None ≡ decimal_of text
 none_not_utf8 text other =
     none_unless (decimal_of text) (λ (n : ℕ) is.

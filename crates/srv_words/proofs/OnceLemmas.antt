@@ -3,8 +3,10 @@ use Rattle.std.proofs.Common.{◌≡◌, ◌+◌, ◌<◌, ◌≤◌, ℕ, ℤ, 
 use Rattle.std.specs.Prelude.{nat_lt, ◌-ℤ◌}
 use Rattle.std.proofs.lemmas.Bool.{ltb-true}
 use Rattle.std.proofs.lemmas.List.Elements.{All-nil, All-push}
+use Rattle.std.proofs.lemmas.Option.{same_Some}
 use Rattle.std.specs.Option.{option_and_then}
-use Rattle.fm_base.specs.Instant.{instant_of}
+use Rattle.nc_model.specs.Instant.{instant_of}
+use Rattle.fm_base.proofs.OptionLemmas.{mapped_some}
 use Rattle.fm_model.specs.declared.site.Site.{Site}
 use Rattle.fm_model.specs.LoadTimes.{is_instant, IsInstant}
 use Rattle.fm_model.proofs.RunLemmas.{IsInstant-from_test}
@@ -18,7 +20,7 @@ use Rattle.srv_words.specs.Jobs.{IsJob, site_of, step_words_of, once_of}
 use Rattle.srv_words.specs.Reads.{◌>>=◌, if_so}
 use Rattle.srv_words.specs.Steps.{IsStep, asked_of, cutoff_of, step_of, steps_from, steps_of}
 use Rattle.srv_words.specs.Values.{from_epoch, if_instant, number_in, rest_of}
-use Rattle.srv_words.proofs.SomeLemmas.{step_some, then_some, map_some, or_some, so_some, some_is, number_in-some, rest_of-some}
+use Rattle.srv_words.proofs.SomeLemmas.{step_some, then_some, or_some, so_some, number_in-some, rest_of-some}
 use Rattle.srv_words.proofs.SiteLemmas.{site_of-some}
 
 cutoff_of-some : (epoch : ℤ) (word : List ℕ) (cutoff : ℤ) → cutoff_of epoch word ≡ Some cutoff → IsInstant cutoff
@@ -44,18 +46,18 @@ unfolding step_of
 step_of-some epoch word step is =
     or_some _ _ step is
     (λ first.
-    let read = map_some Put (rest_of (codes "put:") word) step first in
+    let read = mapped_some Put (rest_of (codes "put:") word) step first in
     subst IsStep read.2 (rest_of-some (codes "put:") word read.0 read.1))
     (λ others. or_some _ _ step others
     (λ first.
-    let read = map_some Expire (cutoff_of epoch word) step first in
+    let read = mapped_some Expire (cutoff_of epoch word) step first in
     subst IsStep read.2 (cutoff_of-some epoch word read.0 read.1))
     (λ others. or_some _ _ step others
     (λ first.
-    let read = map_some Retract (rest_of (codes "retract:") word) step first in
+    let read = mapped_some Retract (rest_of (codes "retract:") word) step first in
     subst IsStep read.2 (rest_of-some (codes "retract:") word read.0 read.1))
     (λ last.
-    let read = map_some Ask (asked_of word) step last in
+    let read = mapped_some Ask (asked_of word) step last in
     subst IsStep read.2 (asked_of-some word read.0 read.1))))
 
 -- all steps are sound, and there are as many as words
@@ -64,7 +66,7 @@ steps_from-some : (epoch : ℤ) (found : List Step) (words : List (List ℕ)) (s
     → All IsStep steps × (length found + length words ≡ length steps)
 unfolding steps_from
 steps_from-some epoch found [] steps is sound =
-    let same : found ≡ steps = some_is found steps is in
+    let same : found ≡ steps = same_Some found steps is in
     (subst (All IsStep) same sound, let long : length found ≡ length steps = ap length same in omega (arith, long))
 steps_from-some epoch found (word ∷ words) steps is sound =
     let read = step_some (step_of epoch word) (λ (step : Step). steps_from epoch (found ++ step ∷ []) words) steps is in
@@ -105,5 +107,5 @@ once_of-some rows job is =
     let sound = site_of-some rows site.0 site.1 in
     let some = step_words_of-some rows list.0 list.1 in
     let each = steps_of-some site.0.epoch list.0 steps.0 steps.1 in
-    subst IsJob (some_is (Once site.0 proto.0 steps.0) job steps.2)
+    subst IsJob (same_Some (Once site.0 proto.0 steps.0) job steps.2)
     (sound.0, sound.1, omega (arith, some, each.1), each.0)

@@ -1,6 +1,7 @@
 -- Each value of `serve` lies in its range.
 use Rattle.std.proofs.Common.{◌≡◌, ◌<◌, ◌≤◌, ◌^◌, ℕ, ◌&&◌, List, length, Option, Some, None, subst, arith, codes}
 use Rattle.std.proofs.lemmas.Bool.{and_parts, ltb-true}
+use Rattle.std.proofs.lemmas.Option.{same_Some}
 use Rattle.clap.specs.Walk.{Row, Text, all_of, first_of}
 use Rattle.srv_words.specs.declared.job.Job.{Job}
 use Rattle.srv_words.specs.declared.job.Job.TheVariants.{Serve}
@@ -11,7 +12,7 @@ use Rattle.srv_words.specs.declared.serve.Doors.{Doors}
 use Rattle.srv_words.specs.declared.serve.Ticking.{Ticking}
 use Rattle.srv_words.specs.declared.serve.TheConstants.{DEFAULT_WORKERS, MAX_COUNT, MAX_INBOXES, MAX_KEPT, MAX_WORKERS}
 use Rattle.srv_words.specs.Serve.{doors_of, inboxes_of, keep_of, number_or, serving_of, ticking_of}
-use Rattle.srv_words.proofs.SomeLemmas.{step_some, so_some, some_is, within, number_in-some}
+use Rattle.srv_words.proofs.SomeLemmas.{step_some, so_some, within, number_in-some}
 use Rattle.srv_words.proofs.SiteLemmas.{site_of-some}
 
 -- 1 to 2^30 - 1 seconds, or none
@@ -23,17 +24,17 @@ number_or-some : (default least most n : ℕ) (given : Option (List ℕ))
     → (least ≤ n) × (n ≤ most) × (n < 2 ^ 32)
 unfolding number_or
 number_or-some default least most n None range is =
-    subst (λ (k : ℕ). (least ≤ k) × (k ≤ most) × (k < 2 ^ 32)) (some_is default n is) range
+    subst (λ (k : ℕ). (least ≤ k) × (k ≤ most) × (k < 2 ^ 32)) (same_Some default n is) range
 number_or-some default least most n (Some text) range is = number_in-some least most n text is
 
 keep_of-some : (given : Option (List ℕ)) (keep : Option ℕ) → keep_of given ≡ Some keep → IsKept keep
 unfolding keep_of
-keep_of-some None keep is = subst IsKept (some_is None keep is) tt
+keep_of-some None keep is = subst IsKept (same_Some None keep is) tt
 keep_of-some (Some text) keep is =
     let read = step_some (number_in 1 MAX_KEPT text) (λ (n : ℕ). Some (Some n)) keep is in
     let range = number_in-some 1 MAX_KEPT read.0 text read.1 in
     let most : read.0 ≤ 1073741823 = range.1 in
-    subst IsKept (some_is (Some read.0) keep read.2) (omega (arith, range.0), omega (arith, most))
+    subst IsKept (same_Some (Some read.0) keep read.2) (omega (arith, range.0), omega (arith, most))
 
 doors_of-some : (rows : List Row) (doors : Doors) → doors_of rows ≡ Some doors
     → (0 < doors.workers) × (doors.workers ≤ MAX_WORKERS) × (doors.connections < 2 ^ 32)
@@ -48,7 +49,7 @@ doors_of-some rows doors is =
     let count = number_or-some 0 0 MAX_COUNT connections.0 (first_of (codes "connections") rows)
     (omega arith, omega arith, omega arith) connections.1 in
     subst (λ (d : Doors). (0 < d.workers) × (d.workers ≤ MAX_WORKERS) × (d.connections < 2 ^ 32))
-    (some_is (record { listen = listen.0; workers = workers.0; connections = connections.0 }) doors connections.2)
+    (same_Some (record { listen = listen.0; workers = workers.0; connections = connections.0 }) doors connections.2)
     (omega (arith, range.0), range.1, count.2)
 
 ticking_of-some : (rows : List Row) (ticking : Ticking) → ticking_of rows ≡ Some ticking
@@ -60,7 +61,7 @@ ticking_of-some rows ticking is =
     let count = number_or-some 0 0 MAX_COUNT ticks.0 (first_of (codes "ticks") rows)
     (omega arith, omega arith, omega arith) ticks.1 in
     subst (λ (t : Ticking). IsKept t.keep × (t.ticks < 2 ^ 32))
-    (some_is (record { keep = keep.0; ticks = ticks.0 }) ticking ticks.2)
+    (same_Some (record { keep = keep.0; ticks = ticks.0 }) ticking ticks.2)
     (keep_of-some (first_of (codes "keep") rows) keep.0 keep.1, count.2)
 
 inboxes_of-some : (rows : List Row) (words : List Text) → inboxes_of rows ≡ Some words
@@ -86,7 +87,7 @@ serve_of-some rows job is =
     let door = doors_of-some rows doors.0 doors.1 in
     let clock = ticking_of-some rows ticking.0 ticking.1 in
     let folders = inboxes_of-some rows inboxes.0 inboxes.1 in
-    subst IsJob (some_is (Serve (serving_of site.0 proto.0 doors.0 ticking.0 inboxes.0)) job inboxes.2) (record {
+    subst IsJob (same_Some (Serve (serving_of site.0 proto.0 doors.0 ticking.0 inboxes.0)) job inboxes.2) (record {
       site = sound.0;
       mark = sound.1;
       some_workers = door.0;

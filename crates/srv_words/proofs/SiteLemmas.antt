@@ -3,7 +3,9 @@ use Rattle.std.proofs.Common.{◌≡◌, ◌<◌, ◌≤◌, ◌≤ℤ◌, ℕ, 
 use Rattle.std.specs.Prelude.{int_le, nat_le, IsTrue}
 use Rattle.std.proofs.lemmas.Bool.{and_parts}
 use Rattle.std.proofs.lemmas.Int.{ints}
-use Rattle.fm_base.specs.Instant.{instant_of}
+use Rattle.std.proofs.lemmas.Option.{same_Some}
+use Rattle.nc_model.specs.Instant.{instant_of}
+use Rattle.fm_base.proofs.NumberLemmas.{at_most_from_test}
 use Rattle.fm_model.specs.declared.limit.TheConstants.{MAX_NAME}
 use Rattle.fm_model.specs.declared.site.Site.{Site}
 use Rattle.fm_model.specs.Prototype.{is_plain_name}
@@ -13,26 +15,26 @@ use Rattle.srv_words.specs.declared.values.TheConstants.{DEFAULT_EPOCH, FIRST_EP
 use Rattle.srv_words.specs.Jobs.{name_of, site_of}
 use Rattle.srv_words.specs.Reads.{◌>>=◌, if_so}
 use Rattle.srv_words.specs.Values.{epoch_at, epoch_of, is_collection_name, is_epoch, mark_of}
-use Rattle.srv_words.proofs.SomeLemmas.{step_some, then_some, so_some, some_is, at_most, within}
+use Rattle.srv_words.proofs.SomeLemmas.{step_some, then_some, so_some, within}
 
 epoch_of-some : (given : Option (List ℕ)) (epoch : ℤ) → epoch_of given ≡ Some epoch
     → (FIRST_EPOCH ≤ℤ epoch) × (epoch ≤ℤ LAST_EPOCH)
 unfolding epoch_of epoch_at is_epoch
 epoch_of-some None epoch is =
-    let same : DEFAULT_EPOCH ≡ epoch = some_is DEFAULT_EPOCH epoch is in
+    let same : DEFAULT_EPOCH ≡ epoch = same_Some DEFAULT_EPOCH epoch is in
     subst (λ (t : ℤ). (FIRST_EPOCH ≤ℤ t) × (t ≤ℤ LAST_EPOCH)) same (omega (arith, ints), omega (arith, ints))
 epoch_of-some (Some text) epoch is =
     let read = then_some epoch_at (instant_of text) epoch is in
     let there = so_some (is_epoch read.0) read.0 epoch read.2 in
     let parts = and_parts (int_le FIRST_EPOCH read.0) (int_le read.0 LAST_EPOCH) there.0 in
     subst (λ (t : ℤ). (FIRST_EPOCH ≤ℤ t) × (t ≤ℤ LAST_EPOCH)) there.1
-    (at_most FIRST_EPOCH read.0 parts.0, at_most read.0 LAST_EPOCH parts.1)
+    (at_most_from_test FIRST_EPOCH read.0 parts.0, at_most_from_test read.0 LAST_EPOCH parts.1)
 
 mark_of-some : (name mark : List ℕ) (given : Option (List ℕ)) → length name ≤ 64 → mark_of name given ≡ Some mark
     → length mark ≤ 65
 unfolding mark_of
 mark_of-some name mark None few is =
-    let long : length (name ++ codes "_") ≡ length mark = ap length (some_is (name ++ codes "_") mark is) in
+    let long : length (name ++ codes "_") ≡ length mark = ap length (same_Some (name ++ codes "_") mark is) in
     omega (arith, long, length-append name (codes "_"))
 mark_of-some name mark (Some given) few is =
     let there = so_some (nat_le (length given) MAX_MARK) given mark is in
@@ -70,7 +72,7 @@ site_of-some rows site is =
     Some (record { name = name.0; epoch = epoch; mark = mark })) site name.2 in
     let mark = step_some (mark_of name.0 (first_of (codes "mark") rows)) (λ (mark : List ℕ).
     Some (record { name = name.0; epoch = epoch.0; mark = mark })) site epoch.2 in
-    let same = some_is (record { name = name.0; epoch = epoch.0; mark = mark.0 }) site mark.2 in
+    let same = same_Some (record { name = name.0; epoch = epoch.0; mark = mark.0 }) site mark.2 in
     let named = name_of-some rows name.0 name.1 in
     let range = epoch_of-some (first_of (codes "epoch") rows) epoch.0 epoch.1 in
     subst (λ (site : Site). IsSite site × (length site.mark ≤ 65)) same (

@@ -1,8 +1,7 @@
--- What a value that is there says of the values that it was made of.
-use Rattle.std.proofs.Common.{◌≡◌, ◌<◌, ◌≤◌, ◌≤ℤ◌, ◌^◌, ℕ, ℤ, Bool, true, false, ◌&&◌, List, length, drop, Option, Some, None, option_map, refl, ap, subst, arith, length-drop}
-use Rattle.std.specs.Prelude.{int_le, nat_le, nat_lt}
+-- A value that is there was made of values that are there.
+use Rattle.std.proofs.Common.{◌≡◌, ◌<◌, ◌≤◌, ◌^◌, ℕ, Bool, true, false, ◌&&◌, List, length, drop, Option, Some, None, refl, ap, subst, arith, length-drop}
+use Rattle.std.specs.Prelude.{nat_le, nat_lt}
 use Rattle.std.proofs.lemmas.Bool.{and_parts, ltb-true}
-use Rattle.std.proofs.lemmas.Int.{ints}
 use Rattle.std.specs.Option.{option_and_then, option_or}
 use Rattle.srv_words.specs.Reads.{◌>>=◌, if_so}
 use Rattle.srv_words.specs.Values.{decimal_of, in_range, number_in, rest_of}
@@ -20,12 +19,6 @@ pub then_some : {A B : Type 0} (f : A → Option B) (o : Option A) (y : B) → o
 then_some f None y is = absurd cc
 then_some f (Some x) y is = (x, refl, is)
 
--- a value that was changed, and the value before
-pub map_some : {A B : Type 0} (f : A → B) (o : Option A) (y : B) → option_map f o ≡ Some y
-    → (x : A) × (o ≡ Some x) × (f x ≡ y)
-map_some f None y is = absurd cc
-map_some f (Some x) y is = (x, refl, cc)
-
 -- a value is one of the two
 pub or_some : {A P : Type 0} (first second : Option A) (x : A) → option_or first second ≡ Some x
     → (first ≡ Some x → P) → (second ≡ Some x → P) → P
@@ -36,14 +29,6 @@ or_some (Some y) second x is by_first by_second = by_first is
 pub so_some : {A : Type 0} (test : Bool) (x y : A) → if_so test x ≡ Some y → (test ≡ true) × (x ≡ y)
 so_some true x y is = (refl, cc)
 so_some false x y is = absurd cc
-
--- a value is one value
-pub some_is : {A : Type 0} (x y : A) → Some x ≡ Some y → x ≡ y
-some_is x y is = cc
-
--- a test of instants
-pub at_most : (a b : ℤ) → int_le a b ≡ true → a ≤ℤ b
-at_most a b is = grind (arith, ints)
 
 -- a test of numbers
 pub within : (a b : ℕ) → nat_le a b ≡ true → a ≤ b
@@ -68,7 +53,7 @@ number_in-some least most n text is =
     let range = in_range-some least most read.0 n read.2 in
     (range.0, range.1, subst (λ (k : ℕ). k < 2 ^ 32) range.2 (decimal_of-some text read.0 read.1).1)
 
--- what is left of a text is something
+-- the rest of a text isn't empty
 pub rest_of-some : (front text rest : List ℕ) → rest_of front text ≡ Some rest → 0 < length rest
 unfolding rest_of
 rest_of-some front text rest is =

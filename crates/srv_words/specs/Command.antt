@@ -1,4 +1,4 @@
--- The command, as `clap` sees it: which words it takes, and what they match, is said by functions of that crate.
+-- The command, as `clap` sees it. Functions of that crate say which words it takes, and their matches.
 use Rattle.std.specs.Prelude.{Bool, true, false, List, Option, Some, ◌==◌, length, codes}
 use Rattle.clap.specs.Faults.{fault_of}
 use Rattle.clap.specs.Simple.{App, new_app, new_rule, with_rule, with_subcommand, on_top, subcommand_of}

@@ -35,7 +35,7 @@ step_words_of rows = do
   list ← all_of (codes "STEP") rows
   if_so (nat_lt 0 (length list)) list
 
--- what `once` does
+-- the job of `once`
 unfoldable pub once_of : List Row → Option Job
 once_of rows = do
   site ← site_of rows
@@ -44,18 +44,18 @@ once_of rows = do
   steps ← steps_of site.epoch list
   Some (Once site proto steps)
 
--- what `check` does
+-- the job of `check`
 unfoldable pub check_of : List Row → Option Job
 check_of rows = option_map Check (first_of (codes "FILE") rows)
 
--- what `load` does
+-- the job of `load`
 unfoldable pub load_of : List Row → Option Job
 load_of rows = do
   seed ← option_and_then (number_in 0 MAX_SEED) (first_of (codes "SEED") rows)
   files ← option_and_then (number_in 1 MAX_MADE) (first_of (codes "FILES") rows)
   Some (Load seed files)
 
--- what `serve` does
+-- the job of `serve`
 unfoldable pub serve_of : List Row → Option Job
 serve_of rows = do
   site ← site_of rows
@@ -65,7 +65,7 @@ serve_of rows = do
   inboxes ← inboxes_of rows
   Some (Serve (serving_of site proto doors ticking inboxes))
 
--- what a subcommand does with its matches
+-- the job of a subcommand, by its matches
 unfoldable pub job_in : Text → List Row → Option Job
 job_in name rows = if bytes_eq name (codes "once") then once_of rows
     else (if bytes_eq name (codes "check") then check_of rows

@@ -10,12 +10,6 @@ Reads outcome (Ok value) = outcome ≡ Some value
 Reads outcome (Err fails.NoMemory) = Unit {0}
 Reads outcome (Err (fails.Fault bad)) = outcome ≡ None
 
--- the same of a result that is seen so
-abbrev pub ReadsAs : {X A : Type 0} → (X → A) → Option A → Result X (Fail BadWords) → Type 0
-ReadsAs view outcome (Ok value) = outcome ≡ Some (view value)
-ReadsAs view outcome (Err fails.NoMemory) = Unit {0}
-ReadsAs view outcome (Err (fails.Fault bad)) = outcome ≡ None
-
 -- a value, and then a step that counts on it
 infixl 10 ◌>>=◌
 abbrev pub ◌>>=◌ : {A B : Type 0} → Option A → (A → Option B) → Option B

@@ -1,4 +1,4 @@
--- What `serve` is asked for.
+-- The options of `serve`.
 use Rattle.std.specs.Prelude.{◌<◌, ◌≤◌, ◌^◌, ℕ, ◌&&◌, nat_le, nat_lt, List, length, codes, Option, Some, None, IfSome}
 use Rattle.clap.specs.Walk.{Row, Text, all_of, first_of}
 use Rattle.fm_model.specs.declared.site.Site.{Site}
@@ -56,8 +56,8 @@ serving_of site proto doors ticking inboxes = record {
   inboxes = inboxes;
 }
 
--- what is served: a collection that may be, by 1 to 16 workers, from 1 to 8 folders; where runs are kept for a time,
--- that is 1 to 2^30 - 1 seconds
+-- the options are sound: a collection that may be, by 1 to 16 workers, from 1 to 8 folders; where runs are kept for a
+-- time, that is 1 to 2^30 - 1 seconds
 pub record IsServing (serving : Serving) : Type 0 where
   pub site : IsSite serving.site
   pub mark : length serving.site.mark ≤ 65

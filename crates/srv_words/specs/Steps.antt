@@ -1,7 +1,7 @@
 -- The steps of `once`.
 use Rattle.std.specs.Prelude.{◌<◌, ◌≤◌, ℕ, List, [], ◌∷◌, ◌++◌, length, codes, Option, Some, option_map, ℤ}
 use Rattle.std.specs.Option.{option_and_then, option_or}
-use Rattle.fm_base.specs.Instant.{instant_of}
+use Rattle.nc_model.specs.Instant.{instant_of}
 use Rattle.fm_model.specs.LoadTimes.{IsInstant}
 use Rattle.srv_words.specs.declared.job.Step.{Step}
 use Rattle.srv_words.specs.declared.job.Step.TheVariants.{Put, Expire, Retract, Ask}
@@ -24,7 +24,7 @@ step_of epoch word = option_or (option_map Put (rest_of (codes "put:") word))
     (option_or (option_map Expire (cutoff_of epoch word))
     (option_or (option_map Retract (rest_of (codes "retract:") word)) (option_map Ask (asked_of word))))
 
--- the steps that words are, one after the other, after those that were found
+-- the steps of the words, one after the other, after those that were found
 unfoldable pub steps_from : ℤ → List Step → List (List ℕ) → Option (List Step)
 steps_from epoch found [] = Some found
 steps_from epoch found (word ∷ words) =

@@ -5,7 +5,7 @@ use Rattle.std.specs.List.{starts_with}
 use Rattle.std.specs.Option.{option_and_then}
 use Rattle.std.specs.Str.{bytes_eq}
 use Rattle.std.specs.Str.Parse.{digits_value}
-use Rattle.fm_base.specs.Instant.{instant_of}
+use Rattle.nc_model.specs.Instant.{instant_of}
 use Rattle.fm_model.specs.declared.limit.TheConstants.{MAX_NAME}
 use Rattle.fm_model.specs.LoadTimes.{is_instant}
 use Rattle.fm_model.specs.Prototype.{is_plain_name}
@@ -46,7 +46,7 @@ unfoldable pub mark_of : List ℕ → Option (List ℕ) → Option (List ℕ)
 mark_of name None = Some (name ++ codes "_")
 mark_of name (Some mark) = if_so (nat_le (length mark) MAX_MARK) mark
 
--- what follows this front in a text, where that is something
+-- the text after this front, where it isn't empty
 unfoldable pub rest_of : List ℕ → List ℕ → Option (List ℕ)
 rest_of front text =
     if_so (starts_with nat_eq text front && nat_lt (length front) (length text)) (drop (length front) text)

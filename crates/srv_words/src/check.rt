@@ -10,7 +10,7 @@ use clap::ArgMatches;
 use fm_base::{Bytes, Fail};
 use std::alloc::Global;
 
-// What `check` does with its matches.
+// The job of `check`, by its matches.
 #[tactic(auto, unfolding(crate::specs::Jobs::check_of))]
 pub(crate) fn check_job(alloc: Global, matches: &ArgMatches<'_>) -> Result<Job, Fail<BadWords>>
     ensures { Reads (spec.check_of (rows_of (found_of matches.now))) result }

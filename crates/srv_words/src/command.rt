@@ -22,7 +22,7 @@ fn named<'a>(arg: Arg<'a>, id: &'a str, value: &'a str) -> Arg<'a>
     arg.long(id).value_name(value)
 }
 
-// What happens with a value, what the help says of it, and whether it has to stand.
+// The action on a value, its help, and whether it is required.
 fn settled<'a>(arg: Arg<'a>, action: ArgAction, help: &'a str, required: bool) -> Arg<'a>
     ensures rule { rule_of result ≡ record (rule_of arg.entry) { action = Some action; required = required } }
     ensures local { result.global ≡ arg.entry.global }

@@ -16,11 +16,11 @@ pub enum Step {
     Expire(i64),
     /// The file of this name is taken back.
     Retract(Bytes),
-    /// So many requests are answered.
+    /// This number of requests is answered.
     Ask(u32),
 }
 
-/// What `serve` is asked for. Paths, folders and the address are as they stand in the words.
+/// The options of `serve`. Paths, folders and the address are as they stand in the words.
 #[derive(Debug, Drop)]
 pub struct Serving {
     pub site: Site,
@@ -39,7 +39,7 @@ pub struct Serving {
     pub inboxes: List<Bytes>,
 }
 
-/// What the words ask for. Paths are as they stand in the words.
+/// The job that the words ask for. Paths are as they stand in the words.
 #[derive(Debug, Drop)]
 pub enum Job {
     /// The steps are done in their order, on a collection over the prototype at a path.
@@ -52,7 +52,7 @@ pub enum Job {
     Check {
         path: Bytes,
     },
-    /// So many files are made from a seed, taken into a collection and read.
+    /// `files` files are made from a seed, taken into a collection and read.
     Load {
         seed: u32,
         files: u32,

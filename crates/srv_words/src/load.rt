@@ -27,7 +27,7 @@ fn number_of(matches: &ArgMatches<'_>, id: &str, least: u32, most: u32) -> Optio
     number_in(least, most, text_of(matches, id)?)
 }
 
-// What `load` does with its matches.
+// The job of `load`, by its matches.
 #[tactic(auto, unfolding(crate::specs::Jobs::load_of))]
 pub(crate) fn load_job(matches: &ArgMatches<'_>) -> Result<Job, Fail<BadWords>>
     ensures { Reads (spec.load_of (rows_of (found_of matches.now))) result }

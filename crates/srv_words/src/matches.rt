@@ -23,7 +23,7 @@ fn matched<'a>(command: Command<'a>, words: &'a [&'a str]) -> Result<ArgMatches<
     command.try_get_matches_from(words)
 }
 
-// What the words match where the command takes them, and else what `clap` says of them.
+// The matches of the words where the command takes them, and else the error of `clap`.
 #[tactic(auto, using(crate::proofs::CommandLemmas::kinds), unfolding(crate::specs::Command::is_taken))]
 pub(crate) fn parsed<'a>(alloc: Global, words: &'a [&'a str]) -> Result<ArgMatches<'a>, Fail<Error>>
     ensures taken { OnOk result (spec.is_taken (map (λ word. word.now) words.entry.now) ≡ true) }

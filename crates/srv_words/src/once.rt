@@ -26,7 +26,7 @@ fn step_words_of<'m, 'a>(matches: &'m ArgMatches<'a>) -> Option<&'m [&'a str]>
     Some(words)
 }
 
-// What `once` does with its matches.
+// The job of `once`, by its matches.
 #[tactic(auto, unfolding(crate::specs::Jobs::once_of))]
 pub(crate) fn once_job(alloc: Global, matches: &ArgMatches<'_>) -> Result<Job, Fail<BadWords>>
     ensures { Reads (spec.once_of (rows_of (found_of matches.now))) result }

@@ -39,7 +39,7 @@ pub(crate) fn texts_of<'a>(
     Ok(texts)
 }
 
-// What a subcommand does with its matches.
+// The job of a subcommand, by its matches.
 #[tactic(auto, unfolding(crate::specs::Jobs::job_in))]
 fn job_in(alloc: Global, name: &str, matches: &ArgMatches<'_>) -> Result<Job, Fail<BadWords>>
     ensures { Reads (spec.job_in name.now (rows_of (found_of matches.now))) result }

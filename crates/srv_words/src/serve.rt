@@ -123,7 +123,7 @@ fn copies_of(alloc: Global, words: &[&str]) -> Result<List<Bytes>, NoMemory>
     Ok(copies)
 }
 
-// What `serve` does with its matches.
+// The job of `serve`, by its matches.
 #[tactic(auto, unfolding(crate::specs::Jobs::serve_of))]
 pub(crate) fn serve_job(alloc: Global, matches: &ArgMatches<'_>) -> Result<Job, Fail<BadWords>>
     ensures { Reads (jobs.serve_of (rows_of (found_of matches.now))) result }

@@ -1,4 +1,4 @@
-//! What a person is told of words that are no job.
+//! The text for a person whose words are no job.
 
 use crate::matches::parsed;
 use crate::read::texts_of;
@@ -6,8 +6,8 @@ use clap::Error;
 use fm_base::{Bytes, Fail, List, NoMemory};
 use std::alloc::Global;
 
-/// A text for a person whose words are no job: what `clap` says of words that it doesn't take, with its usage, or the help
-/// of the subcommand, which says what form each value has. No clause speaks of the text.
+/// A text for a person whose words are no job: the error of `clap` with its usage where it doesn't take the words, or
+/// the help of the subcommand with the form of each value. No clause speaks of the text.
 pub fn usage_of(alloc: Global, words: &List<Bytes>) -> Result<String, NoMemory> {
     let mut text = String::new(alloc);
     match texts_of(alloc, words.as_slice()) {
@@ -18,7 +18,7 @@ pub fn usage_of(alloc: Global, words: &List<Bytes>) -> Result<String, NoMemory> 
     Ok(text)
 }
 
-// What `clap` says of words, and where it takes them the help of the subcommand that is the first of them.
+// The error of `clap` on the words, and where it takes them the help of the subcommand that is the first of them.
 fn put_told(alloc: Global, words: &[&str], out: &mut String) -> Result<(), NoMemory> {
     put_said(alloc, words, out)?;
     match words.first() {
@@ -34,7 +34,7 @@ fn put_help(alloc: Global, name: &str, out: &mut String) -> Result<(), NoMemory>
     put_said(alloc, words.as_slice(), out)
 }
 
-// What `clap` says of words that it doesn't take.
+// The error of `clap` on words that it doesn't take.
 fn put_said(alloc: Global, words: &[&str], out: &mut String) -> Result<(), NoMemory> {
     match parsed(alloc, words) {
         Ok(_) => Ok(()),

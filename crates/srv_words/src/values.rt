@@ -1,7 +1,7 @@
 //! The values of options.
 ghost use Rattle.std.specs.Prelude.{◌≡◌, MatchOption, None, Some, pos, option_map};
 ghost use Rattle.std.specs.Option.{option_and_then};
-ghost use Rattle.fm_base.specs.Instant.{instant_of};
+ghost use Rattle.nc_model.specs.Instant.{instant_of};
 ghost use Rattle.fm_model.specs.LoadTimes.{is_instant};
 ghost use Rattle.fm_model.specs.Prototype.{is_plain_name};
 ghost use Rattle.srv_words.specs.Values as spec;
@@ -61,7 +61,7 @@ pub(crate) fn epoch_of(text: Option<&[u8]>) -> Option<i64>
     Some(t)
 }
 
-// What follows a front in a text, where that is something.
+// The text after a front, where it isn't empty.
 #[tactic(auto, unfolding(crate::specs::Values::rest_of))]
 pub(crate) fn rest_of<'a>(front: &[u8], text: &'a [u8]) -> Option<&'a [u8]>
     ensures { option_map (λ rest. rest.now) result ≡ spec.rest_of front.now text.now }
@@ -82,7 +82,7 @@ fn is_instant(seconds: i128) -> bool
 }
 
 // Seconds from an epoch, where they are an instant that a collection may have.
-#[tactic(auto, using(crate::proofs::ValueLemmas::instant_fits), unfolding(crate::specs::Values::if_instant))]
+#[tactic(auto, using(fm_model::proofs::RunLemmas::instant_fits), unfolding(crate::specs::Values::if_instant))]
 fn if_instant(seconds: i128) -> Option<i64>
     ensures { result ≡ spec.if_instant seconds }
 {

@@ -8,12 +8,12 @@ use Rattle.srv_workers.specs.declared.outcome.Outcome.{Outcome}
 use Rattle.srv_workers.specs.declared.parts.Parts.{Parts}
 use Rattle.srv_workers.specs.declared.task.Task.{Task}
 use Rattle.srv_workers.specs.Close.{Closes}
-use Rattle.srv_workers.specs.Parts.{IsEmpty, Puts, PutsParts}
+use Rattle.srv_workers.specs.Parts.{IsEmpty, PutsItems, PutsParts}
 use Rattle.srv_workers.specs.Slots.{Slotted}
 use Rattle.srv_workers.specs.Tasks.{share_of}
 
--- what was put where nothing was
-from-none : {T : Type 0} (items : List T) (before after : Slotted T) → before.items ≡ [] → Puts items before after
+-- items that were put where nothing was
+from-none : {T : Type 0} (items : List T) (before after : Slotted T) → before.items ≡ [] → PutsItems items before after
     → after.items ≡ items
 from-none {T} items before after none puts = puts.items_are ∙ ap (λ (l : List T). l ++ items) none
 

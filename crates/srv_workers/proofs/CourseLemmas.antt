@@ -1,33 +1,16 @@
 -- Workers that have learnt a log, again and again until each has seen just that.
-use Rattle.std.proofs.Common.{◌≡◌, ℕ, ◌<◌, List, [], ◌∷◌, ◌++◌, length, map, All, slice_index_or, refl, sym, ap, ap₂, subst, ◌∙◌, append_assoc, append-nil, length-append, arith}
-use Rattle.std.proofs.lemmas.List.{nil_from_length}
+use Rattle.std.proofs.Common.{◌≡◌, ℕ, ◌<◌, List, [], ◌∷◌, length, map, All, slice_index_or, refl, sym, ap₂, subst, ◌∙◌, append-nil, arith}
 use Rattle.std.proofs.lemmas.List.Elements.{All-nil, All-cons, All-head, All-tail}
 use Rattle.std.specs.List.{AllZip}
 use Rattle.fm_edition.specs.Log.{IsLog}
 use Rattle.fm_model.specs.declared.op.Op.{Op}
 use Rattle.fm_model.specs.declared.proto.Proto.{Proto}
-use Rattle.pub_plain.specs.History.{Continues, History}
+use Rattle.pub_look.specs.History.{Continues, History}
+use Rattle.pub_look.proofs.HistoryLemmas.{continues_on, same_length}
 use Rattle.srv_workers.specs.declared.task.Task.{Task}
 use Rattle.srv_workers.specs.declared.task.Worker.{Worker}
 use Rattle.srv_workers.specs.Course.{HasLearnt, KeepsTask}
 use Rattle.srv_workers.proofs.PairLemmas.{AllZip-at, AllZip-then}
-
--- a list continues one that continues a third
-Continues-both : (first second third : List Op) → Continues first second → Continues second third
-    → Continues first third
-Continues-both first second third one two =
-    (one.0 ++ two.0, two.1 ∙ ap (λ (l : List Op). l ++ two.0) one.1 ∙ append_assoc first one.0 two.0)
-
--- a list that continues another of its length is that
-Continues-level : (log seen : List Op) → Continues log seen → length seen ≡ length log → seen ≡ log
-Continues-level log seen more level =
-    more.1 ∙ ap (λ (l : List Op). log ++ l)
-    (nil_from_length more.0 (omega (
-      arith,
-      level,
-      ap (λ (l : List Op). length l) more.1,
-      length-append log more.0,
-    ))) ∙ append-nil log
 
 -- a worker that has learnt nothing keeps its task
 keeps-itself : {D I C H : Type 0} (worker : Worker D I C History H) → KeepsTask worker worker
@@ -43,7 +26,7 @@ keeps-both : {D I C H : Type 0} (log : List Op) (first second third : Worker D I
     → KeepsTask first second → HasLearnt log second third → KeepsTask first third
 keeps-both log first second third one two = record {
   task = two.keeps.task ∙ one.task;
-  later = Continues-both first.pass.seen second.pass.seen third.pass.seen one.later two.keeps.later;
+  later = continues_on first.pass.seen second.pass.seen third.pass.seen one.later two.keeps.later;
 }
 
 -- each worker keeps its task through one turn more
@@ -74,7 +57,7 @@ pub tasks-turn : {D I C H : Type 0} (log : List Op) (first second third : List (
 tasks-turn log first second third one same two =
     tasks-kept first third (keeps-turn log first second third one same two)
 
--- what workers had seen begins a log that each has learnt and seen the length of
+-- the operations that workers had seen begin a log that each has learnt and seen the length of
 begin-each : {D I C H : Type 0} (log : List Op) (first second third : List (Worker D I C History H))
     → AllZip KeepsTask first second → AllZip (HasLearnt log) second third
     → All (λ (w : Worker D I C History H). length w.pass.seen ≡ length log) third
@@ -91,7 +74,7 @@ begin-each {D} {I} {C} {H} log (u ∷ us) (v ∷ vs) (w ∷ ws) one two level =
 
     begins : Continues u.pass.seen log
     begins = subst (λ (l : List Op). Continues u.pass.seen l)
-        (Continues-level log w.pass.seen two.0.told (All-head IsLevel w ws level))
+        (same_length log w.pass.seen two.0.told (All-head IsLevel w ws level))
         (keeps-both log u v w one.0 two.0).later
 
 -- the same after the last turn
@@ -104,7 +87,7 @@ pub begin-turn : {D I C H : Type 0} (log : List Op) (first second third : List (
 begin-turn log first second third one same two level =
     begin-each log first second third one (AllZip-at (HasLearnt log) second third same two) level
 
--- a log that each has learnt and seen the length of is sound where what each has seen is
+-- a log that each has learnt and seen the length of is sound where each worker's operations are
 pub sound-turn : {D I C H : Type 0} (proto : Proto) (log : List Op)
     (first second third : List (Worker D I C History H)) → 0 < length first → AllZip KeepsTask first second
     → length third ≡ length second
@@ -117,7 +100,7 @@ sound-turn proto log (u ∷ us) [] third some one same two level sound = absurd 
 sound-turn proto log (u ∷ us) (v ∷ vs) [] some one same two level sound = absurd (omega (arith, same))
 sound-turn {D} {I} {C} {H} proto log (u ∷ us) (v ∷ vs) (w ∷ ws) some one same two level sound =
     subst (λ (l : List Op). IsLog proto l)
-    (Continues-level log w.pass.seen learnt.0.told (All-head IsLevel w ws level))
+    (same_length log w.pass.seen learnt.0.told (All-head IsLevel w ws level))
     (All-head (λ (x : Worker D I C History H). IsLog proto x.pass.seen) w ws sound)
   where
     IsLevel : Worker D I C History H → Type 0

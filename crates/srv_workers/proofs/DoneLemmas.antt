@@ -6,18 +6,18 @@ use Rattle.std.proofs.lemmas.List.Elements.{All-nil, All-head, All-tail}
 use Rattle.std.specs.List.{AllZip, cons_option, filter_map}
 use Rattle.fm_model.specs.declared.op.Op.{Op}
 use Rattle.fm_model.specs.declared.proto.Proto.{Proto}
-use Rattle.fm_world.specs.Shown.{LinkShown}
-use Rattle.fm_doors.specs.Clock.{Moments}
-use Rattle.fm_doors.specs.Door.{DoorShown}
-use Rattle.fm_doors.specs.Inbox.{InboxShown}
-use Rattle.pub_plain.specs.History.{Continues, History}
+use Rattle.dev_traits.specs.Shown.{LinkShown}
+use Rattle.dev_traits.specs.Clock.{Moments}
+use Rattle.dev_traits.specs.Door.{DoorShown}
+use Rattle.dev_traits.specs.Inbox.{InboxShown}
+use Rattle.pub_look.specs.History.{Continues, History}
 use Rattle.pub_snap.specs.Opening.{unused}
 use Rattle.srv_ingest.specs.declared.report.ExpireReport.{ExpireReport}
 use Rattle.srv_ingest.specs.declared.report.IngestReport.{IngestReport}
 use Rattle.srv_workers.specs.declared.task.Task.{Task}
 use Rattle.srv_workers.specs.declared.task.Task.TheVariants.{Serve, TakeIn, LetGo}
 use Rattle.srv_workers.specs.declared.task.Worker.{Worker}
-use Rattle.srv_workers.specs.Done.{AreDone, expired_by, HaveWorked, published_by, retracted_by, told_by}
+use Rattle.srv_workers.specs.Done.{AreDone, expired_sum, HaveWorked, published_sum, retracted_sum, told_sum}
 use Rattle.srv_workers.specs.Runs.{AreRuns, IsClockRun, IsDoorRun, IsInboxRun, Run}
 use Rattle.srv_workers.specs.Tasks.{Adds, clock_of, clock_told, door_of, door_told, inbox_of, inbox_told, IsUnused, share_of}
 use Rattle.srv_workers.specs.Work.{Does, Worked}
@@ -67,23 +67,24 @@ shares-count (Serve d n r ∷ more) = shares-count more
 shares-count (TakeIn i s r ∷ more) = omega (arith, shares-count more)
 shares-count (LetGo c s r ∷ more) = omega (arith, shares-count more)
 
--- what one task tells of, its share has counted
+-- the operations in one task's report are counted by its share
 told-next : {D I C L : Type 0} (door : D → DoorShown L) (link : L → LinkShown) (inbox : I → InboxShown)
     (clock : C → Option Moments) (proto : Proto) (keep : ℕ) (pass pass' : History) (task task' : Task D I C ℕ)
     (more : List (Task D I C ℕ)) → Does door link inbox clock proto keep pass pass' task task' → IsUnused task
-    → told_by more ≡ sum (filter_map share_of more) → told_by (task' ∷ more) ≡ sum (filter_map share_of (task' ∷ more))
+    → told_sum more ≡ sum (filter_map share_of more)
+    → told_sum (task' ∷ more) ≡ sum (filter_map share_of (task' ∷ more))
 told-next door link inbox clock proto keep pass pass' (Serve d n r) (Serve d' n' r') more does unused is = is
 told-next door link inbox clock proto keep pass pass' (TakeIn i s r) (TakeIn i' s' r') more does unused is =
-    let sums : r'.published + published_by more + (r'.retracted + retracted_by more) + expired_by more
+    let sums : r'.published + published_sum more + (r'.retracted + retracted_sum more) + expired_sum more
     ≡ s' + sum (filter_map share_of more) = omega (arith, does.counted, unused, is) in
-    ap₂ (λ (a b : ℕ). a + b + expired_by more)
+    ap₂ (λ (a b : ℕ). a + b + expired_sum more)
     (sum_by-cons (λ (report : IngestReport). report.published) r' (filter_map inbox_told more))
     (sum_by-cons (λ (report : IngestReport). report.retracted) r' (filter_map inbox_told more))
     ∙ sums ∙ sym (sum_by-cons (λ (n : ℕ). n) s' (filter_map share_of more))
 told-next door link inbox clock proto keep pass pass' (LetGo c s r) (LetGo c' s' r') more does unused is =
-    let sums : published_by more + retracted_by more + (r'.expired + expired_by more)
+    let sums : published_sum more + retracted_sum more + (r'.expired + expired_sum more)
     ≡ s' + sum (filter_map share_of more) = omega (arith, does.counted, unused, is) in
-    ap (λ (a : ℕ). published_by more + retracted_by more + a)
+    ap (λ (a : ℕ). published_sum more + retracted_sum more + a)
     (sum_by-cons (λ (report : ExpireReport). report.expired) r' (filter_map clock_told more))
     ∙ sums ∙ sym (sum_by-cons (λ (n : ℕ). n) s' (filter_map share_of more))
 told-next door link inbox clock proto keep pass pass' (Serve d n r) (TakeIn i s r') more does unused is = absurd does
@@ -93,12 +94,12 @@ told-next door link inbox clock proto keep pass pass' (TakeIn i s r) (LetGo c s'
 told-next door link inbox clock proto keep pass pass' (LetGo c s r) (Serve d n r') more does unused is = absurd does
 told-next door link inbox clock proto keep pass pass' (LetGo c s r) (TakeIn i s' r') more does unused is = absurd does
 
--- what all tasks tell of, their shares have counted
+-- the operations in all tasks' reports are counted by their shares
 told-all : {D I C L : Type 0} (door : D → DoorShown L) (link : L → LinkShown) (inbox : I → InboxShown)
     (clock : C → Option Moments) (proto : Proto) (keep : ℕ) (log : List Op)
     (before after : List (Worker D I C History ℕ))
     → AllZip (IsFirstWork door link inbox clock proto keep log) before after
-    → told_by (map (λ (w : Worker D I C History ℕ). w.task) after)
+    → told_sum (map (λ (w : Worker D I C History ℕ). w.task) after)
     ≡ sum (filter_map share_of (map (λ (w : Worker D I C History ℕ). w.task) after))
 told-all door link inbox clock proto keep log [] [] each = refl
 told-all door link inbox clock proto keep log [] (w ∷ ws) each = absurd each
@@ -127,7 +128,7 @@ runs-equal Is before before' after after' reports reports' one two three runs = 
   each = runs.each;
 }
 
--- what is made of the tasks after the work, by the workers that did it
+-- the parts of the tasks after the work, by the workers that did it
 of-after : {D I C H X : Type 0} (made : Task D I C H → Option X) (middle after : List (Worker D I C History H))
     → map (λ (w : Worker D I C History H). w.task) after ≡ map (λ (w : Worker D I C History H). w.task) middle
     → filter_map (λ (w : Worker D I C History H). made w.task) middle
@@ -155,7 +156,7 @@ AreDone-is {D} {I} {C} door link inbox clock proto keep log doors inboxes clocks
           (filter_map inbox_told after_tasks) inbox_runs)
           (runs-count (IsClockRun clock proto keep log) clocks (filter_map clock_of after_tasks)
           (filter_map clock_told after_tasks) clock_runs);
-      told = subst (λ (l : List (Task D I C ℕ)). told_by l ≡ sum (filter_map share_of l)) (sym worked.tasks)
+      told = subst (λ (l : List (Task D I C ℕ)). told_sum l ≡ sum (filter_map share_of l)) (sym worked.tasks)
           (told-all door link inbox clock proto keep log before worked.middle each);
     }
   where

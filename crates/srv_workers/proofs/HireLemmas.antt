@@ -5,11 +5,11 @@ use Rattle.std.specs.List.{filter_map}
 use Rattle.fm_edition.specs.Log.{IsLog}
 use Rattle.fm_model.specs.declared.op.Op.{Op}
 use Rattle.fm_model.specs.declared.proto.Proto.{Proto}
-use Rattle.fm_world.specs.Shown.{LinkShown}
-use Rattle.fm_doors.specs.Clock.{Moments}
-use Rattle.fm_doors.specs.Door.{DoorShown}
-use Rattle.fm_doors.specs.Inbox.{InboxShown}
-use Rattle.pub_plain.specs.History.{History}
+use Rattle.dev_traits.specs.Shown.{LinkShown}
+use Rattle.dev_traits.specs.Clock.{Moments}
+use Rattle.dev_traits.specs.Door.{DoorShown}
+use Rattle.dev_traits.specs.Inbox.{InboxShown}
+use Rattle.pub_look.specs.History.{History}
 use Rattle.pub_snap.specs.Opening.{unused}
 use Rattle.srv_ingest.specs.declared.report.ExpireReport.{ExpireReport}
 use Rattle.srv_ingest.specs.declared.report.IngestReport.{IngestReport}
@@ -19,7 +19,7 @@ use Rattle.srv_workers.specs.declared.parts.Parts.{Parts}
 use Rattle.srv_workers.specs.declared.task.Task.{Task}
 use Rattle.srv_workers.specs.declared.task.Worker.{Worker}
 use Rattle.srv_workers.specs.Close.{Closes}
-use Rattle.srv_workers.specs.Done.{AreDone, HaveWorked, IsHired, told_by}
+use Rattle.srv_workers.specs.Done.{AreDone, HaveWorked, IsHired, told_sum}
 use Rattle.srv_workers.specs.Parts.{HasRoom}
 use Rattle.srv_workers.specs.Room.{device_count}
 use Rattle.srv_workers.specs.Runs.{AreRuns, IsClockRun, IsDoorRun, IsInboxRun, RanTogether, Run, told_of}
@@ -67,7 +67,7 @@ told-count {X} {R} Is before after reports runs =
     sym (ap (λ (l : List R). length l) runs.told) ∙ length-map runs.runs (λ run. run.report)
     ∙ sym (length-map runs.runs (λ run. run.came)) ∙ ap (λ (l : List X). length l) runs.came
 
--- there is room for what the workers are taken apart into
+-- there is room for the workers' parts
 pub HasRoom-done : {D I C L : Type 0} (door : D → DoorShown L) (link : L → LinkShown) (inbox : I → InboxShown)
     (clock : C → Option Moments) (proto : Proto) (keep : ℕ) (log : List Op) (devices : Devices D I C)
     (tasks : List (Task D I C ℕ)) (parts : Parts D I C ℕ)
@@ -148,12 +148,10 @@ RanTogether-is door link inbox clock proto keep log before after tasks outcome d
   told = told_is ∙ done.told ∙ closes.counted ∙ sym closes.revision_is;
 }
   where
-    told_is : told_of outcome ≡ told_by tasks
+    told_is : told_of outcome ≡ told_sum tasks
     told_is = ap₂ (λ (is : List IngestReport) (cs : List ExpireReport).
         sum_by (λ (report : IngestReport). report.published) is
         + sum_by (λ (report : IngestReport). report.retracted) is
         + sum_by (λ (report : ExpireReport). report.expired) cs) closes.inboxes_told closes.clocks_told
 
 pub ruleset hires = (passes-for, IsHired-is, hired-some, hired-done)
-
-pub ruleset closings = (HasRoom-done, RanTogether-is)

@@ -24,7 +24,7 @@ All-next {A} P (suc n) (x ∷ xs) d below all next =
 pub All-whole : {A : Type 0} (P : A → Type 0) (n : ℕ) (xs : List A) → length xs ≤ n → All P (take n xs) → All P xs
 All-whole {A} P n xs within all = subst (λ (l : List A). All P l) (take_all n xs within) all
 
--- what holds at each place holds of each pair
+-- a fact at each index holds of each pair
 pub AllZip-at : {A : Type 0} (Is : A → A → Type 0) (xs ys : List A) → length ys ≡ length xs
     → ((i : ℕ) (d : A) → i < length xs → Is (slice_index_or xs i d) (slice_index_or ys i d)) → AllZip Is xs ys
 AllZip-at Is [] [] same at = tt
@@ -51,7 +51,7 @@ map-cons_option : {X Y : Type 0} (h : X → Y) (x : Option X) (xs : List X)
 map-cons_option h None xs = refl
 map-cons_option h (Some x) xs = refl
 
--- of what is made of pairs, what is a function of the first items
+-- a function of the first items, over the results of pairs
 pub pick-first : {A B R Z : Type 0} (Is : A → B → Type 0) (made : A → B → Option R) (h : R → Z) (g : A → Option Z)
     (xs : List A) (ys : List B) → AllZip Is xs ys → ((x : A) (y : B) → Is x y → option_map h (made x y) ≡ g x)
     → map h (pick made xs ys) ≡ filter_map g xs
@@ -62,7 +62,7 @@ pick-first {Z = Z} Is made h g (x ∷ xs) (y ∷ ys) each is =
     map-cons_option h (made x y) (pick made xs ys)
     ∙ ap₂ (λ (o : Option Z) (l : List Z). cons_option o l) (is x y each.0) (pick-first Is made h g xs ys each.1 is)
 
--- of what is made of pairs, what is a function of the second items
+-- a function of the second items, over the results of pairs
 pub pick-second : {A B R Z : Type 0} (Is : A → B → Type 0) (made : A → B → Option R) (h : R → Z) (g : B → Option Z)
     (xs : List A) (ys : List B) → AllZip Is xs ys → ((x : A) (y : B) → Is x y → option_map h (made x y) ≡ g y)
     → map h (pick made xs ys) ≡ filter_map g ys
@@ -78,7 +78,7 @@ all_more : {R : Type 0} (P : R → Type 0) (o : Option R) (rs : List R) → IfSo
 all_more P None rs there all = all
 all_more P (Some r) rs there all = All-cons P r rs there all
 
--- what holds of all that is made of pairs
+-- a fact of all results of pairs
 pub pick-all : {A B R : Type 0} (Is : A → B → Type 0) (made : A → B → Option R) (P : R → Type 0)
     (xs : List A) (ys : List B) → AllZip Is xs ys → ((x : A) (y : B) → Is x y → IfSome (made x y) P)
     → All P (pick made xs ys)

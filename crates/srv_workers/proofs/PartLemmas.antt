@@ -6,20 +6,20 @@ use Rattle.std.specs.List.{filter_map}
 use Rattle.srv_workers.specs.declared.parts.Parts.{Parts}
 use Rattle.srv_workers.specs.declared.task.Task.{Task}
 use Rattle.srv_workers.specs.declared.task.Worker.{Worker}
-use Rattle.srv_workers.specs.Parts.{HasRoom, Puts, PutsParts}
+use Rattle.srv_workers.specs.Parts.{HasRoom, PutsItems, PutsParts}
 use Rattle.srv_workers.specs.Slots.{Slotted}
 use Rattle.srv_workers.specs.Tasks.{clock_of, clock_told, door_of, door_told, inbox_of, inbox_told, share_of}
 use Rattle.srv_workers.proofs.TaskLemmas.{drop-next, take-next}
 
 -- nothing was put behind others
-Puts-none : {T : Type 0} (slots : Slotted T) → Puts [] slots slots
-Puts-none slots = record { items_are = sym (append-nil slots.items); free_is = omega arith }
+PutsItems-none : {T : Type 0} (slots : Slotted T) → PutsItems [] slots slots
+PutsItems-none slots = record { items_are = sym (append-nil slots.items); free_is = omega arith }
 
 -- items were put behind others in two steps
-Puts-both : {T X : Type 0} (made : T → Option X) (ts us : List T) (before middle after : Slotted X)
-    → Puts (filter_map made ts) before middle → Puts (filter_map made us) middle after
-    → Puts (filter_map made (ts ++ us)) before after
-Puts-both {T} {X} made ts us before middle after one two = record {
+PutsItems-both : {T X : Type 0} (made : T → Option X) (ts us : List T) (before middle after : Slotted X)
+    → PutsItems (filter_map made ts) before middle → PutsItems (filter_map made us) middle after
+    → PutsItems (filter_map made (ts ++ us)) before after
+PutsItems-both {T} {X} made ts us before middle after one two = record {
   items_are = two.items_are ∙ ap (λ (l : List X). l ++ filter_map made us) one.items_are
       ∙ append_assoc before.items (filter_map made ts) (filter_map made us)
       ∙ ap (λ (l : List X). before.items ++ l) (sym (filter_map-append made ts us));
@@ -36,9 +36,10 @@ Puts-both {T} {X} made ts us before middle after one two = record {
 split-at : {X : Type 0} (n : ℕ) (xs rest : List X) → rest ≡ drop n xs → xs ≡ take n xs ++ rest
 split-at {X} n xs rest is = sym (take-append-drop n xs) ∙ ap (λ (l : List X). take n xs ++ l) (sym is)
 
--- there is room for what is made of the next item
+-- there is room for the next item
 room-next : {T X : Type 0} (made : T → Option X) (n : ℕ) (ts rest : List T) (t : T) (more : List T)
-    (before now : Slotted X) → length (filter_map made ts) ≤ before.free → Puts (filter_map made (take n ts)) before now
+    (before now : Slotted X) → length (filter_map made ts) ≤ before.free
+    → PutsItems (filter_map made (take n ts)) before now
     → rest ≡ drop n ts → rest ≡ t ∷ more → length (filter_map made (t ∷ [])) ≤ now.free
 room-next {T} {X} made n ts rest t more before now room puts is first = omega (arith, room, puts.free_is, all, one, two)
   where
@@ -58,28 +59,28 @@ room-next {T} {X} made n ts rest t more before now room puts is first = omega (a
 -- no parts were put behind others
 pub PutsParts-none : {D I C H : Type 0} (parts : Parts D I C H) → PutsParts [] parts parts
 PutsParts-none parts = record {
-  doors = Puts-none parts.doors;
-  inboxes = Puts-none parts.inboxes;
-  clocks = Puts-none parts.clocks;
-  shares = Puts-none parts.shares;
-  doors_told = Puts-none parts.doors_told;
-  inboxes_told = Puts-none parts.inboxes_told;
-  clocks_told = Puts-none parts.clocks_told;
+  doors = PutsItems-none parts.doors;
+  inboxes = PutsItems-none parts.inboxes;
+  clocks = PutsItems-none parts.clocks;
+  shares = PutsItems-none parts.shares;
+  doors_told = PutsItems-none parts.doors_told;
+  inboxes_told = PutsItems-none parts.inboxes_told;
+  clocks_told = PutsItems-none parts.clocks_told;
 }
 
 -- parts were put behind others in two steps
 PutsParts-both : {D I C H : Type 0} (ts us : List (Task D I C H)) (before middle after : Parts D I C H)
     → PutsParts ts before middle → PutsParts us middle after → PutsParts (ts ++ us) before after
 PutsParts-both ts us before middle after one two = record {
-  doors = Puts-both door_of ts us before.doors middle.doors after.doors one.doors two.doors;
-  inboxes = Puts-both inbox_of ts us before.inboxes middle.inboxes after.inboxes one.inboxes two.inboxes;
-  clocks = Puts-both clock_of ts us before.clocks middle.clocks after.clocks one.clocks two.clocks;
-  shares = Puts-both share_of ts us before.shares middle.shares after.shares one.shares two.shares;
-  doors_told = Puts-both door_told ts us before.doors_told middle.doors_told after.doors_told
+  doors = PutsItems-both door_of ts us before.doors middle.doors after.doors one.doors two.doors;
+  inboxes = PutsItems-both inbox_of ts us before.inboxes middle.inboxes after.inboxes one.inboxes two.inboxes;
+  clocks = PutsItems-both clock_of ts us before.clocks middle.clocks after.clocks one.clocks two.clocks;
+  shares = PutsItems-both share_of ts us before.shares middle.shares after.shares one.shares two.shares;
+  doors_told = PutsItems-both door_told ts us before.doors_told middle.doors_told after.doors_told
       one.doors_told two.doors_told;
-  inboxes_told = Puts-both inbox_told ts us before.inboxes_told middle.inboxes_told after.inboxes_told
+  inboxes_told = PutsItems-both inbox_told ts us before.inboxes_told middle.inboxes_told after.inboxes_told
       one.inboxes_told two.inboxes_told;
-  clocks_told = Puts-both clock_told ts us before.clocks_told middle.clocks_told after.clocks_told
+  clocks_told = PutsItems-both clock_told ts us before.clocks_told middle.clocks_told after.clocks_told
       one.clocks_told two.clocks_told;
 }
 

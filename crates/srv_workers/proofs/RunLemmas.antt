@@ -3,14 +3,14 @@ use Rattle.std.proofs.Common.{◌≡◌, ℕ, List, Option, Some, None, IfSome, 
 use Rattle.std.specs.List.{AllZip, filter_map}
 use Rattle.fm_model.specs.declared.op.Op.{Op}
 use Rattle.fm_model.specs.declared.proto.Proto.{Proto}
-use Rattle.fm_world.specs.Shown.{LinkShown}
-use Rattle.fm_doors.specs.Clock.{Moments}
-use Rattle.fm_doors.specs.Door.{DoorShown}
-use Rattle.fm_doors.specs.Inbox.{InboxShown}
-use Rattle.pub_plain.specs.History.{Continues, History}
+use Rattle.dev_traits.specs.Shown.{LinkShown}
+use Rattle.dev_traits.specs.Clock.{Moments}
+use Rattle.dev_traits.specs.Door.{DoorShown}
+use Rattle.dev_traits.specs.Inbox.{InboxShown}
+use Rattle.pub_look.specs.History.{Continues, History}
 use Rattle.pub_snap.specs.Opening.{unused}
-use Rattle.srv_door.specs.declared.report.DoorReport.{DoorReport}
-use Rattle.srv_door.specs.Turns.{ServesEach}
+use Rattle.srv_conn.specs.declared.door_report.DoorReport.{DoorReport}
+use Rattle.srv_conn.specs.DoorTurns.{ServesEach}
 use Rattle.srv_ingest.specs.declared.report.ExpireReport.{ExpireReport}
 use Rattle.srv_ingest.specs.declared.report.IngestReport.{IngestReport}
 use Rattle.srv_ingest.specs.Expires.{AllSettledWith}
@@ -24,7 +24,7 @@ use Rattle.srv_workers.specs.Tasks.{clock_of, clock_told, door_of, door_told, in
 use Rattle.srv_workers.specs.Work.{Does, sight, Worked}
 use Rattle.srv_workers.proofs.PairLemmas.{pick-all, pick-first, pick-second}
 
--- what is made of a worker before and after its work is a run of this device, or there is no such device
+-- a worker before and after its work makes a run of this device, or there is no such device
 record IsPick {X R : Type 0} (Is : Run X R → Type 0) (made : Option (Run X R)) (came left : Option X) (told : Option R)
     : Type 0 where
   came_is : option_map (λ (run : Run X R). run.came) made ≡ came

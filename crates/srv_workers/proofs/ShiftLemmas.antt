@@ -2,11 +2,11 @@
 use Rattle.std.proofs.Common.{◌≡◌, ℕ, ◌<◌, List, length, map, All, Option, slice_index_or}
 use Rattle.fm_model.specs.declared.op.Op.{Op}
 use Rattle.fm_model.specs.declared.proto.Proto.{Proto}
-use Rattle.fm_world.specs.Shown.{LinkShown}
-use Rattle.fm_doors.specs.Clock.{Moments}
-use Rattle.fm_doors.specs.Door.{DoorShown}
-use Rattle.fm_doors.specs.Inbox.{InboxShown}
-use Rattle.pub_plain.specs.History.{Continues, History}
+use Rattle.dev_traits.specs.Shown.{LinkShown}
+use Rattle.dev_traits.specs.Clock.{Moments}
+use Rattle.dev_traits.specs.Door.{DoorShown}
+use Rattle.dev_traits.specs.Inbox.{InboxShown}
+use Rattle.pub_look.specs.History.{Continues, History}
 use Rattle.srv_workers.specs.declared.task.Worker.{Worker}
 use Rattle.srv_workers.specs.Done.{HaveWorked}
 use Rattle.srv_workers.specs.Work.{Worked}

@@ -2,7 +2,7 @@
 use Rattle.std.proofs.Common.{◌≡◌, ℕ, zero, suc, ◌+◌, ◌-◌, List, [], ◌∷◌, ◌++◌, length, map, take, drop, All, replicate, slice_index_or, sym, ap, subst, ◌∙◌, arith}
 use Rattle.std.proofs.lemmas.List.{map-append}
 use Rattle.std.proofs.lemmas.List.Elements.{All-nil, All-cons, All-append}
-use Rattle.pub_plain.specs.History.{History}
+use Rattle.pub_look.specs.History.{History}
 use Rattle.srv_workers.specs.declared.task.Task.{Task}
 use Rattle.srv_workers.specs.declared.task.Worker.{Worker}
 use Rattle.srv_workers.proofs.TaskLemmas.{drop-next, take-next}

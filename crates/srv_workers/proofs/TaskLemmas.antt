@@ -2,7 +2,7 @@
 use Rattle.std.proofs.Common.{◌≡◌, ℕ, zero, suc, ◌+◌, List, [], ◌∷◌, ◌++◌, take, drop, All, replicate, Option, Some, None, refl, sym, ap, subst, ◌∙◌, append_assoc, append-nil, length-append, take-add, drop-drop, arith}
 use Rattle.std.proofs.lemmas.List.Elements.{All-nil, All-cons, All-append, All-head, All-tail, filter_map-append}
 use Rattle.std.specs.List.{cons_option, filter_map}
-use Rattle.srv_door.specs.declared.report.DoorReport.{DoorReport}
+use Rattle.srv_conn.specs.declared.door_report.DoorReport.{DoorReport}
 use Rattle.srv_ingest.specs.declared.report.ExpireReport.{ExpireReport}
 use Rattle.srv_ingest.specs.declared.report.IngestReport.{IngestReport}
 use Rattle.srv_workers.specs.declared.task.Task.{Task}

@@ -1,13 +1,13 @@
--- What workers leave once they have ended.
+-- The workers once they have ended.
 use Rattle.std.specs.Prelude.{◌≡◌, ℕ, ◌+◌, List, [], length, map, sum, sum_by, All, Option}
 use Rattle.std.specs.List.{AllZip, filter_map}
 use Rattle.fm_model.specs.declared.op.Op.{Op}
 use Rattle.fm_model.specs.declared.proto.Proto.{Proto}
-use Rattle.fm_world.specs.Shown.{LinkShown}
-use Rattle.fm_doors.specs.Clock.{Moments}
-use Rattle.fm_doors.specs.Door.{DoorShown}
-use Rattle.fm_doors.specs.Inbox.{InboxShown}
-use Rattle.pub_plain.specs.History.{Continues, History}
+use Rattle.dev_traits.specs.Shown.{LinkShown}
+use Rattle.dev_traits.specs.Clock.{Moments}
+use Rattle.dev_traits.specs.Door.{DoorShown}
+use Rattle.dev_traits.specs.Inbox.{InboxShown}
+use Rattle.pub_look.specs.History.{Continues, History}
 use Rattle.pub_snap.specs.Opening.{unused}
 use Rattle.srv_ingest.specs.declared.report.ExpireReport.{ExpireReport}
 use Rattle.srv_ingest.specs.declared.report.IngestReport.{IngestReport}
@@ -18,7 +18,7 @@ use Rattle.srv_workers.specs.Runs.{AreRuns, IsClockRun, IsDoorRun, IsInboxRun}
 use Rattle.srv_workers.specs.Tasks.{Adds, clock_of, clock_told, door_of, door_told, inbox_of, inbox_told, share_of}
 use Rattle.srv_workers.specs.Work.{Worked}
 
--- all workers did their tasks, what they had seen then begins the log, and since then their tasks have stayed
+-- all workers did their tasks, their seen operations then begin the log, and since then their tasks have stayed
 pub record HaveWorked {D I C L : Type 0} (door : D → DoorShown L) (link : L → LinkShown) (inbox : I → InboxShown)
     (clock : C → Option Moments) (proto : Proto) (keep : ℕ) (log : List Op)
     (before after : List (Worker D I C History ℕ))
@@ -28,21 +28,21 @@ pub record HaveWorked {D I C L : Type 0} (door : D → DoorShown L) (link : L �
   pub begin : All (λ worker. Continues worker.pass.seen log) middle
   pub tasks : map (λ worker. worker.task) after ≡ map (λ worker. worker.task) middle
 
--- how many files came, by the reports of tasks
-abbrev pub published_by : {D I C H : Type 0} → List (Task D I C H) → ℕ
-published_by tasks = sum_by (λ (report : IngestReport). report.published) (filter_map inbox_told tasks)
+-- the number of files that came, by the reports of tasks
+abbrev pub published_sum : {D I C H : Type 0} → List (Task D I C H) → ℕ
+published_sum tasks = sum_by (λ (report : IngestReport). report.published) (filter_map inbox_told tasks)
 
--- how many files were taken back
-abbrev pub retracted_by : {D I C H : Type 0} → List (Task D I C H) → ℕ
-retracted_by tasks = sum_by (λ (report : IngestReport). report.retracted) (filter_map inbox_told tasks)
+-- the number of files that were taken back
+abbrev pub retracted_sum : {D I C H : Type 0} → List (Task D I C H) → ℕ
+retracted_sum tasks = sum_by (λ (report : IngestReport). report.retracted) (filter_map inbox_told tasks)
 
--- how often runs went
-abbrev pub expired_by : {D I C H : Type 0} → List (Task D I C H) → ℕ
-expired_by tasks = sum_by (λ (report : ExpireReport). report.expired) (filter_map clock_told tasks)
+-- the number of times that runs went
+abbrev pub expired_sum : {D I C H : Type 0} → List (Task D I C H) → ℕ
+expired_sum tasks = sum_by (λ (report : ExpireReport). report.expired) (filter_map clock_told tasks)
 
--- how many operations the reports of tasks count
-abbrev pub told_by : {D I C H : Type 0} → List (Task D I C H) → ℕ
-told_by tasks = published_by tasks + retracted_by tasks + expired_by tasks
+-- the number of operations that the reports of tasks count
+abbrev pub told_sum : {D I C H : Type 0} → List (Task D I C H) → ℕ
+told_sum tasks = published_sum tasks + retracted_sum tasks + expired_sum tasks
 
 -- tasks are done for these devices: the runs of each kind, and what their shares have counted
 pub record AreDone {D I C L : Type 0} (door : D → DoorShown L) (link : L → LinkShown) (inbox : I → InboxShown)
@@ -55,7 +55,7 @@ pub record AreDone {D I C L : Type 0} (door : D → DoorShown L) (link : L → L
   pub clocks : AreRuns (IsClockRun clock proto keep log) given_clocks (filter_map clock_of tasks)
       (filter_map clock_told tasks)
   pub shares : length (filter_map share_of tasks) ≡ length given_inboxes + length given_clocks
-  pub told : told_by tasks ≡ sum (filter_map share_of tasks)
+  pub told : told_sum tasks ≡ sum (filter_map share_of tasks)
 
 -- workers were hired for these devices, whose passes have seen nothing and whose shares have counted nothing
 pub record IsHired {D I C : Type 0} (proto : Proto) (devices : Devices D I C) (staff : List (Worker D I C History ℕ))

@@ -27,16 +27,16 @@ pub record HasRoom {D I C H : Type 0} (tasks : List (Task D I C H)) (parts : Par
   pub clocks_told : length (filter_map clock_told tasks) ≤ parts.clocks_told.free
 
 -- items were put behind others, in room that was there
-pub record Puts {T : Type 0} (items : List T) (before after : Slotted T) : Type 0 where
+pub record PutsItems {T : Type 0} (items : List T) (before after : Slotted T) : Type 0 where
   pub items_are : after.items ≡ before.items ++ items
   pub free_is : after.free ≡ before.free - length items
 
 -- the parts of these tasks were put behind others
 pub record PutsParts {D I C H : Type 0} (tasks : List (Task D I C H)) (before after : Parts D I C H) : Type 0 where
-  pub doors : Puts (filter_map door_of tasks) before.doors after.doors
-  pub inboxes : Puts (filter_map inbox_of tasks) before.inboxes after.inboxes
-  pub clocks : Puts (filter_map clock_of tasks) before.clocks after.clocks
-  pub shares : Puts (filter_map share_of tasks) before.shares after.shares
-  pub doors_told : Puts (filter_map door_told tasks) before.doors_told after.doors_told
-  pub inboxes_told : Puts (filter_map inbox_told tasks) before.inboxes_told after.inboxes_told
-  pub clocks_told : Puts (filter_map clock_told tasks) before.clocks_told after.clocks_told
+  pub doors : PutsItems (filter_map door_of tasks) before.doors after.doors
+  pub inboxes : PutsItems (filter_map inbox_of tasks) before.inboxes after.inboxes
+  pub clocks : PutsItems (filter_map clock_of tasks) before.clocks after.clocks
+  pub shares : PutsItems (filter_map share_of tasks) before.shares after.shares
+  pub doors_told : PutsItems (filter_map door_told tasks) before.doors_told after.doors_told
+  pub inboxes_told : PutsItems (filter_map inbox_told tasks) before.inboxes_told after.inboxes_told
+  pub clocks_told : PutsItems (filter_map clock_told tasks) before.clocks_told after.clocks_told

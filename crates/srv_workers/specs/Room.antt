@@ -5,11 +5,11 @@ use Rattle.srv_workers.specs.declared.outcome.Devices.{Devices}
 use Rattle.srv_workers.specs.declared.room.Room.{Room}
 use Rattle.srv_workers.specs.Parts.{IsEmpty}
 
--- how many devices there are
+-- the number of devices
 abbrev pub device_count : {D I C : Type 0} → Devices D I C → ℕ
 device_count devices = length devices.doors + length devices.inboxes + length devices.clocks
 
--- nothing is there yet, and there is room for all that becomes of these devices
+-- nothing is there yet, and there is room for the tasks, the workers and the parts of these devices
 pub record IsRoomFor {D I C N : Type 0} (devices : Devices D I C) (proto : Proto) (room : Room D I C N)
     : Type 0 where
   pub no_tasks : room.tasks.items ≡ []

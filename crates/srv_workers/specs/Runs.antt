@@ -1,27 +1,26 @@
--- What workers do together: runs of doors, inboxes and clocks, whose verdicts and replies speak of one log.
+-- The work of all workers: runs of doors, inboxes and clocks, whose verdicts and replies speak of one log.
 use Rattle.std.specs.Prelude.{◌≡◌, ℕ, ◌+◌, List, length, map, sum_by, All, false, Option}
 use Rattle.fm_edition.specs.Log.{IsLog}
 use Rattle.fm_model.specs.declared.op.Op.{Op}
 use Rattle.fm_model.specs.declared.proto.Proto.{Proto}
 use Rattle.fm_model.specs.Collection.{coll, tally}
-use Rattle.fm_world.specs.Shown.{LinkShown}
-use Rattle.fm_doors.specs.Clock.{Moments}
-use Rattle.fm_doors.specs.Door.{DoorShown}
-use Rattle.fm_doors.specs.Inbox.{InboxShown}
-use Rattle.pub_plain.specs.History.{Continues, History}
+use Rattle.dev_traits.specs.Shown.{LinkShown}
+use Rattle.dev_traits.specs.Clock.{Moments}
+use Rattle.dev_traits.specs.Door.{DoorShown}
+use Rattle.dev_traits.specs.Inbox.{InboxShown}
+use Rattle.pub_look.specs.History.{Continues, History}
 use Rattle.pub_snap.specs.Opening.{unused}
-use Rattle.srv_door.specs.Turns.{EndsDoor, ServesEach}
+use Rattle.srv_conn.specs.DoorTurns.{EndsDoor, ServesEach}
 use Rattle.srv_ingest.specs.Expires.{AllSettledWith}
 use Rattle.srv_ingest.specs.Ingests.{EndsIngest, SettledWith}
-use Rattle.srv_door.specs.declared.report.DoorReport.{DoorReport}
+use Rattle.srv_conn.specs.declared.door_report.DoorReport.{DoorReport}
 use Rattle.srv_ingest.specs.declared.report.ExpireReport.{ExpireReport}
 use Rattle.srv_ingest.specs.declared.report.IngestReport.{IngestReport}
 use Rattle.srv_workers.specs.declared.outcome.Devices.{Devices}
 use Rattle.srv_workers.specs.declared.outcome.Outcome.{Outcome}
 use Rattle.srv_workers.specs.Work.{sight}
 
--- one device in the hands of a worker: as it came and as it was left, what the worker's pass had seen at the end, and
--- the report of it
+-- one device in the hands of a worker: as it came and as it was left, the worker's pass at the end, and its report
 pub record Run (X R : Type 0) : Type 0 where
   pub came : X
   pub left : X
@@ -36,7 +35,7 @@ pub record AreRuns {X R : Type 0} (Is : Run X R → Type 0) (before after : List
   pub told : map (λ run. run.report) runs ≡ reports
   pub each : All Is runs
 
--- a door was served by a pass that had seen nothing, and what it saw is a beginning of the log
+-- a pass that had seen nothing served a door, and the operations that it saw begin the log
 pub record IsDoorRun {D L : Type 0} (door : D → DoorShown L) (link : L → LinkShown) (proto : Proto) (log : List Op)
     (run : Run D DoorReport) : Type 0 where
   pub serves : ServesEach link proto false (door run.came).held (door run.left).held (sight (unused proto))
@@ -44,22 +43,22 @@ pub record IsDoorRun {D L : Type 0} (door : D → DoorShown L) (link : L → Lin
   pub ends : EndsDoor (door run.came) (door run.left) run.report.end
   pub begins : Continues run.pass.seen log
 
--- what arrived in an inbox was taken in by a pass that had seen nothing, and what it saw is a beginning of the log
+-- a pass that had seen nothing took in an inbox's names, and the operations that it saw begin the log
 pub record IsInboxRun {I : Type 0} (inbox : I → InboxShown) (proto : Proto) (log : List Op) (run : Run I IngestReport)
     : Type 0 where
   pub settles : SettledWith proto (inbox run.came).held (inbox run.left).held (unused proto) run.pass run.report
   pub ends : EndsIngest (inbox run.came) (inbox run.left) run.report.end
   pub begins : Continues run.pass.seen log
 
--- the runs that were too old at each moment of a clock were let go by a pass that had seen nothing, and what it saw is
--- a beginning of the log
+-- a pass that had seen nothing let runs go that were too old at each moment of a clock, and the operations that it saw
+-- begin the log
 pub record IsClockRun {C : Type 0} (clock : C → Option Moments) (proto : Proto) (keep : ℕ) (log : List Op)
     (run : Run C ExpireReport) : Type 0 where
   pub settles : AllSettledWith keep proto.site.epoch (clock run.came) (clock run.left) (unused proto) run.pass
       run.report
   pub begins : Continues run.pass.seen log
 
--- how many operations the reports count
+-- the number of operations that the reports count
 abbrev pub told_of : Outcome → ℕ
 told_of outcome = sum_by (λ (report : IngestReport). report.published) outcome.inboxes
     + sum_by (λ (report : IngestReport). report.retracted) outcome.inboxes

@@ -1,7 +1,7 @@
--- Tasks of workers: what they are made of, and the devices and shares of several.
+-- Tasks of workers: their parts, and the devices and shares of several.
 use Rattle.std.specs.Prelude.{◌≡◌, ℕ, ◌+◌, List, ◌++◌, length, All, Option, Some, None, IfSome}
 use Rattle.std.specs.List.{filter_map}
-use Rattle.srv_door.specs.declared.report.DoorReport.{DoorReport}
+use Rattle.srv_conn.specs.declared.door_report.DoorReport.{DoorReport}
 use Rattle.srv_ingest.specs.declared.report.ExpireReport.{ExpireReport}
 use Rattle.srv_ingest.specs.declared.report.IngestReport.{IngestReport}
 use Rattle.srv_workers.specs.declared.task.Task.{Task}

@@ -1,13 +1,13 @@
--- What one worker does.
+-- The work of one worker.
 use Rattle.std.specs.Prelude.{◌≡◌, ℕ, ◌+◌, false, Option}
 use Rattle.fm_model.specs.declared.proto.Proto.{Proto}
-use Rattle.fm_world.specs.Shown.{LinkShown}
-use Rattle.fm_doors.specs.Clock.{Moments}
-use Rattle.fm_doors.specs.Door.{DoorShown}
-use Rattle.fm_doors.specs.Inbox.{InboxShown}
-use Rattle.pub_plain.specs.History.{History}
-use Rattle.srv_door.specs.declared.report.DoorReport.{DoorReport}
-use Rattle.srv_door.specs.Turns.{EndsDoor, ServesEach, Sight}
+use Rattle.dev_traits.specs.Shown.{LinkShown}
+use Rattle.dev_traits.specs.Clock.{Moments}
+use Rattle.dev_traits.specs.Door.{DoorShown}
+use Rattle.dev_traits.specs.Inbox.{InboxShown}
+use Rattle.pub_look.specs.History.{History}
+use Rattle.srv_conn.specs.declared.door_report.DoorReport.{DoorReport}
+use Rattle.srv_conn.specs.DoorTurns.{EndsDoor, ServesEach, Sight}
 use Rattle.srv_ingest.specs.declared.report.ExpireReport.{ExpireReport}
 use Rattle.srv_ingest.specs.declared.report.IngestReport.{IngestReport}
 use Rattle.srv_ingest.specs.Expires.{AllSettledWith}
@@ -16,7 +16,7 @@ use Rattle.srv_workers.specs.declared.task.Task.{Task}
 use Rattle.srv_workers.specs.declared.task.Task.TheVariants.{Serve, TakeIn, LetGo}
 use Rattle.srv_workers.specs.declared.task.Worker.{Worker}
 
--- what a pass has seen, as serving a door sees it
+-- the view of a pass that serving a door has
 abbrev pub sight : History → Sight
 sight pass = record { seen = pass.seen; looks = pass.looks }
 
@@ -27,7 +27,7 @@ pub record ServesDoor {D L : Type 0} (door : D → DoorShown L) (link : L → Li
       report.served report.short
   pub ends : EndsDoor (door before) (door after) report.end
 
--- What arrived in an inbox was taken in by a pass, up to its end, and counted with a share.
+-- A pass took in an inbox's names, up to their end, and a share counted them.
 pub record TakesIn {I : Type 0} (inbox : I → InboxShown) (proto : Proto) (pass pass' : History) (before after : I)
     (share share' : ℕ) (report : IngestReport) : Type 0 where
   pub settles : SettledWith proto (inbox before).held (inbox after).held pass pass' report

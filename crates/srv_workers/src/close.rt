@@ -7,18 +7,17 @@ ghost use Rattle.srv_workers.specs.Parts.{HasRoom, IsEmpty};
 ghost use Rattle.srv_workers.specs.Tasks.{share_of};
 
 use crate::outcome::{Devices, Outcome};
-use crate::own::OwnPass;
-use crate::parts::{Parts, take_apart};
-use crate::task::Worker;
+use crate::parts::{DeskParts, take_apart};
+use crate::task::DeskWorker;
 use fm_base::List;
-use pub_snap::{Desk, Name, Share};
+use pub_snap::{Desk, Name};
 use std::sync::Wait;
 
 // Gives the devices back and closes the desk.
 fn close_with<R: Wait, D: Drop, I: Drop, C: Drop, N: Name>(
     rt: &R,
     desk: Desk<N>,
-    parts: Parts<D, I, C, Share<N>>,
+    parts: DeskParts<D, I, C, N>,
     devices: &mut Devices<D, I, C>,
 ) -> Outcome
     requires { length parts.shares.items ≡ N.parts }
@@ -47,8 +46,8 @@ fn close_with<R: Wait, D: Drop, I: Drop, C: Drop, N: Name>(
 pub(crate) fn close_over<R: Wait, D: Drop, I: Drop, C: Drop, N: Name>(
     rt: &R,
     desk: Desk<N>,
-    staff: List<Worker<D, I, C, OwnPass<N>, Share<N>>>,
-    parts: Parts<D, I, C, Share<N>>,
+    staff: List<DeskWorker<D, I, C, N>>,
+    parts: DeskParts<D, I, C, N>,
     devices: &mut Devices<D, I, C>,
 ) -> Outcome
     requires room { HasRoom (map (λ worker. worker.task) staff) parts }

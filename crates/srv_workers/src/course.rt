@@ -1,7 +1,7 @@
 //! The end of the work: each worker learns the whole log.
 ghost use Rattle.std.specs.Prelude.{◌≡◌, ◌<◌, ℕ, IsTrue, All, length, map, slice_index_or};
 ghost use Rattle.fm_edition.specs.Log.{IsLog};
-ghost use Rattle.pub_plain.specs.History.{Continues};
+ghost use Rattle.pub_look.specs.History.{Continues};
 ghost use Rattle.srv_workers.specs.Course.{HasLearnt};
 
 use crate::own::OwnPass;
@@ -75,7 +75,7 @@ fn learn_once<R: Threads + Sync, D: Send, I: Send, C: Send, H: Send, N: Name + S
     all_have_seen(staff, log.revision())
 }
 
-// Has each worker learn the whole log. What each had seen before is a beginning of it.
+// Has each worker learn the whole log. All operations that a worker had seen before begin it.
 #[tactic(auto, using(crate::proofs::CourseLemmas::courses))]
 pub(crate) fn learn_all<
     R: Threads + Wait + Sync,

@@ -1,8 +1,8 @@
-//! What workers did together.
+//! The devices of a run, and the outcome of its workers.
 
 use fm_base::List;
 use fm_model::Tally;
-use srv_door::DoorReport;
+use srv_conn::DoorReport;
 use srv_ingest::{ExpireReport, IngestReport};
 
 /// The doors, the inboxes and the clocks of a run.
@@ -13,8 +13,8 @@ pub struct Devices<D, I, C> {
     pub clocks: List<C>,
 }
 
-/// What workers did together: the report of each, in the order of the devices, how much was held at the end, and how
-/// many operations were published.
+/// The outcome of all workers: the report of each, in the order of the devices, the tally at the end, and the number of
+/// operations published.
 #[derive(Debug, Drop)]
 pub struct Outcome {
     pub doors: List<DoorReport>,

@@ -1,11 +1,11 @@
 //! A pass with the prototype of its desk.
 ghost use Rattle.std.specs.Prelude.{◌≡◌, IfOk, length, replicate};
 ghost use Rattle.fm_edition.specs.Log.{IsLog};
-ghost use Rattle.pub_plain.specs.History.{Continues};
+ghost use Rattle.pub_look.specs.History.{Continues};
 
 use fm_base::{Arc, List, NoMemory};
 use fm_model::Proto;
-use pub_plain::Look;
+use pub_look::Look;
 use pub_snap::{Name, Pass, Receipt};
 use std::alloc::Global;
 use std::marker::Model;
@@ -19,7 +19,7 @@ pub(crate) struct OwnPass<N: Name> {
 
 impl<N: Name> Model for OwnPass<N> {
     ghost use Rattle.std.specs.Prelude.{◌≡◌};
-    ghost use Rattle.pub_plain.specs.History.{History};
+    ghost use Rattle.pub_look.specs.History.{History};
 
     ghost Value = { History };
 

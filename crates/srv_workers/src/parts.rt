@@ -5,7 +5,8 @@ ghost use Rattle.srv_workers.specs.Parts.{HasRoom, IsEmpty, PutsParts};
 use crate::slots::{Slots, take_off};
 use crate::task::{Task, Worker};
 use fm_base::{List, NoMemory};
-use srv_door::DoorReport;
+use pub_snap::Share;
+use srv_conn::DoorReport;
 use srv_ingest::{ExpireReport, IngestReport};
 use std::alloc::Global;
 
@@ -20,6 +21,9 @@ pub(crate) struct Parts<D, I, C, H> {
     pub inboxes_told: Slots<IngestReport>,
     pub clocks_told: Slots<ExpireReport>,
 }
+
+// The parts of workers at the desk of this name.
+pub(crate) type DeskParts<D, I, C, N> = Parts<D, I, C, Share<N>>;
 
 // No parts yet, and room for those of the given numbers of doors, inboxes and clocks.
 pub(crate) fn room_for<D: Drop, I: Drop, C: Drop, H: Drop>(

@@ -3,21 +3,21 @@ ghost use Rattle.std.specs.Prelude.{◌+◌, ◌<◌, ◌^◌, IfOk, length};
 ghost use Rattle.srv_workers.specs.Room.{IsRoomFor};
 
 use crate::outcome::Devices;
-use crate::own::{OwnPass, copies_of};
-use crate::parts::{Parts, room_for};
+use crate::own::copies_of;
+use crate::parts::{DeskParts, room_for};
 use crate::slots::Slots;
-use crate::task::{Task, Worker};
+use crate::task::{DeskTask, DeskWorker};
 use fm_base::{Arc, List, NoMemory};
 use fm_model::Proto;
-use pub_snap::{Name, Share};
+use pub_snap::Name;
 use std::alloc::Global;
 
-// Room for the tasks of a run, for its workers, and for what these are taken apart into; and the prototype for each.
+// Room for the tasks of a run, for its workers and for their parts; and the prototype for each worker.
 #[derive(Drop)]
 pub(crate) struct Room<D, I, C, N: Name> {
-    pub tasks: Slots<Task<D, I, C, Share<N>>>,
-    pub staff: Slots<Worker<D, I, C, OwnPass<N>, Share<N>>>,
-    pub parts: Parts<D, I, C, Share<N>>,
+    pub tasks: Slots<DeskTask<D, I, C, N>>,
+    pub staff: Slots<DeskWorker<D, I, C, N>>,
+    pub parts: DeskParts<D, I, C, N>,
     pub protos: List<Arc<Proto>>,
 }
 

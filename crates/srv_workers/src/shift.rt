@@ -4,11 +4,10 @@ ghost use Rattle.fm_edition.specs.Log.{IsLog};
 ghost use Rattle.srv_workers.specs.Done.{HaveWorked};
 
 use crate::course::learn_all;
-use crate::own::OwnPass;
-use crate::task::Worker;
+use crate::task::DeskWorker;
 use crate::work::work_over;
-use fm_doors::{Clock, Door, Gate, Inbox};
-use pub_snap::{Desk, Name, Share};
+use dev_traits::{Clock, Door, Gate, Inbox};
+use pub_snap::{Desk, Name};
 use std::alloc::Global;
 use std::sync::Wait;
 use std::thread::Threads;
@@ -28,7 +27,7 @@ pub(crate) fn work_and_learn<
     desk: Desk<N>,
     keep: u32,
     gate: &G,
-    staff: &mut [Worker<D, I, C, OwnPass<N>, Share<N>>],
+    staff: &mut [DeskWorker<D, I, C, N>],
 ) -> Desk<N>
 where
     D::L: Send,

@@ -4,19 +4,19 @@ ghost use Rattle.pub_snap.specs.Opening.{unused};
 
 use crate::own::OwnPass;
 use crate::slots::{Slots, take_off};
-use crate::task::{Task, Worker};
+use crate::task::{DeskTask, DeskWorker, Worker};
 use fm_base::{Arc, List};
 use fm_model::Proto;
 use pub_snap::{Name, Pass};
 
 // A worker for each of the tasks, with one of the passes each, and the prototype.
 #[tactic(auto, using(crate::proofs::StaffLemmas::staffs))]
-pub(crate) fn staff_of<D: Drop, I: Drop, C: Drop, H: Drop, N: Name>(
-    tasks: List<Task<D, I, C, H>>,
+pub(crate) fn staff_of<D: Drop, I: Drop, C: Drop, N: Name>(
+    tasks: List<DeskTask<D, I, C, N>>,
     passes: List<Pass<N>>,
     protos: List<Arc<Proto>>,
-    room: Slots<Worker<D, I, C, OwnPass<N>, H>>,
-) -> List<Worker<D, I, C, OwnPass<N>, H>>
+    room: Slots<DeskWorker<D, I, C, N>>,
+) -> List<DeskWorker<D, I, C, N>>
     requires passes { passes ≡ replicate (length tasks) (unused N.proto) }
     requires protos { protos ≡ replicate (length tasks) N.proto }
     requires empty { room.items ≡ [] }

@@ -1,9 +1,11 @@
 //! Workers and their tasks.
 
-use srv_door::{DoorEnd, DoorReport};
+use crate::own::OwnPass;
+use pub_snap::Share;
+use srv_conn::{DoorEnd, DoorReport};
 use srv_ingest::{ExpireReport, IngestEnd, IngestReport};
 
-// What a worker works on, and its report. A door has a number; a task that publishes has a share.
+// The device of a worker, and its report. A door has a number; a task that publishes has a share.
 #[derive(Drop)]
 pub(crate) enum Task<D, I, C, H> {
     Serve {
@@ -23,12 +25,18 @@ pub(crate) enum Task<D, I, C, H> {
     },
 }
 
-// A worker: what it looks with, and its task.
+// A worker: the pass that it looks with, and its task.
 #[derive(Drop)]
 pub(crate) struct Worker<D, I, C, P, H> {
     pub pass: P,
     pub task: Task<D, I, C, H>,
 }
+
+// A task at the desk of this name.
+pub(crate) type DeskTask<D, I, C, N> = Task<D, I, C, Share<N>>;
+
+// A worker at the desk of this name.
+pub(crate) type DeskWorker<D, I, C, N> = Worker<D, I, C, OwnPass<N>, Share<N>>;
 
 // The report before a door is served.
 pub(crate) const NO_LINKS: DoorReport = DoorReport {

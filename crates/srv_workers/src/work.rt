@@ -3,10 +3,10 @@ ghost use Rattle.std.specs.Prelude.{◌≡◌, ◌<◌, ℕ, length, slice_index
 ghost use Rattle.srv_workers.specs.Work.{Worked};
 
 use crate::own::OwnPass;
-use crate::task::{Task, Worker};
-use fm_doors::{Clock, Door, Gate, Inbox};
-use pub_snap::{Desk, Name, Share};
-use srv_door::serve_door;
+use crate::task::{DeskWorker, Task};
+use dev_traits::{Clock, Door, Gate, Inbox};
+use pub_snap::{Desk, Name};
+use srv_conn::serve_door;
 use srv_ingest::{expire_all, ingest_all};
 use std::alloc::Global;
 use std::sync::{Mutex, Wait};
@@ -19,7 +19,7 @@ fn work<R: Wait, D: Door, I: Inbox, C: Clock, G: Gate, N: Name>(
     desk: &Mutex<Desk<N>>,
     keep: u32,
     gate: &G,
-    worker: &mut Worker<D, I, C, OwnPass<N>, Share<N>>,
+    worker: &mut DeskWorker<D, I, C, N>,
 )
     ensures { Worked D.shown D.L.shown I.shown C.shown N.proto keep worker.old worker.new }
 {
@@ -65,7 +65,7 @@ fn work_all<
     desk: &Mutex<Desk<N>>,
     keep: u32,
     gate: &G,
-    staff: &mut [Worker<D, I, C, OwnPass<N>, Share<N>>],
+    staff: &mut [DeskWorker<D, I, C, N>],
 )
 where
     D::L: Send,
@@ -79,7 +79,7 @@ where
             rt,
             staff,
             threads,
-            &|_: usize, worker: &mut Worker<D, I, C, OwnPass<N>, Share<N>>|
+            &|_: usize, worker: &mut DeskWorker<D, I, C, N>|
                 ensures { Worked D.shown D.L.shown I.shown C.shown N.proto keep worker.old worker.new }
             { work(rt, alloc, desk, keep, gate, worker) },
         );
@@ -100,7 +100,7 @@ pub(crate) fn work_over<
     desk: Desk<N>,
     keep: u32,
     gate: &G,
-    staff: &mut [Worker<D, I, C, OwnPass<N>, Share<N>>],
+    staff: &mut [DeskWorker<D, I, C, N>],
 ) -> Desk<N>
 where
     D::L: Send,

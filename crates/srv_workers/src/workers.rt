@@ -9,15 +9,14 @@ ghost use Rattle.srv_workers.specs.Runs.{RanTogether};
 
 use crate::close::close_over;
 use crate::outcome::{Devices, Outcome};
-use crate::own::OwnPass;
 use crate::room::{Room, room_of};
 use crate::shift::work_and_learn;
 use crate::slots::Slots;
 use crate::staff::staff_of;
-use crate::task::{Task, Worker};
+use crate::task::{DeskTask, DeskWorker};
 use crate::tasks::tasks_of;
+use dev_traits::{Clock, Door, Gate, Inbox};
 use fm_base::{Arc, List, NoMemory};
-use fm_doors::{Clock, Door, Gate, Inbox};
 use fm_model::Proto;
 use pub_snap::{Blank, Desk, Name, Pass, Share, prepare};
 use std::alloc::Global;
@@ -32,9 +31,9 @@ fn hire<D: Drop, I: Drop, C: Drop, N: Name>(
     passes: List<Pass<N>>,
     shares: List<Share<N>>,
     protos: List<Arc<Proto>>,
-    tasks: Slots<Task<D, I, C, Share<N>>>,
-    staff: Slots<Worker<D, I, C, OwnPass<N>, Share<N>>>,
-) -> List<Worker<D, I, C, OwnPass<N>, Share<N>>>
+    tasks: Slots<DeskTask<D, I, C, N>>,
+    staff: Slots<DeskWorker<D, I, C, N>>,
+) -> List<DeskWorker<D, I, C, N>>
     requires few { length devices.old.doors < 2 ^ 32 }
     requires passes { passes ≡ replicate (device_count devices.old) (unused N.proto) }
     requires shares { shares ≡ replicate (length devices.old.inboxes + length devices.old.clocks) 0 }
@@ -62,8 +61,8 @@ fn work_by<
     desk: Desk<N>,
     keep: u32,
     gate: &G,
-    staff: List<Worker<D, I, C, OwnPass<N>, Share<N>>>,
-) -> (Desk<N>, List<Worker<D, I, C, OwnPass<N>, Share<N>>>)
+    staff: List<DeskWorker<D, I, C, N>>,
+) -> (Desk<N>, List<DeskWorker<D, I, C, N>>)
 where
     D::L: Send,
     requires { 0 < length staff }

@@ -7,7 +7,7 @@ use row_text::{Row, put_shown};
 use std::alloc::Global;
 use std::fmt::Write;
 
-/// What a constraint asks for, or its fault with the place.
+/// The clauses of a constraint, or its fault with the offset.
 pub fn constraint(alloc: Global, row: &Row<'_>) -> Result<Option<String>, NoMemory> {
     if !row.has_each(&["constraint"]) {
         return Ok(None);

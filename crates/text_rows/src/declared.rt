@@ -1,8 +1,9 @@
-//! Declarations of a dataset as a short text: a line for each, with the sizes of its dimensions, all of one kind. A line
-//! is an array, as `lat[lat=2]`, or `Grid t(ARRAY, MAP, ..)`, or `Structure s(ARRAY, ..)`.
+//! Declarations of a dataset as a short text: a line for each, with the sizes of its dimensions, all of one kind. A
+//! line is an array, as `lat[lat=2]`, or `Grid t(ARRAY, MAP, ..)`, or `Structure s(ARRAY, ..)`.
 
 use dap_model::{Array, DapKind, Decl};
-use fm_base::{Bytes, Dim, List, NoMemory};
+use fm_base::{Bytes, List, NoMemory};
+use nc_model::Dim;
 use std::alloc::Global;
 
 /// The declarations of a text, or `None` where a line is none.

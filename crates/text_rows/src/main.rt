@@ -9,7 +9,7 @@ mod values;
 mod words;
 
 use fm_base::NoMemory;
-use row_text::{Answers, Count, File, Row, end, read_inputs, run};
+use row_text::{Answers, File, Row, read_inputs, run_all};
 use std::alloc::{AllocError, Global};
 use std::io;
 use std::process::ExitCode;
@@ -53,16 +53,5 @@ fn main(rt: HostRuntime) -> io::Result<ExitCode> {
     let texts = Texts {
         files: inputs.files.as_slice(),
     };
-    let mut count = Count::default();
-    for text in &inputs.texts {
-        run(
-            &rt,
-            rt.alloc(),
-            text.path.as_str(),
-            text.text.as_str(),
-            &texts,
-            &mut count,
-        )?;
-    }
-    end(&rt, count)
+    run_all(&rt, rt.alloc(), inputs.texts.as_slice(), &texts)
 }

@@ -1,8 +1,9 @@
 //! Values of a file from their bits: as texts, and as seconds.
 
 use crate::times::seconds_said;
-use fm_base::{Bytes, Kind, NoMemory};
+use fm_base::{Bytes, NoMemory};
 use fm_bits::{pattern_at, put_quoted, text_of, whole_seconds};
+use nc_model::Kind;
 use row_text::{Row, hex, put_shown};
 use std::alloc::Global;
 

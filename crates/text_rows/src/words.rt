@@ -1,4 +1,4 @@
-//! Words of a command, which stand between bars: the job that they are, and what a person is told of them.
+//! Words of a command, which stand between bars: their job, and the text that a person is shown.
 
 use fm_base::{Bytes, Fail, List, NoMemory};
 use fm_model::Site;
@@ -7,7 +7,7 @@ use srv_words::{Job, Serving, Step, read_job, usage_of};
 use std::alloc::Global;
 use std::fmt::Write;
 
-/// The job of words, or whether a person is told a text.
+/// The job of words, or whether a person is shown a text.
 pub fn words(alloc: Global, row: &Row<'_>) -> Result<Option<String>, NoMemory> {
     let Some(line) = row.bytes(alloc, "words")? else {
         return Ok(None);
@@ -16,15 +16,15 @@ pub fn words(alloc: Global, row: &Row<'_>) -> Result<Option<String>, NoMemory> {
     if row.has_each(&["words"]) {
         return job_said(alloc, &words);
     }
-    match row.value("tells") {
-        Some(part) if row.has_each(&["words", "tells"]) => {
+    match row.value("shows") {
+        Some(part) if row.has_each(&["words", "shows"]) => {
             let text = usage_of(alloc, &words)?;
-            let told = if text.as_str().contains(part) {
+            let found = if text.as_str().contains(part) {
                 "yes"
             } else {
                 "no"
             };
-            Ok(Some(String::from_str(alloc, told)?))
+            Ok(Some(String::from_str(alloc, found)?))
         }
         _ => Ok(None),
     }

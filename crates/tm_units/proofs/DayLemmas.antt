@@ -9,7 +9,7 @@ use Rattle.jiff_core.proofs.CalendarLemmas.{days_from_civil-day_count, day_count
 use Rattle.jiff_core.proofs.DateLemmas.{civil}
 use Rattle.jiff_core.proofs.MarchLemmas.{day_count-early}
 use Rattle.jiff_core.proofs.SignedLemmas.{signed_arith}
-use Rattle.fm_base.specs.Instant.{last_passing, year_of, month_of, day_of}
+use Rattle.nc_model.specs.Instant.{last_passing, year_of, month_of, day_of}
 use Rattle.tm_units.specs.Parts.{HasParts}
 use borrow.Author.Differences.{up, down}
 

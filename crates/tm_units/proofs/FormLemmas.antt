@@ -1,7 +1,7 @@
 -- Whether a text begins in a form, one byte after the other.
 use Rattle.std.proofs.Common.{◌≡◌, ℕ, ◌+◌, ◌<◌, ◌≤◌, false, ◌&&◌, List, length, get_or, drop, ap₂}
 use Rattle.std.proofs.lemmas.List.{drop_more, drop_all}
-use Rattle.fm_base.specs.Stamp.{begins_in_form, is_like}
+use Rattle.nc_model.specs.Stamp.{begins_in_form, is_like}
 
 -- the bytes at one place, and those after it
 pub begins_in_form-turn : (form text : List ℕ) (i : ℕ) → i < length form → i < length text

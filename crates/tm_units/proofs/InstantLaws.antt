@@ -1,13 +1,15 @@
 -- The text of each instant of the years 0 to 9999 is read as that instant, and no other text is.
-use Rattle.std.proofs.Common.{◌≡◌, ℕ, ◌+◌, ◌-◌, ◌/◌, ◌%◌, ◌<◌, ◌≤◌, Bool, true, false, cond, ◌&&◌, ◌==◌, nat_le, nat_lt, List, length, Option, Some, None, IfSome, refl, sym, ap, subst, ◌∙◌, inl, inr, arith, rules, ℤ, pos, unsigned_abs}
+use Rattle.std.proofs.Common.{◌≡◌, ℕ, ◌+◌, ◌-◌, ◌/◌, ◌%◌, ◌<◌, ◌≤◌, true, ◌&&◌, ◌==◌, nat_le, nat_lt, List, length, Option, Some, None, IfSome, refl, sym, ap, subst, ◌∙◌, inl, inr, arith, rules, ℤ, pos, unsigned_abs}
 use Rattle.std.proofs.lemmas.Bool.{cases_lt, leb-true, ltb-true, le-leb, lt-ltb, eqb-true}
+use Rattle.std.proofs.lemmas.Option.{same_Some}
 use Rattle.std.specs.Int.{int_div_euclid, int_rem_euclid}
 use Rattle.jiff_core.specs.Calendar.{day_count, days_from_civil, days_in_month, IsCivilDate}
 use Rattle.jiff_core.proofs.CalendarLemmas.{days_from_civil-day_count, days_in_month_bounds, day_count-lt_year, day_count-day_of_year, day_count_bounds}
 use Rattle.jiff_core.proofs.SignedLemmas.{signed_arith}
-use Rattle.fm_base.specs.Calendar.{is_date, is_time, time_seconds, unix_seconds, moment_of}
-use Rattle.fm_base.specs.Stamp.{number_at, begins_in_form}
-use Rattle.fm_base.specs.Instant.{HasFourDigitYear, instant_form, instant_of, instant_text_of, text_of_day, spelled_instant}
+use Rattle.nc_model.specs.Calendar.{is_date, is_time, time_seconds, unix_seconds, moment_of}
+use Rattle.nc_model.specs.Stamp.{number_at, begins_in_form}
+use Rattle.nc_model.specs.Instant.{HasFourDigitYear, instant_form, instant_of, instant_text_of, text_of_day, spelled_instant}
+use Rattle.fm_base.proofs.OptionLemmas.{chosen}
 use Rattle.tm_units.proofs.DayLemmas.{first_count, year_of-days_from_civil, month_of-days_from_civil, day_of-days_from_civil}
 use Rattle.tm_units.proofs.DayExists.{date_exists, is_year}
 use Rattle.tm_units.proofs.InstantLemmas.{and_parts, instant_of-spelled_instant, spelled_instant-form}
@@ -31,6 +33,7 @@ is_date-true year month day h =
       ),
     )
 
+-- a date of the calendar passes the test
 pub is_date-civil : (year month day : ℕ) → year ≤ 9999 → IsCivilDate (pos year) month day
     → is_date year month day ≡ true
 is_date-civil year month day small is =
@@ -43,15 +46,9 @@ is_time-true hour minute second h =
     let front = and_parts (nat_lt hour 24) (nat_lt minute 60) whole.0 in
     (ltb-true _ _ front.0, ltb-true _ _ front.1, ltb-true _ _ whole.1)
 
+-- hours, minutes and seconds below their limits pass the test
 pub is_time-below : (hour minute second : ℕ) → hour < 24 → minute < 60 → second < 60 → is_time hour minute second ≡ true
 is_time-below hour minute second h m s = rw (lt-ltb _ _ h, lt-ltb _ _ m, lt-ltb _ _ s) refl
-
-chosen : {A : Type 0} (b : Bool) (o : Option A) (x : A) → cond b o None ≡ Some x → (b ≡ true) × (o ≡ Some x)
-chosen true o x h = (refl, h)
-chosen false o x h = absurd cc
-
-some_is : {A : Type 0} (x y : A) → Some x ≡ Some y → x ≡ y
-some_is x y h = cc
 
 -- what the parts of a moment are
 pub moment_of-some : (year month day hour minute second : ℕ) (t : ℤ) → moment_of year month day hour minute second
@@ -63,8 +60,9 @@ moment_of-some year month day hour minute second t h =
     chosen (is_date year month day && is_time hour minute second)
     (Some (unix_seconds (days_from_civil (pos year) month day) (pos (time_seconds hour minute second)))) t h in
     let both = and_parts (is_date year month day) (is_time hour minute second) there.0 in
-    (both.0, both.1, some_is _ _ there.1)
+    (both.0, both.1, same_Some _ _ there.1)
 
+-- the moment of a date and a time of day
 pub moment_of-there : (year month day hour minute second : ℕ) → is_date year month day ≡ true
     → is_time hour minute second ≡ true → moment_of year month day hour minute second
     ≡ Some (unix_seconds (days_from_civil (pos year) month day) (pos (time_seconds hour minute second)))
@@ -96,6 +94,7 @@ pub record Written (text : List ℕ) (t : ℤ) : Type 0 where
   pub instant_is : unix_seconds (days_from_civil (pos year) month day) (pos (time_seconds hour minute second)) ≡ t
   pub text_is : text ≡ spelled_instant year month day hour minute second
 
+-- a text that is read as an instant is a way to write it
 pub Written-instant_of : (text : List ℕ) (t : ℤ) → instant_of text ≡ Some t → Written text t
 unfolding instant_of
 Written-instant_of text t h =

@@ -3,21 +3,24 @@ use Rattle.std.proofs.Common.{◌≡◌, ℕ, ◌+◌, ◌/◌, ◌%◌, ◌<◌
 use Rattle.std.proofs.lemmas.Bool.{leb-true, eqb-true}
 use Rattle.std.proofs.lemmas.List.{nil_from_length}
 use Rattle.std.specs.Char.{is_ascii_digit}
-use Rattle.fm_base.specs.Calendar.{moment_of}
-use Rattle.fm_base.specs.Stamp.{number_of, number_at, begins_in_form, is_like}
-use Rattle.fm_base.specs.Instant.{instant_form, instant_of, two_digits, four_digits, spelled_instant}
+use Rattle.nc_model.specs.Calendar.{moment_of}
+use Rattle.nc_model.specs.Stamp.{number_of, number_at, begins_in_form, is_like}
+use Rattle.nc_model.specs.Instant.{instant_form, instant_of, two_digits, four_digits, spelled_instant}
 
 pub and_parts : (a b : Bool) → (a && b) ≡ true → (a ≡ true) × (b ≡ true)
 and_parts true b h = (refl, h)
 and_parts false b h = absurd cc
 
-is_ascii_digit-digit : (k : ℕ) → is_ascii_digit (48 + k % 10) ≡ true
+-- a digit as written is a digit
+pub is_ascii_digit-digit : (k : ℕ) → is_ascii_digit (48 + k % 10) ≡ true
 is_ascii_digit-digit k = grind arith
 
-number_of-two_digits : (n : ℕ) → n < 100 → number_of (two_digits n) ≡ n
+-- the number of two digits
+pub number_of-two_digits : (n : ℕ) → n < 100 → number_of (two_digits n) ≡ n
 number_of-two_digits n small = omega arith
 
-number_of-four_digits : (n : ℕ) → n < 10000 → number_of (four_digits n) ≡ n
+-- the number of four digits
+pub number_of-four_digits : (n : ℕ) → n < 10000 → number_of (four_digits n) ≡ n
 number_of-four_digits n small = omega arith
 
 -- the form of a text that is written

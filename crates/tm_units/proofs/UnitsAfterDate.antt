@@ -5,8 +5,8 @@ use Rattle.std.proofs.lemmas.List.{append-nil}
 use Rattle.std.proofs.Math.Dec.{eqb-suc-zero}
 use Rattle.std.specs.Char.{is_ascii_digit, eq_ignore_ascii_case}
 use Rattle.std.specs.List.{list_all}
-use Rattle.fm_base.specs.UnitsReading.{next_passes, after_date_at, is_same_word}
-use Rattle.fm_base.specs.UnitsSpelling.{SpellsNumberWithin, SpellsClock, SpellsAfterDate}
+use Rattle.nc_model.specs.UnitsReading.{next_passes, after_date_at, is_same_word}
+use Rattle.nc_model.specs.UnitsSpelling.{SpellsNumberWithin, SpellsClock, SpellsAfterDate}
 use Rattle.tm_units.proofs.InstantLemmas.{and_parts}
 use Rattle.fm_base.proofs.Exact.{input, Exact, Stops, AtEnd, Then, Exact-then, Exact-as, Exact-before}
 use Rattle.tm_units.proofs.UnitsChoices.{GoesOn, Optional, Allowed, Exact-either, Exact-allowed, Exact-unless_ended}

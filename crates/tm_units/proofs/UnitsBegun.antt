@@ -3,12 +3,12 @@ use Rattle.std.proofs.Common.{◌≡◌, ◌⊎◌, inl, inr, ℕ, ◌+◌, ◌�
 use Rattle.std.proofs.lemmas.List.{append-nil, append_assoc}
 use Rattle.std.proofs.Math.Seq.{take-append-add}
 use Rattle.fm_base.specs.Input.{Input}
-use Rattle.fm_base.specs.UnitsReading.{UnitsParser as Parser, has_ended}
-use Rattle.fm_base.specs.UnitsFaults.{GoesOn}
+use Rattle.nc_model.specs.UnitsReading.{UnitsParser as Parser, has_ended}
+use Rattle.nc_model.specs.UnitsFaults.{GoesOn}
 use Rattle.fm_base.proofs.Exact.{input, Took, Exact, Then}
 use Rattle.tm_units.proofs.UnitsChoices.{Optional}
 use Rattle.tm_units.proofs.UnitsLocal.{stepped, err_is}
-use Rattle.fm_base.specs.Parser.{◌>>=◌, located}
+use Rattle.fm_base.specs.Parser.{◌>>=◌}
 
 -- a text goes on from what it begins with
 pub goes_same : (xs more : List ℕ) → GoesOn xs (xs ++ more)
@@ -98,10 +98,6 @@ Viable-as to vp = record {
       };
 }
 
-pub Viable-located : {A : Type 0} {S : List ℕ → A → Type 0} {f : ℕ → Parser A} → ((at : ℕ) → Viable S (f at))
-    → Viable S (located f)
-Viable-located vf = record { fails = λ at rest bad e. (vf at).fails at rest bad e }
-
 -- the first part goes wrong
 first_begun : {A B : Type 0} (S : List ℕ → A → Type 0) (T : A → List ℕ → B → Type 0) (at : ℕ) (rest : List ℕ)
     (bad : ℕ) (b : Begun S at rest bad) → Spelled (T b.some.a) → Begun (Then S T) at rest bad
@@ -131,7 +127,7 @@ second_begun : {A B : Type 0} (S : List ℕ → A → Type 0) (T : A → List �
     (j : Input) (bad : ℕ) (t : Took S (input at rest) a j) → Begun (T a) j.at j.rest bad → Begun (Then S T) at rest bad
 second_begun S T at rest a j bad t b = record {
   count = length t.text + b.count;
-  place_is = let first = b.place_is in let second = t.place in omega (arith, first, second);
+  place_is = let first = b.place_is in let second = t.offset in omega (arith, first, second);
   within = let fits = b.within in omega (arith, ap length t.split, length-append t.text j.rest);
   some = record {
     text = t.text ++ b.some.text;

@@ -2,8 +2,8 @@
 use Rattle.std.proofs.Common.{◌≡◌, inl, inr, ℕ, Bool, true, false, cond, ◌==◌, List, [], ◌∷◌, ◌++◌, codes, Err, refl, sym, ℤ, pos, neg_ℤ, ◌-ℤ◌}
 use Rattle.std.specs.Char.{eq_ignore_ascii_case}
 use Rattle.fm_base.specs.Input.{Input}
-use Rattle.fm_base.specs.UnitsReading.{UnitsParser as Parser, next_passes, has_ended, end_at, byte_at, distance_at, zone_at, last_zone_at, clock_at, after_date_at, units_at}
-use Rattle.fm_base.specs.UnitsSpelling.{SpellsDate, SpellsTime, SpellsDistance, SpellsZone, SpellsLastZone, SpellsClock, SpellsAfterDate, SpellsUnits}
+use Rattle.nc_model.specs.UnitsReading.{UnitsParser as Parser, next_passes, has_ended, end_at, byte_at, distance_at, zone_at, last_zone_at, clock_at, after_date_at, units_at}
+use Rattle.nc_model.specs.UnitsSpelling.{SpellsDate, SpellsTime, SpellsDistance, SpellsZone, SpellsLastZone, SpellsClock, SpellsAfterDate, SpellsUnits}
 use Rattle.fm_base.proofs.Exact.{input, Then, Is, done}
 use Rattle.tm_units.proofs.UnitsChoices.{Optional, Allowed}
 use Rattle.tm_units.proofs.UnitsRuns.{Repeats, RepeatsSome, Exact-letter, Exact-letters, Exact-many, Exact-some}

@@ -5,16 +5,17 @@ use Rattle.std.proofs.lemmas.List.{append-nil, length-append, length-take, lengt
 use Rattle.std.specs.Char.{is_ascii_digit, eq_ignore_ascii_case}
 use Rattle.std.specs.List.{prefix_len, list_all}
 use Rattle.fm_base.specs.Input.{Input}
-use Rattle.fm_base.specs.Stamp.{number_of}
-use Rattle.fm_base.specs.UnitsReading.{UnitsParser as Parser, past, next_passes, byte_at, letter_at, letters_at, many_at, some_at, number_at, unit_at, seconds_per, is_same_word, is_second}
-use Rattle.fm_base.specs.UnitsSpelling.{SpellsNumberWithin, SpellsUnit}
+use Rattle.nc_model.specs.Stamp.{number_of}
+use Rattle.nc_model.specs.UnitsReading.{UnitsParser as Parser, past, next_passes, byte_at, letter_at, letters_at, many_at, some_at, number_at, unit_at, seconds_per, is_same_word, is_second}
+use Rattle.nc_model.specs.UnitsSpelling.{SpellsNumberWithin, SpellsUnit}
 use Rattle.fm_base.proofs.Exact.{input, done}
+use Rattle.fm_base.proofs.OptionLemmas.{cases_Option}
 use Rattle.tm_units.proofs.UnitsRuns.{one_at, IsByte, IsLetter, AreLetters, Repeats, RepeatsSome, run_passes, letters_same, no_letters, Exact-letter}
 use Rattle.tm_units.proofs.UnitsLocal.{stepped, err_is}
 use Rattle.tm_units.proofs.UnitsLocalRuns.{short}
-use Rattle.tm_units.proofs.UnitsLocalNumbers.{is_out, checked-out, checked-in, digits_of, number_is, word_at}
-use Rattle.tm_units.proofs.UnitsLocalFound.{none_or}
+use Rattle.tm_units.proofs.UnitsLocalNumbers.{checked-out, checked-in, digits_of, number_is, word_at}
 use Rattle.tm_units.proofs.UnitsBegun.{goes_same, Spelled, Viable, Viable-at_once, Viable-as, Viable-then}
+use Rattle.tm_units.proofs.UnitsNumbers.{is_out}
 use Rattle.fm_base.specs.Parser.{and_then, pure, known}
 
 -- nothing goes wrong where nothing is read
@@ -244,7 +245,7 @@ pub found_place : {A B : Type 0} (p : Parser A) (f : A → Option B)
     → (at : ℕ) (rest : List ℕ) (bad : ℕ) → and_then (p (input at rest)) (λ x. known at (f x)) ≡ Err bad → bad ≡ at
 found_place {A} {B} p f here at rest bad e = elim (stepped (p (input at rest)) (λ x. known at (f x)) (Err bad) e) [
   | inl wrong ↦ err_is {A = B × Input} bad wrong.0 wrong.2 ∙ here at rest wrong.0 wrong.1
-  | inr s ↦ elim (none_or (f s.a)) [
+  | inr s ↦ elim (cases_Option (f s.a)) [
     | inl none ↦ sym (err_is {A = B × Input} at bad (sym (ap (λ (o : Option B). known at o s.j) none) ∙ s.second))
     | inr found ↦ let no : Ok (found.0, s.j) ≡ Err bad = sym (ap (λ (o : Option B). known at o s.j) found.1)
         ∙ s.second in absurd cc

@@ -3,9 +3,9 @@ use Rattle.std.proofs.Common.{◌≡◌, inl, inr, ℕ, ◌≤◌, true, ◌==�
 use Rattle.std.proofs.lemmas.Bool.{le-leb}
 use Rattle.jiff_core.specs.Calendar.{days_from_civil, days_in_month}
 use Rattle.jiff_core.proofs.CalendarLemmas.{days_in_month_bounds}
-use Rattle.fm_base.specs.Calendar.{day_number, is_date, time_seconds}
-use Rattle.fm_base.specs.UnitsReading.{UnitsParser as Parser, next_passes, byte_at, number_at, date_at, fraction_at, second_at, time_of_day_at, zone_minute_at, distance_at}
-use Rattle.fm_base.specs.UnitsSpelling.{SpellsNumberWithin, SpellsDate, SpellsSecond, SpellsTime, SpellsZoneMinute, SpellsDistance}
+use Rattle.nc_model.specs.Calendar.{day_number, is_date, time_seconds}
+use Rattle.nc_model.specs.UnitsReading.{UnitsParser as Parser, next_passes, byte_at, number_at, date_at, fraction_at, second_at, time_of_day_at, zone_minute_at, distance_at}
+use Rattle.nc_model.specs.UnitsSpelling.{SpellsNumberWithin, SpellsDate, SpellsSecond, SpellsTime, SpellsZoneMinute, SpellsDistance}
 use Rattle.fm_base.proofs.Exact.{input, Then, Is}
 use Rattle.tm_units.proofs.UnitsRuns.{RepeatsSome, Exact-byte}
 use Rattle.tm_units.proofs.UnitsNumbers.{Exact-number}

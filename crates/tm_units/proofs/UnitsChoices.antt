@@ -2,7 +2,7 @@
 use Rattle.std.proofs.Common.{◌≡◌, ◌⊎◌, inl, inr, ℕ, Bool, true, false, cond, ◌==◌, List, [], ◌++◌, length, Ok, Err, refl, sym, ap, subst, ◌∙◌}
 use Rattle.std.proofs.lemmas.List.{append-nil}
 use Rattle.fm_base.specs.Input.{Input}
-use Rattle.fm_base.specs.UnitsReading.{UnitsParser as Parser, next_passes, has_ended}
+use Rattle.nc_model.specs.UnitsReading.{UnitsParser as Parser, next_passes, has_ended}
 use Rattle.fm_base.proofs.Exact.{input, Took, Exact, Stops, AtEnd, ok_pair, took_none, none_again}
 
 -- a part that stands there where the next byte passes, and else is left out
@@ -33,7 +33,7 @@ Exact-optional {A} {S} {P} {p} test missing ep begins = record {
         → Took (Optional missing S) i a j
     takes_either i a j true e =
         let t = ep.takes i a j tt e in
-        record { text = t.text; spelled = inr t.spelled; split = t.split; place = t.place }
+        record { text = t.text; spelled = inr t.spelled; split = t.split; offset = t.offset }
     takes_either i a j false e = let k = ok_pair missing a i j e in took_none i a j (inl (refl, sym k.0)) k.1
 
 -- one part or the other, by the next byte
@@ -58,10 +58,10 @@ Exact-either {A} {S} {T} {P} {Q} {p} {q} test ep eq begins others = record {
         → Took (λ text a. S text a ⊎ T text a) i a j
     takes_one i a j true e =
         let t = ep.takes i a j tt e in
-        record { text = t.text; spelled = inl t.spelled; split = t.split; place = t.place }
+        record { text = t.text; spelled = inl t.spelled; split = t.split; offset = t.offset }
     takes_one i a j false e =
         let t = eq.takes i a j tt e in
-        record { text = t.text; spelled = inr t.spelled; split = t.split; place = t.place }
+        record { text = t.text; spelled = inr t.spelled; split = t.split; offset = t.offset }
 
 -- the text goes on
 abbrev pub GoesOn : List ℕ → Type 0
@@ -92,7 +92,7 @@ Exact-unless_ended {A} {S} {p} missing ep some = record {
     takes_either i a j true e = let k = ok_pair missing a i j e in took_none i a j (inl (refl, sym k.0)) k.1
     takes_either i a j false e =
         let t = ep.takes i a j tt e in
-        record { text = t.text; spelled = inr t.spelled; split = t.split; place = t.place }
+        record { text = t.text; spelled = inr t.spelled; split = t.split; offset = t.offset }
 
 -- a part, unless the test passes
 pub record Allowed {A : Type 0} (bad : Bool) (S : List ℕ → A → Type 0) (text : List ℕ) (a : A) : Type 0 where
@@ -108,6 +108,11 @@ Exact-allowed true ep = record {
 Exact-allowed false ep = record {
   takes = λ i a j any e.
       let t = ep.takes i a j tt e in
-      record { text = t.text; spelled = record { good = refl; spelled = t.spelled }; split = t.split; place = t.place };
+      record {
+        text = t.text;
+        spelled = record { good = refl; spelled = t.spelled };
+        split = t.split;
+        offset = t.offset;
+      };
   again = λ at text rest a s may. ep.again at text rest a s.spelled may;
 }

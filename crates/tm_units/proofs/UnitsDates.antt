@@ -2,9 +2,9 @@
 use Rattle.std.proofs.Common.{◌≡◌, ℕ, Bool, false, List, [], ◌∷◌, ◌++◌, refl, sym, ap, subst, ◌∙◌, ℤ}
 use Rattle.std.proofs.lemmas.List.{append-nil}
 use Rattle.std.specs.Char.{is_ascii_digit}
-use Rattle.fm_base.specs.Calendar.{day_number}
-use Rattle.fm_base.specs.UnitsReading.{UnitsParser as Parser, byte_at, number_at, date_at}
-use Rattle.fm_base.specs.UnitsSpelling.{SpellsNumberWithin, SpellsDate}
+use Rattle.nc_model.specs.Calendar.{day_number}
+use Rattle.nc_model.specs.UnitsReading.{UnitsParser as Parser, byte_at, number_at, date_at}
+use Rattle.nc_model.specs.UnitsSpelling.{SpellsNumberWithin, SpellsDate}
 use Rattle.fm_base.proofs.Exact.{Exact, Stops, Then, Finds, Exact-then, Exact-as, Exact-before, Exact-known, Exact-located}
 use Rattle.tm_units.proofs.UnitsRuns.{IsByte, Exact-byte, after_nothing}
 use Rattle.tm_units.proofs.UnitsNumbers.{Exact-number}

@@ -2,9 +2,9 @@
 use Rattle.std.proofs.Common.{inl, inr, ℕ, ◌==◌, List, [], ◌∷◌, ◌++◌, refl, sym, ap, subst, ◌∙◌}
 use Rattle.std.proofs.lemmas.List.{append-nil}
 use Rattle.std.specs.Char.{is_ascii_digit}
-use Rattle.fm_base.specs.Calendar.{time_seconds}
-use Rattle.fm_base.specs.UnitsReading.{zone_minute_at, distance_at}
-use Rattle.fm_base.specs.UnitsSpelling.{SpellsNumberWithin, SpellsZoneMinute, SpellsDistance}
+use Rattle.nc_model.specs.Calendar.{time_seconds}
+use Rattle.nc_model.specs.UnitsReading.{zone_minute_at, distance_at}
+use Rattle.nc_model.specs.UnitsSpelling.{SpellsNumberWithin, SpellsZoneMinute, SpellsDistance}
 use Rattle.fm_base.proofs.Exact.{Exact, Stops, Then, Is, Exact-then, Exact-as, Exact-before, Exact-pure}
 use Rattle.tm_units.proofs.UnitsChoices.{Optional, Exact-optional}
 use Rattle.tm_units.proofs.UnitsRuns.{after_nothing}

@@ -2,8 +2,8 @@
 use Rattle.std.proofs.Common.{◌≡◌, inl, inr, ℕ, zero, suc, false, ◌==◌, List, [], ◌∷◌, ◌++◌, length, replicate, refl, sym, ap, subst, ◌∙◌, append_assoc, ℤ, pos, ◌-ℤ◌}
 use Rattle.std.proofs.lemmas.List.{append-nil}
 use Rattle.std.proofs.Math.Dec.{eqb-suc-zero}
-use Rattle.fm_base.specs.UnitsReading.{end_at, spaces_at, zone_at, last_zone_at, clock_at}
-use Rattle.fm_base.specs.UnitsSpelling.{SpellsTime, SpellsZone, SpellsLastZone, SpellsClock}
+use Rattle.nc_model.specs.UnitsReading.{end_at, spaces_at, zone_at, last_zone_at, clock_at}
+use Rattle.nc_model.specs.UnitsSpelling.{SpellsTime, SpellsZone, SpellsLastZone, SpellsClock}
 use Rattle.fm_base.proofs.Exact.{Exact, Stops, AtEnd, Then, Is, Exact-then, Exact-as, Exact-before, Exact-pure}
 use Rattle.tm_units.proofs.UnitsChoices.{GoesOn, Optional, Exact-unless_ended}
 use Rattle.tm_units.proofs.UnitsRuns.{Repeats, Exact-many, after_nothing}

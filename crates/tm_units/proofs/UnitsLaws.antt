@@ -2,14 +2,14 @@
 use Rattle.std.proofs.Common.{◌≡◌, ◌⊎◌, inl, inr, ℕ, suc, ◌+◌, ◌≤◌, Bool, true, false, List, length, take, drop, Option, Result, Ok, Err, refl, sym, ap, subst, ◌∙◌, IsTrue, arith}
 use Rattle.std.specs.Char.{is_ascii_digit}
 use Rattle.std.specs.List.{list_all}
-use Rattle.fm_base.specs.declared.units.UnitsFault.{UnitsFault}
-use Rattle.fm_base.specs.declared.units.UnitsFault.TheVariants.{BadUnits}
+use Rattle.nc_model.specs.declared.units.UnitsFault.{UnitsFault}
+use Rattle.nc_model.specs.declared.units.UnitsFault.TheVariants.{BadUnits}
 use Rattle.fm_base.specs.Chain.{◌>>=◌, fault_as}
 use Rattle.fm_base.specs.Input.{Input, whole}
-use Rattle.fm_base.specs.Units.{Settles, in_calendar, is_gregorian, is_proleptic, is_before_gregorian, units_of}
-use Rattle.fm_base.specs.UnitsFaults.{GoesOn, GoesNowhere, IsWrongUnit, IsWrongNumber, GoesWrong}
-use Rattle.fm_base.specs.UnitsReading.{UnitsOutcome as Outcome, units_at, Written, written_or_fault}
-use Rattle.fm_base.specs.UnitsSpelling.{SpellsUnits}
+use Rattle.nc_model.specs.Units.{Settles, in_calendar, is_gregorian, is_proleptic, is_before_gregorian, units_of}
+use Rattle.nc_model.specs.UnitsFaults.{GoesOn, GoesNowhere, IsWrongUnit, IsWrongNumber, GoesWrong}
+use Rattle.nc_model.specs.UnitsReading.{UnitsOutcome as Outcome, units_at, Written, written_or_fault}
+use Rattle.nc_model.specs.UnitsSpelling.{SpellsUnits}
 use Rattle.fm_base.proofs.Exact.{input}
 use Rattle.tm_units.proofs.UnitsLocal.{EndToo, WrongRun, Failed, err_is}
 use Rattle.tm_units.proofs.UnitsSpelled.{SpellsUnits-written_or_fault, written_or_fault-spelled}

@@ -1,24 +1,15 @@
 -- What a parser returns depends on the bytes that it takes and the next one alone. Where it goes wrong, it depends on
 -- the bytes up to that place, or on the number that stands there.
 use Rattle.std.proofs.Common.{◌≡◌, ◌⊎◌, inl, inr, ℕ, suc, ◌+◌, ◌<◌, ◌≤◌, Bool, true, List, [], ◌∷◌, length, take, drop, Result, Ok, Err, refl, sym, ap, subst, ◌∙◌, arith}
-use Rattle.std.proofs.lemmas.List.{take-take, drop-take, drop-drop, length-drop}
+use Rattle.std.proofs.lemmas.List.{drop-drop, length-drop}
 use Rattle.std.proofs.Math.Dec.{eqb-suc-zero}
 use Rattle.std.specs.List.{list_all}
 use Rattle.fm_base.specs.Input.{Input}
-use Rattle.fm_base.specs.UnitsReading.{UnitsOutcome as Outcome, UnitsParser as Parser, past, next_passes, has_ended}
+use Rattle.nc_model.specs.UnitsReading.{UnitsOutcome as Outcome, UnitsParser as Parser, past, next_passes, has_ended}
 use Rattle.std.specs.Char.{is_ascii_digit}
 use Rattle.fm_base.proofs.Exact.{input, Stops, done, ok_pair}
-use Rattle.fm_base.specs.Parser.{and_then, ◌>>=◌, pure, located}
-
--- two texts begin with the same bytes
-abbrev pub Agree : ℕ → List ℕ → List ℕ → Type 0
-Agree n xs ys = take n xs ≡ take n ys
-
-pub agree_less : (m n : ℕ) (xs ys : List ℕ) → m ≤ n → Agree n xs ys → Agree m xs ys
-agree_less m n xs ys less e = sym (take-take m n xs less) ∙ ap (λ (l : List ℕ). take m l) e ∙ take-take m n ys less
-
-pub agree_drop : (m n : ℕ) (xs ys : List ℕ) → Agree (m + n) xs ys → Agree n (drop m xs) (drop m ys)
-agree_drop m n xs ys e = sym (drop-take m n xs) ∙ ap (λ (l : List ℕ). drop m l) e ∙ drop-take m n ys
+use Rattle.fm_base.proofs.ListLemmas.{agree_less, agree_drop, Agree}
+use Rattle.fm_base.specs.Parser.{and_then, ◌>>=◌, pure}
 
 pub agree_first : (n : ℕ) (test : ℕ → Bool) (at : ℕ) (xs ys : List ℕ) → Agree (suc n) xs ys
     → next_passes test (input at xs) ≡ next_passes test (input at ys)
@@ -209,13 +200,6 @@ refit p q at rest bad same f = record {
               λ other agree ends. sym (same other) ∙ w.again other agree ends;
         })
   ];
-}
-
-pub Local-located : {A : Type 0} {f : ℕ → Parser A} → ((at : ℕ) → Local (f at)) → Local (located f)
-Local-located {f = f} lf = record {
-  takes = λ at rest a j e. let t = (lf at).takes at rest a j e in
-      record { count = t.count; input_is = t.input_is; within = t.within; again = t.again };
-  fails = λ at rest bad e. refit (f at) (located f) at rest bad (λ other. refl) ((lf at).fails at rest bad e);
 }
 
 past_none : (at : ℕ) (rest : List ℕ) → input at rest ≡ past 0 (input at rest)

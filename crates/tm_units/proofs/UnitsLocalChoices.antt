@@ -1,9 +1,10 @@
 -- A choice between two parsers by what begins the text depends on the bytes that are taken and the next one alone.
 use Rattle.std.proofs.Common.{◌≡◌, inl, inr, ℕ, suc, ◌+◌, Bool, true, false, cond, List, Ok, Err, refl, sym, ap, ◌∙◌, arith}
 use Rattle.fm_base.specs.Input.{Input}
-use Rattle.fm_base.specs.UnitsReading.{UnitsParser as Parser}
+use Rattle.nc_model.specs.UnitsReading.{UnitsParser as Parser}
 use Rattle.fm_base.proofs.Exact.{input}
-use Rattle.tm_units.proofs.UnitsLocal.{Agree, agree_less, Taken, Failed, Local}
+use Rattle.fm_base.proofs.ListLemmas.{agree_less, Agree}
+use Rattle.tm_units.proofs.UnitsLocal.{Taken, Failed, Local}
 
 -- the parser that was chosen went wrong
 chosen_fails : {A : Type 0} (test : Input → Bool)

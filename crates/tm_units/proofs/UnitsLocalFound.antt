@@ -1,11 +1,13 @@
 -- What is read as a unit or a day depends on its bytes and the next one alone, and a wrong day on its digits alone.
-use Rattle.std.proofs.Common.{◌≡◌, ◌⊎◌, inl, inr, ℕ, suc, ◌+◌, List, Option, Some, None, Ok, Err, refl, sym, ap, subst, ◌∙◌, arith}
+use Rattle.std.proofs.Common.{◌≡◌, inl, inr, ℕ, suc, ◌+◌, List, Option, Some, None, Ok, Err, refl, sym, ap, subst, ◌∙◌, arith}
 use Rattle.std.proofs.lemmas.Bool.{cases_lt}
-use Rattle.fm_base.specs.Calendar.{day_number}
+use Rattle.nc_model.specs.Calendar.{day_number}
 use Rattle.fm_base.specs.Input.{Input}
-use Rattle.fm_base.specs.UnitsReading.{UnitsOutcome as Outcome, UnitsParser as Parser, past, number_at, unit_at, seconds_per}
+use Rattle.nc_model.specs.UnitsReading.{UnitsOutcome as Outcome, UnitsParser as Parser, past, number_at, unit_at, seconds_per}
 use Rattle.fm_base.proofs.Exact.{input, ok_pair}
-use Rattle.tm_units.proofs.UnitsLocal.{Agree, EndToo, Taken, Failed, Local, stepped, then_fails, refit, failed, err_is}
+use Rattle.fm_base.proofs.OptionLemmas.{cases_Option}
+use Rattle.fm_base.proofs.ListLemmas.{Agree}
+use Rattle.tm_units.proofs.UnitsLocal.{EndToo, Taken, Failed, Local, stepped, then_fails, refit, failed, err_is}
 use Rattle.tm_units.proofs.UnitsLocalNumbers.{Lexed, Lexed-number, number_fails, word_at, Taken-word}
 use Rattle.fm_base.specs.Parser.{and_then, ◌>>=◌, located, known}
 
@@ -53,10 +55,6 @@ found_none {A} {B} p f at rest x j t none =
       ];
     }
 
-pub none_or : {B : Type 0} (o : Option B) → (o ≡ None) ⊎ ((y : B) × (o ≡ Some y))
-none_or None = inl refl
-none_or (Some y) = inr (y, refl)
-
 -- what a step that was taken stands for
 found_taken : {A B : Type 0} (p : Parser A) (f : A → Option B) (at : ℕ) (rest : List ℕ) (y : B) (k : Input)
     → ((x : A) (j : Input) → p (input at rest) ≡ Ok (x, j) → Taken p at rest x j) → found_at p f (input at rest)
@@ -69,7 +67,7 @@ found_taken {A} {B} p f at rest y k takes e = elim (stepped (p (input at rest)) 
   where
     by_value : (x : A) (j : Input) → p (input at rest) ≡ Ok (x, j) → known at (f x) j ≡ Ok (y, k)
         → Taken (found_at p f) at rest y k
-    by_value x j first second = elim (none_or (f x)) [
+    by_value x j first second = elim (cases_Option (f x)) [
       | inl none ↦ let no : Err at ≡ Ok (y, k) = sym (ap (λ (o : Option B). known at o j) none) ∙ second in absurd cc
       | inr found ↦
           let t = takes x j first in
@@ -101,7 +99,7 @@ Local-found {A} {B} p f lexes fails = record {
   where
     found_failed : (at : ℕ) (rest : List ℕ) (bad : ℕ) (x : A) (j : Input) → p (input at rest) ≡ Ok (x, j)
         → known at (f x) j ≡ Err bad → Failed (found_at p f) at rest bad
-    found_failed at rest bad x j first second = elim (none_or (f x)) [
+    found_failed at rest bad x j first second = elim (cases_Option (f x)) [
       | inl none ↦
           subst (λ (n : ℕ). Failed (found_at p f) at rest n)
           (err_is {A = B × Input} at bad (sym (ap (λ (o : Option B). known at o j) none) ∙ second))

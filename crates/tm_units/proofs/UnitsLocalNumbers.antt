@@ -7,12 +7,14 @@ use Rattle.std.proofs.Math.Seq.{take-length}
 use Rattle.std.specs.Char.{is_ascii_digit, is_ascii_alphabetic}
 use Rattle.std.specs.List.{prefix_len, list_all}
 use Rattle.fm_base.specs.Input.{Input}
-use Rattle.fm_base.specs.Stamp.{number_of}
-use Rattle.fm_base.specs.UnitsReading.{UnitsOutcome as Outcome, UnitsParser as Parser, past, run_at, number_at}
+use Rattle.nc_model.specs.Stamp.{number_of}
+use Rattle.nc_model.specs.UnitsReading.{UnitsOutcome as Outcome, UnitsParser as Parser, past, run_at, number_at}
 use Rattle.fm_base.proofs.Exact.{input, Stops, done, ok_pair}
+use Rattle.fm_base.proofs.ListLemmas.{agree_less, Agree}
 use Rattle.tm_units.proofs.UnitsRuns.{run_within, run_passes, run_is}
-use Rattle.tm_units.proofs.UnitsLocal.{Agree, EndToo, agree_less, Taken, Failed, Local, failed, err_is}
+use Rattle.tm_units.proofs.UnitsLocal.{EndToo, Taken, Failed, Local, failed, err_is}
 use Rattle.tm_units.proofs.UnitsLocalRuns.{prefix_agree, prefix_agree_within, short}
+use Rattle.tm_units.proofs.UnitsNumbers.{is_out}
 use Rattle.fm_base.specs.Parser.{and_then}
 
 -- digits that were taken, which are taken too from each text that begins with them and ends them
@@ -24,9 +26,6 @@ pub record Lexed {A : Type 0} (p : Parser A) (at : ℕ) (rest : List ℕ) (a : A
   pub again : (other : List ℕ) → Agree (suc count) rest other → p (input at other) ≡ Ok (a, past count (input at other))
   pub alone : (other : List ℕ) → Agree count rest other → EndToo count rest other
       → p (input at other) ≡ Ok (a, past count (input at other))
-
-abbrev pub is_out : ℕ → ℕ → List ℕ → Bool
-is_out low high digits = ltb (number_of digits) low || ltb high (number_of digits)
 
 -- what the digits of a number come to
 abbrev checked : ℕ → ℕ → ℕ → ℕ → List ℕ → Input → Outcome ℕ

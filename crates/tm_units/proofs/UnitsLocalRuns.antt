@@ -6,10 +6,11 @@ use Rattle.std.proofs.lemmas.List.Sums.{prefix_len-le-length}
 use Rattle.std.specs.Char.{eq_ignore_ascii_case}
 use Rattle.std.specs.List.{prefix_len}
 use Rattle.fm_base.specs.Input.{Input}
-use Rattle.fm_base.specs.UnitsReading.{past, next_passes, has_ended, end_at, byte_at, letter_at, letters_at, run_at, many_at, some_at}
+use Rattle.nc_model.specs.UnitsReading.{past, next_passes, has_ended, end_at, byte_at, letter_at, letters_at, many_at, some_at}
 use Rattle.fm_base.proofs.Exact.{input, done, ok_pair}
+use Rattle.fm_base.proofs.ListLemmas.{agree_less, Agree}
 use Rattle.tm_units.proofs.UnitsRuns.{one_at}
-use Rattle.tm_units.proofs.UnitsLocal.{Agree, agree_less, agree_first, agree_ended, Taken, Failed, Local, Local-then, Local-pure, Local-here}
+use Rattle.tm_units.proofs.UnitsLocal.{agree_first, agree_ended, Taken, Failed, Local, Local-then, Local-pure, Local-here}
 use Rattle.tm_units.proofs.UnitsLocalChoices.{Local-cond}
 use Rattle.fm_base.specs.Parser.{located, unless}
 
@@ -50,25 +51,6 @@ prefix_agree_within test most xs ys e =
 
 pub short : (test : ℕ → Bool) (most : ℕ) (xs : List ℕ) → prefix_len test (take most xs) ≤ length xs
 short test most xs = let within = prefix_len-le-length test (take most xs) in omega (arith, length-take most xs)
-
-pub Local-run : (test : ℕ → Bool) (most : ℕ) → Local (run_at test most)
-Local-run test most = record {
-  takes = λ at rest run j e.
-      let count = prefix_len test (take most rest) in
-      let k = ok_pair (take count rest) run (past count (input at rest)) j e in
-      record {
-        count = count;
-        input_is = sym k.1;
-        within = short test most rest;
-        again = λ other same.
-            let size = prefix_agree_within test most rest other same in
-            let front : take count other ≡ run = sym (agree_less count (suc count) rest other (omega arith) same)
-            ∙ k.0 in
-            ap (λ (n : ℕ). done {A = List ℕ × Input} (take n other, past n (input at other))) size
-            ∙ ap (λ (l : List ℕ). done {A = List ℕ × Input} (l, past count (input at other))) front;
-      };
-  fails = λ at rest bad e. absurd cc;
-}
 
 pub Local-many : (byte : ℕ) → Local (many_at byte)
 unfolding many_at

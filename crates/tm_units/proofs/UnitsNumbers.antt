@@ -7,9 +7,9 @@ use Rattle.std.proofs.Math.Seq.{drop-append_seam, take-append_seam}
 use Rattle.std.specs.Char.{is_ascii_digit, is_ascii_alphabetic}
 use Rattle.std.specs.List.{prefix_len, list_all}
 use Rattle.fm_base.specs.Input.{Input}
-use Rattle.fm_base.specs.Stamp.{number_of}
-use Rattle.fm_base.specs.UnitsReading.{past, run_at, number_at, unit_at, seconds_per}
-use Rattle.fm_base.specs.UnitsSpelling.{SpellsNumberWithin, SpellsUnit}
+use Rattle.nc_model.specs.Stamp.{number_of}
+use Rattle.nc_model.specs.UnitsReading.{past, run_at, number_at, unit_at, seconds_per}
+use Rattle.nc_model.specs.UnitsSpelling.{SpellsNumberWithin, SpellsUnit}
 use Rattle.fm_base.proofs.Exact.{input, Took, Exact, Stops, Then, Passes, Finds, done, ok_pair, Exact-then, Exact-as, Exact-before, Exact-unless, Exact-known, Exact-located}
 use Rattle.tm_units.proofs.UnitsRuns.{run_within, run_passes, after_nothing}
 
@@ -35,7 +35,7 @@ run_takes test most at rest run j e =
         few = subst (λ (l : List ℕ). length l ≤ most) k.0 (omega (arith, length-take most rest));
       };
       split = sym (take-append-drop count rest) ∙ ap (λ (h : Input). take count rest ++ h.rest) k.1;
-      place = let here = ap (λ (h : Input). h.at) k.1 in omega (arith, here, size);
+      offset = let here = ap (λ (h : Input). h.at) k.1 in omega (arith, here, size);
     }
 
 run_again : (test : ℕ → Bool) (most at : ℕ) (text rest run : List ℕ) → Run test most text run → Stops test rest
@@ -56,7 +56,7 @@ Exact-run test most = record {
 }
 
 -- whether a number is out of its range
-abbrev is_out : ℕ → ℕ → List ℕ → Bool
+abbrev pub is_out : ℕ → ℕ → List ℕ → Bool
 is_out low high digits = ltb (number_of digits) low || ltb high (number_of digits)
 
 -- what a number's digits are tested for
@@ -142,7 +142,7 @@ Exact-whole test = record {
         spelled = record { text_is = t.spelled.text_is; all = t.spelled.all };
         split =
             t.split;
-        place = t.place;
+        offset = t.offset;
       };
   again = λ at text rest run s may.
       let few : length run ≤ length (text ++ rest) = omega (arith, length-append text rest, ap length s.text_is) in

@@ -1,8 +1,8 @@
 -- What is read of units depends on the bytes that are taken and the next one alone.
 use Rattle.std.proofs.Common.{ℕ, ◌==◌, Bool, cond, codes, Err, refl, pos, neg_ℤ, ◌-ℤ◌}
 use Rattle.std.specs.Char.{eq_ignore_ascii_case}
-use Rattle.fm_base.specs.Calendar.{time_seconds}
-use Rattle.fm_base.specs.UnitsReading.{UnitsParser as Parser, next_passes, has_ended, date_at, fraction_at, second_at, time_of_day_at, zone_minute_at, distance_at, zone_at, last_zone_at, clock_at, after_date_at, gap_at, letters_at, Written}
+use Rattle.nc_model.specs.Calendar.{time_seconds}
+use Rattle.nc_model.specs.UnitsReading.{UnitsParser as Parser, next_passes, has_ended, date_at, fraction_at, second_at, time_of_day_at, zone_minute_at, distance_at, zone_at, last_zone_at, clock_at, after_date_at, gap_at, letters_at, Written}
 use Rattle.fm_base.specs.Parser.{◌>>=◌, pure}
 use Rattle.tm_units.proofs.UnitsLocal.{Local, Local-then, Local-pure, Local-here, agree_first, agree_ended}
 use Rattle.tm_units.proofs.UnitsLocalChoices.{Local-cond}

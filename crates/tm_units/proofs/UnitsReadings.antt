@@ -5,8 +5,8 @@ use Rattle.std.proofs.lemmas.List.{append-nil}
 use Rattle.std.proofs.Math.Dec.{eqb-suc-zero}
 use Rattle.std.specs.Char.{is_ascii_digit, is_ascii_alphabetic}
 use Rattle.std.specs.List.{list_all}
-use Rattle.fm_base.specs.UnitsReading.{letters_at, gap_at, unit_at, date_at, after_date_at, units_at, Written, seconds_per, is_same_word, is_second, is_minute, is_hour, is_day}
-use Rattle.fm_base.specs.UnitsSpelling.{SpellsUnit, SpellsDate, SpellsAfterDate, SpellsUnits}
+use Rattle.nc_model.specs.UnitsReading.{letters_at, gap_at, unit_at, date_at, after_date_at, units_at, Written, seconds_per, is_same_word, is_second, is_minute, is_hour, is_day}
+use Rattle.nc_model.specs.UnitsSpelling.{SpellsUnit, SpellsDate, SpellsAfterDate, SpellsUnits}
 use Rattle.tm_units.proofs.InstantLemmas.{and_parts}
 use Rattle.fm_base.proofs.Exact.{Exact, Stops, AtEnd, Then, Is, Exact-then, Exact-as, Exact-before, Exact-pure}
 use Rattle.tm_units.proofs.UnitsRuns.{Repeats, RepeatsSome, AreLetters, Exact-many, Exact-some, Exact-letters, after_nothing, same_letters}

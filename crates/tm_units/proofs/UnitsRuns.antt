@@ -8,7 +8,7 @@ use Rattle.std.specs.Char.{eq_ignore_ascii_case}
 use Rattle.std.specs.List.{prefix_len, list_all}
 use Rattle.std.specs.Str.{str_eq_ignore_ascii_case}
 use Rattle.fm_base.specs.Input.{Input}
-use Rattle.fm_base.specs.UnitsReading.{UnitsParser as Parser, past, next_passes, byte_at, letter_at, letters_at, many_at, some_at, is_same_word}
+use Rattle.nc_model.specs.UnitsReading.{UnitsParser as Parser, past, next_passes, byte_at, letter_at, letters_at, many_at, some_at, is_same_word}
 use Rattle.tm_units.proofs.InstantLemmas.{and_parts}
 use Rattle.fm_base.proofs.Exact.{input, Took, Exact, Stops, Anything, Passes, done, ok_pair, Exact-then, Exact-pure, Exact-as, Exact-before, Exact-unless, Exact-located}
 
@@ -73,7 +73,7 @@ Exact-many byte = record {
         text = take count i.rest;
         spelled = record { text_is = subst (λ (m : ℕ). take count i.rest ≡ replicate m byte) k.0 same };
         split = sym (take-append-drop count i.rest) ∙ ap (λ (h : Input). take count i.rest ++ h.rest) k.1;
-        place = let at = ap (λ (h : Input). h.at) k.1 in omega (arith, at, size);
+        offset = let at = ap (λ (h : Input). h.at) k.1 in omega (arith, at, size);
       };
   again = λ at text rest n s may.
       let test : ℕ → Bool = λ other. other == byte in
@@ -147,7 +147,7 @@ one_takes test at (x ∷ rest) unit j e =
       text = x ∷ [];
       spelled = record { byte = x; passes = g.0; text_is = refl };
       split = ap (λ (h : Input). x ∷ h.rest) same;
-      place = sym (ap (λ (h : Input). h.at) same);
+      offset = sym (ap (λ (h : Input). h.at) same);
     }
 
 pub Exact-one : (test : ℕ → Bool) → Exact (One test) Anything (one_at test)

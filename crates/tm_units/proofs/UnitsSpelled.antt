@@ -3,12 +3,12 @@ use Rattle.std.proofs.Common.{◌≡◌, ℕ, ◌+◌, Bool, true, false, cond, 
 use Rattle.std.proofs.lemmas.Bool.{eqb-true}
 use Rattle.std.proofs.lemmas.List.{append-nil, nil_from_length}
 use Rattle.std.specs.Char.{eq_ignore_ascii_case}
-use Rattle.fm_base.specs.declared.units.UnitsFault.{UnitsFault}
-use Rattle.fm_base.specs.declared.units.UnitsFault.TheVariants.{BadUnits}
+use Rattle.nc_model.specs.declared.units.UnitsFault.{UnitsFault}
+use Rattle.nc_model.specs.declared.units.UnitsFault.TheVariants.{BadUnits}
 use Rattle.fm_base.specs.Chain.{fault_as}
 use Rattle.fm_base.specs.Input.{Input, whole}
-use Rattle.fm_base.specs.UnitsReading.{UnitsOutcome as Outcome, UnitsParser as Parser, has_ended, next_passes, end_at, letters_at, spaces_at, gap_at, unit_at, date_at, zone_at, time_of_day_at, letter_at, last_zone_at, clock_at, after_date_at, units_at, Written, written_or_fault}
-use Rattle.fm_base.specs.UnitsSpelling.{SpellsUnits}
+use Rattle.nc_model.specs.UnitsReading.{UnitsOutcome as Outcome, UnitsParser as Parser, has_ended, next_passes, end_at, letters_at, spaces_at, gap_at, unit_at, date_at, zone_at, time_of_day_at, letter_at, last_zone_at, clock_at, after_date_at, units_at, Written, written_or_fault}
+use Rattle.nc_model.specs.UnitsSpelling.{SpellsUnits}
 use Rattle.fm_base.proofs.Exact.{input, done, bind_ok, ok_pair}
 use Rattle.tm_units.proofs.UnitsReadings.{Exact-units}
 use Rattle.fm_base.specs.Parser.{◌>>=◌, pure, value_of}
@@ -118,7 +118,3 @@ SpellsUnits-written_or_fault text w e =
     let none = Ends-units.ends (whole text) w read.0 read.1 in
     let all : text ≡ took.text = took.split ∙ ap (λ (l : List ℕ). took.text ++ l) none ∙ append-nil took.text in
     subst (λ (l : List ℕ). SpellsUnits l w) (sym all) took.spelled
-
--- a text spells one reading at most
-pub one_reading : (text : List ℕ) (w v : Written) → SpellsUnits text w → SpellsUnits text v → w ≡ v
-one_reading text w v s t = let e = sym (written_or_fault-spelled text w s) ∙ written_or_fault-spelled text v t in cc

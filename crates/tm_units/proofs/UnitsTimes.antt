@@ -3,9 +3,9 @@ use Rattle.std.proofs.Common.{◌≡◌, inl, inr, ℕ, zero, suc, true, ◌==�
 use Rattle.std.proofs.Math.Dec.{eqb-suc-zero}
 use Rattle.std.proofs.lemmas.List.{append-nil}
 use Rattle.std.specs.Char.{is_ascii_digit}
-use Rattle.fm_base.specs.Calendar.{time_seconds}
-use Rattle.fm_base.specs.UnitsReading.{next_passes, fraction_at, second_at, time_of_day_at}
-use Rattle.fm_base.specs.UnitsSpelling.{SpellsNumberWithin, SpellsFraction, SpellsSecond, SpellsTime}
+use Rattle.nc_model.specs.Calendar.{time_seconds}
+use Rattle.nc_model.specs.UnitsReading.{next_passes, fraction_at, second_at, time_of_day_at}
+use Rattle.nc_model.specs.UnitsSpelling.{SpellsNumberWithin, SpellsFraction, SpellsSecond, SpellsTime}
 use Rattle.fm_base.proofs.Exact.{input, Exact, Stops, Then, Is, Exact-then, Exact-as, Exact-before, Exact-pure}
 use Rattle.tm_units.proofs.UnitsChoices.{Optional, Exact-optional}
 use Rattle.tm_units.proofs.UnitsRuns.{RepeatsSome, Exact-some, after_nothing}

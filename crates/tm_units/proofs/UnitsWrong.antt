@@ -8,14 +8,16 @@ use Rattle.std.specs.Char.{is_ascii_alphabetic}
 use Rattle.std.specs.List.{prefix_len, list_all}
 use Rattle.fm_base.specs.Input.{Input, whole}
 use Rattle.fm_base.specs.Parser.{and_then, ◌>>=◌, known}
-use Rattle.fm_base.specs.UnitsReading.{UnitsOutcome as Outcome, Written, past, many_at, unit_at, units_at, seconds_per}
-use Rattle.fm_base.specs.UnitsFaults.{IsWrongUnit}
+use Rattle.nc_model.specs.UnitsReading.{UnitsOutcome as Outcome, Written, past, many_at, unit_at, units_at, seconds_per}
+use Rattle.nc_model.specs.UnitsFaults.{IsWrongUnit}
 use Rattle.fm_base.proofs.Exact.{input, Stops, done}
+use Rattle.fm_base.proofs.OptionLemmas.{cases_Option}
+use Rattle.fm_base.proofs.ListLemmas.{Agree}
 use Rattle.tm_units.proofs.InstantLemmas.{and_parts}
-use Rattle.tm_units.proofs.UnitsLocal.{Agree, Taken, Failed, stepped, then_fails, after_fails, failed, err_is}
+use Rattle.tm_units.proofs.UnitsLocal.{Taken, Failed, stepped, then_fails, after_fails, failed, err_is}
 use Rattle.tm_units.proofs.UnitsLocalRuns.{Local-many}
 use Rattle.tm_units.proofs.UnitsLocalNumbers.{all_of, word_at, word_again, full_or_ends}
-use Rattle.tm_units.proofs.UnitsLocalFound.{found_err, none_or, Taken-unit}
+use Rattle.tm_units.proofs.UnitsLocalFound.{found_err, Taken-unit}
 use Rattle.tm_units.proofs.UnitsNumbers.{Exact-whole}
 use Rattle.tm_units.proofs.UnitsPlaces.{after_unit, Local-after_unit}
 use Rattle.tm_units.proofs.UnitsReadings.{letter_no_space}
@@ -39,7 +41,7 @@ record NoUnit (at : ℕ) (rest : List ℕ) (bad : ℕ) : Type 0 where
 
 no_unit_there : (at : ℕ) (rest : List ℕ) (bad : ℕ) → unit_at (input at rest) ≡ Err bad → NoUnit at rest bad
 unfolding unit_at
-no_unit_there at rest bad e = elim (none_or (seconds_per (take (letters_of rest) rest))) [
+no_unit_there at rest bad e = elim (cases_Option (seconds_per (take (letters_of rest) rest))) [
   | inl none ↦
       record {
         place_is =
@@ -114,7 +116,7 @@ after_spaces text n j place first t e =
                 let size : length spaces ≡ n = length-replicate {A = ℕ} n 32 in
                 let here : j.at ≡ t.count = ap (λ (i : Input). i.at) t.input_is ∙ omega arith in
                 let count : n ≡ place =
-                omega (arith, took.place, ap length took.spelled.text_is, size, here, none.place_is, same) in
+                omega (arith, took.offset, ap length took.spelled.text_is, size, here, none.place_is, same) in
                 let is : text ≡ replicate n 32 ++ rest =
                 took.split ∙ ap (λ (l : List ℕ). l ++ j.rest) took.spelled.text_is
                 ∙ ap (λ (i : Input). replicate n 32 ++ i.rest) t.input_is in

@@ -1,8 +1,8 @@
 -- Zones are spelled as they are read.
 use Rattle.std.proofs.Common.{◌≡◌, inl, inr, ℕ, ◌≤◌, false, ◌==◌, List, [], ◌∷◌, ◌++◌, codes, refl, sym, ap, subst, ◌∙◌, IsTrue, ℤ, pos, neg_ℤ, arith}
 use Rattle.std.proofs.lemmas.List.{append-nil}
-use Rattle.fm_base.specs.UnitsReading.{zone_at, is_same_word}
-use Rattle.fm_base.specs.UnitsSpelling.{SpellsDistance, SpellsSigned, SpellsZone}
+use Rattle.nc_model.specs.UnitsReading.{zone_at, is_same_word}
+use Rattle.nc_model.specs.UnitsSpelling.{SpellsDistance, SpellsSigned, SpellsZone}
 use Rattle.fm_base.proofs.Exact.{Exact, Then, Is, Exact-as}
 use Rattle.tm_units.proofs.UnitsRuns.{same_letters, letters_same, no_word, no_letters}
 use Rattle.tm_units.proofs.UnitsDates.{After}

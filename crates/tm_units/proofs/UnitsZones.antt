@@ -3,8 +3,8 @@ use Rattle.std.proofs.Common.{◌≡◌, ◌⊎◌, inl, inr, ℕ, ◌<◌, ◌�
 use Rattle.std.proofs.lemmas.Bool.{cases_lt, ne_eqb, eqb-true, lt-ltb}
 use Rattle.std.specs.Char.{is_ascii_digit, eq_ignore_ascii_case, to_ascii_lowercase}
 use Rattle.fm_base.specs.Input.{Input}
-use Rattle.fm_base.specs.UnitsReading.{next_passes, has_ended, byte_at, end_at, letter_at, letters_at, distance_at, zone_at}
-use Rattle.fm_base.specs.UnitsSpelling.{SpellsDistance}
+use Rattle.nc_model.specs.UnitsReading.{next_passes, has_ended, byte_at, end_at, letter_at, letters_at, distance_at, zone_at}
+use Rattle.nc_model.specs.UnitsSpelling.{SpellsDistance}
 use Rattle.fm_base.proofs.Exact.{input, Exact, Anything, AtEnd, Then, Is, done, took_none, none_again, Exact-then, Exact-before, Exact-pure}
 use Rattle.tm_units.proofs.UnitsChoices.{Exact-either}
 use Rattle.tm_units.proofs.UnitsRuns.{IsLetter, AreLetters, Exact-letter, Exact-letters, after_nothing, same_letters}

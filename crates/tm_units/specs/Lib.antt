@@ -1,9 +1,9 @@
 pub mod Parts
 pub mod Scanning
-pub use Rattle.fm_base.specs.Calendar
-pub use Rattle.fm_base.specs.Instant
-pub use Rattle.fm_base.specs.Stamp
-pub use Rattle.fm_base.specs.Units
-pub use Rattle.fm_base.specs.UnitsFaults
-pub use Rattle.fm_base.specs.UnitsReading
-pub use Rattle.fm_base.specs.UnitsSpelling
+pub use Rattle.nc_model.specs.Calendar
+pub use Rattle.nc_model.specs.Instant
+pub use Rattle.nc_model.specs.Stamp
+pub use Rattle.nc_model.specs.Units
+pub use Rattle.nc_model.specs.UnitsFaults
+pub use Rattle.nc_model.specs.UnitsReading
+pub use Rattle.nc_model.specs.UnitsSpelling

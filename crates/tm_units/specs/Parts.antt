@@ -1,6 +1,6 @@
 -- The parts of a day number.
 use Rattle.std.specs.Prelude.{◌≡◌, ℕ, ℤ}
-use Rattle.fm_base.specs.Instant.{year_of, month_of, day_of}
+use Rattle.nc_model.specs.Instant.{year_of, month_of, day_of}
 
 -- the day of this number lies in this year and month, at this place of the month
 pub record HasParts (day : ℤ) (year month day_in_month : ℕ) : Type 0 where

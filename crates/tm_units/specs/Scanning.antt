@@ -1,7 +1,7 @@
 -- What scanning a part of a text has to return.
 use Rattle.std.specs.Prelude.{◌≡◌, Result, Ok, Err}
 use Rattle.fm_base.specs.Input.{Input}
-use Rattle.fm_base.specs.UnitsReading.{UnitsOutcome as Outcome}
+use Rattle.nc_model.specs.UnitsReading.{UnitsOutcome as Outcome}
 use Rattle.tm_units.specs.declared.scanner.BadPlace.{BadPlace}
 
 -- what was returned, and where the scanner is, are those of the definition

@@ -1,13 +1,13 @@
 //! Days and seconds of the calendar.
 ghost use Rattle.std.specs.Prelude.{◌≡◌};
-ghost use Rattle.fm_base.specs.Calendar as spec;
+ghost use Rattle.nc_model.specs.Calendar as spec;
 
 use jiff::civil::Date;
 
 const SECONDS_PER_DAY: i64 = 86_400;
 
 // The days from 1970-01-01 to this day of the years 0 to 9999, where the calendar has it.
-#[tactic(auto, unfolding(fm_base::specs::Calendar::day_number))]
+#[tactic(auto, unfolding(nc_model::specs::Calendar::day_number))]
 pub(crate) fn day_number(year: u32, month: u32, day: u32) -> Option<i32>
     ensures { result ≡ spec.day_number year month day }
 {
@@ -29,7 +29,7 @@ pub(crate) struct Time {
 }
 
 // The Unix seconds of this date and time in UTC, where both exist.
-#[tactic(auto, unfolding(fm_base::specs::Calendar::day_number, fm_base::specs::Calendar::moment_of))]
+#[tactic(auto, unfolding(nc_model::specs::Calendar::day_number, nc_model::specs::Calendar::moment_of))]
 pub(crate) fn moment_of(year: u32, month: u32, day: u32, time: Time) -> Option<i64>
     ensures { result ≡ spec.moment_of year month day time.hour time.minute time.second }
 {

@@ -1,6 +1,6 @@
 //! The date of an origin.
 ghost use Rattle.std.specs.Prelude.{◌≡◌};
-ghost use Rattle.fm_base.specs.UnitsReading as spec;
+ghost use Rattle.nc_model.specs.UnitsReading as spec;
 ghost use Rattle.tm_units.specs.Scanning.{Reads};
 
 use crate::calendar::day_number;
@@ -29,7 +29,7 @@ const DAY: Digits = Digits {
 };
 
 // Reads a date as its day number.
-#[tactic(auto, unfolding(fm_base::specs::UnitsReading::date_at))]
+#[tactic(auto, unfolding(nc_model::specs::UnitsReading::date_at))]
 pub(crate) fn date(scanner: &mut Scanner<'_>) -> Result<i32, BadPlace>
     ensures { Reads (λ day. day) (spec.date_at scanner.old) result scanner.new }
 {

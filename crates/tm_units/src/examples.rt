@@ -1,10 +1,11 @@
-//! Places at which texts of units go wrong, counted by hand, each as the contract of a call that does nothing.
+//! Offsets at which texts of units go wrong, counted by hand, each as the contract of a call that does nothing.
 ghost use Rattle.std.specs.Prelude.{◌≡◌, codes, None, Err};
-ghost use Rattle.fm_base.specs.Units.{units_of};
+ghost use Rattle.nc_model.specs.Units.{units_of};
 
-use fm_base::UnitsFault;
+use nc_model::UnitsFault;
 
-/// Places of faults at the unit. A word counts whole: the longest run of letters.
+/// Offsets of faults at the unit. A word counts whole: the longest run of letters.
+#[tactic(auto, unfolding(crate::proofs::Computing::texts))]
 pub fn unit_places()
     ensures nothing { units_of (codes "") None ≡ Err (UnitsFault.BadUnits 0) }
     ensures only_spaces { units_of (codes "   ") None ≡ Err (UnitsFault.BadUnits 3) }
@@ -26,8 +27,9 @@ pub fn unit_places()
         ≡ Err (UnitsFault.BadUnits 10) }
 {}
 
-/// Places of faults in the date. A number is the longest run of digits, of four for a year and of two else, and its
+/// Offsets of faults in the date. A number is the longest run of digits, of four for a year and of two else, and its
 /// range is checked whatever follows.
+#[tactic(auto, unfolding(crate::proofs::Computing::texts))]
 pub fn date_places()
     ensures no_date { units_of (codes "days since ") None ≡ Err (UnitsFault.BadUnits 11) }
     ensures sign { units_of (codes "days since -1-1-1") None ≡ Err (UnitsFault.BadUnits 11) }
@@ -53,7 +55,8 @@ pub fn date_places()
         ≡ Err (UnitsFault.BadUnits 19) }
 {}
 
-/// Places of faults in the time.
+/// Offsets of faults in the time.
+#[tactic(auto, unfolding(crate::proofs::Computing::texts))]
 pub fn time_places()
     ensures no_time { units_of (codes "days since 2020-1-1 x") None ≡ Err (UnitsFault.BadUnits 20) }
     ensures no_time_after_t { units_of (codes "days since 2020-1-1T") None
@@ -84,7 +87,8 @@ pub fn time_places()
         ≡ Err (UnitsFault.BadUnits 31) }
 {}
 
-/// Places of faults in the zone.
+/// Offsets of faults in the zone.
+#[tactic(auto, unfolding(crate::proofs::Computing::texts))]
 pub fn zone_places()
     ensures unknown_zone { units_of (codes "days since 2020-1-1 12:00 GMT") None
         ≡ Err (UnitsFault.BadUnits 26) }

@@ -1,6 +1,6 @@
 //! Texts of a fixed form, and the numbers in them.
 ghost use Rattle.std.specs.Prelude.{◌≡◌, ◌+◌, ◌≤◌, length};
-ghost use Rattle.fm_base.specs.Stamp as spec;
+ghost use Rattle.nc_model.specs.Stamp as spec;
 
 // Whether a byte stands where a form has `sample`.
 fn is_like(sample: u8, byte: u8) -> bool
@@ -38,8 +38,8 @@ pub(crate) fn number_of(digits: &[u8]) -> u32
     number
 }
 
-// The number that `count` digits write from a place on.
-#[tactic(auto, unfolding(fm_base::specs::Stamp::number_at))]
+// The number that `count` digits write from an offset on.
+#[tactic(auto, unfolding(nc_model::specs::Stamp::number_at))]
 pub(crate) fn number_at(text: &[u8], from: usize, count: usize) -> u32
     requires short { count ≤ 4 }
     requires within { from + count ≤ length text.now }

@@ -1,7 +1,7 @@
 //! Instants as texts.
 ghost use Rattle.std.specs.Prelude.{◌≡◌, ◌+◌, ◌%◌, ◌++◌, OnOk, OnErr, IfSome, pos, neg_ℤ, unsigned_abs};
 ghost use Rattle.jiff_core.specs.Calendar.{IsBetween};
-ghost use Rattle.fm_base.specs.Instant as spec;
+ghost use Rattle.nc_model.specs.Instant as spec;
 ghost use Rattle.tm_units.specs.Parts.{HasParts};
 
 use crate::calendar::{Time, moment_of};
@@ -26,7 +26,7 @@ pub fn read_instant(text: &[u8]) -> Option<i64>
 }
 
 // The instant that a text writes.
-#[tactic(auto, unfolding(fm_base::specs::Instant::instant_of, fm_base::specs::Instant::instant_form))]
+#[tactic(auto, unfolding(nc_model::specs::Instant::instant_of, nc_model::specs::Instant::instant_form))]
 fn moment_in(text: &[u8]) -> Option<i64>
     ensures { result ≡ spec.instant_of text.now }
 {
@@ -94,7 +94,7 @@ fn date_of(day: i64) -> Date
 }
 
 // The text of an instant, by its day and the seconds from the midnight that begins it.
-#[tactic(auto, unfolding(fm_base::specs::Instant::text_of_day))]
+#[tactic(auto, unfolding(nc_model::specs::Instant::text_of_day))]
 fn text_of_day(day: i64, seconds: u32) -> [u8; 20]
     requires { IsBetween (neg_ℤ (pos 719_528)) (pos 2_932_896) day }
     ensures { result ≡ spec.text_of_day day seconds }
@@ -111,7 +111,7 @@ fn text_of_day(day: i64, seconds: u32) -> [u8; 20]
 
 /// Writes an instant of the years 0 to 9999, given as Unix seconds, as `YYYY-MM-DDThh:mm:ssZ` at the end of `out`. An
 /// `Err` changes nothing.
-#[tactic(auto, using(crate::proofs::InstantLaws::instants), unfolding(fm_base::specs::Instant::instant_text_of))]
+#[tactic(auto, using(crate::proofs::InstantLaws::instants), unfolding(nc_model::specs::Instant::instant_text_of))]
 pub fn instant_text(_alloc: Global, t: i64, out: &mut Bytes) -> Result<(), NoMemory>
     requires { spec.HasFourDigitYear t }
     ensures ok { OnOk result (out.new ≡ out.old ++ spec.instant_text_of t) }

@@ -13,7 +13,7 @@ mod time;
 mod unit;
 mod units;
 
-pub use fm_base::{Units, UnitsFault};
 pub use instant::{instant_text, read_instant};
 pub use mark::read_mark;
+pub use nc_model::{Units, UnitsFault};
 pub use units::read_units;

@@ -1,13 +1,13 @@
 //! Moments in the names of files.
 ghost use Rattle.std.specs.Prelude.{◌≡◌};
-ghost use Rattle.fm_base.specs.Stamp.{mark_of, stamp_of};
+ghost use Rattle.nc_model.specs.Stamp.{mark_of, stamp_of};
 
 use crate::calendar::{Time, moment_of};
 use crate::form::{begins_in_form, number_at};
 
 /// The moment that follows `prefix` in a name as `yyyyMMdd_HHmm`, in UTC, as Unix seconds. What follows it in the name
 /// is free. `None` exactly where the name doesn't begin so, or there is no such date or time.
-#[tactic(auto, unfolding(fm_base::specs::Stamp::mark_of))]
+#[tactic(auto, unfolding(nc_model::specs::Stamp::mark_of))]
 pub fn read_mark(name: &[u8], prefix: &[u8]) -> Option<i64>
     ensures { result ≡ mark_of name.now prefix.now }
 {
@@ -19,7 +19,7 @@ pub fn read_mark(name: &[u8], prefix: &[u8]) -> Option<i64>
 }
 
 // The moment whose `yyyyMMdd_HHmm` a text begins with.
-#[tactic(auto, unfolding(fm_base::specs::Stamp::stamp_of, fm_base::specs::Stamp::stamp_form))]
+#[tactic(auto, unfolding(nc_model::specs::Stamp::stamp_of, nc_model::specs::Stamp::stamp_form))]
 fn read_stamp(text: &[u8]) -> Option<i64>
     ensures { result ≡ stamp_of text.now }
 {

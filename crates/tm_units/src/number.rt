@@ -1,12 +1,12 @@
 //! Numbers and words of a text.
 ghost use Rattle.std.specs.Prelude.{◌≡◌, ◌≤◌, IfOk};
-ghost use Rattle.fm_base.specs.UnitsReading as spec;
+ghost use Rattle.nc_model.specs.UnitsReading as spec;
 ghost use Rattle.tm_units.specs.Scanning.{Reads};
 
 use crate::form::number_of;
 use crate::scanner::{BadPlace, Scanner};
 
-// Which numbers may stand at a place: how many digits they have, and their range.
+// The numbers that may stand somewhere: how many digits they have, and their range.
 #[derive(Clone, Copy)]
 pub(crate) struct Digits {
     pub(crate) fewest: usize,
@@ -16,7 +16,7 @@ pub(crate) struct Digits {
 }
 
 // Reads a number, which is the longest run of digits up to the most that it may have.
-#[tactic(auto, unfolding(fm_base::specs::UnitsReading::number_at))]
+#[tactic(auto, unfolding(nc_model::specs::UnitsReading::number_at))]
 pub(crate) fn number(scanner: &mut Scanner<'_>, digits: Digits) -> Result<u32, BadPlace>
     requires { digits.most ≤ 4 }
     ensures read { let parser = spec.number_at digits.fewest digits.most digits.low digits.high in

@@ -1,20 +1,20 @@
-//! A scanner over a text that knows its place.
+//! A scanner over a text that knows its offset.
 ghost use Rattle.std.specs.Prelude.{◌≡◌, ◌==◌, ◌≤◌, length, take};
 ghost use Rattle.std.specs.Char.{is_ascii_digit, is_ascii_alphabetic};
 ghost use Rattle.std.specs.List.{prefix_len};
 ghost use Rattle.fm_base.specs.Input.{whole};
-ghost use Rattle.fm_base.specs.UnitsReading as spec;
+ghost use Rattle.nc_model.specs.UnitsReading as spec;
 ghost use Rattle.tm_units.specs.Scanning.{Reads};
 
 use std::marker::Model;
 
-// The text goes wrong at this place.
+// The text goes wrong at this offset.
 #[derive(Clone, Copy)]
 pub(crate) struct BadPlace {
     pub(crate) at: u64,
 }
 
-// The bytes of a text that are left, and the place of the first.
+// The bytes of a text that are left, and the offset of the first.
 #[derive(Drop)]
 pub(crate) struct Scanner<'a> {
     at: u64,
@@ -34,7 +34,7 @@ impl<'a> Model for Scanner<'a> {
     ghost invariant = { λ scanner. scanner.at + length scanner.rest.now < 2 ^ 64 };
 }
 
-// How many bytes in front are this one.
+// The number of bytes in front that are this one.
 fn count_of(text: &[u8], byte: u8) -> usize
     ensures count { result ≡ prefix_len (λ other. other == byte) text.now }
     ensures bound { result ≤ length text.now }
@@ -42,7 +42,7 @@ fn count_of(text: &[u8], byte: u8) -> usize
     text.iter().take_while(|other| **other == byte).count()
 }
 
-// How many bytes in front are digits.
+// The number of digits in front.
 fn count_of_digits(text: &[u8]) -> usize
     ensures count { result ≡ prefix_len is_ascii_digit text.now }
     ensures bound { result ≤ length text.now }
@@ -50,7 +50,7 @@ fn count_of_digits(text: &[u8]) -> usize
     text.iter().take_while(|byte| byte.is_ascii_digit()).count()
 }
 
-// How many bytes in front are letters.
+// The number of letters in front.
 fn count_of_letters(text: &[u8]) -> usize
     ensures count { result ≡ prefix_len is_ascii_alphabetic text.now }
     ensures bound { result ≤ length text.now }
@@ -68,7 +68,7 @@ impl<'a> Scanner<'a> {
         Scanner { at: 0, rest: text }
     }
 
-    // The place of the next byte.
+    // The offset of the next byte.
     pub(crate) fn at(&self) -> u64
         ensures { result ≡ self.now.at }
     {
@@ -133,7 +133,7 @@ impl<'a> Scanner<'a> {
     }
 
     // Passes over the end of the text.
-    #[tactic(auto, unfolding(fm_base::specs::UnitsReading::end_at))]
+    #[tactic(auto, unfolding(nc_model::specs::UnitsReading::end_at))]
     pub(crate) fn end(&mut self) -> Result<(), BadPlace>
         ensures { Reads (λ u. u) (spec.end_at self.old) result self.new }
     {
@@ -145,7 +145,7 @@ impl<'a> Scanner<'a> {
     }
 
     // Passes over this byte.
-    #[tactic(auto, unfolding(fm_base::specs::UnitsReading::byte_at))]
+    #[tactic(auto, unfolding(nc_model::specs::UnitsReading::byte_at))]
     pub(crate) fn byte(&mut self, byte: u8) -> Result<(), BadPlace>
         ensures { Reads (λ u. u) (spec.byte_at byte self.old) result self.new }
     {
@@ -157,7 +157,7 @@ impl<'a> Scanner<'a> {
     }
 
     // Passes over this letter in either case.
-    #[tactic(auto, unfolding(fm_base::specs::UnitsReading::letter_at))]
+    #[tactic(auto, unfolding(nc_model::specs::UnitsReading::letter_at))]
     pub(crate) fn letter(&mut self, letter: u8) -> Result<(), BadPlace>
         ensures { Reads (λ u. u) (spec.letter_at letter self.old) result self.new }
     {
@@ -169,7 +169,7 @@ impl<'a> Scanner<'a> {
     }
 
     // Passes over this byte as often as it stands there.
-    #[tactic(auto, unfolding(fm_base::specs::UnitsReading::many_at))]
+    #[tactic(auto, unfolding(nc_model::specs::UnitsReading::many_at))]
     pub(crate) fn many(&mut self, byte: u8) -> usize
         ensures { Reads (λ n. n) (spec.many_at byte self.old) (Ok result) self.new }
     {
@@ -179,7 +179,7 @@ impl<'a> Scanner<'a> {
     }
 
     // The same, where it stands there at least once.
-    #[tactic(auto, unfolding(fm_base::specs::UnitsReading::some_at))]
+    #[tactic(auto, unfolding(nc_model::specs::UnitsReading::some_at))]
     pub(crate) fn some(&mut self, byte: u8) -> Result<usize, BadPlace>
         ensures { Reads (λ n. n) (spec.some_at byte self.old) result self.new }
     {

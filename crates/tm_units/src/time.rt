@@ -1,7 +1,7 @@
 //! The time of an origin, and its zone.
 ghost use Rattle.std.specs.Prelude.{◌≡◌, ◌<◌, ◌≤◌, IfOk};
 ghost use Rattle.jiff_core.specs.Calendar.{IsWithin};
-ghost use Rattle.fm_base.specs.UnitsReading as spec;
+ghost use Rattle.nc_model.specs.UnitsReading as spec;
 ghost use Rattle.tm_units.specs.Scanning.{Reads};
 
 use crate::number::{Digits, letters, number};
@@ -29,7 +29,7 @@ const MINUTE_OF_ZONE: Digits = Digits {
 };
 
 // Passes over a point and zeros, where there is a point.
-#[tactic(auto, unfolding(fm_base::specs::UnitsReading::fraction_at))]
+#[tactic(auto, unfolding(nc_model::specs::UnitsReading::fraction_at))]
 fn fraction(scanner: &mut Scanner<'_>) -> Result<usize, BadPlace>
     ensures { Reads (λ n. n) (spec.fraction_at scanner.old) result scanner.new }
 {
@@ -41,7 +41,7 @@ fn fraction(scanner: &mut Scanner<'_>) -> Result<usize, BadPlace>
 }
 
 // Reads the second of a time, 0 where it is left out.
-#[tactic(auto, unfolding(fm_base::specs::UnitsReading::second_at))]
+#[tactic(auto, unfolding(nc_model::specs::UnitsReading::second_at))]
 fn second(scanner: &mut Scanner<'_>) -> Result<u32, BadPlace>
     ensures read { Reads (λ n. n) (spec.second_at scanner.old) result scanner.new }
     ensures range { IfOk result (λ n. n ≤ 59) }
@@ -56,7 +56,7 @@ fn second(scanner: &mut Scanner<'_>) -> Result<u32, BadPlace>
 }
 
 // Reads a time of day as the seconds from midnight.
-#[tactic(auto, unfolding(fm_base::specs::UnitsReading::time_of_day_at))]
+#[tactic(auto, unfolding(nc_model::specs::UnitsReading::time_of_day_at))]
 fn time(scanner: &mut Scanner<'_>) -> Result<u32, BadPlace>
     ensures read { Reads (λ n. n) (spec.time_of_day_at scanner.old) result scanner.new }
     ensures range { IfOk result (λ n. n < 86_400) }
@@ -69,7 +69,7 @@ fn time(scanner: &mut Scanner<'_>) -> Result<u32, BadPlace>
 }
 
 // Reads the minutes of a zone, 0 where they are left out.
-#[tactic(auto, unfolding(fm_base::specs::UnitsReading::zone_minute_at))]
+#[tactic(auto, unfolding(nc_model::specs::UnitsReading::zone_minute_at))]
 fn zone_minute(scanner: &mut Scanner<'_>) -> Result<u32, BadPlace>
     ensures read { Reads (λ n. n) (spec.zone_minute_at scanner.old) result scanner.new }
     ensures range { IfOk result (λ n. n ≤ 59) }
@@ -82,7 +82,7 @@ fn zone_minute(scanner: &mut Scanner<'_>) -> Result<u32, BadPlace>
 }
 
 // Reads the hours and minutes of a zone as seconds.
-#[tactic(auto, unfolding(fm_base::specs::UnitsReading::distance_at))]
+#[tactic(auto, unfolding(nc_model::specs::UnitsReading::distance_at))]
 fn distance(scanner: &mut Scanner<'_>) -> Result<u32, BadPlace>
     ensures read { Reads (λ n. n) (spec.distance_at scanner.old) result scanner.new }
     ensures range { IfOk result (λ n. n < 86_400) }
@@ -93,7 +93,7 @@ fn distance(scanner: &mut Scanner<'_>) -> Result<u32, BadPlace>
 }
 
 // Reads a zone as the seconds by which its clocks are ahead of UTC.
-#[tactic(auto, unfolding(fm_base::specs::UnitsReading::zone_at))]
+#[tactic(auto, unfolding(nc_model::specs::UnitsReading::zone_at))]
 fn zone(scanner: &mut Scanner<'_>) -> Result<i32, BadPlace>
     ensures read { Reads (λ n. n) (spec.zone_at scanner.old) result scanner.new }
     ensures range { IfOk result (λ z. IsWithin 86_399 z) }
@@ -115,7 +115,7 @@ fn zone(scanner: &mut Scanner<'_>) -> Result<i32, BadPlace>
 }
 
 // Reads a zone up to the end of the text, UTC where it is left out.
-#[tactic(auto, unfolding(fm_base::specs::UnitsReading::last_zone_at))]
+#[tactic(auto, unfolding(nc_model::specs::UnitsReading::last_zone_at))]
 fn last_zone(scanner: &mut Scanner<'_>) -> Result<i32, BadPlace>
     ensures read { Reads (λ n. n) (spec.last_zone_at scanner.old) result scanner.new }
     ensures range { IfOk result (λ z. IsWithin 86_399 z) }
@@ -131,7 +131,7 @@ fn last_zone(scanner: &mut Scanner<'_>) -> Result<i32, BadPlace>
 }
 
 // Reads a time and its zone up to the end of the text, as the seconds from the midnight in UTC that begins its date.
-#[tactic(auto, unfolding(fm_base::specs::UnitsReading::clock_at))]
+#[tactic(auto, unfolding(nc_model::specs::UnitsReading::clock_at))]
 fn clock(scanner: &mut Scanner<'_>) -> Result<i32, BadPlace>
     ensures { Reads (λ n. n) (spec.clock_at scanner.old) result scanner.new }
 {
@@ -141,7 +141,7 @@ fn clock(scanner: &mut Scanner<'_>) -> Result<i32, BadPlace>
 }
 
 // Reads what follows a date up to the end of the text, which is midnight in UTC where there is no time.
-#[tactic(auto, unfolding(fm_base::specs::UnitsReading::after_date_at))]
+#[tactic(auto, unfolding(nc_model::specs::UnitsReading::after_date_at))]
 pub(crate) fn after_date(scanner: &mut Scanner<'_>) -> Result<i32, BadPlace>
     ensures { Reads (λ n. n) (spec.after_date_at scanner.old) result scanner.new }
 {

@@ -1,12 +1,12 @@
 //! The words for units of time.
 ghost use Rattle.std.specs.Prelude.{◌≡◌};
-ghost use Rattle.fm_base.specs.UnitsReading as spec;
+ghost use Rattle.nc_model.specs.UnitsReading as spec;
 ghost use Rattle.tm_units.specs.Scanning.{Reads};
 
 use crate::scanner::{BadPlace, Scanner};
 
 // Whether two words are the same but for the case of their letters.
-#[tactic(auto, unfolding(fm_base::specs::UnitsReading::is_same_word))]
+#[tactic(auto, unfolding(nc_model::specs::UnitsReading::is_same_word))]
 pub(crate) fn is_same_word(word: &[u8], other: &[u8]) -> bool
     ensures { result ≡ spec.is_same_word word.now other.now }
 {
@@ -14,7 +14,7 @@ pub(crate) fn is_same_word(word: &[u8], other: &[u8]) -> bool
 }
 
 // Whether a word names a second.
-#[tactic(auto, unfolding(fm_base::specs::UnitsReading::is_second))]
+#[tactic(auto, unfolding(nc_model::specs::UnitsReading::is_second))]
 fn is_second(word: &[u8]) -> bool
     ensures { result ≡ spec.is_second word.now }
 {
@@ -26,7 +26,7 @@ fn is_second(word: &[u8]) -> bool
 }
 
 // Whether a word names a minute.
-#[tactic(auto, unfolding(fm_base::specs::UnitsReading::is_minute))]
+#[tactic(auto, unfolding(nc_model::specs::UnitsReading::is_minute))]
 fn is_minute(word: &[u8]) -> bool
     ensures { result ≡ spec.is_minute word.now }
 {
@@ -37,7 +37,7 @@ fn is_minute(word: &[u8]) -> bool
 }
 
 // Whether a word names an hour.
-#[tactic(auto, unfolding(fm_base::specs::UnitsReading::is_hour))]
+#[tactic(auto, unfolding(nc_model::specs::UnitsReading::is_hour))]
 fn is_hour(word: &[u8]) -> bool
     ensures { result ≡ spec.is_hour word.now }
 {
@@ -49,7 +49,7 @@ fn is_hour(word: &[u8]) -> bool
 }
 
 // Whether a word names a day.
-#[tactic(auto, unfolding(fm_base::specs::UnitsReading::is_day))]
+#[tactic(auto, unfolding(nc_model::specs::UnitsReading::is_day))]
 fn is_day(word: &[u8]) -> bool
     ensures { result ≡ spec.is_day word.now }
 {
@@ -57,7 +57,7 @@ fn is_day(word: &[u8]) -> bool
 }
 
 // The seconds of the unit that a word names.
-#[tactic(auto, unfolding(fm_base::specs::UnitsReading::seconds_per))]
+#[tactic(auto, unfolding(nc_model::specs::UnitsReading::seconds_per))]
 fn seconds_per(word: &[u8]) -> Option<u32>
     ensures { result ≡ spec.seconds_per word.now }
 {
@@ -75,7 +75,7 @@ fn seconds_per(word: &[u8]) -> Option<u32>
 }
 
 // Reads the word of a unit, which is the longest run of letters.
-#[tactic(auto, unfolding(fm_base::specs::UnitsReading::unit_at))]
+#[tactic(auto, unfolding(nc_model::specs::UnitsReading::unit_at))]
 pub(crate) fn unit(scanner: &mut Scanner<'_>) -> Result<u32, BadPlace>
     ensures { Reads (λ n. n) (spec.unit_at scanner.old) result scanner.new }
 {

@@ -1,9 +1,9 @@
 //! The `units` and `calendar` attributes of a time variable.
 ghost use Rattle.std.specs.Prelude.{◌≡◌, Err, option_map};
-ghost use Rattle.fm_base.specs.Units as spec;
-ghost use Rattle.fm_base.specs.UnitsFaults.{IsWrongUnit};
-ghost use Rattle.fm_base.specs.UnitsReading.{units_at};
-ghost use Rattle.fm_base.specs.UnitsSpelling.{SpellsUnits};
+ghost use Rattle.nc_model.specs.Units as spec;
+ghost use Rattle.nc_model.specs.UnitsFaults.{IsWrongUnit};
+ghost use Rattle.nc_model.specs.UnitsReading.{units_at};
+ghost use Rattle.nc_model.specs.UnitsSpelling.{SpellsUnits};
 ghost use Rattle.tm_units.specs.Scanning.{Reads};
 
 use crate::date::date;
@@ -11,8 +11,8 @@ use crate::number::letters;
 use crate::scanner::{BadPlace, Scanner};
 use crate::time::after_date;
 use crate::unit::{is_same_word, unit};
-use fm_base::{Units, UnitsFault};
 use jiff::civil::Date;
+use nc_model::{Units, UnitsFault};
 
 const SECONDS_PER_DAY: i64 = 86_400;
 
@@ -26,7 +26,7 @@ struct Written {
 }
 
 // Reads units of time up to the end of the text.
-#[tactic(auto, unfolding(fm_base::specs::UnitsReading::units_at))]
+#[tactic(auto, unfolding(nc_model::specs::UnitsReading::units_at))]
 fn read_written(scanner: &mut Scanner<'_>) -> Result<Written, BadPlace>
     ensures { Reads (λ w. record { per = w.per; day = w.day; seconds = w.seconds })
         (units_at scanner.old) result scanner.new }
@@ -42,7 +42,7 @@ fn read_written(scanner: &mut Scanner<'_>) -> Result<Written, BadPlace>
 }
 
 // Whether the Gregorian calendar holds at every date.
-#[tactic(auto, unfolding(fm_base::specs::Units::is_proleptic))]
+#[tactic(auto, unfolding(nc_model::specs::Units::is_proleptic))]
 fn is_proleptic(calendar: Option<&[u8]>) -> bool
     ensures { result ≡ spec.is_proleptic (option_map (λ text. text.now) calendar.entry) }
 {
@@ -53,7 +53,7 @@ fn is_proleptic(calendar: Option<&[u8]>) -> bool
 }
 
 // Whether the Gregorian calendar holds from 1582-10-15 on.
-#[tactic(auto, unfolding(fm_base::specs::Units::is_gregorian))]
+#[tactic(auto, unfolding(nc_model::specs::Units::is_gregorian))]
 fn is_gregorian(calendar: Option<&[u8]>) -> bool
     ensures { result ≡ spec.is_gregorian (option_map (λ text. text.now) calendar.entry) }
 {
@@ -68,7 +68,7 @@ fn is_gregorian(calendar: Option<&[u8]>) -> bool
 }
 
 // Whether a day lies before the first of the Gregorian calendar.
-#[tactic(auto, unfolding(fm_base::specs::Units::is_before_gregorian))]
+#[tactic(auto, unfolding(nc_model::specs::Units::is_before_gregorian))]
 fn is_before_gregorian(day: i32) -> bool
     ensures { result ≡ spec.is_before_gregorian day }
 {
@@ -76,7 +76,7 @@ fn is_before_gregorian(day: i32) -> bool
 }
 
 // The units of what a text says, in a calendar.
-#[tactic(auto, unfolding(fm_base::specs::Units::in_calendar))]
+#[tactic(auto, unfolding(nc_model::specs::Units::in_calendar))]
 fn in_calendar(written: Written, calendar: Option<&[u8]>) -> Result<Units, UnitsFault>
     ensures { result ≡ spec.in_calendar (option_map (λ text. text.now) calendar.entry)
         (record { per = written.per; day = written.day; seconds = written.seconds }) }
@@ -94,7 +94,7 @@ fn in_calendar(written: Written, calendar: Option<&[u8]>) -> Result<Units, Units
 }
 
 // The units of a text in a calendar.
-#[tactic(auto, unfolding(fm_base::specs::Units::units_of, fm_base::specs::UnitsReading::written_or_fault))]
+#[tactic(auto, unfolding(nc_model::specs::Units::units_of, nc_model::specs::UnitsReading::written_or_fault))]
 fn units_of(text: &[u8], calendar: Option<&[u8]>) -> Result<Units, UnitsFault>
     ensures { result ≡ spec.units_of text.now (option_map (λ text. text.now) calendar.entry) }
 {
@@ -109,7 +109,7 @@ fn units_of(text: &[u8], calendar: Option<&[u8]>) -> Result<Units, UnitsFault>
 pub fn read_units(text: &[u8], calendar: Option<&[u8]>) -> Result<Units, UnitsFault>
     ensures value { result ≡ spec.units_of text.now (option_map (λ text. text.now) calendar.entry) }
 
-    // Units are those that the text spells. A text with a bad place spells none and goes wrong there, and a calendar is
+    // Units are those that the text spells. A text with a fault spells none and goes wrong there, and a calendar is
     // refused only beside a text that spells units.
     ensures settled { spec.Settles text.now (option_map (λ text. text.now) calendar.entry) result }
 

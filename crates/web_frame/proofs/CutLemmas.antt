@@ -2,12 +2,12 @@
 use Rattle.std.proofs.Common.{◌≡◌, ℕ, suc, ◌+◌, ◌<◌, ◌≤◌, ◌⊎◌, Bool, true, false, ◌&&◌, ◌||◌, if◌then◌else◌, eqb, List, [], ◌∷◌, ◌++◌, length, Option, Some, None, refl, sym, ap, subst, ◌∙◌, arith, inl, inr}
 use Rattle.std.specs.Option.{option_map}
 use Rattle.std.proofs.lemmas.Bool.{cases_eq, ne_eqb, le-leb}
-use Rattle.web_frame.specs.declared.scan.Place.{Place}
-use Rattle.web_frame.specs.declared.scan.Place.TheVariants.{Before, BeforeReturn, Inside, LineStart, LineReturn}
+use Rattle.web_frame.specs.declared.scan.State.{State}
+use Rattle.web_frame.specs.declared.scan.State.TheVariants.{Before, BeforeReturn, Inside, LineStart, LineReturn}
 use Rattle.web_frame.specs.Cut.{begins_with_line_feed, begins_with_empty_line, empty_line_len, lines_len, head_len, Cut, whole, too_long, cut_at, cut_of}
 use Rattle.web_frame.specs.declared.limit.TheConstants.{MAX_HEAD}
-use Rattle.web_frame.specs.Scan.{place_after, place_past, end_from}
-use Rattle.web_frame.proofs.ScanLemmas.{end_from_after, end_from_here, place_past_after}
+use Rattle.web_frame.specs.Scan.{state_after, state_past, end_from}
+use Rattle.web_frame.proofs.ScanLemmas.{end_from_after, end_from_here, state_past_after}
 
 lines_len_other : (b : ℕ) (bytes : List ℕ) → eqb b 10 ≡ false → lines_len (b ∷ bytes) ≡ option_map suc (lines_len bytes)
 unfolding lines_len
@@ -48,7 +48,7 @@ sort_of b = elim (cases_eq b 10) [
   | inr no_lf ↦ elim (cases_eq b 13) [ inl cr ↦ return cr | inr no_cr ↦ other (ne_eqb b 10 no_lf) (ne_eqb b 13 no_cr) ]
 ]
 
--- what the reader at each place finds
+-- the end that the reader finds from each state
 record Ends (bytes : List ℕ) : Type 0 where
   before : end_from Before bytes ≡ head_len bytes
   before_return : option_map suc (end_from BeforeReturn bytes) ≡ head_len (13 ∷ bytes)
@@ -57,7 +57,7 @@ record Ends (bytes : List ℕ) : Type 0 where
   line_return : option_map suc (option_map suc (end_from LineReturn bytes)) ≡ lines_len (10 ∷ 13 ∷ bytes)
 
 ends_after : (b : ℕ) (bytes : List ℕ) → Sort b → Ends bytes → Ends (b ∷ bytes)
-unfolding place_after end_from head_len lines_len begins_with_empty_line begins_with_line_feed empty_line_len
+unfolding state_after end_from head_len lines_len begins_with_empty_line begins_with_line_feed empty_line_len
 ends_after b bytes (line_feed lf) ends = subst (λ x. Ends (x ∷ bytes)) (sym lf) (record {
   before = ap (option_map suc) ends.before;
   before_return = ap (λ o. option_map suc (option_map suc o)) ends.before;
@@ -75,7 +75,7 @@ ends_after b bytes (return cr) ends = subst (λ x. Ends (x ∷ bytes)) (sym cr) 
 ends_after b bytes (other no_lf no_cr) ends =
     let text : lines_len (b ∷ bytes) ≡ option_map suc (lines_len bytes) = lines_len_other b bytes no_lf in
     let none : begins_with_empty_line (b ∷ bytes) ≡ false = begins_other b bytes no_lf no_cr in
-    let to_inside : (p : Place) → place_after p b ≡ Some Inside → end_from p (b ∷ bytes) ≡ lines_len (b ∷ bytes) =
+    let to_inside : (p : State) → state_after p b ≡ Some Inside → end_from p (b ∷ bytes) ≡ lines_len (b ∷ bytes) =
     λ p is. end_from_after p Inside b bytes is ∙ ap (option_map suc) ends.inside ∙ sym text in
     let after_return : lines_len (13 ∷ b ∷ bytes) ≡ option_map suc (lines_len (b ∷ bytes)) =
     lines_len_other 13 (b ∷ bytes) refl in
@@ -105,16 +105,16 @@ ends (b ∷ bytes) = ends_after b bytes (sort_of b) (ends bytes)
 pub end_from-before : (bytes : List ℕ) → end_from Before bytes ≡ head_len bytes
 end_from-before bytes = (ends bytes).before
 
--- the place after a byte, or none
-cases_place : (o : Option Place) → (o ≡ None) ⊎ ((q : Place) × (o ≡ Some q))
-cases_place None = inl refl
-cases_place (Some q) = inr (q, refl)
+-- the state after a byte, or none
+cases_state : (o : Option State) → (o ≡ None) ⊎ ((q : State) × (o ≡ Some q))
+cases_state None = inl refl
+cases_state (Some q) = inr (q, refl)
 
-none_after : (p : Place) (b : ℕ) (bytes : List ℕ) → place_after p b ≡ None → place_past p (b ∷ bytes) ≡ None
-unfolding place_past
+none_after : (p : State) (b : ℕ) (bytes : List ℕ) → state_after p b ≡ None → state_past p (b ∷ bytes) ≡ None
+unfolding state_past
 none_after p b bytes is =
-    let by : Option Place → Option Place =
-    λ o. elim o as (λ _. Option Place) [ None ↦ None | Some next ↦ place_past next bytes ] in
+    let by : Option State → Option State =
+    λ o. elim o as (λ _. Option State) [ None ↦ None | Some next ↦ state_past next bytes ] in
     ap by is
 
 suc_more : (n : ℕ) (o : Option ℕ) → option_map suc (option_map (λ m. n + m) o) ≡ option_map (λ m. suc n + m) o
@@ -126,35 +126,35 @@ zero_more None = refl
 zero_more (Some m) = ap Some (omega arith)
 
 -- bytes that were read may be left out
-pub end_from_past : (p q : Place) (front more : List ℕ) → place_past p front ≡ Some q
+pub end_from_past : (p q : State) (front more : List ℕ) → state_past p front ≡ Some q
     → end_from p (front ++ more) ≡ option_map (λ n. length front + n) (end_from q more)
-unfolding place_past
+unfolding state_past
 end_from_past p q [] more is =
     let same : p ≡ q = cc in
     ap (λ r. end_from r more) same ∙ zero_more (end_from q more)
-end_from_past p q (b ∷ front) more is = elim (cases_place (place_after p b)) [
+end_from_past p q (b ∷ front) more is = elim (cases_state (state_after p b)) [
   | inl ended ↦
-      let clash : ◌≡◌ {A = Option Place} None (Some q) = sym (none_after p b front ended) ∙ is in
+      let clash : ◌≡◌ {A = Option State} None (Some q) = sym (none_after p b front ended) ∙ is in
       cc
   | inr after ↦
-      let past : place_past after.0 front ≡ Some q = sym (place_past_after p after.0 b front after.1) ∙ is in
+      let past : state_past after.0 front ≡ Some q = sym (state_past_after p after.0 b front after.1) ∙ is in
       end_from_after p after.0 b (front ++ more) after.1 ∙ ap (option_map suc) (end_from_past after.0 q front more past)
       ∙ suc_more (length front) (end_from q more)
 ]
 
-pub place_past_past : (p q : Place) (front more : List ℕ) → place_past p front ≡ Some q
-    → place_past p (front ++ more) ≡ place_past q more
-unfolding place_past
-place_past_past p q [] more is =
+pub state_past_past : (p q : State) (front more : List ℕ) → state_past p front ≡ Some q
+    → state_past p (front ++ more) ≡ state_past q more
+unfolding state_past
+state_past_past p q [] more is =
     let same : p ≡ q = cc in
-    ap (λ r. place_past r more) same
-place_past_past p q (b ∷ front) more is = elim (cases_place (place_after p b)) [
+    ap (λ r. state_past r more) same
+state_past_past p q (b ∷ front) more is = elim (cases_state (state_after p b)) [
   | inl ended ↦
-      let clash : ◌≡◌ {A = Option Place} None (Some q) = sym (none_after p b front ended) ∙ is in
+      let clash : ◌≡◌ {A = Option State} None (Some q) = sym (none_after p b front ended) ∙ is in
       cc
   | inr after ↦
-      let past : place_past after.0 front ≡ Some q = sym (place_past_after p after.0 b front after.1) ∙ is in
-      place_past_after p after.0 b (front ++ more) after.1 ∙ place_past_past after.0 q front more past
+      let past : state_past after.0 front ≡ Some q = sym (state_past_after p after.0 b front after.1) ∙ is in
+      state_past_after p after.0 b (front ++ more) after.1 ∙ state_past_past after.0 q front more past
 ]
 
 -- the number under `suc`
@@ -167,12 +167,12 @@ suc_some (Some m) n is =
     (m, refl, same)
 
 -- a head has a byte, and its end lies within the bytes
-end_from_fits : (p : Place) (bytes : List ℕ) (n : ℕ) → end_from p bytes ≡ Some n → (0 < n) × (n ≤ length bytes)
+end_from_fits : (p : State) (bytes : List ℕ) (n : ℕ) → end_from p bytes ≡ Some n → (0 < n) × (n ≤ length bytes)
 unfolding end_from
 end_from_fits p [] n is =
     let clash : ◌≡◌ {A = Option ℕ} None (Some n) = is in
     cc
-end_from_fits p (b ∷ bytes) n is = elim (cases_place (place_after p b)) [
+end_from_fits p (b ∷ bytes) n is = elim (cases_state (state_after p b)) [
   | inl ended ↦
       let one : Some 1 ≡ Some n = sym (end_from_here p b bytes ended) ∙ is in
       let same : 1 ≡ n = cc in
@@ -187,13 +187,13 @@ pub head_len_fits : (bytes : List ℕ) (n : ℕ) → head_len bytes ≡ Some n �
 head_len_fits bytes n is = end_from_fits Before bytes n (end_from-before bytes ∙ is)
 
 -- bytes that follow leave the end where it is
-end_from-append : (p : Place) (bytes more : List ℕ) (n : ℕ) → end_from p bytes ≡ Some n
+end_from-append : (p : State) (bytes more : List ℕ) (n : ℕ) → end_from p bytes ≡ Some n
     → end_from p (bytes ++ more) ≡ Some n
 unfolding end_from
 end_from-append p [] more n is =
     let clash : ◌≡◌ {A = Option ℕ} None (Some n) = is in
     cc
-end_from-append p (b ∷ bytes) more n is = elim (cases_place (place_after p b)) [
+end_from-append p (b ∷ bytes) more n is = elim (cases_state (state_after p b)) [
   | inl ended ↦ end_from_here p b (bytes ++ more) ended ∙ sym (end_from_here p b bytes ended) ∙ is
   | inr after ↦
       let found = suc_some (end_from after.0 bytes) n (sym (end_from_after p after.0 b bytes after.1) ∙ is) in
@@ -206,13 +206,13 @@ head_len-append bytes more n is =
     sym (end_from-before (bytes ++ more)) ∙ end_from-append Before bytes more n (end_from-before bytes ∙ is)
 
 -- a head that ends only with the bytes that follow is longer than those before
-end_from_later : (p : Place) (bytes more : List ℕ) (n : ℕ) → end_from p bytes ≡ None
+end_from_later : (p : State) (bytes more : List ℕ) (n : ℕ) → end_from p bytes ≡ None
     → end_from p (bytes ++ more) ≡ Some n → length bytes < n
 unfolding end_from
 end_from_later p [] more n none is =
     let fits = end_from_fits p more n is in
     fits.0
-end_from_later p (b ∷ bytes) more n none is = elim (cases_place (place_after p b)) [
+end_from_later p (b ∷ bytes) more n none is = elim (cases_state (state_after p b)) [
   | inl ended ↦
       let clash : ◌≡◌ {A = Option ℕ} (Some 1) None = sym (end_from_here p b bytes ended) ∙ none in
       cc

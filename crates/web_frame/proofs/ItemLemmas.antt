@@ -129,9 +129,6 @@ by_cut bytes none_yet f g is same = refl
 by_cut bytes (whole n) f g is same = ap (item_before (item_of (take n bytes)) (drop n bytes)) (same n is)
 by_cut bytes too_long f g is same = refl
 
-nothing : Heads
-nothing = record { items = []; rest = [] }
-
 heads_within_nothing : (n : ℕ) → heads_within n [] ≡ record { items = []; rest = [] }
 unfolding heads_within cut_of head_len
 heads_within_nothing zero = refl
@@ -166,6 +163,7 @@ heads_of-step bytes =
     (λ len is. heads_within_enough (length bytes) (length (drop len bytes)) (drop len bytes)
     (omega (arith, length-drop len bytes)) (omega arith))
 
+-- the heads of some bytes, by where the first one ends
 pub heads_of-cut : (bytes : List ℕ) (cut : Cut) → cut_of bytes ≡ cut
     → heads_of bytes ≡ heads_by cut bytes (λ len. heads_of (drop len bytes))
 heads_of-cut bytes cut is =
@@ -220,9 +218,11 @@ items_first bytes more = items_first_by (length bytes) bytes more (omega arith) 
 
 -- ---- reading item by item
 
+-- bytes are read to nothing first, and all of them are left
 pub ReadsTo-start : (bytes : List ℕ) → ReadsTo bytes [] bytes
 ReadsTo-start bytes = record { reads = λ more. refl }
 
+-- bytes that follow are left to read
 pub ReadsTo-feed : {bytes : List ℕ} {items : List Item} {left : List ℕ} (piece : List ℕ) → ReadsTo bytes items left
     → ReadsTo (bytes ++ piece) items (left ++ piece)
 ReadsTo-feed {bytes} {items} {left} piece r = record {
@@ -230,6 +230,7 @@ ReadsTo-feed {bytes} {items} {left} piece r = record {
       ∙ ap (λ (l : List ℕ). items_before items (heads_of l)) (sym (append_assoc left piece more));
 }
 
+-- one head more is read
 pub ReadsTo-item : {bytes : List ℕ} {items : List Item} {left : List ℕ} (n : ℕ) (r : Request) (target : List ℕ)
     → ReadsTo bytes items left
     → cut_of left ≡ whole n → item_of (take n left) ≡ request r target

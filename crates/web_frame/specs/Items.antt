@@ -5,7 +5,7 @@ use Rattle.web_frame.specs.Cut.{cut_of, Cut, none_yet, whole, too_long}
 use Rattle.web_frame.specs.Head.{head_of, is_head}
 use Rattle.web_frame.specs.Said.{request_of}
 
--- what is read from a stream: a head with its target, bytes that end as a head does and aren't one, or a head that is
+-- an item of a stream: a head with its target, bytes that end as a head does and aren't one, or a head that is
 -- too
 -- long
 pub data Item : Type 0 where

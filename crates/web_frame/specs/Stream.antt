@@ -15,11 +15,11 @@ pub record Held : Type 0 where
 abbrev pub held_len : Held → ℕ
 held_len held = length held.head + length held.rest
 
--- what is held, with bytes added
+-- the held bytes, with bytes added
 abbrev pub with_bytes : List ℕ → Held → Held
 with_bytes bytes held = record { head = held.head; rest = held.rest ++ bytes }
 
--- what is held once the head at the front of the rest is given
+-- the held bytes once the head at the front of the rest is given
 abbrev pub held_by : Cut → List ℕ → Held
 held_by none_yet rest = record { head = []; rest = rest }
 held_by (whole len) rest = record { head = take len rest; rest = drop len rest }

@@ -32,7 +32,7 @@ fn spans_of(raw: &[u8], lines: &mut [HeaderSpan]) -> Option<RequestSpans>
     }
 }
 
-// What a head says, and where its target is. `None` where the bytes aren't one whole head.
+// The request of a head, and the span of its target. `None` where the bytes aren't one whole head.
 #[tactic(auto, unfolding(crate::specs::Items::item_of, crate::specs::Said::request_of))]
 pub(crate) fn read_head(raw: &[u8]) -> Option<(Request, Span)>
     ensures within { IfSome result (λ found. IsWithin (length raw.now) found.1) }

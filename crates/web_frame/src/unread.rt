@@ -3,7 +3,7 @@ ghost use Rattle.std.specs.Prelude.{◌≡◌, ◌-◌, ◌≤◌, [], ◌++◌,
 ghost use Rattle.web_frame.specs.Cut as spec;
 
 use crate::limit::MAX_HEAD;
-use crate::scan::Place;
+use crate::scan::State;
 use crate::store::Store;
 use fm_base::NoMemory;
 use std::alloc::Global;
@@ -14,31 +14,31 @@ use std::marker::Model;
 pub(crate) struct Unread {
     store: Store,
     scanned: usize,
-    place: Place,
+    state: State,
 }
 
 impl Model for Unread {
     ghost use Rattle.std.specs.Prelude.{ℕ, List, ◌≡◌, ◌≤◌, Some, length, take};
-    ghost use Rattle.web_frame.specs.declared.scan.Place.TheVariants.{Before};
-    ghost use Rattle.web_frame.specs.Scan.{place_past};
+    ghost use Rattle.web_frame.specs.declared.scan.State.TheVariants.{Before};
+    ghost use Rattle.web_frame.specs.Scan.{state_past};
 
     ghost Value = { List ℕ };
 
     ghost view = { λ u. u.store };
 
     ghost invariant = { λ u. (u.scanned ≤ length u.store)
-        × (place_past Before (take u.scanned u.store) ≡ Some u.place) };
+        × (state_past Before (take u.scanned u.store) ≡ Some u.state) };
 }
 
 impl Unread {
-    #[tactic(auto, unfolding(crate::specs::Scan::place_past))]
+    #[tactic(auto, unfolding(crate::specs::Scan::state_past))]
     pub fn new(alloc: Global) -> Result<Unread, NoMemory>
         ensures { IfOk result (λ unread. unread ≡ []) }
     {
         Ok(Unread {
             store: Store::new(alloc)?,
             scanned: 0,
-            place: Place::Before,
+            state: State::Before,
         })
     }
 
@@ -64,14 +64,14 @@ impl Unread {
     }
 
     /// Takes off the first bytes.
-    #[tactic(auto, unfolding(crate::specs::Scan::place_past))]
+    #[tactic(auto, unfolding(crate::specs::Scan::state_past))]
     pub fn skip(&mut self, count: usize)
         requires { count ≤ length self.old }
         ensures { self.new ≡ drop count self.old }
     {
         if count > 0 {
             self.scanned = 0;
-            self.place = Place::Before;
+            self.state = State::Before;
             self.store.skip(count);
         }
     }
@@ -84,7 +84,7 @@ impl Unread {
     {
         let held = self.store.len();
         let (_, left) = self.store.as_slice().split_at(self.scanned);
-        match self.place.find_end(left) {
+        match self.state.find_end(left) {
             None => {
                 self.scanned = held;
                 None
@@ -92,7 +92,7 @@ impl Unread {
             Some(more) => {
                 let len = self.scanned + more;
                 self.scanned = 0;
-                self.place = Place::Before;
+                self.state = State::Before;
                 Some(len)
             }
         }

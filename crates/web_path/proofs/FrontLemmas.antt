@@ -1,27 +1,14 @@
 -- What follows a front in a text: the rest, where the text is the front and a rest, and else nothing.
-use Rattle.std.proofs.Common.{◌≡◌, ℕ, Bool, true, false, cond, List, ◌++◌, length, take, drop, Option, Some, None, refl, sym, ap, ◌∙◌, ◌⊎◌, inl, inr, append_assoc}
+use Rattle.std.proofs.Common.{◌≡◌, ℕ, true, false, List, ◌++◌, length, take, drop, Option, Some, None, sym, ap, ◌∙◌, ◌⊎◌, inl, inr, append_assoc}
 use Rattle.std.proofs.lemmas.List.{take-append-drop}
 use Rattle.std.proofs.Math.Seq.{take-append_seam, drop-append_seam}
 use Rattle.std.proofs.lemmas.Bool.{cond-true, cond-false, cases_Bool, true≢false}
-use Rattle.std.proofs.lemmas.Slice.Eq.{bytes_eq-Decides}
+use Rattle.std.proofs.lemmas.Option.{same_Some}
 use Rattle.std.specs.Option.{option_and_then}
 use Rattle.std.specs.Str.{bytes_eq}
+use Rattle.fm_base.proofs.ListLemmas.{same_bytes, bytes_same}
+use Rattle.fm_base.proofs.OptionLemmas.{chosen}
 use Rattle.web_path.specs.Reading.{after}
-
--- a text is the same as itself
-pub same_bytes : (xs ys : List ℕ) → xs ≡ ys → bytes_eq xs ys ≡ true
-same_bytes xs ys is = (bytes_eq-Decides xs ys).1 is
-
-pub bytes_same : (xs ys : List ℕ) → bytes_eq xs ys ≡ true → xs ≡ ys
-bytes_same xs ys is = (bytes_eq-Decides xs ys).0 is
-
--- what was chosen, where something was
-pub chosen : {A : Type 0} (b : Bool) (o : Option A) (x : A) → cond b o None ≡ Some x → (b ≡ true) × (o ≡ Some x)
-chosen true o x h = (refl, h)
-chosen false o x h = absurd cc
-
-pub some_is : {A : Type 0} (x y : A) → Some x ≡ Some y → x ≡ y
-some_is x y h = cc
 
 begins : (front text : List ℕ) → bytes_eq (take (length front) text) front ≡ true
     → text ≡ front ++ drop (length front) text
@@ -32,7 +19,7 @@ begins front text is =
 pub after-some : (front text rest : List ℕ) → after front text ≡ Some rest → text ≡ front ++ rest
 after-some front text rest is =
     let there = chosen (bytes_eq (take (length front) text) front) (Some (drop (length front) text)) rest is in
-    begins front text there.0 ∙ ap (λ (l : List ℕ). front ++ l) (some_is _ _ there.1)
+    begins front text there.0 ∙ ap (λ (l : List ℕ). front ++ l) (same_Some _ _ there.1)
 
 pub after-append : (front rest text : List ℕ) → text ≡ front ++ rest → after front text ≡ Some rest
 after-append front rest text is =
@@ -76,7 +63,7 @@ after-pair first second text =
           | inl none ↦
               after-none (first ++ second) text (λ rest whole.
               let there = after-append first (second ++ rest) text (whole ∙ append_assoc first second rest) in
-              let same : others ≡ second ++ rest = some_is _ _ (sym is ∙ there) in
+              let same : others ≡ second ++ rest = same_Some _ _ (sym is ∙ there) in
               none_some (after second others) rest none (after-append second rest others same))
               ∙ sym none
           | inr some ↦
@@ -132,7 +119,7 @@ same_rest front last text rest is =
         elim (cases_Bool (bytes_eq text (front ++ last))) [
           | inl whole ↦
               let there = after-append front last text (bytes_same text (front ++ last) whole) in
-              let same = same_bytes rest last (some_is _ _ (sym is ∙ there)) in
+              let same = same_bytes rest last (same_Some _ _ (sym is ∙ there)) in
               absurd (true≢false (sym same ∙ other))
           | inr is ↦ is
         ]

@@ -1,7 +1,7 @@
 -- The text of each instant in each spelling is read as that instant, and no other text is.
 use Rattle.std.proofs.Common.{get_or, ◌≡◌, ℕ, false, List, [], ◌∷◌, ◌==◌, length, Some, refl, sym, ap, ◌∙◌, inl, inr, arith, ℤ}
 use Rattle.std.proofs.lemmas.Bool.{cond-true, cond-false, cases_Bool, eqb-true, eq-eqb}
-use Rattle.fm_base.specs.Instant.{HasFourDigitYear, instant_of, instant_text_of, text_of_day}
+use Rattle.nc_model.specs.Instant.{HasFourDigitYear, instant_of, instant_text_of, text_of_day}
 use Rattle.tm_units.proofs.InstantLaws.{Written-instant_of, HasFourDigitYear-written, instant_of-instant_text_of, instant_text_of-instant_of}
 use Rattle.web_path.specs.Path.{Spelling, extended, basic, spelled, without_marks}
 use Rattle.web_path.specs.Reading.{moment_of, with_marks}

@@ -1,15 +1,17 @@
 -- A text is read as the number of 64 bits of which it is the decimal, and no other text is read as it.
-use Rattle.std.proofs.Common.{◌≡◌, ℕ, suc, ◌<◌, ◌^◌, true, false, List, [], ◌∷◌, length, Option, Some, None, Ok, Err, Result, refl, sym, ap, subst, ◌∙◌, inl, inr, arith, ℤ, pos, negsuc, neg_ℤ, FitsSigned, w64}
+use Rattle.std.proofs.Common.{◌≡◌, ℕ, suc, ◌<◌, ◌^◌, true, false, List, [], ◌∷◌, length, Some, None, Ok, Err, Result, refl, sym, ap, subst, ◌∙◌, inl, inr, arith, ℤ, pos, negsuc, neg_ℤ, FitsSigned, w64}
 use Rattle.std.proofs.lemmas.Bool.{cond-true, cond-false, cases_Bool, ltb-true, lt-ltb, eqb-true}
 use Rattle.std.proofs.lemmas.Str.{IsUtf8-from_ascii}
 use Rattle.std.proofs.lemmas.Fmt.{IsAscii-signed, parse-signed_decimal, decimal_is_IsNumeral}
+use Rattle.std.proofs.lemmas.Option.{same_Some}
 use Rattle.std.specs.Char.{digit_value}
 use Rattle.std.specs.Fmt.{decimal, signed_decimal}
 use Rattle.std.specs.Str.{IsAscii, IsUtf8, bytes_eq}
 use Rattle.std.specs.Str.Parse.{AllDigits, ParsesSigned, starts_with_minus}
+use Rattle.fm_base.proofs.ListLemmas.{same_bytes, bytes_same}
+use Rattle.fm_base.proofs.OptionLemmas.{chosen, none_unless}
 use Rattle.web_path.specs.Path.{fits_i64}
 use Rattle.web_path.specs.Reading.{if_fits, seconds_of, signed_number}
-use Rattle.web_path.proofs.FrontLemmas.{bytes_same, chosen, same_bytes, some_is}
 
 fitting : (z : ℤ) → fits_i64 z ≡ true → FitsSigned w64 z
 fitting (pos n) is = record { sfits = ltb-true n (2 ^ 63) is }
@@ -23,7 +25,7 @@ pub some-if_fits : (y z : ℤ) → if_fits y ≡ Some z → (y ≡ z) × (fits_i
 unfolding if_fits
 some-if_fits y z is =
     let there = chosen (fits_i64 y) (Some y) z is in
-    let same : y ≡ z = some_is _ _ there.1 in
+    let same : y ≡ z = same_Some _ _ there.1 in
     (same, ap fits_i64 (sym same) ∙ there.0)
 
 -- a decimal doesn't begin with `-`
@@ -77,10 +79,6 @@ parses_if_read text z r h is =
     let read = seconds_of-some text z is in
     let fits = fitting z read.1 in
     parse-signed_decimal w64 z text r fits fits.sfits read.0 h
-
-none_unless : {A : Type 0} (o : Option A) → ((x : A) → o ≡ Some x → ⊥) → None ≡ o
-none_unless None never = refl
-none_unless (Some x) never = absurd (never x refl)
 
 fits_if_fitting : (z : ℤ) → FitsSigned w64 z → fits_i64 z ≡ true
 fits_if_fitting (pos n) fits = lt-ltb n (2 ^ 63) fits.sfits

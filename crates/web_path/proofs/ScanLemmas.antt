@@ -3,8 +3,8 @@ use Rattle.std.proofs.Common.{◌≡◌, ℕ, suc, ◌+◌, true, false, ◌&&�
 use Rattle.std.proofs.lemmas.Bool.{cond-true, cond-false}
 use Rattle.web_path.specs.Escape.{bad_escape, begins_with_two_digits}
 
-later : (at : ℕ) (place : Option ℕ)
-    → option_map (λ i. at + i) (option_map suc place) ≡ option_map (λ i. at + 1 + i) place
+later : (at : ℕ) (offset : Option ℕ)
+    → option_map (λ i. at + i) (option_map suc offset) ≡ option_map (λ i. at + 1 + i) offset
 later at None = refl
 later at (Some i) = ap Some (omega arith)
 

@@ -5,15 +5,17 @@ use Rattle.std.proofs.lemmas.Bool.{cond-true, cond-false, cases_Bool}
 use Rattle.std.proofs.lemmas.Int.{ints}
 use Rattle.std.proofs.lemmas.List.{length-append}
 use Rattle.std.specs.Fmt.{signed_decimal}
-use Rattle.std.specs.Option.{option_and_then, option_or}
+use Rattle.std.specs.Option.{option_and_then}
 use Rattle.std.specs.Str.{bytes_eq}
-use Rattle.fm_base.specs.Instant.{HasFourDigitYear, instant_text_of, text_of_day}
+use Rattle.nc_model.specs.Instant.{HasFourDigitYear, instant_text_of, text_of_day}
+use Rattle.fm_base.proofs.ListLemmas.{same_bytes, bytes_same}
+use Rattle.fm_base.proofs.OptionLemmas.{first_some}
 use Rattle.fm_model.specs.declared.row.ViewName.{ViewName}
 use Rattle.fm_model.specs.declared.row.ViewName.TheVariants.{Best, BestFrom, Run, Offset, Forecast}
 use Rattle.fm_model.specs.declared.site.Site.{Site}
 use Rattle.web_path.specs.Path.{Spelling, extended, basic, spelled, without_marks, root_of, best_front, run_front, offset_front, forecast_front, path_below, path_of, fits_i64, CanBeWritten}
 use Rattle.web_path.specs.Reading.{before_s, seconds_of, moment_of, from_epoch, if_fits, seconds_after, moment_after, other_view, view_below, view_of}
-use Rattle.web_path.proofs.FrontLemmas.{after-append, bytes_same, same_bytes}
+use Rattle.web_path.proofs.FrontLemmas.{after-append}
 use Rattle.web_path.proofs.MomentLemmas.{moment_of-spelled}
 use Rattle.web_path.proofs.NumberLemmas.{if_fits-some, seconds_of-decimal}
 
@@ -91,20 +93,17 @@ moment_after-append site front spelling z fits within =
 
 -- ---- views
 
-or_first : {A : Type 0} (first second : Option A) (x : A) → first ≡ Some x → option_or first second ≡ Some x
-or_first first second x is = ap (λ o. option_or o second) is
-
 other_view-path : (site : Site) (spelling : Spelling) (view : ViewName) → CanBeWritten site view → (view ≡ Best → ⊥)
     → other_view site (path_below site spelling view) ≡ Some view
 unfolding other_view
 other_view-path site spelling Best written other = absurd (other refl)
 other_view-path site spelling (BestFrom z) written other =
-    or_first _ _ _ (ap (option_map BestFrom) (seconds_after-append (best_front site) z written))
+    first_some _ _ _ (ap (option_map BestFrom) (seconds_after-append (best_front site) z written))
 other_view-path site spelling (Run z) written other =
-    or_first _ _ _
+    first_some _ _ _
     (ap (option_map Run) (moment_after-append site (run_front site) spelling z written.0 written.1))
 other_view-path site spelling (Offset z) written other =
-    or_first _ _ _ (ap (option_map Offset) (seconds_after-append (offset_front site) z written))
+    first_some _ _ _ (ap (option_map Offset) (seconds_after-append (offset_front site) z written))
 other_view-path site spelling (Forecast z) written other =
     ap (option_map Forecast) (moment_after-append site (forecast_front site) spelling z written.0 written.1)
 

@@ -3,17 +3,19 @@ use Rattle.std.proofs.Common.{◌≡◌, ℕ, ◌-◌, true, List, ◌++◌, len
 use Rattle.std.proofs.lemmas.Bool.{cond-true, cond-false, cases_Bool}
 use Rattle.std.proofs.lemmas.Int.{ints}
 use Rattle.std.proofs.lemmas.List.{take-append-drop}
-use Rattle.std.proofs.lemmas.Option.{option_and_then_some}
+use Rattle.std.proofs.lemmas.Option.{option_and_then_some, same_Some}
 use Rattle.std.specs.Fmt.{signed_decimal}
 use Rattle.std.specs.Option.{option_and_then, option_or}
 use Rattle.std.specs.Str.{bytes_eq}
-use Rattle.fm_base.specs.Instant.{HasFourDigitYear}
+use Rattle.nc_model.specs.Instant.{HasFourDigitYear}
+use Rattle.fm_base.proofs.ListLemmas.{bytes_same}
+use Rattle.fm_base.proofs.OptionLemmas.{chosen}
 use Rattle.fm_model.specs.declared.row.ViewName.{ViewName}
 use Rattle.fm_model.specs.declared.row.ViewName.TheVariants.{Best, BestFrom, Run, Offset, Forecast}
 use Rattle.fm_model.specs.declared.site.Site.{Site}
 use Rattle.web_path.specs.Path.{Spelling, extended, spelled, root_of, best_front, run_front, offset_front, forecast_front, path_below, path_of, fits_i64, IsPathOf, CanBeWritten}
 use Rattle.web_path.specs.Reading.{after, before_s, seconds_of, moment_of, from_epoch, seconds_after, moment_after, other_view, view_below, view_of}
-use Rattle.web_path.proofs.FrontLemmas.{after-some, bytes_same, chosen, some_is}
+use Rattle.web_path.proofs.FrontLemmas.{after-some}
 use Rattle.web_path.proofs.MomentLemmas.{IsSpelled-moment_of}
 use Rattle.web_path.proofs.NumberLemmas.{seconds_of-some, some-if_fits}
 
@@ -25,7 +27,7 @@ or_some (Some y) second x is by_first by_second = by_first is
 map_some : {A B P : Type 0} (f : A → B) (o : Option A) (y : B) → option_map f o ≡ Some y
     → ((x : A) → o ≡ Some x → f x ≡ y → P) → P
 map_some f None y is then = absurd cc
-map_some f (Some x) y is then = then x refl (some_is _ _ is)
+map_some f (Some x) y is then = then x refl (same_Some _ _ is)
 
 before_s-some : (text front : List ℕ) → before_s text ≡ Some front → text ≡ front ++ codes "s"
 unfolding before_s
@@ -34,7 +36,7 @@ before_s-some text front is =
     let there = chosen (bytes_eq (drop n text) (codes "s")) (Some (take n text)) front is in
     sym (take-append-drop n text)
     ∙ ap (λ (l : List ℕ). take n text ++ l) (bytes_same (drop n text) (codes "s") there.0)
-    ∙ ap (λ (l : List ℕ). l ++ codes "s") (some_is _ _ there.1)
+    ∙ ap (λ (l : List ℕ). l ++ codes "s") (same_Some _ _ there.1)
 
 -- the path is this front, the decimal of the number and `s`
 record IsSeconds (front path : List ℕ) (z : ℤ) : Type 0 where
@@ -135,7 +137,7 @@ view_below-some : (site : Site) (path : List ℕ) (view : ViewName) → view_bel
 unfolding view_below
 view_below-some site path view is =
     elim (cases_Bool (bytes_eq path (site.name ++ codes "_best.ncd"))) [
-      | inl best ↦ subst (IsBelow site path) (some_is Best view (sym (cond-true _ _ _ best) ∙ is))
+      | inl best ↦ subst (IsBelow site path) (same_Some Best view (sym (cond-true _ _ _ best) ∙ is))
           (record { spelling = extended; path_is = bytes_same _ _ best; written = tt })
       | inr other ↦ other_view-some site path view (sym (cond-false _ _ _ other) ∙ is)
     ]

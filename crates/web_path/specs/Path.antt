@@ -1,7 +1,7 @@
 -- The path of each view of a collection (THREDDS Data Server, Forecast Model Run Collections).
 use Rattle.std.specs.Prelude.{◌≡◌, ℕ, ◌^◌, Bool, true, nat_lt, List, ◌++◌, take, drop, codes, ℤ, pos, negsuc, ◌+ℤ◌, ⊤}
 use Rattle.std.specs.Fmt.{signed_decimal}
-use Rattle.fm_base.specs.Instant.{HasFourDigitYear, instant_text_of}
+use Rattle.nc_model.specs.Instant.{HasFourDigitYear, instant_text_of}
 use Rattle.fm_model.specs.declared.row.ViewName.{ViewName}
 use Rattle.fm_model.specs.declared.row.ViewName.TheVariants.{Best, BestFrom, Run, Offset, Forecast}
 use Rattle.fm_model.specs.declared.site.Site.{Site}

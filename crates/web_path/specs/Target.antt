@@ -39,7 +39,7 @@ abbrev pub viewed : List ℕ → List ℕ → List ℕ → Option ViewName → R
 viewed path end constraint None = Err NoSuchDataset
 viewed path end constraint (Some view) = served path constraint view (service_of end)
 
--- what a path asks for that is cut at its last `.`, if it has one
+-- the view and the service of a path that is cut at its last `.`, if it has one
 abbrev pub asked_of_parts : Site → List ℕ → Option (List ℕ × List ℕ) → Result Target PathFault
 asked_of_parts site constraint None = Err NoSuchDataset
 asked_of_parts site constraint (Some parts) = viewed parts.0 parts.1 constraint (view_of site parts.0)
@@ -48,7 +48,7 @@ asked_of_parts site constraint (Some parts) = viewed parts.0 parts.1 constraint 
 unfoldable pub asked_of : Site → List ℕ → List ℕ → Result Target PathFault
 asked_of site path constraint = asked_of_parts site constraint (rsplit_once 46 path)
 
--- the place of the first `?` of a target, or its length
+-- the offset of the first `?` of a target, or its length
 abbrev pub question_of : List ℕ → ℕ
 question_of target = position_or_len (λ b. b == 63) target
 

@@ -5,7 +5,7 @@ ghost use Rattle.web_path.specs.Code.{path_fault_code};
 /// The first fault of a target.
 #[derive(Clone, Copy, Debug, PartialEq, Eq)]
 pub enum PathFault {
-    /// At this place, counted from 0, stands a `%` without two hexadecimal digits after it.
+    /// At this offset, counted from 0, stands a `%` without two hexadecimal digits after it.
     BadEscape(u64),
     /// The path up to its last `.` is of no view of the collection, or has no `.`.
     NoSuchDataset,

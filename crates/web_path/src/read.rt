@@ -51,7 +51,7 @@ fn label_of(path: &[u8]) -> &[u8]
     }
 }
 
-// What a path and a constraint ask for that are decoded.
+// The request of a path and a constraint that are decoded.
 #[tactic(auto, unfolding(crate::specs::Target::asked_of, std::specs::Path::rsplit_once))]
 fn asked_of(
     alloc: Global,

@@ -3,7 +3,7 @@ ghost use Rattle.std.specs.Prelude.{◌≡◌, ◌==◌, ◌<◌, length, IfSome
 ghost use Rattle.std.specs.List.{position_or_len};
 ghost use Rattle.std.specs.Path.{rfind_below};
 
-// The place of the first of these bytes, or the length of the text.
+// The offset of the first byte that is `byte`, or the length of the text.
 pub(crate) fn first_of(byte: u8, text: &[u8]) -> usize
     ensures { result ≡ position_or_len (λ b. b == byte) text.now }
 {
@@ -19,9 +19,9 @@ pub(crate) fn first_of(byte: u8, text: &[u8]) -> usize
     at
 }
 
-// The place of the last of these bytes.
+// The offset of the last byte that is `byte`.
 pub(crate) fn last_of(byte: u8, text: &[u8]) -> Option<usize>
-    ensures place { result ≡ rfind_below byte text.now (length text.now) }
+    ensures offset { result ≡ rfind_below byte text.now (length text.now) }
     ensures within { IfSome result (λ at. at < length text.now) }
 {
     let mut at = text.len();

@@ -6,7 +6,7 @@ use std::alloc::Global;
 use std::fmt::Write;
 use web_frame::{Frame, Method, Next, Request};
 
-/// What a head is read as. It comes whole, cut in two at each offset, and byte by byte.
+/// The item that a head is read as. It comes whole, cut in two at each offset, and byte by byte.
 pub fn head(alloc: Global, row: &Row<'_>) -> Result<Option<String>, NoMemory> {
     if !row.has_each(&["head"]) {
         return Ok(None);
@@ -28,8 +28,8 @@ pub fn head(alloc: Global, row: &Row<'_>) -> Result<Option<String>, NoMemory> {
     Ok(Some(out))
 }
 
-// Whether a frame without bytes reads a head as this, cut in two at each offset and byte by byte, and nothing before its
-// end.
+// Whether a frame without bytes reads a head as this, cut in two at each offset and byte by byte, and nothing before
+// its end.
 fn is_read_cut(frame: &mut Frame, head: &[u8], want: Next) -> bool {
     for at in 0..head.len() {
         if !is_read_in_two(frame, head, at, want) {

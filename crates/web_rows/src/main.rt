@@ -6,7 +6,7 @@ mod sessions;
 mod targets;
 
 use fm_base::NoMemory;
-use row_text::{Answers, Count, Row, end, read_inputs, run};
+use row_text::{Answers, Row, read_inputs, run_all};
 use std::alloc::{AllocError, Global};
 use std::io;
 use std::process::ExitCode;
@@ -22,7 +22,7 @@ impl Answers for Web {
     }
 }
 
-// What comes out of a row. The first key that names a call decides which.
+// The answer to a row, by its first key that names a call.
 fn answer(alloc: Global, row: &Row<'_>) -> Result<Option<String>, NoMemory> {
     for field in &row.fields {
         return match field.key {
@@ -39,16 +39,5 @@ fn answer(alloc: Global, row: &Row<'_>) -> Result<Option<String>, NoMemory> {
 
 fn main(rt: HostRuntime) -> io::Result<ExitCode> {
     let inputs = read_inputs(&rt)?;
-    let mut count = Count::default();
-    for text in &inputs.texts {
-        run(
-            &rt,
-            rt.alloc(),
-            text.path.as_str(),
-            text.text.as_str(),
-            &Web,
-            &mut count,
-        )?;
-    }
-    end(&rt, count)
+    run_all(&rt, rt.alloc(), inputs.texts.as_slice(), &Web)
 }

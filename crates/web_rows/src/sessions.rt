@@ -7,8 +7,8 @@ use std::alloc::Global;
 use std::fmt::Write;
 use web_session::{Action, Asked, End, Event, Session};
 
-/// What a session does over some input, a line for each action. Each reply has 5 bytes, of which at most 2 are sent at a
-/// time. Reads are left out: the input comes whole, and in pieces of at most 1 to 100 bytes.
+/// What a session does over some input, a line for each action. Each reply has 5 bytes, of which at most 2 are sent at
+/// a time. Reads are left out: the input comes whole, and in pieces of at most 1 to 100 bytes.
 pub fn input(alloc: Global, row: &Row<'_>) -> Result<Option<String>, NoMemory> {
     if !row.has_each(&["input"]) {
         return Ok(None);
@@ -57,7 +57,7 @@ fn after_read(session: &mut Session, piece: &[u8]) -> Action {
     }
 }
 
-// What a session does after an action that is no read.
+// The action of a session after one that is no read.
 fn after(session: &mut Session, action: Action) -> Action {
     match action {
         Action::Ask(_) => session.on(Event::Answer { len: 5 }),

@@ -3,4 +3,5 @@ pub mod ReplyLemmas
 pub mod RunLaws
 pub mod RunLemmas
 pub mod SoundLemmas
+pub mod StartLemmas
 pub mod StepLemmas

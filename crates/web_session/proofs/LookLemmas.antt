@@ -33,10 +33,12 @@ Follows s text items = FollowsIn s.phase text items s.held
 
 -- ---- looking for the next head
 
+-- the next request, by where the first head ends
 pub next_of-cut : (left : List ℕ) (cut : Cut) → cut_of left ≡ cut → next_of left ≡ next_by cut left
 unfolding next_of
 next_of-cut left cut is = ap (λ (k : Cut). next_by k left) is
 
+-- what is held afterwards, by where the first head ends
 pub held_after-cut : (left : List ℕ) (cut : Cut) → cut_of left ≡ cut → held_after left ≡ held_by cut left
 unfolding held_after
 held_after-cut left cut is = ap (λ (k : Cut). held_by k left) is
@@ -85,6 +87,7 @@ look_follows held before text done reads = look_cut (cut_of held.rest) held.rest
 first_of_more : (items more : List Item) → AreFirst items (items ++ more)
 first_of_more items more = take_at items more (length items) refl
 
+-- the heads that were read are the first heads
 pub first_read : {text : List ℕ} {items : List Item} {left : List ℕ} → ReadsTo text items left
     → AreFirst items (heads_of text).items
 first_read {text} {items} {left} reads =
@@ -149,6 +152,7 @@ begins_cut too_long left what held is looked_is held_is =
           ∙ ap (λ (w : Asked). item_asked w held ∷ []) same;
     }
 
+-- the heads that were asked for are the first heads
 pub first_asked : (text : List ℕ) (items : List Item) (what : Asked) (held : Held) → Present text items what held
     → AreFirst items (heads_of text).items
 first_asked text items what held p =

@@ -62,13 +62,6 @@ goes_on_waiting s sound is =
     (sym (ap (λ (p : Phase). is_sound_in p s.held s.before) is) ∙ sound) in
     ltb-true s.before MAX_REPLIES parts.1
 
-pub room_waiting : (s : State) → is_sound s ≡ true → s.phase ≡ Waiting → held_len s.held < MAX_HEAD
-unfolding is_sound
-room_waiting s sound is =
-    let parts = and_parts (ltb (held_len s.held) MAX_HEAD) (ltb s.before MAX_REPLIES)
-    (sym (ap (λ (p : Phase). is_sound_in p s.held s.before) is) ∙ sound) in
-    ltb-true (held_len s.held) MAX_HEAD parts.0
-
 pub goes_on_asking : (s : State) (asked : Asked) → is_sound s ≡ true → s.phase ≡ Asking asked → s.before < MAX_REPLIES
 unfolding is_sound
 goes_on_asking s asked sound is =

@@ -112,7 +112,8 @@ step_in (Sending what from len) s event text items is answers follows =
     step_sending s what from len event text items is answers follows
 step_in (Ended end) s event text items is answers follows = step_ended s end event text items is follows
 
-pub step_follows : (s : State) (event : Event) (text : List ℕ) (items : List Item) → Answers s event → Follows s text items
+pub step_follows : (s : State) (event : Event) (text : List ℕ) (items : List Item) → Answers s event
+    → Follows s text items
     → Follows (after_event s event) (text ++ fed_in s.phase event) (items ++ asks_after event (after_event s event))
 unfolding Answers after_event
 step_follows s event text items answers follows = step_in s.phase s event text items refl answers follows

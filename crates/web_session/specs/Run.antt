@@ -1,4 +1,4 @@
--- Runs of a session: what it is fed over some events, and what it asks for.
+-- Runs of a session: the bytes that it is fed over some events, and the heads that it asks replies for.
 use Rattle.std.specs.Prelude.{ℕ, List, [], ◌∷◌, ◌++◌, ⊤}
 use Rattle.web_frame.specs.Items.{Item, request, bad_head, head_too_long, item_of}
 use Rattle.web_frame.specs.Stream.{Held, target_of}

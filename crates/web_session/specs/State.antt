@@ -25,8 +25,7 @@ pub record State : Type 0 where
 abbrev pub fresh : State
 fresh = record { phase = Waiting; held = record { head = []; rest = [] }; before = 0 }
 
--- what is due: bytes where no head is whole, then an answer to a head, then the bytes of its reply from the first that
--- wasn't sent
+-- the next action: a read where no head is whole, then an answer to a head, then the unsent bytes of its reply
 abbrev pub action_at : Phase → Held → Action
 action_at Waiting held = Read (MAX_HEAD - held_len held)
 action_at (Asking asked) held = Ask asked
@@ -59,7 +58,7 @@ phase_after next.HeadTooLong = Asking asked.HeadTooLong
 unfoldable pub looked : Held → ℕ → State
 looked held before = record { phase = phase_after (next_of held.rest); held = held_after held.rest; before = before }
 
--- a session whose reply to what was asked is whole
+-- a session whose reply is whole
 abbrev pub replied_by : Option End → State → State
 replied_by (Some end) s = record s { phase = Ended end }
 replied_by None s = looked s.held (s.before + 1)

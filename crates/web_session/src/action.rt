@@ -2,7 +2,7 @@
 
 use web_frame::Request;
 
-/// What a reply is asked for.
+/// The item that a reply is asked for.
 #[derive(Clone, Copy, Debug, PartialEq, Eq)]
 pub enum Asked {
     /// A request.

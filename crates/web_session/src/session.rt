@@ -72,7 +72,7 @@ impl Session {
         })
     }
 
-    // The reply to what was asked is whole.
+    // The reply that was asked for is whole.
     #[tactic(auto, using(crate::proofs::SoundLemmas::sounds), unfolding(crate::specs::State::replied, crate::specs::State::looked))]
     fn reply_whole(&mut self, asked: Asked)
         requires { self.old.before < MAX_REPLIES }

@@ -1,7 +1,7 @@
 //! Slabs pick the indices that lie whole strides from their start, and a box has the index lists that its slabs pick.
 ghost use Rattle.std.specs.Prelude.{◌≡◌, ℕ, ◌<◌, ◌↔◌, Some, length, map, slice_get, All, Contains};
 ghost use Rattle.std.specs.List.Sorted.{IsStrictlyIncreasing};
-ghost use Rattle.fm_base.specs.Layout.{indices_of, product};
+ghost use Rattle.nc_model.specs.Layout.{indices_of, product};
 ghost use Rattle.dap_model.specs.Box.{box_len, box_of, index_at, slab_count, slab_indices};
 ghost use Rattle.dap_model.specs.Box.{whole_slab, HasStride, Picks, EachPicks};
 

@@ -13,7 +13,8 @@ ghost use Rattle.dap_model.specs.ProjectionFacts.{IsGridOf, Names, NamesAlone, S
 use crate::declaration::{Array, Decl};
 use crate::fault::ProjectFault;
 use crate::projection::{Clause, Projected, Sent, Slab};
-use fm_base::{Bytes, Dim};
+use fm_base::Bytes;
+use nc_model::Dim;
 
 /// A path picks something of a declaration exactly where it names the declaration, or a part of one that isn't a plain
 /// array.

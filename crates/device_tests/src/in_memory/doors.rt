@@ -1,13 +1,13 @@
 //! Doors, inboxes, clocks and openers in memory: which calls fail, and that what is to come comes.
 ghost use Rattle.std.specs.Prelude.{◌≡◌, ◌∷◌, [], IfOk, IfSome, Some};
-ghost use Rattle.fm_doors.specs.Door.{IsFresh};
+ghost use Rattle.dev_traits.specs.Door.{IsFresh};
 
-use fm_base::{Fail as Failure, List, NoMemory};
-use fm_doors::{
-    Arrival, Clock, Door, Expiry, Gate, Inbox, MemClock, MemDoor, MemInbox, MemOpener, OpenGate,
-    Opener, Place, Verdict,
+use dev_memory::{Entry, MemClock, MemDoor, MemInbox, MemLink, MemOpener};
+use dev_traits::{
+    Arrival, Clock, Door, Expiry, Failed, Found, Gate, Inbox, Link, OpenGate, Opener, Place,
+    Verdict,
 };
-use fm_world::{Entry, Failed, Found, Link, MemLink};
+use fm_base::{Fail as Failure, List, NoMemory};
 use std::alloc::Global;
 use std::test::Fail;
 
@@ -57,7 +57,7 @@ fn has_back(door: &MemDoor, left: &[u8]) -> bool {
     }
 }
 
-// Whether the first accept of a door fails, the second gives a link, and the third tells that the door is closed.
+// Whether the first accept of a door fails, the second gives a link, and the third shows that the door is closed.
 fn has_one(door: &mut MemDoor) -> Result<bool, Failed> {
     let failed = door.accept().is_err();
     let given = has_next(door)?;

@@ -1,8 +1,9 @@
 //! Files and sinks in memory: what is found, what is kept, and which calls fail.
 
 use super::links::calls;
+use dev_memory::{Entry, MemFiles, MemSink};
+use dev_traits::{Failed, Files, Found, Sink};
 use fm_base::{Fail as Failure, List, NoMemory};
-use fm_world::{Entry, Failed, Files, Found, MemFiles, MemSink, Sink};
 use std::alloc::Global;
 use std::test::Fail;
 
@@ -52,7 +53,7 @@ fn holds(alloc: Global, files: &mut MemFiles, row: Row<'_>) -> Result<bool, NoMe
     Ok(seen_of(&found) == seen)
 }
 
-// Whether that comes of these reads, one after the other, and so many of them fail.
+// Whether these reads give that, one after the other, and `faults` of them fail.
 fn all_hold(
     alloc: Global,
     files: &mut MemFiles,
@@ -101,13 +102,13 @@ fn sink(alloc: Global) -> Result<MemSink, NoMemory> {
     MemSink::new(alloc, 4, calls(alloc, &[2])?)
 }
 
-// Whether that comes of a put.
+// Whether a put gives that.
 fn keeps(sink: &mut MemSink, put: Put<'_>) -> bool {
     let (bytes, whole, after) = put;
     sink.put(bytes).is_ok() == whole && sink.bytes() == after
 }
 
-// Whether that comes of these puts, one after the other, and so many of them fail.
+// Whether these puts give that, one after the other, and `faults` of them fail.
 fn keeps_all(sink: MemSink, puts: &[Put<'_>], faults: u64) -> bool {
     let mut sink = sink;
     puts.iter().all(|put| keeps(&mut sink, *put)) && sink.faults() == faults

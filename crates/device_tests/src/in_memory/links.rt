@@ -1,7 +1,8 @@
 //! Links in memory: in what pieces they give and take, and which calls fail.
 
+use dev_memory::MemLink;
+use dev_traits::{Link, put_all};
 use fm_base::{List, NoMemory};
-use fm_world::{Link, MemLink, put_all};
 use std::alloc::Global;
 use std::process::Abort;
 use std::test::Fail;
@@ -30,7 +31,7 @@ fn gives(link: &mut MemLink, room: usize, bytes: &[u8]) -> bool {
     }
 }
 
-// Whether a put of these bytes takes so many of them; or, where it takes `None`, fails.
+// Whether a put of these bytes takes `count` of them, or fails where `count` is `None`.
 fn takes(link: &mut MemLink, bytes: &[u8], count: Option<usize>) -> bool {
     !bytes.is_empty() && link.put(bytes).ok() == count
 }
@@ -42,7 +43,7 @@ enum Call<'a> {
     Gives(usize, &'a [u8]),
     // A take fails.
     GivesNot,
-    // A put of these bytes takes so many.
+    // A put of these bytes takes that number of them.
     Takes(&'a [u8], usize),
     // A put of these bytes fails.
     TakesNot(&'a [u8]),
@@ -58,7 +59,7 @@ enum Call<'a> {
     Faults(u64),
 }
 
-// Whether that comes of it.
+// Whether the call gives that.
 fn holds(link: &mut MemLink, call: Call<'_>) -> bool {
     match call {
         Call::Gives(room, bytes) => gives(link, room, bytes),
@@ -140,7 +141,7 @@ fn a_link_without_room_takes_what_fits_and_then_fails(rt: HostRuntime) -> Result
 }
 
 #[test]
-fn input_from_the_held_back_place_waits_for_output(rt: HostRuntime) -> Result<(), Fail> {
+fn input_from_the_held_back_offset_waits_for_output(rt: HostRuntime) -> Result<(), Fail> {
     let link = link(rt.alloc(), b"abcd", 9, &[])?.held_back(3, 2);
     let calls = [
         Call::Gives(8, b"abc"),

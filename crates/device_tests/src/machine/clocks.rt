@@ -1,7 +1,7 @@
 //! The clock of the machine.
 
-use fm_doors::{Clock, Expiry};
-use fm_host::RealClock;
+use dev_host::RealClock;
+use dev_traits::{Clock, Expiry};
 use std::test::Fail;
 use std::time::Duration;
 

@@ -1,8 +1,7 @@
 //! Doors at sockets of the loopback device.
 
-use fm_doors::Door;
-use fm_host::{TcpDoor, TcpLink};
-use fm_world::{Failed, Link};
+use dev_host::{TcpDoor, TcpLink};
+use dev_traits::{Door, Failed, Link};
 use std::alloc::Global;
 use std::io::{self, Read, Write};
 use std::net::{Shutdown, SocketAddr, TcpListener, TcpStream};
@@ -42,7 +41,7 @@ fn next_link(
     }
 }
 
-// Whether each of the next two accepts gives a link, or tells that the door is closed.
+// Whether each of the next two accepts gives a link, or shows that the door is closed.
 fn gives_twice(door: &mut TcpDoor<HostRuntime>, some: bool) -> Result<bool, Failed> {
     let first = door.accept()?.is_some();
     let second = door.accept()?.is_some();
@@ -85,7 +84,7 @@ fn echo<L: Link>(link: &mut L) -> Result<(), Failed> {
         if count == 0 {
             return Ok(());
         }
-        fm_world::put_all(link, &buf[..count])?;
+        dev_traits::put_all(link, &buf[..count])?;
     }
     Ok(())
 }

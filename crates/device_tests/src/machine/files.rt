@@ -1,8 +1,8 @@
 //! The machine's files and standard streams.
 
+use dev_std::{RealFiles, StdLink, StdSink, StdStream};
+use dev_traits::{Files, Found, Link, Sink};
 use fm_base::{Bytes, List};
-use fm_devices::{RealFiles, StdLink, StdSink, StdStream};
-use fm_world::{Files, Found, Link, Sink};
 use std::alloc::Global;
 use std::test::Fail;
 use std::{env, fs, process, str};

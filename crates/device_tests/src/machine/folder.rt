@@ -1,8 +1,8 @@
 //! A folder of a test's own.
 
+use dev_host::FolderInbox;
+use dev_traits::{Arrival, Inbox, Verdict};
 use fm_base::NoMemory;
-use fm_doors::{Arrival, Inbox, Verdict};
-use fm_host::FolderInbox;
 use std::path::PathBuf;
 use std::test::Fail;
 use std::{env, fs, process};

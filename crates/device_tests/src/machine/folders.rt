@@ -1,9 +1,8 @@
 //! Inboxes of folders: what is offered, in which order, and when they are done.
 
 use super::folder::{Folder, is_done, is_idle, publishes};
-use fm_doors::Inbox;
-use fm_host::FolderInbox;
-use fm_world::Found;
+use dev_host::FolderInbox;
+use dev_traits::{Found, Inbox};
 use std::alloc::Global;
 use std::test::Fail;
 
@@ -45,7 +44,8 @@ fn a_folder_named_stop_stops_nothing(rt: HostRuntime) -> Result<(), Fail> {
     folder.remove(&rt)
 }
 
-// Whether a file of four bytes, its name, keeps a limit of four bytes, is longer than three, and lies under no other name.
+// Whether a file of four bytes, its name, keeps a limit of four bytes, is longer than three, and lies under no other
+// name.
 fn keeps_its_limit(alloc: Global, inbox: &mut FolderInbox<HostRuntime>) -> Result<bool, Fail> {
     let whole = match inbox.fetch(alloc, b"a.nc", 4)? {
         Found::Content(content) => content.as_slice() == b"a.nc".as_slice(),

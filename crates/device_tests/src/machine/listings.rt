@@ -1,8 +1,7 @@
 //! Folders in memory, whose listings have names that aren't text, and fail.
 
-use fm_doors::{Arrival, Inbox};
-use fm_host::FolderInbox;
-use fm_world::Found;
+use dev_host::FolderInbox;
+use dev_traits::{Arrival, Found, Inbox};
 use std::alloc::{Allocator, Global};
 use std::fs::{File, Metadata, OpenOptions};
 use std::io::{self, Error, ErrorKind, Read};

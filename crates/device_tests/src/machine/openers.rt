@@ -1,9 +1,8 @@
 //! What the machine opens.
 
+use dev_host::{RealOpener, TcpDoor, host_world};
+use dev_traits::{Clock, Door, Failed, Inbox, Opener};
 use fm_base::List;
-use fm_doors::{Clock, Door, Inbox, Opener};
-use fm_host::{RealOpener, TcpDoor, host_world};
-use fm_world::Failed;
 use std::alloc::Global;
 use std::net::{TcpListener, TcpStream};
 use std::test::Fail;

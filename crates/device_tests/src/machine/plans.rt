@@ -1,7 +1,7 @@
 //! Readers and writers in memory that cut, fail and are interrupted.
 
-use fm_devices::{StreamLink, StreamSink, read_to_end};
-use fm_world::{Failed, Found, Link, Sink};
+use dev_std::{StreamLink, StreamSink, read_to_end};
+use dev_traits::{Failed, Found, Link, Sink};
 use std::alloc::Global;
 use std::io;
 use std::io::{Error, ErrorKind, Read, Write};

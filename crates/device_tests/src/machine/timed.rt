@@ -1,9 +1,8 @@
 //! Links over streams and clocks in memory.
 
 use super::turns::{Listener, Stream, Ticking, Turn};
-use fm_doors::Clock;
-use fm_host::{RealClock, TimedLink, accept_next, drop_rest};
-use fm_world::Link;
+use dev_host::{RealClock, TimedLink, accept_next, drop_rest};
+use dev_traits::{Clock, Link};
 use std::io;
 use std::io::ErrorKind;
 use std::test::Fail;
@@ -26,7 +25,7 @@ fn link<'a>(
     ))
 }
 
-// Whether a take gives so many bytes, or fails where it is to give `None`.
+// Whether a take gives `count` bytes, or fails where `count` is `None`.
 fn gives(link: &mut impl Link, count: Option<usize>) -> bool {
     link.take(&mut [0u8; 4]).ok() == count
 }

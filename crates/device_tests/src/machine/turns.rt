@@ -19,7 +19,7 @@ pub(crate) enum Turn {
     Fails(ErrorKind),
 }
 
-// How many bytes of so many a call takes.
+// The bytes, at most `most`, that a call takes.
 fn taken(turn: Turn, most: usize) -> io::Result<usize>
     ensures { IfOk result (λ count. count ≤ most) }
 {
@@ -31,12 +31,12 @@ fn taken(turn: Turn, most: usize) -> io::Result<usize>
     }
 }
 
-// The turn at a place, which goes on by one. After the last one it stays.
-fn next_turn(turns: &[Turn], place: &Cell<usize>) -> Turn {
-    let at = place.get();
+// The turn at an index, which goes on by one. After the last one it stays.
+fn next_turn(turns: &[Turn], index: &Cell<usize>) -> Turn {
+    let at = index.get();
     match turns.get(at) {
         Some(turn) => {
-            place.set(at.saturating_add(1));
+            index.set(at.saturating_add(1));
             *turn
         }
         None => turns.last().copied().unwrap_or(Turn::Nothing),
@@ -47,21 +47,21 @@ fn next_turn(turns: &[Turn], place: &Cell<usize>) -> Turn {
 #[derive(Drop)]
 pub(crate) struct Stream<'a> {
     turns: &'a [Turn],
-    place: Cell<usize>,
+    index: Cell<usize>,
 }
 
 impl<'a> Stream<'a> {
     pub(crate) fn new(turns: &'a [Turn]) -> Stream<'a> {
         Stream {
             turns,
-            place: Cell::new(0),
+            index: Cell::new(0),
         }
     }
 }
 
 impl Read for Stream<'_> {
     fn read(&mut self, buf: &mut [u8]) -> io::Result<usize> {
-        let count = taken(next_turn(self.turns, &self.place), buf.len())?;
+        let count = taken(next_turn(self.turns, &self.index), buf.len())?;
         buf[..count].fill(b'x');
         Ok(count)
     }
@@ -69,7 +69,7 @@ impl Read for Stream<'_> {
 
 impl Write for Stream<'_> {
     fn write(&mut self, buf: &[u8]) -> io::Result<usize> {
-        taken(next_turn(self.turns, &self.place), buf.len())
+        taken(next_turn(self.turns, &self.index), buf.len())
     }
 
     fn flush(&mut self) -> io::Result<()> {
@@ -87,14 +87,14 @@ impl OpenStream for Stream<'_> {
 #[derive(Drop)]
 pub(crate) struct Listener<'a> {
     turns: &'a [Turn],
-    place: Cell<usize>,
+    index: Cell<usize>,
 }
 
 impl<'a> Listener<'a> {
     pub(crate) fn new(turns: &'a [Turn]) -> Listener<'a> {
         Listener {
             turns,
-            place: Cell::new(0),
+            index: Cell::new(0),
         }
     }
 }
@@ -103,13 +103,13 @@ impl OpenListener for Listener<'_> {
     type Stream = u8;
 
     fn accept(&self) -> io::Result<(u8, SocketAddr)> {
-        taken(next_turn(self.turns, &self.place), 1)?;
+        taken(next_turn(self.turns, &self.index), 1)?;
         let address = SocketAddrV4::new(Ipv4Addr::LOCALHOST, 0);
         Ok((b'x', SocketAddr::V4(address)))
     }
 }
 
-// A clock that goes on by so many milliseconds each time that it is read.
+// A clock that goes on by `step` milliseconds each time that it is read.
 #[derive(Drop)]
 pub(crate) struct Ticking {
     step: u64,

@@ -1,8 +1,8 @@
 //! Inboxes of folders: where files go by their verdicts.
 
 use super::folder::{Folder, comes, is_done, publishes, settles};
-use fm_doors::{Inbox, Verdict};
-use fm_host::FolderInbox;
+use dev_host::FolderInbox;
+use dev_traits::{Inbox, Verdict};
 use std::test::Fail;
 
 // A name, its verdict, and where its file then lies.

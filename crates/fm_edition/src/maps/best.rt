@@ -48,7 +48,7 @@ fn set_rows(alloc: Global, best: &mut RowPages, pages: &Pages, number: i64) -> R
     Ok(())
 }
 
-// Whether a page differs from that of the instant before a place.
+// Whether a page differs from that of the instant before an index.
 fn begins_page(touched: &[i64], at: usize, number: i64) -> bool
     requires { at ≤ length touched.now }
     ensures { result ≡ false → spec.touches (take at touched.now) number ≡ true }

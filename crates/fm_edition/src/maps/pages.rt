@@ -90,7 +90,7 @@ fn opened(alloc: Global, pages: &Pages, number: i64) -> Result<Page, NoMemory>
     }
 }
 
-/// An operation, by what its files are looked up, and the instants that it touches.
+/// An operation, the kind of instant that its files are looked up by, and the instants that it touches.
 #[derive(Clone, Copy)]
 pub(crate) struct Change<'a> {
     pub by: By,
@@ -98,8 +98,7 @@ pub(crate) struct Change<'a> {
     pub touched: &'a [i64],
 }
 
-// Does an operation to the instants of one page, from a place among those that it touches, and returns the place
-// after them.
+// Does an operation to the instants of one page, from an index of the touched ones. Returns the index after them.
 fn page_after(
     alloc: Global,
     page: &mut Page,
@@ -108,14 +107,14 @@ fn page_after(
     change: &Change<'_>,
     from: usize,
 ) -> Result<usize, NoMemory>
-    requires place { from < length change.now.touched.now }
+    requires index { from < length change.now.touched.now }
     requires ordered { tree.IsOrdered int_cmp page.old }
     requires first { spec.page_of (slice_index_or change.now.touched.now from number) ≡ number }
     requires done { (key : ℤ) → tree.get int_cmp page.old key
         ≡ spec.page_set change.now.by (take from change.now.touched.now) change.now.op.now
         (spec.in_page pages.now) number key }
     ensures ordered { OnOk result (tree.IsOrdered int_cmp page.new) }
-    ensures place { IfOk result (λ at. (from < at) × (at ≤ length change.now.touched.now)) }
+    ensures index { IfOk result (λ at. (from < at) × (at ≤ length change.now.touched.now)) }
     ensures done { IfOk result (λ at. (key : ℤ) → tree.get int_cmp page.new key
         ≡ spec.page_set change.now.by (take at change.now.touched.now) change.now.op.now
         (spec.in_page pages.now) number key) }

@@ -28,11 +28,11 @@ pub(crate) fn push_row(
         return Ok(());
     };
     match cell_of(files, run, valid) {
-        Some((file, place)) => rows.push(Row {
+        Some((file, index)) => rows.push(Row {
             valid,
             run,
             file: file.share()?,
-            place,
+            place: index,
         }),
         None => Ok(()),
     }

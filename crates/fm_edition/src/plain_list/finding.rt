@@ -26,28 +26,28 @@ pub(crate) fn has_older(files: &[Arc<Loaded>], cutoff: i64) -> bool
     files.iter().any(|file| file.get().run < cutoff)
 }
 
-// The first place of a valid time among some times.
-pub(crate) fn place_of(times: &[i64], valid: i64) -> Option<usize>
+// The first index of a valid time among some times.
+pub(crate) fn index_of(times: &[i64], valid: i64) -> Option<usize>
     ensures { result ≡ position (λ time. int_eq time valid) times.now }
 {
     times.iter().position(|time| *time == valid)
 }
 
-// The place of a valid time in a file, where the file is of this run.
-fn place_in(file: &Loaded, run: i64, valid: i64) -> Option<u32>
+// The index of a valid time in a file, where the file is of this run.
+fn index_in(file: &Loaded, run: i64, valid: i64) -> Option<u32>
     requires { length file.now.times ≤ MAX_TIMES }
     ensures { result ≡ cell_in run valid file.now }
 {
     if file.run != run {
         return None;
     }
-    match place_of(file.times.as_slice(), valid) {
-        Some(place) => Some(place as u32),
+    match index_of(file.times.as_slice(), valid) {
+        Some(index) => Some(index as u32),
         None => None,
     }
 }
 
-// The last file of a run with a valid time, and the time's place in it.
+// The last file of a run with a valid time, and the time's index in it.
 pub(crate) fn cell_of(files: &[Arc<Loaded>], run: i64, valid: i64) -> Option<(&Arc<Loaded>, u32)>
     requires { All (λ (file : File). length file.times ≤ MAX_TIMES) files.now }
     ensures found { IfSome result (λ found. cell files.now run valid ≡ Some (found.0.now, found.1)) }
@@ -57,8 +57,8 @@ pub(crate) fn cell_of(files: &[Arc<Loaded>], run: i64, valid: i64) -> Option<(&A
     while before > 0 {
         before -= 1;
         let file = &files[before];
-        if let Some(place) = place_in(file.get(), run, valid) {
-            return Some((file, place));
+        if let Some(index) = index_in(file.get(), run, valid) {
+            return Some((file, index));
         }
     }
     None

@@ -1,8 +1,8 @@
 //! Texts, axes, and which variables the views show.
-#![tactic(auto, unfolding(crate::specs::Attribute::attr_text, crate::specs::Attribute::has_text, crate::specs::Attribute::text_of, crate::specs::Attribute::trimmed, crate::specs::Prototype::is_char_per_time, crate::specs::Prototype::is_reference, crate::specs::Prototype::kept_vars, crate::specs::Variable::axis_of, crate::specs::Variable::has_standard_name, crate::specs::Variable::is_axis, crate::specs::Variable::is_coordinate, crate::specs::Variable::is_named, crate::specs::Variable::reference_of))]
+#![tactic(auto, unfolding(crate::proofs::Computing::attributes, crate::proofs::Computing::variables, crate::proofs::Computing::prototypes))]
 
 ghost use Rattle.std.specs.Prelude.{◌≡◌, [], ◌∷◌, None, Some, codes};
-ghost use Rattle.fm_base.specs.declared.kind.Kind.TheVariants.{Char, Int};
+ghost use Rattle.nc_model.specs.declared.kind.Kind.TheVariants.{Char, Int};
 ghost use Rattle.fm_model.specs.Attribute.{attr_text};
 ghost use Rattle.fm_model.specs.Example.{times_var, times_header, text_attr, header_of, header_with};
 ghost use Rattle.fm_model.specs.Example.{number_var, valid_var, run_var, flag_var};

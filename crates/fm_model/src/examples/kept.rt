@@ -1,13 +1,13 @@
 //! What a prototype keeps of its file.
-#![tactic(auto, unfolding(crate::specs::Attribute::attr_text, crate::specs::Attribute::has_text, crate::specs::Attribute::text_of, crate::specs::Prototype::is_char_per_time, crate::specs::Prototype::is_reference, crate::specs::Prototype::kept_vars, crate::specs::Prototype::proto_var, crate::specs::Prototype::proto_with, crate::specs::Variable::has_standard_name, crate::specs::Variable::lies_along, crate::specs::Variable::reference_of, fm_base::specs::Layout::element, fm_base::specs::Layout::elements_of, fm_base::specs::Layout::indices_of, fm_base::specs::Layout::place_of, fm_base::specs::Layout::product, fm_base::specs::Layout::rank_in, fm_base::specs::Reading::names_record_dim))]
+#![tactic(auto, unfolding(crate::proofs::Computing::layouts, crate::proofs::Computing::attributes, crate::proofs::Computing::variables, crate::proofs::Computing::prototypes))]
 
 ghost use Rattle.std.specs.Prelude.{◌≡◌, [], ◌∷◌, codes, false};
-ghost use Rattle.fm_base.specs.declared.kind.Kind.TheVariants.{Float, Int};
+ghost use Rattle.nc_model.specs.declared.kind.Kind.TheVariants.{Float, Int};
 ghost use Rattle.fm_model.specs.Example.{site, record_axis, field_var, field_header, field_proto};
 ghost use Rattle.fm_model.specs.Example.{times_var, header_with, number_var};
 ghost use Rattle.fm_model.specs.Prototype.{proto_var, proto_with};
 
-/// What a prototype keeps: lengths in place of records, and no elements of what lies along the axis.
+/// What a prototype keeps: lengths instead of records, and no elements of what lies along the axis.
 pub fn a_prototype_is_made_of_its_header()
     ensures { proto_with [] site (field_header (field_var Float (0 ∷ 1 ∷ 2 ∷ []) ∷ [])) record_axis
         ≡ field_proto }

@@ -1,8 +1,8 @@
 //! Headers that are no prototypes. Each has the axis `time` over two times, and one more dimension and variable.
-#![tactic(auto, unfolding(fm_base::specs::Name::is_name_byte, crate::specs::Attribute::attr_text, crate::specs::Attribute::has_text, crate::specs::Attribute::text_of, crate::specs::Prototype::dims_have_lengths, crate::specs::Prototype::is_char_per_time, crate::specs::Prototype::is_plain_name, crate::specs::Prototype::is_reference, crate::specs::Prototype::kept_vars, crate::specs::Prototype::names_are_free, crate::specs::Prototype::names_are_plain, crate::specs::Prototype::offset_name, crate::specs::Prototype::run_name, crate::specs::Prototype::time_stands_first, crate::specs::Variable::has_standard_name, crate::specs::Variable::lies_along, crate::specs::Variable::reference_of))]
+#![tactic(auto, unfolding(crate::proofs::Computing::headers, crate::proofs::Computing::attributes, crate::proofs::Computing::variables, crate::proofs::Computing::prototypes))]
 
 ghost use Rattle.std.specs.Prelude.{◌≡◌, [], ◌∷◌, Err, codes, true, false};
-ghost use Rattle.fm_base.specs.declared.kind.Kind.TheVariants.{Int};
+ghost use Rattle.nc_model.specs.declared.kind.Kind.TheVariants.{Int};
 ghost use Rattle.fm_model.specs.declared.proto.ProtoFault.TheVariants.{BadProtoName, EmptyDimension, NameTaken, TimeNotFirst};
 ghost use Rattle.fm_model.specs.Example.{header_with, number_var, times_var};
 ghost use Rattle.fm_model.specs.Prototype.{dims_have_lengths, is_plain_name, names_are_free, names_are_plain, time_stands_first};

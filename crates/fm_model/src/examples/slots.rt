@@ -1,8 +1,8 @@
 //! The variables of a file beside those of a prototype.
-#![tactic(auto, unfolding(crate::specs::LoadAxis::file_var, crate::specs::LoadVars::file_slot, crate::specs::LoadVars::is_like_timed, crate::specs::LoadVars::same_bytes, crate::specs::LoadVars::slot_in, crate::specs::Variable::lies_along, crate::specs::Variable::stands_first_alone, crate::specs::Variable::var_named, fm_base::specs::Layout::product, fm_base::specs::Layout::record_size, fm_base::specs::Layout::vsize, fm_base::specs::Reading::names_record_dim))]
+#![tactic(auto, unfolding(crate::proofs::Computing::layouts, crate::proofs::Computing::variables, crate::proofs::Computing::loads))]
 
 ghost use Rattle.std.specs.Prelude.{◌≡◌, [], ◌∷◌, Ok, Err, codes};
-ghost use Rattle.fm_base.specs.declared.kind.Kind.TheVariants.{Float, Int};
+ghost use Rattle.nc_model.specs.declared.kind.Kind.TheVariants.{Float, Int};
 ghost use Rattle.fm_model.specs.declared.loaded.LoadFault.TheVariants.{GridDiffers, MissingVariable, VariableDiffers};
 ghost use Rattle.fm_model.specs.Example.{record_axis, field_var, field_header, proto_field, field_proto};
 ghost use Rattle.fm_model.specs.LoadVars.{file_slot, same_bytes};

@@ -1,8 +1,8 @@
 //! Times and runs of a file. The epoch is 2020-01-01T00:00:00Z.
 ghost use Rattle.std.specs.Prelude.{◌≡◌, [], ◌∷◌, Ok, Err, codes, pos, negsuc};
-ghost use Rattle.fm_base.specs.declared.kind.Kind.TheVariants.{Char, Double, Int};
+ghost use Rattle.nc_model.specs.declared.kind.Kind.TheVariants.{Char, Double, Int};
 ghost use Rattle.fm_model.specs.declared.loaded.LoadFault.TheVariants.{NoRunTime, NoTimes, NotWhole, RunRange, TimeRange, TimeRepeated, TooManyTimes, Units};
-ghost use Rattle.fm_base.specs.declared.units.UnitsFault.TheVariants.{BadUnits, Calendar};
+ghost use Rattle.nc_model.specs.declared.units.UnitsFault.TheVariants.{BadUnits, Calendar};
 ghost use Rattle.fm_model.specs.Example.{site, text_attr, since_1970, since_epoch, times_var, times_header};
 ghost use Rattle.fm_model.specs.LoadTimes.{file_times, file_units, run_by_name, run_by_variable, run_in_range, time_at, time_count};
 

@@ -1,5 +1,5 @@
 //! The rows of two runs that overlap: midnight's has 00Z, 06Z and 12Z, and the morning's 06Z, 12Z and 18Z.
-#![tactic(auto, unfolding(crate::specs::Collection::after_op, crate::specs::Collection::coll, crate::specs::Collection::kept_from, crate::specs::Collection::without, crate::specs::Cell::best, crate::specs::Cell::cell, crate::specs::Cell::has_cell, crate::specs::Cell::has_least_offset, crate::specs::Cell::has_time, crate::specs::Cell::is_usable, crate::specs::Cell::place_of_time, crate::specs::Cell::runs_of, crate::specs::Cell::times_of, crate::specs::Cell::times_of_run, crate::specs::Rising::insert_once, crate::specs::Rising::rising, crate::specs::Rows::best_row, crate::specs::Rows::row_at, crate::specs::Rows::rows))]
+#![tactic(auto, unfolding(crate::proofs::Computing::collections, crate::proofs::Computing::views))]
 
 ghost use Rattle.std.specs.Prelude.{◌≡◌, [], ◌∷◌, codes, pos, negsuc};
 ghost use Rattle.fm_model.specs.declared.op.Op.TheVariants.{Put, Expire, Retract};
@@ -18,7 +18,7 @@ pub fn a_later_run_wins_whatever_came_first()
         ∷ row_of morning (pos 43200) 1 ∷ row_of morning (pos 64800) 2 ∷ [] }
 {}
 
-/// A file that comes again takes the place of the old one: a time that only the old one had is gone.
+/// A file that comes again replaces the old one: a time that only the old one had is gone.
 pub fn a_file_that_comes_again_drops_old_times()
     ensures best { rows (coll (Put midnight ∷ Put midnight_again ∷ [])) Best
         ≡ row_of midnight_again (pos 0) 0 ∷ row_of midnight_again (pos 21600) 1 ∷ [] }

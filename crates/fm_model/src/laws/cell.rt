@@ -6,10 +6,10 @@ ghost use Rattle.fm_model.specs.Cell.{cell, best, runs_of, times_of, times_of_ru
 ghost use Rattle.fm_model.specs.Cell.{HasCell, HasTimeFrom, IsCell, IsBest};
 ghost use Rattle.fm_model.specs.Rising.{rising, Rises};
 
-/// The cell of a run and a valid time is in the last file of that run with that time, at the time's place in it.
+/// The cell of a run and a valid time is in the last file of that run with that time, at the time's index in it.
 pub fn cell_is_in_the_last_file()
-    ensures { (files : List Loaded) (run valid : ℤ) (file : Loaded) (place : ℕ) →
-        (cell files run valid ≡ Some (file, place)) ↔ IsCell files run valid file place }
+    ensures { (files : List Loaded) (run valid : ℤ) (file : Loaded) (index : ℕ) →
+        (cell files run valid ≡ Some (file, index)) ↔ IsCell files run valid file index }
 {}
 
 /// There is no cell exactly where no file of that run has that time.

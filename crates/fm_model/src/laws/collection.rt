@@ -24,7 +24,7 @@ pub fn put_leaves_one_of_its_name()
         without file.name (after_op files (Put file)) ≡ without file.name files }
 {}
 
-/// A put under the name of a held file takes its place, and so leaves the number of files; any other adds one.
+/// A put under the name of a held file replaces it, and so leaves the number of files; any other adds one.
 pub fn put_counts_names()
     ensures held { (files : List Loaded) (file : Loaded) → AllPairs DifferInName files
         → Any (λ (other : Loaded). other.name ≡ file.name) files

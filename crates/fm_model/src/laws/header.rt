@@ -1,9 +1,9 @@
 //! Headers that are taken.
 ghost use Rattle.std.specs.Prelude.{◌≡◌, ℕ, List, Ok, None, Contains, IsTrue, length};
-ghost use Rattle.fm_base.specs.declared.header.Header.{Header as FileHeader};
-ghost use Rattle.fm_base.specs.declared.header.NcVar.{NcVar};
-ghost use Rattle.fm_base.specs.Layout.{layout_fault};
-ghost use Rattle.fm_base.specs.Reading.{header_or_fault};
+ghost use Rattle.nc_model.specs.declared.header.Header.{Header as FileHeader};
+ghost use Rattle.nc_model.specs.declared.header.NcVar.{NcVar};
+ghost use Rattle.nc_model.specs.Layout.{layout_fault};
+ghost use Rattle.nc_model.specs.Reading.{header_or_fault};
 ghost use Rattle.fm_model.specs.declared.proto.Proto.{Proto};
 ghost use Rattle.fm_model.specs.LoadAxis.{file_axis, file_header};
 ghost use Rattle.fm_model.specs.Prototype.{proto_header};

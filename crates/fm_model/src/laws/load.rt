@@ -3,11 +3,11 @@ ghost use Rattle.std.specs.Prelude.{◌≡◌, ◌≢◌, ◌+◌, ◌*◌, ◌<
 ghost use Rattle.std.specs.Prelude.{None, Some, List, Ok, All, AllPairs, IsTrue, drop, length, slice_get, true, false};
 ghost use Rattle.std.specs.List.{AllZip};
 ghost use Rattle.std.specs.Result.{result_ok};
-ghost use Rattle.fm_base.specs.declared.header.Header.{Header as FileHeader};
-ghost use Rattle.fm_base.specs.declared.header.NcVar.{NcVar};
-ghost use Rattle.fm_base.specs.declared.units.Units.{Units as TimeUnits};
-ghost use Rattle.fm_base.specs.Kind.{size_of};
-ghost use Rattle.fm_base.specs.Layout.{place_of, rank_in, shape_of, size_at};
+ghost use Rattle.nc_model.specs.declared.header.Header.{Header as FileHeader};
+ghost use Rattle.nc_model.specs.declared.header.NcVar.{NcVar};
+ghost use Rattle.nc_model.specs.declared.units.Units.{Units as TimeUnits};
+ghost use Rattle.nc_model.specs.Kind.{size_of};
+ghost use Rattle.nc_model.specs.Layout.{place_of, rank_in, shape_of, size_at};
 ghost use Rattle.fm_model.specs.declared.loaded.Loaded.{Loaded};
 ghost use Rattle.fm_model.specs.declared.proto.Proto.{Proto};
 ghost use Rattle.fm_model.specs.declared.proto.ProtoVar.{ProtoVar};

@@ -60,7 +60,7 @@ pub fn a_run_has_each_of_its_times_once()
         map (λ (row : Row). row.valid) (rows files (Run run)) ≡ times_of_run files run }
 {}
 
-/// The file of a row is held, is of the row's run, and has the row's valid time at the row's place.
+/// The file of a row is held, is of the row's run, and has the row's valid time at the row's index.
 pub fn rows_have_held_files()
     ensures { (files : List Loaded) (view : ViewName) (row : Row) →
         Contains (rows files view) row → HasHeldFile files row }

@@ -13,7 +13,8 @@ use std::test::Fail;
 /// The number of names.
 pub const NAMES: u8 = 20;
 
-/// The first run, from the epoch of the collection: 2024-01-07, so that a page of an edition ends among the hours below.
+/// The first run, from the epoch of the collection: 2024-01-07, so that a page of an edition ends among the hours
+/// below.
 const FIRST_RUN: i64 = 126_748_800;
 
 // The same in Unix seconds.

@@ -1,10 +1,10 @@
 //! Where the elements of a variable lie beside each other.
 ghost use Rattle.std.specs.Prelude.{◌≡◌, ◌≢◌, ◌+◌, ◌≤◌, Some, slice_get};
-ghost use Rattle.fm_base.specs.Kind.{size_of};
-ghost use Rattle.fm_base.specs.Layout.{shape_of, place_of, end_of, IsIndex};
+ghost use Rattle.nc_model.specs.Kind.{size_of};
+ghost use Rattle.nc_model.specs.Layout.{shape_of, place_of, end_of, IsIndex};
 ghost use Rattle.nc_layout.specs.Meaning.{AreApart};
 
-use fm_base::{Header, NcVar};
+use nc_model::{Header, NcVar};
 
 /// No element of a variable ends past the end of its last element.
 #[tactic(auto, using(crate::proofs::EndLemmas::ends))]

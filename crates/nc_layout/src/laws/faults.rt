@@ -1,9 +1,9 @@
 //! What the first fault of a layout says.
 ghost use Rattle.std.specs.Prelude.{MatchOption};
-ghost use Rattle.fm_base.specs.Layout.{layout_fault};
+ghost use Rattle.nc_model.specs.Layout.{layout_fault};
 ghost use Rattle.nc_layout.specs.Meaning.{IsInside, Says};
 
-use fm_base::Header;
+use nc_model::Header;
 
 /// What the first fault of a layout says: which variable is at fault, and that none before it is. Where there is no
 /// fault, no variable is at fault.

@@ -1,7 +1,7 @@
 //! The index lists of an array in row-major order.
 ghost use Rattle.std.specs.Prelude.{◌≡◌, All, Some, length, map, slice_get};
 ghost use Rattle.std.specs.List.{range_with_len};
-ghost use Rattle.fm_base.specs.Layout.{product, rank_in, indices_of, IsIndex};
+ghost use Rattle.nc_model.specs.Layout.{product, rank_in, indices_of, IsIndex};
 
 /// The index lists of an array in row-major order have the numbers 0, 1, 2 and so on, so there are as many as the
 /// array has elements.

@@ -1,6 +1,6 @@
 -- The example boxes have these index lists, by computing.
 use Rattle.std.proofs.Common.{refl}
-use Rattle.fm_base.specs.Layout.{product}
+use Rattle.nc_model.specs.Layout.{product}
 use Rattle.dap_model.specs.Box.{box_len, box_of, index_at, slab_count, slab_indices}
 use Rattle.dap_model.proofs.examples.boxes.Goals as goal
 

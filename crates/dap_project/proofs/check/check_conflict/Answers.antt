@@ -1,4 +1,4 @@
--- Slabs differ from earlier ones where the note tells so.
+-- Slabs differ from earlier ones where the note says so.
 use Rattle.std.proofs.Common.{List, ℕ, Some, ap, ap₂, sym, ◌∙◌}
 use Rattle.dap_model.specs.Picking.{picked_by, slabs_for}
 use Rattle.dap_model.specs.declared.fault.ProjectFault.TheVariants.{SlabConflict}

@@ -1,7 +1,7 @@
 -- Each turn starts a slab again or moves it on, and the slabs don't all start again.
 use Rattle.std.proofs.Common.{ℕ, ◌≡◌, ◌-◌, ◌∙◌, ap, subst, length, take, drop, arith}
 use Rattle.std.proofs.Math.ListN.{length-set}
-use Rattle.dap_slab.proofs.IndexLemmas.{length-index_at}
+use Rattle.dap_model.proofs.BoxLemmas.{length-index_at}
 use Rattle.dap_slab.proofs.WalkLemmas.{Carried, Carried-begun, Carried-last, turn_before}
 use Rattle.dap_slab.proofs.walk.advance.Goals as goal
 use Rattle.dap_slab.proofs.walk.advance.Goals.{else-loop-at-test, then-loop-at-test+then-slab-index}

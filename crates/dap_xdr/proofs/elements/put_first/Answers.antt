@@ -20,10 +20,10 @@ returns-clause-front g c =
     let content = g.S.Source.content c.args.source.now in
     let n = c.args.part.now in
     let one : element_bytes c.kind.result c.bits-bits.result
-    ≡ element_bytes n.array.kind (bits_in content n (index_at n.sent.slabs c.args.place)) =
+    ≡ element_bytes n.array.kind (bits_in content n (index_at n.sent.slabs c.args.at.place)) =
     ap₂ element_bytes c.kind.ensures (c.bits-bits.ensures.exact ∙ ap (bits_in content n) c.requires.index) in
-    subst (λ (new : List ℕ). IsFront (drop c.args.skip (numbers_from content n c.args.place)) c.args.out.now new
+    subst (λ (new : List ℕ). IsFront (drop c.args.at.skip (numbers_from content n c.args.at.place)) c.args.out.now new
     c.put_element.result)
-    (sym (c.put_element.ensures.bytes ∙ ap (λ (l : List ℕ). overlay (drop c.args.skip l) c.args.out.now) one))
-    (one-front content n c.args.place c.args.skip c.put_element.result c.args.out.now c.requires.place
-    (c.put_element.ensures.count ∙ ap (λ (l : List ℕ). min (length c.args.out.now) (length l - c.args.skip)) one))
+    (sym (c.put_element.ensures.bytes ∙ ap (λ (l : List ℕ). overlay (drop c.args.at.skip l) c.args.out.now) one))
+    (one-front content n c.args.at.place c.args.at.skip c.put_element.result c.args.out.now c.requires.place
+    (c.put_element.ensures.count ∙ ap (λ (l : List ℕ). min (length c.args.out.now) (length l - c.args.at.skip)) one))

@@ -10,9 +10,9 @@ use Rattle.dap_xdr.proofs.elements.put_in_place.Goals as goal
 
 pub returns : goal.returns
 returns g c =
-    picked-front (g.S.Source.content c.args.source.now) c.args.part.now c.args.place c.args.skip
+    picked-front (g.S.Source.content c.args.source.now) c.args.part.now c.args.at.place c.args.at.skip
     (length c.args.out.now) c.put_stored.result c.raw-stored.result.now c.args.out.now
     c.put_stored.new.out c.raw-stored.ensures
     (subst (λ (kind : DapKind). (numbers : List ℕ) → AreBytesOf kind numbers c.raw-stored.result.now
-    → IsFront (drop c.args.skip (flat_map (element_bytes kind) numbers)) c.args.out.now c.put_stored.new.out
+    → IsFront (drop c.args.at.skip (flat_map (element_bytes kind) numbers)) c.args.out.now c.put_stored.new.out
     c.put_stored.result) c.kind.ensures c.put_stored.ensures)

@@ -3,8 +3,8 @@ use Rattle.std.proofs.Common.{◌≡◌, ◌+◌, ◌≤◌, ◌<◌, ℕ, List,
 use Rattle.std.proofs.lemmas.List.{length-append}
 use Rattle.dap_model.specs.Xdr.{text_bytes, text_len}
 use Rattle.dap_model.proofs.XdrLemmas.{length-text_bytes}
+use Rattle.dap_model.proofs.BoxLemmas.{length-index_at}
 use Rattle.dap_xdr.specs.Portion.{text_in}
-use Rattle.dap_xdr.proofs.IndexLemmas.{length-index_at}
 use Rattle.dap_xdr.proofs.TextsLemmas.{texts-whole, texts-more, texts_before}
 use Rattle.dap_xdr.proofs.len.texts_len.Goals as goal
 

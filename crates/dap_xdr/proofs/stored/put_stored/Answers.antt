@@ -1,4 +1,4 @@
--- Part of two bytes are widened, and all others copied.
+-- Numbers of two bytes are widened, and all others copied.
 use Rattle.std.proofs.Common.{ℕ, List, drop, sym, subst}
 use Rattle.std.specs.List.{flat_map}
 use Rattle.dap_model.specs.Xdr.{element_bytes}

@@ -1,8 +1,8 @@
 -- Each turn writes one text.
 use Rattle.std.proofs.Common.{◌≤◌, ◌<◌, ℕ, ◌-◌, length, refl, sym, ap, subst, ◌∙◌}
 use Rattle.std.specs.Int.{w32, to_be_bytes}
+use Rattle.dap_model.proofs.BoxLemmas.{length-index_at}
 use Rattle.dap_xdr.specs.Portion.{text_in}
-use Rattle.dap_xdr.proofs.IndexLemmas.{length-index_at}
 use Rattle.dap_xdr.proofs.TextsLemmas.{texts-done, texts-first, texts-full, texts-next}
 use Rattle.dap_xdr.proofs.texts.put_texts.Goals as goal
 

@@ -1,6 +1,6 @@
 -- Both clauses are laws of the definition.
 use Rattle.std.proofs.Common.{ap, ◌∙◌}
-use Rattle.fm_base.specs.Pattern.{pattern_value, whole_times}
+use Rattle.nc_model.specs.Pattern.{pattern_value, whole_times}
 use Rattle.fm_bits.proofs.SecondsLemmas.{whole_times_some, whole_times_none}
 use Rattle.fm_bits.proofs.seconds.whole_seconds.Goals as goal
 

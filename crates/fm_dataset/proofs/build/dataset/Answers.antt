@@ -1,3 +1,4 @@
+-- The dataset keeps what its parts were made as.
 use Rattle.std.proofs.Common.{ap₂, ◌∙◌, sym, subst}
 use Rattle.fm_model.specs.declared.proto.Proto.{Proto}
 use Rattle.fm_model.specs.Prototype.{IsSound}
@@ -8,8 +9,8 @@ use Rattle.fm_dataset.specs.Kept.{HasCoordinates, HasSlotNumbers}
 use Rattle.fm_dataset.specs.Rows.{AreRows}
 use Rattle.fm_dataset.proofs.build.dataset.Goals as goal
 
-pub dataset_of-requires : goal.dataset_of-requires
-dataset_of-requires c =
+pub invariant_of-result : goal.invariant_of-result
+invariant_of-result c =
     let shared = sym c.in_ok-proto.ensures in
     record {
       given = subst IsPrototype shared c.requires.proto;

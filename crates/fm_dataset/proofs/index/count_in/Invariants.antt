@@ -1,5 +1,5 @@
 use Rattle.std.proofs.Common.{◌≡◌, ◌*◌, map, drop}
-use Rattle.fm_base.specs.Layout.{product}
+use Rattle.nc_model.specs.Layout.{product}
 use Rattle.fm_dataset.specs.Kept.{length_at}
 use Rattle.fm_dataset.proofs.index.count_in.Given as goal
 

@@ -1,6 +1,6 @@
 use Rattle.std.proofs.Common.{◌≡◌, ◌+◌, ◌*◌, ◌≤◌, take, length, refl, ap, ap₂, ◌∙◌, sym, arith}
-use Rattle.fm_base.specs.Layout.{product, rank_in}
-use Rattle.fm_base.proofs.EndLaws.{rank_in-lt}
+use Rattle.nc_model.specs.Layout.{product, rank_in}
+use Rattle.nc_model.proofs.EndLaws.{rank_in-lt}
 use Rattle.nc_layout.proofs.RankLemmas.{length-index}
 use Rattle.fm_dataset.specs.Kept.{length_at}
 use Rattle.fm_dataset.specs.Values.{row_index, row_shape}

@@ -1,6 +1,6 @@
 use Rattle.std.proofs.Common.{◌+◌, ◌≤◌, length, ap, ◌∙◌, arith}
-use Rattle.fm_base.specs.Layout.{product}
-use Rattle.fm_base.proofs.EndLaws.{rank_in-lt}
+use Rattle.nc_model.specs.Layout.{product}
+use Rattle.nc_model.proofs.EndLaws.{rank_in-lt}
 use Rattle.fm_dataset.specs.Kept.{length_at}
 use Rattle.fm_dataset.specs.Values.{row_shape}
 use Rattle.fm_dataset.proofs.PieceLemmas.{elements_fit, length-piece, same_rank}

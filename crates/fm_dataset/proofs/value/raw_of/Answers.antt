@@ -1,6 +1,6 @@
 use Rattle.std.proofs.Common.{ℕ, ◌+◌, ◌-◌, ◌*◌, ◌≤◌, min, take, drop, length, ap, ap₂, ◌∙◌, sym, arith}
-use Rattle.fm_base.specs.Layout.{product}
-use Rattle.fm_base.proofs.EndLaws.{rank_in-lt}
+use Rattle.nc_model.specs.Layout.{product}
+use Rattle.nc_model.proofs.EndLaws.{rank_in-lt}
 use Rattle.nc_layout.proofs.RankLemmas.{lengths-index}
 use Rattle.fm_dataset.specs.Kept.{length_at}
 use Rattle.fm_dataset.specs.Values.{row_shape}
@@ -24,8 +24,8 @@ pieces_of-requires c =
     c.row_index.ensures in
     let count = same_count (length_at c.args.proto.now) _ _ _ c.count_in.ensures c.row_dims-ids.ensures in
     let below = rank_in-lt _ _ c.requires.index_is in
-    let lesser = c.lesser.ensures in
-    let few : c.rank-first.result + c.lesser.result ≤ product (row_shape c.args.proto.now c.args.var.now) =
+    let lesser = c.min.ensures in
+    let few : c.rank-first.result + c.min.result ≤ product (row_shape c.args.proto.now c.args.var.now) =
     omega (arith, rank, count, below, lesser) in
     elements_fit _ _ _ _ _ _ c.block_of-block.ensures _ _ _ (c.from.ensures ∙ c.size.ensures) few
 
@@ -36,7 +36,7 @@ returns-clause-value c =
     let count = same_count (length_at c.args.proto.now) _ _ _ c.count_in.ensures c.row_dims-ids.ensures in
     let raw = raw_is _ _ _ _ _ _ c.block_of-block.ensures c.from.result c.rank-first.result c.args.most
     (c.from.ensures ∙ c.size.ensures) rank in
-    let lesser = c.lesser.ensures ∙ ap (λ (n : ℕ). min c.args.most (n - c.rank-first.result)) count in
+    let lesser = c.min.ensures ∙ ap (λ (n : ℕ). min c.args.most (n - c.rank-first.result)) count in
     c.pieces_of.ensures
     ∙ ap (λ (n : ℕ). take (c.from.result * n)
     (drop (c.block_of-block.result.begin + c.from.result * c.rank-first.result) c.block_of-block.result.bytes.now))
@@ -49,8 +49,8 @@ returns-clause-len c =
     c.row_index.ensures in
     let count = same_count (length_at c.args.proto.now) _ _ _ c.count_in.ensures c.row_dims-ids.ensures in
     let below = rank_in-lt _ _ c.requires.index_is in
-    let lesser = c.lesser.ensures in
-    let few : c.rank-first.result + c.lesser.result ≤ product (row_shape c.args.proto.now c.args.var.now) =
+    let lesser = c.min.ensures in
+    let few : c.rank-first.result + c.min.result ≤ product (row_shape c.args.proto.now c.args.var.now) =
     omega (arith, rank, count, below, lesser) in
     let size = c.from.ensures ∙ c.size.ensures in
     let fits = elements_fit _ _ _ _ _ _ c.block_of-block.ensures _ _ _ size few in

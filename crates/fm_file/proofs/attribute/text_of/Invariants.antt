@@ -1,7 +1,7 @@
 -- The attribute that is looked for stands among those that are left.
 use Rattle.std.proofs.Common.{◌≡◌, drop, find}
 use Rattle.std.specs.Str.{bytes_eq}
-use Rattle.fm_base.specs.declared.header.Attr.{Attr}
+use Rattle.nc_model.specs.declared.header.Attr.{Attr}
 use Rattle.fm_file.proofs.attribute.text_of.Given as goal
 
 abbrev pub invariant-loop-attr : goal.invariant-loop-attr

@@ -1,5 +1,5 @@
 -- A length that isn't 1 makes the product another.
-use Rattle.fm_base.specs.Layout.{size_at}
+use Rattle.nc_model.specs.Layout.{size_at}
 use Rattle.fm_load.proofs.LengthLemmas.{one-less}
 use Rattle.fm_load.proofs.lengths.has_one_element.Goals as goal
 

@@ -1,6 +1,6 @@
 -- The product of the lengths that are left is that of all.
 use Rattle.std.proofs.Common.{◌≡◌, drop, map}
-use Rattle.fm_base.specs.Layout.{product, size_at}
+use Rattle.nc_model.specs.Layout.{product, size_at}
 use Rattle.fm_load.proofs.lengths.has_one_element.Given as goal
 
 abbrev pub invariant-loop-id : goal.invariant-loop-id

@@ -6,5 +6,5 @@ use Rattle.fm_load.proofs.run.run_by_variable.Goals as goal
 
 pub seconds_at-requires-clause-index : goal.seconds_at-requires-clause-index
 seconds_at-requires-clause-index c =
-    let one : is_one_number c.args.layout.now.header c.args.var.now ≡ true = cc in
-    grind (arith, one_number-first c.args.layout.now.header c.args.var.now one)
+    let one : is_one_number c.args.file.now.layout.header c.args.var.now ≡ true = cc in
+    grind (arith, one_number-first c.args.file.now.layout.header c.args.var.now one)

@@ -6,5 +6,7 @@ use Rattle.fm_load.proofs.slots.file_slots.Given as goal
 
 abbrev pub invariant-loop-wanted : goal.invariant-loop-wanted
 invariant-loop-wanted l =
-    steps_from (slots_after l.proto l.bytes l.layout.header l.axis) (filter (is_compared l.proto) (drop l.wanted-index l.proto.vars)) l.found
-    ≡ steps_from (slots_after l.proto l.bytes l.layout.header l.axis) (filter (is_compared l.proto) l.proto.vars) []
+    steps_from (slots_after l.proto l.file.bytes l.file.layout.header l.axis.var.now)
+    (filter (is_compared l.proto) (drop l.wanted-index l.proto.vars)) l.found
+    ≡ steps_from (slots_after l.proto l.file.bytes l.file.layout.header l.axis.var.now)
+    (filter (is_compared l.proto) l.proto.vars) []

@@ -18,20 +18,23 @@ pub returns-then-is_repeated : goal.returns-then-is_repeated
 unfolding file_times
 returns-then-is_repeated c =
     let time : ℕ → Result ℤ LoadFault =
-    time_at c.args.site.now c.args.bytes.now c.args.layout.now.header c.args.axis.now c.args.units in
+    time_at c.args.site.now c.args.file.now.bytes c.args.file.now.layout.header
+    c.args.axis.now.var.now c.args.axis.now.units in
     let fits : FitsSigned w64 c.in_ok-instant.instant = search rules in
     let same = to_z-of_z w64 c.in_ok-instant.instant fits in
     let twice : is_among c.in_ok-instant.instant c.loop-k.found ≡ true =
     ap₂ is_among (sym same) (sym c.as_slice.ensures) ∙ sym c.is_repeated.ensures ∙ c.if-is_repeated.true in
-    times-twice time c.args.count c.loop-k.k c.loop-k.found (times_from time c.args.count []) c.in_ok-instant.instant
+    times-twice time c.args.axis.now.count c.loop-k.k c.loop-k.found
+    (times_from time c.args.axis.now.count []) c.in_ok-instant.instant
     c.loop-k-test.true c.loop-k.invariant.many c.loop-k.invariant.left c.in_ok-instant.ensures twice
     ∙ ap (λ k. Err (TimeRepeated k)) (sym c.from.ensures)
 
 pub loop-k-preserved : goal.loop-k-preserved
 loop-k-preserved c =
     let time : ℕ → Result ℤ LoadFault =
-    time_at c.args.site.now c.args.bytes.now c.args.layout.now.header c.args.axis.now c.args.units in
-    let all = times_from time c.args.count [] in
+    time_at c.args.site.now c.args.file.now.bytes c.args.file.now.layout.header
+    c.args.axis.now.var.now c.args.axis.now.units in
+    let all = times_from time c.args.axis.now.count [] in
     let latest = c.max-latest.result in
     let fits : FitsSigned w64 c.in_ok-instant.instant = search rules in
     let fits_latest : FitsSigned w64 latest = search rules in
@@ -39,13 +42,14 @@ loop-k-preserved c =
     let new : is_among c.in_ok-instant.instant c.loop-k.found ≡ false =
     ap₂ is_among (sym same) (sym c.as_slice.ensures) ∙ sym c.is_repeated.ensures ∙ c.if-is_repeated.false in
     let pushed = c.in_ok-push.ensures.ok ∙ ap (λ instant. c.loop-k.found ++ instant ∷ []) same in
-    let left = times-more time c.args.count c.loop-k.k c.loop-k.found all c.in_ok-instant.instant
+    let left = times-more time c.args.axis.now.count c.loop-k.k c.loop-k.found all c.in_ok-instant.instant
     c.loop-k-test.true c.loop-k.invariant.many c.loop-k.invariant.left c.in_ok-instant.ensures new in
     let at_most = none_later c.loop-k.found _ c.in_ok-instant.instant latest c.loop-k.invariant.at_most
     c.max-latest.ensures.self_bound (subst (λ instant. instant ≤ℤ latest) same c.max-latest.ensures.other_bound) in
     record {
       many = omega (arith, ap length pushed, length_push c.loop-k.found c.in_ok-instant.instant);
-      at_most = subst (λ next. All (λ earlier. earlier ≤ℤ next) c.push.new.self) (sym (to_z-of_z w64 latest fits_latest))
+      at_most = subst (λ next. All (λ earlier. earlier ≤ℤ next) c.push.new.self)
+          (sym (to_z-of_z w64 latest fits_latest))
           (subst (λ found. All (λ earlier. earlier ≤ℤ latest) found) (sym pushed) at_most);
-      left = subst (λ found. times_from time (c.args.count - (c.loop-k.k + 1)) found ≡ all) (sym pushed) left;
+      left = subst (λ found. times_from time (c.args.axis.now.count - (c.loop-k.k + 1)) found ≡ all) (sym pushed) left;
     }

@@ -7,6 +7,7 @@ abbrev pub invariant-loop-k : goal.invariant-loop-k
 invariant-loop-k l = record {
   many : length l.found ≡ l.k;
   at_most : All (λ earlier. earlier ≤ℤ l.latest) l.found;
-  left : times_from (time_at l.site l.bytes l.layout.header l.axis l.units) (l.count - l.k) l.found
-      ≡ times_from (time_at l.site l.bytes l.layout.header l.axis l.units) l.count [];
+  left : times_from (time_at l.site l.file.bytes l.file.layout.header l.axis.var.now l.axis.units)
+      (l.axis.count - l.k) l.found
+      ≡ times_from (time_at l.site l.file.bytes l.file.layout.header l.axis.var.now l.axis.units) l.axis.count [];
 }

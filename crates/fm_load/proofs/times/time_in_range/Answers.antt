@@ -2,7 +2,8 @@
 use Rattle.std.proofs.Common.{◌≡◌, false, not, sym, subst, FitsSigned, w64, arith}
 use Rattle.std.proofs.lemmas.Int.{to_z-of_z}
 use Rattle.fm_model.specs.LoadTimes.{is_instant}
-use Rattle.fm_load.proofs.InstantLemmas.{instant_fits, time_in_range-ok}
+use Rattle.fm_model.proofs.RunLemmas.{instant_fits}
+use Rattle.fm_load.proofs.InstantLemmas.{time_in_range-ok}
 use Rattle.fm_load.proofs.times.time_in_range.Goals as goal
 
 pub overflow_cast-result : goal.overflow_cast-result

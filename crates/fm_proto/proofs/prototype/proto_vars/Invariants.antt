@@ -6,5 +6,5 @@ use Rattle.fm_proto.proofs.prototype.proto_vars.Given as goal
 abbrev pub invariant-loop-number : goal.invariant-loop-number
 invariant-loop-number l =
     l.vars
-    ≡ map (proto_var l.bytes l.layout.header l.axis)
-    (filter (is_kept l.layout.header l.axis) (take l.number l.layout.header.vars))
+    ≡ map (proto_var l.file.bytes l.file.layout.header l.axis)
+    (filter (is_kept l.file.layout.header l.axis) (take l.number l.file.layout.header.vars))

@@ -1,5 +1,5 @@
 -- What is read is spelled, what is spelled is read, and where there is a fault no header is spelled.
-use Rattle.fm_base.proofs.HeaderLaws.{HeaderOf-from_read, read-from_HeaderOf, HeaderOf-unique}
+use Rattle.nc_model.proofs.HeaderLaws.{HeaderOf-from_read, read-from_HeaderOf, HeaderOf-unique}
 use Rattle.nc_header.proofs.AnswerLemmas.{Answers-from_Reads, IsReadAs-from_HeaderOf, HasNoHeader-from_fault}
 use Rattle.nc_header.proofs.header.read_header.Goals as goal
 

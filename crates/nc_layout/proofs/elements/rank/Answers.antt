@@ -1,5 +1,5 @@
 use Rattle.std.proofs.Common.{◌<◌, length, refl, arith}
-use Rattle.fm_base.specs.Layout.{size_at}
+use Rattle.nc_model.specs.Layout.{size_at}
 use Rattle.nc_layout.proofs.RankLemmas.{rank_more, length-index_of_ids}
 use Rattle.nc_layout.proofs.elements.rank.Goals as goal
 

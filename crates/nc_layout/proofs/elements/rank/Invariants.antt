@@ -1,5 +1,5 @@
 use Rattle.std.proofs.Common.{◌≡◌, ◌+◌, ◌*◌, map, drop}
-use Rattle.fm_base.specs.Layout.{product, rank_in, size_at}
+use Rattle.nc_model.specs.Layout.{product, rank_in, size_at}
 use Rattle.nc_layout.proofs.elements.rank.Given as goal
 
 abbrev pub invariant-loop-place : goal.invariant-loop-place

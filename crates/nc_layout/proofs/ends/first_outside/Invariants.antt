@@ -1,5 +1,5 @@
 use Rattle.std.proofs.Common.{◌≡◌, drop}
-use Rattle.fm_base.specs.Layout.{first_outside}
+use Rattle.nc_model.specs.Layout.{first_outside}
 use Rattle.nc_layout.proofs.ends.first_outside.Given as goal
 
 abbrev pub invariant-loop-number : goal.invariant-loop-number

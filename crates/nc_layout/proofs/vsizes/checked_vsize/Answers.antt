@@ -1,6 +1,6 @@
 use Rattle.std.proofs.Common.{◌*◌, ◌+◌, ◌^◌, ◌∙◌}
 use Rattle.std.proofs.lemmas.Bool.{cond_below}
-use Rattle.fm_base.specs.Layout.{size_at, vsize}
+use Rattle.nc_model.specs.Layout.{size_at, vsize}
 use Rattle.nc_layout.proofs.ProductLemmas.{product_more, product_over}
 use Rattle.nc_layout.proofs.vsizes.checked_vsize.Goals as goal
 

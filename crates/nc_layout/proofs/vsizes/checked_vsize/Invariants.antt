@@ -1,5 +1,5 @@
 use Rattle.std.proofs.Common.{◌≡◌, ◌*◌, ◌^◌, ◌≤◌, map, drop}
-use Rattle.fm_base.specs.Layout.{product, size_at, vsize}
+use Rattle.nc_model.specs.Layout.{product, size_at, vsize}
 use Rattle.nc_layout.proofs.vsizes.checked_vsize.Given as goal
 
 abbrev pub invariant-loop-id : goal.invariant-loop-id

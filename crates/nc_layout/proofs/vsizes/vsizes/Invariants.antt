@@ -1,5 +1,5 @@
 use Rattle.std.proofs.Common.{◌≡◌, map, take, drop}
-use Rattle.fm_base.specs.Layout.{vsize, first_too_large}
+use Rattle.nc_model.specs.Layout.{vsize, first_too_large}
 use Rattle.nc_layout.proofs.vsizes.vsizes.Given as goal
 
 abbrev pub invariant-loop-number : goal.invariant-loop-number

@@ -1,4 +1,4 @@
--- The piece fills what it is written over.
+-- The piece fills the bytes that it is written over.
 use Rattle.std.proofs.Common.{arith}
 use Rattle.dap_reply.specs.Parts.{bytes_of}
 use Rattle.pub_core.proofs.PieceLemmas.{piece-whole}

@@ -1,5 +1,5 @@
 -- The empty edition stands for no operations.
-use Rattle.pub_plain.proofs.HistoryLemmas.{Keeps-none}
+use Rattle.pub_look.proofs.HistoryLemmas.{Keeps-none}
 use Rattle.pub_snap.proofs.blank.prepare.Goals as goal
 
 pub of-requires : goal.of-requires

@@ -6,5 +6,5 @@ use Rattle.srv_conn.proofs.answer.begin.Goals as goal
 pub returns-clause-reply : goal.returns-clause-reply
 returns-clause-reply g c =
     reply-begun (g.K.Look.proto c.answer.new.look) (coll (g.K.Look.log c.answer.new.look)) c.args.session.now
-    c.args.asked c.target.result.now c.last.result c.requires.asking c.target.ensures c.last.ensures
+    c.args.request.now.asked c.target.result.now c.last.result c.requires.asking c.target.ensures c.last.ensures
     c.in_ok-plan.ensures.reply c.in_ok-plan.ensures.revision

@@ -1,6 +1,6 @@
 -- The bytes before `sent` were sent, and no call failed.
 use Rattle.std.proofs.Common.{◌≡◌, ◌≤◌, ◌-◌, length, take}
-use Rattle.fm_world.specs.Link.{after_put}
+use Rattle.dev_traits.specs.Link.{after_put}
 use Rattle.dap_reply.specs.Parts.{bytes_of}
 use Rattle.srv_conn.proofs.delivery.deliver.Given as goal
 

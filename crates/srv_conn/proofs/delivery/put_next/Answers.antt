@@ -1,4 +1,4 @@
--- What is put is a front of the bytes that are left.
+-- The put bytes are a front of those that are left.
 use Rattle.std.proofs.Common.{drop, arith}
 use Rattle.std.proofs.lemmas.List.{length-drop}
 use Rattle.dap_reply.specs.Parts.{bytes_of}

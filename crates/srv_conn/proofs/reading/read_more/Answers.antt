@@ -1,5 +1,5 @@
--- What one call of the link told the session.
-use Rattle.std.proofs.Common.{◌≡◌, inr, ap, ◌∙◌, arith}
+-- The event of the session by one call of the link.
+use Rattle.std.proofs.Common.{◌≡◌, ◌++◌, inr, ap, ◌∙◌, arith, rules, take}
 use Rattle.web_session.specs.declared.phase.Phase.TheVariants.{Ended}
 use Rattle.web_session.specs.State.{end_of_input, State}
 use Rattle.dap_reply.specs.Served.{held_bytes}
@@ -37,13 +37,17 @@ returns-in-Close-clause-why g c =
     )
 
 pub returns-in-Ok-clause-takes : goal.returns-in-Ok-clause-takes
-returns-in-Ok-clause-takes g c =
-    takes-given (g.L.Link.shown c.args.link.now) (g.L.Link.shown c.take.new.self) c.args.session.now
-    c.on-in-Ok.new.self c.take.new.buf c.split_at_mut-front.result.1.now c.args.count c.in-Ok.read c.split_at.result.0
-    c.requires.rests c.requires.reads
-    (omega (arith, c.in-Ok.ensures.within, c.split_at_mut-front.ensures.front_len, c.min.ensures))
-    (omega (arith, c.in-Ok.ensures.within))
-    c.split_at.ensures.front c.in-Ok.ensures.given c.in-Ok.ensures.taken c.in-Ok.ensures.cause c.on-in-Ok.ensures.state
+returns-in-Ok-clause-takes g c = record {
+  taken = take c.in-Ok.read (c.take.new.buf ++ c.split_at_mut-front.result.1.now);
+  some = search rules;
+  takes = takes-given (g.L.Link.shown c.args.link.now) (g.L.Link.shown c.take.new.self) c.args.session.now
+      c.on-in-Ok.new.self c.take.new.buf c.split_at_mut-front.result.1.now c.args.count c.in-Ok.read
+      c.split_at.result.0 c.requires.rests c.requires.reads
+      (omega (arith, c.in-Ok.ensures.within, c.split_at_mut-front.ensures.front_len, c.min.ensures))
+      (omega (arith, c.in-Ok.ensures.within))
+      c.split_at.ensures.front c.in-Ok.ensures.given c.in-Ok.ensures.taken c.in-Ok.ensures.cause
+      c.on-in-Ok.ensures.state;
+}
 
 pub returns-in-Err-clause-ended : goal.returns-in-Err-clause-ended
 returns-in-Err-clause-ended g c =

@@ -1,4 +1,4 @@
--- What a session makes of a reply that was sent, or cut.
+-- A session after a reply that was sent, or cut.
 use Rattle.std.proofs.Common.{arith}
 use Rattle.srv_conn.proofs.EventLemmas.{tells-cut, tells-whole}
 use Rattle.srv_conn.proofs.replying.tell.Goals as goal

@@ -4,7 +4,7 @@ use Rattle.fm_model.specs.declared.proto.Proto.{Proto}
 use Rattle.web_session.specs.declared.action.Asked.{Asked}
 use Rattle.web_session.specs.declared.action.End.{End}
 use Rattle.dap_reply.specs.declared.served.Mark.{Mark}
-use Rattle.srv_conn.specs.Serves.{Moment}
+use Rattle.srv_conn.specs.Serves.{Moment, moment_of}
 use Rattle.srv_conn.specs.Turn.{Turn}
 use Rattle.srv_conn.proofs.Exits.{serves-enough, serves-none}
 use Rattle.srv_conn.proofs.Serving.{Serving, Serving-start, Serving-takes}
@@ -21,13 +21,8 @@ turn-at {proto} {first} {still} {stood} {before} {after} {asked} {end} same as_s
 
 pub loop-alloc-init : goal.loop-alloc-init
 loop-alloc-init g c =
-    let start : List Mark → Moment = λ trail. record {
-      link = g.L.Link.shown c.args.link.now;
-      seen = g.K.Look.log c.args.look.now;
-      looks = g.K.Look.looks c.args.look.now;
-      session = c.args.session.now;
-      trail = trail;
-    } in
+    let start : List Mark → Moment = λ trail. moment_of (g.L.Link.shown c.args.link.now)
+    (g.K.Look.log c.args.look.now) (g.K.Look.looks c.args.look.now) c.args.session.now trail in
     record {
       serving = subst (λ (l : List Mark). Serving (g.K.Look.proto c.args.look.now) (g.K.Look.still c.args.look.now)
           (start []) (start l)) (sym c.new-trail.ensures)

@@ -1,25 +1,14 @@
 -- The replies so far are whole, and the session rests with what follows their requests.
 use Rattle.std.proofs.Common.{◌≡◌, ◌≤◌, ◌-◌, [], length}
+use Rattle.srv_conn.specs.Serves.{moment_of}
 use Rattle.srv_conn.proofs.Serving.{Serving}
 use Rattle.srv_conn.proofs.serve.serve_link.Given as goal
 
 abbrev pub invariant-loop-alloc : goal.invariant-loop-alloc
 invariant-loop-alloc g l = record {
   serving : Serving (g.K.Look.proto l.fn.look) (g.K.Look.still l.fn.look)
-      (record {
-        link = g.L.Link.shown l.fn.link;
-        seen = g.K.Look.log l.fn.look;
-        looks = g.K.Look.looks l.fn.look;
-        session = l.fn.session;
-        trail = [];
-      })
-      (record {
-        link = g.L.Link.shown l.link;
-        seen = g.K.Look.log l.look;
-        looks = g.K.Look.looks l.look;
-        session = l.session;
-        trail = l.trail;
-      });
+      (moment_of (g.L.Link.shown l.fn.link) (g.K.Look.log l.fn.look) (g.K.Look.looks l.fn.look) l.fn.session [])
+      (moment_of (g.L.Link.shown l.link) (g.K.Look.log l.look) (g.K.Look.looks l.look) l.session l.trail);
   few : length l.trail ≤ l.most;
   proto : g.K.Look.proto l.look ≡ g.K.Look.proto l.fn.look;
   still : g.K.Look.still l.look ≡ g.K.Look.still l.fn.look;

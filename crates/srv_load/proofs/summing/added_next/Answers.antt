@@ -1,4 +1,4 @@
--- What is added of the room is a front of the bytes that are left.
+-- The added bytes of the room are a front of the bytes that are left.
 use Rattle.std.proofs.Common.{◌+◌, ◌%◌, ◌^◌, ℕ, List, ap, ◌∙◌, drop, arith}
 use Rattle.std.specs.Prelude.{sum}
 use Rattle.std.proofs.lemmas.List.{length-drop}

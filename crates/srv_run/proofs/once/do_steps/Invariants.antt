@@ -1,4 +1,4 @@
--- What the steps that are left do from here is what all of them do from the start.
+-- The steps that are left, done from here, are all steps done from the start.
 use Rattle.srv_run.specs.Steps.{progress, RestsUnlessEnded}
 use Rattle.srv_run.proofs.StepLemmas.{Continues}
 use Rattle.srv_run.proofs.once.do_steps.Given as goal

@@ -1,7 +1,7 @@
 -- The slices before the index were appended, and no put failed.
 use Rattle.std.proofs.Common.{◌≡◌, take}
 use Rattle.std.specs.List.{flat_map}
-use Rattle.fm_world.specs.Sink.{after_append}
+use Rattle.dev_traits.specs.Sink.{after_append}
 use Rattle.srv_run.proofs.report.put_pieces.Given as goal
 
 abbrev pub invariant-loop-piece : goal.invariant-loop-piece

@@ -1,4 +1,4 @@
--- What a run of `serve` that has its prototype comes to.
+-- The end of a run of `serve` that has its prototype.
 use Rattle.std.proofs.Common.{rules, inl}
 use Rattle.srv_run.proofs.serve.serve_over.Goals as goal
 

@@ -1,19 +1,20 @@
 -- A session that closes has ended, and one that doesn't goes on.
 use Rattle.std.proofs.Common.{sym, ◌∙◌, subst}
 use Rattle.web_session.specs.State.{State}
+use Rattle.web_session.proofs.StartLemmas.{start-same}
 use Rattle.srv_run.specs.Steps.{RestsUnlessEnded}
-use Rattle.srv_run.proofs.SessionLemmas.{after_event-start, HasEnded-closes, IsAtRest-goes_on}
+use Rattle.srv_run.proofs.SessionLemmas.{HasEnded-closes, IsAtRest-goes_on}
 use Rattle.srv_run.proofs.service.has_ended.Goals as goal
 
 pub returns-in-Close-clause-ended : goal.returns-in-Close-clause-ended
 returns-in-Close-clause-ended c = λ _. HasEnded-closes _ _ (sym c.on.ensures.action ∙ c.in-Close.is)
 
 pub returns-in-Close-clause-same : goal.returns-in-Close-clause-same
-returns-in-Close-clause-same c = c.on.ensures.state ∙ after_event-start _
+returns-in-Close-clause-same c = c.on.ensures.state ∙ start-same _
 
 pub returns-in_default : goal.returns-in_default
 returns-in_default c =
-    let same = c.on.ensures.state ∙ after_event-start c.args.session.now in
+    let same = c.on.ensures.state ∙ start-same c.args.session.now in
     let P : State → Type 0 = λ s. RestsUnlessEnded s in
     record {
       ended = λ no. absurd cc;

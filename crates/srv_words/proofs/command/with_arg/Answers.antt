@@ -1,4 +1,4 @@
--- What `clap` says of a command with one more argument.
+-- A command with one more argument, as `clap` states it.
 use Rattle.srv_words.proofs.CommandLemmas.{neither}
 use Rattle.srv_words.proofs.command.with_arg.Goals as goal
 

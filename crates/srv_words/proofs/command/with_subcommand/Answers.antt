@@ -1,4 +1,4 @@
--- What `clap` says of a command with one more subcommand.
+-- A command with one more subcommand, as `clap` states it.
 use Rattle.srv_words.proofs.command.with_subcommand.Goals as goal
 
 pub returns : goal.returns

@@ -1,4 +1,4 @@
--- The words that are left, after the steps that were found, are what all are.
+-- The steps found so far, and those of the words that are left, are all steps.
 use Rattle.std.proofs.Common.{◌≡◌, [], map, drop}
 use Rattle.srv_words.specs.Steps.{steps_from}
 use Rattle.srv_words.proofs.steps.steps_of.Given as goal

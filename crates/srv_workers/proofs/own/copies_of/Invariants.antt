@@ -1,4 +1,4 @@
--- So many copies were made.
+-- The copies made so far.
 use Rattle.std.proofs.Common.{◌≡◌, replicate}
 use Rattle.srv_workers.proofs.own.copies_of.Given as goal
 

@@ -2,7 +2,7 @@ use Rattle.std.proofs.Common.{map, ◌∙◌}
 use Rattle.srv_workers.proofs.HireLemmas.{HasRoom-done, hired-done, RanTogether-is}
 use Rattle.srv_workers.proofs.workers.run_open.Goals as goal
 
--- there is room for what the workers are taken apart into
+-- there is room for the workers' parts
 pub close_over-requires-clause-room : goal.close_over-requires-clause-room
 close_over-requires-clause-room g c =
     let room = c.requires.room in

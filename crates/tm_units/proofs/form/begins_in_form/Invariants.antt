@@ -1,6 +1,6 @@
 -- The test of what is left of the form and the text has the same result.
 use Rattle.std.proofs.Common.{◌≡◌, drop}
-use Rattle.fm_base.specs.Stamp.{begins_in_form}
+use Rattle.nc_model.specs.Stamp.{begins_in_form}
 use Rattle.tm_units.proofs.form.begins_in_form.Given as goal
 
 abbrev pub invariant-loop-i : goal.invariant-loop-i

@@ -1,6 +1,6 @@
 -- The number so far is that of the digits so far, and fits.
 use Rattle.std.proofs.Common.{◌≡◌, ◌≤◌, drop}
-use Rattle.fm_base.specs.Stamp.{number_of, number_after}
+use Rattle.nc_model.specs.Stamp.{number_of, number_after}
 use Rattle.tm_units.proofs.form.number_of.Given as goal
 
 abbrev pub invariant-loop-digit : goal.invariant-loop-digit

@@ -1,6 +1,6 @@
 -- Reading the letters that are left, from where the scanner is, has the same result.
 use Rattle.std.proofs.Common.{◌≡◌, drop}
-use Rattle.fm_base.specs.UnitsReading.{letters_at}
+use Rattle.nc_model.specs.UnitsReading.{letters_at}
 use Rattle.tm_units.proofs.number.letters.Given as goal
 
 abbrev pub invariant-loop-letter : goal.invariant-loop-letter

@@ -1,7 +1,7 @@
 -- A text of sixteen bytes is read with its marks put in.
 use Rattle.std.proofs.Common.{◌≡◌, ◌∙◌, ◌≤◌, ◌<◌, length, ap, sym, arith}
 use Rattle.std.proofs.lemmas.Bool.{cond-true, eq-eqb}
-use Rattle.fm_base.specs.Instant.{instant_of}
+use Rattle.nc_model.specs.Instant.{instant_of}
 use Rattle.web_path.specs.Reading.{moment_of}
 use Rattle.web_path.proofs.MomentLemmas.{marked, with_marks-marked}
 use Rattle.web_path.proofs.view.moment_in.Goals as goal

@@ -1,4 +1,4 @@
-use Rattle.fm_base.specs.Format.{IsBytes}
+use Rattle.nc_model.specs.Format.{IsBytes}
 use Rattle.std.proofs.Common.{rules, sym, ◌∙◌}
 use Rattle.dap_xdr.proofs.DatasetLemmas.{has_number, has_stored, same_array, stored}
 use Rattle.dap_xdr.proofs.dataset.DatasetSource.raw.Goals as goal

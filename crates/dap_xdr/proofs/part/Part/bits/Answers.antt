@@ -1,6 +1,7 @@
 -- The index list at a place lies within the dimensions.
 use Rattle.std.proofs.Common.{sym, subst, IsSomeAnd}
-use Rattle.dap_xdr.specs.Content.{array_in, HasNumberAt}
+use Rattle.fm_dataset.specs.Values.{HasNumberAt}
+use Rattle.dap_xdr.specs.Content.{array_in}
 use Rattle.dap_xdr.specs.Portion.{IsPortion, Portion}
 use Rattle.dap_xdr.proofs.PickedLemmas.{has-number}
 use Rattle.dap_xdr.proofs.part.Part.bits.Goals as goal

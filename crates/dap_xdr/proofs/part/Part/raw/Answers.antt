@@ -1,6 +1,7 @@
 -- What is left of a turn follows in the array.
 use Rattle.std.proofs.Common.{ℕ, ◌∙◌, min, sym, ap, subst, IsSomeAnd}
-use Rattle.dap_xdr.specs.Content.{array_in, HasNumberAt}
+use Rattle.fm_dataset.specs.Values.{HasNumberAt}
+use Rattle.dap_xdr.specs.Content.{array_in}
 use Rattle.dap_xdr.specs.Portion.{bits_in, IsPortion, IsOf, Portion}
 use Rattle.dap_xdr.specs.Stretch.{AreStored}
 use Rattle.dap_xdr.proofs.PickedLemmas.{has-number, raw-picked}

@@ -1,4 +1,4 @@
--- The instant before the place is in the page.
+-- The instant before the index is in the page.
 use Rattle.std.proofs.Common.{rules, ◌≡◌, ◌+◌, ◌-◌, ◌<◌, ◌∙◌, arith, get_or, length, pos, subst, sym, take, true, SFits, w64}
 use Rattle.std.proofs.lemmas.Int.{ints, to_z-of_z}
 use Rattle.fm_edition.specs.Indexes.{page_of, touches}

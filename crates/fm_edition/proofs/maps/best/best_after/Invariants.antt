@@ -1,4 +1,4 @@
--- The pages of the instants up to the place have their rows, and the others have those that they had.
+-- The pages of the instants up to the index have their rows, and the others have their old ones.
 use Rattle.std.proofs.Common.{◌≡◌, ◌≤◌, ◌-◌, if◌then◌else◌, length, take, ℤ}
 use Rattle.std.specs.BTreeMap as tree
 use Rattle.std.specs.Ordering.{int_cmp}

@@ -2,9 +2,10 @@
 use Rattle.std.proofs.Common.{◌≡◌, ◌+◌, ◌++◌, ◌∙◌, length, None, ap, arith, subst, sym}
 use Rattle.std.specs.List.{filter_map}
 use Rattle.std.proofs.lemmas.Option.{none-some, same_Some}
+use Rattle.fm_base.proofs.ListLemmas.{length-filter_map}
 use Rattle.fm_edition.specs.Indexes.{entries_in, entries_of, entry_row, page_rows}
 use Rattle.fm_edition.proofs.BestLemmas.{kept_entries, HasKept}
-use Rattle.fm_edition.proofs.CountLemmas.{counted_page, length-filter_map-le}
+use Rattle.fm_edition.proofs.CountLemmas.{counted_page}
 use Rattle.fm_edition.proofs.WalkLemmas.{all_first, all_rest}
 use Rattle.fm_edition.proofs.maps.best.kept_count.Goals as goal
 
@@ -44,7 +45,7 @@ next_count c =
 pub overflow_add-count : goal.overflow_add-count
 overflow_add-count c =
     let make = entry_row None in
-    let most = length-filter_map-le make (entries_of c.args.pages.now) in
+    let most = length-filter_map make (entries_of c.args.pages.now) in
     omega (arith, next_count c, most, c.requires.count)
 
 pub loop-number-preserved : goal.loop-number-preserved

@@ -1,4 +1,4 @@
--- The instants up to the place are set in their page, and no other page is changed.
+-- The instants up to the index are set in their page, and no other page is changed.
 use Rattle.std.proofs.Common.{◌≡◌, ◌≤◌, ◌-◌, false, length, take, ℤ}
 use Rattle.std.specs.BTreeMap as tree
 use Rattle.std.specs.Ordering.{int_cmp, int_eq}

@@ -31,8 +31,8 @@ loop-at-preserved c =
       ordered = search rules;
       done = search rules;
       same = λ number none.
-          let less = touches-less touched c.loop-at.at c.in_ok-at.at (pos 0) number c.in_ok-at.ensures.place.0
-          c.in_ok-at.ensures.place.1 none in
+          let less = touches-less touched c.loop-at.at c.in_ok-at.at (pos 0) number c.in_ok-at.ensures.index.0
+          c.in_ok-at.ensures.index.1 none in
           c.in_ok-set_page.ensures.others number (simp to_z-of_z (rw own less.1))
           ∙ c.loop-at.invariant.same number less.0;
     }

@@ -1,4 +1,4 @@
--- The instants up to the place are set, and the pages of none of them are as they were.
+-- The instants up to the index are set, and the pages of none of them are as they were.
 use Rattle.std.proofs.Common.{◌≡◌, ◌≤◌, ◌-◌, false, length, take, ℤ}
 use Rattle.std.specs.BTreeMap.{get}
 use Rattle.std.specs.Ordering.{int_cmp}

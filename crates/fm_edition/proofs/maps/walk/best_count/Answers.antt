@@ -4,9 +4,10 @@ use Rattle.std.specs.Prelude.{All}
 use Rattle.std.specs.BTreeMap.{BTreeMap}
 use Rattle.std.specs.List.{filter_map}
 use Rattle.std.proofs.lemmas.List.{length-append}
+use Rattle.fm_base.proofs.ListLemmas.{length-filter_map}
 use Rattle.fm_model.specs.declared.loaded.Loaded.{Loaded}
 use Rattle.fm_edition.specs.Indexes.{entries_in, entries_of, entry_row, IsTimed}
-use Rattle.fm_edition.proofs.CountLemmas.{counted_page, length-filter_map-le}
+use Rattle.fm_edition.proofs.CountLemmas.{counted_page}
 use Rattle.fm_edition.proofs.WalkLemmas.{all_parts}
 use Rattle.fm_edition.proofs.maps.walk.best_count.Goals as goal
 
@@ -28,7 +29,7 @@ overflow_add-count c =
     let own : c.count_page-count.result ≡ length (filter_map make c.in-Some.page.now.entries) =
     c.count_page-count.ensures
     ∙ ap (λ (m : BTreeMap ℤ (List Loaded)). length (filter_map make m.entries)) c.get.ensures in
-    let most = length-filter_map-le make (entries_of c.args.pages.now) in
+    let most = length-filter_map make (entries_of c.args.pages.now) in
     omega (arith, next, own, most, c.requires.count)
 
 pub loop-page-preserved : goal.loop-page-preserved

@@ -3,8 +3,9 @@ use Rattle.std.proofs.Common.{◌≡◌, true, false, length, rules, arith, sym,
 use Rattle.std.specs.Prelude.{is_some}
 use Rattle.std.specs.List.{filter_map}
 use Rattle.std.proofs.lemmas.Int.{to_z-of_z}
+use Rattle.fm_base.proofs.ListLemmas.{length-filter_map}
 use Rattle.fm_edition.specs.Indexes.{entry_row, HaveTime, IsTimed}
-use Rattle.fm_edition.proofs.CountLemmas.{counted_more, counted_passed, has_row, length-filter_map-le}
+use Rattle.fm_edition.proofs.CountLemmas.{counted_more, counted_passed, has_row}
 use Rattle.fm_edition.proofs.WalkLemmas.{all_first, all_rest}
 use Rattle.fm_edition.proofs.maps.walk.count_page.Goals as goal
 
@@ -26,7 +27,7 @@ overflow_add-count c =
     let next = counted_more make c.loop-valid.count (c.in-Some.valid.now, c.in-Some.files.now) c.next.new.self
     c.loop-valid.valid-iterator (length (filter_map make c.args.page.now.entries)) c.in-Some.ensures.steps
     c.loop-valid.invariant.counted some in
-    let most = length-filter_map-le make c.args.page.now.entries in
+    let most = length-filter_map make c.args.page.now.entries in
     omega (arith, next, most, c.requires.count)
 
 pub loop-valid-preserved-then-is_some : goal.loop-valid-preserved-then-is_some

@@ -9,9 +9,9 @@ returns-in-Some-clause-found c =
     let a : SFits w64 c.args.run = search rules in
     let b : SFits w64 c.args.valid = search rules in
     let same = simp to_z-of_z at c.loop-before.invariant.same in
-    let found = simp to_z-of_z at c.place_in.ensures in
+    let found = simp to_z-of_z at c.index_in.ensures in
     cell-found c.args.files.now c.args.run c.args.valid
-    (c.loop-before.before - 1) c.loop-before.before c.index-files-before.result c.in-Some.place
+    (c.loop-before.before - 1) c.loop-before.before c.index-files-before.result c.in-Some.index
     (omega (arith, c.loop-before-test.true)) (omega
     (arith, c.loop-before-test.true, c.loop-before.invariant.within)) c.index-files-before.is
     (cc (found, c.get.ensures, c.in-Some.is)) same
@@ -21,7 +21,7 @@ loop-before-preserved c =
     let a : SFits w64 c.args.run = search rules in
     let b : SFits w64 c.args.valid = search rules in
     let same = simp to_z-of_z at c.loop-before.invariant.same in
-    let found = simp to_z-of_z at c.place_in.ensures in
+    let found = simp to_z-of_z at c.index_in.ensures in
     record {
       within = omega (arith, c.loop-before.invariant.within);
       same = simp to_z-of_z (cell-passed c.args.files.now c.args.run c.args.valid

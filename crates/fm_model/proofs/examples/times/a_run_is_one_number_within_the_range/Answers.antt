@@ -1,6 +1,6 @@
 -- The definitions compute.
 use Rattle.std.proofs.Common.{refl}
-use Rattle.fm_base.specs.Layout.{product}
+use Rattle.nc_model.specs.Layout.{product}
 use Rattle.fm_model.specs.LoadTimes.{is_instant, is_one_number, run_by_variable, run_in_range}
 use Rattle.fm_model.proofs.examples.times.a_run_is_one_number_within_the_range.Goals as goal
 

@@ -1,9 +1,9 @@
 -- The definitions compute.
 use Rattle.std.proofs.Common.{refl}
 use Rattle.std.specs.Int.Count.{count_trailing_zeros}
-use Rattle.fm_base.specs.Layout.{element, place_of, product, rank_in, record_size, vsize}
-use Rattle.fm_base.specs.Pattern.{finite, value_of_fields}
-use Rattle.fm_base.specs.Reading.{names_record_dim}
+use Rattle.nc_model.specs.Layout.{element, place_of, product, rank_in, record_size, vsize}
+use Rattle.nc_model.specs.Pattern.{finite, value_of_fields}
+use Rattle.nc_model.specs.Reading.{names_record_dim}
 use Rattle.fm_model.specs.LoadTimes.{is_instant, seconds_at, time_at, time_in_range}
 use Rattle.fm_model.proofs.examples.times.a_time_is_a_whole_number_of_seconds.Goals as goal
 

@@ -1,8 +1,8 @@
 -- The definitions compute.
 use Rattle.std.proofs.Common.{refl}
-use Rattle.fm_base.specs.Calendar.{day_number}
-use Rattle.fm_base.specs.Units.{is_gregorian, in_calendar, units_of}
-use Rattle.fm_base.specs.UnitsReading.{end_at, byte_at, letter_at, many_at, some_at, number_at, is_same_word, is_second, is_minute, is_hour, is_day, seconds_per, unit_at, date_at, after_date_at, units_at, written_or_fault}
+use Rattle.nc_model.specs.Calendar.{day_number}
+use Rattle.nc_model.specs.Units.{is_gregorian, in_calendar, units_of}
+use Rattle.nc_model.specs.UnitsReading.{end_at, byte_at, letter_at, many_at, some_at, number_at, is_same_word, is_second, is_minute, is_hour, is_day, seconds_per, unit_at, date_at, after_date_at, units_at, written_or_fault}
 use Rattle.fm_model.specs.Attribute.{attr_text, text_of, trimmed}
 use Rattle.fm_model.specs.LoadTimes.{file_units}
 use Rattle.fm_model.proofs.examples.times.units_are_read_from_the_attributes.Goals as goal

@@ -1,4 +1,4 @@
--- Bytes of a reply are sent, where so many are left.
+-- Bytes of a reply are sent, where as many are left.
 use Rattle.std.proofs.Common.{◌≡◌, ℕ, ◌-◌, ◌&&◌, leb, ltb, List, ◌++◌, length, refl, sym, ap, subst, ◌∙◌, arith}
 use Rattle.dap_reply.specs.Parts.{bytes_of}
 use Rattle.dap_reply.proofs.MessageLemmas.{on_ok}

@@ -1,4 +1,4 @@
--- What is told of the world.
+-- The outcome of the world.
 use Rattle.std.proofs.Common.{map, ap, ◌∙◌}
 use Rattle.pub_core.specs.declared.connection.Connection.{Connection}
 use Rattle.pub_core.proofs.MachineSteps.{machine-outcome}

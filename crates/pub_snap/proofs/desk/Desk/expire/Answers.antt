@@ -1,7 +1,7 @@
 -- Only a put may pass a limit.
 use Rattle.fm_model.specs.Collection.{coll}
 use Rattle.fm_model.proofs.FullLemmas.{full-expire}
-use Rattle.pub_plain.proofs.HistoryLemmas.{within_limits}
+use Rattle.pub_look.proofs.HistoryLemmas.{within_limits}
 use Rattle.pub_snap.proofs.desk.Desk.expire.Goals as goal
 
 pub take_out-requires-clause-within : goal.take_out-requires-clause-within

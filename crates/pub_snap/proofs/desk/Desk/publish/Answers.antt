@@ -2,7 +2,7 @@
 use Rattle.std.proofs.Common.{sym, subst}
 use Rattle.fm_model.specs.declared.proto.Proto.{Proto}
 use Rattle.fm_edition.specs.Held.{OpFits}
-use Rattle.pub_plain.proofs.HistoryLemmas.{Keeps-next}
+use Rattle.pub_look.proofs.HistoryLemmas.{Keeps-next}
 use Rattle.pub_snap.proofs.desk.Desk.publish.Goals as goal
 
 pub put-requires-clause-next : goal.put-requires-clause-next

@@ -1,8 +1,8 @@
 -- What is seen at the look goes on from what the seat had seen, and that from all that was known.
 use Rattle.std.proofs.Common.{subst, IfSome}
 use Rattle.left_right.specs.Sides.{view}
-use Rattle.pub_plain.specs.History.{Continues}
-use Rattle.pub_snap.proofs.Beginnings.{continues_on}
+use Rattle.pub_look.specs.History.{Continues}
+use Rattle.pub_look.proofs.HistoryLemmas.{continues_on}
 use Rattle.pub_snap.proofs.pass.PassLook.ask.Goals as goal
 
 pub returns-in_err-out-clause-later : goal.returns-in_err-out-clause-later

@@ -1,4 +1,4 @@
--- A head that ends in the bytes held is within the limit, and it is what is given.
+-- A head that ends in the held bytes is within the limit, and is the one that is returned.
 use Rattle.std.proofs.Common.{◌≡◌, ℕ, ◌≤◌, List, length, take, drop, Some, arith, sym, ap, ◌∙◌}
 use Rattle.web_frame.specs.Cut.{Cut, whole, cut_of}
 use Rattle.web_frame.specs.Items.{item_of}

@@ -1,0 +1,28 @@
+//! Lines of fixed words, as the structure text and the attribute text have them.
+ghost use Rattle.std.specs.Prelude.{◌≡◌, ◌<◌, ◌++◌, OnOk};
+ghost use Rattle.dap_model.specs.StructureText.{indent, line_text};
+
+use fm_base::{Bytes, NoMemory};
+
+/// Writes four spaces for each level.
+#[tactic(auto, unfolding(dap_model::specs::StructureText::indent))]
+pub fn put_indent(depth: u32, out: &mut Bytes) -> Result<(), NoMemory>
+    requires { depth < 8 }
+    ensures { OnOk result (out.new ≡ out.old ++ indent depth) }
+{
+    for _space in 0..4 * depth {
+        out.push(b' ')?;
+    }
+    Ok(())
+}
+
+/// Writes a line of these words.
+#[tactic(auto, unfolding(dap_model::specs::StructureText::line_text))]
+pub fn put_line(depth: u32, words: &[u8], out: &mut Bytes) -> Result<(), NoMemory>
+    requires { depth < 8 }
+    ensures { OnOk result (out.new ≡ out.old ++ line_text depth words.now) }
+{
+    put_indent(depth, out)?;
+    out.append(words)?;
+    out.append(b"\n")
+}

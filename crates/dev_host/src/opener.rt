@@ -1,0 +1,169 @@
+//! What opens the doors, inboxes and clocks of the machine.
+ghost use Rattle.std.specs.Prelude.{◌≡◌, None, IfOk};
+
+use crate::clock::RealClock;
+use crate::door::TcpDoor;
+use crate::failing::{counted_fault, fail_of};
+use crate::inbox::FolderInbox;
+use dev_traits::{Door, Failed, Inbox, Opener};
+use fm_base::{Bytes, Fail, List};
+use std::alloc::Global;
+use std::marker::Send;
+use std::net::{Net, TcpListener, TcpStream};
+use std::time::Duration;
+use std::{rt, str};
+
+// For how many seconds a peer is waited for.
+const PATIENCE: u64 = 30;
+
+// How many seconds it is from one tick of a clock to the next.
+const INTERVAL: u64 = 60;
+
+// A socket that listens, by the address at which it was opened.
+#[derive(Drop)]
+struct Bound {
+    address: Bytes,
+    listener: TcpListener,
+}
+
+/// Opens doors at sockets, inboxes of folders and the machine's clock. Doors that are opened at the same address share
+/// one socket.
+#[derive(Drop)]
+pub struct RealOpener<R: Drop> {
+    rt: R,
+    bound: List<Bound>,
+    faults: u64,
+}
+
+impl<R> RealOpener<R>
+where
+    R: rt::Files
+        + rt::Clock
+        + Net<Listener = TcpListener, Stream = TcpStream>
+        + AllocGlobal
+        + Clone
+        + Drop,
+{
+    /// What opens by this runtime. Nothing is open, and no call has failed.
+    pub fn new(rt: R) -> RealOpener<R>
+        ensures { result.faults ≡ 0 }
+    {
+        let bound = List::new(rt.alloc());
+        RealOpener {
+            rt,
+            bound,
+            faults: 0,
+        }
+    }
+
+    // A door at an address.
+    fn open_door(
+        &mut self,
+        alloc: Global,
+        address: &[u8],
+        connections: u32,
+    ) -> Result<TcpDoor<R>, Fail<Failed>>
+        ensures faults { self.new.faults ≡ self.old.faults }
+        ensures fresh { IfOk result (λ door. door.faults ≡ 0) }
+    {
+        let listener = self.listener_at(alloc, address)?;
+        let rt = self.rt.clone()?;
+        Ok(TcpDoor::new(rt, listener, connections, Duration::from_secs(PATIENCE)))
+    }
+
+    // The socket that listens at an address, which is opened where it wasn't before.
+    fn listener_at(&mut self, alloc: Global, address: &[u8]) -> Result<TcpListener, Fail<Failed>>
+        ensures { self.new.faults ≡ self.old.faults }
+    {
+        if let Some(listener) = bound_at(self.bound.as_slice(), address) {
+            return shared(listener);
+        }
+        let listener = bind(&self.rt, address)?;
+        let door = shared(&listener)?;
+        let address = List::copy_of(alloc, address)?;
+        self.bound.push(Bound { address, listener })?;
+        Ok(door)
+    }
+
+    // The inbox of a folder.
+    fn open_inbox(&self, alloc: Global, folder: &[u8]) -> Result<FolderInbox<R>, Fail<Failed>>
+        ensures { IfOk result (λ inbox. inbox.faults ≡ 0) }
+    {
+        let rt = self.rt.clone()?;
+        FolderInbox::open(rt, alloc, folder)
+    }
+}
+
+impl<R> Opener for RealOpener<R>
+where
+    R: rt::Files
+        + rt::Clock
+        + Net<Listener = TcpListener, Stream = TcpStream>
+        + AllocGlobal
+        + Clone
+        + Drop
+        + Send,
+{
+    type D = TcpDoor<R>;
+
+    type I = FolderInbox<R>;
+
+    type C = RealClock<R>;
+
+    ghost shown = { λ opener. record { held = None; faults = opener.faults } };
+
+    fn faults(&self) -> u64 {
+        self.faults
+    }
+
+    fn door(
+        &mut self,
+        alloc: Global,
+        address: &[u8],
+        connections: u32,
+    ) -> Result<TcpDoor<R>, Fail<Failed>> {
+        let door = self.open_door(alloc, address, connections);
+        counted_fault(&mut self.faults, door)
+    }
+
+    fn inbox(&mut self, alloc: Global, folder: &[u8]) -> Result<FolderInbox<R>, Fail<Failed>> {
+        let inbox = self.open_inbox(alloc, folder);
+        counted_fault(&mut self.faults, inbox)
+    }
+
+    fn clock(&mut self, ticks: u32) -> RealClock<R> {
+        RealClock::of(self.rt.clone().ok(), ticks, Duration::from_secs(INTERVAL))
+    }
+}
+
+// The socket that was opened at an address.
+fn bound_at<'a>(bound: &'a [Bound], address: &[u8]) -> Option<&'a TcpListener> {
+    for one in bound {
+        if one.address.as_slice() == address {
+            return Some(&one.listener);
+        }
+    }
+    None
+}
+
+// Opens a socket that listens at an address, which is text.
+fn bind<R: Net<Listener = TcpListener, Stream = TcpStream>>(
+    rt: &R,
+    address: &[u8],
+) -> Result<TcpListener, Fail<Failed>> {
+    let Ok(address) = str::from_utf8(address) else {
+        return Err(Fail::Fault(Failed));
+    };
+    match TcpListener::bind(rt, address) {
+        Ok(listener) => Ok(listener),
+        Err(error) => Err(fail_of(&error)),
+    }
+}
+
+// The same socket for one more door.
+fn shared(listener: &TcpListener) -> Result<TcpListener, Fail<Failed>> {
+    match listener.try_clone() {
+        Ok(listener) => Ok(listener),
+        Err(error) => Err(fail_of(&error)),
+    }
+}

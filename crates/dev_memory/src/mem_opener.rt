@@ -1,0 +1,107 @@
+//! An opener in memory.
+ghost use Rattle.std.specs.Prelude.{◌≡◌, All, Some};
+ghost use Rattle.dev_traits.specs.Opener.{Stock};
+
+use crate::calls::Calls;
+use crate::first::take_first;
+use crate::mem_clock::MemClock;
+use crate::mem_door::MemDoor;
+use crate::mem_inbox::MemInbox;
+use dev_traits::{Clock, Door, DoorAsked, Failed, Inbox, Opener};
+use fm_base::{Fail, List};
+use std::alloc::Global;
+
+/// An opener in memory, with the doors, inboxes and clocks that it gives. Without a further door or inbox it fails;
+/// without a further clock it gives one without moments.
+#[derive(Drop)]
+pub struct MemOpener {
+    alloc: Global,
+    doors: List<MemDoor>,
+    inboxes: List<MemInbox>,
+    clocks: List<MemClock>,
+    calls: Calls,
+    ghost doors_fresh: { All (λ door. (⟦<MemDoor as Door>⟧.shown door).faults ≡ 0) doors },
+    ghost inboxes_fresh: { All (λ inbox. (⟦<MemInbox as Inbox>⟧.shown inbox).faults ≡ 0) inboxes },
+}
+
+impl MemOpener {
+    /// An opener of these, no call of which has failed. The calls with these numbers, counted together from 1 without
+    /// those for clocks, fail.
+    pub fn new(
+        alloc: Global,
+        doors: List<MemDoor>,
+        inboxes: List<MemInbox>,
+        clocks: List<MemClock>,
+        failing: List<u64>,
+    ) -> MemOpener
+        requires doors { All (λ door. (⟦<MemDoor as Door>⟧.shown door).faults ≡ 0) doors }
+        requires inboxes { All (λ inbox. (⟦<MemInbox as Inbox>⟧.shown inbox).faults ≡ 0) inboxes }
+        ensures shown { ⟦<MemOpener as Opener>⟧.shown result ≡ record {
+          held = Some (record { doors = doors; inboxes = inboxes; clocks = clocks });
+          faults = 0;
+        } }
+    {
+        MemOpener {
+            alloc,
+            doors,
+            inboxes,
+            clocks,
+            calls: Calls::new(failing),
+        }
+    }
+}
+
+#[tactic(auto, using(crate::proofs::FirstLemmas::firsts))]
+impl Opener for MemOpener {
+    type D = MemDoor;
+
+    type I = MemInbox;
+
+    type C = MemClock;
+
+    ghost shown = { λ opener. record {
+      held = Some (record { doors = opener.doors; inboxes = opener.inboxes; clocks = opener.clocks });
+      faults = opener.calls.faults;
+    } };
+
+    fn faults(&self) -> u64 {
+        self.calls.faults
+    }
+
+    fn door(
+        &mut self,
+        alloc: Global,
+        address: &[u8],
+        connections: u32,
+    ) -> Result<MemDoor, Fail<Failed>> {
+        if self.calls.due() {
+            return Err(Fail::Fault(self.calls.fail()));
+        }
+        let address = List::copy_of(alloc, address)?;
+        let Some(door) = take_first(&mut self.doors) else {
+            return Err(Fail::Fault(self.calls.fail()));
+        };
+        Ok(door.asked_with(DoorAsked {
+            address,
+            connections,
+        }))
+    }
+
+    fn inbox(&mut self, alloc: Global, folder: &[u8]) -> Result<MemInbox, Fail<Failed>> {
+        if self.calls.due() {
+            return Err(Fail::Fault(self.calls.fail()));
+        }
+        let folder = List::copy_of(alloc, folder)?;
+        let Some(inbox) = take_first(&mut self.inboxes) else {
+            return Err(Fail::Fault(self.calls.fail()));
+        };
+        Ok(inbox.asked_with(folder))
+    }
+
+    fn clock(&mut self, ticks: u32) -> MemClock {
+        match take_first(&mut self.clocks) {
+            Some(clock) => clock.asked_with(ticks),
+            None => MemClock::without_moments(self.alloc).asked_with(ticks),
+        }
+    }
+}

@@ -1,0 +1,10 @@
+pub mod Cause
+pub mod Clock
+pub mod Door
+pub mod Files
+pub mod Inbox
+pub mod Link
+pub mod Opener
+pub mod Shown
+pub mod Sink
+pub mod World

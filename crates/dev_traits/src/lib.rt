@@ -1,0 +1,27 @@
+//! The outside as traits: files that are read, links to a peer, sinks for reports, and what a server is given beside them:
+//! doors through which links come, inboxes in which files arrive, clocks, gates, and what opens them.
+#![tactic(auto)]
+
+mod clock;
+mod door;
+mod faults;
+mod files;
+mod gate;
+mod inbox;
+mod link;
+mod opener;
+mod sink;
+mod whole;
+mod world;
+
+pub use clock::{Clock, Expiry};
+pub use door::{Door, DoorAsked};
+pub use faults::{Failed, count_fault};
+pub use files::{Files, Found};
+pub use gate::{Gate, OpenGate, Place};
+pub use inbox::{Arrival, Inbox, Verdict};
+pub use link::Link;
+pub use opener::Opener;
+pub use sink::Sink;
+pub use whole::put_all;
+pub use world::World;

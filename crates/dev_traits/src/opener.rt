@@ -1,0 +1,65 @@
+//! What opens doors, inboxes and clocks.
+ghost use Rattle.std.specs.Prelude.{◌≡◌, IfOk, IfSome, OnErr, OnOk};
+ghost use Rattle.dev_traits.specs.Cause.{HasReadCause};
+ghost use Rattle.dev_traits.specs.Opener.{
+  IsNextDoor,
+  IsNextInbox,
+  OpenerShown,
+  after_clock,
+  after_door,
+  after_inbox,
+  next_clock,
+};
+
+use crate::clock::Clock;
+use crate::door::Door;
+use crate::faults::Failed;
+use crate::inbox::Inbox;
+use fm_base::Fail;
+use std::alloc::Global;
+
+/// What opens doors, inboxes and clocks. What it opens has had no failed call.
+pub trait Opener {
+    type D: Door + Drop;
+
+    type I: Inbox + Drop;
+
+    type C: Clock + Drop;
+
+    /// What it will give, where that is known, and how many calls have failed.
+    ghost shown: { Self → OpenerShown Self.D Self.I Self.C };
+
+    /// How many calls have failed. The count stands still at its greatest number.
+    fn faults(&self) -> u64
+        ensures { result ≡ (shown self.now).faults };
+
+    /// Opens a door at an address for `connections` links; 0 is without end.
+    fn door(
+        &mut self,
+        alloc: Global,
+        address: &[u8],
+        connections: u32,
+    ) -> Result<Self::D, Fail<Failed>>
+        ensures next { IfSome (shown self.old).held (λ stock. IfOk result (IsNextDoor Self.D.shown stock.doors
+            (record { address = address.now; connections = connections }))) }
+        ensures opened { OnOk result ((shown self.new).held ≡ after_door (shown self.old).held) }
+        ensures fresh { IfOk result (λ door. (Self.D.shown door).faults ≡ 0) }
+        ensures err { OnErr result ((shown self.new).held ≡ (shown self.old).held) }
+        ensures cause { HasReadCause (shown self.old).faults (shown self.new).faults result };
+
+    /// Opens the inbox of a folder.
+    fn inbox(&mut self, alloc: Global, folder: &[u8]) -> Result<Self::I, Fail<Failed>>
+        ensures next { IfSome (shown self.old).held (λ stock.
+            IfOk result (IsNextInbox Self.I.shown stock.inboxes folder.now)) }
+        ensures opened { OnOk result ((shown self.new).held ≡ after_inbox (shown self.old).held) }
+        ensures fresh { IfOk result (λ inbox. (Self.I.shown inbox).faults ≡ 0) }
+        ensures err { OnErr result ((shown self.new).held ≡ (shown self.old).held) }
+        ensures cause { HasReadCause (shown self.old).faults (shown self.new).faults result };
+
+    /// Opens a clock of `ticks` ticks; 0 is without end.
+    fn clock(&mut self, ticks: u32) -> Self::C
+        ensures next { IfSome (shown self.old).held (λ stock.
+            Self.C.shown result ≡ next_clock Self.C.shown stock.clocks ticks) }
+        ensures opened { (shown self.new).held ≡ after_clock (shown self.old).held }
+        ensures faults { (shown self.new).faults ≡ (shown self.old).faults };
+}

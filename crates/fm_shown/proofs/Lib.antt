@@ -1,2 +1,0 @@
-pub mod RowCounts
-pub mod RowFacts

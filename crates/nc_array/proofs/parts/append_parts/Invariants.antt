@@ -1,7 +1,0 @@
-use Rattle.std.proofs.Common.{◌≡◌, ◌++◌}
-use Rattle.std.specs.List.{flat_map, range_with_len}
-use Rattle.nc_array.specs.Parts.{part_bytes}
-use Rattle.nc_array.proofs.parts.append_parts.Given as goal
-
-abbrev pub invariant-loop-k : goal.invariant-loop-k
-invariant-loop-k l = l.out ≡ l.fn.out ++ flat_map (part_bytes l.bytes l.layout.header l.var) (range_with_len 0 l.k)

@@ -1,0 +1,16 @@
+pub mod Calendar
+pub mod Code
+pub mod FaultPlaces
+pub mod Format
+pub mod Instant
+pub mod Kind
+pub mod Layout
+pub mod Pattern
+pub mod Reading
+pub mod Sound
+pub mod Spelling
+pub mod Stamp
+pub mod Units
+pub mod UnitsFaults
+pub mod UnitsReading
+pub mod UnitsSpelling

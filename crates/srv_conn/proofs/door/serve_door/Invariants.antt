@@ -1,0 +1,15 @@
+-- The links that the door gave so far were served and given back, and no call of the door failed.
+use Rattle.std.proofs.Common.{◌≡◌}
+use Rattle.srv_conn.specs.DoorTurns.{ServesEach}
+use Rattle.srv_conn.proofs.door.serve_door.Given as goal
+
+abbrev pub invariant-loop : goal.invariant-loop
+invariant-loop g l =
+    (goal.iterator-loop g).can_next l.iterator' × (goal.iterator-loop g).is_finite l.iterator'
+    × ServesEach g.D.L.Link.shown (g.K.Look.proto l.fn.look) (g.K.Look.still l.fn.look)
+    (g.D.Door.shown l.fn.door).held (g.D.Door.shown l.door).held
+    (record { seen = g.K.Look.log l.fn.look; looks = g.K.Look.looks l.fn.look })
+    (record { seen = g.K.Look.log l.look; looks = g.K.Look.looks l.look }) l.served l.short
+    × ((g.D.Door.shown l.door).faults ≡ (g.D.Door.shown l.fn.door).faults)
+    × (g.K.Look.proto l.look ≡ g.K.Look.proto l.fn.look)
+    × (g.K.Look.still l.look ≡ g.K.Look.still l.fn.look)
