@@ -1,4 +1,4 @@
-.PHONY: demo build test quick exits plants clients proxy restart beside
+.PHONY: demo build test quick exits plants clients recipes proxy restart beside
 
 # The program's crate, and the sample files in its folder data/.
 SERVER = crates/fmrcd
@@ -45,6 +45,10 @@ exits: $(if $(PROGRAM),,build)
 # Reads from the program by the clients that users have, which it installs from the machine's Debian registry.
 clients: $(if $(PROGRAM),,build)
 	clients/clients.sh $(PROGRAM)
+
+# Runs the recipes of docs/USING.md by tools that it installs from there, and serves what comes out.
+recipes: $(if $(PROGRAM),,build)
+	clients/recipes.sh $(PROGRAM)
 
 # Runs the program behind nginx, with docs/nginx.conf, and compares their replies.
 proxy: $(if $(PROGRAM),,build)

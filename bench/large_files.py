@@ -34,5 +34,6 @@ def file_of(run, times, side):
     content = [head, struct.pack(">%df" % (2 * side), *range(2 * side))]
     for number in range(times):
         content.append(words(EPOCH + run + 3 * HOUR * number))
-        content.append(chance.randbytes(4 * side * side))
+        # Python makes fewer than 2^28 bytes at once.
+        content.extend(chance.randbytes(4 * side) for _ in range(side))
     return b"".join(content)

@@ -18,6 +18,7 @@ printf 'GET /thredds/dodsC/gfs/gfs_best.ncd.dds HTTP/1.1\r\n\r\n' > "$folder/req
 head -c 20 "$folder/request" > "$folder/begun"
 printf 'POST /\r\n\r\n' > "$folder/other"
 cp "$sample" "$folder/none.nc"
+truncate -s 536870912 "$folder/most.nc"
 truncate -s 536870913 "$folder/long.nc"
 
 # Compares the last run: its name, its status, the status that is wanted, and what each stream is to hold.
@@ -64,6 +65,7 @@ tells "check without a file on a terminal" 'Usage: fmrcd check <FILE>' check
 run "no words" 2 "bad words" "" "$folder/none"
 tells "no words on a terminal" 'Usage: fmrcd <COMMAND>'
 run "a file that isn't there" 10 "no file $folder/absent" "" "$folder/none" check "$folder/absent"
+run "a file of 512 MiB" 3 "refused $folder/most.nc code 1" "" "$folder/none" check "$folder/most.nc"
 run "a file over 512 MiB" 10 "too long $folder/long.nc 536870913" "" "$folder/none" check "$folder/long.nc"
 run "a folder" 5 "file fault $folder" "" "$folder/none" check "$folder"
 run "a path through a file" 5 "file fault $sample/x" "" "$folder/none" check "$sample/x"
@@ -93,7 +95,11 @@ run "options behind the steps" 0 "*" "" "$folder/request" once "put:$sample" ask
 run "a prototype that isn't there" 10 "" "no file $folder/absent" "$folder/none" \
     once --name gfs --proto "$folder/absent" "put:$sample" ask:1
 run "a folder as the file" 5 "" "file fault $folder" "$folder/none" once --name gfs --proto "$sample" "put:$folder" ask:1
-run "a word that isn't text" 2 "" "bad words" "$folder/none" "$(printf '\377')"
+run "a word of once that isn't text" 2 "" "bad words" "$folder/none" once "$(printf '\377')"
+run "a word that isn't text" 2 "bad words" "" "$folder/none" check "$(printf '\377')"
+run "a first word that isn't text" 2 "bad words" "" "$folder/none" "$(printf 'once\377')"
+tells "a word that isn't text on a terminal" 'Usage: fmrcd <COMMAND>' check "$(printf '\377')"
+run "a word of 100,000 bytes" 2 "bad words" "" "$folder/none" "$(head -c 100000 /dev/zero | tr '\0' a)"
 
 # `serve` reports to standard output. Its inbox stops at once, and its one worker ends after one connection.
 serve="serve --name gfs --proto $sample --listen"

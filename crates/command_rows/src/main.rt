@@ -53,12 +53,21 @@ fn ran<R: Threads + Wait + Sync>(
     files: &[File],
     row: &Row<'_>,
 ) -> Result<Option<String>, NoMemory> {
-    let Some(given) = Given::read(alloc, files, row)? else {
-        return Ok(None);
-    };
-    let mut world = world_of(alloc, &given)?;
+    match Given::read(alloc, files, row)? {
+        Some(given) => ran_in(rt, alloc, &given).map(Some),
+        None => Ok(None),
+    }
+}
+
+// What the run of a row's words left of a row's world.
+fn ran_in<R: Threads + Wait + Sync>(
+    rt: &R,
+    alloc: Global,
+    given: &Given,
+) -> Result<String, NoMemory> {
+    let mut world = world_of(alloc, given)?;
     let status = srv_run::run(rt, alloc, &given.words, &mut world);
-    Ok(Some(shown::left(alloc, status, &world)?))
+    shown::left(alloc, status, &world)
 }
 
 // Runs the rows of a text.

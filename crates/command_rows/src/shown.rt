@@ -2,11 +2,12 @@
 
 use crate::output::put_output;
 use crate::world::MemWorld;
+use fm_base::NoMemory;
 use std::alloc::{AllocError, Global};
 
 /// The status with the text of the sink, what was put on the link of the run, and then for each device that was opened
 /// what it was left with: the outputs of a door's links that were given back, and the verdicts of an inbox or a clock.
-pub fn left(alloc: Global, status: u8, world: &MemWorld) -> Result<String, AllocError> {
+pub fn left(alloc: Global, status: u8, world: &MemWorld) -> Result<String, NoMemory> {
     let mut out = format!(in alloc; "status {status}\n")?;
     let line = world.sink.bytes();
     if !line.is_empty() {

@@ -187,22 +187,31 @@ fn own_link(alloc: Global, given: &Given) -> Result<MemLink, NoMemory> {
 
 /// The world that a row describes.
 pub fn world_of(alloc: Global, given: &Given) -> Result<MemWorld, NoMemory> {
-    let opener = MemOpener::new(
-        alloc,
-        doors_of(alloc, given)?,
-        inboxes_of(alloc, given)?,
-        clocks_of(alloc, given)?,
-        copy_of(alloc, &given.failing_opener)?,
-    );
-    let entries = entries_of(alloc, &given.files)?;
+    let sink = MemSink::new(alloc, ROOM, copy_of(alloc, &given.failing_sink)?)?;
+    let files = files_of(alloc, given)?;
+    let link = own_link(alloc, given)?;
+    let opener = opener_of(alloc, given)?;
     Ok(World {
         opener,
         doors: List::new(alloc),
         inboxes: List::new(alloc),
         clocks: List::new(alloc),
-        files: MemFiles::new(entries, copy_of(alloc, &given.failing_files)?),
-        link: own_link(alloc, given)?,
-        sink: MemSink::new(alloc, ROOM, copy_of(alloc, &given.failing_sink)?)?,
+        files,
+        link,
+        sink,
         gate: OpenGate,
     })
+}
+
+fn files_of(alloc: Global, given: &Given) -> Result<MemFiles, NoMemory> {
+    let failing = copy_of(alloc, &given.failing_files)?;
+    Ok(MemFiles::new(entries_of(alloc, &given.files)?, failing))
+}
+
+fn opener_of(alloc: Global, given: &Given) -> Result<MemOpener, NoMemory> {
+    let failing = copy_of(alloc, &given.failing_opener)?;
+    let clocks = clocks_of(alloc, given)?;
+    let inboxes = inboxes_of(alloc, given)?;
+    let doors = doors_of(alloc, given)?;
+    Ok(MemOpener::new(alloc, doors, inboxes, clocks, failing))
 }

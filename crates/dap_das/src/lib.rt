@@ -3,6 +3,7 @@
 
 mod attribute;
 mod attributes;
+pub mod examples;
 pub mod laws;
 mod line;
 mod name;

@@ -22,10 +22,10 @@ use Rattle.dap_reply.specs.declared.body.Body.{Body}
 use Rattle.dap_reply.specs.declared.body.BodyKind.{BodyKind}
 use Rattle.dap_reply.specs.declared.body.BodyKind.TheVariants.{Attributes, Structure}
 use Rattle.dap_reply.specs.declared.fault.DapFault.TheVariants.{Constraint, Projection}
-use Rattle.dap_reply.specs.Asked.{shown_of, IsAsked, IsProjected}
+use Rattle.dap_reply.specs.Asked.{shown_of, AsksForView, IsProjected}
 use Rattle.dap_reply.specs.Body.{attributes_asked, body_of, data_asked, data_body, has_no_rows, projected_of, some_rows, some_shown, structure_asked, structure_of, text_body, within_limit, MAX_BODY}
 use Rattle.dap_reply.specs.Parts.{bytes_of, data_behind}
-use Rattle.dap_reply.specs.Reply.{accepted_with, answer_to, answered}
+use Rattle.dap_reply.specs.Reply.{fine_with, answer_to, answered}
 
 some-rows : (found : List Row) → found ≢ [] → some_rows (length found) ≡ Ok (length found)
 unfolding some_rows
@@ -58,31 +58,31 @@ some-shown proto files target some =
     ap (fault_as has_no_rows) (shown-some (record { proto = proto; files = files }) target.view target.label some)
 
 -- what is answered is what the body of the target is
-answer-is : (proto : Proto) (files : List Loaded) (item : Item) (target : Target) → IsAsked proto files item target
+answer-is : (proto : Proto) (files : List Loaded) (item : Item) (target : Target) → AsksForView proto files item target
     → answer_to proto files item ≡ answered (body_of proto files target)
 unfolding answer_to
 answer-is proto files item target asked =
     ap (λ found. answered (found >>= (λ t. body_of proto files t))) asked.target_is
 
-structure-body : (proto : Proto) (files : List Loaded) (target : Target) → target.service ≡ Dds
+pub structure-body : (proto : Proto) (files : List Loaded) (target : Target) → target.service ≡ Dds
     → body_of proto files target ≡ structure_asked proto files target
 unfolding body_of
 structure-body proto files target service = rw service refl
 
-attributes-body : (proto : Proto) (files : List Loaded) (target : Target) → target.service ≡ Das
+pub attributes-body : (proto : Proto) (files : List Loaded) (target : Target) → target.service ≡ Das
     → body_of proto files target ≡ attributes_asked proto files target
 unfolding body_of
 attributes-body proto files target service = rw service refl
 
-data-of-body : (proto : Proto) (files : List Loaded) (target : Target) → target.service ≡ Dods
+pub data-of-body : (proto : Proto) (files : List Loaded) (target : Target) → target.service ≡ Dods
     → body_of proto files target ≡ data_asked proto files target
 unfolding body_of
 data-of-body proto files target service = rw service refl
 
 pub structure-asked : (proto : Proto) (files : List Loaded) (item : Item) (target : Target) (clauses : List Clause)
-    (projected : Projected) → IsAsked proto files item target → IsProjected proto files target clauses projected
+    (projected : Projected) → AsksForView proto files item target → IsProjected proto files target clauses projected
     → target.service ≡ Dds → length (structure_of target projected) ≤ MAX_BODY
-    → answer_to proto files item ≡ accepted_with (text_body Structure (structure_of target projected))
+    → answer_to proto files item ≡ fine_with (text_body Structure (structure_of target projected))
 unfolding structure_asked
 structure-asked proto files item target clauses projected asked is service few =
     answer-is proto files item target asked
@@ -95,8 +95,8 @@ structure-asked proto files item target clauses projected asked is service few =
     ∙ ap answered (within-text Structure (structure_of target projected) few)
 
 pub attributes-asked : (proto : Proto) (files : List Loaded) (item : Item) (target : Target)
-    → IsAsked proto files item target → target.service ≡ Das → length (das_of proto target.view) ≤ MAX_BODY
-    → answer_to proto files item ≡ accepted_with (text_body Attributes (das_of proto target.view))
+    → AsksForView proto files item target → target.service ≡ Das → length (das_of proto target.view) ≤ MAX_BODY
+    → answer_to proto files item ≡ fine_with (text_body Attributes (das_of proto target.view))
 unfolding attributes_asked
 attributes-asked proto files item target asked service few =
     answer-is proto files item target asked
@@ -106,10 +106,10 @@ attributes-asked proto files item target asked service few =
     ∙ ap answered (within-text Attributes (das_of proto target.view) few)
 
 pub data-asked : (proto : Proto) (files : List Loaded) (item : Item) (target : Target) (clauses : List Clause)
-    (projected : Projected) → IsAsked proto files item target → IsProjected proto files target clauses projected
+    (projected : Projected) → AsksForView proto files item target → IsProjected proto files target clauses projected
     → target.service ≡ Dods
     → length (bytes_of (data_body (shown_of proto files target) target projected).bytes) ≤ MAX_BODY
-    → answer_to proto files item ≡ accepted_with (data_body (shown_of proto files target) target projected)
+    → answer_to proto files item ≡ fine_with (data_body (shown_of proto files target) target projected)
 unfolding data_asked
 data-asked proto files item target clauses projected asked is service few =
     answer-is proto files item target asked

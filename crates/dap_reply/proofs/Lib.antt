@@ -1,11 +1,16 @@
 pub mod AnswerLemmas
 pub mod DataLemmas
+pub mod FewLemmas
+pub mod FieldCosts
+pub mod HeaderCosts
 pub mod LimitLemmas
 pub mod MapLemmas
 pub mod MessageLemmas
 pub mod NameLemmas
+pub mod OrderLemmas
 pub mod PlanLemmas
 pub mod ReplyLemmas
 pub mod ScriptLemmas
 pub mod SentLemmas
 pub mod ServedLemmas
+pub mod WellFormedLemmas

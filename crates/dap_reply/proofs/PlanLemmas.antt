@@ -1,5 +1,5 @@
 -- The bytes of a plan: what stands ready, and the data behind it.
-use Rattle.std.proofs.Common.{◌≡◌, ℕ, ◌+◌, ◌-◌, ◌^◌, ◌<◌, ◌≤◌, List, ◌++◌, length, min, take, drop, Some, None, refl, sym, ap, subst, ◌∙◌, arith}
+use Rattle.std.proofs.Common.{◌≡◌, ℕ, ◌+◌, ◌-◌, ◌^◌, ◌<◌, ◌≤◌, List, ◌++◌, length, min, take, drop, All, Some, None, refl, sym, ap, subst, ◌∙◌, arith}
 use Rattle.std.proofs.Math.Seq.{drop-append-add}
 use Rattle.std.proofs.lemmas.List.{append-nil, drop-append-le, length-append, length-drop, take_all, take-append-le}
 use Rattle.dap_model.specs.declared.projection.Sent.{Sent}
@@ -8,15 +8,26 @@ use Rattle.dap_xdr.specs.Content.{data_of}
 use Rattle.dap_xdr.specs.Datasets.{content_of}
 use Rattle.dap_xdr.specs.Overlay.{overlay, IsPut}
 use Rattle.dap_xdr.proofs.FrontLemmas.{put-behind}
-use Rattle.dap_reply.specs.Parts.{bytes_of, data_behind, ready, IsPlan, Parts}
+use Rattle.dap_reply.specs.Parts.{bytes_of, data_behind, ready, IsPlan, IsSentOf, Parts}
 
 -- a plan without data
-pub ready-plan : (front : List ℕ) (len : ℕ) → len ≡ length front → len < 2 ^ 64 → IsPlan (ready front) len
+pub ready-plan : (front : List ℕ) (len : ℕ) → len ≡ length front → IsPlan (ready front) len
 unfolding bytes_of data_behind
-ready-plan front len is small = record {
+ready-plan front len is = record {
   sent_fits = refl;
   len_is = is ∙ ap length (sym (append-nil front));
-  small = small;
+  few = omega arith;
+}
+
+-- a plan with data
+pub data-plan : (front : List ℕ) (shown : Shown) (sent : List Sent) (len : ℕ) → All (IsSentOf shown) sent
+    → len ≡ length (bytes_of (record { front = front; source = Some shown; sent = sent })) → len < 2 ^ 63
+    → IsPlan (record { front = front; source = Some shown; sent = sent }) len
+unfolding bytes_of data_behind
+data-plan front shown sent len fits is few = record {
+  sent_fits = fits;
+  len_is = is;
+  few = omega (arith, is, few, length-append front (data_of (content_of shown) sent));
 }
 
 -- the bytes where there is no data
@@ -30,17 +41,24 @@ pub bytes-data : (parts : Parts) (shown : Shown) → parts.source ≡ Some shown
 unfolding bytes_of data_behind
 bytes-data parts shown some = ap (λ source. parts.front ++ data_behind source parts.sent) some
 
--- the data is no longer than all bytes
+-- the data is short
 pub data-small : (parts : Parts) (shown : Shown) (sent : List Sent) (len : ℕ) → IsPlan parts len
     → parts.source ≡ Some shown → sent ≡ parts.sent → length (data_of (content_of shown) sent) < 2 ^ 64
+unfolding data_behind
 data-small parts shown sent len plan some is = omega (
   arith,
-  plan.small,
-  plan.len_is,
+  plan.few,
   ap (λ s. length (data_of (content_of shown) s)) is,
-  ap length (bytes-data parts shown some),
-  length-append parts.front (data_of (content_of shown) parts.sent),
+  ap (λ source. length (data_behind source parts.sent)) some,
 )
+
+-- how many of the bytes of a plan are data
+pub data-count : (parts : Parts) (len : ℕ) → IsPlan parts len
+    → (length parts.front ≤ len) × (len - length parts.front ≡ length (data_behind parts.source parts.sent))
+unfolding bytes_of
+data-count parts len plan =
+    let all = length-append parts.front (data_behind parts.source parts.sent) in
+    (omega (arith, plan.len_is, all), omega (arith, plan.len_is, all))
 
 -- a front of what is left of some bytes is one of what is left of them with others behind
 pub lent-ready : (front back lent : List ℕ) (from : ℕ) → from ≤ length front → lent ≡ drop from front
@@ -99,22 +117,18 @@ lent-front parts front lent from is within lent_is =
     ∙ lent-ready front (data_behind parts.source parts.sent) lent from within lent_is
 
 -- the same bytes behind others
-pub behind-plan : (parts : Parts) (len begin : ℕ) (first new : List ℕ) → IsPlan parts len → begin ≡ length first
-    → new ≡ first ++ parts.front → begin + len < 2 ^ 64
-    → IsPlan (record { front = new; source = parts.source; sent = parts.sent }) (begin + len)
+pub behind-plan : (parts : Parts) (len stands left : ℕ) (first new : List ℕ) → IsPlan parts len → stands ≡ length new
+    → left ≡ len - length parts.front → new ≡ first ++ parts.front
+    → IsPlan (record { front = new; source = parts.source; sent = parts.sent }) (stands + left)
 unfolding bytes_of
-behind-plan parts len begin first new plan is joined small =
-    let stands = data_behind parts.source parts.sent in
-    record {
-      sent_fits = plan.sent_fits;
-      len_is = omega (
-        arith,
-        is,
-        plan.len_is,
-        length-append parts.front stands,
-        ap length joined,
-        length-append first parts.front,
-        length-append new stands,
-      );
-      small = small;
-    }
+behind-plan parts len stands left first new plan is rest joined = record {
+  sent_fits = plan.sent_fits;
+  len_is = omega (
+    arith,
+    is,
+    rest,
+    (data-count parts len plan).1,
+    length-append new (data_behind parts.source parts.sent),
+  );
+  few = plan.few;
+}

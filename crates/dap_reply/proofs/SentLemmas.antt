@@ -1,5 +1,5 @@
 -- What is sent of a dataset is part of it, with slabs that lie within it.
-use Rattle.std.proofs.Common.{◌≡◌, ℕ, ◌<◌, ◌≤◌, List, [], length, get_or, Some, None, All, ap, subst, sym, ◌∙◌, ⊎_elim, arith, refl, Result, Ok, Err}
+use Rattle.std.proofs.Common.{◌≡◌, ℕ, ◌^◌, ◌<◌, ◌≤◌, List, [], length, get_or, Some, None, All, ap, subst, sym, ◌∙◌, ⊎_elim, arith, refl, Result, Ok, Err}
 use Rattle.std.specs.Prelude.{slice_get, option_and_then, IsSomeAnd}
 use Rattle.std.specs.List.{AllZip}
 use Rattle.std.specs.Option.{option_map_or}
@@ -30,6 +30,7 @@ use Rattle.dap_reply.specs.declared.fault.DapFault.TheVariants.{Constraint, Proj
 use Rattle.dap_reply.specs.Body.{projected_of}
 use Rattle.dap_xdr.specs.Content.{array_in, FitsArray}
 use Rattle.dap_reply.specs.Parts.{IsSentOf}
+use Rattle.dap_reply.proofs.FewLemmas.{all_sent-few}
 use Rattle.dap_reply.proofs.MapLemmas.{gridded}
 use Rattle.dap_reply.proofs.NameLemmas.{named-apart}
 
@@ -81,27 +82,44 @@ not-ok {A} {E} same = subst is_value same tt
     is_value (Ok value) = ⊥
     is_value (Err fault) = Unit {0}
 
+-- the clauses of a constraint for which something is sent
+record HasClauses (decls : List Decl) (projected : Projected) : Type 0 where
+  clauses : List Clause
+  projected_is : projection_of decls clauses ≡ Ok projected
+
+clauses-of : (decls : List Decl) (constraint : List ℕ) (projected : Projected)
+    → projected_of decls constraint ≡ Ok projected → HasClauses decls projected
+unfolding projected_of
+clauses-of decls constraint projected is = by_asked (asked_by constraint) is
+  where
+    by_projection : (clauses : List Clause) (found : Result Projected ProjectFault)
+        → projection_of decls clauses ≡ found → fault_as Projection found ≡ Ok projected → HasClauses decls projected
+    by_projection clauses (Ok other) found same =
+        record { clauses = clauses; projected_is = found ∙ ap Ok (same_Ok other projected same) }
+    by_projection clauses (Err fault) found same = absurd (not-ok same)
+
+    by_asked : (asked : Result Asks CeFault)
+        → (fault_as Constraint asked >>= (λ asks. fault_as Projection (projection_of decls asks.clauses)))
+        ≡ Ok projected → HasClauses decls projected
+    by_asked (Ok asks) same = by_projection asks.clauses (projection_of decls asks.clauses) refl same
+    by_asked (Err fault) same = absurd (not-ok same)
+
 -- what is sent for a constraint
 pub all-sent : (shown : Shown) (constraint : List ℕ) (projected : Projected) → IsPrototype shown.proto
     → projected_of (decls_of shown.proto (length shown.rows)) constraint ≡ Ok projected
     → All (IsSentOf shown) projected.sent
-unfolding projected_of
-all-sent shown constraint projected prototype is = by_asked (asked_by constraint) is
-  where
-    by_projection : (clauses : List Clause) (found : Result Projected ProjectFault)
-        → projection_of (decls_of shown.proto (length shown.rows)) clauses ≡ found
-        → fault_as Projection found ≡ Ok projected → All (IsSentOf shown) projected.sent
-    by_projection clauses (Ok other) found same =
-        subst (λ (p : Projected). All (IsSentOf shown) p.sent) (same_Ok other projected same)
-        (sent-fits shown clauses other prototype found)
-    by_projection clauses (Err fault) found same = absurd (not-ok same)
+all-sent shown constraint projected prototype is =
+    let found = clauses-of (decls_of shown.proto (length shown.rows)) constraint projected is in
+    sent-fits shown found.clauses projected prototype found.projected_is
 
-    by_asked : (asked : Result Asks CeFault)
-        → (fault_as Constraint asked >>= (λ asks. fault_as Projection
-        (projection_of (decls_of shown.proto (length shown.rows)) asks.clauses))) ≡ Ok projected
-        → All (IsSentOf shown) projected.sent
-    by_asked (Ok asks) same = by_projection asks.clauses
-        (projection_of (decls_of shown.proto (length shown.rows)) asks.clauses) refl same
-    by_asked (Err fault) same = absurd (not-ok same)
+pub few-sent : (shown : Shown) (constraint : List ℕ) (projected : Projected) → IsPrototype shown.proto
+    → projected_of (decls_of shown.proto (length shown.rows)) constraint ≡ Ok projected
+    → length projected.sent < 2 ^ 28
+few-sent shown constraint projected prototype is =
+    let found = clauses-of (decls_of shown.proto (length shown.rows)) constraint projected is in
+    let accepted = Accepted-projection_of (decls_of shown.proto (length shown.rows)) found.clauses projected
+    found.projected_is in
+    subst (λ (p : Projected). length p.sent < 2 ^ 28) accepted.all
+    (all_sent-few shown.proto (length shown.rows) found.clauses prototype)
 
-pub ruleset sent = (all-sent)
+pub ruleset sent = (all-sent, few-sent)

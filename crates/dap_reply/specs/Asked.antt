@@ -11,11 +11,11 @@ use Rattle.fm_dataset.specs.Declarations.{decls_of}
 use Rattle.fm_dataset.specs.Values.{Shown}
 use Rattle.web_frame.specs.Items.{Item}
 use Rattle.web_path.specs.declared.target.Target.{Target}
-use Rattle.dap_reply.specs.Reply.{asked_by}
+use Rattle.dap_reply.specs.Reply.{target_wanted}
 
 -- an item asks for a view that has rows
-pub record IsAsked (proto : Proto) (files : List Loaded) (item : Item) (target : Target) : Type 0 where
-  pub target_is : asked_by proto.site item ≡ Ok target
+pub record AsksForView (proto : Proto) (files : List Loaded) (item : Item) (target : Target) : Type 0 where
+  pub target_is : target_wanted proto.site item ≡ Ok target
   pub some : rows files target.view ≢ []
 
 -- a target's constraint is these clauses, for which this is sent

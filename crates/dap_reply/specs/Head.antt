@@ -4,7 +4,7 @@ use Rattle.std.specs.Fmt.{decimal}
 use Rattle.dap_reply.specs.declared.body.BodyKind.{BodyKind}
 use Rattle.dap_reply.specs.declared.head.Head.{Head}
 use Rattle.dap_reply.specs.declared.status.Status.{Status}
-use Rattle.dap_reply.specs.declared.status.Status.TheVariants.{Accepted, BadRequest, NotFound, NotAllowed, TooLarge, HeadTooLarge}
+use Rattle.dap_reply.specs.declared.status.Status.TheVariants.{Fine, BadRequest, NotFound, NotAllowed, TooLarge, HeadTooLarge}
 use Rattle.dap_reply.specs.Kind.{description_of, media_of, status_text}
 
 -- a line of a head
@@ -19,7 +19,7 @@ connection_word false = codes "keep-alive"
 -- the methods that are taken, where one wasn't
 unfoldable pub allow_line : Status → List ℕ
 allow_line NotAllowed = head_line (codes "Allow") (codes "GET, HEAD")
-allow_line Accepted = []
+allow_line Fine = []
 allow_line BadRequest = []
 allow_line NotFound = []
 allow_line TooLarge = []

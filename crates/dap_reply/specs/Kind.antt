@@ -3,7 +3,7 @@ use Rattle.std.specs.Prelude.{ℕ, List, codes}
 use Rattle.dap_reply.specs.declared.body.BodyKind.{BodyKind}
 use Rattle.dap_reply.specs.declared.body.BodyKind.TheVariants.{Structure, Attributes, Data, Error}
 use Rattle.dap_reply.specs.declared.status.Status.{Status}
-use Rattle.dap_reply.specs.declared.status.Status.TheVariants.{Accepted, BadRequest, NotFound, NotAllowed, TooLarge, HeadTooLarge}
+use Rattle.dap_reply.specs.declared.status.Status.TheVariants.{Fine, BadRequest, NotFound, NotAllowed, TooLarge, HeadTooLarge}
 
 -- what a body is said to be
 unfoldable pub description_of : BodyKind → List ℕ
@@ -21,7 +21,7 @@ media_of Error = codes "text/plain"
 
 -- what stands after the version in the first line
 unfoldable pub status_text : Status → List ℕ
-status_text Accepted = codes "200 OK"
+status_text Fine = codes "200 OK"
 status_text BadRequest = codes "400 Bad Request"
 status_text NotFound = codes "404 Not Found"
 status_text NotAllowed = codes "405 Method Not Allowed"

@@ -9,3 +9,4 @@ pub mod Planned
 pub mod Reply
 pub mod Script
 pub mod Served
+pub mod WellFormed

@@ -8,7 +8,7 @@ use Rattle.web_session.specs.declared.action.Asked.TheVariants as asked
 use Rattle.dap_reply.specs.declared.fault.DapFault.{DapFault}
 use Rattle.dap_reply.specs.declared.wanted.Order.{Order}
 use Rattle.dap_reply.specs.declared.wanted.Order.TheVariants.{Refused, Wanted}
-use Rattle.dap_reply.specs.Reply.{asked_by, has_head_alone}
+use Rattle.dap_reply.specs.Reply.{target_wanted, has_head_alone}
 
 -- the item that a session asks a reply for, by its present target
 abbrev pub item_by : Asked → List ℕ → Item
@@ -23,4 +23,4 @@ order_by (Err fault) head last = Refused fault head last
 
 -- what is to be done for an item
 unfoldable pub order_of : Site → Item → Bool → Order
-order_of site item last = order_by (asked_by site item) (has_head_alone item) last
+order_of site item last = order_by (target_wanted site item) (has_head_alone item) last

@@ -33,9 +33,9 @@ abbrev pub AreSentOf : Option Shown → List Sent → Type 0
 AreSentOf None sent = sent ≡ []
 AreSentOf (Some shown) sent = All (IsSentOf shown) sent
 
--- what a plan keeps: what is sent is of its dataset, and it knows how many bytes it has, of which there are fewer than
--- 2^64
+-- what a plan keeps: what is sent is of its dataset, and it knows how many bytes it has, of which fewer than 2^63 are
+-- data
 pub record IsPlan (parts : Parts) (len : ℕ) : Type 0 where
   pub sent_fits : AreSentOf parts.source parts.sent
   pub len_is : len ≡ length (bytes_of parts)
-  pub small : len < 2 ^ 64
+  pub few : length (data_behind parts.source parts.sent) < 2 ^ 63

@@ -1,5 +1,5 @@
 -- The reply to an item of a connection (RFC 9112; RFC 9110), over the collection that some operations left.
-use Rattle.std.specs.Prelude.{ℕ, ◌==◌, List, [], ◌++◌, length, Bool, true, false, ◌||◌, if◌then◌else◌, Result, Ok, Err}
+use Rattle.std.specs.Prelude.{ℕ, ◌==◌, List, [], ◌++◌, length, Bool, true, false, ◌||◌, if◌then◌else◌, Result, Ok, Err, is_ok}
 use Rattle.fm_base.specs.Chain.{◌>>=◌, fault_as}
 use Rattle.fm_model.specs.declared.loaded.Loaded.{Loaded}
 use Rattle.fm_model.specs.declared.proto.Proto.{Proto}
@@ -10,14 +10,14 @@ use Rattle.web_frame.specs.declared.request.Request.{Request}
 use Rattle.web_frame.specs.Items.{Item, request, bad_head, head_too_long}
 use Rattle.web_path.specs.declared.target.Target.{Target}
 use Rattle.web_path.specs.Target.{target_of}
-use Rattle.web_session.specs.declared.phase.TheConstants.{MAX_REPLIES}
+use Rattle.web_session.specs.State.{MAX_REPLIES}
 use Rattle.dap_reply.specs.declared.fault.DapFault.{DapFault}
 use Rattle.dap_reply.specs.declared.fault.DapFault.TheVariants.{Path, Method, BodyNotTaken, BadHead, HeadTooLong}
 use Rattle.dap_reply.specs.declared.body.Answer.{Answer}
 use Rattle.dap_reply.specs.declared.body.Body.{Body}
 use Rattle.dap_reply.specs.declared.body.BodyKind.TheVariants.{Error}
 use Rattle.dap_reply.specs.declared.head.Head.{Head}
-use Rattle.dap_reply.specs.declared.status.Status.TheVariants.{Accepted}
+use Rattle.dap_reply.specs.declared.status.Status.TheVariants.{Fine}
 use Rattle.dap_reply.specs.Body.{body_of, text_body}
 use Rattle.dap_reply.specs.Fault.{error_text, fault_status}
 use Rattle.dap_reply.specs.Head.{head_text}
@@ -37,10 +37,14 @@ target_asked site r target = by_method r.method
     by_method methods.Other = Err Method
 
 -- the same of an item
-unfoldable pub asked_by : Site → Item → Result Target DapFault
-asked_by site (request r target) = target_asked site r target
-asked_by site bad_head = Err BadHead
-asked_by site head_too_long = Err HeadTooLong
+unfoldable pub target_wanted : Site → Item → Result Target DapFault
+target_wanted site (request r target) = target_asked site r target
+target_wanted site bad_head = Err BadHead
+target_wanted site head_too_long = Err HeadTooLong
+
+-- whether a collection has to be looked at for an item
+abbrev pub is_wanted : Site → Item → Bool
+is_wanted site item = is_ok (target_wanted site item)
 
 -- whether a reply has its head alone
 abbrev pub has_head_alone : Item → Bool
@@ -62,22 +66,22 @@ is_last head_too_long number = true
 unfoldable pub refusal_of : DapFault → Answer
 refusal_of fault = record { status = fault_status fault; body = text_body Error (error_text fault) }
 
-abbrev pub accepted_with : Body → Answer
-accepted_with body = record { status = Accepted; body = body }
+abbrev pub fine_with : Body → Answer
+fine_with body = record { status = Fine; body = body }
 
 abbrev pub answered : Result Body DapFault → Answer
-answered (Ok body) = accepted_with body
+answered (Ok body) = fine_with body
 answered (Err fault) = refusal_of fault
 
 -- what is answered to an item over a collection
 unfoldable pub answer_to : Proto → List Loaded → Item → Answer
 answer_to proto files item = answered (do
-  target ← asked_by proto.site item
+  target ← target_wanted proto.site item
   body_of proto files target)
 
 -- the head of a reply with an answer, of a collection that `revision` operations left
-abbrev pub head_of : Answer → ℕ → Bool → Head
-head_of answer revision last = record {
+abbrev pub answer_head : Answer → ℕ → Bool → Head
+answer_head answer revision last = record {
   status = answer.status;
   kind = answer.body.kind;
   len = length (bytes_of answer.body.bytes);
@@ -88,13 +92,13 @@ head_of answer revision last = record {
 -- a reply: its head, and its body but to HEAD
 unfoldable pub reply_text : Answer → ℕ → Bool → Bool → List ℕ
 reply_text answer revision head_alone last =
-    head_text (head_of answer revision last) ++ (if head_alone then [] else bytes_of answer.body.bytes)
+    head_text (answer_head answer revision last) ++ (if head_alone then [] else bytes_of answer.body.bytes)
 
 -- the same with the data left in its dataset
 unfoldable pub reply_parts : Answer → ℕ → Bool → Bool → Parts
-reply_parts answer revision true last = ready (head_text (head_of answer revision last))
+reply_parts answer revision true last = ready (head_text (answer_head answer revision last))
 reply_parts answer revision false last = record {
-  front = head_text (head_of answer revision last) ++ answer.body.bytes.front;
+  front = head_text (answer_head answer revision last) ++ answer.body.bytes.front;
   source = answer.body.bytes.source;
   sent = answer.body.bytes.sent;
 }

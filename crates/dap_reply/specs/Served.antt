@@ -1,32 +1,30 @@
 -- What one call that serves a link does: the replies to the requests that it reads, in order and each whole, over
 -- collections that never get older.
-use Rattle.std.specs.Prelude.{◌≡◌, ◌≢◌, ◌⊎◌, ℕ, ◌+◌, ◌-◌, ◌^◌, ◌<◌, ◌≤◌, min, List, [], ◌∷◌, ◌++◌, length, take, slice_get, Bool, true, false, if◌then◌else◌, Some, is_ok}
+use Rattle.std.specs.Prelude.{◌≡◌, ◌≢◌, ◌⊎◌, ℕ, ◌+◌, ◌-◌, ◌^◌, ◌<◌, ◌≤◌, min, List, [], ◌∷◌, ◌++◌, length, take, slice_get, Bool, true, false, if◌then◌else◌, Some}
 use Rattle.fm_model.specs.declared.op.Op.{Op}
 use Rattle.fm_model.specs.declared.proto.Proto.{Proto}
 use Rattle.fm_model.specs.Collection.{coll}
 use Rattle.pub_look.specs.History.{Continues}
-use Rattle.web_frame.specs.Items.{bad_head, head_too_long, heads_of, request, Item, ReadsTo}
-use Rattle.web_frame.specs.Stream.{held_after, next_of}
+use Rattle.web_frame.specs.Items.{bad_head, bytes_after, head_too_long, heads_of, request, Item, ReadsTo}
 use Rattle.web_session.specs.declared.action.Asked.{Asked}
 use Rattle.web_session.specs.declared.action.Asked.TheVariants as asked
 use Rattle.web_session.specs.declared.action.End.{End}
 use Rattle.web_session.specs.declared.action.End.TheVariants as ends
 use Rattle.web_session.specs.declared.phase.Phase.TheVariants.{Ended}
-use Rattle.web_session.specs.State.{end_after, end_of_input, phase_after, State}
+use Rattle.web_session.specs.State.{end_after, end_of_input, resting, State}
 use Rattle.dap_reply.specs.declared.served.Mark.{Mark}
 use Rattle.dap_reply.specs.declared.served.Stop.{Stop}
 use Rattle.dap_reply.specs.declared.served.Stop.TheVariants as stops
 use Rattle.dap_reply.specs.Head.{no_memory_reply}
-use Rattle.dap_reply.specs.Reply.{asked_by, is_last, reply_of}
+use Rattle.dap_reply.specs.Reply.{is_wanted, is_last, reply_of}
 
 -- the bytes that a session holds: those of the request that it asks a reply for, and those after it
 abbrev pub held_bytes : State → List ℕ
 held_bytes session = session.held.head ++ session.held.rest
 
--- a session rests: it sends nothing, and has looked for a head in what it holds
+-- a session rests with the bytes that it holds
 pub record IsAtRest (session : State) : Type 0 where
-  pub phase_is : session.phase ≡ phase_after (next_of (held_bytes session))
-  pub held_is : session.held ≡ held_after (held_bytes session)
+  pub session_is : session ≡ resting (held_bytes session) session.before
 
 -- what a call that serves a link found and left: what was seen of the collection, the session, the bytes that were
 -- taken from the link and written to it, whether the link said that its input is over, how often its calls had failed,
@@ -87,7 +85,7 @@ unfoldable pub RepeatsUnwanted : Proto → ℕ → List Mark → List Item → T
 RepeatsUnwanted proto before [] items = Unit {0}
 RepeatsUnwanted proto before (mark ∷ marks) [] = Unit {0}
 RepeatsUnwanted proto before (mark ∷ marks) (item ∷ items) =
-    (is_ok (asked_by proto.site item) ≡ false → mark.revision ≡ before)
+    (is_wanted proto.site item ≡ false → mark.revision ≡ before)
     × RepeatsUnwanted proto mark.revision marks items
 
 -- the revisions of the requests that a collection is looked at for
@@ -95,7 +93,7 @@ unfoldable pub wanted_revisions : Proto → List Mark → List Item → List ℕ
 wanted_revisions proto [] items = []
 wanted_revisions proto (mark ∷ marks) [] = []
 wanted_revisions proto (mark ∷ marks) (item ∷ items) =
-    if is_ok (asked_by proto.site item)
+    if is_wanted proto.site item
     then mark.revision ∷ wanted_revisions proto marks items
     else wanted_revisions proto marks items
 
@@ -134,12 +132,12 @@ pub record WritesReplies (call : LinkCall) : Type 0 where
   pub said : call.stop ≡ stops.Ended ends.NoMemory → (farewell ≡ no_memory_reply) ⊎ HasFailed call
 
 -- there is one look for each request that a collection is looked at for, in order, at its revision; where memory ran
--- out one more may follow
+-- out one more may follow, at all that was seen
 pub record LooksOnce (call : LinkCall) : Type 0 where
   pub more : List ℕ
   pub looks_are : call.looks_after
       ≡ call.looks ++ wanted_revisions call.proto call.trail (items_of call) ++ more
-  pub at_most_one : length more ≤ 1
+  pub at_most_one : (more ≡ []) ⊎ (more ≡ length call.seen_after ∷ [])
   pub only_short : call.stop ≢ stops.Ended ends.NoMemory → more ≡ []
   pub repeats : RepeatsUnwanted call.proto (length call.seen) call.trail (items_of call)
 
@@ -164,13 +162,22 @@ pub record AnswersAll (call : LinkCall) : Type 0 where
   pub goes_on : (place : ℕ) (item : Item) → slice_get (items_of call) place ≡ Some item
       → is_last item (number_at call place) ≡ false
 
--- as many replies were written as were asked for, none of them a connection's last; the session rests, and holds what
--- comes after the requests that were answered
+-- a reply was due: a request that was read has none, fewer were written than were asked for, and none of them was a
+-- connection's last
+pub record LacksReply (call : LinkCall) : Type 0 where
+  pub unanswered : length call.trail < length (items_of call)
+  pub few : length call.trail < call.most
+  pub goes_on : (place : ℕ) (item : Item) → place < length call.trail → slice_get (items_of call) place ≡ Some item
+      → is_last item (number_at call place) ≡ false
+
+-- as many replies were written as were asked for, none of them a connection's last; the session rests, and holds the
+-- bytes after the heads that were answered, which read as what comes after them
 pub record HasEnough (call : LinkCall) : Type 0 where
   pub all : length call.trail ≡ call.most
   pub goes_on : (place : ℕ) (item : Item) → place < length call.trail → slice_get (items_of call) place ≡ Some item
       → is_last item (number_at call place) ≡ false
   pub rests : IsAtRest call.session_after
+  pub held_is : held_bytes call.session_after ≡ bytes_after call.most (input_of call)
   pub left : ReadsTo (input_of call) (take call.most (items_of call)) (held_bytes call.session_after)
   pub counted : call.session_after.before ≡ call.session.before + call.most
 
@@ -183,7 +190,7 @@ unfoldable pub EndsBy : LinkCall → End → Type 0
 EndsBy call ends.Closed = InputEnds call ends.Closed
 EndsBy call (ends.Cut left) = InputEnds call (ends.Cut left)
 EndsBy call ends.LinkFault = HasFailed call
-EndsBy call ends.NoMemory = Unit {0}
+EndsBy call ends.NoMemory = LacksReply call
 EndsBy call end = EndsAfterReply call end
 
 -- the call stops so only where this holds

@@ -1,5 +1,5 @@
 //! The body that a target asks for.
-ghost use Rattle.std.specs.Prelude.{◌≡◌, ◌++◌, All, IfOk, Some, codes, length};
+ghost use Rattle.std.specs.Prelude.{◌≡◌, ◌<◌, ◌^◌, ◌++◌, All, IfOk, Some, codes, length};
 ghost use Rattle.fm_base.specs.Answer.{Answers};
 ghost use Rattle.fm_model.specs.Rows as views;
 ghost use Rattle.fm_dataset.specs.Declarations.{decls_of};
@@ -70,8 +70,8 @@ fn projected_of(alloc: Global, decls: &[Decl], target: &Target) -> Result<Projec
 fn text_body(alloc: Global, kind: BodyKind, text: Bytes) -> Result<Body, Fail<DapFault>>
     ensures { Answers (within_limit (text_body kind text)) result }
 {
-    let len = text.len() as u64;
-    if len > MAX_BODY {
+    let len = text.len() as u128;
+    if len > MAX_BODY as u128 {
         return Err(Fail::Fault(DapFault::TooLarge {
             len,
             limit: MAX_BODY,
@@ -118,35 +118,32 @@ fn attributes_asked(
 ) -> Result<Body, Fail<DapFault>>
     ensures { Answers (attributes_asked edition.now.proto edition.now.files target.now) result }
 {
+    // A view without rows has no attributes either.
     let _count = count_rows(alloc, edition, target)?;
     let mut text = Bytes::new(alloc);
     das_text_of(alloc, edition.proto().get(), &target.view, &mut text)?;
     text_body(alloc, BodyKind::Attributes, text)
 }
 
-// A body that is data, within the limit. Where its length doesn't fit 64 bits, memory is said to have run out.
+// A body that is data, within the limit.
 fn data_body(front: Bytes, source: Dataset, sent: List<Sent>) -> Result<Body, Fail<DapFault>>
-    requires { All (IsSentOf source) sent }
+    requires sent { All (IsSentOf source) sent }
+    requires few { length sent < 2 ^ 28 }
     ensures { Answers (within_limit (record {
       kind = Kind.Data;
       bytes = record { front = front; source = Some source; sent = sent };
     })) result }
 {
-    let Some(behind) = data_len(&source, sent.as_slice()) else {
-        return Err(Fail::NoMemory);
-    };
-    let begin = front.len() as u64;
-    if behind > u64::MAX - begin {
-        return Err(Fail::NoMemory);
-    }
+    let behind = data_len(&source, sent.as_slice());
+    let begin = front.len() as u128;
     let len = behind + begin;
-    if len > MAX_BODY {
+    if len > MAX_BODY as u128 {
         return Err(Fail::Fault(DapFault::TooLarge {
             len,
             limit: MAX_BODY,
         }));
     }
-    let bytes = Plan::with_data(front, source, sent, len);
+    let bytes = Plan::with_data(front, source, sent, len as u64);
     Ok(Body {
         kind: BodyKind::Data,
         bytes,
@@ -159,6 +156,7 @@ fn data_asked(alloc: Global, edition: &Edition, target: &Target) -> Result<Body,
     ensures { Answers (data_asked edition.now.proto edition.now.files target.now) result }
 {
     let source = dataset_asked(alloc, edition, target)?;
+    // Few parts are sent, and each is one of the dataset, since the prototype is that of a file.
     let _proto = source.proto();
     let projected = projected_of(alloc, source.decls().as_slice(), target)?;
     let mut front = structure_of(alloc, target, &projected)?;

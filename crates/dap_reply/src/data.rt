@@ -1,5 +1,5 @@
 //! The data of all parts that are sent of a dataset, one after the other.
-ghost use Rattle.std.specs.Prelude.{◌≡◌, ◌^◌, ◌<◌, drop, length, take, All, IfSome};
+ghost use Rattle.std.specs.Prelude.{◌≡◌, ◌^◌, ◌<◌, drop, length, take, All};
 ghost use Rattle.dap_xdr.specs.Content.{data_of, part_data};
 ghost use Rattle.dap_xdr.specs.Datasets.{content_of};
 ghost use Rattle.dap_xdr.specs.Overlay.{IsPut};
@@ -9,20 +9,18 @@ use dap_model::Sent;
 use dap_xdr::{lent, xdr_len, xdr_piece};
 use fm_dataset::Dataset;
 
-// How many bytes the data takes, where 64 bits hold that.
-pub(crate) fn data_len(source: &Dataset, sent: &[Sent]) -> Option<u64>
-    requires { All (IsSentOf source.now) sent.now }
-    ensures { IfSome result (λ len. len ≡ length (data_of (content_of source.now) sent.now)) }
+// How many bytes the data takes.
+pub(crate) fn data_len(source: &Dataset, sent: &[Sent]) -> u128
+    requires sent { All (IsSentOf source.now) sent.now }
+    requires few { length sent.now < 2 ^ 28 }
+    ensures exact { result ≡ length (data_of (content_of source.now) sent.now) }
+    ensures small { result < 2 ^ 126 }
 {
-    let mut len: u64 = 0;
+    let mut len: u128 = 0;
     for part in sent {
-        let more = xdr_len(source, part);
-        if more > u128::from(u64::MAX - len) {
-            return None;
-        }
-        len += more as u64;
+        len += xdr_len(source, part);
     }
-    Some(len)
+    len
 }
 
 // How many bytes the data of a part takes.

@@ -16,7 +16,7 @@ pub enum DapFault {
     /// The target.
     Path(PathFault),
     /// The body of the reply would have more bytes than the limit.
-    TooLarge { len: u64, limit: u64 },
+    TooLarge { len: u128, limit: u64 },
     /// The method is neither GET nor HEAD.
     Method,
     /// The request has a body.

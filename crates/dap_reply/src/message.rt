@@ -115,12 +115,21 @@ fn put_path(alloc: Global, fault: PathFault, out: &mut Bytes) -> Result<(), NoMe
     }
 }
 
+// Writes some words and a number that 64 bits may not hold.
+fn put_long(alloc: Global, words: &[u8], number: u128, out: &mut Bytes) -> Result<(), NoMemory>
+    ensures { OnOk result (out.new ≡ out.old ++ (words.now ++ decimal number)) }
+{
+    let digits = number.to_string(alloc)?;
+    out.append(words)?;
+    out.append(digits.as_bytes())
+}
+
 // Writes what is said of a body that is too large.
 #[tactic(auto, unfolding(crate::specs::Fault::fault_message))]
-fn put_too_large(alloc: Global, len: u64, limit: u64, out: &mut Bytes) -> Result<(), NoMemory>
+fn put_too_large(alloc: Global, len: u128, limit: u64, out: &mut Bytes) -> Result<(), NoMemory>
     ensures { OnOk result (out.new ≡ out.old ++ fault_message (DapFault.TooLarge len limit)) }
 {
-    put_numbered(alloc, b"body of ", len, out)?;
+    put_long(alloc, b"body of ", len, out)?;
     put_numbered(alloc, b" bytes is over ", limit, out)
 }
 

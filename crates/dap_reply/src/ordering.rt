@@ -2,7 +2,7 @@
 ghost use Rattle.std.specs.Prelude.{◌≡◌, IfOk};
 ghost use Rattle.fm_base.specs.Answer.{Answers};
 ghost use Rattle.dap_reply.specs.Order.{item_by, order_of};
-ghost use Rattle.dap_reply.specs.Reply.{asked_by, has_head_alone, target_asked};
+ghost use Rattle.dap_reply.specs.Reply.{target_wanted, has_head_alone, target_asked};
 
 use crate::fault::DapFault;
 use crate::wanted::{Dap, Order};
@@ -33,14 +33,14 @@ fn target_asked(
 }
 
 // What an item asks for, or the first fault for which no collection is looked at.
-#[tactic(auto, unfolding(crate::specs::Reply::asked_by))]
-fn asked_by(
+#[tactic(auto, unfolding(crate::specs::Reply::target_wanted))]
+fn target_wanted(
     alloc: Global,
     asked: Asked,
     target: &[u8],
     site: &Site,
 ) -> Result<Target, Fail<DapFault>>
-    ensures { Answers (asked_by site.now (item_by asked target.now)) result }
+    ensures { Answers (target_wanted site.now (item_by asked target.now)) result }
 {
     match asked {
         Asked::BadHead => Err(Fail::Fault(DapFault::BadHead)),
@@ -73,7 +73,7 @@ pub fn order(
     ensures { IfOk result (λ order. order ≡ order_of site.now (item_by asked target.now) last) }
 {
     let head = has_head_alone(asked, target);
-    match asked_by(alloc, asked, target, site) {
+    match target_wanted(alloc, asked, target, site) {
         Ok(target) => Ok(Order::Wanted(Dap { target, head, last })),
         Err(Fail::Fault(fault)) => Ok(Order::Refused { fault, head, last }),
         Err(Fail::NoMemory) => Err(NoMemory),

@@ -1,5 +1,5 @@
 //! The bytes of a reply, of which the data stays in the files.
-ghost use Rattle.std.specs.Prelude.{◌≡◌, ◌≤◌, ◌-◌, ◌++◌, All, IfOk, Some, drop, length, min, take};
+ghost use Rattle.std.specs.Prelude.{◌≡◌, ◌<◌, ◌≤◌, ◌^◌, ◌-◌, ◌++◌, All, IfOk, Some, drop, length, min, take};
 ghost use Rattle.dap_xdr.specs.Overlay.{overlay};
 ghost use Rattle.dap_reply.specs.Parts.{bytes_of, ready, IsSentOf};
 
@@ -10,6 +10,14 @@ use fm_base::{Bytes, List, NoMemory};
 use fm_dataset::Dataset;
 use std::alloc::Global;
 use std::marker::Model;
+
+// How many bytes stand ready. A list in memory has fewer than 2^63.
+fn ready_len(front: &Bytes) -> u64
+    ensures exact { result ≡ length front.now }
+    ensures small { result < 2 ^ 63 }
+{
+    front.items.len() as u64
+}
 
 /// The bytes of a reply: those before the first byte of its data, and what is sent of a dataset behind them. It holds
 /// the files that it needs, and no data.
@@ -53,6 +61,7 @@ impl Plan {
     pub(crate) fn with_data(front: Bytes, source: Dataset, sent: List<Sent>, len: u64) -> Plan
         requires sent { All (IsSentOf source) sent }
         requires len { len ≡ length (bytes_of (record { front = front; source = Some source; sent = sent })) }
+        requires few { len < 2 ^ 63 }
         ensures { result ≡ record { front = front; source = Some source; sent = sent } }
     {
         Plan {
@@ -71,12 +80,9 @@ impl Plan {
           sent = self.sent;
         }) }
     {
-        let begin = front.len() as u64;
-        if self.len > u64::MAX - begin {
-            return Err(NoMemory);
-        }
-        let len = begin + self.len;
+        let data = self.len - self.front.len() as u64;
         front.append(self.front.as_slice())?;
+        let len = ready_len(&front) + data;
         Ok(Plan {
             front,
             source: self.source,
@@ -110,8 +116,8 @@ impl Plan {
         }
     }
 
-    /// Lends the longest stretch from an offset on that stands in the front or in a file as it is sent. It is a front of
-    /// the bytes from that offset on, and may be empty. It takes no memory.
+    /// Lends the longest stretch from an offset on that stands in the front or in a file as it is sent. It is a front
+    /// of the bytes from that offset on, and may be empty. It takes no memory.
     pub fn lent(&self, from: u64) -> &[u8]
         ensures { take (length result.now) (drop from (bytes_of self.now)) ≡ result.now }
     {

@@ -2,7 +2,7 @@
 ghost use Rattle.std.specs.Prelude.{◌≡◌, IfOk};
 ghost use Rattle.dap_reply.specs.Parts.{bytes_of};
 ghost use Rattle.dap_reply.specs.Planned.{answer_over, planned, refused};
-ghost use Rattle.dap_reply.specs.Reply.{head_of, refusal_of, reply_parts, reply_text};
+ghost use Rattle.dap_reply.specs.Reply.{answer_head, refusal_of, reply_parts, reply_text};
 ghost use Rattle.dap_reply.specs.Head.{head_text};
 
 use crate::asked::body_of;
@@ -39,7 +39,7 @@ fn answer_over(alloc: Global, edition: &Edition, dap: &Dap) -> Result<Answer, No
 {
     match body_of(alloc, edition, &dap.target) {
         Ok(body) => Ok(Answer {
-            status: Status::Accepted,
+            status: Status::Fine,
             body,
         }),
         Err(Fail::Fault(fault)) => refusal_of(alloc, &fault),
@@ -48,8 +48,8 @@ fn answer_over(alloc: Global, edition: &Edition, dap: &Dap) -> Result<Answer, No
 }
 
 // The head of the reply with an answer.
-fn head_of(alloc: Global, answer: &Answer, revision: u64, last: bool) -> Result<Bytes, NoMemory>
-    ensures { IfOk result (λ text. text ≡ head_text (head_of answer.now revision last)) }
+fn answer_head(alloc: Global, answer: &Answer, revision: u64, last: bool) -> Result<Bytes, NoMemory>
+    ensures { IfOk result (λ text. text ≡ head_text (answer_head answer.now revision last)) }
 {
     let mut text = Bytes::new(alloc);
     let head = Head {
@@ -74,7 +74,7 @@ fn reply(
 ) -> Result<Plan, NoMemory>
     ensures { IfOk result (λ plan. plan ≡ reply_parts answer revision head last) }
 {
-    let text = head_of(alloc, &answer, revision, last)?;
+    let text = answer_head(alloc, &answer, revision, last)?;
     if head {
         return Ok(Plan::ready(alloc, text));
     }
@@ -83,8 +83,6 @@ fn reply(
 
 /// The reply to a request over an edition that `revision` operations left (ESE-RFC-004; RFC 9112): the head, and the
 /// body but to HEAD, with the data left in the files. The body is what is asked for, or says the first fault.
-///
-/// Memory is said to have run out, too, where a reply had 2^64 bytes or more.
 #[tactic(auto, unfolding(crate::specs::Planned::planned), using(crate::proofs::ReplyLemmas::parts))]
 pub fn plan(alloc: Global, edition: &Edition, revision: u64, dap: &Dap) -> Result<Plan, NoMemory>
     ensures parts { IfOk result (λ plan. plan ≡ planned edition.now revision dap.now) }

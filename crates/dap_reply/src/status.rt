@@ -5,7 +5,7 @@ ghost use Rattle.dap_reply.specs.Kind.{status_text};
 /// What the first line of a reply says (RFC 9110, status codes).
 #[derive(Clone, Copy, Debug, PartialEq, Eq)]
 pub enum Status {
-    Accepted,
+    Fine,
     BadRequest,
     NotFound,
     NotAllowed,
@@ -20,7 +20,7 @@ impl Status {
         ensures { result.now ≡ status_text self }
     {
         match self {
-            Status::Accepted => b"200 OK",
+            Status::Fine => b"200 OK",
             Status::BadRequest => b"400 Bad Request",
             Status::NotFound => b"404 Not Found",
             Status::NotAllowed => b"405 Method Not Allowed",

@@ -1,5 +1,5 @@
 //! How many bytes a part takes as XDR.
-ghost use Rattle.std.specs.Prelude.{◌≡◌, ◌≢◌, ◌+◌, [], IsSomeAnd, length};
+ghost use Rattle.std.specs.Prelude.{◌≡◌, ◌≢◌, ◌+◌, ◌^◌, ◌<◌, [], IsSomeAnd, length};
 ghost use Rattle.dap_model.specs.declared.declaration.DapKind.{DapKind};
 ghost use Rattle.dap_model.specs.Xdr.{elements_len};
 ghost use Rattle.dap_xdr.specs.Content.{array_data, array_in, part_data, FitsArray};
@@ -17,7 +17,8 @@ fn texts_len<S: Source>(source: &S, part: &Part, index: &mut [u64]) -> u128
     requires source { IsOf (S.content source.now) part.now }
     requires text { part.now.array.kind ≡ DapKind.Text }
     requires index { length index.old ≡ length part.now.sent.slabs }
-    ensures { result ≡ length (texts_of (S.content source.now) part.now) }
+    ensures exact { result ≡ length (texts_of (S.content source.now) part.now) }
+    ensures small { result < 2 ^ 98 }
 {
     let mut len = 4;
     for place in 0..part.count() {
@@ -30,7 +31,8 @@ fn texts_len<S: Source>(source: &S, part: &Part, index: &mut [u64]) -> u128
 
 // How many bytes `count` numbers of an array take, with their counts.
 fn numbers_len(kind: DapKind, count: u64) -> u128
-    ensures { result ≡ 8 + elements_len kind count }
+    ensures exact { result ≡ 8 + elements_len kind count }
+    ensures small { result < 2 ^ 98 }
 {
     8 + (u128::from(count) * u128::from(element_len(kind)) + 3) / 4 * 4
 }
@@ -53,7 +55,8 @@ fn many_len<S: Source>(source: &S, sent: &Sent, array: &Array) -> u128
     requires source { IsOf (S.content source.now) (record { sent = sent.now; array = array.now }) }
     requires portion { IsPortion (record { sent = sent.now; array = array.now }) }
     requires many { sent.now.slabs ≢ [] }
-    ensures { result ≡ length (array_data (S.content source.now) sent.now array.now) }
+    ensures exact { result ≡ length (array_data (S.content source.now) sent.now array.now) }
+    ensures small { result < 2 ^ 98 }
 {
     let part = Part::new(sent, array);
     match array.kind {
@@ -70,7 +73,10 @@ fn many_len<S: Source>(source: &S, sent: &Sent, array: &Array) -> u128
 /// has a part of the source with slabs that fit it. An array of texts costs a walk over its texts.
 pub fn xdr_len<S: Source>(source: &S, sent: &Sent) -> u128
     requires { IsSomeAnd (array_in (S.content source.now).decls sent.now.decl sent.now.part) (FitsArray sent.now) }
-    ensures { result ≡ length (part_data (S.content source.now) sent.now) }
+    ensures exact { result ≡ length (part_data (S.content source.now) sent.now) }
+
+    // An array has fewer than 2^64 elements, and a text fewer than 2^32 bytes.
+    ensures small { result < 2 ^ 98 }
 {
     let array = array_of(source, sent);
     if sent.slabs.is_empty() {

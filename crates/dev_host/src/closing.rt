@@ -14,8 +14,8 @@ pub const DROPPED_AT_MOST: usize = 65_536;
 const LINGER: u64 = 1;
 
 /// Ends a connection so that what was put last reaches the peer. The write side is closed first, and what still comes
-/// is read and dropped until the peer closes its side too. Were a socket closed with bytes unread, the system would send
-/// a reset, which can destroy a reply that is on its way. Failures here are ignored.
+/// is read and dropped until the peer closes its side too. Were a socket closed with bytes unread, the system would
+/// send a reset, which can destroy a reply that is on its way. Failures here are ignored.
 pub(crate) fn end<S: Read + OpenStream, C: rt::Clock>(clock: &C, stream: &mut S) {
     let _ = stream.shutdown(Shutdown::Write);
     if let Ok(now) = Instant::now(clock) {

@@ -1,8 +1,6 @@
 -- What a process does with its words before a run.
 use Rattle.std.specs.Prelude.{ℕ, List, [], ◌∷◌, codes, Bool, true, false}
 use Rattle.std.specs.Str.{bytes_eq}
-use Rattle.fm_base.specs.declared.fail.Fail.{Fail}
-use Rattle.fm_base.specs.declared.fail.Fail.TheVariants.{NoMemory, Fault}
 use Rattle.dev_std.specs.declared.sink.StdStream.{StdStream}
 use Rattle.dev_std.specs.declared.sink.StdStream.TheVariants.{Output, Errors}
 
@@ -15,8 +13,3 @@ names_once (first ∷ more) = bytes_eq first (codes "once")
 abbrev pub is_errors : StdStream → Bool
 is_errors (Output output) = false
 is_errors (Errors errors) = true
-
--- the exit status of a process whose words couldn't be read: memory ran out, or a word isn't text
-abbrev pub unread_status : {E : Type 0} → Fail E → ℕ
-unread_status NoMemory = 4
-unread_status (Fault e) = 2

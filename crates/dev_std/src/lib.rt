@@ -10,7 +10,7 @@ mod process;
 mod sink;
 mod stream;
 
-pub use args::{NotText, words};
+pub use args::words;
 pub use content::read_to_end;
 pub use files::{RealFiles, read_file};
 pub use link::{StdLink, StreamLink};

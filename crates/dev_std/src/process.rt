@@ -1,21 +1,21 @@
-//! How a process ends where its words can't be read.
+//! How a process ends that has no memory for its words.
 ghost use Rattle.std.specs.Prelude.{◌≡◌};
 ghost use Rattle.std.specs.Process.{exit_status};
-ghost use Rattle.dev_std.specs.Process.{unread_status};
 
-use crate::args::NotText;
-use fm_base::Fail;
 use std::process::ExitCode;
+use std::rt::Env;
 
-/// Ends a process whose words couldn't be read: its line goes to standard error, where that takes it. The exit status
-/// is 4 where memory ran out, and else 2.
-pub fn unread(rt: &impl Eprint, fail: Fail<NotText>) -> ExitCode
-    ensures { exit_status result ≡ unread_status fail }
+/// Ends a process that has no memory for its words, with the exit status 4. Its line goes where the report of a run
+/// would go: to standard error where the first word is `once`, and else to standard output.
+pub fn unread<R: Env + Print + Eprint>(rt: &R) -> ExitCode
+    ensures { exit_status result ≡ 4 }
 {
-    let (status, line) = match fail {
-        Fail::NoMemory => (4u8, "no memory"),
-        Fail::Fault(_) => (2, "bad words"),
+    let mut first = [0; 4];
+    let names_once = matches!(rt.arg(1, &mut first), Ok(4)) && first == *b"once";
+    let _ = if names_once {
+        rt.eprintln("no memory")
+    } else {
+        rt.println("no memory")
     };
-    let _ = rt.eprintln(line);
-    ExitCode::from(status)
+    ExitCode::from(4)
 }

@@ -1,5 +1,5 @@
-//! The outside as traits: files that are read, links to a peer, sinks for reports, and what a server is given beside them:
-//! doors through which links come, inboxes in which files arrive, clocks, gates, and what opens them.
+//! The outside as traits: files that are read, links to a peer, sinks for reports, and what a server is given beside
+//! them: doors through which links come, inboxes in which files arrive, clocks, gates, and what opens them.
 #![tactic(auto)]
 
 mod clock;

@@ -73,6 +73,10 @@ pub fn put_load_fault(fault: &LoadFault, out: &mut String) -> Result<(), NoMemor
     match fault {
         LoadFault::MissingVariable(name) => put_named("no variable ", name.as_slice(), out),
         LoadFault::VariableDiffers(name) => put_named("other form of ", name.as_slice(), out),
+        LoadFault::AttributeDiffers { name, attribute } => {
+            put_named("other ", attribute.as_slice(), out)?;
+            put_named(" of ", name.as_slice(), out)
+        }
         LoadFault::GridDiffers {
             name,
             byte,

@@ -18,20 +18,42 @@ pub fn answer(alloc: Global, files: &[File], row: &Row<'_>) -> Result<Option<Str
     let Some(bytes) = content(alloc, files, row.value("collection").unwrap_or(""))? else {
         return Ok(None);
     };
-    let mut edition = match edition_of(alloc, Bytes::copy_of(alloc, bytes.as_slice())?) {
-        Ok(edition) => edition,
-        Err(Fail::NoMemory) => return Err(NoMemory),
-        Err(Fail::Fault(_)) => return Ok(None),
-    };
+    match edition_of(alloc, Bytes::copy_of(alloc, bytes.as_slice())?) {
+        Ok(mut edition) => after_all(alloc, &mut edition, files, row),
+        Err(Fail::NoMemory) => Err(NoMemory),
+        Err(Fail::Fault(_)) => Ok(None),
+    }
+}
+
+// Does the operations of a row, and says what is held then.
+fn after_all(
+    alloc: Global,
+    edition: &mut Edition,
+    files: &[File],
+    row: &Row<'_>,
+) -> Result<Option<String>, NoMemory> {
     for field in row.fields.as_slice() {
-        if is_operation(field) {
-            edition = match after(alloc, &edition, files, field)? {
-                Some(edition) => edition,
-                None => return Ok(None),
-            };
+        if is_operation(field) && !goes_on(alloc, edition, files, field)? {
+            return Ok(None);
         }
     }
-    Ok(Some(text_of(alloc, &edition)?))
+    Ok(Some(text_of(alloc, edition)?))
+}
+
+// Does the operation of a field, if it is one that can be done.
+fn goes_on(
+    alloc: Global,
+    edition: &mut Edition,
+    files: &[File],
+    field: &Field<'_>,
+) -> Result<bool, NoMemory> {
+    match after(alloc, edition, files, field)? {
+        Some(next) => {
+            *edition = next;
+            Ok(true)
+        }
+        None => Ok(false),
+    }
 }
 
 fn is_operation(field: &Field<'_>) -> bool {

@@ -18,16 +18,19 @@ fn put_fault(fault: FormatFault, out: &mut String) -> Result<(), NoMemory> {
 
 /// Appends how many bytes a record takes, and where the parts of each variable lie.
 pub fn put_layout(alloc: Global, bytes: &[u8], out: &mut String) -> Result<(), NoMemory> {
-    let file = match read_sound(alloc, bytes) {
-        Ok(file) => file,
-        Err(Fail::NoMemory) => return Err(NoMemory),
-        Err(Fail::Fault(fault)) => return put_fault(fault, out),
-    };
+    match read_sound(alloc, bytes) {
+        Ok(file) => put_places(&file, out),
+        Err(Fail::NoMemory) => Err(NoMemory),
+        Err(Fail::Fault(fault)) => put_fault(fault, out),
+    }
+}
+
+fn put_places(file: &FileView<'_>, out: &mut String) -> Result<(), NoMemory> {
     write!(out, "{} bytes a record", file.layout().recsize())?;
     for (number, var) in file.header().vars.as_slice().iter().enumerate() {
         out.push('\n')?;
         put_shown(var.name.as_slice(), out)?;
-        put_parts(&file, number as u32, out)?;
+        put_parts(file, number as u32, out)?;
     }
     Ok(())
 }
@@ -45,20 +48,34 @@ fn put_parts(file: &FileView<'_>, number: u32, out: &mut String) -> Result<(), N
 
 /// Appends the elements of each variable.
 pub fn put_elements(alloc: Global, bytes: &[u8], out: &mut String) -> Result<(), NoMemory> {
-    let file = match read_sound(alloc, bytes) {
-        Ok(file) => file,
-        Err(Fail::NoMemory) => return Err(NoMemory),
-        Err(Fail::Fault(fault)) => return put_fault(fault, out),
-    };
+    match read_sound(alloc, bytes) {
+        Ok(file) => put_all_elements(alloc, &file, out),
+        Err(Fail::NoMemory) => Err(NoMemory),
+        Err(Fail::Fault(fault)) => put_fault(fault, out),
+    }
+}
+
+fn put_all_elements(alloc: Global, file: &FileView<'_>, out: &mut String) -> Result<(), NoMemory> {
     for (number, var) in file.header().vars.as_slice().iter().enumerate() {
         if number > 0 {
             out.push('\n')?;
         }
         put_shown(var.name.as_slice(), out)?;
         out.push_str(": ")?;
-        let mut elements = Bytes::new(alloc);
-        file.append_elements(number as u32, &mut elements)?;
-        put_hex(elements.as_slice(), out)?;
+        put_elements_of(alloc, file, number as u32, out)?;
     }
     Ok(())
+}
+
+fn put_elements_of(
+    alloc: Global,
+    file: &FileView<'_>,
+    number: u32,
+    out: &mut String,
+) -> Result<(), NoMemory>
+    requires { number < length file.now.layout.header.vars }
+{
+    let mut elements = Bytes::new(alloc);
+    file.append_elements(number, &mut elements)?;
+    Ok(put_hex(elements.as_slice(), out)?)
 }

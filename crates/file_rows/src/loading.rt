@@ -17,21 +17,31 @@ pub fn answer(alloc: Global, files: &[File], row: &Row<'_>) -> Result<Option<Str
     if !row.has_only(&["load", "called", "over", "epoch", "cuts"]) {
         return Ok(None);
     }
-    let (Some(bytes), Some(over), Some(epoch)) = (
-        content(alloc, files, row.value("load").unwrap_or(""))?,
-        content(alloc, files, row.value("over").unwrap_or("A.nc"))?,
-        epoch_of(row.value("epoch")),
-    ) else {
+    let Some(over) = content(alloc, files, row.value("over").unwrap_or("A.nc"))? else {
         return Ok(None);
     };
-    let called = row.value("called").unwrap_or("gfs_20240101_0000.nc");
+    let Some(epoch) = epoch_of(row.value("epoch")) else {
+        return Ok(None);
+    };
     match prototype(alloc, over.as_slice(), epoch) {
-        Ok(proto) => {
-            Question::Load(&proto, called).asked(alloc, bytes.as_slice(), row.value("cuts"))
-        }
+        Ok(proto) => loaded(alloc, files, &proto, row),
         Err(Fail::NoMemory) => Err(NoMemory),
         Err(Fail::Fault(_)) => Ok(None),
     }
+}
+
+// What comes of the file of a row over a prototype.
+fn loaded(
+    alloc: Global,
+    files: &[File],
+    proto: &Proto,
+    row: &Row<'_>,
+) -> Result<Option<String>, NoMemory> {
+    let Some(bytes) = content(alloc, files, row.value("load").unwrap_or(""))? else {
+        return Ok(None);
+    };
+    let called = row.value("called").unwrap_or("gfs_20240101_0000.nc");
+    Question::Load(proto, called).asked(alloc, bytes.as_slice(), row.value("cuts"))
 }
 
 fn epoch_of(words: Option<&str>) -> Option<i64> {

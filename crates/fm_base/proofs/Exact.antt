@@ -67,6 +67,39 @@ pub bind_ok : {A B E : Type 0} (r : Outcome A E) (f : A → Parser B E) (y : B �
 bind_ok (Ok x) f y e = (x, refl, e)
 bind_ok (Err fault) f y e = absurd cc
 
+-- one text and then the other, which were taken
+pub took_then : {A B : Type 0} {S : List ℕ → A → Type 0} {T : A → List ℕ → B → Type 0} {i j k : Input} {a : A} {b : B}
+    → Took S i a j → Took (T a) j b k → Took (Then S T) i b k
+took_then {k = k} {a = a} first second = record {
+  text = first.text ++ second.text;
+  spelled = record {
+    a = a;
+    front = first.text;
+    back = second.text;
+    first = first.spelled;
+    second = second.spelled;
+    text_is = refl;
+  };
+  split = first.split ∙ onto first.text second.split ∙ sym (append_assoc first.text second.text k.rest);
+  offset = omega (arith, first.offset, second.offset, length-append first.text second.text);
+}
+
+-- one text and then the other, which are read again
+pub again_then : {A B E : Type 0} {S : List ℕ → A → Type 0} {T : A → List ℕ → B → Type 0} (p : Parser A E)
+    (q : A → Parser B E) (at : ℕ) (text rest : List ℕ) (b : B) (s : Then S T text b)
+    → p (input at (s.front ++ (s.back ++ rest))) ≡ Ok (s.a, input (at + length s.front) (s.back ++ rest))
+    → q s.a (input (at + length s.front) (s.back ++ rest)) ≡ Ok (b, input (at + length s.front + length s.back) rest)
+    → (p >>= q) (input at (text ++ rest)) ≡ Ok (b, input (at + length text) rest)
+again_then {A} {B} {E} p q at text rest b s first second =
+    let whole : text ++ rest ≡ s.front ++ (s.back ++ rest) = ap (λ (l : List ℕ). l ++ rest) s.text_is
+    ∙ append_assoc s.front s.back rest in
+    let len : at + length s.front + length s.back ≡ at + length text =
+    omega (arith, ap length s.text_is, length-append s.front s.back) in
+    ap (λ (l : List ℕ). and_then (p (input at l)) q) whole
+    ∙ ap (λ (r : Outcome A E). and_then r q) first
+    ∙ second
+    ∙ ap (λ (n : ℕ). Ok (b, input n rest)) len
+
 -- one parser and then another, which may count on what the first has read
 pub ExactOn-then : {A B E : Type 0} {Of : List ℕ → Type 0} {S : List ℕ → A → Type 0} {T : A → List ℕ → B → Type 0}
     {P Q : List ℕ → Type 0}
@@ -74,40 +107,19 @@ pub ExactOn-then : {A B E : Type 0} {Of : List ℕ → Type 0} {S : List ℕ →
     → ((a : A) (front : List ℕ) → S front a → ExactOn Of (T a) Q (q a))
     → ((a : A) (b : B) (back rest : List ℕ) → T a back b → Q rest → P (back ++ rest))
     → ExactOn Of (Then S T) Q (p >>= q)
-ExactOn-then {A} {B} {E} {Of} {S} {T} {P} {Q} {p} {q} parts ep eq follows = record {
+ExactOn-then {Of = Of} {T = T} {p = p} {q = q} parts ep eq follows = record {
   takes = λ i b k of e.
       let x = bind_ok (p i) q (b, k) e in
       let first = ep.takes i x.0.0 x.0.1 of x.1 in
       let left = parts.back first.text x.0.1.rest (subst Of first.split of) in
-      let second = (eq x.0.0 first.text first.spelled).takes x.0.1 b k left x.2 in
-      record {
-        text = first.text ++ second.text;
-        spelled = record {
-          a = x.0.0;
-          front = first.text;
-          back = second.text;
-          first = first.spelled;
-          second =
-              second.spelled;
-          text_is = refl;
-        };
-        split = first.split ∙ onto first.text second.split ∙ sym (append_assoc first.text second.text k.rest);
-        offset = omega (arith, first.offset, second.offset, length-append first.text second.text);
-      };
+      took_then {T = T} first ((eq x.0.0 first.text first.spelled).takes x.0.1 b k left x.2);
   again = λ at text rest b s may.
-      let whole : text ++ rest ≡ s.front ++ (s.back ++ rest) = ap (λ (l : List ℕ). l ++ rest) s.text_is
-      ∙ append_assoc s.front s.back rest in
-      let first = ep.again at s.front (s.back ++ rest) s.a s.first (follows s.a b s.back rest s.second may) in
-      let second = (eq s.a s.front s.first).again (at + length s.front) s.back rest b s.second may in
-      let len : at + length s.front + length s.back ≡ at + length text =
-      omega (arith, ap length s.text_is, length-append s.front s.back) in
-      ap (λ (l : List ℕ). and_then (p (input at l)) q) whole
-      ∙ ap (λ (r : Outcome A E). and_then r q) first
-      ∙ second
-      ∙ ap (λ (n : ℕ). Ok (b, input n rest)) len;
+      again_then p q at text rest b s
+      (ep.again at s.front (s.back ++ rest) s.a s.first (follows s.a b s.back rest s.second may))
+      ((eq s.a s.front s.first).again (at + length s.front) s.back rest b s.second may);
 }
 
-IsOfParts-anything : IsOfParts Anything
+pub IsOfParts-anything : IsOfParts Anything
 IsOfParts-anything = record { front = λ xs ys any. tt; back = λ xs ys any. tt }
 
 -- one parser and then another

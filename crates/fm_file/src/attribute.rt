@@ -1,6 +1,7 @@
 //! Attributes and their texts.
 ghost use Rattle.std.specs.Prelude.{◌≡◌, MatchOption, None, Some};
-ghost use Rattle.fm_model.specs.Attribute.{attr_text, has_text, is_char, text_of, trimmed};
+ghost use Rattle.fm_model.specs.Attribute.{attr_named, attr_text, has_text, is_char, text_of, trimmed};
+ghost use Rattle.fm_model.specs.Variable.{is_same_kind};
 
 use nc_model::{Attr, Kind};
 
@@ -9,6 +10,13 @@ pub fn is_char(kind: Kind) -> bool
     ensures { result ≡ is_char kind }
 {
     matches!(kind, Kind::Char)
+}
+
+/// Whether two kinds are the same.
+pub fn is_same_kind(kind: Kind, other: Kind) -> bool
+    ensures { result ≡ is_same_kind kind other }
+{
+    kind == other
 }
 
 /// Some bytes without the zero bytes at their end.
@@ -35,6 +43,20 @@ pub(crate) fn attr_text(attr: &Attr) -> Option<&[u8]>
     }
 }
 
+// The first attribute of this name.
+pub(crate) fn attr_named<'a>(attrs: &'a [Attr], name: &[u8]) -> Option<&'a Attr>
+    ensures { MatchOption result
+        (attr_named attrs.now name.now ≡ None)
+        (λ attr. attr_named attrs.now name.now ≡ Some attr.now) }
+{
+    for attr in attrs {
+        if attr.name.as_slice() == name {
+            return Some(attr);
+        }
+    }
+    None
+}
+
 /// The text of the first attribute of this name.
 #[tactic(auto, unfolding(fm_model::specs::Attribute::text_of))]
 pub fn text_of<'a>(attrs: &'a [Attr], name: &[u8]) -> Option<&'a [u8]>
@@ -42,12 +64,10 @@ pub fn text_of<'a>(attrs: &'a [Attr], name: &[u8]) -> Option<&'a [u8]>
         (text_of attrs.now name.now ≡ None)
         (λ text. text_of attrs.now name.now ≡ Some text.now) }
 {
-    for attr in attrs {
-        if attr.name.as_slice() == name {
-            return attr_text(attr);
-        }
+    match attr_named(attrs, name) {
+        None => None,
+        Some(attr) => attr_text(attr),
     }
-    None
 }
 
 /// Whether the first attribute of this name has this text.

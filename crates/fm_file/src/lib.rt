@@ -3,10 +3,12 @@
 #![tactic(auto)]
 
 mod attribute;
+mod packing;
 mod sound;
 mod variable;
 
-pub use attribute::{has_text, is_char, text_of, trimmed};
+pub use attribute::{has_text, is_char, is_same_kind, text_of, trimmed};
+pub use packing::have_same;
 pub use sound::read_sound;
 pub use variable::{
     axis_of, dim_of_axis, is_coordinate, lies_along, reference_number, reference_of,

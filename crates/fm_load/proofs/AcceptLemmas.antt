@@ -30,6 +30,7 @@ use Rattle.fm_model.specs.LoadAxis.{fault_of_load, file_axis, file_header, file_
 use Rattle.fm_model.specs.LoadTimes.{file_run, file_times, from_epoch, is_instant, run_by, run_by_name, run_in_range, seconds_at, time_at, time_count, time_in_range, times_from, IsInstant}
 use Rattle.fm_model.specs.LoadVars.{file_slot, is_like_fixed, is_like_timed, same_bytes, same_grid, slot_in}
 use Rattle.fm_load.specs.Accepted.{IsAccepted}
+use Rattle.fm_model.specs.Packing.{same_packing}
 use Rattle.fm_model.specs.Variable.{dim_of_axis, is_coordinate, reference_of, var_named}
 use Rattle.fm_model.proofs.LoadLemmas.{taken}
 
@@ -148,12 +149,15 @@ all_times-accepted site bytes header axis units times pairs each =
 -- a variable like that of the prototype has a slot
 pub slot-accepted : (proto : Proto) (header : FileHeader) (axis : NcVar) (wanted : ProtoVar) (var : NcVar)
     → var_named header wanted.name ≡ Some var → is_like_timed proto header axis wanted var ≡ true
-    → file_slot proto header axis wanted ≡ Ok (slot_in header axis var)
+    → same_packing wanted var ≡ Ok tt → file_slot proto header axis wanted ≡ Ok (slot_in header axis var)
 unfolding file_slot
-slot-accepted proto header axis wanted var named like =
+slot-accepted proto header axis wanted var named like packed =
     ap (λ found. found >>= λ (var : NcVar). refuse_if (not (is_like_timed proto header axis wanted var))
-    (VariableDiffers wanted.name) >> Ok (slot_in header axis var)) (var-accepted header wanted.name var named)
-    ∙ ap (λ good. refuse_if (not good) (VariableDiffers wanted.name) >> Ok (slot_in header axis var)) like
+    (VariableDiffers wanted.name) >> (same_packing wanted var >> Ok (slot_in header axis var)))
+    (var-accepted header wanted.name var named)
+    ∙ ap (λ good. refuse_if (not good) (VariableDiffers wanted.name)
+    >> (same_packing wanted var >> Ok (slot_in header axis var))) like
+    ∙ ap (λ check. check >> Ok (slot_in header axis var)) packed
 
 nat_eq-same : (n : ℕ) → nat_eq n n ≡ true
 nat_eq-same n = grind (arith, nat_tests)

@@ -3,22 +3,15 @@ ghost use Rattle.std.specs.Prelude.{◌≡◌, nat_eq, slice_index};
 ghost use Rattle.std.specs.List.{common_prefix_len};
 ghost use Rattle.fm_base.specs.Answer.{Answers};
 ghost use Rattle.fm_model.specs.LoadVars as spec;
-ghost use Rattle.fm_model.specs.Variable.{is_same_kind};
 
 use crate::axis::file_var;
 use crate::lengths::same_lengths;
 use fm_base::{Bytes, Fail};
+use fm_file::is_same_kind;
 use fm_model::{LoadFault, Proto, ProtoVar};
 use nc_array::FileView;
-use nc_model::{Header, Kind, NcVar};
+use nc_model::{Header, NcVar};
 use std::alloc::Global;
-
-// Whether two kinds are the same.
-pub(crate) fn is_same_kind(kind: Kind, other: Kind) -> bool
-    ensures { result ≡ is_same_kind kind other }
-{
-    kind == other
-}
 
 // Whether a coordinate variable is like the prototype's: the same kind and lengths.
 #[tactic(auto, unfolding(fm_model::specs::LoadVars::is_like_fixed))]

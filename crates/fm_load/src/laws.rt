@@ -16,6 +16,7 @@ ghost use Rattle.fm_model.specs.Load.{load_of};
 ghost use Rattle.fm_model.specs.LoadAxis.{file_axis, file_header};
 ghost use Rattle.fm_model.specs.LoadTimes as times;
 ghost use Rattle.fm_model.specs.LoadVars as vars;
+ghost use Rattle.fm_model.specs.Packing.{same_packing};
 ghost use Rattle.fm_model.specs.Variable.{dim_of_axis, is_coordinate, reference_of, var_named};
 ghost use Rattle.fm_load.specs.Accepted.{IsAccepted};
 
@@ -60,11 +61,13 @@ pub fn times_that_differ_are_accepted()
         → times.file_times site bytes header axis units (length instants) ≡ Ok instants }
 {}
 
-/// A variable that is like the prototype's is accepted, and a coordinate variable with the same elements.
+/// A variable that is like the prototype's and packed like it is accepted, and a coordinate variable with the same
+/// elements.
 pub fn variables_like_the_prototypes_are_accepted()
     ensures slot { (proto : Proto) (header : FileHeader) (axis : NcVar) (wanted : ProtoVar) (var : NcVar) →
         var_named header wanted.name ≡ Some var
         → vars.is_like_timed proto header axis wanted var ≡ true
+        → same_packing wanted var ≡ Ok tt
         → vars.file_slot proto header axis wanted ≡ Ok (vars.slot_in header axis var) }
     ensures grid { (proto : Proto) (bytes : List ℕ) (header : FileHeader) (wanted : ProtoVar) (var : NcVar) →
         var_named header wanted.name ≡ Some var

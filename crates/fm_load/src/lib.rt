@@ -6,6 +6,7 @@ mod grid;
 pub mod laws;
 mod lengths;
 mod loading;
+mod packing;
 mod run;
 mod slots;
 mod times;

@@ -16,8 +16,8 @@ use std::alloc::Global;
 /// Takes a file of this name with these bytes into a collection over a prototype, or returns the first fault: 1 to 14
 /// of the format, 15 to 17 of units of time, 45 no time of the run, 46 a time that isn't a whole number of seconds, 47
 /// one out of range, 48 one that stands twice, 49 a variable that is missing, 50 one that differs, 51 a coordinate
-/// variable with other elements, 52 no times, 53 too many times, 54 and 55 a time of the run that isn't whole, or out of
-/// range.
+/// variable with other elements, 52 no times, 53 too many times, 54 and 55 a time of the run that isn't whole, or out
+/// of range, 57 another unit, packing or missing value of a variable.
 ///
 /// The bytes become the file's content and are never copied. Only the header, the times and the coordinate variables
 /// are read (NetCDF Classic Format Specification; CF Conventions; THREDDS Data Server, Forecast Model Run Collections).

@@ -8,10 +8,11 @@ ghost use Rattle.fm_model.specs.Variable.{dim_of_axis, stands_first_alone};
 ghost use Rattle.nc_layout.specs.Places.{IsVar};
 
 use crate::axis::{Axis, file_var};
-use crate::grid::{is_same_kind, same_grid};
+use crate::grid::same_grid;
 use crate::lengths::{others, same_lengths};
+use crate::packing::same_packing;
 use fm_base::{Bytes, Fail, List};
-use fm_file::{dim_of_axis, is_coordinate, stands_first_alone};
+use fm_file::{dim_of_axis, is_coordinate, is_same_kind, stands_first_alone};
 use fm_model::{LoadFault, Proto, ProtoVar, Slot};
 use nc_array::FileView;
 use nc_layout::names_record_dim;
@@ -79,6 +80,7 @@ fn file_slot(
         let name = Bytes::copy_of(alloc, name)?;
         return Err(Fail::Fault(LoadFault::VariableDiffers(name)));
     }
+    same_packing(alloc, wanted, var)?;
     Ok(slot_in(file, axis, number, var))
 }
 

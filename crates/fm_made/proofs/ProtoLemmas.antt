@@ -6,7 +6,7 @@ use Rattle.nc_model.specs.declared.header.NcVar.{NcVar}
 use Rattle.nc_model.specs.Layout.{elements_of}
 use Rattle.fm_base.specs.Name.{is_name_byte}
 use Rattle.fm_model.specs.Attribute.{attr_text, has_text, text_of, trimmed}
-use Rattle.fm_model.specs.Prototype.{dims_have_lengths, fault_of_proto, is_char_per_time, is_plain_name, is_reference, kept_vars, names_are_free, names_are_plain, offset_name, proto_axis, proto_header, proto_of, proto_var, proto_with as kept_of, run_name, time_stands_first}
+use Rattle.fm_model.specs.Prototype.{dims_have_lengths, fault_of_proto, is_bounds, is_char_per_time, is_plain_name, is_reference, kept_vars, names_are_free, names_are_plain, offset_name, proto_axis, proto_header, proto_of, proto_var, proto_with as kept_of, run_name, time_stands_first}
 use Rattle.fm_model.specs.Variable.{axis_of, has_standard_name, is_axis, is_coordinate, is_named, lies_along, reference_of, stands_first_alone}
 use Rattle.fm_model.specs.declared.proto.Proto.{Proto}
 use Rattle.fm_model.specs.declared.proto.ProtoFault.{ProtoFault}
@@ -25,8 +25,8 @@ steps_after bytes site header = proto_axis header >>= λ (axis : NcVar).
 
 kept : (bytes : List ℕ) (site : Site) → steps_after bytes site made_header
     ≡ Ok (proto_with site (elements_of bytes made_header lat_var) (elements_of bytes made_header lon_var))
-unfolding attr_text has_text text_of trimmed dims_have_lengths is_char_per_time is_plain_name is_reference kept_vars
-    names_are_free names_are_plain offset_name proto_axis proto_var kept_of run_name time_stands_first axis_of
+unfolding attr_text has_text text_of trimmed dims_have_lengths is_bounds is_char_per_time is_plain_name is_reference
+    kept_vars names_are_free names_are_plain offset_name proto_axis proto_var kept_of run_name time_stands_first axis_of
     has_standard_name is_axis is_coordinate is_named lies_along reference_of stands_first_alone is_name_byte
 kept bytes site = refl
 

@@ -8,7 +8,7 @@ use Rattle.nc_model.specs.Layout.{product, record_size, vsize}
 use Rattle.nc_model.specs.Reading.{names_record_dim}
 use Rattle.nc_model.specs.Stamp.{mark_of}
 use Rattle.nc_model.specs.Units.{is_before_gregorian, is_gregorian, is_proleptic, in_calendar, units_of}
-use Rattle.nc_model.specs.UnitsReading.{end_at, byte_at, letter_at, many_at, some_at, number_at, is_same_word, is_second, is_minute, is_hour, is_day, seconds_per, unit_at, date_at, fraction_at, second_at, time_of_day_at, zone_minute_at, distance_at, zone_at, last_zone_at, clock_at, after_date_at, units_at, written_or_fault}
+use Rattle.nc_model.specs.UnitsReading.{end_at, byte_at, letter_at, many_at, some_at, digits_at, number_at, is_same_word, is_second, is_minute, is_hour, is_day, seconds_per, unit_at, day_at, dashed_day_at, joined_day_at, after_year_at, date_at, fraction_at, second_at, past_hour_at, time_of_day_at, colon_minute_at, zone_minute_at, shift_at, zone_after, distance_at, zone_at, last_zone_at, clock_at, after_date_at, units_at, written_or_fault}
 use Rattle.fm_model.specs.Attribute.{attr_text, has_text, text_of, trimmed}
 use Rattle.fm_model.specs.Computed.{day_count, days_from_civil, days_of_months, days_of_years}
 use Rattle.fm_model.specs.declared.loaded.LoadFault.{LoadFault}
@@ -20,6 +20,7 @@ use Rattle.fm_model.specs.declared.site.Site.{Site}
 use Rattle.fm_model.specs.Load.{load_of}
 use Rattle.fm_model.specs.LoadTimes.{file_run, file_units, from_epoch, time_at, IsInstant}
 use Rattle.fm_model.specs.LoadVars.{file_slots, is_compared, is_like_fixed, is_like_timed, slot_in, slots_after, steps_from}
+use Rattle.fm_model.specs.Packing.{have_same, same_attr, same_packing}
 use Rattle.fm_model.specs.Prototype.{proto_of}
 use Rattle.fm_model.specs.Variable.{has_standard_name, is_coordinate, is_named, lies_along, reference_of, stands_first_alone, var_named}
 use Rattle.fm_load.proofs.AcceptLemmas.{all_times-accepted, axis-accepted, count-accepted, file-accepted, grid-accepted, header-accepted, run-accepted, slot-accepted, time-accepted}
@@ -57,9 +58,10 @@ no_reference = refl
 
 units_are : file_units time_var ≡ Ok made_units
 unfolding day_number is_before_gregorian is_gregorian is_proleptic in_calendar units_of end_at byte_at letter_at many_at
-    some_at number_at is_same_word is_second is_minute is_hour is_day seconds_per unit_at date_at fraction_at second_at
-    time_of_day_at zone_minute_at distance_at zone_at last_zone_at clock_at after_date_at units_at written_or_fault
-    attr_text text_of trimmed file_units day_count days_from_civil days_of_months days_of_years
+    some_at digits_at number_at is_same_word is_second is_minute is_hour is_day seconds_per unit_at
+    day_at dashed_day_at joined_day_at after_year_at date_at fraction_at second_at past_hour_at time_of_day_at
+    colon_minute_at zone_minute_at distance_at shift_at zone_at zone_after last_zone_at clock_at after_date_at units_at
+    written_or_fault attr_text text_of trimmed file_units day_count days_from_civil days_of_months days_of_years
 units_are = refl
 
 like_lat : (site : Site) → is_like_fixed (made_proto site) made_header (fixed_of lat_var (steps_text 8)) lat_var ≡ true
@@ -73,6 +75,10 @@ like_lon site = refl
 like_v : (site : Site) → is_like_timed (made_proto site) made_header time_var (timed_of v_var) v_var ≡ true
 unfolding is_like_timed stands_first_alone lies_along
 like_v site = refl
+
+packed_v : same_packing (timed_of v_var) v_var ≡ Ok tt
+unfolding same_packing same_attr have_same
+packed_v = refl
 
 slot_is : slot_in made_header time_var v_var ≡ v_slot
 unfolding slot_in product record_size vsize names_record_dim
@@ -97,7 +103,7 @@ module _ (site : Site) (seed k : ℕ) where
   v_step : step [] (timed_of v_var) ≡ Ok (v_slot ∷ [])
   unfolding slots_after
   v_step = ap (λ found. found >>= λ (slot : Slot). Ok (slot ∷ []))
-      (slot-accepted (made_proto site) made_header time_var (timed_of v_var) v_var named_v (like_v site))
+      (slot-accepted (made_proto site) made_header time_var (timed_of v_var) v_var named_v (like_v site) packed_v)
       ∙ ap (λ (slot : Slot). Ok (slot ∷ [])) slot_is
 
   compared : file_slots (made_proto site) (made_file seed k) made_header time_var ≡ steps_from step

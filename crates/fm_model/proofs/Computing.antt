@@ -8,7 +8,7 @@ use Rattle.nc_model.specs.Reading.{names_record_dim, word, long_word, count, pad
 use Rattle.nc_model.specs.Sound.{sound_header}
 use Rattle.nc_model.specs.Stamp.{stamp_form, stamp_of, mark_of}
 use Rattle.nc_model.specs.Units.{is_proleptic, is_gregorian, is_before_gregorian, in_calendar, units_of}
-use Rattle.nc_model.specs.UnitsReading.{end_at, byte_at, letter_at, many_at, some_at, number_at, is_same_word, is_second, is_minute, is_hour, is_day, seconds_per, unit_at, date_at, fraction_at, second_at, time_of_day_at, zone_minute_at, distance_at, zone_at, last_zone_at, clock_at, after_date_at, units_at, written_or_fault}
+use Rattle.nc_model.specs.UnitsReading.{end_at, byte_at, letter_at, many_at, some_at, digits_at, number_at, is_same_word, is_second, is_minute, is_hour, is_day, seconds_per, unit_at, day_at, dashed_day_at, joined_day_at, after_year_at, date_at, fraction_at, second_at, past_hour_at, time_of_day_at, colon_minute_at, zone_minute_at, shift_at, zone_after, distance_at, zone_at, last_zone_at, clock_at, after_date_at, units_at, written_or_fault}
 use Rattle.fm_model.specs.Attribute.{attr_text, has_text, text_of, trimmed}
 use Rattle.fm_model.specs.Cell.{best, cell, has_cell, has_least_offset, has_time, is_usable, place_of_time, runs_of, times_of, times_of_run}
 use Rattle.fm_model.specs.Collection.{after_op, coll, kept_from, without}
@@ -17,7 +17,8 @@ use Rattle.fm_model.specs.Load.{load_of}
 use Rattle.fm_model.specs.LoadAxis.{file_header, file_var, file_axis}
 use Rattle.fm_model.specs.LoadTimes.{file_units, seconds_at, is_instant, run_in_range, is_one_number, run_by_variable, run_by_name, file_run, time_count, time_in_range, time_at, times_from, file_times}
 use Rattle.fm_model.specs.LoadVars.{is_like_timed, slot_in, file_slot, is_like_fixed, same_bytes, same_grid, is_compared, slots_after, steps_from, file_slots, slotted_vars}
-use Rattle.fm_model.specs.Prototype.{is_char_per_time, is_reference, kept_vars, proto_var, proto_with, dims_have_lengths, is_plain_name, names_are_free, names_are_plain, offset_name, run_name, time_stands_first, proto_header, proto_axis, proto_of}
+use Rattle.fm_model.specs.Packing.{said_by, is_same_attr, have_same, same_attr, same_packing}
+use Rattle.fm_model.specs.Prototype.{is_bounds, is_char_per_time, is_reference, kept_vars, proto_var, proto_with, dims_have_lengths, is_plain_name, names_are_free, names_are_plain, offset_name, run_name, time_stands_first, proto_header, proto_axis, proto_of}
 use Rattle.fm_model.specs.Rising.{insert_once, rising}
 use Rattle.fm_model.specs.Rows.{best_row, row_at, rows}
 use Rattle.fm_model.specs.Variable.{axis_of, has_standard_name, is_axis, is_coordinate, is_named, reference_of, lies_along, stands_first_alone, var_named}
@@ -52,8 +53,8 @@ variables = tt
 -- the prototype of a file
 unfoldable pub prototypes : Unit {0}
 unfolding
-    is_char_per_time is_reference kept_vars proto_var proto_with dims_have_lengths is_plain_name names_are_free
-    names_are_plain offset_name run_name time_stands_first proto_header proto_axis proto_of
+    is_bounds is_char_per_time is_reference kept_vars proto_var proto_with dims_have_lengths is_plain_name
+    names_are_free names_are_plain offset_name run_name time_stands_first proto_header proto_axis proto_of
 prototypes = tt
 
 -- the mark in a name
@@ -66,9 +67,10 @@ stamps = tt
 unfoldable pub units : Unit {0}
 unfolding
     day_number moment_of is_proleptic is_gregorian is_before_gregorian in_calendar units_of end_at byte_at letter_at
-    many_at some_at number_at is_same_word is_second is_minute is_hour is_day seconds_per unit_at date_at
-    fraction_at second_at time_of_day_at zone_minute_at distance_at zone_at last_zone_at clock_at after_date_at
-    units_at written_or_fault count_trailing_zeros day_count days_from_civil days_of_months days_of_years
+    many_at some_at digits_at number_at is_same_word is_second is_minute is_hour is_day seconds_per unit_at day_at
+    dashed_day_at joined_day_at after_year_at date_at fraction_at second_at past_hour_at time_of_day_at colon_minute_at
+    zone_minute_at distance_at shift_at zone_at zone_after last_zone_at clock_at after_date_at units_at
+    written_or_fault count_trailing_zeros day_count days_from_civil days_of_months days_of_years
 units = tt
 
 -- a file that is loaded over a prototype
@@ -77,6 +79,7 @@ unfolding
     load_of file_header file_var file_axis file_units seconds_at is_instant run_in_range is_one_number
     run_by_variable run_by_name file_run time_count time_in_range time_at times_from file_times is_like_timed
     slot_in file_slot is_like_fixed same_bytes same_grid is_compared slots_after steps_from file_slots slotted_vars
+    said_by is_same_attr have_same same_attr same_packing
 loads = tt
 
 -- a collection after its operations

@@ -1,10 +1,12 @@
 -- Names and lengths that a prototype keeps are those of its header.
-use Rattle.std.proofs.Common.{◌≡◌, ℕ, ◌<◌, ◌*◌, Bool, true, false, List, [], ◌∷◌, map, Option, Some, None, cond, length, refl, sym, ap, ap₂, subst, ◌∙◌, inl, inr}
+use Rattle.std.proofs.Common.{◌≡◌, ◌≢◌, ℕ, ◌<◌, ◌*◌, Bool, true, false, not, ◌||◌, List, [], ◌∷◌, codes, map, Option, Some, None, cond, length, refl, sym, ap, ap₂, subst, ◌∙◌, inl, inr}
 use Rattle.std.specs.Prelude.{All, filter, slice_get}
 use Rattle.std.specs.List.{AllByRecursion, IsDistinct}
 use Rattle.std.specs.Option.{option_map, option_map_or}
 use Rattle.std.specs.Str.{bytes_eq}
+use Rattle.std.proofs.lemmas.Bool.{both_ways}
 use Rattle.std.proofs.lemmas.Option.{slice_get-map}
+use Rattle.std.proofs.lemmas.Slice.Eq.{bytes_eq-Decides}
 use Rattle.nc_model.specs.declared.header.Dim.{Dim}
 use Rattle.nc_model.specs.declared.header.Header.{Header as FileHeader}
 use Rattle.nc_model.specs.declared.header.NcVar.{NcVar}
@@ -13,9 +15,10 @@ use Rattle.nc_model.specs.Layout.{product, size_at, size_in}
 use Rattle.nc_model.specs.Spelling.{AreDistinct}
 use Rattle.fm_model.specs.declared.proto.ProtoVar.{ProtoVar}
 use Rattle.fm_model.specs.declared.site.Site.{Site}
-use Rattle.fm_model.specs.Prototype.{kept_vars, proto_var, with_length, proto_with, lengths_of, HasElements}
+use Rattle.fm_model.specs.Attribute.{has_text, text_of}
+use Rattle.fm_model.specs.Prototype.{is_bounds, is_char_per_time, is_kept, is_reference, kept_vars, proto_var, with_length, proto_with, lengths_of, HasElements}
 use Rattle.nc_model.proofs.EndLaws.{EndsWithin, length-elements_of}
-use Rattle.fm_model.proofs.Members.{In, Each-from_in, All-from_each}
+use Rattle.fm_model.proofs.Members.{In, Each-from_in, All-from_each, in_filter}
 
 -- lengths change no name
 pub dim_names : (header : FileHeader) (dims : List Dim)
@@ -96,3 +99,58 @@ pub has_elements : (bytes : List ℕ) (site : Site) (header : FileHeader) (axis 
 unfolding proto_var
 has_elements bytes site header axis var ends untimed = rw untimed (length-elements_of bytes header var ends
     ∙ ap (λ (l : List ℕ). size_of var.kind * product l) (sym (lengths_kept bytes site header axis var.dims)))
+
+-- a variable of bounds isn't kept, unless it is the axis
+not_kept : (header : FileHeader) (axis var : NcVar) → is_bounds axis var ≡ true → bytes_eq var.name axis.name ≡ false
+    → is_kept header axis var ≡ false
+not_kept header axis var bounds other =
+    rw (other, bounds) (none (is_reference header var) (is_char_per_time axis var))
+  where
+    none : (a b : Bool) → (false || not (a || b || true)) ≡ false
+    none true b = refl
+    none false true = refl
+    none false false = refl
+
+named_out : (header : FileHeader) (axis : NcVar) (name : List ℕ)
+    → ((var : NcVar) → var.name ≡ name → is_bounds axis var ≡ true) → name ≢ axis.name
+    → All (λ (var : NcVar). var.name ≢ name) (kept_vars header axis)
+unfolding kept_vars
+named_out header axis name bounds other =
+    All-from_each (λ (var : NcVar). var.name ≢ name) (kept_vars header axis)
+    (Each-from_in (λ (var : NcVar). var.name ≢ name) (kept_vars header axis) (λ var held same.
+    both_ways (is_kept header axis var)
+    (not_kept header axis var (bounds var same) (apart (bytes_eq var.name axis.name) (λ is.
+    other (sym same ∙ (bytes_eq-Decides var.name axis.name).0 is))))
+    (in_filter (is_kept header axis) var header.vars held).1))
+  where
+    apart : (b : Bool) → (b ≡ true → ⊥) → b ≡ false
+    apart true differs = absurd (differs refl)
+    apart false differs = refl
+
+text_there : (name other : List ℕ) (found : Option (List ℕ)) → found ≡ Some name → other ≡ name
+    → option_map_or (bytes_eq other) found false ≡ true
+text_there name other found is same =
+    ap (λ o. option_map_or (bytes_eq other) o false) is ∙ (bytes_eq-Decides other name).1 same
+
+-- the views leave out what the axis names as its bounds
+pub bounds_left_out : (header : FileHeader) (axis : NcVar) (name : List ℕ)
+    → text_of axis.attrs (codes "bounds") ≡ Some name → name ≢ axis.name
+    → All (λ (var : NcVar). var.name ≢ name) (kept_vars header axis)
+unfolding is_bounds has_text
+bounds_left_out header axis name said other = named_out header axis name (λ var same.
+    ap (λ b. b || has_text axis.attrs (codes "climatology") var.name)
+    (text_there name var.name (text_of axis.attrs (codes "bounds")) said same)) other
+
+-- and as its climatology
+pub climatology_left_out : (header : FileHeader) (axis : NcVar) (name : List ℕ)
+    → text_of axis.attrs (codes "climatology") ≡ Some name → name ≢ axis.name
+    → All (λ (var : NcVar). var.name ≢ name) (kept_vars header axis)
+unfolding is_bounds has_text
+climatology_left_out header axis name said other = named_out header axis name (λ var same.
+    ap (λ b. has_text axis.attrs (codes "bounds") var.name || b)
+    (text_there name var.name (text_of axis.attrs (codes "climatology")) said same)
+    ∙ or_true (has_text axis.attrs (codes "bounds") var.name)) other
+  where
+    or_true : (b : Bool) → (b || true) ≡ true
+    or_true true = refl
+    or_true false = refl

@@ -13,6 +13,7 @@ pub mod KeptLemmas
 pub mod LastLemmas
 pub mod LoadLemmas
 pub mod Members
+pub mod PackingLemmas
 pub mod PlaceLemmas
 pub mod ProtoLemmas
 pub mod RetractLemmas

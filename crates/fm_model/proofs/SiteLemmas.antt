@@ -9,7 +9,7 @@ use Rattle.nc_model.specs.Reading.{word, long_word, count, padded, name_at, kind
 use Rattle.fm_model.specs.Attribute.{trimmed, attr_text, text_of, has_text}
 use Rattle.fm_model.specs.Computed.{chars, is_utf8, encode_utf8}
 use Rattle.nc_model.specs.Sound.{sound_header}
-use Rattle.fm_model.specs.Prototype.{proto_header, proto_axis, time_stands_first, is_plain_name, names_are_plain, is_reference, is_char_per_time, kept_vars, run_name, offset_name, names_are_free, dims_have_lengths, proto_var, proto_with, proto_of}
+use Rattle.fm_model.specs.Prototype.{is_bounds, proto_header, proto_axis, time_stands_first, is_plain_name, names_are_plain, is_reference, is_char_per_time, kept_vars, run_name, offset_name, names_are_free, dims_have_lengths, proto_var, proto_with, proto_of}
 use Rattle.fm_model.specs.Variable.{is_named, is_coordinate, has_standard_name, is_axis, axis_of, lies_along, stands_first_alone, reference_of, var_named}
 use Rattle.fm_model.specs.declared.proto.Proto.{Proto}
 use Rattle.fm_model.specs.Example.{site}
@@ -34,9 +34,9 @@ unfolding is_name_text has_name has_record_dim is_name_byte product vsize record
     elements_of first_too_large first_outside layout_fault word long_word count padded name_at kind_at items_from tag_at
     list_count list_at dim_size dim_at attr_at rank_at names_record_dim dim_id_at begin_at var_at version_at numrecs_at
     header_at header_or_fault trimmed attr_text text_of has_text chars is_utf8 encode_utf8 sound_header proto_header
-    proto_axis time_stands_first is_plain_name names_are_plain is_reference is_char_per_time kept_vars run_name
-    offset_name names_are_free dims_have_lengths proto_var proto_with proto_of is_named is_coordinate has_standard_name
-    is_axis axis_of lies_along stands_first_alone reference_of var_named
+    proto_axis time_stands_first is_plain_name names_are_plain is_bounds is_reference is_char_per_time kept_vars
+    run_name offset_name names_are_free dims_have_lengths proto_var proto_with proto_of is_named is_coordinate
+    has_standard_name is_axis axis_of lies_along stands_first_alone reference_of var_named
 made_a = refl
 
 length_a : length file_a ≡ 352

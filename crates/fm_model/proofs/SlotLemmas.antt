@@ -19,11 +19,13 @@ use Rattle.fm_base.specs.Chain.{◌>>=◌, ◌>>◌, refuse_if}
 use Rattle.fm_model.specs.Load.{Fits}
 use Rattle.fm_model.specs.LoadAxis.{file_header, file_axis, file_var}
 use Rattle.fm_model.specs.LoadVars.{lengths_of, is_like_timed, slot_in, file_slot, same_grid, is_compared, slots_after, steps_from, file_slots, slotted_vars, IsSlotOf}
+use Rattle.fm_model.specs.Packing.{same_packing, HaveSamePacking}
 use Rattle.fm_model.specs.Variable.{are_same, dim_of_axis, is_coordinate, is_same_kind, stands_first_alone}
 use Rattle.fm_base.proofs.ChainLemmas.{step_ok, refuse_if_ok, check_ok, same_Ok}
 use Rattle.fm_model.proofs.LoadLemmas.{IsTaken, IsTaken-load_of}
 use Rattle.fm_model.proofs.Members.{Each, Each-in, Each-from_in, All-from_each, In-filter}
 use Rattle.fm_model.proofs.GridLemmas.{IsGridBegun, IsGridBegun-same_grid, same_kind}
+use Rattle.fm_model.proofs.PackingLemmas.{HaveSamePacking-same_packing}
 
 -- a slot that was found is that of its variable
 IsSlotOf-file_slot : (proto : Proto) (header : FileHeader) (axis : NcVar) (wanted : ProtoVar) (slot : Slot)
@@ -31,10 +33,11 @@ IsSlotOf-file_slot : (proto : Proto) (header : FileHeader) (axis : NcVar) (wante
 unfolding file_slot is_like_timed
 IsSlotOf-file_slot proto header axis wanted slot e =
     let var = step_ok (file_var header wanted.name)
-    (λ v. refuse_if (not (is_like_timed proto header axis wanted v)) (VariableDiffers wanted.name) >> Ok
-    (slot_in header axis v)) slot e in
+    (λ v. refuse_if (not (is_like_timed proto header axis wanted v)) (VariableDiffers wanted.name)
+    >> (same_packing wanted v >> Ok (slot_in header axis v))) slot e in
     let passed = refuse_if_ok (not (is_like_timed proto header axis wanted var.0)) (VariableDiffers wanted.name)
-    (Ok (slot_in header axis var.0)) slot var.2 in
+    (same_packing wanted var.0 >> Ok (slot_in header axis var.0)) slot var.2 in
+    let packed = check_ok (same_packing wanted var.0) (Ok (slot_in header axis var.0)) slot passed.1 in
     let kind : Bool = is_same_kind wanted.kind var.0.kind in
     let along : Bool = stands_first_alone (dim_of_axis axis) var.0.dims in
     let lengths : Bool = are_same (drop 1 (lengths_of proto wanted.dims)) (drop 1 (shape_of header var.0)) in
@@ -47,7 +50,8 @@ IsSlotOf-file_slot proto header axis wanted slot e =
       along = both.1;
       lengths = sym ((bytes_eq-Decides (drop 1 (lengths_of proto wanted.dims))
           (drop 1 (shape_of header var.0))).0 like.1);
-      slot_is = sym (same_Ok {E = LoadFault} (slot_in header axis var.0) slot passed.1);
+      packing = HaveSamePacking-same_packing wanted var.0 packed.0;
+      slot_is = sym (same_Ok {E = LoadFault} (slot_in header axis var.0) slot packed.1);
     }
 
 AllZip-push : {A B : Type 0} (R : A → B → Type 0) (as' : List A) (bs : List B) (a : A) (b : B) → AllZip R as' bs → R a b
@@ -212,6 +216,29 @@ slots_each file proto header axis fits e d =
     let a : t.axis ≡ axis = same_Ok {E = LoadFault} t.axis axis (sym t.axis_is ∙ ap (file_axis proto) h ∙ d) in
     subst (λ x. AllZip (IsSlotOf proto x axis) (slotted_vars proto) file.slots) h
     (subst (λ y. AllZip (IsSlotOf proto t.header y) (slotted_vars proto) file.slots) a (slots_taken file proto t))
+
+-- what holds of each item that is related to another
+each_of_zip : {A B : Type 0} (R : A → B → Type 0) (P : A → Type 0) → ((a : A) (b : B) → R a b → P a)
+    → (as' : List A) (bs : List B) → AllZip R as' bs → Each P as'
+each_of_zip R P of [] bs zip = tt
+each_of_zip R P of (a ∷ as') [] zip = absurd zip
+each_of_zip R P of (a ∷ as') (b ∷ bs) zip = (of a b zip.0, each_of_zip R P of as' bs zip.1)
+
+-- the numbers of a file that fits are read as the prototype's
+pub slots_packed : (file : Loaded) (proto : Proto) (header : FileHeader) → Fits file proto
+    → file_header file.content ≡ Ok header
+    → All (λ (wanted : ProtoVar). (var : NcVar) → file_var header wanted.name ≡ Ok var
+    → HaveSamePacking wanted.attrs var.attrs) (slotted_vars proto)
+slots_packed file proto header fits e =
+    let t = IsTaken-load_of file.name file.content proto file fits in
+    let Packed : ProtoVar → Type 0 = λ (wanted : ProtoVar). (var : NcVar) → file_var header wanted.name ≡ Ok var
+    → HaveSamePacking wanted.attrs var.attrs in
+    All-from_each Packed (slotted_vars proto) (each_of_zip (IsSlotOf proto header t.axis) Packed
+    (λ wanted slot is var named. subst (λ (v : NcVar). HaveSamePacking wanted.attrs v.attrs)
+    (same_Ok {E = LoadFault} is.var var (sym is.named ∙ named)) is.packing)
+    (slotted_vars proto) file.slots
+    (slots_each file proto header t.axis fits e
+    (ap (λ h. file_axis proto h) (same_Ok {E = LoadFault} header t.header (sym e ∙ t.header_is)) ∙ t.axis_is)))
 
 -- a coordinate variable but for the axis is compared
 compared : (proto : Proto) (wanted : ProtoVar) → wanted.name ≢ proto.axis

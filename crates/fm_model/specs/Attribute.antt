@@ -20,9 +20,13 @@ trimmed bytes = take (length bytes - suffix_len (λ byte. byte == 0) bytes) byte
 unfoldable pub attr_text : Attr → Option (List ℕ)
 attr_text attr = if is_char attr.kind then Some (trimmed attr.values) else None
 
+-- the first attribute of this name
+abbrev pub attr_named : List Attr → List ℕ → Option Attr
+attr_named attrs name = find (λ (attr : Attr). bytes_eq attr.name name) attrs
+
 -- the text of the first attribute of this name
 unfoldable pub text_of : List Attr → List ℕ → Option (List ℕ)
-text_of attrs name = option_and_then attr_text (find (λ (attr : Attr). bytes_eq attr.name name) attrs)
+text_of attrs name = option_and_then attr_text (attr_named attrs name)
 
 -- whether the first attribute of this name has this text
 unfoldable pub has_text : List Attr → List ℕ → List ℕ → Bool

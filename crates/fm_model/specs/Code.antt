@@ -16,7 +16,7 @@ proto_code (proto.BadProtoName name) = 43
 proto_code (proto.NameTaken name) = 44
 proto_code (proto.EmptyDimension name) = 56
 
--- the number of a fault of a file: 1 to 17 or 45 to 55
+-- the number of a fault of a file: 1 to 17, 45 to 55 or 57
 abbrev pub load_code : LoadFault → ℕ
 load_code (load.Header fault) = header_fault_code fault
 load_code (load.Layout fault) = layout_fault_code fault
@@ -32,3 +32,4 @@ load_code load.NoTimes = 52
 load_code (load.TooManyTimes n) = 53
 load_code load.RunNotWhole = 54
 load_code (load.RunRange seconds) = 55
+load_code (load.AttributeDiffers name attribute) = 57

@@ -67,6 +67,10 @@ times_header count var = record {
 abbrev pub text_attr : List ℕ → List ℕ → Attr
 text_attr name text = record { name = name; kind = Char; values = text }
 
+-- an attribute of numbers, with their bytes
+abbrev pub number_attr : List ℕ → Kind → List ℕ → Attr
+number_attr name kind values = record { name = name; kind = kind; values = values }
+
 -- the axis `time` over the record dimension
 abbrev pub record_axis : NcVar
 record_axis = record { name = codes "time"; dims = 0 ∷ []; attrs = []; kind = Int; begin = 292 }
@@ -89,6 +93,13 @@ field_header vars = record {
 -- that field as a prototype has it
 abbrev pub proto_field : ProtoVar
 proto_field = record { name = codes "t"; kind = Float; dims = 0 ∷ 1 ∷ 2 ∷ []; attrs = []; timed = true; fixed = [] }
+
+-- that field with these attributes, in a file and in a prototype
+abbrev pub packed_var : List Attr → NcVar
+packed_var attrs = record (field_var Float (0 ∷ 1 ∷ 2 ∷ [])) { attrs = attrs }
+
+abbrev pub packed_field : List Attr → ProtoVar
+packed_field attrs = record proto_field { attrs = attrs }
 
 -- the prototype of a header with that field
 abbrev pub field_proto : Proto

@@ -11,6 +11,7 @@ pub mod LoadAxis
 pub mod LoadFacts
 pub mod LoadTimes
 pub mod LoadVars
+pub mod Packing
 pub mod Prototype
 pub mod Rising
 pub mod Rows

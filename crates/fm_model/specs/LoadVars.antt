@@ -15,6 +15,7 @@ use Rattle.fm_model.specs.declared.proto.ProtoVar.{ProtoVar}
 use Rattle.fm_base.specs.Chain.{Check, ◌>>=◌, ◌>>◌, refuse_if}
 use Rattle.fm_model.specs.Variable.{are_same, is_same_kind, is_coordinate, dim_of_axis, stands_first_alone}
 use Rattle.fm_model.specs.LoadAxis.{file_var}
+use Rattle.fm_model.specs.Packing.{same_packing, HaveSamePacking}
 pub use Rattle.fm_model.specs.Prototype.{lengths_of}
 
 -- whether a variable along the axis is like the prototype's: the same kind, the file's axis first, the same other
@@ -36,6 +37,7 @@ unfoldable pub file_slot : Proto → FileHeader → NcVar → ProtoVar → Resul
 file_slot proto header axis wanted = do
   var ← file_var header wanted.name
   refuse_if (not (is_like_timed proto header axis wanted var)) (VariableDiffers wanted.name)
+  same_packing wanted var
   Ok (slot_in header axis var)
 
 -- whether a coordinate variable is like the prototype's: the same kind and lengths
@@ -82,7 +84,7 @@ unfoldable pub slotted_vars : Proto → List ProtoVar
 slotted_vars proto = filter (λ (wanted : ProtoVar). wanted.timed && not (bytes_eq wanted.name proto.axis)) proto.vars
 
 -- a slot says where the file's variable of the name of a prototype's variable lies: it is of the same kind, has the
--- file's axis first and only there, and the same lengths otherwise
+-- file's axis first and only there, and the same lengths otherwise; and its numbers are read as the prototype's
 pub record IsSlotOf (proto : Proto) (header : FileHeader) (axis : NcVar) (wanted : ProtoVar)
     (slot : Slot) : Type 0 where
   pub var : NcVar
@@ -90,6 +92,7 @@ pub record IsSlotOf (proto : Proto) (header : FileHeader) (axis : NcVar) (wanted
   pub kind_is : var.kind ≡ wanted.kind
   pub along : IsTrue (stands_first_alone (dim_of_axis axis) var.dims)
   pub lengths : drop 1 (shape_of header var) ≡ drop 1 (lengths_of proto wanted.dims)
+  pub packing : HaveSamePacking wanted.attrs var.attrs
   pub slot_is : slot ≡ slot_in header axis var
 
 -- how many bytes a variable along the axis takes at one time

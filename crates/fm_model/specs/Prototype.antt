@@ -18,7 +18,7 @@ use Rattle.fm_model.specs.declared.proto.ProtoFault.{ProtoFault}
 use Rattle.fm_model.specs.declared.proto.ProtoFault.TheVariants.{Header, Layout, NoTimeAxis, TimeNotFirst, BadProtoName, NameTaken, EmptyDimension}
 use Rattle.fm_model.specs.declared.proto.ProtoVar.{ProtoVar}
 use Rattle.fm_model.specs.declared.site.Site.{Site}
-use Rattle.fm_model.specs.Attribute.{is_char}
+use Rattle.fm_model.specs.Attribute.{has_text, is_char}
 use Rattle.fm_base.specs.Chain.{Check, ◌>>=◌, ◌>>◌, refuse, fault_as}
 use Rattle.fm_model.specs.Variable.{are_same, is_named, stands_first_alone, axis_of, dim_of_axis, lies_along, reference_of}
 
@@ -66,11 +66,15 @@ is_reference header var = option_map_or (λ (reference : NcVar). bytes_eq refere
 unfoldable pub is_char_per_time : NcVar → NcVar → Bool
 is_char_per_time axis var = is_char var.kind && are_same var.dims (dim_of_axis axis ∷ [])
 
+-- whether a variable is that of the bounds of an axis's times (CF Conventions, cell boundaries and climatology)
+unfoldable pub is_bounds : NcVar → NcVar → Bool
+is_bounds axis var = has_text axis.attrs (codes "bounds") var.name || has_text axis.attrs (codes "climatology") var.name
+
 -- whether the views show a variable: the axis, and each that is neither that of the run's time nor one of a character
--- for each time
+-- for each time nor that of the bounds of the axis
 abbrev pub is_kept : FileHeader → NcVar → NcVar → Bool
 is_kept header axis var =
-    bytes_eq var.name axis.name || not (is_reference header var || is_char_per_time axis var)
+    bytes_eq var.name axis.name || not (is_reference header var || is_char_per_time axis var || is_bounds axis var)
 
 -- the variables that the views show
 unfoldable pub kept_vars : FileHeader → NcVar → List NcVar

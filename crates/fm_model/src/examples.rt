@@ -4,6 +4,7 @@ pub mod axes;
 pub mod kept;
 pub mod limits;
 pub mod loaded_files;
+pub mod packing;
 pub mod prototype;
 pub mod prototype_files;
 pub mod sites;

@@ -5,6 +5,7 @@ pub mod cell;
 pub mod collection;
 pub mod header;
 pub mod load;
+pub mod packing;
 pub mod proto;
 pub mod rising;
 pub mod rows;

@@ -58,6 +58,11 @@ pub enum LoadFault {
     RunNotWhole,
     /// The run's time lies outside the range of instants.
     RunRange(i128),
+    /// The variable has another attribute of this name than the prototype's, or one of the two has none.
+    AttributeDiffers {
+        name: Bytes,
+        attribute: Bytes,
+    },
 }
 
 impl LoadFault {
@@ -80,6 +85,7 @@ impl LoadFault {
             LoadFault::TooManyTimes(_) => 53,
             LoadFault::RunNotWhole => 54,
             LoadFault::RunRange(_) => 55,
+            LoadFault::AttributeDiffers { .. } => 57,
         }
     }
 }

@@ -1,5 +1,6 @@
-//! The rows of the views of an edition, and the dataset of a view: of the best time series, also with a least offset, of
-//! a run, of a constant offset and of a constant forecast time (THREDDS Data Server, Forecast Model Run Collections).
+//! The rows of the views of an edition, and the dataset of a view: of the best time series, also with a least offset,
+//! of a run, of a constant offset and of a constant forecast time (THREDDS Data Server, Forecast Model Run
+//! Collections).
 #![tactic(auto)]
 
 mod counting;

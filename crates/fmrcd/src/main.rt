@@ -19,6 +19,6 @@ fn main(rt: HostRuntime) -> ExitCode {
             }
             code
         }
-        Err(fail) => unread(&rt, fail),
+        Err(_no_memory) => unread(&rt),
     }
 }

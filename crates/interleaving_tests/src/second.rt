@@ -1,37 +1,16 @@
 //! A slow second machine, by the definition: each question about a session is answered from all the bytes that it was
 //! fed.
-ghost use Rattle.std.specs.Prelude.{◌≡◌};
-
 use crate::playing::{FIRST, SECOND, Step, file_of, proto_of};
 use crate::requests::{Requests, is_last, requests_in};
 use dap_reply::{Order, Plan, order, refusal};
-use fm_base::{Arc, Bytes, NoMemory};
-use fm_edition::Edition;
+use fm_base::{Bytes, NoMemory};
 use fm_model::{Op, Proto};
-use fm_sample::File;
-use pub_look::{Look, Plain, Query};
+use fm_sample::{File, ItsProto};
+use pub_look::{Look, Plain};
 use std::alloc::Global;
 use std::process::Abort;
 use std::test::Fail;
 use web_frame::MAX_HEAD;
-
-// A question whose answer is the collection's prototype.
-struct ItsProto;
-
-impl Query for ItsProto {
-    type Out = Arc<Proto>;
-
-    ghost says = { λ _ held _ out. out ≡ held.proto };
-
-    fn answer(
-        &self,
-        _alloc: Global,
-        edition: &Edition,
-        _revision: u64,
-    ) -> Result<Arc<Proto>, NoMemory> {
-        edition.proto().share()
-    }
-}
 
 /// A session: all that it was fed and the requests in it, all replies that were begun, and how many there are.
 #[derive(Drop)]

@@ -12,5 +12,6 @@ pub mod Spelling
 pub mod Stamp
 pub mod Units
 pub mod UnitsFaults
+pub mod UnitsRanges
 pub mod UnitsReading
 pub mod UnitsSpelling

@@ -6,7 +6,7 @@ use Rattle.nc_model.specs.declared.units.UnitsFault.TheVariants.{BadUnits, Calen
 use Rattle.jiff_core.specs.Calendar.{days_from_civil}
 use Rattle.nc_model.specs.Calendar.{unix_seconds}
 use Rattle.fm_base.specs.Chain.{◌>>=◌}
-use Rattle.nc_model.specs.UnitsFaults.{GoesWrong}
+use Rattle.nc_model.specs.UnitsFaults.{GoesWrongFirst}
 use Rattle.nc_model.specs.UnitsSpelling.{SpellsUnits}
 use Rattle.nc_model.specs.UnitsReading.{Written, is_same_word, written_or_fault}
 
@@ -37,12 +37,13 @@ unfoldable pub units_of : List ℕ → Option (List ℕ) → Result Units UnitsF
 units_of text calendar = written_or_fault text >>= in_calendar calendar
 
 -- what an answer says of a text and a calendar: units are those that the text spells; a text with a bad offset spells
--- none, and goes wrong there; and a calendar is refused only beside a text that spells units
+-- none, and goes wrong there first; and a calendar is refused only beside a text that spells units
 abbrev pub Settles : List ℕ → Option (List ℕ) → Result Units UnitsFault → Type 0
-Settles text calendar (Ok units) = (written : Written) × SpellsUnits text written
+Settles text calendar (Ok units) = (written : Written) × SpellsUnits true text written
     × (in_calendar calendar written ≡ Ok units)
 Settles text calendar (Err (BadUnits offset)) =
-    GoesWrong offset text × ((written : Written) → ¬ SpellsUnits text written)
-Settles text calendar (Err Calendar) = (written : Written) × SpellsUnits text written × (is_gregorian calendar ≡ false)
-Settles text calendar (Err MixedCalendar) = (written : Written) × SpellsUnits text written
+    GoesWrongFirst offset text × ((written : Written) → ¬ SpellsUnits true text written)
+Settles text calendar (Err Calendar) = (written : Written) × SpellsUnits true text written
+    × (is_gregorian calendar ≡ false)
+Settles text calendar (Err MixedCalendar) = (written : Written) × SpellsUnits true text written
     × (is_proleptic calendar ≡ false) × (is_before_gregorian written.day ≡ true)

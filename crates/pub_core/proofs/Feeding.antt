@@ -4,7 +4,7 @@ use Rattle.std.specs.Prelude.{is_none}
 use Rattle.fm_model.specs.declared.op.Op.{Op}
 use Rattle.fm_model.specs.declared.proto.Proto.{Proto}
 use Rattle.fm_model.specs.Collection.{coll}
-use Rattle.web_frame.specs.declared.limit.TheConstants.{MAX_HEAD}
+use Rattle.web_frame.specs.Limit.{MAX_HEAD}
 use Rattle.web_frame.specs.Items.{Item}
 use Rattle.pub_core.specs.declared.event.Event.{Event}
 use Rattle.pub_core.specs.World.{is_refused_at, script_in, waits, SessionState, World}

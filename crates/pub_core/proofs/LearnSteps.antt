@@ -3,12 +3,12 @@ use Rattle.std.proofs.Common.{◌≡◌, ◌≤◌, ℕ, max, Bool, true, false,
 use Rattle.std.proofs.lemmas.Bool.{le-leb}
 use Rattle.fm_model.specs.declared.op.Op.{Op}
 use Rattle.fm_model.specs.declared.proto.Proto.{Proto}
-use Rattle.web_session.specs.State.{State}
+use Rattle.web_session.specs.State.{resting, State}
 use Rattle.dap_reply.specs.Parts.{Parts}
 use Rattle.pub_core.specs.declared.connection.Connection.{Connection}
 use Rattle.pub_core.specs.declared.event.Event.TheVariants.{Learn}
 use Rattle.pub_core.specs.Happening.{after, begun, closed, effect_of, is_last_before, is_possible_to, settled}
-use Rattle.pub_core.specs.Shown.{resting, IsShown, Stands}
+use Rattle.pub_core.specs.Shown.{IsShown, Stands}
 use Rattle.pub_core.specs.Shown.Stands.{at_end, at_rest, in_reply}
 use Rattle.pub_core.specs.World.{is_due, is_idle, items_fed, next_item, output_of, rests, script_in, SessionState}
 use Rattle.pub_core.proofs.EndSteps.{cond-same}

@@ -2,6 +2,7 @@ pub mod Apart
 pub mod ConnectionLemmas
 pub mod Delivery
 pub mod EndSteps
+pub mod FedLemmas
 pub mod Feeding
 pub mod ItemLemmas
 pub mod LearnSteps

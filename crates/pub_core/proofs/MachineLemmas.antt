@@ -3,10 +3,10 @@ use Rattle.std.proofs.Common.{◌≡◌, ◌≤◌, ◌<◌, ℕ, ◌+◌, ◌-�
 use Rattle.std.specs.Prelude.{is_some}
 use Rattle.std.proofs.lemmas.Bool.{lt-ltb, le-ltb}
 use Rattle.std.proofs.lemmas.List.{take_all}
-use Rattle.web_frame.specs.declared.limit.TheConstants.{MAX_HEAD}
+use Rattle.web_frame.specs.Limit.{MAX_HEAD}
 use Rattle.web_frame.specs.Cut.{cut_of, Cut, none_yet, whole, too_long}
 use Rattle.web_frame.specs.Items.{bad_head, head_too_long, item_of, request, Item}
-use Rattle.web_frame.specs.Stream.{held_after, held_by, held_len, next_by, next_by_item, next_of, target_of, Held}
+use Rattle.web_frame.specs.Stream.{held_after, held_by, held_len, next_by, next_by_item, next_of, target_in, Held}
 use Rattle.web_session.specs.declared.action.Action.TheVariants.{Read, Ask, Send}
 use Rattle.web_session.specs.declared.action.End.{End}
 use Rattle.web_session.specs.declared.event.Event.TheVariants.{Bytes, Answer, Sent, EndOfInput, Fault}
@@ -14,12 +14,12 @@ use Rattle.web_session.specs.declared.phase.Phase.{Phase}
 use Rattle.web_session.specs.declared.phase.Phase.TheVariants.{Waiting, Asking, Sending, Ended}
 use Rattle.web_session.specs.Event.{after_event, after_in}
 use Rattle.web_session.specs.Run.{item_asked}
-use Rattle.web_session.specs.State.{action_at, action_of, end_after, looked, phase_after, replied, replied_by, sent, State}
+use Rattle.web_session.specs.State.{action_at, action_of, end_after, looked, phase_after, replied, replied_by, sent, resting, State}
 use Rattle.web_session.proofs.LookLemmas.{held_after-cut, next_of-cut}
 use Rattle.dap_reply.specs.Reply.{is_last}
 use Rattle.dap_reply.specs.Served.{asked_of}
 use Rattle.dap_reply.proofs.ServedLemmas.{last-ends}
-use Rattle.pub_core.specs.Shown.{resting, sending}
+use Rattle.pub_core.specs.Shown.{sending_reply}
 use Rattle.pub_core.specs.Standing.{first_item, item_at}
 use Rattle.pub_core.proofs.ItemLemmas.{cut-none}
 
@@ -74,7 +74,7 @@ asks-rest-for left count item is = acts-rest left count (Some item) is
 -- the item that is asked for
 said-item : (item : Item) (given : Item) (held : Held) → item_of held.head ≡ item → item ≡ given
     → item_asked (asked_of given) held ≡ given
-said-item item (request r target) held head is = ap (λ (i : Item). request r (target_of i)) (head ∙ is)
+said-item item (request r target) held head is = ap (λ (i : Item). request r (target_in i)) (head ∙ is)
 said-item item bad_head held head is = refl
 said-item item head_too_long held head is = refl
 
@@ -108,27 +108,28 @@ feeds-machine left count piece is fits =
     ∙ ap (λ (l : List ℕ). resting (left ++ l) count) (take_all (MAX_HEAD - length left) piece.now fits)
 
 pub begins-machine : (left : List ℕ) (count len : ℕ) (item : Item) → first_item left ≡ Some item → 0 < len
-    → after_event (resting left count) (Answer len) ≡ sending left count item 0 len
+    → after_event (resting left count) (Answer len) ≡ sending_reply left count item 0 len
 unfolding after_event sent
 begins-machine left count len item is some =
     ap (λ (p : Phase). after_in p (resting left count) (Answer len)) (phase-of left (Some item) is)
-    ∙ ap (λ (b : Bool). cond b (sending left count item 0 len) (replied (resting left count) (asked_of item)))
+    ∙ ap (λ (b : Bool). cond b (sending_reply left count item 0 len) (replied (resting left count) (asked_of item)))
     (lt-ltb 0 len some)
 
 pub sends-part-machine : (left : List ℕ) (number count from len : ℕ) (item : Item) → from + count < len
-    → after_event (sending left number item from len) (Sent count) ≡ sending left number item (from + count) len
+    → after_event (sending_reply left number item from len) (Sent count)
+    ≡ sending_reply left number item (from + count) len
 unfolding after_event sent
 sends-part-machine left number count from len item below =
-    ap (λ (b : Bool). cond b (sending left number item (from + count) len)
-    (replied (sending left number item from len) (asked_of item))) (lt-ltb (from + count) len below)
+    ap (λ (b : Bool). cond b (sending_reply left number item (from + count) len)
+    (replied (sending_reply left number item from len) (asked_of item))) (lt-ltb (from + count) len below)
 
 sends-whole-by : (left : List ℕ) (number count from len : ℕ) (item : Item) → len ≤ from + count
-    → after_event (sending left number item from len) (Sent count)
-    ≡ replied_by (end_after (asked_of item) number) (sending left number item from len)
+    → after_event (sending_reply left number item from len) (Sent count)
+    ≡ replied_by (end_after (asked_of item) number) (sending_reply left number item from len)
 unfolding after_event sent replied
 sends-whole-by left number count from len item all =
-    ap (λ (b : Bool). cond b (sending left number item (from + count) len)
-    (replied (sending left number item from len) (asked_of item))) (le-ltb (from + count) len all)
+    ap (λ (b : Bool). cond b (sending_reply left number item (from + count) len)
+    (replied (sending_reply left number item from len) (asked_of item))) (le-ltb (from + count) len all)
 
 ends-some : (end : Option End) → is_some end ≡ true → (e : End) × (end ≡ Some e)
 ends-some None is = absurd (cc)
@@ -140,23 +141,23 @@ ends-none (Some e) is = absurd (cc)
 
 pub sends-last-machine : (left : List ℕ) (number count from len : ℕ) (item : Item) → len ≤ from + count
     → is_last item (number + 1) ≡ true
-    → (e : End) × ((after_event (sending left number item from len) (Sent count)).phase ≡ Ended e)
+    → (e : End) × ((after_event (sending_reply left number item from len) (Sent count)).phase ≡ Ended e)
 sends-last-machine left number count from len item all last =
     let found = ends-some (end_after (asked_of item) number) (sym (last-ends item number) ∙ last) in (
       found.0,
       ap (λ (x : State). x.phase) (sends-whole-by left number count from len item all)
-          ∙ ap (λ (o : Option End). (replied_by o (sending left number item from len)).phase) found.1,
+          ∙ ap (λ (o : Option End). (replied_by o (sending_reply left number item from len)).phase) found.1,
     )
 
 pub sends-whole-machine : (left : List ℕ) (number count from len : ℕ) (item : Item) → len ≤ from + count
     → is_last item (number + 1) ≡ false
-    → after_event (sending left number item from len) (Sent count) ≡ resting (held_after left).rest (number + 1)
+    → after_event (sending_reply left number item from len) (Sent count) ≡ resting (held_after left).rest (number + 1)
 unfolding looked
 sends-whole-machine left number count from len item all goes =
     let none : end_after (asked_of item) number ≡ None =
     ends-none (end_after (asked_of item) number) (sym (last-ends item number) ∙ goes) in
     sends-whole-by left number count from len item all
-    ∙ ap (λ (o : Option End). replied_by o (sending left number item from len)) none
+    ∙ ap (λ (o : Option End). replied_by o (sending_reply left number item from len)) none
 
 -- a machine that reads ends with its input
 pub ends-machine : (s : State) (room : ℕ) → action_of s ≡ Read room

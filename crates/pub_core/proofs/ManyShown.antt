@@ -9,13 +9,13 @@ use Rattle.web_frame.specs.Cut.{cut_of, head_len}
 use Rattle.web_frame.specs.Stream.{Held}
 use Rattle.web_frame.proofs.ItemLemmas.{ReadsTo-start}
 use Rattle.web_session.specs.declared.phase.Phase.{Phase}
-use Rattle.web_session.specs.State.{fresh, State}
+use Rattle.web_session.specs.State.{fresh, resting, State}
 use Rattle.dap_reply.specs.Parts.{Parts}
 use Rattle.dap_reply.specs.Script.{script_of}
 use Rattle.pub_core.specs.declared.connection.Connection.{Connection}
 use Rattle.pub_core.specs.declared.event.Event.{Event}
 use Rattle.pub_core.specs.Happening.{after, after_at}
-use Rattle.pub_core.specs.Shown.{resting, AreShown, IsShown, Stands}
+use Rattle.pub_core.specs.Shown.{AreShown, IsShown, Stands}
 use Rattle.pub_core.specs.Shown.Stands.{at_end, at_rest, in_reply}
 use Rattle.pub_core.specs.Standing.{first_item, Rests}
 use Rattle.pub_core.specs.World.{is_due, is_idle, is_refused_at, next_item, output_of, rests, script_in, untouched, SessionState}

@@ -19,7 +19,7 @@ use Rattle.web_session.specs.declared.event.Event.TheVariants as step
 use Rattle.web_session.specs.declared.phase.Phase.{Phase}
 use Rattle.web_session.specs.Event.{after_event}
 use Rattle.web_session.specs.Run.{item_asked}
-use Rattle.web_session.specs.State.{is_last as ends_link, State}
+use Rattle.web_session.specs.State.{ends_link, resting, State}
 use Rattle.web_session.proofs.StartLemmas.{start-same}
 use Rattle.dap_reply.specs.declared.body.Answer.{Answer}
 use Rattle.dap_reply.specs.declared.fault.DapFault.{DapFault}
@@ -30,12 +30,12 @@ use Rattle.dap_reply.specs.Body.{body_of}
 use Rattle.dap_reply.specs.Order.{order_by, order_of}
 use Rattle.dap_reply.specs.Parts.{bytes_of, Parts}
 use Rattle.dap_reply.specs.Planned.{answer_over}
-use Rattle.dap_reply.specs.Reply.{answer_to, answered, asked_by, has_head_alone, is_last, refusal_of, reply_of, reply_text}
+use Rattle.dap_reply.specs.Reply.{answer_to, answered, target_wanted, has_head_alone, is_last, refusal_of, reply_of, reply_text}
 use Rattle.dap_reply.proofs.ServedLemmas.{last-ends}
 use Rattle.pub_core.specs.declared.connection.Connection.{Connection}
 use Rattle.pub_core.specs.declared.event.Event.TheVariants.{Look}
 use Rattle.pub_core.specs.Happening.{after, begun}
-use Rattle.pub_core.specs.Shown.{resting, IsShown, Shows}
+use Rattle.pub_core.specs.Shown.{IsShown, Shows}
 use Rattle.pub_core.specs.Standing.{first_item}
 use Rattle.pub_core.specs.World.{is_refused_at, is_wanted_at, SessionState}
 use Rattle.pub_core.proofs.ConnectionLemmas.{due-action, on-machine, Started}
@@ -70,10 +70,10 @@ wanted-by (Err why) alone end dap is = absurd (cc)
 refusal-is : (proto : Proto) (files : List Loaded) (revision number : ℕ) (item : Item) (fault : DapFault)
     (head last : Bool) → OrderFor proto item number (Refused fault head last)
     → (reply_text (refusal_of fault) revision head last ≡ reply_of proto files revision item number)
-    × (is_ok (asked_by proto.site item) ≡ false)
+    × (is_ok (target_wanted proto.site item) ≡ false)
 unfolding order_of reply_of answer_to
 refusal-is proto files revision number item fault head last is =
-    let parts = refused-by (asked_by proto.site item) (has_head_alone item) (is_last item number) fault head last
+    let parts = refused-by (target_wanted proto.site item) (has_head_alone item) (is_last item number) fault head last
     (sym is) in
     let answer : answer_to proto files item ≡ refusal_of fault =
     ap (λ (r : Result Target DapFault). answered (r >>= λ target. body_of proto files target)) parts.0 in (
@@ -86,10 +86,10 @@ refusal-is proto files revision number item fault head last is =
 answer-is : (proto : Proto) (files : List Loaded) (revision number : ℕ) (item : Item) (dap : Dap)
     → OrderFor proto item number (Wanted dap)
     → (reply_text (answer_over (record { proto = proto; files = files }) dap) revision dap.head dap.last
-    ≡ reply_of proto files revision item number) × (is_ok (asked_by proto.site item) ≡ true)
+    ≡ reply_of proto files revision item number) × (is_ok (target_wanted proto.site item) ≡ true)
 unfolding order_of reply_of answer_to answer_over
 answer-is proto files revision number item dap is =
-    let parts = wanted-by (asked_by proto.site item) (has_head_alone item) (is_last item number) dap (sym is) in
+    let parts = wanted-by (target_wanted proto.site item) (has_head_alone item) (is_last item number) dap (sym is) in
     let answer : answer_to proto files item ≡ answered (body_of proto files dap.target) =
     ap (λ (r : Result Target DapFault). answered (r >>= λ target. body_of proto files target)) parts.0 in (
       ap₂ (λ (a : Answer) (h : Bool). reply_text a revision h dap.last) (sym answer) (sym parts.1)
@@ -110,17 +110,17 @@ err-by (Err fault) alone end other = refl
 
 not-refused : (proto : Proto) (item : Item) (number : ℕ) (order : Order) → OrderFor proto item number order
     → ((fault : DapFault) (head last : Bool) → order ≡ Refused fault head last → ⊥)
-    → is_ok (asked_by proto.site item) ≡ true
+    → is_ok (target_wanted proto.site item) ≡ true
 unfolding order_of
 not-refused proto item number order is other =
-    ok-by (asked_by proto.site item) (has_head_alone item) (is_last item number)
+    ok-by (target_wanted proto.site item) (has_head_alone item) (is_last item number)
     (λ fault head last e. other fault head last (is ∙ e))
 
 not-wanted : (proto : Proto) (item : Item) (number : ℕ) (order : Order) → OrderFor proto item number order
-    → ((dap : Dap) → order ≡ Wanted dap → ⊥) → is_ok (asked_by proto.site item) ≡ false
+    → ((dap : Dap) → order ≡ Wanted dap → ⊥) → is_ok (target_wanted proto.site item) ≡ false
 unfolding order_of
 not-wanted proto item number order is other =
-    err-by (asked_by proto.site item) (has_head_alone item) (is_last item number) (λ dap e. other dap (is ∙ e))
+    err-by (target_wanted proto.site item) (has_head_alone item) (is_last item number) (λ dap e. other dap (is ∙ e))
 
 -- ---- the order for a machine's question
 
@@ -204,7 +204,7 @@ pub settle-wanted : (proto : Proto) (log : List Op) (c : Connection) (s : Sessio
     → IsShown proto log (with_machine c machine) (begun proto log s)
 settle-wanted proto log c s machine action asked order o other shows =
     let a : Asks proto log c s asked = asks-so o shows in
-    let wanted : is_ok (asked_by proto.site a.item) ≡ true =
+    let wanted : is_ok (target_wanted proto.site a.item) ≡ true =
     not-refused proto a.item (length a.rests.done + 1) order (order-so o a) other in
     on-machine (λ (x : Connection). IsShown proto log x (begun proto log s)) c machine action o.started
     (shown-begun shows (due-rest a.rests ∙ ap (is_refused_at proto.site) a.item_is ∙ ap not wanted))
@@ -217,7 +217,7 @@ pub look-refused : (proto : Proto) (log : List Op) (c : Connection) (s : Session
     → IsShown proto log (with_machine c machine) (after proto log (Look number) s)
 look-refused proto log c s number machine action asked order o other shown =
     let a : Asks proto log c s asked = asks-so o shown.shows in
-    let refused : is_ok (asked_by proto.site a.item) ≡ false =
+    let refused : is_ok (target_wanted proto.site a.item) ≡ false =
     not-wanted proto a.item (length a.rests.done + 1) order (order-so o a) other in
     on-machine (λ (x : Connection). IsShown proto log x (after proto log (Look number) s)) c machine action o.started
     (subst (IsShown proto log c) (sym (look-no proto log s number

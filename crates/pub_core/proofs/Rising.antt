@@ -1,9 +1,10 @@
 -- The revisions of a session never fall. It is long, since each kind of event is a case.
-use Rattle.std.proofs.Common.{◌≡◌, ◌≤◌, ◌⊎◌, inl, inr, zero, suc, ℕ, max, Bool, true, false, ◌&&◌, cond, List, [], ◌∷◌, ◌++◌, length, take, set, fold, replicate, Option, Some, None, refl, subst, arith, length-append}
-use Rattle.std.specs.Prelude.{is_none, slice_get}
+use Rattle.std.proofs.Common.{◌≡◌, ◌≤◌, ◌⊎◌, inl, inr, zero, suc, ℕ, max, Bool, true, false, ◌&&◌, cond, List, [], ◌∷◌, ◌++◌, length, take, set, fold, replicate, Option, Some, None, refl, ap, subst, ◌∙◌, arith, length-append}
+use Rattle.std.specs.Prelude.{is_none, option_map, slice_get}
 use Rattle.std.proofs.lemmas.Bool.{leb-true}
 use Rattle.std.proofs.lemmas.List.Elements.{All-nil}
 use Rattle.std.proofs.lemmas.List.Quantifiers.{all_pairs_push}
+use Rattle.std.proofs.lemmas.Option.{slice_get-map}
 use Rattle.fm_model.specs.declared.op.Op.{Op}
 use Rattle.fm_model.specs.declared.proto.Proto.{Proto}
 use Rattle.fm_model.specs.Collection.{coll, full_at}
@@ -13,6 +14,7 @@ use Rattle.pub_core.specs.declared.event.Event.{Event}
 use Rattle.pub_core.specs.declared.event.Event.TheVariants.{Publish, Look, Learn, Bytes, Sent, End, Fault}
 use Rattle.pub_core.specs.Apart.{NeverFall}
 use Rattle.pub_core.specs.Happening.{after, after_at, begun, closed, effect_of, happens, happens_to, is_last_before, is_possible_to, published, run, settled}
+use Rattle.pub_core.specs.Outcome.{outcome_of}
 use Rattle.pub_core.specs.World.{is_due, items_fed, output_of, rests, script_in, start, untouched, SessionState, World}
 use Rattle.pub_core.proofs.OneSession.{all-le, all-more}
 
@@ -167,9 +169,20 @@ pub sees-published : (proto : Proto) (sessions number : ℕ) (events : List Even
 unfolding KeepAll
 sees-published proto sessions number events s is = (keep-run proto sessions events number s is).known
 
-pub output-script : (proto : Proto) (log : List Op) (s : SessionState)
+output-script : (proto : Proto) (log : List Op) (s : SessionState)
     → output_of proto log s ≡ take s.sent (script_of proto log s.revs (heads_of s.fed).items 0)
 unfolding output_of script_in
 output-script proto log s = refl
 
-pub ruleset rising = (never-falls, sees-published, output-script)
+pub output-of-run : (proto : Proto) (sessions number : ℕ) (events : List Event) (s : SessionState)
+    → slice_get (run proto (start sessions) events).sessions number ≡ Some s
+    → slice_get (outcome_of proto (run proto (start sessions) events)).outputs number
+    ≡ Some (take s.sent (script_of proto (run proto (start sessions) events).log s.revs (heads_of s.fed).items 0))
+unfolding outcome_of
+output-of-run proto sessions number events s is =
+    let world : World = run proto (start sessions) events in
+    slice_get-map (output_of proto world.log) world.sessions number
+    ∙ ap (option_map (output_of proto world.log)) is
+    ∙ ap Some (output-script proto world.log s)
+
+pub ruleset rising = (never-falls, sees-published, output-of-run)

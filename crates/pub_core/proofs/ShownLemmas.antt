@@ -4,7 +4,7 @@ use Rattle.std.proofs.Common.{◌≡◌, ℕ, ◌-◌, Bool, true, false, not, �
 use Rattle.std.specs.Prelude.{is_none}
 use Rattle.fm_model.specs.declared.op.Op.{Op}
 use Rattle.fm_model.specs.declared.proto.Proto.{Proto}
-use Rattle.web_frame.specs.declared.limit.TheConstants.{MAX_HEAD}
+use Rattle.web_frame.specs.Limit.{MAX_HEAD}
 use Rattle.web_frame.specs.Items.{Item}
 use Rattle.web_session.specs.declared.action.Action.TheVariants.{Read, Ask, Send, Close}
 use Rattle.web_session.specs.declared.action.Asked.{Asked}
@@ -13,13 +13,13 @@ use Rattle.web_session.specs.declared.event.Event.TheVariants as step
 use Rattle.web_session.specs.declared.phase.Phase.{Phase}
 use Rattle.web_session.specs.declared.phase.Phase.TheVariants.{Ended}
 use Rattle.web_session.specs.Event.{after_event}
-use Rattle.web_session.specs.State.{action_at, action_of, State}
+use Rattle.web_session.specs.State.{action_at, action_of, resting, State}
 use Rattle.web_session.proofs.StartLemmas.{start-same}
 use Rattle.dap_reply.specs.Parts.{bytes_of, Parts}
 use Rattle.dap_reply.specs.Served.{asked_of}
 use Rattle.pub_core.specs.declared.connection.Connection.{Connection}
 use Rattle.pub_core.specs.Happening.{begun}
-use Rattle.pub_core.specs.Shown.{resting, sending, IsShown, Shows, Stands}
+use Rattle.pub_core.specs.Shown.{sending_reply, IsShown, Shows, Stands}
 use Rattle.pub_core.specs.Shown.Stands.{at_end, at_rest, in_reply}
 use Rattle.pub_core.specs.Standing.{first_item, Replies, Rests}
 use Rattle.pub_core.specs.World.{asks, is_due, is_idle, is_refused_at, is_wanted_at, next_item, rests, sends, waits, SessionState}
@@ -50,7 +50,7 @@ unfolding action_of
 action-end machine end is = ap (λ (p : Phase). action_at p machine.held) is
 
 action-sending : (left : List ℕ) (count : ℕ) (item : Item) (from len : ℕ)
-    → action_of (sending left count item from len) ≡ Send from
+    → action_of (sending_reply left count item from len) ≡ Send from
 unfolding action_of
 action-sending left count item from len = refl
 
@@ -133,7 +133,7 @@ pub record Sends (proto : Proto) (log : List Op) (c : Connection) (s : SessionSt
   pub reply : Parts
   pub replies : Replies proto log s left item before (bytes_of reply) from
   pub plan_is : c.plan ≡ Some reply
-  pub machine_is : c.session ≡ sending left (length replies.done) item from (length (bytes_of reply))
+  pub machine_is : c.session ≡ sending_reply left (length replies.done) item from (length (bytes_of reply))
 
 sends-rest-by : {proto : Proto} {log : List Op} {c : Connection} {s : SessionState} {from : ℕ} (left : List ℕ)
     (front : Option Item) (r : Rests proto log s left) → c.session ≡ resting left (length r.done)

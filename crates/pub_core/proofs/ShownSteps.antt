@@ -15,13 +15,13 @@ use Rattle.web_session.specs.declared.action.End.{End as Ending}
 use Rattle.web_session.specs.declared.event.Event.TheVariants as step
 use Rattle.web_session.specs.declared.phase.Phase.TheVariants.{Ended}
 use Rattle.web_session.specs.Event.{after_event}
-use Rattle.web_session.specs.State.{State}
+use Rattle.web_session.specs.State.{resting, State}
 use Rattle.dap_reply.specs.Parts.{bytes_of, Parts}
 use Rattle.dap_reply.specs.Reply.{is_last, reply_of}
 use Rattle.pub_core.specs.declared.connection.Connection.{Connection}
 use Rattle.pub_core.specs.declared.event.Event.TheVariants.{Sent}
 use Rattle.pub_core.specs.Happening.{after, begun}
-use Rattle.pub_core.specs.Shown.{resting, sending, IsShown, Shows, Stands}
+use Rattle.pub_core.specs.Shown.{sending_reply, IsShown, Shows, Stands}
 use Rattle.pub_core.specs.Shown.Stands.{at_end, at_rest, in_reply}
 use Rattle.pub_core.specs.Standing.{Replies, Rests}
 use Rattle.pub_core.specs.World.{items_fed, next_item, output_of, script_in, SessionState}
@@ -40,11 +40,11 @@ stands-rest {left = left} r is = at_rest left r (is ∙ ap (resting left) r.coun
 pub stands-reply : {proto : Proto} {log : List Op} {s : SessionState} {left before : List ℕ} {item : Item}
     {reply : Parts} {from : ℕ} {machine : State} {plan : Option Parts} (index : ℕ)
     → Replies proto log s left item before (bytes_of reply) from → plan ≡ Some reply → length s.revs ≡ index + 1
-    → machine ≡ sending left index item from (length (bytes_of reply)) → Stands proto log s machine plan
+    → machine ≡ sending_reply left index item from (length (bytes_of reply)) → Stands proto log s machine plan
 stands-reply {left = left} {before = before} {item = item} {reply = reply} {from = from} index r plan number is =
     let same : index ≡ length r.done = omega (arith, number, r.count) in
     in_reply left item before reply from r plan
-    (is ∙ ap (λ (n : ℕ). sending left n item from (length (bytes_of reply))) same)
+    (is ∙ ap (λ (n : ℕ). sending_reply left n item from (length (bytes_of reply))) same)
 
 -- ---- bytes are fed
 
@@ -166,7 +166,7 @@ shows-sent-by {proto} {log} {c} {s} {from} now count shows r given stands = reco
 
 machine-sent : {proto : Proto} {log : List Op} {c now : Connection} {s : SessionState} {from count : ℕ}
     (r : Sends proto log c s from) → Given proto log c now s from count r
-    → now.session ≡ after_event (sending r.left (length r.replies.done) r.item from (length (bytes_of r.reply)))
+    → now.session ≡ after_event (sending_reply r.left (length r.replies.done) r.item from (length (bytes_of r.reply)))
     (step.Sent count)
 machine-sent {count = count} r given =
     given.machine_is ∙ ap (λ (m : State). after_event m (step.Sent count)) r.machine_is

@@ -5,7 +5,7 @@ use Rattle.std.proofs.lemmas.Bool.{le-leb, lt-ltb}
 use Rattle.fm_model.specs.declared.op.Op.{Op}
 use Rattle.fm_model.specs.declared.proto.Proto.{Proto}
 use Rattle.fm_model.specs.Collection.{coll}
-use Rattle.web_frame.specs.declared.limit.TheConstants.{MAX_HEAD}
+use Rattle.web_frame.specs.Limit.{MAX_HEAD}
 use Rattle.web_frame.specs.Items.{Item}
 use Rattle.dap_reply.specs.Reply.{is_last}
 use Rattle.pub_core.specs.declared.event.Event.{Event}

@@ -8,7 +8,7 @@ use Rattle.fm_model.specs.declared.proto.Proto.{Proto}
 use Rattle.fm_model.specs.Collection.{coll}
 use Rattle.web_frame.specs.Items.{Item}
 use Rattle.dap_reply.specs.declared.served.Mark.{Mark}
-use Rattle.dap_reply.specs.Reply.{asked_by, reply_of}
+use Rattle.dap_reply.specs.Reply.{target_wanted, reply_of}
 use Rattle.dap_reply.specs.Served.{marked_reply}
 use Rattle.pub_core.specs.declared.event.Event.{Event}
 use Rattle.pub_core.specs.declared.event.Event.TheVariants.{Publish, Look}
@@ -108,7 +108,7 @@ begin-refused proto ops s left mark item r first refused seen =
     ∙ ap (λ (k : ℕ). one log (with_reply s k k)) seen)
 
 begin-by : (proto : Proto) (ops : List Op) (n : ℕ) (s : SessionState) (left : List ℕ) (mark : Mark) (item : Item)
-    (wanted : Bool) → is_ok (asked_by proto.site item) ≡ wanted
+    (wanted : Bool) → is_ok (target_wanted proto.site item) ≡ wanted
     → Rests proto (take n ops) s left → first_item left ≡ Some item → AreTakenInTurn ops
     → n ≤ mark.revision → mark.revision ≤ length ops → All (λ (revision : ℕ). revision ≤ n) s.revs
     → s.seen ≡ n → (wanted ≡ false → mark.revision ≡ n)
@@ -130,9 +130,10 @@ begin-by proto ops n s left mark item false is r first taken from to within seen
 pub begin-reply : (proto : Proto) (ops : List Op) (n : ℕ) (s : SessionState) (left : List ℕ) (mark : Mark) (item : Item)
     → Rests proto (take n ops) s left → first_item left ≡ Some item → AreTakenInTurn ops
     → n ≤ mark.revision → mark.revision ≤ length ops → All (λ (revision : ℕ). revision ≤ n) s.revs
-    → s.seen ≡ n → (is_ok (asked_by proto.site item) ≡ false → mark.revision ≡ n)
+    → s.seen ≡ n → (is_ok (target_wanted proto.site item) ≡ false → mark.revision ≡ n)
     → BeginsReply proto ops s left mark item (looking proto ops n mark item)
     (one (take n ops) (begun proto (take n ops) s))
 unfolding looking
 begin-reply proto ops n s left mark item r first taken from to within seen same =
-    begin-by proto ops n s left mark item (is_ok (asked_by proto.site item)) refl r first taken from to within seen same
+    begin-by proto ops n s left mark item (is_ok (target_wanted proto.site item)) refl r first taken from to within seen
+    same

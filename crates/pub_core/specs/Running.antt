@@ -1,12 +1,12 @@
 -- The events that a served link is: requests are read byte by byte, each is replied to over what was published by then,
 -- and as much of its reply is sent as was written.
-use Rattle.std.specs.Prelude.{◌≡◌, ℕ, List, [], ◌∷◌, ◌++◌, length, map, drop, take, slice_get, slice_range, nat_lt, Bool, false, if◌then◌else◌, is_ok, Some, None}
+use Rattle.std.specs.Prelude.{◌≡◌, ℕ, List, [], ◌∷◌, ◌++◌, length, map, drop, take, slice_get, slice_range, nat_lt, Bool, false, if◌then◌else◌, Some, None}
 use Rattle.fm_model.specs.declared.op.Op.{Op}
 use Rattle.fm_model.specs.declared.proto.Proto.{Proto}
 use Rattle.fm_model.specs.Collection.{coll, full_at}
 use Rattle.web_frame.specs.Items.{Item}
 use Rattle.dap_reply.specs.declared.served.Mark.{Mark}
-use Rattle.dap_reply.specs.Reply.{asked_by}
+use Rattle.dap_reply.specs.Reply.{is_wanted}
 use Rattle.dap_reply.specs.Served.{input_of, items_of, LinkCall}
 use Rattle.pub_core.specs.declared.event.Event.{Event}
 use Rattle.pub_core.specs.declared.event.Event.TheVariants.{Publish, Look, Learn, Bytes, Sent}
@@ -42,7 +42,7 @@ feeding proto world (byte ∷ bytes) =
 -- `seen` were published before, and it looks
 unfoldable pub looking : Proto → List Op → ℕ → Mark → Item → List Event
 looking proto ops seen mark item =
-    if is_ok (asked_by proto.site item) then map Publish (slice_range ops seen mark.revision) ++ Look 0 ∷ [] else []
+    if is_wanted proto.site item then map Publish (slice_range ops seen mark.revision) ++ Look 0 ∷ [] else []
 
 -- as much of its reply is sent as was written, if anything was
 unfoldable pub sending : Mark → List Event

@@ -3,23 +3,20 @@ use Rattle.std.specs.Prelude.{◌≡◌, ◌≤◌, ℕ, List, [], ◌∷◌, le
 use Rattle.fm_model.specs.declared.op.Op.{Op}
 use Rattle.fm_model.specs.declared.proto.Proto.{Proto}
 use Rattle.web_frame.specs.Items.{Item}
-use Rattle.web_frame.specs.Stream.{held_after, next_of}
+use Rattle.web_frame.specs.Stream.{held_after}
 use Rattle.web_session.specs.declared.action.End.{End as Ending}
 use Rattle.web_session.specs.declared.phase.Phase.TheVariants.{Ended, Sending}
-use Rattle.web_session.specs.State.{phase_after, State}
+use Rattle.web_session.specs.State.{resting, State}
 use Rattle.dap_reply.specs.Parts.{bytes_of, Parts}
 use Rattle.dap_reply.specs.Served.{asked_of}
 use Rattle.pub_core.specs.declared.connection.Connection.{Connection}
 use Rattle.pub_core.specs.Standing.{Replies, Rests}
 use Rattle.pub_core.specs.World.{is_due, output_of, SessionState}
 
--- a machine that rests with some bytes, after `count` replies
-abbrev pub resting : List ℕ → ℕ → State
-resting bytes count = record { phase = phase_after (next_of bytes); held = held_after bytes; before = count }
-
--- one that sends the reply to an item at their front, of this length, from an offset on
-abbrev pub sending : List ℕ → ℕ → Item → ℕ → ℕ → State
-sending bytes count item from len =
+-- a machine that sends the reply to an item at the front of some bytes, of this length, from an offset on, after
+-- `count` replies
+abbrev pub sending_reply : List ℕ → ℕ → Item → ℕ → ℕ → State
+sending_reply bytes count item from len =
     record { phase = Sending (asked_of item) from len; held = held_after bytes; before = count }
 
 -- a machine with a reply stands where a session does
@@ -29,7 +26,7 @@ pub data Stands (proto : Proto) (log : List Op) (s : SessionState) (machine : St
       → Stands proto log s machine plan
   in_reply : (left : List ℕ) (item : Item) (before : List ℕ) (reply : Parts) (from : ℕ)
       (r : Replies proto log s left item before (bytes_of reply) from) → plan ≡ Some reply
-      → machine ≡ sending left (length r.done) item from (length (bytes_of reply))
+      → machine ≡ sending_reply left (length r.done) item from (length (bytes_of reply))
       → Stands proto log s machine plan
   at_end : (end : Ending) → machine.phase ≡ Ended end → s.ended ≡ true → Stands proto log s machine plan
 

@@ -1,11 +1,11 @@
 -- One log of operations, and sessions that are replied to over it: each is seen as the bytes that it was fed and the
 -- replies that were begun.
-use Rattle.std.specs.Prelude.{ℕ, ◌-◌, List, [], length, take, replicate, slice_get, nat_le, Bool, false, not, ◌&&◌, is_none, is_ok, Option, Some, None}
+use Rattle.std.specs.Prelude.{ℕ, ◌-◌, List, [], length, take, replicate, slice_get, nat_le, Bool, false, not, ◌&&◌, is_none, Option, Some, None}
 use Rattle.fm_model.specs.declared.op.Op.{Op}
 use Rattle.fm_model.specs.declared.proto.Proto.{Proto}
 use Rattle.fm_model.specs.declared.site.Site.{Site}
 use Rattle.web_frame.specs.Items.{heads_of, Item}
-use Rattle.dap_reply.specs.Reply.{asked_by}
+use Rattle.dap_reply.specs.Reply.{is_wanted}
 use Rattle.dap_reply.specs.Script.{script_of}
 
 -- a session: the bytes that it was fed, the revisions of the replies that were begun, how many bytes were sent, how
@@ -73,11 +73,11 @@ sends proto log s = not (rests proto log s) && not s.ended
 -- a request is there that a collection is looked at for, or one that no collection is looked at for
 abbrev pub is_wanted_at : Site → Option Item → Bool
 is_wanted_at site None = false
-is_wanted_at site (Some item) = is_ok (asked_by site item)
+is_wanted_at site (Some item) = is_wanted site item
 
 abbrev pub is_refused_at : Site → Option Item → Bool
 is_refused_at site None = false
-is_refused_at site (Some item) = not (is_ok (asked_by site item))
+is_refused_at site (Some item) = not (is_wanted site item)
 
 -- it asks for a look
 unfoldable pub asks : Proto → List Op → SessionState → Bool

@@ -7,7 +7,7 @@ ghost use Rattle.fm_edition.specs.Log.{held_of};
 ghost use Rattle.web_session.specs.Event.{after_event};
 ghost use Rattle.web_session.specs.declared.event.Event.TheVariants as step;
 ghost use Rattle.web_session.specs.Run.{item_asked};
-ghost use Rattle.web_session.specs.State.{is_last};
+ghost use Rattle.web_session.specs.State.{ends_link};
 ghost use Rattle.dap_reply.specs.Order.{order_of};
 ghost use Rattle.dap_reply.specs.Parts.{bytes_of};
 ghost use Rattle.pub_core.specs.declared.event.Event.TheVariants as events;
@@ -80,7 +80,7 @@ impl Connection {
     fn order(&self, alloc: Global, asked: Asked, site: &Site) -> Result<Order, NoMemory>
         ensures { IfOk result (λ order. order
             ≡ order_of site.now (item_asked asked self.now.session.held)
-            (is_last self.now.session.phase self.now.session.before)) }
+            (ends_link self.now.session.phase self.now.session.before)) }
     {
         order(
             alloc,

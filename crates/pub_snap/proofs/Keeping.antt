@@ -10,7 +10,7 @@ use Rattle.fm_model.specs.declared.proto.Proto.{Proto}
 use Rattle.pub_look.specs.History.{Continues}
 use Rattle.pub_look.proofs.HistoryLemmas.{continues_on, continues_itself}
 use Rattle.pub_snap.specs.declared.rule.Known.{Known}
-use Rattle.pub_snap.specs.Rule.{AllBegin, Copy, Enters, IsShown}
+use Rattle.pub_snap.specs.Rule.{AllBegin, Copy, EndsWith, Enters, IsAtDesk, IsShown, MayFollow}
 
 -- one seat has seen another beginning
 set_begins : (log : List Op) (views : List Known) (seat : ℕ) (view : Known) → AllBegin log views
@@ -73,6 +73,32 @@ module _ (book : Book) (proto : Proto) where
     begin = set_begins next.log views seat (record { seen = next.log; looks = looks })
         (grown_begins shown.log next.log views is.begin on) (continues_itself next.log);
   }
+
+-- what readers see may be shown once more
+again_follows : (book : Book) (proto : Proto) (copy : Copy) → MayFollow book proto copy copy
+again_follows book proto copy same over =
+    record { same = same; over = over; later = continues_itself copy.log }
+
+-- what readers see, appended once more, is the last that waits, and may be shown
+pub again_ends : (book : Book) (proto : Proto) (shown shown' next : Copy) (waiting waiting' : List Copy)
+    → shown' ≡ shown → next ≡ shown → waiting' ≡ waiting ++ next ∷ []
+    → EndsWith waiting' shown × MayFollow book proto shown' shown
+again_ends book proto shown shown' next waiting waiting' same again more = (
+  (waiting, more ∙ ap (λ (c : Copy). waiting ++ c ∷ []) again),
+  subst (λ (c : Copy). MayFollow book proto c shown) (sym same) (again_follows book proto shown),
+)
+
+-- the desk's side of the rule stays where what readers see is shown once more
+pub at_desk_again : (proto : Proto) (log : List Op) (shown shown' : Copy) (writer writer' : Known) (booked : ℕ)
+    → shown' ≡ shown → writer'.seen ≡ shown.log → IsAtDesk proto log shown writer booked
+    → IsAtDesk proto log shown' writer' booked
+at_desk_again proto log shown shown' writer writer' booked same seen is = record {
+  sound = is.sound;
+  over = ap (λ (c : Copy). c.held.proto) same ∙ is.over;
+  whole = ap (λ (c : Copy). c.log) same ∙ is.whole;
+  seen = seen ∙ is.whole;
+  counted = is.counted;
+}
 
 -- of several copies that replace each other the last stays
 pub last_stays : {A : Type 0} (first : A) (copies before : List A) (last : A) → copies ≡ before ++ last ∷ []

@@ -1,5 +1,5 @@
 -- Each step of a publication keeps the rule.
-use Rattle.std.proofs.Common.{◌≡◌, ◌≢◌, ℕ, Bool, true, false, List, [], ◌∷◌, ◌++◌, length, set, refl, sym, ap, subst, ⊎_elim, arith, length-append}
+use Rattle.std.proofs.Common.{◌≡◌, ◌≢◌, ℕ, Bool, true, false, List, [], ◌∷◌, ◌++◌, length, set, inl, inr, refl, sym, ap, subst, ⊎_elim, arith, length-append}
 use Rattle.std.specs.Prelude.{nat_lt, if◌then◌else◌}
 use mathlib.Core.Option.{some}
 use lib.ListN.{get_elem?}
@@ -15,7 +15,7 @@ use Rattle.pub_look.specs.History.{Continues, Keeps}
 use Rattle.pub_look.proofs.HistoryLemmas.{continues_on, continues_itself}
 use Rattle.pub_snap.specs.declared.rule.Known.{Known}
 use Rattle.pub_snap.specs.Rule.{longer, AllKnown, IsKept, IsShown, Publication}
-use Rattle.pub_snap.specs.Steps.{copy_of, entered, opened, published, receipted, unseated, with_learnt, with_seat}
+use Rattle.pub_snap.specs.Steps.{caught_up, copy_of, entered, looks_after, opened, published, receipted, seat_after, unseated, with_learnt, with_seat}
 use Rattle.pub_snap.proofs.Keeping.{comes, enters, newcomer_begins, shows}
 
 -- what a log leaves stands for it
@@ -28,7 +28,7 @@ rule-opened book proto is = record {
   readers = record { same = refl; over = refl; begin = newcomer_begins [] [] unseated (λ i k at. absurd cc) refl };
   stands = keeps_log proto [] is tt;
   other = keeps_log proto [] is tt;
-  before = continues_itself [];
+  behind = inl refl;
   learnt = λ i list at. absurd cc;
 }
 
@@ -40,7 +40,7 @@ of_seats book proto now seats is readers = record {
   readers = readers;
   stands = is.stands;
   other = is.other;
-  before = is.before;
+  behind = is.behind;
   learnt = is.learnt;
 }
 
@@ -52,7 +52,7 @@ of_learnt book proto now lists is learnt = record {
   readers = is.readers;
   stands = is.stands;
   other = is.other;
-  before = is.before;
+  behind = is.behind;
   learnt = learnt;
 }
 
@@ -61,12 +61,23 @@ pub rule-seat : (book : Book) (proto : Proto) (now : Publication) → IsKept boo
 rule-seat book proto now is =
     of_seats book proto now (now.seats ++ unseated ∷ []) is (comes book proto now.shown now.seats is.readers)
 
-pub rule-entered : (book : Book) (proto : Proto) (now : Publication) (seat : ℕ) (before : Known) (looks : List ℕ)
+pub rule-entered : (book : Book) (proto : Proto) (now : Publication) (seat : ℕ) (before : Known) (looking : Bool)
     → IsKept book proto now → get_elem? now.seats seat ≡ some before
-    → IsKept book proto (entered now seat looks)
-rule-entered book proto now seat before looks is at =
-    of_seats book proto now (set now.seats seat (record { seen = now.shown.log; looks = looks })) is
-    (enters book proto now.shown now.seats seat before looks is.readers at).0
+    → IsKept book proto (entered now seat before looking)
+rule-entered book proto now seat before looking is at =
+    of_seats book proto now (set now.seats seat (seat_after before now.shown.log looking)) is
+    (enters book proto now.shown now.seats seat before (looks_after before.looks now.shown.log looking) is.readers at).0
+
+pub rule-caught_up : (book : Book) (proto : Proto) (now : Publication) → IsKept book proto now
+    → IsKept book proto (caught_up now)
+rule-caught_up book proto now is = record {
+  desk = is.desk;
+  readers = is.readers;
+  stands = is.stands;
+  other = is.stands;
+  behind = inl is.desk.whole;
+  learnt = is.learnt;
+}
 
 -- lists that are beginnings of a log are so of one that goes on from it
 known_on : (log more : List Op) (lists : List (List Op)) → AllKnown log lists → Continues log more
@@ -92,7 +103,7 @@ rule-published book proto now seat op is can =
           on;
       stands = keeps_log proto log proper sound;
       other = is.stands;
-      before = on;
+      behind = inr (op, ap (λ (l : List Op). l ++ op ∷ []) (sym is.desk.whole));
       learnt = known_on now.log log now.learnt is.learnt (op ∷ [], refl);
     }
 

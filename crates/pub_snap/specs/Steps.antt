@@ -1,5 +1,5 @@
 -- The steps of a publication, each as the publication after it.
-use Rattle.std.specs.Prelude.{◌+◌, ℕ, List, [], ◌∷◌, ◌++◌, slice_set}
+use Rattle.std.specs.Prelude.{◌+◌, ℕ, Bool, true, false, List, [], ◌∷◌, ◌++◌, length, slice_set}
 use Rattle.logbook.specs.Pages.{Book}
 use Rattle.fm_model.specs.declared.op.Op.{Op}
 use Rattle.fm_model.specs.declared.proto.Proto.{Proto}
@@ -31,10 +31,19 @@ opened book proto = record {
 abbrev pub with_seat : Publication → Publication
 with_seat now = record now { seats = now.seats ++ unseated ∷ [] }
 
--- a seat enters the copy that is shown
-abbrev pub entered : Publication → ℕ → List ℕ → Publication
-entered now seat looks =
-    record now { seats = slice_set now.seats seat (record { seen = now.shown.log; looks = looks }) }
+-- the lengths at the looks of a seat after it entered a copy with a log, for a look or not
+abbrev pub looks_after : List ℕ → List Op → Bool → List ℕ
+looks_after looks log true = looks ++ length log ∷ []
+looks_after looks log false = looks
+
+-- a seat's knowledge after it entered a copy with a log, for a look or not
+abbrev pub seat_after : Known → List Op → Bool → Known
+seat_after before log looking = record { seen = log; looks = looks_after before.looks log looking }
+
+-- a seat that has this knowledge enters the copy that is shown, for a look or not
+abbrev pub entered : Publication → ℕ → Known → Bool → Publication
+entered now seat before looking =
+    record now { seats = slice_set now.seats seat (seat_after before now.shown.log looking) }
 
 -- the writer's knowledge once an operation is published
 abbrev pub writer_after : Publication → Op → Known
@@ -51,6 +60,10 @@ published book proto now seat op = record {
   learnt = now.learnt;
   booked = now.booked + 1;
 }
+
+-- the other copy comes to hold what readers see, and what it held goes
+abbrev pub caught_up : Publication → Publication
+caught_up now = record now { other = now.shown }
 
 -- a receipt is made of the whole log
 abbrev pub receipted : Publication → Publication

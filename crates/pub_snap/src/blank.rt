@@ -96,10 +96,9 @@ impl Blank {
         let mut seats = unseated(alloc, first.front(), passes)?;
         let front = first.front().again();
         let second = first.again()?;
-        let last = first.again()?;
-        // A writer ends by waiting alone, so nothing may fail once it is there.
-        let mut board = Writer::new(alloc, first, second, passes as usize)?;
-        make_room(&mut board, &last);
+        // A writer ends by waiting alone, so nothing may fail once it is there. Each call of the desk that publishes
+        // asks for the room that it needs.
+        let board = Writer::new(alloc, first, second, passes as usize)?;
         seat_all(&board, seats.items.as_mut_slice());
         let desk = Desk::of(board, page, front, total, rest, List::new(alloc));
         Ok((desk, seats, shares))
@@ -125,17 +124,5 @@ fn seat_all<N: Name>(board: &Board<N>, passes: &mut [Pass<N>])
 {
     for i in 0..passes.len() {
         passes[i].sit(board.factory());
-    }
-}
-
-// The queue of a writer never shrinks, so what is appended now is room for later.
-fn make_room<N: Name>(board: &mut Board<N>, last: &Shown)
-    ensures { board.new.desk ≡ board.old.desk }
-{
-    for _ in 0..4 {
-        let Ok(next) = last.again() else {
-            return;
-        };
-        let _full = board.append(next);
     }
 }

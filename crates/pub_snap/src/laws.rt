@@ -1,5 +1,5 @@
 //! What a reader believes of a publication, each as the contract of a call that does nothing.
-ghost use Rattle.std.specs.Prelude.{◌≡◌, ℕ, List};
+ghost use Rattle.std.specs.Prelude.{◌≡◌, ℕ, Bool, List};
 ghost use mathlib.Core.Option.{some};
 ghost use lib.ListN.{get_elem?};
 ghost use Rattle.logbook.specs.Pages.{Book};
@@ -10,20 +10,23 @@ ghost use Rattle.fm_model.specs.Site.{IsPrototype};
 ghost use Rattle.fm_edition.specs.Log.{CanFollow};
 ghost use Rattle.pub_snap.specs.declared.rule.Known.{Known};
 ghost use Rattle.pub_snap.specs.Rule.{IsKept, Publication};
-ghost use Rattle.pub_snap.specs.Steps.{entered, opened, published, receipted, with_learnt, with_seat};
+ghost use Rattle.pub_snap.specs.Steps.{caught_up, entered, opened, published, receipted, with_learnt, with_seat};
 
-/// What is opened keeps the rule, and so does each step: making a pass, entering, publishing an operation that can
-/// follow, making a receipt, and learning a list that a receipt says.
+/// What is opened keeps the rule, and so does each step: making a pass, entering for a look or not, publishing an
+/// operation that can follow, having the other copy catch up, making a receipt, and learning a list that a receipt
+/// says.
 pub fn each_step_keeps_the_rule()
     ensures opening { (book : Book) (proto : Proto) → IsPrototype proto → IsKept book proto (opened book proto) }
     ensures coming { (book : Book) (proto : Proto) (now : Publication) → IsKept book proto now
         → IsKept book proto (with_seat now) }
-    ensures entering { (book : Book) (proto : Proto) (now : Publication) (seat : ℕ) (before : Known) (looks : List ℕ)
+    ensures entering { (book : Book) (proto : Proto) (now : Publication) (seat : ℕ) (before : Known) (looking : Bool)
         → IsKept book proto now → get_elem? now.seats seat ≡ some before
-        → IsKept book proto (entered now seat looks) }
+        → IsKept book proto (entered now seat before looking) }
     ensures publishing { (book : Book) (proto : Proto) (now : Publication) (seat : ℕ) (op : Op)
         → IsKept book proto now → CanFollow proto (coll now.log) op
         → IsKept book proto (published book proto now seat op) }
+    ensures catching_up { (book : Book) (proto : Proto) (now : Publication) → IsKept book proto now
+        → IsKept book proto (caught_up now) }
     ensures telling { (book : Book) (proto : Proto) (now : Publication) → IsKept book proto now
         → IsKept book proto (receipted now) }
     ensures learning { (book : Book) (proto : Proto) (now : Publication) (index other : ℕ) (own told : List Op)

@@ -1,5 +1,5 @@
 //! A pass, which looks at the published operations.
-ghost use Rattle.std.specs.Prelude.{◌≡◌, ◌∷◌, [], ◌++◌, length, true, false, IsTrue, IfOk, IfSome, IfNone};
+ghost use Rattle.std.specs.Prelude.{◌≡◌, ◌∷◌, [], ◌++◌, length, true, false, IsTrue, IfOk, IfSome, IfNone, MatchResult};
 ghost use Rattle.left_right.specs.Sides.{view};
 ghost use Rattle.fm_edition.specs.Log.{held_of, IsLog};
 ghost use Rattle.pub_look.specs.History.{Continues};
@@ -11,7 +11,8 @@ use crate::name::Name;
 use crate::receipt::Receipt;
 use crate::rule::{Known, Looks, Meets, Publication};
 use crate::shown::Shown;
-use fm_base::NoMemory;
+use fm_base::{Arc, NoMemory};
+use fm_edition::Edition;
 use left_right::reader::{Factory, Reader};
 use pub_look::{Look, Query};
 use std::alloc::Global;
@@ -149,7 +150,7 @@ fn meet<N: Name>(seat: Seat<N>, known: &Front, ahead: bool) -> (Seat<N>, bool)
     }
 }
 
-// Makes a look, and answers inside the copy. `None` where the seat couldn't enter, and then no look was made.
+// Makes a look, and answers once the seat has left the copy. `None` where it couldn't enter, and then no look was made.
 fn look<N: Name, Q: Query>(
     alloc: Global,
     seat: Seat<N>,
@@ -164,13 +165,47 @@ fn look<N: Name, Q: Query>(
         (view result.0.place).looks ≡ (view seat.place).looks ++ length found.0.seen.log ∷ []) }
     ensures none { IfNone result.1 ((view result.0.place).looks ≡ (view seat.place).looks) }
 {
+    let (seat, found) = take_share(seat);
+    let Some((front, edition)) = found else {
+        return (seat, None);
+    };
+    let out = answer_over(alloc, query, edition, front.len());
+    (seat, Some((front, out)))
+}
+
+// Enters for a look, and takes a share of the edition that is shown, with the log that it stands for: two counts, so
+// that nobody waits long for a reader to leave. `None` where the seat couldn't enter. No share comes only where no more
+// owners of the edition can be counted.
+fn take_share<N: Name>(seat: Seat<N>) -> (Seat<N>, Option<(Front, Result<Arc<Edition>, NoMemory>)>)
+    ensures held { IfSome result.1 (λ found. IfOk found.1 (λ edition.
+        edition ≡ held_of N.proto found.0.seen.log)) }
+    ensures known { IfSome result.1 (λ found. IsOf N.book N.proto found.0.seen.book found.0.seen.log) }
+    ensures later { IfSome result.1 (λ found. Continues (view seat.place).seen found.0.seen.log) }
+    ensures seen { IfSome result.1 (λ found. (view result.0.place).seen ≡ found.0.seen.log) }
+    ensures looked { IfSome result.1 (λ found.
+        (view result.0.place).looks ≡ (view seat.place).looks ++ length found.0.seen.log ∷ []) }
+    ensures none { IfNone result.1 ((view result.0.place).looks ≡ (view seat.place).looks) }
+{
     match seat.enter_as::<Looks<N>>() {
         Ok(reading) => {
             let shown = reading.get();
             let front = shown.front().again();
-            let out = query.answer(alloc, shown.edition(), front.len());
-            (reading.leave(), Some((front, out)))
+            let edition = shown.share();
+            (reading.leave(), Some((front, edition)))
         }
         Err(seat) => (seat, None),
     }
+}
+
+// The answer over an edition, where there is one.
+fn answer_over<Q: Query>(
+    alloc: Global,
+    query: &Q,
+    edition: Result<Arc<Edition>, NoMemory>,
+    count: u64,
+) -> Result<Q::Out, NoMemory>
+    ensures { IfOk result (λ out. MatchResult edition (λ held. Q.says query.now held count out) (λ _. ⊥)) }
+{
+    let edition = edition?;
+    query.answer(alloc, edition.get(), count)
 }

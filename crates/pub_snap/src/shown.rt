@@ -61,6 +61,14 @@ impl Shown {
         self.edition.get()
     }
 
+    // One more owner of the edition. It fails only where no more can be counted.
+    pub(crate) fn share(&self) -> Result<Arc<Edition>, NoMemory>
+        ensures held { IfOk result (λ edition. edition ≡ self.now.held) }
+        ensures stands { Keeps self.now.held self.now.log }
+    {
+        self.edition.share()
+    }
+
     pub(crate) fn front(&self) -> &Front
         ensures log { result.now.seen.log ≡ self.now.log }
         ensures book { result.now.seen.book ≡ self.now.book }

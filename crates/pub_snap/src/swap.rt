@@ -1,12 +1,13 @@
-//! Showing the next copy to readers.
-ghost use Rattle.std.specs.Prelude.{◌≡◌, drop, IsSomeAnd};
+//! Showing the next copy to readers, and then having the other copy hold the same.
+ghost use Rattle.std.specs.Prelude.{◌≡◌, ℕ, List, drop, IsSome, IsSomeAnd};
+ghost use Rattle.fm_model.specs.declared.op.Op.{Op};
 ghost use Rattle.left_right.specs.Sides.{view};
-ghost use Rattle.pub_look.specs.History.{Continues};
-ghost use Rattle.pub_snap.specs.Rule.{Copy, EndsWith, Follows};
+ghost use Rattle.pub_snap.specs.Rule.{Copy, EndsWith, Follows, IsAtDesk, MayFollow};
 
 use crate::name::Name;
 use crate::rule::{Known, Publication, Publishes};
 use crate::shown::Shown;
+use fm_base::NoMemory;
 use left_right::writer::Writer;
 use std::mem;
 use std::sync::Wait;
@@ -14,7 +15,8 @@ use std::sync::Wait;
 // The writer under the rule.
 pub(crate) type Board<N> = Writer<Shown, Shown, Known, Publication<N>>;
 
-// Shows the next copy, whose log goes on from the one that is shown. It waits until it has done so.
+// Shows the next copy, whose log goes on from the one that is shown. It waits until it has done so, and takes no memory
+// where there is room for one more copy.
 pub(crate) fn show<N: Name, R: Wait>(rt: &R, slot: &mut Option<Board<N>>, next: Shown)
     requires { IsSomeAnd slot.old (λ board. Follows N.book N.proto board.desk.shown.value next) }
     ensures { IsSomeAnd slot.new (λ board.
@@ -26,6 +28,58 @@ pub(crate) fn show<N: Name, R: Wait>(rt: &R, slot: &mut Option<Board<N>>, next: 
     match mem::replace(slot, Some(board)) {
         None => {}
         Some(_) => unreachable!(),
+    }
+}
+
+// Asks for the room of one more copy. The queue of the writer never shrinks, and a swap lets go of what both copies
+// have taken in. So what the first turn appends is room once the second has shown its own.
+pub(crate) fn make_room<N: Name, R: Wait>(
+    rt: &R,
+    slot: &mut Option<Board<N>>,
+) -> Result<(), NoMemory>
+    requires { IsSome slot.old }
+    ensures some { IsSome slot.new }
+    ensures kept { (log : List Op) (booked : ℕ)
+        → IsSomeAnd slot.old (λ board. IsAtDesk N.proto log board.desk.shown.value (view board.desk.place) booked)
+        → IsSomeAnd slot.new (λ board. IsAtDesk N.proto log board.desk.shown.value (view board.desk.place) booked) }
+{
+    catch_up(rt, slot)?;
+    catch_up(rt, slot)
+}
+
+// Has the other copy hold what readers see, so that what it held can go. It waits for readers that are inside the other
+// copy. Out of memory it may be left as it was; readers see the same either way.
+pub(crate) fn catch_up<N: Name, R: Wait>(
+    rt: &R,
+    slot: &mut Option<Board<N>>,
+) -> Result<(), NoMemory>
+    requires { IsSome slot.old }
+    ensures some { IsSome slot.new }
+    ensures kept { (log : List Op) (booked : ℕ)
+        → IsSomeAnd slot.old (λ board. IsAtDesk N.proto log board.desk.shown.value (view board.desk.place) booked)
+        → IsSomeAnd slot.new (λ board. IsAtDesk N.proto log board.desk.shown.value (view board.desk.place) booked) }
+{
+    let board = slot.take().unwrap();
+    let (board, caught) = show_again(rt, board);
+    match mem::replace(slot, Some(board)) {
+        None => caught,
+        Some(_) => unreachable!(),
+    }
+}
+
+// Shows once more what readers see. It is then in both copies.
+fn show_again<N: Name, R: Wait>(rt: &R, board: Board<N>) -> (Board<N>, Result<(), NoMemory>)
+    ensures { (log : List Op) (booked : ℕ)
+        → IsAtDesk N.proto log board.desk.shown.value (view board.desk.place) booked
+        → IsAtDesk N.proto log result.0.desk.shown.value (view result.0.desk.place) booked }
+{
+    let mut board = board;
+    let Ok(same) = board.published().again() else {
+        return (board, Err(NoMemory));
+    };
+    match board.append(same) {
+        Ok(()) => (swap(rt, board), Ok(())),
+        Err(_) => (board, Err(NoMemory)),
     }
 }
 
@@ -46,10 +100,10 @@ fn append<N: Name, R: Wait>(rt: &R, board: Board<N>, next: Shown) -> Board<N>
 }
 
 // Shows the last copy that waits. A swap is refused only where no more owners of an edition can be counted, and is then
-// tried again.
+// tried again. It waits for readers that are inside the other copy, which are there only while they take a share.
 fn swap<N: Name, R: Wait>(rt: &R, board: Board<N>) -> Board<N>
     requires { (next : Copy) × EndsWith (drop board.behind board.log.items) next
-        × Follows N.book N.proto board.desk.shown.value next }
+        × MayFollow N.book N.proto board.desk.shown.value next }
     ensures { (next : Copy) → EndsWith (drop board.behind board.log.items) next
         → (result.desk.shown.value ≡ next) × ((view result.desk.place).seen ≡ next.log) }
 {

@@ -77,6 +77,28 @@ fn publish_plainly<N: Name>(alloc: Global, plain: &mut Plain, files: &Files<N>, 
     }
 }
 
+// Publishes all steps without threads, and notes what a look answers at each revision.
+fn note_all<N: Name>(
+    alloc: Global,
+    plain: &mut Plain,
+    files: &Files<N>,
+    answers: &mut List<u64>,
+) -> Result<(), Fail>
+    requires { plain.old.proto ≡ N.proto }
+{
+    answers.push(plain.ask(alloc, &SKETCH)?.0)?;
+    for number in 0..STEPS {
+        if !publish_plainly(alloc, plain, files, step_at(number)) {
+            return Err("each step changes what is held".into());
+        }
+        answers.push(plain.ask(alloc, &SKETCH)?.0)?;
+    }
+    if !hold_as_many(answers.as_slice()) {
+        return Err("as many files as by hand".into());
+    }
+    Ok(())
+}
+
 // What a look answers at each revision.
 pub(crate) fn answers<N: Name>(
     alloc: Global,
@@ -87,16 +109,7 @@ pub(crate) fn answers<N: Name>(
 {
     let mut plain = Plain::open(alloc, proto)?;
     let mut answers = List::new(alloc);
-    answers.push(plain.ask(alloc, &SKETCH)?.0)?;
-    for number in 0..STEPS {
-        if !publish_plainly(alloc, &mut plain, files, step_at(number)) {
-            return Err("each step changes what is held".into());
-        }
-        answers.push(plain.ask(alloc, &SKETCH)?.0)?;
-    }
-    if !hold_as_many(answers.as_slice()) {
-        return Err("as many files as by hand".into());
-    }
+    note_all(alloc, &mut plain, files, &mut answers)?;
     Ok(answers)
 }
 

@@ -1,18 +1,13 @@
-//! The publisher of `pub_snap` over threads, and what `srv_ingest` settles over its desk in one thread, on files that
-//! `fm_load` takes. Here stands what no clause says: that memory suffices, that threads change no answer, and that
-//! devices in memory fail where they were made to.
+//! The publisher of `pub_snap` over threads, and the moments that `srv_ingest` settles over its desk, on files that
+//! `fm_load` takes. Here stands what no clause says: that memory suffices, and that threads change no answer.
 #![tactic(auto)]
 
-#[cfg(test)]
-mod arriving;
 #[cfg(test)]
 mod collection;
 #[cfg(test)]
 mod course;
 #[cfg(test)]
 mod expiring;
-#[cfg(test)]
-mod failing;
 #[cfg(test)]
 mod files;
 #[cfg(test)]

@@ -8,7 +8,7 @@ use crate::files::{Files, prototype};
 use fm_base::{Arc, List};
 use fm_model::Proto;
 use pub_look::Look;
-use pub_snap::{Blank, Desk, Name, Pass, Receipt, Share, prepare};
+use pub_snap::{Blank, Closed, Desk, Name, Pass, Receipt, Share, prepare};
 use std::alloc::Global;
 use std::marker::Brand;
 use std::process::Abort;
@@ -140,37 +140,71 @@ fn race<N: Name + Send + Sync, R: Threads + Wait + Abort + Sync>(
     requires some { 1 ≤ blank.shares }
     requires proto { IsPrototype proto × (proto ≡ N.proto) }
 {
-    let files: Files<N> = Files::of(alloc, proto.get())?;
-    let answers = answers(alloc, proto, &files)?;
-    let mut readers = Vec::with_capacity(alloc, 32)?;
+    let (files, audience) = prepared(alloc, proto)?;
     let (desk, passes, shares) = blank.open::<N>(alloc)?;
-    for pass in passes.items {
-        let _full = readers.push(Reader::of(pass));
-    }
-    let mut audience = Audience { readers, answers };
-    let mut publisher = Publisher {
+    let publisher = Publisher {
         desk,
         shares,
         files,
     };
+    hold(rt, alloc, publisher, audience, passes);
+    Ok(())
+}
+
+// The files, and an audience without readers.
+fn prepared<N: Name>(alloc: Global, proto: Arc<Proto>) -> Result<(Files<N>, Audience<N>), Fail>
+    requires { IsPrototype proto × (proto ≡ N.proto) }
+{
+    let files: Files<N> = Files::of(alloc, proto.get())?;
+    let answers = answers(alloc, proto, &files)?;
+    let readers = Vec::with_capacity(alloc, 32)?;
+    Ok((files, Audience { readers, answers }))
+}
+
+// Has the readers of these passes ask while all steps are published, and looks at what they found.
+fn hold<N: Name + Send + Sync, R: Threads + Wait + Abort + Sync>(
+    rt: &R,
+    alloc: Global,
+    publisher: Publisher<N>,
+    audience: Audience<N>,
+    passes: List<Pass<N>>,
+)
+    requires some { 1 ≤ length publisher.shares }
+    requires all { length publisher.shares ≡ N.parts }
+{
+    let mut publisher = publisher;
+    let mut audience = audience;
+    seat_all(&mut audience.readers, passes);
     let written = read_and_write(rt, alloc, &mut publisher, &mut audience);
+    let (receipt, closed) = closed(rt, publisher);
+    assert!(rt; written && audience.readers.len() == 8);
+    assert_eq!(rt;
+        (receipt.revision(), closed.revision, closed.total),
+        (STEPS, STEPS, STEPS)
+    );
+    for reader in audience.readers {
+        found_nothing_wrong(rt, reader, &receipt);
+    }
+}
+
+// A reader for each pass.
+fn seat_all<N: Name>(readers: &mut Vec<Reader<N>>, passes: List<Pass<N>>) {
+    for pass in passes.items {
+        let _full = readers.push(Reader::of(pass));
+    }
+}
+
+// Closes the desk.
+fn closed<N: Name, R: Wait>(rt: &R, publisher: Publisher<N>) -> (Receipt<N>, Closed)
+    requires { length publisher.shares ≡ N.parts }
+{
     let Publisher {
         desk,
         shares,
         files: _,
     } = publisher;
     let receipt = desk.receipt();
-    let closed = desk.close(rt, shares);
-    assert!(rt; written);
-    assert_eq!(rt;
-        (receipt.revision(), closed.revision, closed.total),
-        (STEPS, STEPS, STEPS)
-    );
-    assert_eq!(rt; audience.readers.len(), 8);
-    for reader in audience.readers {
-        found_nothing_wrong(rt, reader, &receipt);
-    }
-    Ok(())
+    (receipt, desk.close(rt, shares))
 }
 
 fn found_nothing_wrong<N: Name, R: Abort>(rt: &R, reader: Reader<N>, receipt: &Receipt<N>) {

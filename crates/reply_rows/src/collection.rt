@@ -1,32 +1,16 @@
 //! A collection over a prototype, and what is done to it.
-ghost use Rattle.std.specs.Prelude.{◌≡◌, IfOk};
-ghost use Rattle.fm_model.specs.Example as spec;
+ghost use Rattle.std.specs.Prelude.{IfOk};
 ghost use Rattle.fm_model.specs.Site.{IsPrototype};
 
 use crate::moments::read_moment;
 use crate::wrong::Wrong;
-use fm_base::{Arc, Bytes, Fail, NoMemory};
-use fm_edition::Edition;
+use fm_base::{Arc, Bytes, Fail};
 use fm_load::load;
-use fm_model::{Full, Op, Proto, Site, Which};
-use fm_proto::read_proto;
-use pub_look::{Look, Plain, Query};
+use fm_model::{Full, MAX_FILE_BYTES, Op, Proto, Which};
+use fm_sample::{ItsProto, edition_of};
+use pub_look::{Look, Plain};
 use row_text::{File, Row, content};
 use std::alloc::Global;
-
-// The most bytes that a file has.
-const MOST: usize = 536_870_912;
-
-// The site of the collection `gfs`, whose epoch is the beginning of 2020.
-fn site(alloc: Global) -> Result<Site, NoMemory>
-    ensures { IfOk result (λ made. made ≡ spec.site) }
-{
-    Ok(Site {
-        name: Bytes::copy_of(alloc, b"gfs")?,
-        epoch: 1_577_836_800,
-        mark: Bytes::copy_of(alloc, b"gfs_")?,
-    })
-}
 
 /// The bytes that some words describe.
 pub fn described(alloc: Global, files: &[File], words: &str) -> Result<Bytes, Fail<Wrong>> {
@@ -45,36 +29,13 @@ pub fn epoch_of(row: &Row<'_>) -> Result<i64, Fail<Wrong>> {
 }
 
 /// The prototype that some words describe, of the collection `gfs`.
-#[tactic(auto, using(crate::proofs::SiteFacts::sites))]
 pub fn prototype(alloc: Global, files: &[File], words: &str) -> Result<Arc<Proto>, Fail<Wrong>>
     ensures { IfOk result IsPrototype }
 {
-    let bytes = described(alloc, files, words)?;
-    if bytes.len() > MOST {
-        return Err(Fail::Fault(Wrong::Form));
-    }
-    match read_proto(alloc, bytes, site(alloc)?) {
-        Ok(proto) => Ok(Arc::new(alloc, proto)?),
+    match edition_of(alloc, described(alloc, files, words)?) {
+        Ok(edition) => Ok(edition.proto().share()?),
         Err(Fail::NoMemory) => Err(Fail::NoMemory),
         Err(Fail::Fault(_)) => Err(Fail::Fault(Wrong::Form)),
-    }
-}
-
-/// A question whose answer is the collection's prototype.
-pub struct ItsProto;
-
-impl Query for ItsProto {
-    type Out = Arc<Proto>;
-
-    ghost says = { λ _ held _ out. out ≡ held.proto };
-
-    fn answer(
-        &self,
-        _alloc: Global,
-        edition: &Edition,
-        _revision: u64,
-    ) -> Result<Arc<Proto>, NoMemory> {
-        edition.proto().share()
     }
 }
 
@@ -87,7 +48,7 @@ pub fn put(
     bytes: Bytes,
 ) -> Result<String, Fail<Wrong>> {
     let (proto, _) = plain.ask(alloc, &ItsProto)?;
-    if bytes.len() > MOST {
+    if bytes.len() as u64 > MAX_FILE_BYTES {
         return Err(Fail::Fault(Wrong::Form));
     }
     match load(alloc, name, bytes, proto.get()) {

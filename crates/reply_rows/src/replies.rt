@@ -1,9 +1,9 @@
 //! The reply to a request.
 
-use crate::collection::ItsProto;
 use crate::wrong::Wrong;
 use dap_reply::{Order, Plan, order, refusal};
 use fm_base::{Bytes, Fail, NoMemory};
+use fm_sample::ItsProto;
 use pub_look::{Look, Plain};
 use std::alloc::Global;
 use web_frame::{Frame, Method, Next, Request};

@@ -53,16 +53,7 @@ pub fn said(
         return Err(Fail::Fault(Wrong::Form));
     }
     let mut steps = opened(alloc, files, first)?;
-    steps.run(alloc, files, first)?;
-    let Some(next) = next else {
-        return steps.end(alloc, files, first);
-    };
-    if !next.has_only(&GOES_ON) || steps.plan.is_some() {
-        return Err(Fail::Fault(Wrong::Form));
-    }
-    steps.out.clear();
-    steps.run(alloc, files, next)?;
-    steps.end(alloc, files, next)
+    steps.said(alloc, files, first, next)
 }
 
 fn opened(alloc: Global, files: &[File], row: &Row<'_>) -> Result<Steps, Fail<Wrong>> {
@@ -78,6 +69,26 @@ fn opened(alloc: Global, files: &[File], row: &Row<'_>) -> Result<Steps, Fail<Wr
 }
 
 impl Steps {
+    // Does the steps of a row, and then those of one that goes on from it. What is said of the last of them.
+    fn said(
+        &mut self,
+        alloc: Global,
+        files: &[File],
+        first: &Row<'_>,
+        next: Option<&Row<'_>>,
+    ) -> Result<String, Fail<Wrong>> {
+        self.run(alloc, files, first)?;
+        let Some(next) = next else {
+            return self.end(alloc, files, first);
+        };
+        if !next.has_only(&GOES_ON) || self.plan.is_some() {
+            return Err(Fail::Fault(Wrong::Form));
+        }
+        self.out.clear();
+        self.run(alloc, files, next)?;
+        self.end(alloc, files, next)
+    }
+
     // Does the steps of a row.
     fn run(&mut self, alloc: Global, files: &[File], row: &Row<'_>) -> Result<(), Fail<Wrong>> {
         for field in &row.fields {
@@ -163,24 +174,21 @@ impl Steps {
     }
 
     // What was said of the steps, and the reply.
-    fn end(self, alloc: Global, files: &[File], row: &Row<'_>) -> Result<String, Fail<Wrong>> {
-        let Steps {
-            plain: _plain,
-            epoch: _epoch,
-            plan,
-            mut out,
-        } = self;
-        let Some(plan) = plan else {
-            if row.value("data").is_some() || row.value("lent").is_some() {
-                return Err(Fail::Fault(Wrong::Form));
+    fn end(&mut self, alloc: Global, files: &[File], row: &Row<'_>) -> Result<String, Fail<Wrong>> {
+        let out = &mut self.out;
+        match &self.plan {
+            Some(plan) => {
+                if !out.is_empty() {
+                    out.push('\n')?;
+                }
+                put_reply(alloc, files, row, plan, out)?;
+                Ok(ended(alloc, out.as_str())?)
             }
-            return Ok(out);
-        };
-        if !out.is_empty() {
-            out.push('\n')?;
+            None if row.value("data").is_some() || row.value("lent").is_some() => {
+                Err(Fail::Fault(Wrong::Form))
+            }
+            None => Ok(String::from_str(alloc, out.as_str())?),
         }
-        put_reply(alloc, files, row, &plan, &mut out)?;
-        Ok(ended(alloc, out.as_str())?)
     }
 }
 

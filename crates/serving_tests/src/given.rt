@@ -73,6 +73,16 @@ pub(crate) fn asking_door(alloc: Global, twice: bool) -> Result<MemDoor, NoMemor
     MemDoor::new(alloc, links, List::new(alloc))
 }
 
+// Two doors to each of which one link comes, or two.
+pub(crate) fn two_doors(alloc: Global, twice: bool) -> Result<List<MemDoor>, NoMemory>
+    ensures { IfOk result (All (λ door. (⟦<MemDoor as Door>⟧.shown door).faults ≡ 0)) }
+{
+    let mut doors = List::new(alloc);
+    doors.push(asking_door(alloc, twice)?)?;
+    doors.push(asking_door(alloc, twice)?)?;
+    Ok(doors)
+}
+
 // What opens these doors and an inbox to which these names come.
 pub(crate) fn opener_of(
     alloc: Global,

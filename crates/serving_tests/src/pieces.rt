@@ -3,7 +3,9 @@
 use crate::by_lines::ByLines;
 use crate::given::{ONCE, asked, link_of};
 use crate::texts::{REPLIES, REQUESTS, STRUCTURE};
-use fm_base::Bytes;
+use dev_memory::MemLink;
+use fm_base::{Bytes, NoMemory};
+use std::alloc::Global;
 use std::test::Fail;
 
 // The room of a link's output.
@@ -65,15 +67,19 @@ fn says_close(bytes: &[u8]) -> bool {
     bytes.windows(close.len()).any(|part| part == close)
 }
 
-#[test]
-fn reply_10000_is_the_last(rt: HostRuntime) -> Result<(), Fail> {
-    let alloc = rt.alloc();
+// A link with one request more than it has replies.
+fn many_requests(alloc: Global) -> Result<MemLink, NoMemory> {
     let mut input = Bytes::new(alloc);
     for _ in 0..10_001 {
         input.append(b"GET / HTTP/1.1\r\n\r\n")?;
     }
-    let link = link_of(alloc, input.as_slice(), 4_194_304, 0)?;
-    let (status, world) = asked(&rt, alloc, MANY, link)?;
+    link_of(alloc, input.as_slice(), 4_194_304, 0)
+}
+
+#[test]
+fn reply_10000_is_the_last(rt: HostRuntime) -> Result<(), Fail> {
+    let alloc = rt.alloc();
+    let (status, world) = asked(&rt, alloc, MANY, many_requests(alloc)?)?;
     assert_eq!(rt; status, 11);
     let output = world.link.output();
     assert_eq!(rt; output.len(), 9_999 * 238 + 233);

@@ -8,7 +8,7 @@ use Rattle.web_session.specs.State.{State, fresh}
 use Rattle.dap_reply.specs.declared.served.Mark.{Mark}
 use Rattle.dap_reply.specs.declared.served.Stop.{Stop}
 use Rattle.srv_conn.specs.Serves.{moment_of, Serves}
-use Rattle.srv_conn.specs.declared.door_turn.TheConstants.{MOST_REPLIES}
+use Rattle.srv_conn.specs.DoorTurns.{MOST_REPLIES}
 use Rattle.srv_conn.specs.DoorTurns.{IsTurn, ServesNext, Sight}
 
 -- a door that gave no link is as before

@@ -1,10 +1,10 @@
 -- Where what happens on a link takes a session.
-use Rattle.std.proofs.Common.{◌≡◌, ◌<◌, ◌≤◌, zero, suc, ℕ, ◌+◌, ◌-◌, Bor, List, [], ◌++◌, length, take, Bool, false, cond, Option, Some, None, refl, ap, ◌∙◌, arith, ltb}
+use Rattle.std.proofs.Common.{◌≡◌, ◌<◌, ◌≤◌, ℕ, ◌-◌, Bor, List, [], ◌∷◌, ◌++◌, length, take, Bool, cond, Option, Some, None, refl, ap, ◌∙◌, arith, ltb}
 use Rattle.std.proofs.lemmas.List.{take_all}
-use Rattle.std.proofs.lemmas.Bool.{lt-ltb, le-ltb}
+use Rattle.std.proofs.lemmas.Bool.{lt-ltb}
 use Rattle.web_frame.specs.declared.frame.Next.{Next}
 use Rattle.web_frame.specs.declared.frame.Next.TheVariants as next
-use Rattle.web_frame.specs.declared.limit.TheConstants.{MAX_HEAD}
+use Rattle.web_frame.specs.Limit.{MAX_HEAD}
 use Rattle.web_frame.specs.Stream.{held_after, held_len, next_of, Held}
 use Rattle.web_session.specs.declared.action.Action.{Action}
 use Rattle.web_session.specs.declared.action.Asked.{Asked}
@@ -14,23 +14,24 @@ use Rattle.web_session.specs.declared.event.Event.TheVariants.{Bytes, Answer, Se
 use Rattle.web_session.specs.declared.phase.Phase.{Phase}
 use Rattle.web_session.specs.declared.phase.Phase.TheVariants.{Waiting, Asking, Sending, Ended}
 use Rattle.web_session.specs.Event.{after_event, after_in}
-use Rattle.web_session.specs.State.{action_at, action_of, end_after, end_of_input, looked, phase_after, replied, replied_by, sent, State}
+use Rattle.web_session.specs.State.{action_at, action_of, end_after, end_of_input, looked, phase_after, replied, replied_by, resting, sent, State}
+use Rattle.web_session.proofs.SentLemmas.{at_phase, sends-all}
 use Rattle.dap_reply.specs.Served.{held_bytes, IsAtRest}
-use Rattle.srv_conn.specs.Turn.{end_said, at_rest}
+use Rattle.srv_conn.specs.Turn.{end_said}
 use Rattle.srv_conn.proofs.SessionLemmas.{ends-so, waiting-held}
 
 -- ---- while it waits
 
 pub feeds : (s : State) (piece : Bor (List ℕ)) → IsAtRest s → s.phase ≡ Waiting
     → length piece.now ≤ MAX_HEAD - held_len s.held
-    → after_event s (Bytes piece) ≡ at_rest (held_bytes s ++ piece.now) s.before
+    → after_event s (Bytes piece) ≡ resting (held_bytes s ++ piece.now) s.before
 unfolding after_event looked
 feeds s piece rests is fits =
     let same : s.held ≡ record { head = []; rest = held_bytes s } = waiting-held s rests is in
     let fed : List ℕ = take (MAX_HEAD - held_len s.held) piece.now in
     ap (λ (p : Phase). after_in p s (Bytes piece)) is
-    ∙ ap (λ (h : Held). at_rest (h.rest ++ fed) s.before) same
-    ∙ ap (λ (l : List ℕ). at_rest (held_bytes s ++ l) s.before)
+    ∙ ap (λ (h : Held). resting (h.rest ++ fed) s.before) same
+    ∙ ap (λ (l : List ℕ). resting (held_bytes s ++ l) s.before)
     (take_all (MAX_HEAD - held_len s.held) piece.now fits)
 
 pub input-ends : (s : State) → IsAtRest s → s.phase ≡ Waiting
@@ -47,62 +48,19 @@ fault-ends s is = ap (λ (p : Phase). (after_in p s Fault).phase) is
 
 -- ---- while it replies
 
--- a session in another phase
-at_phase : State → Phase → State
-at_phase s phase = record s { phase = phase }
-
-replied-by-same : (s : State) (phase : Phase) (end : Option End) → replied_by end (at_phase s phase) ≡ replied_by end s
-unfolding at_phase looked
-replied-by-same s phase (Some end) = refl
-replied-by-same s phase None = refl
-
--- a reply that is whole leads on whatever the phase was
-replied-same : (s : State) (phase : Phase) (asked : Asked) → replied (at_phase s phase) asked ≡ replied s asked
-unfolding at_phase replied
-replied-same s phase asked = replied-by-same s phase (end_after asked s.before)
-
--- a session that looks for the next head is not sending
-sent-next : (next : Next) (s : State) (count : ℕ) → after_in (phase_after next) s (Sent count) ≡ s
-sent-next next.Need s count = refl
-sent-next (next.Head r) s count = refl
-sent-next next.BadHead s count = refl
-sent-next next.HeadTooLong s count = refl
-
-sent-replied : (s : State) (end : Option End) (count : ℕ)
-    → after_event (replied_by end s) (Sent count) ≡ replied_by end s
-unfolding after_event looked
-sent-replied s (Some end) count = refl
-sent-replied s None count = sent-next (next_of s.held.rest) (looked s.held (s.before + 1)) count
-
 -- the session gets the length of a reply
 told : (s : State) (asked : Asked) (len : ℕ) → s.phase ≡ Asking asked
     → after_event s (Answer len) ≡ cond (ltb 0 len) (at_phase s (Sending asked 0 len)) (replied s asked)
-unfolding after_event sent at_phase
+unfolding after_event sent
 told s asked len is = ap (λ (p : Phase). after_in p s (Answer len)) is
-
-sends-all : (s : State) (asked : Asked) (len : ℕ)
-    → after_event (at_phase s (Sending asked 0 len)) (Sent len) ≡ replied s asked
-unfolding after_event sent at_phase
-sends-all s asked len =
-    let all : ltb (0 + len) len ≡ false = le-ltb (0 + len) len (omega arith) in
-    let sending : State = at_phase s (Sending asked 0 len) in
-    ap (λ (b : Bool). cond b (at_phase sending (Sending asked (0 + len) len)) (replied sending asked)) all
-    ∙ replied-same s (Sending asked 0 len) asked
 
 pub tell-whole : (s : State) (asked : Asked) (len : ℕ) → s.phase ≡ Asking asked
     → after_event (after_event s (Answer len)) (Sent len) ≡ replied s asked
-unfolding replied
-tell-whole s asked zero is =
-    ap (λ (x : State). after_event x (Sent 0)) (told s asked 0 is) ∙ sent-replied s (end_after asked s.before) 0
-tell-whole s asked (suc n) is =
-    ap (λ (x : State). after_event x (Sent (suc n))) (told s asked (suc n) is
-    ∙ ap (λ (b : Bool). cond b (at_phase s (Sending asked 0 (suc n))) (replied s asked))
-    (lt-ltb 0 (suc n) (omega arith)))
-    ∙ sends-all s asked (suc n)
+tell-whole s asked len is = sends-all s asked len (len ∷ []) is (omega arith)
 
 pub tell-cut : (s : State) (asked : Asked) (len : ℕ) → s.phase ≡ Asking asked → 0 < len
     → (after_event (after_event s (Answer len)) Fault).phase ≡ Ended ends.LinkFault
-unfolding after_event at_phase
+unfolding after_event
 tell-cut s asked len is some =
     ap (λ (x : State). (after_event x Fault).phase) (told s asked len is
     ∙ ap (λ (b : Bool). cond b (at_phase s (Sending asked 0 len)) (replied s asked)) (lt-ltb 0 len some))

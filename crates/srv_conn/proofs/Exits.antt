@@ -5,7 +5,8 @@ use Rattle.std.proofs.lemmas.Option.{slice_get_within}
 use Rattle.fm_model.specs.declared.proto.Proto.{Proto}
 use Rattle.dev_traits.specs.Cause.{one_more}
 use Rattle.dev_traits.specs.Shown.{LinkShown}
-use Rattle.web_frame.specs.Items.{heads_of, Heads, Item, ReadsTo}
+use Rattle.web_frame.specs.Items.{bytes_after, heads_of, Heads, Item, ReadsTo}
+use Rattle.web_frame.proofs.LeftLemmas.{left-is}
 use Rattle.web_session.specs.declared.action.End.{End}
 use Rattle.web_session.specs.declared.action.End.TheVariants as ends
 use Rattle.web_session.specs.State.{end_of_input, State}
@@ -24,7 +25,7 @@ use Rattle.srv_conn.proofs.Serving.{reads-more, with_taken, Begun, Begun-takes, 
 use Rattle.srv_conn.proofs.SessionLemmas.{rests-at, waiting-cut}
 
 -- no reply that goes on is a connection's last
-goes-on-at : (call : LinkCall) (done others : List Item) → items_of call ≡ done ++ others
+pub goes-on-at : (call : LinkCall) (done others : List Item) → items_of call ≡ done ++ others
     → length call.trail ≡ length done
     → Each (GoesOn call.proto call.seen_after) call.trail done (call.session.before + 1)
     → (index : ℕ) (item : Item) → index < length call.trail → slice_get (items_of call) index ≡ Some item
@@ -57,6 +58,8 @@ serves-enough proto still start now most s all =
       all = all;
       goes_on = goes-on-at call s.done others items s.begun.count s.each;
       rests = rests-at now.session (held_bytes now.session) (start.session.before + length s.done) s.session_is;
+      held_is = left-is s.leaves
+          ∙ ap (λ (n : ℕ). bytes_after n (held_bytes start.session ++ s.taken)) (sym counted);
       left = subst (λ (l : List Item). ReadsTo (held_bytes start.session ++ s.taken) l (held_bytes now.session))
           (sym (ap (λ (n : ℕ). take n (items_of call)) counted ∙ first_read s.reads)) s.reads;
       counted = ap (λ (x : State). x.before) s.session_is ∙ ap (λ (n : ℕ). start.session.before + n) (sym counted);

@@ -1,23 +1,24 @@
 -- A served link goes on after a whole reply that isn't a connection's last.
-use Rattle.std.proofs.Common.{◌≡◌, ℕ, ◌+◌, List, [], ◌∷◌, ◌++◌, length, Bool, Option, None, refl, sym, ap, ap₂, subst, ◌∙◌, arith, length-append}
+use Rattle.std.proofs.Common.{◌≡◌, ℕ, suc, ◌+◌, List, [], ◌∷◌, ◌++◌, length, Bool, Option, None, refl, sym, ap, ap₂, subst, ◌∙◌, arith, length-append}
 use Rattle.std.specs.Prelude.{is_some}
 use Rattle.fm_model.specs.declared.proto.Proto.{Proto}
-use Rattle.web_frame.specs.Items.{Item, ReadsTo}
+use Rattle.web_frame.specs.Items.{heads_of, AreFirst, Item, ReadsTo}
 use Rattle.web_frame.specs.Stream.{held_after, next_of, Held}
+use Rattle.web_frame.proofs.LeftLemmas.{Leaves}
 use Rattle.web_session.specs.declared.action.Asked.{Asked}
 use Rattle.web_session.specs.declared.action.Asked.TheVariants as says
 use Rattle.web_session.specs.declared.action.End.{End}
 use Rattle.web_session.specs.declared.phase.Phase.TheVariants.{Asking}
 use Rattle.web_session.specs.Run.{item_asked}
-use Rattle.web_session.specs.State.{end_after, looked, phase_after, replied, replied_by, State}
+use Rattle.web_session.specs.State.{end_after, looked, phase_after, replied, replied_by, resting, State}
 use Rattle.dap_reply.specs.declared.served.Mark.{Mark}
 use Rattle.dap_reply.specs.Reply.{is_last}
 use Rattle.dap_reply.specs.Served.{asked_of, held_bytes}
 use Rattle.dap_reply.proofs.ServedLemmas.{last-ends}
 use Rattle.srv_conn.specs.Serves.{Moment}
-use Rattle.srv_conn.specs.Turn.{item_of_turn, at_rest, IsWhole}
+use Rattle.srv_conn.specs.Turn.{item_of_turn, IsWhole}
 use Rattle.srv_conn.proofs.EachLemmas.{Each, Each-append}
-use Rattle.srv_conn.proofs.HeadLemmas.{passes}
+use Rattle.srv_conn.proofs.HeadLemmas.{asked-first, leaves-passed, passes}
 use Rattle.srv_conn.proofs.ScriptLemmas.{last-append, last_revision}
 use Rattle.srv_conn.proofs.Serving.{each-later, Begun-replies, GoesOn, Serving}
 use Rattle.srv_conn.proofs.SessionLemmas.{held-at}
@@ -35,6 +36,16 @@ last-said asked held before =
     last-ends (item_asked asked held) before
     ∙ ap (λ (a : Asked). is_some (end_after a before)) (asked-back asked held)
 
+-- the question is the next of the items that are read
+pub asked-now : (proto : Proto) (still : Bool) (start now : Moment) (asked : Asked) (s : Serving proto still start now)
+    → now.session.phase ≡ Asking asked
+    → AreFirst (s.done ++ item_of_turn now asked ∷ []) (heads_of (held_bytes start.session ++ s.taken)).items
+asked-now proto still start now asked s asking =
+    subst (λ (h : Held). AreFirst (s.done ++ item_asked asked h ∷ [])
+    (heads_of (held_bytes start.session ++ s.taken)).items) (sym (ap (λ (x : State). x.held) s.session_is))
+    (asked-first (held_bytes start.session ++ s.taken) (held_bytes now.session) s.done asked s.reads
+    (sym (ap (λ (x : State). x.phase) s.session_is) ∙ asking))
+
 goes_on_with : (asked : Asked) (text left : List ℕ) (done : List Item) (before : ℕ) → end_after asked before ≡ None
     → ReadsTo text done left → phase_after (next_of left) ≡ Asking asked
     → ReadsTo text (done ++ item_asked asked (held_after left) ∷ []) (held_after left).rest
@@ -42,9 +53,15 @@ goes_on_with (says.Head r) text left done before none reads asking = passes text
 goes_on_with says.BadHead text left done before none reads asking = absurd (cc)
 goes_on_with says.HeadTooLong text left done before none reads asking = absurd (cc)
 
+left_with : (asked : Asked) (text left : List ℕ) (n before : ℕ) → end_after asked before ≡ None
+    → Leaves text n left → phase_after (next_of left) ≡ Asking asked → Leaves text (suc n) (held_after left).rest
+left_with (says.Head r) text left n before none l asking = leaves-passed text left n r l asking
+left_with says.BadHead text left n before none l asking = absurd (cc)
+left_with says.HeadTooLong text left n before none l asking = absurd (cc)
+
 -- where a reply leads on
 leads-on : (s : State) (asked : Asked) → end_after asked s.before ≡ None
-    → replied s asked ≡ at_rest s.held.rest (s.before + 1)
+    → replied s asked ≡ resting s.held.rest (s.before + 1)
 unfolding replied looked
 leads-on s asked none = ap (λ (end : Option End). replied_by end s) none
 
@@ -70,7 +87,12 @@ Serving-goes proto still start now after asked s asking w = record {
       (sym held_is)
       (goes_on_with asked (held_bytes start.session ++ s.taken) (held_bytes now.session) s.done now.session.before none
       s.reads asks));
-  session_is = session ∙ ap₂ at_rest (sym held) counted;
+  leaves = subst (λ (n : ℕ). Leaves (held_bytes start.session ++ s.taken) n (held_bytes after.session)) (sym one_more)
+      (subst (Leaves (held_bytes start.session ++ s.taken) (suc (length s.done))) (sym held)
+      (subst (λ (h : Held). Leaves (held_bytes start.session ++ s.taken) (suc (length s.done)) h.rest) (sym held_is)
+      (left_with asked (held_bytes start.session ++ s.taken) (held_bytes now.session) (length s.done)
+      now.session.before none s.leaves asks)));
+  session_is = session ∙ ap₂ resting (sym held) counted;
 }
   where
     item : Item
@@ -98,11 +120,14 @@ Serving-goes proto still start now after asked s asking w = record {
       last-said asked now.session.held now.session.before ∙ ap is_some none,
     )
 
-    session : after.session ≡ at_rest now.session.held.rest (now.session.before + 1)
+    session : after.session ≡ resting now.session.held.rest (now.session.before + 1)
     session = w.session_is ∙ leads-on now.session asked none
 
     held : held_bytes after.session ≡ now.session.held.rest
     held = held-at after.session now.session.held.rest (now.session.before + 1) session
+
+    one_more : length (s.done ++ item ∷ []) ≡ suc (length s.done)
+    one_more = omega (arith, length-append s.done (item ∷ []))
 
     counted : now.session.before + 1 ≡ start.session.before + length (s.done ++ item ∷ [])
     counted = omega (arith, before_is, length-append s.done (item ∷ []))

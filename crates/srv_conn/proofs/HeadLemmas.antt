@@ -1,11 +1,12 @@
 -- The requests that are read, as far as a session came.
-use Rattle.std.proofs.Common.{◌≡◌, ℕ, List, [], ◌∷◌, ◌++◌, length, take, drop, refl, sym, ap, subst, ◌∙◌, append-nil}
+use Rattle.std.proofs.Common.{◌≡◌, ℕ, suc, List, [], ◌∷◌, ◌++◌, length, take, drop, refl, sym, ap, subst, ◌∙◌, append-nil}
 use Rattle.std.proofs.lemmas.List.{take-append-drop}
 use Rattle.web_frame.specs.declared.request.Request.{Request}
 use Rattle.web_frame.specs.Cut.{cut_of, Cut, none_yet, whole, too_long}
 use Rattle.web_frame.specs.Items.{bad_head, head_too_long, heads_of, item_of, items_before, request, AreFirst, Heads, Item, ReadsTo}
-use Rattle.web_frame.specs.Stream.{held_after, held_by, next_by, next_by_item, next_of, target_of, Held}
+use Rattle.web_frame.specs.Stream.{held_after, held_by, next_by, next_by_item, next_of, target_in, Held}
 use Rattle.web_frame.proofs.ItemLemmas.{heads_of-cut, ReadsTo-item}
+use Rattle.web_frame.proofs.LeftLemmas.{Leaves, Leaves-head}
 use Rattle.web_session.specs.declared.action.Asked.{Asked}
 use Rattle.web_session.specs.declared.action.Asked.TheVariants as says
 use Rattle.web_session.specs.declared.phase.Phase.TheVariants.{Asking}
@@ -54,7 +55,7 @@ passes-item : (item : Item) (n : ℕ) (left text : List ℕ) (done : List Item) 
 passes-item (request q target) n left text done r reads is item looked =
     let same : q ≡ r = cc in
     let asked_item : request q target ≡ item_asked (says.Head r) (held_by (whole n) left) =
-    ap (λ (x : Request). request x target) same ∙ ap (request r) (sym (ap target_of item)) in
+    ap (λ (x : Request). request x target) same ∙ ap (request r) (sym (ap target_in item)) in
     subst (λ (i : Item). ReadsTo text (done ++ i ∷ []) (drop n left)) asked_item (ReadsTo-item n q target reads is item)
 passes-item bad_head n left text done r reads is item looked = absurd (cc)
 passes-item head_too_long n left text done r reads is item looked = absurd (cc)
@@ -74,4 +75,19 @@ passes text left done r reads looked =
     subst (λ (h : Held). ReadsTo text (done ++ item_asked (says.Head r) h ∷ []) h.rest)
     (sym (held_after-cut left (cut_of left) refl))
     (passes-cut (cut_of left) left text done r reads refl
+    (sym (ap phase_after (next_of-cut left (cut_of left) refl)) ∙ looked))
+
+-- ---- and they are what is left of the bytes
+
+leaves-cut : (cut : Cut) (left text : List ℕ) (n : ℕ) (r : Request) → Leaves text n left → cut_of left ≡ cut
+    → phase_after (next_by cut left) ≡ Asking (says.Head r) → Leaves text (suc n) (held_by cut left).rest
+leaves-cut none_yet left text n r l is looked = absurd (cc)
+leaves-cut (whole len) left text n r l is looked = Leaves-head len l is
+leaves-cut too_long left text n r l is looked = absurd (cc)
+
+pub leaves-passed : (text left : List ℕ) (n : ℕ) (r : Request) → Leaves text n left
+    → phase_after (next_of left) ≡ Asking (says.Head r) → Leaves text (suc n) (held_after left).rest
+leaves-passed text left n r l looked =
+    subst (λ (h : Held). Leaves text (suc n) h.rest) (sym (held_after-cut left (cut_of left) refl))
+    (leaves-cut (cut_of left) left text n r l refl
     (sym (ap phase_after (next_of-cut left (cut_of left) refl)) ∙ looked))

@@ -4,24 +4,22 @@ use Rattle.std.specs.Prelude.{slice_get}
 use Rattle.std.proofs.lemmas.Option.{same_Some}
 use Rattle.fm_model.specs.declared.proto.Proto.{Proto}
 use Rattle.dev_traits.specs.Cause.{one_more}
-use Rattle.web_frame.specs.Items.{Item, AreFirst}
-use Rattle.web_frame.specs.Stream.{held_after, Held}
+use Rattle.web_frame.specs.Items.{Item}
 use Rattle.web_session.specs.declared.action.Asked.{Asked}
 use Rattle.web_session.specs.declared.action.Asked.TheVariants as says
 use Rattle.web_session.specs.declared.action.End.{End}
 use Rattle.web_session.specs.declared.action.End.TheVariants as ends
 use Rattle.web_session.specs.declared.phase.Phase.TheVariants.{Asking, Ended as Over}
-use Rattle.web_session.specs.Run.{item_asked}
 use Rattle.web_session.specs.State.{end_after, replied, replied_by, State}
 use Rattle.dap_reply.specs.declared.served.Mark.{Mark}
 use Rattle.dap_reply.specs.declared.served.Stop.{Stop}
 use Rattle.dap_reply.specs.declared.served.Stop.TheVariants as stops
-use Rattle.dap_reply.specs.Served.{held_bytes, items_of, EndsBy, LinkCall, StopsBy}
+use Rattle.dap_reply.specs.Served.{items_of, EndsBy, LinkCall, StopsBy}
 use Rattle.srv_conn.specs.Serves.{call_of, IsCalm, Moment, Serves}
-use Rattle.srv_conn.specs.Turn.{item_of_turn, reply_of_turn, IsCut, IsWhole, Replies}
+use Rattle.srv_conn.specs.Turn.{item_of_turn, reply_of_turn, IsCut, IsWhole, IsBegun}
 use Rattle.srv_conn.proofs.EachLemmas.{Each, Each-append}
-use Rattle.srv_conn.proofs.GoingOn.{asked-back}
-use Rattle.srv_conn.proofs.HeadLemmas.{asked-first, rest_of}
+use Rattle.srv_conn.proofs.GoingOn.{asked-back, asked-now}
+use Rattle.srv_conn.proofs.HeadLemmas.{rest_of}
 use Rattle.srv_conn.proofs.Ran.{moves_of, no-farewell, serves-so, Ran-begun}
 use Rattle.srv_conn.proofs.ServedParts.{ended-of, ends-reply, failed, Ended, WholeOrCut}
 use Rattle.srv_conn.proofs.Serving.{each-later, Begun, Begun-replies, Serving}
@@ -46,7 +44,7 @@ last_call proto still start now after asked most stop mark s = call_of proto sti
 -- the reply that was begun last, whole or cut
 record Last (proto : Proto) (still : Bool) (start now after : Moment) (asked : Asked) (most : ℕ) (stop : Stop)
     (mark : Mark) (s : Serving proto still start now) : Type 0 where
-  replies : Replies proto still now after asked mark
+  replies : IsBegun proto still now after asked mark
   asking : now.session.phase ≡ Asking asked
   few : length now.trail < most
   last : WholeOrCut (last_call proto still start now after asked most stop mark s)
@@ -100,19 +98,11 @@ serves-last proto still start now after asked most stop mark s l ample why calm 
     call : LinkCall
     call = call_of proto still start after (moves_of s.taken (written ++ []) false) most stop
 
-    held_is : now.session.held ≡ held_after (held_bytes now.session)
-    held_is = ap (λ (x : State). x.held) s.session_is
-
-    first : AreFirst done (items_of call)
-    first = subst (λ (h : Held). AreFirst (s.done ++ item_asked asked h ∷ []) (items_of call)) (sym held_is)
-        (asked-first (held_bytes start.session ++ s.taken) (held_bytes now.session) s.done asked s.reads
-        (sym (ap (λ (x : State). x.phase) s.session_is) ∙ l.asking))
-
     others : List Item
     others = drop (length done) (items_of call)
 
     items : items_of call ≡ done ++ others
-    items = rest_of done (items_of call) first
+    items = rest_of done (items_of call) (asked-now proto still start now asked s l.asking)
 
     longer : length after.trail ≡ length now.trail + 1
     longer = ap length l.replies.trail_is ∙ length-append now.trail (mark ∷ [])

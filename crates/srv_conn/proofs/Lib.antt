@@ -21,3 +21,4 @@ pub mod ShortExit
 pub mod TakesLemmas
 pub mod TurnExits
 pub mod TurnLemmas
+pub mod WrittenLemmas

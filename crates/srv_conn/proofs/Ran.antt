@@ -1,5 +1,5 @@
 -- A served link, by the bytes written after the last reply and the looks without a reply.
-use Rattle.std.proofs.Common.{◌≡◌, ◌≢◌, ◌≤◌, ◌⊎◌, inr, ℕ, List, [], ◌++◌, length, take, Bool, true, refl, sym, ap, subst, ◌∙◌, append-nil, arith}
+use Rattle.std.proofs.Common.{◌≡◌, ◌≢◌, ◌⊎◌, inl, inr, ℕ, List, [], ◌∷◌, ◌++◌, length, take, Bool, true, refl, sym, ap, subst, ◌∙◌, append-nil}
 use Rattle.fm_model.specs.declared.proto.Proto.{Proto}
 use Rattle.pub_look.specs.History.{Continues}
 use Rattle.web_frame.specs.Items.{Item}
@@ -45,14 +45,14 @@ pub record IsFarewell (call : LinkCall) (farewell more : List ℕ) : Type 0 wher
   pub only_short : call.stop ≢ stops.Ended ends.NoMemory → (farewell ≡ []) × (more ≡ [])
   pub front : farewell ≡ take (length farewell) no_memory_reply
   pub said : call.stop ≡ stops.Ended ends.NoMemory → (farewell ≡ no_memory_reply) ⊎ HasFailed call
-  pub at_most_one : length more ≤ 1
+  pub at_most_one : (more ≡ []) ⊎ (more ≡ length call.seen_after ∷ [])
 
 pub no-farewell : (call : LinkCall) → (call.stop ≡ stops.Ended ends.NoMemory → HasFailed call) → IsFarewell call [] []
 no-farewell call said = record {
   only_short = λ _. (refl, refl);
   front = refl;
   said = λ is. inr (said is);
-  at_most_one = omega arith;
+  at_most_one = inl refl;
 }
 
 -- what moved

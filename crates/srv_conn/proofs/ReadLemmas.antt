@@ -4,15 +4,15 @@ use Rattle.std.specs.Prelude.{IfSome}
 use Rattle.std.proofs.lemmas.List.{length-take, take-append-le}
 use Rattle.dev_traits.specs.Link.{after_take, GivesNext}
 use Rattle.dev_traits.specs.Shown.{LinkShown}
-use Rattle.web_frame.specs.declared.limit.TheConstants.{MAX_HEAD}
+use Rattle.web_frame.specs.Limit.{MAX_HEAD}
 use Rattle.web_frame.specs.Stream.{held_len}
 use Rattle.web_session.specs.declared.action.Action.{Action}
 use Rattle.web_session.specs.declared.action.Action.TheVariants.{Read, Close}
 use Rattle.web_session.specs.declared.event.Event.TheVariants.{Bytes, EndOfInput}
 use Rattle.web_session.specs.Event.{after_event}
-use Rattle.web_session.specs.State.{action_of, end_of_input, State}
+use Rattle.web_session.specs.State.{action_of, end_of_input, resting, State}
 use Rattle.dap_reply.specs.Served.{held_bytes, IsAtRest}
-use Rattle.srv_conn.specs.Turn.{at_rest, Takes}
+use Rattle.srv_conn.specs.Turn.{Takes}
 use Rattle.srv_conn.proofs.EventLemmas.{feeds, input-ends}
 use Rattle.srv_conn.proofs.MovedLemmas.{moved-given, next-given}
 use Rattle.srv_conn.proofs.SessionLemmas.{ends-so, reads-waiting}
@@ -29,7 +29,7 @@ takes-given link now s after buf rest count read piece rests reads within fits c
       next = next-given link.held buf read given fits;
       faults_are = faults;
       session_is = is ∙ feeds s piece rests (reads-waiting s count reads).0 room
-          ∙ ap (λ (l : List ℕ). at_rest (held_bytes s ++ l) s.before) cut;
+          ∙ ap (λ (l : List ℕ). resting (held_bytes s ++ l) s.before) cut;
     })
   where
     front : take read (buf ++ rest) ≡ take read buf

@@ -3,19 +3,19 @@ use Rattle.std.proofs.Common.{◌≡◌, ℕ, ◌+◌, List, Bool, refl, sym, ap
 use Rattle.fm_model.specs.declared.loaded.Loaded.{Loaded}
 use Rattle.fm_model.specs.declared.proto.Proto.{Proto}
 use Rattle.web_frame.specs.Items.{item_of, Item}
-use Rattle.web_frame.specs.Stream.{target_of, Held}
+use Rattle.web_frame.specs.Stream.{target_in, Held}
 use Rattle.web_session.specs.declared.action.Asked.{Asked}
 use Rattle.web_session.specs.declared.action.Asked.TheVariants as says
 use Rattle.web_session.specs.declared.phase.Phase.{Phase}
 use Rattle.web_session.specs.declared.phase.Phase.TheVariants.{Asking}
 use Rattle.web_session.specs.Run.{item_asked}
-use Rattle.web_session.specs.State.{is_last as ends_link, State}
+use Rattle.web_session.specs.State.{ends_link, State}
 use Rattle.dap_reply.specs.Order.{item_by}
 use Rattle.dap_reply.specs.Reply.{answer_to, has_head_alone, is_last, reply_of, reply_text}
 use Rattle.srv_conn.proofs.GoingOn.{last-said}
 
 -- the item by the target that a session says
-item-said : (asked : Asked) (held : Held) (target : List ℕ) → target ≡ target_of (item_of held.head)
+item-said : (asked : Asked) (held : Held) (target : List ℕ) → target ≡ target_in (item_of held.head)
     → item_by asked target ≡ item_asked asked held
 item-said (says.Head r) held target is = ap (λ (l : List ℕ). item_by (says.Head r) l) is
 item-said says.BadHead held target is = refl
@@ -27,7 +27,7 @@ unfolding ends_link
 last-in s asked phase = ap (λ (p : Phase). ends_link p s.before) phase ∙ sym (last-said asked s.held s.before)
 
 pub reply-begun : {revision seen : ℕ} {bytes : List ℕ} (proto : Proto) (files : List Loaded) (s : State) (asked : Asked)
-    (target : List ℕ) (last : Bool) → s.phase ≡ Asking asked → target ≡ target_of (item_of s.held.head)
+    (target : List ℕ) (last : Bool) → s.phase ≡ Asking asked → target ≡ target_in (item_of s.held.head)
     → last ≡ ends_link s.phase s.before
     → bytes ≡ reply_text (answer_to proto files (item_by asked target)) revision
     (has_head_alone (item_by asked target)) last → revision ≡ seen

@@ -7,7 +7,7 @@ use Rattle.fm_model.specs.declared.proto.Proto.{Proto}
 use Rattle.fm_model.specs.Collection.{coll}
 use Rattle.web_frame.specs.Items.{Item}
 use Rattle.dap_reply.specs.declared.served.Mark.{Mark}
-use Rattle.dap_reply.specs.Reply.{asked_by, reply_of}
+use Rattle.dap_reply.specs.Reply.{target_wanted, reply_of}
 use Rattle.dap_reply.specs.Served.{marked_reply, sent_by, wanted_revisions, RepeatsUnwanted, Rises}
 use Rattle.srv_conn.proofs.EachLemmas.{Each}
 
@@ -95,7 +95,7 @@ wanted-append proto [] more [] others same = refl
 wanted-append proto [] more (i ∷ items) others same = absurd (omega arith)
 wanted-append proto (m ∷ marks) more [] others same = absurd (omega arith)
 wanted-append proto (m ∷ marks) more (i ∷ items) others same =
-    let wanted : Bool = is_ok (asked_by proto.site i) in
+    let wanted : Bool = is_ok (target_wanted proto.site i) in
     ap (λ (l : List ℕ). cond wanted (m.revision ∷ l) l) (wanted-append proto marks more items others (omega arith))
     ∙ wanted-test wanted m.revision (wanted_revisions proto marks items) (wanted_revisions proto more others)
 
@@ -105,7 +105,7 @@ wanted-none proto items = refl
 
 pub wanted-one : (proto : Proto) (mark : Mark) (item : Item) (items : List Item)
     → wanted_revisions proto (mark ∷ []) (item ∷ items)
-    ≡ (if is_ok (asked_by proto.site item) then mark.revision ∷ [] else [])
+    ≡ (if is_ok (target_wanted proto.site item) then mark.revision ∷ [] else [])
 unfolding wanted_revisions
 wanted-one proto mark item items = refl
 
@@ -115,7 +115,7 @@ unfolding wanted_revisions
 wanted-front proto [] items others same = refl
 wanted-front proto (m ∷ marks) [] others same = absurd (omega arith)
 wanted-front proto (m ∷ marks) (i ∷ items) others same =
-    ap (λ (l : List ℕ). cond (is_ok (asked_by proto.site i)) (m.revision ∷ l) l)
+    ap (λ (l : List ℕ). cond (is_ok (target_wanted proto.site i)) (m.revision ∷ l) l)
     (wanted-front proto marks items others (omega arith))
 
 pub repeats-append : (proto : Proto) (before : ℕ) (marks more : List Mark) (items others : List Item)
@@ -143,7 +143,7 @@ unfolding RepeatsUnwanted
 repeats-none proto before items = tt
 
 pub repeats-one : (proto : Proto) (before : ℕ) (mark : Mark) (item : Item) (items : List Item)
-    → (is_ok (asked_by proto.site item) ≡ false → mark.revision ≡ before)
+    → (is_ok (target_wanted proto.site item) ≡ false → mark.revision ≡ before)
     → RepeatsUnwanted proto before (mark ∷ []) (item ∷ items)
 unfolding RepeatsUnwanted
 repeats-one proto before mark item items same = (same, tt)

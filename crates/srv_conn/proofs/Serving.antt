@@ -9,18 +9,19 @@ use Rattle.pub_look.specs.History.{Continues}
 use Rattle.pub_look.proofs.HistoryLemmas.{continues_on, continues_length}
 use Rattle.web_frame.specs.Items.{Item, ReadsTo}
 use Rattle.web_frame.proofs.ItemLemmas.{ReadsTo-feed, ReadsTo-start}
+use Rattle.web_frame.proofs.LeftLemmas.{Leaves, Leaves-feed, Leaves-start}
 use Rattle.web_session.specs.declared.action.Asked.{Asked}
-use Rattle.web_session.specs.State.{State}
+use Rattle.web_session.specs.State.{resting, State}
 use Rattle.dap_reply.specs.declared.served.Mark.{Mark}
-use Rattle.dap_reply.specs.Reply.{asked_by, is_last}
+use Rattle.dap_reply.specs.Reply.{target_wanted, is_last}
 use Rattle.dap_reply.specs.Served.{held_bytes, marked_reply, sent_by, wanted_revisions, IsAtRest, RepeatsUnwanted, Rises}
 use Rattle.srv_conn.specs.Moved.{moved, AreNext}
 use Rattle.srv_conn.specs.Serves.{Moment}
-use Rattle.srv_conn.specs.Turn.{item_of_turn, reply_of_turn, at_rest, Replies, Takes}
+use Rattle.srv_conn.specs.Turn.{item_of_turn, reply_of_turn, IsBegun, Takes}
 use Rattle.srv_conn.proofs.EachLemmas.{Each, Each-map}
 use Rattle.srv_conn.proofs.MovedLemmas.{moved-more, moved-none, moved-put, next-more, next-none}
 use Rattle.srv_conn.proofs.ScriptLemmas.{last_revision, marked-later, repeats-append, repeats-none, repeats-one, rises-append, rises-none, rises-one, sent-append, sent-later, sent-none, sent-one, wanted-append, wanted-none, wanted-one}
-use Rattle.srv_conn.proofs.SessionLemmas.{held-at, rests-so}
+use Rattle.srv_conn.proofs.SessionLemmas.{held-at}
 
 -- a reply is whole, and isn't a connection's last
 abbrev pub GoesOn : Proto → List Op → ℕ → Mark → Item → Type 0
@@ -51,7 +52,8 @@ pub record Serving (proto : Proto) (still : Bool) (start now : Moment) : Type 0 
   pub each : Each (GoesOn proto now.seen) now.trail done (start.session.before + 1)
   pub faults_are : now.link.faults ≡ start.link.faults
   pub reads : ReadsTo (held_bytes start.session ++ taken) done (held_bytes now.session)
-  pub session_is : now.session ≡ at_rest (held_bytes now.session) (start.session.before + length done)
+  pub leaves : Leaves (held_bytes start.session ++ taken) (length done) (held_bytes now.session)
+  pub session_is : now.session ≡ resting (held_bytes now.session) (start.session.before + length done)
 
 -- ---- the start
 
@@ -82,8 +84,10 @@ Serving-start proto still start none rests = record {
   faults_are = refl;
   reads = subst (λ (l : List ℕ). ReadsTo l [] (held_bytes start.session)) (sym (append-nil (held_bytes start.session)))
       (ReadsTo-start (held_bytes start.session));
+  leaves = subst (λ (l : List ℕ). Leaves l 0 (held_bytes start.session)) (sym (append-nil (held_bytes start.session)))
+      (Leaves-start (held_bytes start.session));
   session_is = let same : start.session.before ≡ start.session.before + 0 = omega arith in
-      rests-so start.session rests ∙ ap (at_rest (held_bytes start.session)) same;
+      rests.session_is ∙ ap (resting (held_bytes start.session)) same;
 }
 
 -- ---- bytes are taken
@@ -116,6 +120,13 @@ reads-more start now taken more done reads =
     subst (λ (l : List ℕ). ReadsTo l done (held_bytes now ++ more)) (append_assoc (held_bytes start) taken more)
     (ReadsTo-feed more reads)
 
+leaves-more : {n : ℕ} (start now : State) (taken more : List ℕ)
+    → Leaves (held_bytes start ++ taken) n (held_bytes now)
+    → Leaves (held_bytes start ++ (taken ++ more)) n (held_bytes now ++ more)
+leaves-more {n} start now taken more l =
+    subst (λ (bytes : List ℕ). Leaves bytes n (held_bytes now ++ more)) (append_assoc (held_bytes start) taken more)
+    (Leaves-feed more l)
+
 pub Serving-takes : (proto : Proto) (still : Bool) (start now : Moment) (link : LinkShown) (session : State)
     (more : List ℕ) → Serving proto still start now → Takes now.link link now.session session more
     → Serving proto still start (with_taken now link session)
@@ -130,7 +141,9 @@ Serving-takes proto still start now link session more s takes = record {
   faults_are = takes.faults_are ∙ s.faults_are;
   reads = subst (ReadsTo (held_bytes start.session ++ (s.taken ++ more)) s.done) (sym held)
       (reads-more start.session now.session s.taken more s.done s.reads);
-  session_is = takes.session_is ∙ ap₂ at_rest (sym held) (ap (λ (x : State). x.before) s.session_is);
+  leaves = subst (Leaves (held_bytes start.session ++ (s.taken ++ more)) (length s.done)) (sym held)
+      (leaves-more start.session now.session s.taken more s.leaves);
+  session_is = takes.session_is ∙ ap₂ resting (sym held) (ap (λ (x : State). x.before) s.session_is);
 }
   where
     held : held_bytes session ≡ held_bytes now.session ++ more
@@ -166,7 +179,7 @@ same-sent proto ops later marks items before grows each =
 
 -- the item that is replied to
 pub Begun-replies : (proto : Proto) (still : Bool) (start now after : Moment) (asked : Asked) (mark : Mark)
-    (s : Serving proto still start now) → Replies proto still now after asked mark
+    (s : Serving proto still start now) → IsBegun proto still now after asked mark
     → Begun proto still start after s.taken (s.written ++ take mark.sent (reply_of_turn proto now after asked mark))
     (s.done ++ item_of_turn now asked ∷ [])
 Begun-replies proto still start now after asked mark s replies = record {
@@ -218,7 +231,7 @@ Begun-replies proto still start now after asked mark s replies = record {
     longer = continues_length now.seen after.seen replies.looks.grows
 
     one_look : ℕ → List ℕ
-    one_look n = if is_ok (asked_by proto.site item) then n ∷ [] else []
+    one_look n = if is_ok (target_wanted proto.site item) then n ∷ [] else []
 
     before_is : now.session.before ≡ start.session.before + length s.done
     before_is = ap (λ (x : State). x.before) s.session_is

@@ -1,9 +1,9 @@
 -- Where events take a session that rests.
-use Rattle.std.proofs.Common.{◌≡◌, ◌⊎◌, inl, inr, ℕ, ◌-◌, List, [], ◌++◌, take, refl, sym, ap, ap₂, subst, ◌∙◌}
+use Rattle.std.proofs.Common.{◌≡◌, ◌⊎◌, inl, inr, ℕ, ◌-◌, List, [], ◌++◌, take, refl, sym, ap, subst, ◌∙◌}
 use Rattle.std.proofs.lemmas.List.{take-append-drop}
 use Rattle.web_frame.specs.declared.frame.Next.{Next}
 use Rattle.web_frame.specs.declared.frame.Next.TheVariants as next
-use Rattle.web_frame.specs.declared.limit.TheConstants.{MAX_HEAD}
+use Rattle.web_frame.specs.Limit.{MAX_HEAD}
 use Rattle.web_frame.specs.Cut.{cut_of, Cut, none_yet, whole, too_long}
 use Rattle.web_frame.specs.Items.{Item, request, bad_head, head_too_long, item_of}
 use Rattle.web_frame.specs.Stream.{held_after, held_by, held_len, next_by, next_by_item, next_of, Held}
@@ -12,10 +12,9 @@ use Rattle.web_session.specs.declared.action.Asked.{Asked}
 use Rattle.web_session.specs.declared.action.End.{End}
 use Rattle.web_session.specs.declared.phase.Phase.{Phase}
 use Rattle.web_session.specs.declared.phase.Phase.TheVariants.{Waiting, Asking, Sending, Ended}
-use Rattle.web_session.specs.State.{action_at, action_of, phase_after, State}
+use Rattle.web_session.specs.State.{action_at, action_of, phase_after, resting, State}
 use Rattle.web_session.proofs.LookLemmas.{held_after-cut, next_of-cut}
 use Rattle.dap_reply.specs.Served.{held_bytes, IsAtRest}
-use Rattle.srv_conn.specs.Turn.{at_rest}
 
 -- ---- a session at rest
 
@@ -29,23 +28,13 @@ pub held-whole : (bytes : List ℕ) → (held_after bytes).head ++ (held_after b
 held-whole bytes =
     ap (λ (h : Held). h.head ++ h.rest) (held_after-cut bytes (cut_of bytes) refl) ∙ held-cut bytes (cut_of bytes)
 
-state_at : ℕ → Phase → Held → State
-state_at before phase held = record { phase = phase; held = held; before = before }
+pub rests : (bytes : List ℕ) (before : ℕ) → IsAtRest (resting bytes before)
+rests bytes before = record { session_is = ap (λ (l : List ℕ). resting l before) (sym (held-whole bytes)) }
 
-pub rests-so : (s : State) → IsAtRest s → s ≡ at_rest (held_bytes s) s.before
-unfolding state_at
-rests-so s rests = ap₂ (state_at s.before) rests.phase_is rests.held_is
-
-pub rests : (bytes : List ℕ) (before : ℕ) → IsAtRest (at_rest bytes before)
-rests bytes before = record {
-  phase_is = ap (λ (l : List ℕ). phase_after (next_of l)) (sym (held-whole bytes));
-  held_is = ap held_after (sym (held-whole bytes));
-}
-
-pub rests-at : (s : State) (bytes : List ℕ) (before : ℕ) → s ≡ at_rest bytes before → IsAtRest s
+pub rests-at : (s : State) (bytes : List ℕ) (before : ℕ) → s ≡ resting bytes before → IsAtRest s
 rests-at s bytes before is = subst IsAtRest (sym is) (rests bytes before)
 
-pub held-at : (s : State) (bytes : List ℕ) (before : ℕ) → s ≡ at_rest bytes before → held_bytes s ≡ bytes
+pub held-at : (s : State) (bytes : List ℕ) (before : ℕ) → s ≡ resting bytes before → held_bytes s ≡ bytes
 held-at s bytes before is = ap held_bytes is ∙ held-whole bytes
 
 -- a session that rests stands so
@@ -67,7 +56,9 @@ waiting-cut bytes is =
 pub waiting-held : (s : State) → IsAtRest s → s.phase ≡ Waiting
     → s.held ≡ record { head = []; rest = held_bytes s }
 waiting-held s rests is =
-    rests.held_is ∙ held_after-cut (held_bytes s) none_yet (waiting-cut (held_bytes s) (sym rests.phase_is ∙ is))
+    ap (λ (x : State). x.held) rests.session_is
+    ∙ held_after-cut (held_bytes s) none_yet
+    (waiting-cut (held_bytes s) (sym (ap (λ (x : State). x.phase) rests.session_is) ∙ is))
 
 -- ---- the action that is due
 
@@ -107,7 +98,7 @@ pub rests-acts : (s : State) → IsAtRest s
 unfolding action_of
 rests-acts s rests =
     subst (λ (p : Phase). ((count : ℕ) × (action_at p s.held ≡ Read count))
-    ⊎ ((asked : Asked) × (action_at p s.held ≡ Ask asked))) (sym rests.phase_is)
+    ⊎ ((asked : Asked) × (action_at p s.held ≡ Ask asked))) (sym (ap (λ (x : State). x.phase) rests.session_is))
     (rests-next (next_of (held_bytes s)) s.held)
 
 -- the end that a session in a phase says

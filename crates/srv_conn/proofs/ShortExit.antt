@@ -1,5 +1,5 @@
 -- A link is served where memory runs out.
-use Rattle.std.proofs.Common.{◌≡◌, ◌<◌, ◌≤◌, inl, inr, ⊎_elim, ℕ, ◌+◌, List, [], ◌∷◌, ◌++◌, length, take, drop, Bool, false, Option, Some, refl, sym, ap, subst, ◌∙◌, append-nil, arith}
+use Rattle.std.proofs.Common.{◌≡◌, ◌<◌, ◌⊎◌, inl, inr, ⊎_elim, ℕ, ◌+◌, List, [], ◌∷◌, ◌++◌, length, take, drop, Bool, false, Option, Some, refl, sym, ap, subst, ◌∙◌, append-nil, length-append, arith}
 use Rattle.std.proofs.lemmas.List.{take_all, length-take}
 use Rattle.std.proofs.lemmas.Option.{same_Some}
 use Rattle.pub_look.proofs.HistoryLemmas.{continues_on, continues_length}
@@ -7,29 +7,34 @@ use Rattle.fm_model.specs.declared.proto.Proto.{Proto}
 use Rattle.dev_traits.specs.Cause.{one_more}
 use Rattle.dev_traits.specs.Link.{after_put}
 use Rattle.web_frame.specs.Items.{Item}
+use Rattle.web_session.specs.declared.action.Asked.{Asked}
 use Rattle.web_session.specs.declared.action.End.{End}
 use Rattle.web_session.specs.declared.action.End.TheVariants as ends
+use Rattle.web_session.specs.declared.phase.Phase.TheVariants.{Asking}
 use Rattle.web_session.proofs.LookLemmas.{first_read}
 use Rattle.dap_reply.specs.declared.served.Mark.{Mark}
 use Rattle.dap_reply.specs.declared.served.Stop.TheVariants as stops
 use Rattle.dap_reply.specs.Head.{no_memory_reply}
 use Rattle.dap_reply.specs.Served.{items_of, sent_by, wanted_revisions, EndsBy, LinkCall, RepeatsUnwanted, Rises, StopsBy}
 use Rattle.srv_conn.specs.Serves.{call_of, Moment, Serves}
-use Rattle.srv_conn.specs.Turn.{IsShort}
+use Rattle.srv_conn.specs.Turn.{item_of_turn, IsShort}
 use Rattle.srv_conn.proofs.EachLemmas.{Each}
+use Rattle.srv_conn.proofs.Exits.{goes-on-at}
+use Rattle.srv_conn.proofs.GoingOn.{asked-now}
 use Rattle.srv_conn.proofs.HeadLemmas.{rest_of}
 use Rattle.srv_conn.proofs.MovedLemmas.{moved-put}
 use Rattle.srv_conn.proofs.Ran.{moves_of, serves-so}
 use Rattle.srv_conn.proofs.ScriptLemmas.{rises-append, rises-none}
-use Rattle.srv_conn.proofs.ServedParts.{ended-of, failed, Ended}
-use Rattle.srv_conn.proofs.Serving.{each-later, same-sent, Serving}
+use Rattle.srv_conn.proofs.ServedParts.{ended-of, failed}
+use Rattle.srv_conn.proofs.Serving.{each-later, same-sent, GoesOn, Serving}
 
-serves-said : (proto : Proto) (still : Bool) (start now after : Moment) (most : ℕ) (end : Option End) (more : List ℕ)
-    → Serving proto still start now → length now.trail < most → IsShort still now after end
-    → after.looks ≡ now.looks ++ more → length more ≤ 1
+serves-said : (proto : Proto) (still : Bool) (start now after : Moment) (asked : Asked) (most : ℕ)
+    (end : Option End) (more : List ℕ) → Serving proto still start now → length now.trail < most
+    → now.session.phase ≡ Asking asked → IsShort still now after end → after.looks ≡ now.looks ++ more
+    → (more ≡ []) ⊎ (more ≡ length after.seen ∷ [])
     → Serves proto still start after most (stops.Ended ends.NoMemory)
 unfolding StopsBy EndsBy
-serves-said proto still start now after most end more s few w looks one =
+serves-said proto still start now after asked most end more s few asking w looks one =
     serves-so proto still start after s.taken s.written farewell more false most (stops.Ended ends.NoMemory) s.done
     others
     (record {
@@ -51,12 +56,10 @@ serves-said proto still start now after most end more s few w looks one =
           ∙ ap (λ (l : List Mark). sent_by proto after.seen l s.done start.session.before) (sym w.trail_is);
     })
     (record {
-      items_are = rest_of s.done (items_of call) (first_read s.reads);
-      count = ap length w.trail_is ∙ s.begun.count;
+      items_are = items;
+      count = count;
       few = omega (arith, few, ap length w.trail_is);
-      each = subst (λ (l : List Mark). Each (Ended call) l s.done (start.session.before + 1)) (sym w.trail_is)
-          (ended-of call now.trail s.done (start.session.before + 1)
-          (each-later proto now.seen after.seen now.trail s.done (start.session.before + 1) w.grows s.each));
+      each = ended-of call after.trail s.done (start.session.before + 1) each;
     })
     (record {
       only_short = λ ample. absurd (ample refl);
@@ -66,8 +69,21 @@ serves-said proto still start now after most end more s few w looks one =
           ∙ take_all (length no_memory_reply) no_memory_reply (omega arith)))
           (λ broke. inr (failed call (broke ∙ ap one_more s.faults_are))) w.whole;
       at_most_one = one;
-    })
-    (w.ended, tt)
+    }) (
+      w.ended,
+      record {
+        unanswered = omega (
+          arith,
+          s.begun.count,
+          ap length w.trail_is,
+          ap length unanswered,
+          length-append (s.done ++ item ∷ []) later,
+          length-append s.done (item ∷ []),
+        );
+        few = omega (arith, few, ap length w.trail_is);
+        goes_on = goes-on-at call s.done others items count each;
+      },
+    )
     (λ over. absurd (cc))
     (λ _ no. absurd (no refl))
   where
@@ -84,14 +100,36 @@ serves-said proto still start now after most end more s few w looks one =
     others : List Item
     others = drop (length s.done) (items_of call)
 
-pub serves-short : (proto : Proto) (still : Bool) (start now after : Moment) (most : ℕ) (end : End)
-    → Serving proto still start now → length now.trail < most → IsShort still now after (Some end)
-    → Serves proto still start after most (stops.Ended end)
-serves-short proto still start now after most end s few w =
+    items : items_of call ≡ s.done ++ others
+    items = rest_of s.done (items_of call) (first_read s.reads)
+
+    count : length after.trail ≡ length s.done
+    count = ap length w.trail_is ∙ s.begun.count
+
+    each : Each (GoesOn proto after.seen) after.trail s.done (start.session.before + 1)
+    each = subst (λ (l : List Mark). Each (GoesOn proto after.seen) l s.done (start.session.before + 1))
+        (sym w.trail_is)
+        (each-later proto now.seen after.seen now.trail s.done (start.session.before + 1) w.grows s.each)
+
+    -- the request that has no reply
+    item : Item
+    item = item_of_turn now asked
+
+    later : List Item
+    later = drop (length (s.done ++ item ∷ [])) (items_of call)
+
+    unanswered : items_of call ≡ (s.done ++ item ∷ []) ++ later
+    unanswered = rest_of (s.done ++ item ∷ []) (items_of call) (asked-now proto still start now asked s asking)
+
+pub serves-short : (proto : Proto) (still : Bool) (start now after : Moment) (asked : Asked) (most : ℕ) (end : End)
+    → Serving proto still start now → length now.trail < most → now.session.phase ≡ Asking asked
+    → IsShort still now after (Some end) → Serves proto still start after most (stops.Ended end)
+serves-short proto still start now after asked most end s few asking w =
     subst (λ (e : End). Serves proto still start after most (stops.Ended e))
     (same_Some ends.NoMemory end (sym w.end_is))
     (⊎_elim
-    (λ none. serves-said proto still start now after most (Some end) [] s few w
-    (none ∙ sym (append-nil now.looks)) (omega arith))
-    (λ one. serves-said proto still start now after most (Some end) (length after.seen ∷ []) s few w one (omega arith))
+    (λ none. serves-said proto still start now after asked most (Some end) [] s few asking w
+    (none ∙ sym (append-nil now.looks)) (inl refl))
+    (λ one. serves-said proto still start now after asked most (Some end) (length after.seen ∷ []) s few asking w one
+    (inr refl))
     w.looks_are)

@@ -19,22 +19,22 @@ use Rattle.web_session.specs.declared.phase.Phase.TheVariants.{Ended}
 use Rattle.web_session.specs.State.{end_after, replied}
 use Rattle.dap_reply.specs.declared.served.Mark.{Mark}
 use Rattle.dap_reply.specs.Head.{no_memory_reply}
-use Rattle.dap_reply.specs.Reply.{asked_by, reply_of}
+use Rattle.dap_reply.specs.Reply.{target_wanted, reply_of}
 use Rattle.srv_conn.specs.Serves.{Moment}
-use Rattle.srv_conn.specs.Turn.{item_of_turn, reply_of_turn, Looks, Replies, Turn, cut, whole}
+use Rattle.srv_conn.specs.Turn.{item_of_turn, reply_of_turn, Looks, IsBegun, Turn, cut, whole}
 
 -- what is seen of the looks, by the site of the prototype
 pub looks-of : (proto : Proto) (still : Bool) (site : Site) (before after : Moment) (item : Item) → site ≡ proto.site
     → Continues before.seen after.seen → (still ≡ true → after.seen ≡ before.seen)
-    → after.looks ≡ before.looks ++ (if is_ok (asked_by site item) then length after.seen ∷ [] else [])
-    → (is_ok (asked_by site item) ≡ false → after.seen ≡ before.seen)
+    → after.looks ≡ before.looks ++ (if is_ok (target_wanted site item) then length after.seen ∷ [] else [])
+    → (is_ok (target_wanted site item) ≡ false → after.seen ≡ before.seen)
     → Looks proto still before after item
 looks-of proto still site before after item same grows stays looks unwanted = record {
   grows = grows;
   stays = stays;
   looks_are = subst (λ (s : Site). after.looks
-      ≡ before.looks ++ (if is_ok (asked_by s item) then length after.seen ∷ [] else [])) same looks;
-  unwanted = subst (λ (s : Site). is_ok (asked_by s item) ≡ false → after.seen ≡ before.seen) same unwanted;
+      ≡ before.looks ++ (if is_ok (target_wanted s item) then length after.seen ∷ [] else [])) same looks;
+  unwanted = subst (λ (s : Site). is_ok (target_wanted s item) ≡ false → after.seen ≡ before.seen) same unwanted;
 }
 
 -- the mark of a reply that was sent so far over all that is seen
@@ -72,7 +72,7 @@ turn-sent proto still before after asked end bytes sent len looks reply within a
     same : bytes ≡ reply_of_turn proto before after asked mark
     same = reply ∙ marked-all proto before after asked sent
 
-    replies : Replies proto still before after asked mark
+    replies : IsBegun proto still before after asked mark
     replies = record {
       looks = looks;
       trail_is = trail;

@@ -15,7 +15,10 @@ use Rattle.srv_conn.specs.declared.door_report.DoorEnd.{DoorEnd}
 use Rattle.srv_conn.specs.declared.door_report.DoorEnd.TheVariants.{Closed, DoorFault}
 use Rattle.srv_conn.specs.declared.door_turn.Next.{Next}
 use Rattle.srv_conn.specs.declared.door_turn.Next.TheVariants as nexts
-use Rattle.srv_conn.specs.declared.door_turn.TheConstants.{MOST_REPLIES}
+
+-- the most replies on a link
+abbrev pub MOST_REPLIES : ℕ
+MOST_REPLIES = 10000
 
 -- the view of a look: the operations seen, and how many there were at each look
 pub record Sight : Type 0 where

@@ -1,12 +1,12 @@
 -- The turns of a served link: reading until a session asks for a reply, and replying.
-use Rattle.std.specs.Prelude.{◌≡◌, ◌⊎◌, ℕ, ◌+◌, ◌<◌, ◌≤◌, List, [], ◌∷◌, ◌++◌, length, take, Bool, true, false, if◌then◌else◌, Option, Some, None, is_ok}
+use Rattle.std.specs.Prelude.{◌≡◌, ◌⊎◌, ℕ, ◌+◌, ◌<◌, ◌≤◌, List, [], ◌∷◌, ◌++◌, length, take, Bool, true, false, if◌then◌else◌, Option, Some, None}
 use Rattle.fm_model.specs.declared.proto.Proto.{Proto}
 use Rattle.dev_traits.specs.Cause.{one_more}
 use Rattle.dev_traits.specs.Link.{after_put}
 use Rattle.dev_traits.specs.Shown.{LinkShown}
 use Rattle.pub_look.specs.History.{Continues, MayHaveLooked}
 use Rattle.web_frame.specs.Items.{Item}
-use Rattle.web_frame.specs.Stream.{held_after, next_of}
+use Rattle.web_frame.specs.Stream.{next_of}
 use Rattle.web_session.specs.declared.action.Action.{Action}
 use Rattle.web_session.specs.declared.action.Action.TheVariants.{Read, Ask, Send, Close}
 use Rattle.web_session.specs.declared.action.Asked.{Asked}
@@ -14,18 +14,13 @@ use Rattle.web_session.specs.declared.action.End.{End}
 use Rattle.web_session.specs.declared.action.End.TheVariants as ends
 use Rattle.web_session.specs.declared.phase.Phase.TheVariants.{Waiting, Asking, Ended}
 use Rattle.web_session.specs.Run.{item_asked}
-use Rattle.web_session.specs.State.{end_after, end_of_input, phase_after, replied, State}
+use Rattle.web_session.specs.State.{end_after, end_of_input, phase_after, replied, resting, State}
 use Rattle.dap_reply.specs.declared.served.Mark.{Mark}
 use Rattle.dap_reply.specs.Head.{no_memory_reply}
-use Rattle.dap_reply.specs.Reply.{asked_by}
+use Rattle.dap_reply.specs.Reply.{is_wanted}
 use Rattle.dap_reply.specs.Served.{held_bytes, marked_reply}
 use Rattle.srv_conn.specs.Moved.{moved, AreNext, IsOver}
 use Rattle.srv_conn.specs.Serves.{Moment}
-
--- the session that rests with these bytes, after this number of replies
-abbrev pub at_rest : List ℕ → ℕ → State
-at_rest bytes before =
-    record { phase = phase_after (next_of bytes); held = held_after bytes; before = before }
 
 -- the end that an action says
 abbrev pub end_said : Action → Option End
@@ -39,7 +34,7 @@ pub record Takes (before after : LinkShown) (session session_after : State) (tak
   pub moved_is : after.held ≡ moved taken [] before.held
   pub next : AreNext taken before.held
   pub faults_are : after.faults ≡ before.faults
-  pub session_is : session_after ≡ at_rest (held_bytes session ++ taken) session.before
+  pub session_is : session_after ≡ resting (held_bytes session ++ taken) session.before
 
 -- some bytes were taken
 pub record TakesSome (before after : LinkShown) (session session_after : State) : Type 0 where
@@ -73,8 +68,8 @@ pub record Looks (proto : Proto) (still : Bool) (before after : Moment) (item : 
   pub grows : Continues before.seen after.seen
   pub stays : still ≡ true → after.seen ≡ before.seen
   pub looks_are : after.looks
-      ≡ before.looks ++ (if is_ok (asked_by proto.site item) then length after.seen ∷ [] else [])
-  pub unwanted : is_ok (asked_by proto.site item) ≡ false → after.seen ≡ before.seen
+      ≡ before.looks ++ (if is_wanted proto.site item then length after.seen ∷ [] else [])
+  pub unwanted : is_wanted proto.site item ≡ false → after.seen ≡ before.seen
 
 -- the item that a session asks a reply for
 abbrev pub item_of_turn : Moment → Asked → Item
@@ -86,7 +81,7 @@ reply_of_turn proto before after asked mark =
     marked_reply proto after.seen mark (item_of_turn before asked) (before.session.before + 1)
 
 -- a reply was begun, and written as far as its mark says
-pub record Replies (proto : Proto) (still : Bool) (before after : Moment) (asked : Asked) (mark : Mark) : Type 0 where
+pub record IsBegun (proto : Proto) (still : Bool) (before after : Moment) (asked : Asked) (mark : Mark) : Type 0 where
   pub looks : Looks proto still before after (item_of_turn before asked)
   pub trail_is : after.trail ≡ before.trail ++ mark ∷ []
   pub revision_is : mark.revision ≡ length after.seen
@@ -97,7 +92,7 @@ pub record Replies (proto : Proto) (still : Bool) (before after : Moment) (asked
 pub record IsWhole (proto : Proto) (still : Bool) (before after : Moment) (asked : Asked) (end : Option End)
     : Type 0 where
   pub mark : Mark
-  pub replies : Replies proto still before after asked mark
+  pub replies : IsBegun proto still before after asked mark
   pub whole : mark.sent ≡ length (reply_of_turn proto before after asked mark)
   pub faults_are : after.link.faults ≡ before.link.faults
   pub session_is : after.session ≡ replied before.session asked
@@ -107,7 +102,7 @@ pub record IsWhole (proto : Proto) (still : Bool) (before after : Moment) (asked
 pub record IsCut (proto : Proto) (still : Bool) (before after : Moment) (asked : Asked) (end : Option End)
     : Type 0 where
   pub mark : Mark
-  pub replies : Replies proto still before after asked mark
+  pub replies : IsBegun proto still before after asked mark
   pub cut : mark.sent ≤ length (reply_of_turn proto before after asked mark)
   pub faults_are : after.link.faults ≡ one_more before.link.faults
   pub ended : after.session.phase ≡ Ended ends.LinkFault

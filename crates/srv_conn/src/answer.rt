@@ -1,5 +1,5 @@
 //! The reply to what a session asks for.
-ghost use Rattle.std.specs.Prelude.{◌≡◌, ◌+◌, ◌∷◌, ◌++◌, [], IfOk, OnErr, OnOk, false, is_ok, length, true};
+ghost use Rattle.std.specs.Prelude.{◌≡◌, ◌+◌, ◌∷◌, ◌++◌, [], IfOk, OnErr, OnOk, false, length, true};
 ghost use Rattle.std.specs.Prelude.{if◌then◌else◌};
 ghost use Rattle.fm_model.specs.Collection.{coll};
 ghost use Rattle.pub_look.specs.History.{Continues, MayHaveLooked};
@@ -7,7 +7,7 @@ ghost use Rattle.web_session.specs.declared.phase.Phase.TheVariants.{Asking};
 ghost use Rattle.web_session.specs.Run.{item_asked};
 ghost use Rattle.dap_reply.specs.Order.{item_by};
 ghost use Rattle.dap_reply.specs.Parts.{bytes_of};
-ghost use Rattle.dap_reply.specs.Reply.{answer_to, asked_by, has_head_alone, reply_of, reply_text};
+ghost use Rattle.dap_reply.specs.Reply.{answer_to, has_head_alone, is_wanted, reply_of, reply_text};
 
 use crate::trail::Trail;
 use dap_reply::{Mark, Order, Plan, order, refusal};
@@ -41,9 +41,9 @@ fn answer<K: Look>(
         (has_head_alone (item_by request.now.asked target.now)) last) }
     ensures revision { IfOk result (λ found. found.1 ≡ length (K.log look.new)) }
     ensures looked { OnOk result (K.looks look.new ≡ K.looks look.old
-        ++ (if is_ok (asked_by request.now.site.now (item_by request.now.asked target.now))
+        ++ (if is_wanted request.now.site.now (item_by request.now.asked target.now)
         then length (K.log look.new) ∷ [] else [])) }
-    ensures unwanted { is_ok (asked_by request.now.site.now (item_by request.now.asked target.now)) ≡ false
+    ensures unwanted { is_wanted request.now.site.now (item_by request.now.asked target.now) ≡ false
         → K.log look.new ≡ K.log look.old }
     ensures err { OnErr result (MayHaveLooked (K.looks look.old) (length (K.log look.new)) (K.looks look.new)) }
     ensures later { Continues (K.log look.old) (K.log look.new) }
@@ -61,7 +61,8 @@ fn answer<K: Look>(
     }
 }
 
-/// The reply to a session's request, which is marked as begun.
+/// The reply to a session's request, which is marked as begun. Room for the mark is made first, so that no memory is
+/// taken between a plan and its sending.
 pub(crate) fn begin<K: Look>(
     alloc: Global,
     look: &mut K,
@@ -77,9 +78,9 @@ pub(crate) fn begin<K: Look>(
     ensures begun { OnOk result (trail.new
         ≡ trail.old ++ record { revision = length (K.log look.new); sent = 0 } ∷ []) }
     ensures looked { OnOk result (K.looks look.new ≡ K.looks look.old
-        ++ (if is_ok (asked_by request.now.site.now (item_asked request.now.asked session.now.held))
+        ++ (if is_wanted request.now.site.now (item_asked request.now.asked session.now.held)
         then length (K.log look.new) ∷ [] else [])) }
-    ensures unwanted { is_ok (asked_by request.now.site.now (item_asked request.now.asked session.now.held)) ≡ false
+    ensures unwanted { is_wanted request.now.site.now (item_asked request.now.asked session.now.held) ≡ false
         → K.log look.new ≡ K.log look.old }
     ensures err { OnErr result (trail.new ≡ trail.old) }
     ensures may_have_looked { OnErr result
@@ -89,7 +90,8 @@ pub(crate) fn begin<K: Look>(
     ensures same_proto { K.proto look.new ≡ K.proto look.old }
     ensures same_still { K.still look.new ≡ K.still look.old }
 {
+    trail.items.reserve(1)?;
     let (plan, revision) = answer(alloc, look, request, session.target(), session.last())?;
-    trail.push(Mark { revision, sent: 0 })?;
+    trail.items.push_reserved(Mark { revision, sent: 0 });
     Ok(plan)
 }

@@ -28,8 +28,8 @@ fn put_next<L: Link>(link: &mut L, plan: &Plan, from: u64, room: &mut [u8]) -> R
     link.put(piece)
 }
 
-#[tactic(auto, using(dev_traits::proofs::LinkLemmas::after_put_more))]
 /// Sends the bytes of a plan, or a front of them where the link fails. Returns the number of bytes sent.
+#[tactic(auto, using(dev_traits::proofs::LinkLemmas::after_put_more))]
 pub(crate) fn deliver<L: Link>(link: &mut L, plan: &Plan, room: &mut [u8]) -> u64
     requires { 0 < length room.old }
     ensures within { result ≤ length (bytes_of plan.now) }

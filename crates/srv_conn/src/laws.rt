@@ -6,6 +6,7 @@ ghost use Rattle.dap_reply.specs.declared.served.Mark.{Mark};
 ghost use Rattle.dap_reply.specs.declared.served.Stop.TheVariants.{Ended};
 ghost use Rattle.dap_reply.specs.Served.{items_of, marked_reply, number_at, HasFailed, LinkCall, Served};
 ghost use Rattle.srv_conn.specs.Answered.{GoesOnBefore, IsAnswered};
+ghost use Rattle.srv_conn.specs.WrittenAt.{GetsData};
 
 /// Where no call of the link failed and memory didn't run out, each of the first `most` requests that were read has its
 /// whole reply, up to the one after which the connection ends.
@@ -22,4 +23,15 @@ pub fn a_reply_that_is_begun_is_whole_unless_the_link_fails()
     ensures { (call : LinkCall) → Served call → ¬ (HasFailed call) → (index : ℕ) (mark : Mark) (item : Item)
         → slice_get call.trail index ≡ Some mark → slice_get (items_of call) index ≡ Some item
         → mark.sent ≡ length (marked_reply call.proto call.seen_after mark item (number_at call index)) }
+{}
+
+/// A well-formed request gets data. Where no call of the link failed and memory didn't run out, a request that was
+/// read, up to the one after which the connection ends, has its reply over the collection of one moment. Where it is a
+/// GET or HEAD without a body for a view with rows, whose constraint names what is there, and the body is within the
+/// limit, the bytes written at its place are a head with status 200 and, but to HEAD, that body.
+#[tactic(auto, using(crate::proofs::WrittenLemmas::data_laws))]
+pub fn a_well_formed_request_gets_data()
+    ensures { (call : LinkCall) → Served call → ¬ (HasFailed call) → call.stop ≢ Ended NoMemory
+        → (index : ℕ) (item : Item) → index < call.most → slice_get (items_of call) index ≡ Some item
+        → GoesOnBefore call index → GetsData call index item }
 {}

@@ -1,5 +1,5 @@
-//! A connection and a door that are served: the requests of a link are answered from looks at a collection, and a door's
-//! links are served one after the other, each from a fresh session.
+//! A connection and a door that are served: the requests of a link are answered from looks at a collection, and a
+//! door's links are served one after the other, each from a fresh session.
 #![tactic(auto)]
 
 mod answer;

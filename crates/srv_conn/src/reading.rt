@@ -1,26 +1,28 @@
 //! Reading from a link until a session asks for a reply.
-ghost use Rattle.std.specs.Prelude.{◌≡◌, ◌<◌, ◌≤◌, ◌⊎◌, [], length, IfOk, IfErr, OnOk};
+ghost use Rattle.std.specs.Prelude.{◌≡◌, ◌<◌, length, IfOk, IfErr, OnOk};
 ghost use Rattle.web_session.specs.declared.action.Action.TheVariants.{Read};
 ghost use Rattle.web_session.specs.declared.phase.Phase.TheVariants.{Ended};
-ghost use Rattle.web_session.specs.State.{action_of};
+ghost use Rattle.web_session.specs.State.{action_of, IfRead};
 ghost use Rattle.dap_reply.specs.Served.{held_bytes, IsAtRest};
 ghost use Rattle.srv_conn.specs.Turn.{EndsReading, Finds, FindsNone, TakesSome};
 
 use dev_traits::Link;
 use web_session::{Action, Asked, End, Event, Session};
 
-// Reads the next bytes, at most `count`, into the session, or returns the end of the session.
+// Reads the next bytes, at most `count`, into the session. Returns the next action, or the end of the session.
 fn read_more<L: Link>(
     link: &mut L,
     session: &mut Session,
     room: &mut [u8],
     count: usize,
-) -> Result<(), End>
+) -> Result<Action, End>
     requires rests { IsAtRest session.old }
     requires reads { action_of session.old ≡ Read count }
     requires some { 0 < count }
     requires room { 0 < length room.old }
     ensures takes { OnOk result (TakesSome (L.shown link.old) (L.shown link.new) session.old session.new) }
+    ensures action { IfOk result (λ action. action ≡ action_of session.new) }
+    ensures left { IfOk result (λ action. IfRead action (λ count. 0 < count)) }
     ensures ended { IfErr result (λ end. session.new.phase ≡ Ended end) }
     ensures held { IfErr result (λ end. (L.shown link.new).held ≡ (L.shown link.old).held) }
     ensures why { IfErr result (EndsReading (L.shown link.old) (L.shown link.new) (held_bytes session.old)) }
@@ -33,8 +35,7 @@ fn read_more<L: Link>(
         },
         Ok(read) => {
             let (bytes, _) = front.split_at(read);
-            session.on(Event::Bytes(bytes));
-            Ok(())
+            Ok(session.on(Event::Bytes(bytes)))
         }
         Err(_) => {
             session.on(Event::Fault);
@@ -54,9 +55,10 @@ pub(crate) fn next_asked<L: Link>(
     ensures found { IfOk result (Finds (L.shown link.old) (L.shown link.new) session.old session.new) }
     ensures none { IfErr result (FindsNone (L.shown link.old) (L.shown link.new) session.old session.new) }
 {
+    let mut action = session.on(Event::Start);
     loop {
-        match session.on(Event::Start) {
-            Action::Read(count) => read_more(link, session, room, count)?,
+        match action {
+            Action::Read(count) => action = read_more(link, session, room, count)?,
             Action::Ask(asked) => return Ok(asked),
             _ => unreachable!(),
         }

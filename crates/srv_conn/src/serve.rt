@@ -33,6 +33,12 @@ pub fn serve_link<L: Link, K: Look>(
         (moment_of (L.shown link.old) (K.log look.old) (K.looks look.old) session.old [])
         (moment_of (L.shown link.new) (K.log look.new) (K.looks look.new) session.new result.1)
         most result.0 }
+
+    // With `most` 0 nothing is touched.
+    ensures nothing { most ≡ 0 → result ≡ (Stop.Enough, []) }
+    ensures untouched { most ≡ 0 → (link.new ≡ link.old) × (look.new ≡ look.old) × (session.new ≡ session.old) }
+
+    // So the session can be handed in again.
     ensures rests { result.0 ≡ Stop.Enough → IsAtRest session.new }
     ensures same_proto { K.proto look.new ≡ K.proto look.old }
     ensures same_still { K.still look.new ≡ K.still look.old }

@@ -17,7 +17,7 @@ use Rattle.srv_ingest.specs.declared.report.IngestEnd.{IngestEnd}
 use Rattle.srv_ingest.specs.declared.report.IngestEnd.TheVariants as ends
 use Rattle.srv_ingest.specs.declared.report.IngestReport.{IngestReport}
 use Rattle.srv_ingest.specs.Accepted.{IsAccepted, IsPublishedOrFull}
-use Rattle.srv_ingest.specs.Ingests.{IsRight, SettledWith}
+use Rattle.srv_ingest.specs.Ingests.{found_with, IsRight, SettledWith}
 use Rattle.srv_ingest.specs.Verdicts.{file_or_verdict, IsVerdict, IsVerdictOnFile, taken_back, unless_refused}
 
 -- the verdict on a file is that it was published, or that there was no room
@@ -53,13 +53,13 @@ one-accepted proto content ops name None verdict file is none file_is = elim is 
 pub all-accepted : (proto : Proto) (post : Post) (inbox' : Option Post) (pass pass' : History)
     (report : IngestReport) (done : SettledWith proto (Some post) inbox' pass pass' report)
     → All (λ it. (file : Loaded) → IsAccepted proto post.content it.name file
-    → IsPublishedOrFull pass'.seen file it.verdict) done.settled
+    → IsPublishedOrFull pass'.seen file it.verdict) (found_with done.settled done.untaken)
 all-accepted proto post inbox' pass pass' report done =
     All-weaker (IsRight proto post.content pass'.seen)
     (λ it. (file : Loaded) → IsAccepted proto post.content it.name file → IsPublishedOrFull pass'.seen file it.verdict)
     (λ it right file accepted. one-accepted proto post.content pass'.seen it.name (taken_back it.name) it.verdict file
     right accepted.no_retraction (file-is proto post.content it.name file accepted))
-    done.settled done.is.each
+    (found_with done.settled done.untaken) done.is.each
 
 -- an end before which each name was settled, unless the inbox failed
 end-fault : (end : IngestEnd) (unsettled : Option (List ℕ)) (name : List ℕ)

@@ -1,6 +1,5 @@
 -- What a desk was asked for, and its log, as a pass then sees it.
-use Rattle.std.proofs.Common.{◌≡◌, ℕ, ◌+◌, ◌≤◌, Bool, true, false, List, [], ◌∷◌, ◌++◌, length, Some, None, refl, sym, ap, subst, ◌∙◌, append-nil, length-append, arith, lt-ltb, if◌then◌else◌}
-use Rattle.std.proofs.lemmas.Option.{none-some}
+use Rattle.std.proofs.Common.{◌≡◌, ℕ, ◌+◌, ◌≤◌, List, [], ◌∷◌, ◌++◌, length, refl, sym, ap, subst, ◌∙◌, append-nil, length-append, arith, lt-ltb, if◌then◌else◌}
 use Rattle.fm_base.proofs.ListLemmas.{slice_get-push}
 use Rattle.fm_model.specs.declared.op.Op.{Op}
 use Rattle.pub_look.specs.History.{Continues, History}
@@ -53,39 +52,4 @@ OnlyLearnt-learnt pass pass' log is later = record {
 pub OnlyLearnt-none : (pass : History) → OnlyLearnt pass pass
 OnlyLearnt-none pass = record { proto = refl; later = ([], sym (append-nil pass.seen)); looks = refl }
 
--- the choice of a test that is true, and of one that is false
-pub chosen-true : {A : Type 0} (b : Bool) (x y z : A) → true ≡ b → z ≡ (if b then x else y) → z ≡ x
-chosen-true {A} b x y z is chosen = chosen ∙ ap (λ (t : Bool). if t then x else y) (sym is)
-
-pub chosen-false : {A : Type 0} (b : Bool) (x y z : A) → false ≡ b → z ≡ (if b then x else y) → z ≡ y
-chosen-false {A} b x y z is chosen = chosen ∙ ap (λ (t : Bool). if t then x else y) (sym is)
-
--- a test by whose choice there is something is true
-pub test-true : {A : Type 0} (b : Bool) (x y : A) → Some x ≡ (if b then Some y else None) → true ≡ b
-test-true true x y is = refl
-test-true false x y is = absurd (none-some x (sym is))
-
--- a test by whose choice there is nothing is false
-pub test-false : {A : Type 0} (b : Bool) (y : A) → None ≡ (if b then Some y else None) → false ≡ b
-test-false true y is = absurd (none-some y is)
-test-false false y is = refl
-
--- the same, where the operation was published under a test
-pub Tried-chosen : (op : Op) (pass pass' : History) (log log' : List Op) (share share' : ℕ) (b : Bool)
-    (result : Attempt) → length pass.seen ≤ length log → true ≡ b → log' ≡ (if b then log ++ op ∷ [] else log)
-    → share' ≡ (if b then share + 1 else share) → result ≡ Done (length log')
-    → pass' ≡ learnt_by pass log' → Tried op pass pass' share share' result
-Tried-chosen op pass pass' log log' share share' b result within is log_is counted result_is pass_is =
-    Tried-learnt op pass pass' log log' share share' result within
-    (chosen-true b (log ++ op ∷ []) log log' is log_is) (chosen-true b (share + 1) share share' is counted)
-    result_is pass_is
-
-pub ruleset attempts = (
-  Tried-learnt,
-  Tried-chosen,
-  OnlyLearnt-learnt,
-  OnlyLearnt-none,
-  chosen-false,
-  test-true,
-  test-false,
-)
+pub ruleset attempts = (Tried-learnt, OnlyLearnt-learnt, OnlyLearnt-none)

@@ -1,12 +1,12 @@
 -- A report that counts one name more.
-use Rattle.std.proofs.Common.{◌≡◌, ℕ, ◌+◌, ◌&&◌, Bool, cond, List, [], ◌∷◌, ◌++◌, Option, Some, None, is_none, is_some, count_by, refl, sym, ap, ◌∙◌, arith}
+use Rattle.std.proofs.Common.{◌≡◌, ℕ, ◌+◌, ◌&&◌, Bool, cond, List, [], ◌∷◌, ◌++◌, Option, Some, None, is_none, is_some, count_by, refl, sym, ap, ◌∙◌, append-nil, arith}
 use Rattle.std.proofs.lemmas.List.Sums.{sum_by_push}
 use Rattle.dev_traits.specs.declared.inbox.Verdict.{Verdict}
 use Rattle.dev_traits.specs.declared.inbox.Verdict.TheVariants as kinds
 use Rattle.dev_traits.specs.Cause.{capped}
 use Rattle.srv_ingest.specs.declared.report.IngestReport.{IngestReport}
-use Rattle.srv_ingest.specs.Ingests.{Counts, has_come, is_published, is_refused, is_retracted, is_short, Settlement}
-use Rattle.srv_ingest.specs.Turns.{GrowsByOne, with_published, with_settled}
+use Rattle.srv_ingest.specs.Ingests.{Counts, found_with, has_come, is_published, is_refused, is_retracted, is_short, Settlement}
+use Rattle.srv_ingest.specs.Turns.{with_published, with_settled, with_untaken}
 use Rattle.srv_ingest.specs.Verdicts.{taken_back}
 
 -- a report after a name's turn
@@ -72,55 +72,67 @@ short-turn report (Some back) kinds.Short count is = omega (arith, is)
 short-turn report None verdict count is = omega (arith, is)
 short-turn report (Some back) verdict count is = omega (arith, is)
 
--- a report that counts each name that was settled
-Counts-exact : (settled : List Settlement) (report : IngestReport)
-    → report.refused ≡ capped (count_by (λ it. is_refused it.verdict) settled)
-    → report.short ≡ capped (count_by (λ it. is_short it.verdict) settled)
-    → report.published ≡ count_by has_come settled → report.retracted ≡ count_by is_retracted settled
-    → Counts settled None report
-Counts-exact settled report refused_is short_is published_is retracted_is = record {
-  refused_is = refused_is;
-  short_is = short_is;
-  published_is = λ _. published_is;
-  retracted_is = λ _. retracted_is;
-  published_least = omega (arith, published_is);
-  retracted_least = omega (arith, retracted_is);
-  most = omega (arith, published_is, retracted_is);
-}
+-- a verdict that the inbox did not take is counted as an operation alone
+found-turn : (report : IngestReport) (back : Option (List ℕ)) (verdict : Verdict)
+    → ((with_published report back verdict).published ≡ report.published
+    + cond (is_published verdict && is_none back) 1 0)
+    × ((with_published report back verdict).retracted ≡ report.retracted
+    + cond (is_published verdict && is_some back) 1 0)
+    × ((with_published report back verdict).refused ≡ report.refused)
+    × ((with_published report back verdict).short ≡ report.short)
+unfolding with_published is_published
+found-turn report None (kinds.Published number) = (refl, omega arith, refl, refl)
+found-turn report (Some back) (kinds.Published number) = (omega arith, refl, refl, refl)
+found-turn report None verdict = (omega arith, omega arith, refl, refl)
+found-turn report (Some back) verdict = (omega arith, omega arith, refl, refl)
 
 -- no name was settled yet
 pub Counts-none : (report : IngestReport) → report.refused ≡ 0 → report.short ≡ 0 → report.published ≡ 0
-    → report.retracted ≡ 0 → Counts [] None report
-Counts-none report refused_is short_is published_is retracted_is =
-    Counts-exact [] report refused_is short_is published_is retracted_is
+    → report.retracted ≡ 0 → Counts [] [] report
+Counts-none report refused_is short_is published_is retracted_is = record {
+  refused_is = refused_is;
+  short_is = short_is;
+  published_is = published_is;
+  retracted_is = retracted_is;
+}
 
 -- one more name was settled
-pub Counts-more : (settled : List Settlement) (it : Settlement) (report : IngestReport) → Counts settled None report
-    → Counts (settled ++ it ∷ []) None (after_turn report (taken_back it.name) it.verdict)
+pub Counts-more : (settled : List Settlement) (it : Settlement) (report : IngestReport) → Counts settled settled report
+    → Counts (settled ++ it ∷ []) (settled ++ it ∷ []) (after_turn report (taken_back it.name) it.verdict)
 Counts-more settled it report counts =
     let back : Option (List ℕ) = taken_back it.name in
     let refused : Settlement → Bool = λ x. is_refused x.verdict in
     let short : Settlement → Bool = λ x. is_short x.verdict in
-    Counts-exact (settled ++ it ∷ []) (after_turn report back it.verdict)
-    (refused-turn report back it.verdict (count_by refused settled) counts.refused_is
-    ∙ ap capped (sym (count-more refused settled it)))
-    (short-turn report back it.verdict (count_by short settled) counts.short_is
-    ∙ ap capped (sym (count-more short settled it)))
-    (come-turn report back it.verdict ∙ ap (λ (n : ℕ). n + cond (has_come it) 1 0) (counts.published_is refl)
-    ∙ sym (count-more has_come settled it))
-    (retracted-turn report back it.verdict ∙ ap (λ (n : ℕ). n + cond (is_retracted it) 1 0) (counts.retracted_is refl)
-    ∙ sym (count-more is_retracted settled it))
+    record {
+      refused_is = refused-turn report back it.verdict (count_by refused settled) counts.refused_is
+          ∙ ap capped (sym (count-more refused settled it));
+      short_is = short-turn report back it.verdict (count_by short settled) counts.short_is
+          ∙ ap capped (sym (count-more short settled it));
+      published_is = come-turn report back it.verdict
+          ∙ ap (λ (n : ℕ). n + cond (has_come it) 1 0) counts.published_is
+          ∙ sym (count-more has_come settled it);
+      retracted_is = retracted-turn report back it.verdict
+          ∙ ap (λ (n : ℕ). n + cond (is_retracted it) 1 0) counts.retracted_is
+          ∙ sym (count-more is_retracted settled it);
+    }
 
--- at most one operation more was published, and none where each name was settled
-pub Counts-grown : (settled : List Settlement) (unsettled : Option (List ℕ)) (report report' : IngestReport)
-    → Counts settled None report → GrowsByOne report report' → (unsettled ≡ None → report' ≡ report)
-    → Counts settled unsettled report'
-Counts-grown settled unsettled report report' counts grows same = record {
-  refused_is = grows.refused_is ∙ counts.refused_is;
-  short_is = grows.short_is ∙ counts.short_is;
-  published_is = λ none. ap (λ (r : IngestReport). r.published) (same none) ∙ counts.published_is refl;
-  retracted_is = λ none. ap (λ (r : IngestReport). r.retracted) (same none) ∙ counts.retracted_is refl;
-  published_least = omega (arith, counts.published_is refl, grows.published_least);
-  retracted_least = omega (arith, counts.retracted_is refl, grows.retracted_least);
-  most = omega (arith, counts.published_is refl, counts.retracted_is refl, grows.most);
+-- a verdict was found that the inbox did not take, or none was
+pub Counts-found : (settled : List Settlement) (untaken : Option Settlement) (report : IngestReport)
+    → Counts settled settled report → Counts settled (found_with settled untaken) (with_untaken report untaken)
+Counts-found settled None report counts = record {
+  refused_is = counts.refused_is;
+  short_is = counts.short_is;
+  published_is = counts.published_is ∙ ap (λ (l : List Settlement). count_by has_come l) (sym (append-nil settled));
+  retracted_is = counts.retracted_is
+      ∙ ap (λ (l : List Settlement). count_by is_retracted l) (sym (append-nil settled));
 }
+Counts-found settled (Some it) report counts =
+    let turn = found-turn report (taken_back it.name) it.verdict in
+    record {
+      refused_is = turn.2 ∙ counts.refused_is;
+      short_is = turn.3 ∙ counts.short_is;
+      published_is = turn.0 ∙ ap (λ (n : ℕ). n + cond (has_come it) 1 0) counts.published_is
+          ∙ sym (count-more has_come settled it);
+      retracted_is = turn.1 ∙ ap (λ (n : ℕ). n + cond (is_retracted it) 1 0) counts.retracted_is
+          ∙ sym (count-more is_retracted settled it);
+    }

@@ -1,12 +1,12 @@
 -- The names that were settled so far, and one more.
-use Rattle.std.proofs.Common.{◌≡◌, ℕ, List, [], ◌∷◌, ◌++◌, map, Option, Some, None, IfSome, IsSomeAnd, option_to_list, flat_map, refl, sym, ap, ap₂, subst, ◌∙◌, append_assoc, append-nil}
+use Rattle.std.proofs.Common.{◌≡◌, ℕ, All, List, [], ◌∷◌, ◌++◌, map, Option, Some, None, IfSome, IsSomeAnd, option_to_list, flat_map, refl, sym, ap, ap₂, subst, ◌∙◌, append_assoc, append-nil}
 use Rattle.std.proofs.lemmas.List.{map-append}
-use Rattle.std.proofs.lemmas.List.Elements.{All-append, All-cons, All-nil, All-weaker}
+use Rattle.std.proofs.lemmas.List.Elements.{All-append, All-weaker}
 use Rattle.std.proofs.lemmas.Grind.{flat_map-append}
 use Rattle.dev_traits.specs.declared.inbox.Arrival.TheVariants as arrivals
 use Rattle.dev_traits.specs.declared.inbox.Verdict.{Verdict}
 use Rattle.dev_traits.specs.Door.{first_of}
-use Rattle.dev_traits.specs.Inbox.{after_next, after_settle, InboxShown, Post}
+use Rattle.dev_traits.specs.Inbox.{after_next, after_settle, Post}
 use Rattle.fm_model.specs.declared.op.Op.{Op}
 use Rattle.fm_model.specs.declared.proto.Proto.{Proto}
 use Rattle.pub_look.specs.History.{Continues, History}
@@ -15,7 +15,7 @@ use Rattle.srv_ingest.specs.Ingests.{AllRight, IsRight, looked_numbers, MovesOn,
 use Rattle.srv_ingest.specs.Verdicts.{taken_back}
 use Rattle.srv_ingest.proofs.LaterLemmas.{IsVerdict-later}
 use Rattle.srv_ingest.proofs.SeesLemmas.{Sees-itself, Sees-then}
-use Rattle.srv_ingest.proofs.TurnLemmas.{first-is, MovesIn-itself}
+use Rattle.srv_ingest.proofs.TurnLemmas.{AllRight-none, AllRight-one, first-is, MovesIn-itself, Sees-one}
 
 -- the names that are left, where some were settled and then others
 left-then : (xs ys : List Settlement) (end names names' names'' : List (List ℕ))
@@ -73,55 +73,64 @@ AllRight-later proto (Some post) ops ops' settled later all =
     (λ it right. IsVerdict-later proto ops ops' post.content it.name (taken_back it.name) it.verdict later right)
     settled all
 
--- one more verdict is right
-AllRight-more : (proto : Proto) (a b : Option Post) (ops : List Op) (settled : List Settlement) (it : Settlement)
-    → MovesIn a b settled None → AllRight proto a ops settled
-    → IfSome b (λ post. IsRight proto post.content ops it) → AllRight proto a ops (settled ++ it ∷ [])
-AllRight-more proto None b ops settled it moves all right = tt
-AllRight-more proto (Some p) None ops settled it moves all right = absurd moves
-AllRight-more proto (Some p) (Some q) ops settled it moves all right =
-    let P : Settlement → Type 0 = IsRight proto p.content ops in
-    All-append P settled (it ∷ []) all (All-cons P it [] (subst (λ (c : List ℕ → Option (List ℕ)).
-    IsRight proto c ops it) moves.content_is right) (All-nil P))
+-- some verdicts are right, and others, by an inbox that moved on
+pub AllRight-then : (proto : Proto) (a b : Option Post) (ops : List Op) (settled found more : List Settlement)
+    → MovesIn a b settled None → AllRight proto a ops found → AllRight proto b ops more
+    → AllRight proto a ops (found ++ more)
+AllRight-then proto None b ops settled found more moves all right = tt
+AllRight-then proto (Some p) None ops settled found more moves all right = absurd moves
+AllRight-then proto (Some p) (Some q) ops settled found more moves all right =
+    All-append (IsRight proto p.content ops) found more all
+    (subst (λ (c : List ℕ → Option (List ℕ)). All (IsRight proto c ops) more) moves.content_is right)
 
 -- no name was settled yet
-pub Settled-none : (proto : Proto) (held : Option Post) (pass : History) → Settled proto held held pass pass [] None
+pub Settled-none : (proto : Proto) (held : Option Post) (pass : History)
+    → Settled proto held held pass pass [] [] None
 Settled-none proto held pass = record {
   moves = MovesIn-itself held held refl;
-  each = none-right held;
+  each = AllRight-none proto held pass.seen;
   sees = Sees-itself pass;
 }
-  where
-    none-right : (h : Option Post) → AllRight proto h pass.seen []
-    none-right None = tt
-    none-right (Some post) = All-nil (IsRight proto post.content pass.seen)
 
--- the numbers of one name more
-pub numbers-more : (number : Verdict → List ℕ) (settled : List Settlement) (it : Settlement)
-    → flat_map (λ it. number it.verdict) settled ++ number it.verdict
-    ≡ flat_map (λ it. number it.verdict) (settled ++ it ∷ [])
-numbers-more number settled it =
-    let of : Settlement → List ℕ = λ it. number it.verdict in
-    ap (λ (l : List ℕ). flat_map of settled ++ l) (sym (append-nil (of it)))
-    ∙ sym (flat_map-append of settled (it ∷ []))
+-- the numbers of some verdicts and of others
+numbers-then : (number : Verdict → List ℕ) (xs ys : List Settlement)
+    → flat_map (λ it. number it.verdict) xs ++ flat_map (λ it. number it.verdict) ys
+    ≡ flat_map (λ it. number it.verdict) (xs ++ ys)
+numbers-then number xs ys = sym (flat_map-append (λ (it : Settlement). number it.verdict) xs ys)
+
+-- what some verdicts say and speak of, and then others
+Sees-found : (a b c : History) (xs ys : List Settlement) → Sees a b (published_numbers xs) (looked_numbers xs)
+    → Sees b c (published_numbers ys) (looked_numbers ys)
+    → Sees a c (published_numbers (xs ++ ys)) (looked_numbers (xs ++ ys))
+Sees-found a b c xs ys first second =
+    subst (λ (l : List ℕ). Sees a c l (looked_numbers (xs ++ ys))) (numbers-then published_number xs ys)
+    (subst (λ (l : List ℕ). Sees a c (published_numbers xs ++ published_numbers ys) l)
+    (numbers-then looked_number xs ys)
+    (Sees-then a b c (published_numbers xs) (published_numbers ys) (looked_numbers xs) (looked_numbers ys)
+    first second))
+
+-- names were settled, and then others, with the verdicts that were found
+pub Settled-then : {proto : Proto} {a b c : Option Post} {pass pass' pass'' : History}
+    {settled : List Settlement} (more found : List Settlement) {unsettled : Option (List ℕ)}
+    → Settled proto a b pass pass' settled settled None → MovesIn b c more unsettled
+    → AllRight proto b pass''.seen found → Sees pass' pass'' (published_numbers found) (looked_numbers found)
+    → Settled proto a c pass pass'' (settled ++ more) (settled ++ found) unsettled
+Settled-then {proto} {a} {b} {c} {pass} {pass'} {pass''} {settled} more found {unsettled} is moves right sees =
+    let all = AllRight-later proto a pass'.seen pass''.seen settled sees.later is.each in
+    record {
+      moves = MovesIn-then a b c settled more unsettled is.moves moves;
+      each = AllRight-then proto a b pass''.seen settled settled found is.moves all right;
+      sees = Sees-found pass pass' pass'' settled found is.sees sees;
+    }
 
 -- one more name was settled
-pub Settled-more : (proto : Proto) (a b c : InboxShown) (pass pass' pass'' : History) (settled : List Settlement)
-    (it : Settlement) → Settled proto a.held b.held pass pass' settled None
-    → IfSome b.held (λ post. first_of post.left ≡ Some it.name)
-    → IfSome b.held (λ post. IsRight proto post.content pass''.seen it)
+pub Settled-more : {proto : Proto} {a b c : Option Post} {pass pass' pass'' : History} {settled : List Settlement}
+    (it : Settlement) → Settled proto a b pass pass' settled settled None
+    → IfSome b (λ post. first_of post.left ≡ Some it.name)
+    → IfSome b (λ post. IsRight proto post.content pass''.seen it)
     → Sees pass' pass'' (published_number it.verdict) (looked_number it.verdict)
-    → c.held ≡ after_settle it.verdict (after_next (arrivals.Name it.name) b.held)
-    → Settled proto a.held c.held pass pass'' (settled ++ it ∷ []) None
-Settled-more proto a b c pass pass' pass'' settled it is first right sees held_is = record {
-  moves = MovesIn-then a.held b.held c.held settled (it ∷ []) None is.moves
-      (MovesIn-one b.held c.held it first held_is);
-  each = AllRight-more proto a.held b.held pass''.seen settled it is.moves
-      (AllRight-later proto a.held pass'.seen pass''.seen settled sees.later is.each) right;
-  sees = subst (λ (l : List ℕ). Sees pass pass'' l (looked_numbers (settled ++ it ∷ [])))
-      (numbers-more published_number settled it)
-      (subst (λ (l : List ℕ). Sees pass pass'' (published_numbers settled ++ published_number it.verdict) l)
-      (numbers-more looked_number settled it)
-      (Sees-then pass pass' pass'' (published_numbers settled) (published_number it.verdict) (looked_numbers settled)
-      (looked_number it.verdict) is.sees sees));
-}
+    → c ≡ after_settle it.verdict (after_next (arrivals.Name it.name) b)
+    → Settled proto a c pass pass'' (settled ++ it ∷ []) (settled ++ it ∷ []) None
+Settled-more {proto} {a} {b} {c} {pass} {pass'} {pass''} {settled} it is first right sees held_is =
+    Settled-then (it ∷ []) (it ∷ []) is (MovesIn-one b c it first held_is) (AllRight-one proto b pass''.seen it right)
+    (Sees-one pass' pass'' it sees)

@@ -1,4 +1,5 @@
 pub mod AcceptedLemmas
+pub mod AloneLemmas
 pub mod AttemptLemmas
 pub mod CountLemmas
 pub mod DecidingLemmas
@@ -11,7 +12,10 @@ pub mod MomentCounts
 pub mod MomentLemmas
 pub mod NextLemmas
 pub mod ReportLemmas
+pub mod RisingNumbers
 pub mod SeesLemmas
 pub mod SoFar
+pub mod SpokenLemmas
+pub mod TakenIn
 pub mod TurnLemmas
 pub mod VerdictLemmas

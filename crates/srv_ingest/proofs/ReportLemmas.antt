@@ -4,17 +4,7 @@ use Rattle.dev_traits.specs.declared.inbox.Verdict.{Verdict}
 use Rattle.dev_traits.specs.declared.inbox.Verdict.TheVariants as kinds
 use Rattle.srv_ingest.specs.declared.report.IngestReport.{IngestReport}
 use Rattle.srv_ingest.specs.Attempts.{published_number}
-use Rattle.srv_ingest.specs.Turns.{GrowsByOne, operations, with_published, with_settled}
-
--- a report that counts no more
-pub GrowsByOne-itself : (report : IngestReport) → GrowsByOne report report
-GrowsByOne-itself report = record {
-  refused_is = refl;
-  short_is = refl;
-  published_least = omega arith;
-  retracted_least = omega arith;
-  most = omega arith;
-}
+use Rattle.srv_ingest.specs.Turns.{operations, with_published, with_settled}
 
 -- a report with one more name that became an operation counts one operation more
 pub operations-published : (report : IngestReport) (back : Option (List ℕ)) (verdict : Verdict)
@@ -33,24 +23,3 @@ operations-settled report (kinds.Refused code) = refl
 operations-settled report (kinds.Full count) = refl
 operations-settled report kinds.Short = refl
 operations-settled report verdict = refl
-
--- a report with one more name that became an operation
-pub GrowsByOne-published : (report : IngestReport) (back : Option (List ℕ)) (verdict : Verdict)
-    → GrowsByOne report (with_published report back verdict)
-unfolding with_published
-GrowsByOne-published report None (kinds.Published number) = record {
-  refused_is = refl;
-  short_is = refl;
-  published_least = omega arith;
-  retracted_least = omega arith;
-  most = omega arith;
-}
-GrowsByOne-published report (Some back) (kinds.Published number) = record {
-  refused_is = refl;
-  short_is = refl;
-  published_least = omega arith;
-  retracted_least = omega arith;
-  most = omega arith;
-}
-GrowsByOne-published report None verdict = GrowsByOne-itself report
-GrowsByOne-published report (Some back) verdict = GrowsByOne-itself report

@@ -11,11 +11,18 @@ RiseBetween-le low high [] rise = rise
 RiseBetween-le low high (x ∷ more) rise = omega (arith, rise.0, RiseBetween-le x high more rise.1)
 
 -- numbers that rise from above a bound rise from above a lower one
-RiseBetween-lower : (low from high : ℕ) (numbers : List ℕ) → low ≤ from → RiseBetween from high numbers
+pub RiseBetween-lower : (low from high : ℕ) (numbers : List ℕ) → low ≤ from → RiseBetween from high numbers
     → RiseBetween low high numbers
 unfolding RiseBetween
 RiseBetween-lower low from high [] below rise = omega (arith, below, rise)
 RiseBetween-lower low from high (x ∷ more) below rise = (omega (arith, below, rise.0), rise.1)
+
+-- numbers that rise up to a bound rise up to a higher one
+pub RiseBetween-higher : (low high top : ℕ) (numbers : List ℕ) → high ≤ top → RiseBetween low high numbers
+    → RiseBetween low top numbers
+unfolding RiseBetween
+RiseBetween-higher low high top [] below rise = omega (arith, below, rise)
+RiseBetween-higher low high top (x ∷ more) below rise = (rise.0, RiseBetween-higher x high top more below rise.1)
 
 -- numbers that rise up to a bound, and then others from it
 pub RiseBetween-append : (low mid high : ℕ) (numbers more : List ℕ) → RiseBetween low mid numbers
@@ -74,16 +81,4 @@ Sees-then a b c published published' looked looked' first second = record {
   looks = second.looks ∙ ap (λ (l : List ℕ). l ++ second.more) first.looks
       ∙ append_assoc a.looks first.more second.more;
   picked = IsPickedFrom-append looked looked' first.more second.more first.picked second.picked;
-}
-
--- what is not spoken of
-pub Sees-unsaid : (a b : History) (published looked : List ℕ) → Sees a b published looked → Sees a b [] []
-unfolding RiseBetween
-Sees-unsaid a b published looked sees = record {
-  proto = sees.proto;
-  later = sees.later;
-  rise = RiseBetween-le (length a.seen) (length b.seen) published sees.rise;
-  more = sees.more;
-  looks = sees.looks;
-  picked = IsPickedFrom-none sees.more;
 }

@@ -1,10 +1,12 @@
 -- The turn of one name.
-use Rattle.std.proofs.Common.{◌≡◌, ℕ, List, [], ◌∷◌, drop, Option, Some, None, IfSome, IsSomeAnd, refl, sym, ap, subst, ◌∙◌, append-nil}
+use Rattle.std.proofs.Common.{◌≡◌, ℕ, List, [], ◌∷◌, drop, Option, Some, None, IfSome, IsSomeAnd, flat_map, refl, sym, ap, subst, ◌∙◌, append-nil}
+use Rattle.std.proofs.lemmas.List.Elements.{All-cons, All-nil}
 use Rattle.std.proofs.lemmas.Option.{none-some, same_Some}
 use Rattle.dev_traits.specs.declared.inbox.Arrival.TheVariants as arrivals
 use Rattle.dev_traits.specs.declared.inbox.Verdict.{Verdict}
 use Rattle.dev_traits.specs.Door.{first_of}
 use Rattle.dev_traits.specs.Inbox.{after_next, after_settle, InboxShown, Post}
+use Rattle.fm_model.specs.declared.op.Op.{Op}
 use Rattle.fm_model.specs.declared.proto.Proto.{Proto}
 use Rattle.dev_traits.specs.Cause.{one_more}
 use Rattle.pub_look.specs.History.{History}
@@ -12,11 +14,11 @@ use Rattle.srv_ingest.specs.declared.report.IngestEnd.{IngestEnd}
 use Rattle.srv_ingest.specs.declared.report.IngestEnd.TheVariants as ends
 use Rattle.srv_ingest.specs.declared.report.IngestReport.{IngestReport}
 use Rattle.srv_ingest.specs.Attempts.{DecidesName, FailsBefore, looked_number, published_number, Sees}
-use Rattle.srv_ingest.specs.Ingests.{EndsIngest, IsRight, MovesOn, MovesIn}
-use Rattle.srv_ingest.specs.Turns.{GrowsByOne, SettlesNext, StopsNext, with_published, with_settled}
+use Rattle.srv_ingest.specs.Ingests.{AllRight, EndsIngest, IsRight, looked_numbers, MovesOn, MovesIn, published_numbers, Settlement}
+use Rattle.srv_ingest.specs.Turns.{SettlesNext, StopsNext, with_published, with_settled}
 use Rattle.srv_ingest.specs.Verdicts.{IsVerdict, taken_back}
-use Rattle.srv_ingest.proofs.SeesLemmas.{Sees-itself, Sees-unsaid}
-use Rattle.srv_ingest.proofs.ReportLemmas.{GrowsByOne-itself, GrowsByOne-published, operations-published, operations-settled}
+use Rattle.srv_ingest.proofs.SeesLemmas.{Sees-itself}
+use Rattle.srv_ingest.proofs.ReportLemmas.{operations-published, operations-settled}
 
 -- an inbox of which nothing was taken
 pub MovesIn-itself : (held held' : Option Post) → held' ≡ held → MovesIn held held' [] None
@@ -54,59 +56,6 @@ settles-last None held' held'' name is same =
 settles-last (Some post) held' held'' name is same =
     subst (λ (h : Option Post). IfSome h (λ post. post.last ≡ Some name)) (sym (same ∙ is)) refl
 
--- no name was given
-pub StopsNext-none : (inbox inbox' : InboxShown) (pass : History) (report : IngestReport) (end : IngestEnd)
-    → inbox'.held ≡ inbox.held → EndsIngest inbox inbox' end
-    → StopsNext inbox inbox' pass pass report report end
-StopsNext-none inbox inbox' pass report end held_is so = record {
-  unsettled = None;
-  moves = MovesIn-itself inbox.held inbox'.held held_is;
-  sees = Sees-itself pass;
-  grows = GrowsByOne-itself report;
-  same = λ _. refl;
-  whole = λ _. refl;
-  ends_so = so;
-}
-
--- the inbox failed before there was a verdict
-pub StopsNext-unfound : (inbox inbox' inbox'' : InboxShown) (pass pass' : History) (share share' : ℕ)
-    (report : IngestReport) (name : List ℕ) → inbox'.held ≡ after_next (arrivals.Name name) inbox.held
-    → inbox'.faults ≡ inbox.faults → IfSome inbox.held (λ post. first_of post.left ≡ Some name)
-    → FailsBefore inbox' inbox'' pass pass' share share'
-    → StopsNext inbox inbox'' pass pass' report report ends.InboxFault
-unfolding EndsIngest
-StopsNext-unfound inbox inbox' inbox'' pass pass' share share' report name held_is faults_are first fails = record {
-  unsettled = Some name;
-  moves = MovesIn-taken inbox.held inbox''.held name (fails.held_is ∙ held_is) first;
-  sees = subst (λ (h : History). Sees pass h [] []) (sym fails.pass_is) (Sees-itself pass);
-  grows = GrowsByOne-itself report;
-  same = λ _. refl;
-  whole = λ other. absurd (other refl);
-  ends_so = fails.faults_are ∙ ap one_more faults_are;
-}
-
--- the inbox did not take the verdict
-pub StopsNext-untaken : (proto : Proto) (inbox inbox' inbox'' inbox''' : InboxShown) (pass pass' : History)
-    (share share' : ℕ) (report report' : IngestReport) (name : List ℕ) (verdict : Verdict)
-    → inbox'.held ≡ after_next (arrivals.Name name) inbox.held
-    → inbox'.faults ≡ inbox.faults → IfSome inbox.held (λ post. first_of post.left ≡ Some name)
-    → DecidesName proto name inbox' inbox'' pass pass' share share' verdict
-    → report' ≡ with_published report (taken_back name) verdict
-    → inbox'''.held ≡ inbox''.held → inbox'''.faults ≡ one_more inbox''.faults
-    → StopsNext inbox inbox''' pass pass' report report' ends.InboxFault
-unfolding EndsIngest
-StopsNext-untaken proto inbox inbox' inbox'' inbox''' pass pass' share share' report report' name verdict held_is
-    faults_are first decides report_is held_same fails = record {
-      unsettled = Some name;
-      moves = MovesIn-taken inbox.held inbox'''.held name (held_same ∙ decides.held_is ∙ held_is) first;
-      sees = Sees-unsaid pass pass' (published_number verdict) (looked_number verdict) decides.decides.sees;
-      grows = subst (λ (r : IngestReport). GrowsByOne report r) (sym report_is)
-          (GrowsByOne-published report (taken_back name) verdict);
-      same = λ none. absurd (none-some name (sym none));
-      whole = λ other. absurd (other refl);
-      ends_so = fails ∙ ap one_more (decides.faults_are ∙ faults_are);
-    }
-
 -- what holds of what a name holds, by an inbox that gave the name
 right-before : (proto : Proto) (name : List ℕ) (verdict : Verdict) (pass : History) (held held' : Option Post)
     → held' ≡ after_next (arrivals.Name name) held
@@ -116,9 +65,96 @@ right-before proto name verdict pass None held' is right = tt
 right-before proto name verdict pass (Some post) held' is right = subst (λ (h : Option Post).
     IfSome h (λ it. IsVerdict proto pass.seen it.content name (taken_back name) verdict)) is right
 
+-- no verdict is right
+pub AllRight-none : (proto : Proto) (held : Option Post) (ops : List Op) → AllRight proto held ops []
+AllRight-none proto None ops = tt
+AllRight-none proto (Some post) ops = All-nil (IsRight proto post.content ops)
+
+-- one verdict is right
+pub AllRight-one : (proto : Proto) (held : Option Post) (ops : List Op) (it : Settlement)
+    → IfSome held (λ post. IsRight proto post.content ops it) → AllRight proto held ops (it ∷ [])
+AllRight-one proto None ops it right = tt
+AllRight-one proto (Some post) ops it right =
+    let P : Settlement → Type 0 = IsRight proto post.content ops in All-cons P it [] right (All-nil P)
+
+-- the numbers of one verdict
+one-number : (number : Verdict → List ℕ) (it : Settlement)
+    → number it.verdict ≡ flat_map (λ it. number it.verdict) (it ∷ [])
+one-number number it = sym (append-nil (number it.verdict))
+
+-- what one verdict says and speaks of
+pub Sees-one : (pass pass' : History) (it : Settlement)
+    → Sees pass pass' (published_number it.verdict) (looked_number it.verdict)
+    → Sees pass pass' (published_numbers (it ∷ [])) (looked_numbers (it ∷ []))
+Sees-one pass pass' it sees =
+    subst (λ (l : List ℕ). Sees pass pass' l (looked_numbers (it ∷ []))) (one-number published_number it)
+    (subst (λ (l : List ℕ). Sees pass pass' (published_number it.verdict) l) (one-number looked_number it) sees)
+
+-- no name was given
+pub StopsNext-none : (proto : Proto) (inbox inbox' : InboxShown) (pass : History) (report : IngestReport)
+    (end : IngestEnd) → inbox'.held ≡ inbox.held → EndsIngest inbox inbox' end
+    → StopsNext proto inbox inbox' pass pass report report end
+StopsNext-none proto inbox inbox' pass report end held_is so = record {
+  untaken = None;
+  unsettled = None;
+  named = tt;
+  moves = MovesIn-itself inbox.held inbox'.held held_is;
+  right = AllRight-none proto inbox.held pass.seen;
+  sees = Sees-itself pass;
+  report_is = refl;
+  whole = λ _. refl;
+  ends_so = so;
+}
+
+-- the inbox failed before there was a verdict
+pub StopsNext-unfound : {proto : Proto} {inbox inbox' inbox'' : InboxShown} {pass pass' : History} {share share' : ℕ}
+    {report : IngestReport} (name : List ℕ) → inbox'.held ≡ after_next (arrivals.Name name) inbox.held
+    → inbox'.faults ≡ inbox.faults → IfSome inbox.held (λ post. first_of post.left ≡ Some name)
+    → FailsBefore inbox' inbox'' pass pass' share share'
+    → StopsNext proto inbox inbox'' pass pass' report report ends.InboxFault
+unfolding EndsIngest
+StopsNext-unfound {proto} {inbox} {inbox'} {inbox''} {pass} {pass'} {share} {share'} {report} name held_is faults_are
+    first fails = record {
+      untaken = None;
+      unsettled = Some name;
+      named = tt;
+      moves = MovesIn-taken inbox.held inbox''.held name (fails.held_is ∙ held_is) first;
+      right = AllRight-none proto inbox.held pass'.seen;
+      sees = subst (λ (h : History). Sees pass h [] []) (sym fails.pass_is) (Sees-itself pass);
+      report_is = refl;
+      whole = λ other. absurd (other refl);
+      ends_so = fails.faults_are ∙ ap one_more faults_are;
+    }
+
+-- the inbox did not take the verdict
+pub StopsNext-untaken : {proto : Proto} {inbox inbox' inbox'' inbox''' : InboxShown} {pass pass' : History}
+    {share share' : ℕ} {report report' : IngestReport} {name : List ℕ} {verdict : Verdict}
+    → inbox'.held ≡ after_next (arrivals.Name name) inbox.held
+    → inbox'.faults ≡ inbox.faults → IfSome inbox.held (λ post. first_of post.left ≡ Some name)
+    → DecidesName proto name inbox' inbox'' pass pass' share share' verdict
+    → report' ≡ with_published report (taken_back name) verdict
+    → inbox'''.held ≡ inbox''.held → inbox'''.faults ≡ one_more inbox''.faults
+    → StopsNext proto inbox inbox''' pass pass' report report' ends.InboxFault
+unfolding EndsIngest
+StopsNext-untaken {proto} {inbox} {inbox'} {inbox''} {inbox'''} {pass} {pass'} {share} {share'} {report} {report'}
+    {name} {verdict} held_is faults_are first decides report_is held_same fails =
+    let it : Settlement = record { name = name; verdict = verdict } in
+    record {
+      untaken = Some it;
+      unsettled = Some name;
+      named = refl;
+      moves = MovesIn-taken inbox.held inbox'''.held name (held_same ∙ decides.held_is ∙ held_is) first;
+      right = AllRight-one proto inbox.held pass'.seen it
+          (right-before proto name verdict pass' inbox.held inbox'.held held_is decides.is);
+      sees = Sees-one pass pass' it decides.decides.sees;
+      report_is = report_is;
+      whole = λ other. absurd (other refl);
+      ends_so = fails ∙ ap one_more (decides.faults_are ∙ faults_are);
+    }
+
 -- the inbox took the verdict
-pub SettlesNext-taken : (proto : Proto) (inbox inbox' inbox'' inbox''' : InboxShown) (pass pass' : History)
-    (share share' : ℕ) (report report' report'' : IngestReport) (name : List ℕ) (verdict : Verdict)
+pub SettlesNext-taken : {proto : Proto} {inbox inbox' inbox'' inbox''' : InboxShown} {pass pass' : History}
+    {share share' : ℕ} {report report' report'' : IngestReport} {name : List ℕ} {verdict : Verdict}
     → inbox'.held ≡ after_next (arrivals.Name name) inbox.held
     → inbox'.faults ≡ inbox.faults → IfSome inbox.held (λ post. first_of post.left ≡ Some name)
     → DecidesName proto name inbox' inbox'' pass pass' share share' verdict
@@ -126,8 +162,8 @@ pub SettlesNext-taken : (proto : Proto) (inbox inbox' inbox'' inbox''' : InboxSh
     → inbox'''.held ≡ after_settle verdict inbox''.held → inbox'''.faults ≡ inbox''.faults
     → report'' ≡ with_settled report' verdict
     → SettlesNext proto inbox inbox''' pass pass' report report''
-SettlesNext-taken proto inbox inbox' inbox'' inbox''' pass pass' share share' report report' report'' name verdict
-    held_is faults_are first decides report_is held_same faults_same report_is' = record {
+SettlesNext-taken {proto} {inbox} {inbox'} {inbox''} {inbox'''} {pass} {pass'} {share} {share'} {report} {report'}
+    {report''} {name} {verdict} held_is faults_are first decides report_is held_same faults_same report_is' = record {
       it = record { name = name; verdict = verdict };
       next = first;
       is = right-before proto name verdict pass' inbox.held inbox'.held held_is decides.is;

@@ -1,5 +1,5 @@
 -- Attempts to publish at a desk under its lock, and the search for a verdict on one name or moment.
-use Rattle.std.specs.Prelude.{◌≡◌, ◌⊎◌, ℕ, ◌+◌, ◌<◌, ◌≤◌, List, [], ◌∷◌, ◌++◌, length, Option, Some, None, IfSome, Result, Ok, Err, MatchResult}
+use Rattle.std.specs.Prelude.{◌≡◌, ◌⊎◌, ℕ, ◌+◌, ◌<◌, ◌≤◌, List, [], ◌∷◌, ◌++◌, length, Option, Some, None, IfSome, Result, MatchResult}
 use Rattle.fm_model.specs.declared.op.Op.{Op}
 use Rattle.fm_model.specs.declared.proto.Proto.{Proto}
 use Rattle.dev_traits.specs.Cause.{one_more}
@@ -70,29 +70,10 @@ abbrev pub idle_number : Expiry → List ℕ
 idle_number (expiries.Idle count) = count ∷ []
 idle_number verdict = []
 
--- the number of operations at a look, if it found something
-abbrev pub found_number : {E : Type 0} → Result (Option ℕ) E → List ℕ
-found_number (Ok (Some count)) = count ∷ []
-found_number (Ok None) = []
-found_number (Err e) = []
-
--- the numbers of a verdict on a name, where there is one yet
-abbrev pub published_by : Option Verdict → List ℕ
-published_by None = []
-published_by (Some verdict) = published_number verdict
-
-abbrev pub looked_by : Option Verdict → List ℕ
-looked_by None = []
-looked_by (Some verdict) = looked_number verdict
-
--- the numbers of a verdict on a moment, where there is one yet
-abbrev pub expired_by : Option Expiry → List ℕ
-expired_by None = []
-expired_by (Some verdict) = expired_number verdict
-
-abbrev pub idle_by : Option Expiry → List ℕ
-idle_by None = []
-idle_by (Some verdict) = idle_number verdict
+-- the numbers of a verdict, where there is one yet
+abbrev pub numbers_by : {V : Type 0} → (V → List ℕ) → Option V → List ℕ
+numbers_by number None = []
+numbers_by number (Some verdict) = number verdict
 
 -- a verdict was found: each operation that was published is counted
 pub record Decides (pass pass' : History) (share share' : ℕ) (published looked : List ℕ) : Type 0 where

@@ -1,5 +1,5 @@
 -- All names that arrive are taken in.
-use Rattle.std.specs.Prelude.{◌≡◌, ◌≢◌, ℕ, ◌+◌, ◌≤◌, ◌&&◌, All, Bool, true, false, List, [], ◌++◌, map, Option, None, is_none, is_some, IfSome, IsSomeAnd, option_to_list}
+use Rattle.std.specs.Prelude.{◌≡◌, ◌≢◌, ℕ, ◌&&◌, All, Bool, true, false, List, [], ◌++◌, map, Option, Some, None, is_none, is_some, IfSome, IsSomeAnd, option_to_list}
 use Rattle.std.specs.List.{count_by, flat_map}
 use Rattle.fm_model.specs.declared.op.Op.{Op}
 use Rattle.fm_model.specs.declared.proto.Proto.{Proto}
@@ -48,12 +48,13 @@ published_numbers settled = flat_map (λ it. published_number it.verdict) settle
 abbrev pub looked_numbers : List Settlement → List ℕ
 looked_numbers settled = flat_map (λ it. looked_number it.verdict) settled
 
--- names were taken from an inbox and settled, once each and in order, by what has been seen by the end
-pub record Settled (proto : Proto) (inbox inbox' : Option Post) (pass pass' : History) (settled : List Settlement)
-    (unsettled : Option (List ℕ)) : Type 0 where
+-- names were taken from an inbox and settled, once each and in order. The verdicts that were found, on those and maybe
+-- on one more, are right by what has been seen by the end
+pub record Settled (proto : Proto) (inbox inbox' : Option Post) (pass pass' : History)
+    (settled found : List Settlement) (unsettled : Option (List ℕ)) : Type 0 where
   pub moves : MovesIn inbox inbox' settled unsettled
-  pub each : AllRight proto inbox pass'.seen settled
-  pub sees : Sees pass pass' (published_numbers settled) (looked_numbers settled)
+  pub each : AllRight proto inbox pass'.seen found
+  pub sees : Sees pass pass' (published_numbers found) (looked_numbers found)
 
 -- whether a name became an operation
 unfoldable pub is_published : Verdict → Bool
@@ -79,24 +80,28 @@ unfoldable pub is_short : Verdict → Bool
 is_short kinds.Short = true
 is_short verdict = false
 
--- A report counts the names that were settled. Where one name got no verdict, one operation more may have been
--- published than there are verdicts that say so.
-pub record Counts (settled : List Settlement) (unsettled : Option (List ℕ)) (report : IngestReport) : Type 0 where
+-- A report counts as refused and as short what the inbox was told, and as published and retracted all verdicts that
+-- were found.
+pub record Counts (settled found : List Settlement) (report : IngestReport) : Type 0 where
   pub refused_is : report.refused ≡ capped (count_by (λ it. is_refused it.verdict) settled)
   pub short_is : report.short ≡ capped (count_by (λ it. is_short it.verdict) settled)
-  pub published_is : unsettled ≡ None → report.published ≡ count_by has_come settled
-  pub retracted_is : unsettled ≡ None → report.retracted ≡ count_by is_retracted settled
-  pub published_least : count_by has_come settled ≤ report.published
-  pub retracted_least : count_by is_retracted settled ≤ report.retracted
-  pub most : report.published + report.retracted ≤ count_by has_come settled + count_by is_retracted settled + 1
+  pub published_is : report.published ≡ count_by has_come found
+  pub retracted_is : report.retracted ≡ count_by is_retracted found
 
--- names were settled, and the report counts them; a name without a verdict is the inbox's fault
+-- the verdicts that were found: those of the names that were settled, and one that the inbox did not take
+abbrev pub found_with : List Settlement → Option Settlement → List Settlement
+found_with settled untaken = settled ++ option_to_list untaken
+
+-- Names were settled, and the report counts them. At most one name that was taken got no verdict, and then the inbox
+-- failed. A verdict that it did not take is on that name, is right like the others, and its operation is counted.
 pub record SettledWith (proto : Proto) (inbox inbox' : Option Post) (pass pass' : History) (report : IngestReport)
     : Type 0 where
   pub settled : List Settlement
+  pub untaken : Option Settlement
   pub unsettled : Option (List ℕ)
-  pub is : Settled proto inbox inbox' pass pass' settled unsettled
-  pub counts : Counts settled unsettled report
+  pub is : Settled proto inbox inbox' pass pass' settled (found_with settled untaken) unsettled
+  pub counts : Counts settled (found_with settled untaken) report
+  pub named : IfSome untaken (λ it. unsettled ≡ Some it.name)
   pub whole : report.end ≢ ends.InboxFault → unsettled ≡ None
 
 -- taking in ends so: where nothing will arrive, none is left; a failure of the inbox is blamed, and no call failed

@@ -1,4 +1,5 @@
 pub mod Accepted
+pub mod Alone
 pub mod Attempts
 pub mod Expires
 pub mod Ingests

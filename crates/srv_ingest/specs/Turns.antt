@@ -1,5 +1,5 @@
 -- The turn of one name or moment.
-use Rattle.std.specs.Prelude.{◌≡◌, ◌≢◌, ℕ, ℤ, ◌+◌, ◌≤◌, List, [], Option, Some, None, IfSome, Result, MatchOption, MatchResult}
+use Rattle.std.specs.Prelude.{◌≡◌, ◌≢◌, ℕ, ℤ, ◌+◌, List, [], Option, Some, None, IfSome, option_to_list, Result, MatchOption, MatchResult}
 use Rattle.fm_model.specs.declared.proto.Proto.{Proto}
 use Rattle.dev_traits.specs.declared.clock.Expiry.{Expiry}
 use Rattle.dev_traits.specs.declared.inbox.Arrival.TheVariants as arrivals
@@ -14,7 +14,7 @@ use Rattle.srv_ingest.specs.declared.report.IngestEnd.{IngestEnd}
 use Rattle.srv_ingest.specs.declared.report.IngestEnd.TheVariants as ends
 use Rattle.srv_ingest.specs.declared.report.IngestReport.{IngestReport}
 use Rattle.srv_ingest.specs.Attempts.{Decides, expired_number, idle_number, looked_number, published_number, Sees}
-use Rattle.srv_ingest.specs.Ingests.{EndsIngest, IsRight, MovesIn, Settlement}
+use Rattle.srv_ingest.specs.Ingests.{AllRight, EndsIngest, IsRight, looked_numbers, MovesIn, published_numbers, Settlement}
 use Rattle.srv_ingest.specs.Verdicts.{cutoff_at, IsExpiry, taken_back}
 
 -- the next name was given, or why there is none
@@ -52,22 +52,22 @@ pub record SettlesNext (proto : Proto) (inbox inbox' : InboxShown) (pass pass' :
   pub faults_are : inbox'.faults ≡ inbox.faults
   pub report_is : report' ≡ with_settled (with_published report (taken_back it.name) it.verdict) it.verdict
 
--- a report counts at most one operation more, and else nothing
-pub record GrowsByOne (report report' : IngestReport) : Type 0 where
-  pub refused_is : report'.refused ≡ report.refused
-  pub short_is : report'.short ≡ report.short
-  pub published_least : report.published ≤ report'.published
-  pub retracted_least : report.retracted ≤ report'.retracted
-  pub most : operations report' ≤ operations report + 1
+-- a report with the operation of a verdict that the inbox did not take, if there is one
+abbrev pub with_untaken : IngestReport → Option Settlement → IngestReport
+with_untaken report None = report
+with_untaken report (Some it) = with_published report (taken_back it.name) it.verdict
 
--- taking in stopped before the next name was settled: none was taken, or one that got no verdict
-pub record StopsNext (inbox inbox' : InboxShown) (pass pass' : History) (report report' : IngestReport)
-    (end : IngestEnd) : Type 0 where
+-- Taking in stopped before the next name was settled: none was taken, or one that got no verdict. A verdict that was
+-- found, and that the inbox did not take, is right, and its operation is counted.
+pub record StopsNext (proto : Proto) (inbox inbox' : InboxShown) (pass pass' : History)
+    (report report' : IngestReport) (end : IngestEnd) : Type 0 where
+  pub untaken : Option Settlement
   pub unsettled : Option (List ℕ)
+  pub named : IfSome untaken (λ it. unsettled ≡ Some it.name)
   pub moves : MovesIn inbox.held inbox'.held [] unsettled
-  pub sees : Sees pass pass' [] []
-  pub grows : GrowsByOne report report'
-  pub same : unsettled ≡ None → report' ≡ report
+  pub right : AllRight proto inbox.held pass'.seen (option_to_list untaken)
+  pub sees : Sees pass pass' (published_numbers (option_to_list untaken)) (looked_numbers (option_to_list untaken))
+  pub report_is : report' ≡ with_untaken report untaken
   pub whole : end ≢ ends.InboxFault → unsettled ≡ None
   pub ends_so : EndsIngest inbox inbox' end
 
@@ -76,7 +76,7 @@ abbrev pub TakesNext : Proto → InboxShown → InboxShown → History → Histo
     → Option IngestEnd → Type 0
 TakesNext proto inbox inbox' pass pass' report report' result =
     MatchOption result (SettlesNext proto inbox inbox' pass pass' report report')
-    (StopsNext inbox inbox' pass pass' report report')
+    (StopsNext proto inbox inbox' pass pass' report report')
 
 -- the next moment of a clock was settled
 pub record SettlesMoment (keep : ℕ) (epoch : ℤ) (clock clock' : Option Moments) (pass pass' : History)

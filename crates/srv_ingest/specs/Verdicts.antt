@@ -18,7 +18,6 @@ use Rattle.dev_traits.specs.declared.clock.Expiry.{Expiry}
 use Rattle.dev_traits.specs.declared.clock.Expiry.TheVariants as expiries
 use Rattle.dev_traits.specs.declared.inbox.Verdict.{Verdict}
 use Rattle.dev_traits.specs.declared.inbox.Verdict.TheVariants as verdicts
-use Rattle.srv_ingest.specs.declared.file.TheConstants.{TOO_LONG}
 
 -- an operation is the one of this number, counted from 1
 pub record IsNumbered (ops : List Op) (number : ℕ) (op : Op) : Type 0 where
@@ -39,7 +38,7 @@ unless_refused (Err fault) = Err (verdicts.Refused (load_code fault))
 -- the file under a name, or the verdict where there is none
 unfoldable pub file_or_verdict : Proto → List ℕ → Found → Result Loaded Verdict
 file_or_verdict proto name found.Absent = Err verdicts.Gone
-file_or_verdict proto name (found.TooLong len) = Err (verdicts.Refused TOO_LONG)
+file_or_verdict proto name (found.TooLong len) = Err (verdicts.Refused 62)
 file_or_verdict proto name (found.Content bytes) = unless_refused (load_of name bytes proto)
 
 -- a call gave the file or the verdict, or memory ran out

@@ -8,8 +8,10 @@ ghost use Rattle.srv_ingest.specs.Expires.{AllSettledWith, is_short_moment};
 ghost use Rattle.srv_ingest.specs.Turns.{TakesMoment};
 ghost use Rattle.srv_ingest.specs.Verdicts.{cutoff_at};
 
-use crate::deciding::expire_runs;
+use crate::changes::Expiring;
+use crate::deciding::decide;
 use crate::report::ExpireReport;
+use crate::seat::Seat;
 use dev_traits::{Clock, Expiry};
 use fm_model::{MAX_INSTANT, Site};
 use pub_snap::{Desk, Name, Pass, Share};
@@ -49,19 +51,19 @@ fn cutoff_at(moment: i64, keep: u32, epoch: i64) -> i64
 fn take_moment<N: Name, R: Wait, C: Clock>(
     rt: &R,
     alloc: Global,
-    desk: &Mutex<Desk<N>>,
-    pass: &mut Pass<N>,
+    seat: &mut Seat<'_, N>,
     clock: &mut C,
     keep: u32,
     site: &Site,
-    share: &mut Share<N>,
 ) -> Option<Expiry>
-    ensures { TakesMoment keep site.now.epoch (C.shown clock.old) (C.shown clock.new) pass.old pass.new
-        share.old share.new result }
+    ensures takes { TakesMoment keep site.now.epoch (C.shown clock.old) (C.shown clock.new)
+        seat.old.pass.now seat.new.pass.now seat.old.share.now seat.new.share.now result }
+    ensures same { (seat.new.pass.ghost_name ≡ seat.old.pass.ghost_name)
+        × (seat.new.share.ghost_name ≡ seat.old.share.ghost_name) }
 {
     let moment = clock.next()?;
     let cutoff = cutoff_at(moment, keep, site.epoch);
-    let verdict = expire_runs(rt, alloc, desk, pass, share, cutoff);
+    let verdict = decide(rt, alloc, seat, &Expiring { cutoff });
     clock.settle(verdict);
     Some(verdict)
 }
@@ -73,6 +75,7 @@ fn count_expired<N: Name>(expired: u64, verdict: Expiry, share: &Share<N>) -> u6
 {
     match verdict {
         Expiry::Expired(_) => {
+            // What it has counted fits its type, and so does the sum.
             let _most = share.count();
             expired + 1
         }
@@ -110,13 +113,14 @@ pub fn expire_all<N: Name, R: Wait, C: Clock>(
     ensures later { Continues pass.old.seen pass.new.seen }
     ensures same_proto { pass.new.proto ≡ pass.old.proto }
 {
+    let mut seat = Seat { desk, pass, share };
     let mut expired = 0u64;
     let mut short = 0u64;
     for _ in rt.forever() {
-        let Some(verdict) = take_moment(rt, alloc, desk, pass, clock, keep, site, share) else {
+        let Some(verdict) = take_moment(rt, alloc, &mut seat, clock, keep, site) else {
             return ExpireReport { expired, short };
         };
-        expired = count_expired(expired, verdict, share);
+        expired = count_expired(expired, verdict, seat.share);
         short = count_short(short, verdict);
     }
     unreachable!()

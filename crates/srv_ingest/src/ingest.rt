@@ -4,6 +4,7 @@ ghost use Rattle.pub_look.specs.History.{Continues};
 ghost use Rattle.srv_ingest.specs.Ingests.{EndsIngest, SettledWith};
 
 use crate::report::{IngestEnd, IngestReport};
+use crate::seat::Seat;
 use crate::turn::take_next;
 use dev_traits::Inbox;
 use fm_base::Arc;
@@ -32,6 +33,7 @@ pub fn ingest_all<N: Name, R: Wait, I: Inbox>(
     ensures later { Continues pass.old.seen pass.new.seen }
     ensures same_proto { pass.new.proto ≡ pass.old.proto }
 {
+    let mut seat = Seat { desk, pass, share };
     let mut report = IngestReport {
         published: 0,
         retracted: 0,
@@ -40,7 +42,7 @@ pub fn ingest_all<N: Name, R: Wait, I: Inbox>(
         end: IngestEnd::InboxFault,
     };
     for _ in rt.forever() {
-        if let Some(end) = take_next(rt, alloc, desk, pass, inbox, proto, share, &mut report) {
+        if let Some(end) = take_next(rt, alloc, &mut seat, inbox, proto, &mut report) {
             return IngestReport { end, ..report };
         }
     }

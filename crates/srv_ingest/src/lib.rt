@@ -2,13 +2,15 @@
 #![tactic(auto)]
 
 mod attempt;
+mod change;
+mod changes;
 mod deciding;
 mod expire;
 mod file;
 mod ingest;
 pub mod laws;
-mod questions;
 mod report;
+mod seat;
 mod turn;
 
 pub use expire::expire_all;

@@ -52,6 +52,7 @@ pub(crate) fn count_published<N: Name>(
     let Verdict::Published(_) = verdict else {
         return;
     };
+    // What it has counted fits its type, and so does the sum.
     let _most = share.count();
     if taken_back(name).is_some() {
         report.retracted += 1;

@@ -1,36 +1,61 @@
 //! The turn of one name.
-ghost use Rattle.std.specs.Prelude.{◌≡◌, ◌+◌, ◌≤◌};
-ghost use Rattle.srv_ingest.specs.Attempts.{FindsVerdict};
+ghost use Rattle.std.specs.Prelude.{◌≡◌, ◌⊎◌, ◌+◌, ◌≤◌, Ok as Good};
+ghost use Rattle.dev_traits.specs.declared.inbox.Verdict.TheVariants as verdicts;
+ghost use Rattle.fm_model.specs.Load.{Fits};
+ghost use Rattle.srv_ingest.specs.Attempts.{Decides, FindsVerdict, looked_number, published_number};
 ghost use Rattle.srv_ingest.specs.Turns.{NextName, TakesNext, operations};
+ghost use Rattle.srv_ingest.specs.Verdicts.{IsVerdictOnFile};
 
-use crate::deciding::{publish_file, retract_file};
+use crate::changes::{Putting, Retracting};
+use crate::deciding::decide;
 use crate::file::{file_of, taken_back};
 use crate::report::{IngestEnd, IngestReport, count_published, count_settled};
+use crate::seat::Seat;
 use dev_traits::{Arrival, Failed, Inbox, Verdict};
 use fm_base::{Arc, Bytes, Fail};
-use fm_model::{MAX_FILE_BYTES, Proto};
-use pub_snap::{Desk, Name, Pass, Share};
+use fm_model::{Loaded, MAX_FILE_BYTES, Proto};
+use pub_snap::Name;
 use std::alloc::Global;
-use std::sync::{Mutex, Wait};
+use std::sync::Wait;
+
+// The verdict on a file that is to come to the collection.
+fn publish_file<N: Name, R: Wait>(
+    rt: &R,
+    alloc: Global,
+    seat: &mut Seat<'_, N>,
+    file: Loaded,
+) -> Verdict
+    requires { Fits file N.proto }
+    ensures verdict { (result ≡ verdicts.Short) ⊎ IsVerdictOnFile seat.new.pass.now.seen (Good file) result }
+    ensures decides { Decides seat.old.pass.now seat.new.pass.now seat.old.share.now seat.new.share.now
+        (published_number result) (looked_number result) }
+    ensures same { (seat.new.pass.ghost_name ≡ seat.old.pass.ghost_name)
+        × (seat.new.share.ghost_name ≡ seat.old.share.ghost_name) }
+{
+    let Ok(file) = Arc::new(alloc, file) else {
+        return Verdict::Short;
+    };
+    decide(rt, alloc, seat, &Putting { file })
+}
 
 // The verdict on a name that arrived: its file comes to the collection, or the file that it names is taken back. An
 // `Err` says that the inbox failed before there was a verdict.
 fn verdict_on<N: Name, R: Wait, I: Inbox>(
     rt: &R,
     alloc: Global,
-    desk: &Mutex<Desk<N>>,
-    pass: &mut Pass<N>,
+    seat: &mut Seat<'_, N>,
     inbox: &mut I,
     proto: &Arc<Proto>,
-    share: &mut Share<N>,
     name: &[u8],
 ) -> Result<Verdict, Failed>
     requires { proto.now ≡ N.proto }
-    ensures { FindsVerdict proto.now name.now (I.shown inbox.old) (I.shown inbox.new) pass.old pass.new
-        share.old share.new result }
+    ensures finds { FindsVerdict proto.now name.now (I.shown inbox.old) (I.shown inbox.new)
+        seat.old.pass.now seat.new.pass.now seat.old.share.now seat.new.share.now result }
+    ensures same { (seat.new.pass.ghost_name ≡ seat.old.pass.ghost_name)
+        × (seat.new.share.ghost_name ≡ seat.old.share.ghost_name) }
 {
     if let Some(back) = taken_back(name) {
-        return Ok(retract_file(rt, alloc, desk, pass, share, back));
+        return Ok(decide(rt, alloc, seat, &Retracting { name: back }));
     }
     let found = match inbox.fetch(alloc, name, MAX_FILE_BYTES) {
         Ok(found) => found,
@@ -38,7 +63,7 @@ fn verdict_on<N: Name, R: Wait, I: Inbox>(
         Err(Fail::Fault(failed)) => return Err(failed),
     };
     match file_of(alloc, name, found, proto.get()) {
-        Ok(file) => Ok(publish_file(rt, alloc, desk, pass, share, file)),
+        Ok(file) => Ok(publish_file(rt, alloc, seat, file)),
         Err(verdict) => Ok(verdict),
     }
 }
@@ -65,28 +90,28 @@ fn next_name<R: Wait, I: Inbox>(rt: &R, alloc: Global, inbox: &mut I) -> Result<
 pub(crate) fn take_next<N: Name, R: Wait, I: Inbox>(
     rt: &R,
     alloc: Global,
-    desk: &Mutex<Desk<N>>,
-    pass: &mut Pass<N>,
+    seat: &mut Seat<'_, N>,
     inbox: &mut I,
     proto: &Arc<Proto>,
-    share: &mut Share<N>,
     report: &mut IngestReport,
 ) -> Option<IngestEnd>
     requires proto { proto.now ≡ N.proto }
-    requires fits { operations report.old ≤ share.old }
-    ensures takes { TakesNext proto.now (I.shown inbox.old) (I.shown inbox.new) pass.old pass.new
-        report.old report.new result }
-    ensures counted { share.new + operations report.old ≡ share.old + operations report.new }
+    requires fits { operations report.old ≤ seat.old.share.now }
+    ensures takes { TakesNext proto.now (I.shown inbox.old) (I.shown inbox.new)
+        seat.old.pass.now seat.new.pass.now report.old report.new result }
+    ensures counted { seat.new.share.now + operations report.old ≡ seat.old.share.now + operations report.new }
+    ensures same { (seat.new.pass.ghost_name ≡ seat.old.pass.ghost_name)
+        × (seat.new.share.ghost_name ≡ seat.old.share.ghost_name) }
 {
     let name = match next_name(rt, alloc, inbox) {
         Ok(name) => name,
         Err(end) => return Some(end),
     };
     let name = name.as_slice();
-    let Ok(verdict) = verdict_on(rt, alloc, desk, pass, inbox, proto, share, name) else {
+    let Ok(verdict) = verdict_on(rt, alloc, seat, inbox, proto, name) else {
         return Some(IngestEnd::InboxFault);
     };
-    count_published(report, name, verdict, share);
+    count_published(report, name, verdict, seat.share);
     match inbox.settle(name, verdict) {
         Ok(()) => {
             count_settled(report, verdict);

@@ -1,5 +1,5 @@
 //! What a reader believes of a made collection, each as the contract of a call that does nothing.
-ghost use Rattle.std.specs.Prelude.{◌≡◌, ◌≢◌, ◌*◌, ◌<◌, ◌≤◌, ℕ, None, Ok, Some};
+ghost use Rattle.std.specs.Prelude.{◌≡◌, ◌≢◌, ◌+◌, ◌*◌, ◌<◌, ◌≤◌, min, ℕ, None, Ok, Some};
 ghost use Rattle.nc_model.specs.Stamp.{mark_of};
 ghost use Rattle.fm_gen.specs.File.{made_file};
 ghost use Rattle.fm_model.specs.declared.op.Op.TheVariants.{Put};
@@ -8,6 +8,7 @@ ghost use Rattle.fm_model.specs.Load.{load_of};
 ghost use Rattle.fm_model.specs.Prototype.{proto_of};
 ghost use Rattle.srv_load.specs.Made.{files_of, held_file, load_proto, puts_of};
 ghost use Rattle.srv_load.specs.Name.{made_name, made_site, run_time};
+ghost use Rattle.srv_load.specs.Summary.{summary_of};
 
 /// The name of each file has its run time as its mark, and no two files have one name.
 #[tactic(auto, using(crate::proofs::NameLemmas::marks))]
@@ -32,4 +33,15 @@ pub fn a_made_collection_holds_its_files()
     ensures files { (seed n : ℕ) → n ≤ 400 → coll (puts_of seed n) ≡ files_of seed n }
     ensures much { (seed n : ℕ) → n ≤ 400
         → tally (coll (puts_of seed n)) ≡ record { files = n; rows = 65 * n; size = 17240 * n } }
+{}
+
+/// The rows that the line of `load` tells of n files: 6 n + 59 of the best time series, since a run begins six hours
+/// after the other and has 65 hours; 65 of the first run; one of each run at the offset 0; and of the forecast at the
+/// last run one of each of the last 11 runs.
+#[tactic(auto, using(crate::proofs::ViewLemmas::counted_rows))]
+pub fn rows_of_made_views_are_counted()
+    ensures best { (seed n : ℕ) → 0 < n → n ≤ 400 → (summary_of seed n).best ≡ 6 * n + 59 }
+    ensures run { (seed n : ℕ) → 0 < n → n ≤ 400 → (summary_of seed n).run ≡ 65 }
+    ensures offset { (seed n : ℕ) → 0 < n → n ≤ 400 → (summary_of seed n).offset ≡ n }
+    ensures forecast { (seed n : ℕ) → 0 < n → n ≤ 400 → (summary_of seed n).forecast ≡ min n 11 }
 {}

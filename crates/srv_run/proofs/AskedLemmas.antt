@@ -52,7 +52,8 @@ no-last last goes_on =
 
 -- a session that rests has not ended
 pub rests-goes_on : (session : State) → IsAtRest session → HasEnded session → ⊥
-rests-goes_on session rests ended = by_next (next_of (held_bytes session)) (sym rests.phase_is ∙ ended.1)
+rests-goes_on session rests ended =
+    by_next (next_of (held_bytes session)) (sym (ap (λ (s : State). s.phase) rests.session_is) ∙ ended.1)
   where
     by_next : (next : Next) → phase_after next ≡ Ended ended.0 → ⊥
     by_next next.Need is = cc

@@ -1,5 +1,5 @@
 -- Which device the status of a run blames.
-use Rattle.std.proofs.Common.{◌≡◌, ◌⊎◌, ◌≤◌, ℕ, List, refl, sym, ap, subst, ◌∙◌, arith, inl, inr, Option, Some, None, Result, Ok, Err, IfErr}
+use Rattle.std.proofs.Common.{◌≡◌, ◌⊎◌, ◌≤◌, ℕ, List, [], refl, sym, ap, subst, ◌∙◌, arith, inl, inr, Option, Some, None, Result, Ok, Err, IfErr}
 use Rattle.nc_model.specs.declared.header.Header.{Header}
 use Rattle.fm_model.specs.declared.proto.Proto.{Proto}
 use Rattle.fm_model.specs.declared.site.Site.{Site}
@@ -18,11 +18,10 @@ use Rattle.srv_run.specs.Once.{RunsSteps, EndsAtPrototype}
 use Rattle.srv_run.specs.Reading.{file_faults_after, IsEndAtFile}
 use Rattle.srv_run.specs.Closing.{EndsServing, first_end}
 use Rattle.srv_run.specs.Devices.{StopsAt}
-use Rattle.srv_run.specs.Report.{status_of}
-use Rattle.srv_run.specs.Run.{Blames, BlamesDoor, BlamesInbox, DoesJob, IsShort, Runs}
+use Rattle.srv_run.specs.Report.{Reports, status_of}
+use Rattle.srv_run.specs.Run.{Blames, BlamesDoor, BlamesInbox, DoesJob, Ends, LacksMemory, Runs}
 use Rattle.srv_run.specs.Serve.{EndsUnopened, GoesOn, HasRun, ServesDevices}
 use Rattle.srv_run.specs.Stage.{Shows, Stage}
-use Rattle.srv_run.proofs.EndLemmas.{number_of}
 use Rattle.srv_run.proofs.RunLemmas.{door-failed, end-is-device, inbox-failed}
 use Rattle.srv_run.proofs.StepBlameLemmas.{at_file, IsAtDevice, steps_blamed}
 
@@ -58,16 +57,17 @@ pub record BlamedIn (end : End) (world world' : WorldShown) : Type 0 where
   pub sink : end ≡ SinkFault → world'.sink.faults ≡ one_more world.sink.faults
   pub link : end ≡ LinkFault → one_more world.link.faults ≤ world'.link.faults
 
--- the blame of an end on the devices that the run opened
-pub record BlamedOn {D I C L : Type 0} (show : Shows D I C L) (end : End) (stage stage' : Stage D I C) : Type 0 where
+-- the blame of the end of a job on the devices that the run opened
+pub record BlamedOn {D I C L : Type 0} (show : Shows D I C L) (job : Job) (end : End) (stage stage' : Stage D I C)
+    : Type 0 where
   pub inside : BlamedIn end stage.outside stage'.outside
-  pub door : (number : ℕ) → end ≡ DoorFault number → BlamesDoor show number stage stage'
-  pub inbox : (number : ℕ) → end ≡ InboxFault number → BlamesInbox show number stage stage'
+  pub door : (number : ℕ) → end ≡ DoorFault number → BlamesDoor show (Some job) stage stage'
+  pub inbox : (number : ℕ) → end ≡ InboxFault number → BlamesInbox show (Some job) stage stage'
 
 -- a run that opens nothing blames nothing that it opened
-alone : {D I C L : Type 0} (show : Shows D I C L) (end : End) (stage stage' : Stage D I C)
-    → BlamedIn end stage.outside stage'.outside → (IsAtDevice end → ⊥) → BlamedOn show end stage stage'
-alone show end stage stage' inside none = record {
+alone : {D I C L : Type 0} (show : Shows D I C L) (job : Job) (end : End) (stage stage' : Stage D I C)
+    → BlamedIn end stage.outside stage'.outside → (IsAtDevice end → ⊥) → BlamedOn show job end stage stage'
+alone show job end stage stage' inside none = record {
   inside = inside;
   door = λ number is. absurd (none (subst (λ (e : End). IsAtDevice e) (sym is) tt));
   inbox = λ number is. absurd (none (subst (λ (e : End). IsAtDevice e) (sym is) tt));
@@ -130,10 +130,11 @@ load_blamed seed files end world world' ends = absurd ends
 
 -- a run whose prototype isn't read
 pub unopened_blamed : {D I C L : Type 0} (show : Shows D I C L) (serving : Serving) (end : End)
-    (stage stage' : Stage D I C) → EndsUnopened serving stage stage' end → BlamedOn show end stage stage'
+    (stage stage' : Stage D I C) → EndsUnopened serving stage stage' end
+    → BlamedOn show (Serve serving) end stage stage'
 unopened_blamed show serving end stage stage' ends =
     let file = at_file end ends.ends.at_file in
-    alone show end stage stage' (record {
+    alone show (Serve serving) end stage stage' (record {
       words = file.words;
       files = λ is. ends.ends.faults_are ∙ ap (file_faults_after stage.outside.files.faults) is;
       sink = λ is. absurd (file.sink is);
@@ -142,81 +143,96 @@ unopened_blamed show serving end stage stage' ends =
 
 -- a run that can't open all
 unserved_blamed : {D I C L : Type 0} (show : Shows D I C L) (serving : Serving) (end : End) (stage stage' : Stage D I C)
-    → StopsAt serving stage'.devices stage.opener.faults stage'.opener.faults end → BlamedOn show end stage stage'
-unserved_blamed show serving (DoorFault number) stage stage' stops = record {
+    → StopsAt serving stage'.devices stage.opener.faults stage'.opener.faults end
+    → Reports end [] stage.outside.sink stage'.outside.sink → BlamedOn show (Serve serving) end stage stage'
+unserved_blamed show serving (DoorFault number) stage stage' stops told = record {
   inside = record { words = λ e. cc; files = λ e. absurd cc; sink = λ e. absurd cc; link = λ e. absurd cc };
-  door = λ n is. inl (stops.cause, sym stops.number_is ∙ ap number_of is);
+  door = λ n is. record { number = number; told = told; why = inl stops };
   inbox = λ n is. absurd cc;
 }
-unserved_blamed show serving (InboxFault number) stage stage' stops = record {
+unserved_blamed show serving (InboxFault number) stage stage' stops told = record {
   inside = record { words = λ e. cc; files = λ e. absurd cc; sink = λ e. absurd cc; link = λ e. absurd cc };
   door = λ n is. absurd cc;
-  inbox = λ n is. inl (stops.cause, sym stops.number_is ∙ ap number_of is);
+  inbox = λ n is. record { number = number; told = told; why = inl stops };
 }
-unserved_blamed show serving NoMemory stage stage' stops =
-    alone show NoMemory stage stage'
+unserved_blamed show serving NoMemory stage stage' stops told =
+    alone show (Serve serving) NoMemory stage stage'
     (record { words = λ e. cc; files = λ e. absurd cc; sink = λ e. absurd cc; link = λ e. absurd cc }) (λ d. d)
-unserved_blamed show serving end stage stage' stops = absurd stops
+unserved_blamed show serving end stage stage' stops told = absurd stops
 
 -- a run whose workers ran
 served_blamed : {D I C L : Type 0} (show : Shows D I C L) (serving : Serving) (proto : Proto) (end : End)
     (stage stage' : Stage D I C) (outcome : Outcome)
     → HasRun show serving proto stage.opener stage'.opener stage'.devices outcome → (found : Option End)
     → first_end outcome ≡ found → EndsServing outcome found end stage.outside.sink stage'.outside.sink
-    → BlamedOn show end stage stage'
+    → BlamedOn show (Serve serving) end stage stage'
 served_blamed show serving proto Done stage stage' outcome run None first ends =
-    alone show Done stage stage'
+    alone show (Serve serving) Done stage stage'
     (record { words = λ e. cc; files = λ e. absurd cc; sink = λ e. absurd cc; link = λ e. absurd cc }) (λ d. d)
 served_blamed show serving proto SinkFault stage stage' outcome run None first ends =
-    alone show SinkFault stage stage'
+    alone show (Serve serving) SinkFault stage stage'
     (record { words = λ e. cc; files = λ e. absurd cc; sink = λ e. ends.faults; link = λ e. absurd cc }) (λ d. d)
 served_blamed show serving proto end stage stage' outcome run None first ends = absurd ends
 served_blamed show serving proto end stage stage' outcome run (Some found) first ends =
-    let calm = end-is-device outcome found first in record {
+    let calm = end-is-device outcome found first in
+    let told = λ (e : End) (is : found ≡ e).
+    subst (λ (e : End). Reports e [] stage.outside.sink stage'.outside.sink) is ends.1 in
+    record {
       inside = record {
         words = λ is. calm.words (sym ends.0 ∙ is);
         files = λ is. absurd (calm.files (sym ends.0 ∙ is));
         sink = λ is. absurd (calm.sink (sym ends.0 ∙ is));
         link = λ is. absurd (calm.link (sym ends.0 ∙ is));
       };
-      door = λ number is. inr (door-failed show serving proto stage.opener stage'.opener stage'.devices outcome run
-          number (first ∙ ap (λ (e : End). Some e) (sym ends.0 ∙ is)));
-      inbox = λ number is. inr (inbox-failed show serving proto stage.opener stage'.opener stage'.devices outcome run
-          number (first ∙ ap (λ (e : End). Some e) (sym ends.0 ∙ is)));
+      door = λ number is. record {
+        number = number;
+        told = told (DoorFault number) (sym ends.0 ∙ is);
+        why = inr (door-failed show serving proto stage.opener stage'.opener stage'.devices outcome run number
+            (first ∙ ap (λ (e : End). Some e) (sym ends.0 ∙ is)));
+      };
+      inbox = λ number is. record {
+        number = number;
+        told = told (InboxFault number) (sym ends.0 ∙ is);
+        why = inr (inbox-failed show serving proto stage.opener stage'.opener stage'.devices outcome run number
+            (first ∙ ap (λ (e : End). Some e) (sym ends.0 ∙ is)));
+      };
     }
 
 goes-on_blamed : {D I C L : Type 0} (show : Shows D I C L) (serving : Serving) (proto : Proto) (end : End)
-    (stage stage' : Stage D I C) → ServesDevices show serving proto stage stage' end → BlamedOn show end stage stage'
+    (stage stage' : Stage D I C) → ServesDevices show serving proto stage stage' end
+    → BlamedOn show (Serve serving) end stage stage'
 goes-on_blamed show serving proto end stage stage' (inl unserved) =
-    unserved_blamed show serving end stage stage' unserved.stopped.stops
+    unserved_blamed show serving end stage stage' unserved.stopped.stops unserved.reports
 goes-on_blamed show serving proto end stage stage' (inr served) =
     served_blamed show serving proto end stage stage' served.outcome served.run (first_end served.outcome) refl
     served.ends
 
 serve_blamed : {D I C L : Type 0} (show : Shows D I C L) (serving : Serving) (end : End) (stage stage' : Stage D I C)
-    → EndsUnopened serving stage stage' end ⊎ GoesOn show serving stage stage' end → BlamedOn show end stage stage'
+    → EndsUnopened serving stage stage' end ⊎ GoesOn show serving stage stage' end
+    → BlamedOn show (Serve serving) end stage stage'
 serve_blamed show serving end stage stage' (inl ends) = unopened_blamed show serving end stage stage' ends
 serve_blamed show serving end stage stage' (inr on) =
     goes-on_blamed show serving on.proto end stage stage' on.serves
 
 job_blamed : {D I C L : Type 0} (show : Shows D I C L) (job : Job) (end : End) (stage stage' : Stage D I C)
-    → DoesJob show (Some job) end stage stage' → BlamedOn show end stage stage'
+    → DoesJob show (Some job) end stage stage' → BlamedOn show job end stage stage'
 job_blamed show (Once site path steps) end stage stage' does =
-    let blamed = once_blamed site path steps end stage.outside stage'.outside does.at does.runs in
-    alone show end stage stage' blamed.0 blamed.1
+    let blamed = once_blamed site path steps end stage.outside stage'.outside does.0.at does.0.runs in
+    alone show (Once site path steps) end stage stage' blamed.0 blamed.1
 job_blamed show (Check path) end stage stage' does =
-    let blamed = check_blamed path does.checks.checked end stage.outside stage'.outside does.checks.at_file
-    does.checks.ends does.checks.file_faults in
-    alone show end stage stage' blamed.0 blamed.1
+    let checks = does.0.checks in
+    let blamed = check_blamed path checks.checked end stage.outside stage'.outside checks.at_file checks.ends
+    checks.file_faults in
+    alone show (Check path) end stage stage' blamed.0 blamed.1
 job_blamed show (Load seed files) end stage stage' does =
-    let blamed = load_blamed seed files end stage.outside stage'.outside does.ends in
-    alone show end stage stage' blamed.0 blamed.1
+    let blamed = load_blamed seed files end stage.outside stage'.outside does.0.ends in
+    alone show (Load seed files) end stage stage' blamed.0 blamed.1
 job_blamed show (Serve serving) end stage stage' does = serve_blamed show serving end stage stage' does.runs
 
 -- a run blames a device where its last call failed
 blames : {D I C L : Type 0} (show : Shows D I C L) (job : Option Job) (status : ℕ) (end : End)
     (stage stage' : Stage D I C) → status ≡ status_of end
-    → DoesJob show job end stage stage' ⊎ IsShort end stage stage' → Blames show job status stage stage'
+    → DoesJob show job end stage stage' ⊎ LacksMemory end stage stage' → Blames show job status stage stage'
 blames show None status end stage stage' is (inl does) =
     let two : status ≡ 2 = is ∙ ap status_of does.0 in record {
       bad_words = λ s. refl;
@@ -232,9 +248,9 @@ blames show (Some job) status end stage stage' is (inl does) =
       bad_words = λ s. absurd (blamed.inside.words (is_bad_words end (sym is ∙ s)));
       refused = λ none. absurd cc;
       file_fault = λ s. blamed.inside.files (is_file_fault end (sym is ∙ s));
-      door_fault = λ s. let at = is_door_fault end (sym is ∙ s) in (at.0, blamed.door at.0 at.1);
+      door_fault = λ s. let at = is_door_fault end (sym is ∙ s) in blamed.door at.0 at.1;
       sink_fault = λ s. blamed.inside.sink (is_sink_fault end (sym is ∙ s));
-      inbox_fault = λ s. let at = is_inbox_fault end (sym is ∙ s) in (at.0, blamed.inbox at.0 at.1);
+      inbox_fault = λ s. let at = is_inbox_fault end (sym is ∙ s) in blamed.inbox at.0 at.1;
       link_fault = λ s. blamed.inside.link (is_link_fault end (sym is ∙ s));
     }
 blames show job status end stage stage' is (inr short) =
@@ -248,9 +264,10 @@ blames show job status end stage stage' is (inr short) =
       link_fault = λ s. absurd (omega (arith, four, s));
     }
 
-pub Blames-Runs : {D I C L : Type 0} (show : Shows D I C L) (job : Option Job) (status : ℕ) (stage stage' : Stage D I C)
-    → Runs show job status stage stage' → Blames show job status stage stage'
-Blames-Runs show job status stage stage' runs =
-    blames show job status runs.end stage stage' runs.status_is runs.does
-
-pub ruleset runs = (Blames-Runs)
+-- a run ends so, and blames what failed
+pub Ends-Runs : {D I C L : Type 0} {show : Shows D I C L} {job : Option Job} {status : ℕ} {stage stage' : Stage D I C}
+    → Runs show job status stage stage' → Ends show job status stage stage'
+Ends-Runs {D} {I} {C} {L} {show} {job} {status} {stage} {stage'} runs = record {
+  runs = runs;
+  blames = blames show job status runs.end stage stage' runs.status_is runs.does;
+}

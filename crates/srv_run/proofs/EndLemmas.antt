@@ -48,7 +48,7 @@ short-inbox true number is = cc
 short-inbox false number is = cc
 
 -- the number of a door or an inbox that is blamed
-abbrev pub number_of : End → ℕ
+abbrev number_of : End → ℕ
 number_of (DoorFault number) = number
 number_of (InboxFault number) = number
 number_of end = 0

@@ -1,5 +1,5 @@
 -- A connection over the steps of a run, where the requests that are asked for are there.
-use Rattle.std.proofs.Common.{◌≡◌, ◌⊎◌, inl, inr, ℕ, ◌+◌, List, ◌++◌, length, take, drop, true, Some, sym, ap, subst, ◌∙◌, arith, append_assoc, length-append}
+use Rattle.std.proofs.Common.{◌≡◌, ◌⊎◌, inl, inr, ℕ, ◌+◌, List, ◌++◌, length, take, drop, true, Some, refl, sym, ap, subst, ◌∙◌, arith, append_assoc, length-append}
 use Rattle.std.proofs.lemmas.List.{length-take, take-append-drop}
 use Rattle.fm_model.specs.declared.proto.Proto.{Proto}
 use Rattle.dev_traits.specs.Link.{Wire}
@@ -12,17 +12,17 @@ use Rattle.dap_reply.specs.declared.served.Stop.{Stop}
 use Rattle.dap_reply.specs.declared.served.Stop.TheVariants as stops
 use Rattle.dap_reply.specs.Served.{held_bytes, items_of, HasEnough, LinkCall}
 use Rattle.srv_conn.specs.Moved.{moved, AreNext, IsOver}
-use Rattle.srv_conn.specs.Serves.{call_of, Moment, Serves}
+use Rattle.srv_conn.specs.Serves.{call_of, Moment, Moves, Serves}
 use Rattle.srv_run.specs.declared.end.End.{End}
 use Rattle.srv_run.specs.declared.end.End.TheVariants.{InputEnded}
-use Rattle.srv_run.specs.Steps.{AnswersAsk, end_of_stop, EndsAsk, Line}
+use Rattle.srv_run.specs.Steps.{AnswersAsk, Connection, end_of_stop, EndsAsk}
 use Rattle.srv_run.specs.WellFormed.{HasRequests}
 use Rattle.srv_run.proofs.AskedLemmas.{no-last, rests-goes_on, short-lacks, whole-goes, Finds, HasLast, IsOpen}
 use Rattle.srv_run.proofs.RequestLemmas.{items-next, ReadsTo-then}
 use Rattle.srv_run.proofs.TakenLemmas.{IsExcused}
 
 -- the bytes that are left after some were taken
-left-after : Wire → List ℕ → List ℕ
+unfoldable pub left-after : Wire → List ℕ → List ℕ
 left-after wire taken = drop (length taken) wire.left
 
 -- the bytes that were taken are the next ones of the input
@@ -37,11 +37,12 @@ taken-next {input} {before} {link} {session} taken o next =
     ∙ ap (λ (l : List ℕ). l ++ drop (length taken) o.wire.left) here)
 
 -- the call that a served link was
-abbrev call_by : (proto : Proto) (start end : Moment) (most : ℕ) (stop : Stop)
+abbrev pub call_by : (proto : Proto) (start end : Moment) (most : ℕ) (stop : Stop)
     → Serves proto true start end most stop → LinkCall
 call_by proto start end most stop serves = call_of proto true start end serves.moves most stop
 
-finds-Serves : {input : List ℕ} {before : ℕ} (proto : Proto) (start end : Moment) (most : ℕ) (stop : Stop)
+-- and what it found
+pub finds-Serves : {input : List ℕ} {before : ℕ} (proto : Proto) (start end : Moment) (most : ℕ) (stop : Stop)
     (serves : Serves proto true start end most stop) → IsOpen input before start.link start.session
     → Finds input before (call_by proto start end most stop serves)
 unfolding left-after
@@ -61,8 +62,16 @@ finds-Serves {input} {before} proto start end most stop serves o =
       served = serves.served;
     }
 
+-- a link after these bytes moved over it
+abbrev pub wire_after : Wire → Moves → Wire
+wire_after wire moves = record {
+  taken = wire.taken ++ moves.taken;
+  left = left-after wire moves.taken;
+  put = wire.put ++ moves.written;
+}
+
 -- a connection that goes on
-open-next : {input : List ℕ} {before : ℕ} (proto : Proto) (start end : Moment) (most : ℕ) (stop : Stop)
+pub open-next : {input : List ℕ} {before : ℕ} (proto : Proto) (start end : Moment) (most : ℕ) (stop : Stop)
     (serves : Serves proto true start end most stop) → IsOpen input before start.link start.session
     → HasEnough (call_by proto start end most stop serves) → IsOpen input (before + most) end.link end.session
 unfolding left-after
@@ -70,11 +79,7 @@ open-next {input} {before} proto start end most stop serves o enough =
     let taken : List ℕ = serves.moves.taken in
     let call : LinkCall = call_by proto start end most stop serves in record {
       so_far = o.so_far ++ taken;
-      wire = record {
-        taken = o.wire.taken ++ taken;
-        left = left-after o.wire taken;
-        put = o.wire.put ++ serves.moves.written;
-      };
+      wire = wire_after o.wire serves.moves;
       wire_is = serves.moved_is ∙ ap (moved taken serves.moves.written) o.wire_is;
       input_is = taken-next taken o serves.next ∙ sym (append_assoc o.so_far taken (left-after o.wire taken));
       done = o.done ++ take most (items_of call);
@@ -91,10 +96,18 @@ open-next {input} {before} proto start end most stop serves o enough =
       rests = enough.rests;
     }
 
+-- its link is as these bytes left it
+pub open-next-wire : {input : List ℕ} {before : ℕ} (proto : Proto) (start end : Moment) (most : ℕ) (stop : Stop)
+    (serves : Serves proto true start end most stop) (o : IsOpen input before start.link start.session)
+    (enough : HasEnough (call_by proto start end most stop serves))
+    → (open-next proto start end most stop serves o enough).wire ≡ wire_after o.wire serves.moves
+unfolding open-next
+open-next-wire proto start end most stop serves o enough = refl
+
 -- ---- the steps that ask
 
 -- a connection after this many replies: it goes on, or the last of them was its last
-abbrev pub Stands : List ℕ → ℕ → Line → Type 0
+abbrev pub Stands : List ℕ → ℕ → Connection → Type 0
 Stands input before at = IsOpen input before at.link at.session ⊎ HasLast input before
 
 -- an end that is none of a link whose input has enough is excused
@@ -104,7 +117,7 @@ by-stop end (stops.Ended ends.NoMemory) is other = subst IsExcused (sym is) tt
 by-stop end stop is other = absurd (other is)
 
 -- an ask whose requests are there ends no run, but for memory or the link
-pub excused-ask : {input : List ℕ} {before : ℕ} (count : ℕ) (at after : Line) (end : End) → Stands input before at
+pub excused-ask : {input : List ℕ} {before : ℕ} (count : ℕ) (at after : Connection) (end : End) → Stands input before at
     → HasRequests input before count → EndsAsk count at after end → IsExcused end
 excused-ask count at after end (inr last) has ends = absurd (no-last last has.reached)
 excused-ask count at after end (inl o) has (inl short) =
@@ -114,7 +127,7 @@ excused-ask count at after end (inl o) has (inl short) =
 excused-ask count at after end (inl o) has (inr over) = absurd (rests-goes_on at.session o.rests over.ended)
 
 -- and after it the connection stands after its replies
-pub stands-ask : {input : List ℕ} {before : ℕ} (count : ℕ) (at after : Line) → Stands input before at
+pub stands-ask : {input : List ℕ} {before : ℕ} (count : ℕ) (at after : Connection) → Stands input before at
     → HasRequests input before count → AnswersAsk count at after → Stands input (before + count) after
 stands-ask count at after (inr last) has answers = absurd (no-last last has.reached)
 stands-ask {input} {before} count at after (inl o) has answers =

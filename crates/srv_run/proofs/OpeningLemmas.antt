@@ -57,12 +57,12 @@ OpensDoors-none {D} {I} {C} shown asked opener doors is =
     none (Some stock) = record { first = refl; left = refl; calm = All-nil (λ (door : D). (shown door).faults ≡ 0) }
 
 -- one door more
-pub OpensDoors-more : {D I C L : Type 0} (shown : D → DoorShown L) (asked : DoorAsked)
-    (before now after : Option (Stock D I C)) (doors doors' : List D) (door : D)
+pub OpensDoors-more : {D I C L : Type 0} {shown : D → DoorShown L} {asked : DoorAsked}
+    {before now after : Option (Stock D I C)} {doors doors' : List D} (door : D)
     → OpensDoors shown asked before now doors
     → IfSome now (λ stock. IsNextDoor shown stock.doors asked door) → after ≡ after_door now
     → (shown door).faults ≡ 0 → doors' ≡ doors ++ door ∷ [] → OpensDoors shown asked before after doors'
-OpensDoors-more {D} {I} {C} {L} shown asked before now after doors doors' door opens next is calm put =
+OpensDoors-more {D} {I} {C} {L} {shown} {asked} {before} {now} {after} {doors} {doors'} door opens next is calm put =
     subst (λ (l : List D). OpensDoors shown asked before after l) (sym put) (record {
       first = first before opens.first (subst HasNext opens.left next);
       left = is ∙ ap (λ (o : Option (Stock D I C)). after_door o) opens.left ∙ left before;

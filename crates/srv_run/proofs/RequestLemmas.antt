@@ -30,7 +30,7 @@ later-at (item ∷ first) others index =
     ap (slice_get (item ∷ first ++ others)) same ∙ later-at first others index
 
 -- an item of a front
-front-there : (front others : List Item) (index : ℕ) (item : Item) → slice_get front index ≡ Some item
+pub front-there : {A : Type 0} (front others : List A) (index : ℕ) (item : A) → slice_get front index ≡ Some item
     → slice_get (front ++ others) index ≡ Some item
 front-there [] others index item is = absurd (none-some item is)
 front-there (first ∷ front) others zero item is = is

@@ -1,5 +1,6 @@
 -- Which device a run of workers blames.
-use Rattle.std.proofs.Common.{◌≡◌, ℕ, ◌+◌, ◌<◌, Bool, true, false, if◌then◌else◌, nat_lt, List, [], ◌∷◌, slice_get, Option, Some, None, IsSomeAnd, sym, subst, arith}
+use Rattle.std.proofs.Common.{◌≡◌, ℕ, ◌+◌, ◌^◌, ◌<◌, ◌≤◌, Bool, true, false, if◌then◌else◌, nat_lt, List, [], ◌∷◌, length, slice_get, Option, Some, None, IsSomeAnd, sym, ap, subst, ◌∙◌, arith}
+use Rattle.std.proofs.lemmas.List.{length-map}
 use Rattle.std.specs.Option.{option_or}
 use Rattle.std.specs.Prelude.{⊤}
 use Rattle.fm_model.specs.declared.proto.Proto.{Proto}
@@ -18,14 +19,41 @@ use Rattle.srv_ingest.specs.declared.report.IngestReport.{IngestReport}
 use Rattle.srv_words.specs.declared.job.Serving.{Serving}
 use Rattle.srv_workers.specs.declared.outcome.Devices.{Devices}
 use Rattle.srv_workers.specs.declared.outcome.Outcome.{Outcome}
-use Rattle.srv_workers.specs.Runs.{AreRuns, IsDoorRun, IsInboxRun, Run}
+use Rattle.srv_workers.specs.Runs.{AreRuns, IsClockRun, IsDoorRun, IsInboxRun, Run}
 use Rattle.srv_run.specs.declared.end.End.{End}
 use Rattle.srv_run.specs.declared.end.End.TheVariants.{BadWords, NoMemory, FileFault, SinkFault, LinkFault, DoorFault, InboxFault}
 use Rattle.srv_run.specs.Closing.{clock_end, door_end, end_at_door, end_at_inbox, first_end, first_from, inbox_end}
-use Rattle.srv_run.specs.Run.{HasFailed}
+use Rattle.srv_run.specs.Devices.{clocks_for, kept_for}
+use Rattle.srv_run.specs.Run.{HasFailedAt}
 use Rattle.srv_run.specs.Serve.{HasRun}
 use Rattle.srv_run.specs.Stage.{Shows}
 use Rattle.srv_run.proofs.EndLemmas.{door-end, inbox-end, left-at}
+
+-- there are as many reports as devices
+reports-count : {X R : Type 0} (Is : Run X R → Type 0) (before after : List X) (reports : List R)
+    → AreRuns Is before after reports → length reports ≡ length before
+reports-count {X} {R} Is before after reports are =
+    ap length (sym are.told) ∙ length-map are.runs (λ (run : Run X R). run.report)
+    ∙ sym (length-map are.runs (λ (run : Run X R). run.came)) ∙ ap length are.came
+
+one-clock : (keep : Option ℕ) → clocks_for keep ≤ 1
+one-clock None = omega arith
+one-clock (Some seconds) = omega arith
+
+-- a run has one clock at most
+pub few-clocks : {D I C L : Type 0} (show : Shows D I C L) (serving : Serving) (proto : Proto)
+    (opener opener' : OpenerShown D I C) (left : Devices D I C) (outcome : Outcome)
+    → HasRun show serving proto opener opener' left outcome → length outcome.clocks < 2 ^ 32
+few-clocks show serving proto opener opener' left outcome run =
+    omega (
+      arith,
+      reports-count (IsClockRun show.clock proto (kept_for serving.keep) run.ran.log) run.devices.clocks left.clocks
+          outcome.clocks run.ran.clocks,
+      run.all.clocks,
+      one-clock serving.keep,
+    )
+
+pub ruleset few = (few-clocks)
 
 -- after one failure more a count isn't 0
 one_more-positive : (count : ℕ) → 0 < one_more count
@@ -60,7 +88,7 @@ inbox-has-failed came left inbox_ends.Done ends is = absurd cc
 pub door-failed : {D I C L : Type 0} (show : Shows D I C L) (serving : Serving) (proto : Proto)
     (opener opener' : OpenerShown D I C) (left : Devices D I C) (outcome : Outcome)
     → HasRun show serving proto opener opener' left outcome → (number : ℕ)
-    → first_end outcome ≡ Some (DoorFault number) → HasFailed (λ door. (show.door door).faults) left.doors number
+    → first_end outcome ≡ Some (DoorFault number) → HasFailedAt (λ door. (show.door door).faults) left.doors number
 door-failed show serving proto opener opener' left outcome run number first =
     left-where (IsDoorRun show.door show.link proto run.ran.log) (λ (r : DoorReport). r.end ≡ door_ends.DoorFault)
     (λ door. 0 < (show.door door).faults) run.devices.doors left.doors outcome.doors number run.ran.doors
@@ -72,7 +100,7 @@ pub inbox-failed : {D I C L : Type 0} (show : Shows D I C L) (serving : Serving)
     (opener opener' : OpenerShown D I C) (left : Devices D I C) (outcome : Outcome)
     → HasRun show serving proto opener opener' left outcome → (number : ℕ)
     → first_end outcome ≡ Some (InboxFault number)
-    → HasFailed (λ inbox. (show.inbox inbox).faults) left.inboxes number
+    → HasFailedAt (λ inbox. (show.inbox inbox).faults) left.inboxes number
 inbox-failed show serving proto opener opener' left outcome run number first =
     left-where (IsInboxRun show.inbox proto run.ran.log) (λ (r : IngestReport). r.end ≡ inbox_ends.InboxFault)
     (λ inbox. 0 < (show.inbox inbox).faults) run.devices.inboxes left.inboxes outcome.inboxes number run.ran.inboxes

@@ -35,7 +35,7 @@ IsAtRest-goes_on s (inr ended) goes_on = absurd (goes_on ended.0 (closes-HasEnde
 -- a session at its start rests
 pub IsAtRest-fresh : IsAtRest fresh
 unfolding next_of held_after cut_of head_len
-IsAtRest-fresh = record { phase_is = refl; held_is = refl }
+IsAtRest-fresh = record { session_is = refl }
 
 pub RestsUnlessEnded-fresh : (s : State) → s ≡ fresh → RestsUnlessEnded s
 RestsUnlessEnded-fresh s is = let P : State → Type 0 = λ t. RestsUnlessEnded t in subst P (sym is) (inl IsAtRest-fresh)

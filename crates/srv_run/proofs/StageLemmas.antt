@@ -6,7 +6,7 @@ use Rattle.dev_traits.specs.Cause.{count_after}
 use Rattle.dev_traits.specs.Opener.{Stock}
 use Rattle.srv_words.specs.declared.job.Serving.{Serving}
 use Rattle.srv_run.specs.declared.end.End.TheVariants.{DoorFault, InboxFault}
-use Rattle.srv_run.specs.Devices.{asked_of, OpensDevices, StopsAt}
+use Rattle.srv_run.specs.Devices.{door_request, OpensDevices, StopsAt}
 use Rattle.srv_run.specs.Opening.{end_of, OpensClock, OpensDoors, OpensInboxes}
 use Rattle.srv_run.specs.Stage.{Shows}
 use Rattle.srv_run.proofs.OpeningLemmas.{OpensInboxes-none}
@@ -14,7 +14,7 @@ use Rattle.srv_run.proofs.OpeningLemmas.{OpensInboxes-none}
 -- only doors were opened
 pub OpensDevices-doors : {D I C L : Type 0} (show : Shows D I C L) (serving : Serving)
     (before after : Option (Stock D I C)) (doors : List D) (inboxes : List I) (clocks : List C)
-    → OpensDoors show.door (asked_of serving) before after doors → inboxes ≡ [] → clocks ≡ []
+    → OpensDoors show.door (door_request serving) before after doors → inboxes ≡ [] → clocks ≡ []
     → OpensDevices show serving before after (record { doors = doors; inboxes = inboxes; clocks = clocks })
 OpensDevices-doors {C = C} show serving before after doors inboxes clocks opens no_inboxes no_clocks = record {
   after_doors = after;
@@ -27,7 +27,7 @@ OpensDevices-doors {C = C} show serving before after doors inboxes clocks opens 
 -- no clock was opened
 pub OpensDevices-inboxes : {D I C L : Type 0} (show : Shows D I C L) (serving : Serving)
     (before now after : Option (Stock D I C)) (doors : List D) (inboxes : List I) (clocks : List C)
-    → OpensDoors show.door (asked_of serving) before now doors
+    → OpensDoors show.door (door_request serving) before now doors
     → OpensInboxes show.inbox serving.inboxes now after inboxes → clocks ≡ []
     → OpensDevices show serving before after (record { doors = doors; inboxes = inboxes; clocks = clocks })
 OpensDevices-inboxes {C = C} show serving before now after doors inboxes clocks opens opens' no_clocks = record {

@@ -14,7 +14,7 @@ use Rattle.srv_words.specs.declared.job.Step.TheVariants.{Put, Expire, Retract, 
 use Rattle.srv_run.specs.declared.end.End.{End}
 use Rattle.srv_run.specs.declared.end.End.TheVariants.{Done, BadWords, Refused, NoMemory, FileFault, SinkFault, LinkFault, DoorFault, InboxFault, NoFile, TooLong, InputEnded}
 use Rattle.srv_run.specs.Reading.{file_faults_after, IsEndAtFile}
-use Rattle.srv_run.specs.Steps.{Does, end_of_stop, EndsAsk, EndsAt, IsDone, Progress}
+use Rattle.srv_run.specs.Steps.{DoesSteps, end_of_stop, EndsAsk, EndsAt, IsDone, Progress}
 
 -- a run ends so at a door or an inbox
 abbrev pub IsAtDevice : End → Type 0
@@ -137,7 +137,8 @@ record Calm (before after : Progress) : Type 0 where
   files : after.files.faults ≡ before.files.faults
   link : after.at.link.faults ≡ before.at.link.faults
 
-calm_stop : (stop : Stop) → end_of_stop stop ≡ InputEnded
+-- a link that goes on neither failed nor ran out of memory
+pub calm_stop : (stop : Stop) → end_of_stop stop ≡ InputEnded
     → (stop ≡ stops.Ended ends.LinkFault → ⊥) × (stop ≡ stops.Ended ends.NoMemory → ⊥)
 calm_stop stop is = (
   λ e. let same : LinkFault ≡ InputEnded = sym (ap end_of_stop e) ∙ is in cc,
@@ -165,8 +166,8 @@ calm_step (Ask count) before after done =
 
 -- the steps up to the first that isn't done
 pub steps_blamed : (steps : List Step) (before after : Progress) (end : End) (path : List ℕ)
-    → Does steps before after end path → Blamed before after end
-unfolding Does
+    → DoesSteps steps before after end path → Blamed before after end
+unfolding DoesSteps
 steps_blamed [] before after end path does = none_blamed before after end (inl does.1)
 steps_blamed (step ∷ steps) before after end path (inl (next, done, does)) =
     let later = steps_blamed steps next after end path does in

@@ -4,12 +4,16 @@ use Rattle.std.proofs.lemmas.List.{drop_all}
 use Rattle.srv_words.specs.declared.job.Step.{Step}
 use Rattle.srv_run.specs.declared.end.End.{End}
 use Rattle.srv_run.specs.declared.end.End.TheVariants.{Done}
-use Rattle.srv_run.specs.Steps.{Does, EndsAt, IsDone, path_of, Progress}
+use Rattle.srv_run.specs.Steps.{DoesSteps, EndsAt, IsDone, path_of, Progress}
 
 -- the steps from an index on, done from here, are all steps done from the start
-abbrev pub Continues : List Step → Progress → ℕ → Progress → Type 0
-Continues steps start i now = (after : Progress) (end : End) (path : List ℕ)
-    → Does (drop i steps) now after end path → Does steps start after end path
+pub record AreLeft (steps : List Step) (start : Progress) (i : ℕ) (now : Progress) : Type 0 where
+  pub all : (after : Progress) (end : End) (path : List ℕ) → DoesSteps (drop i steps) now after end path
+      → DoesSteps steps start after end path
+
+-- at the start all are left
+pub AreLeft-start : (steps : List Step) (start : Progress) → AreLeft steps start 0 start
+AreLeft-start steps start = record { all = λ after end path does. does }
 
 -- the steps from an index on begin with the step there
 drop-step : (steps : List Step) (i : ℕ) (step : Step) → i < length steps → step ≡ get_or steps i step
@@ -19,23 +23,28 @@ drop-step steps i step below is =
     ∙ ap (λ (n : ℕ). step ∷ drop n steps) (sym (add-one i))
 
 -- the step at an index is done
-pub Continues-done : (steps : List Step) (start now next : Progress) (i : ℕ) (step : Step) → i < length steps
-    → step ≡ get_or steps i step → Continues steps start i now → IsDone step now next
-    → Continues steps start (i + 1) next
-unfolding Does
-Continues-done steps start now next i step below is so_far done after end path does =
-    so_far after end path (rw (drop-step steps i step below is) (inl (next, done, does)))
+pub AreLeft-done : {steps : List Step} {start now next : Progress} {i : ℕ} {step : Step} → i < length steps
+    → step ≡ get_or steps i step → AreLeft steps start i now → IsDone step now next
+    → AreLeft steps start (i + 1) next
+unfolding DoesSteps
+AreLeft-done {steps} {start} {now} {next} {i} {step} below is left done = record {
+  all = λ after end path does.
+      left.all after end path (rw (drop-step steps i step below is) (inl (next, done, does)));
+}
 
 -- it isn't
-pub Does-ends : (steps : List Step) (start now after : Progress) (i : ℕ) (step : Step) (end : End) (path : List ℕ)
-    → i < length steps → step ≡ get_or steps i step → Continues steps start i now → EndsAt step now after end
-    → path ≡ path_of step → Does steps start after end path
-unfolding Does
-Does-ends steps start now after i step end path below is so_far ends path_is =
-    so_far after end path (rw (drop-step steps i step below is) (inr (ends, path_is)))
+pub Does-ends : {steps : List Step} {start now : Progress} {i : ℕ} {step : Step} (after : Progress) (end : End)
+    {path : List ℕ} → i < length steps → step ≡ get_or steps i step → AreLeft steps start i now
+    → EndsAt step now after end → path ≡ path_of step → DoesSteps steps start after end path
+unfolding DoesSteps
+Does-ends {steps} {start} {now} {i} {step} after end {path} below is left ends path_is =
+    left.all after end path (rw (drop-step steps i step below is) (inr (ends, path_is)))
 
 -- there is none
-pub Does-done : (steps : List Step) (start now : Progress) (i : ℕ) → length steps ≤ i → Continues steps start i now
-    → Does steps start now Done []
-unfolding Does
-Does-done steps start now i past so_far = so_far now Done [] (rw (drop_all i steps past) (refl, refl, refl))
+pub Does-done : {steps : List Step} {start now : Progress} {i : ℕ} → length steps ≤ i → AreLeft steps start i now
+    → DoesSteps steps start now Done []
+unfolding DoesSteps
+Does-done {steps} {start} {now} {i} past left =
+    left.all now Done [] (rw (drop_all i steps past) (refl, refl, refl))
+
+pub ruleset steps = (AreLeft-start)

@@ -11,7 +11,7 @@ use Rattle.srv_words.specs.declared.job.Step.TheVariants.{Put, Expire, Retract, 
 use Rattle.srv_run.specs.declared.end.End.{End}
 use Rattle.srv_run.specs.Publishing.{expired, put_or_end, retracted, EndsPut, Puts}
 use Rattle.srv_run.specs.Reading.{file_or_end}
-use Rattle.srv_run.specs.Steps.{with_history, Does, Line, Progress}
+use Rattle.srv_run.specs.Steps.{with_history, Connection, DoesSteps, Progress}
 use Rattle.srv_run.specs.WellFormed.{AreTaken, AreThere}
 use Rattle.srv_run.proofs.AskedLemmas.{IsOpen}
 use Rattle.srv_run.proofs.OpenLemmas.{excused-ask, stands-ask, Stands}
@@ -29,7 +29,7 @@ pub record StandsAt (held : List ℕ → Option (List ℕ)) (input : List ℕ) (
   pub line : Stands input before at.at
 
 -- a connection that isn't used stands as it did
-unused : {input : List ℕ} {before : ℕ} (at after : Line) → after.link ≡ at.link → after.session ≡ at.session
+unused : {input : List ℕ} {before : ℕ} (at after : Connection) → after.link ≡ at.link → after.session ≡ at.session
     → Stands input before at → Stands input before after
 unused {input} {before} at after link session (inl o) =
     inl (subst (λ (l : LinkShown). IsOpen input before l after.session) (sym link)
@@ -79,8 +79,8 @@ publishes history other other' at after stands is alike = record {
 
 pub excused-steps : (held : List ℕ → Option (List ℕ)) (input : List ℕ) (steps : List Step) (history : History)
     (before : ℕ) (at after : Progress) (end : End) (path : List ℕ) → StandsAt held input history before at
-    → AreTaken held history steps → AreThere input before steps → Does steps at after end path → IsExcused end
-unfolding Does AreTaken AreThere
+    → AreTaken held history steps → AreThere input before steps → DoesSteps steps at after end path → IsExcused end
+unfolding DoesSteps AreTaken AreThere
 excused-steps held input [] history before at after end path stands taken there does =
     subst IsExcused (sym does.1) tt
 excused-steps held input (Put file ∷ steps) history before at after end path stands taken there

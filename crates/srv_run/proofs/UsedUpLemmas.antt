@@ -16,14 +16,18 @@ use Rattle.srv_ingest.specs.declared.report.IngestEnd.{IngestEnd}
 use Rattle.srv_ingest.specs.declared.report.IngestEnd.TheVariants as inbox_ends
 use Rattle.srv_ingest.specs.declared.report.IngestReport.{IngestReport}
 use Rattle.srv_words.specs.declared.job.Serving.{Serving}
+use Rattle.srv_workers.specs.declared.outcome.Devices.{Devices}
 use Rattle.srv_workers.specs.declared.outcome.Outcome.{Outcome}
 use Rattle.srv_workers.specs.Runs.{AreRuns, IsDoorRun, IsInboxRun, Run}
 use Rattle.srv_run.specs.declared.end.End.{End}
-use Rattle.srv_run.specs.declared.end.End.TheVariants.{Done}
+use Rattle.srv_run.specs.declared.end.End.TheVariants.{Done, SinkFault}
 use Rattle.srv_run.specs.Closing.{clock_end, door_end, end_at_door, end_at_inbox, EndsServing, first_end, first_from, inbox_end}
+use Rattle.srv_run.specs.Devices.{StopsAt}
+use Rattle.srv_run.specs.Reading.{IsEndAtFile}
 use Rattle.srv_run.specs.Serve.{EndsUnopened, GoesOn, HasRun, RunsServe, ServesDevices}
 use Rattle.srv_run.specs.Stage.{Shows, Stage}
-use Rattle.srv_run.specs.WellServed.{IsUsedUp}
+use Rattle.srv_run.specs.WellServed.{EndsWell, HasNoMomentLeft, IsUsedUp, ShowsClocks}
+use Rattle.srv_run.proofs.ClockLemmas.{clocks-used}
 use Rattle.srv_run.proofs.RunLemmas.{by_device, IsOfWorkers}
 
 -- neither of two ends is there
@@ -103,24 +107,66 @@ run-used show serving proto stage stage' outcome run first =
     }
 
 -- a run whose workers ran ends well only at no worker
-no-end : (outcome : Outcome) (found : Option End) (sink sink' : SinkShown) → first_end outcome ≡ found
-    → EndsServing outcome found Done sink sink' → first_end outcome ≡ None
-no-end outcome None sink sink' first ends = first
-no-end outcome (Some end) sink sink' first ends =
-    absurd (subst (λ (e : End). IsOfWorkers e) (sym ends.0) (by_device outcome end first))
+no-end : (outcome : Outcome) (found : Option End) (end : End) (sink sink' : SinkShown) → first_end outcome ≡ found
+    → EndsServing outcome found end sink sink' → EndsWell end → first_end outcome ≡ None
+no-end outcome None end sink sink' first ends well = first
+no-end outcome (Some found) end sink sink' first ends well =
+    absurd (not-both found (subst EndsWell ends.0 well) (by_device outcome found first))
+  where
+    not-both : (e : End) → EndsWell e → IsOfWorkers e → ⊥
+    not-both Done well by = by
+    not-both SinkFault well by = by
+    not-both e well by = well
 
-serves-used : {D I C L : Type 0} (show : Shows D I C L) (serving : Serving) (proto : Proto) (stage stage' : Stage D I C)
-    → ServesDevices show serving proto stage stage' Done → IsUsedUp show stage'
-serves-used show serving proto stage stage' (inl stopped) = absurd stopped.stopped.stops
-serves-used show serving proto stage stage' (inr ran) =
-    run-used show serving proto stage stage' ran.outcome ran.run
-    (no-end ran.outcome (first_end ran.outcome) stage.outside.sink stage'.outside.sink refl ran.ends)
+-- a run that stops before its workers run doesn't end well
+no-stop : {D I C : Type 0} (serving : Serving) (devices : Devices D I C) (faults faults' : ℕ) (end : End)
+    → StopsAt serving devices faults faults' end → EndsWell end → ⊥
+no-stop serving devices faults faults' Done stops well = stops
+no-stop serving devices faults faults' SinkFault stops well = stops
+no-stop serving devices faults faults' end stops well = well
 
-runs-used : {D I C L : Type 0} (show : Shows D I C L) (serving : Serving) (stage stage' : Stage D I C)
-    → EndsUnopened serving stage stage' Done ⊎ GoesOn show serving stage stage' Done → IsUsedUp show stage'
-runs-used show serving stage stage' (inl ends) = absurd ends.ends.at_file
-runs-used show serving stage stage' (inr on) = serves-used show serving on.proto stage stage' on.serves
+-- nor does one that ends at the file of its prototype
+no-file : (end : End) → IsEndAtFile end → EndsWell end → ⊥
+no-file Done at well = at
+no-file SinkFault at well = at
+no-file end at well = well
 
-pub used-up : {D I C L : Type 0} (show : Shows D I C L) (serving : Serving) (stage stage' : Stage D I C)
-    → RunsServe show serving Done stage stage' → IsUsedUp show stage'
-used-up show serving stage stage' runs = runs-used show serving stage stage' runs.runs
+-- workers ran over all devices, and all ended well
+record HasEndedWell {D I C L : Type 0} (show : Shows D I C L) (serving : Serving) (stage stage' : Stage D I C)
+    : Type 0 where
+  proto : Proto
+  outcome : Outcome
+  run : HasRun show serving proto stage.opener stage'.opener stage'.devices outcome
+  first : first_end outcome ≡ None
+
+serves-well : {D I C L : Type 0} (show : Shows D I C L) (serving : Serving) (proto : Proto) (end : End)
+    (stage stage' : Stage D I C) → ServesDevices show serving proto stage stage' end → EndsWell end
+    → HasEndedWell show serving stage stage'
+serves-well show serving proto end stage stage' (inl stopped) well =
+    absurd (no-stop serving stage'.devices stage.opener.faults stage'.opener.faults end stopped.stopped.stops well)
+serves-well show serving proto end stage stage' (inr ran) well = record {
+  proto = proto;
+  outcome = ran.outcome;
+  run = ran.run;
+  first = no-end ran.outcome (first_end ran.outcome) end stage.outside.sink stage'.outside.sink refl ran.ends well;
+}
+
+runs-well : {D I C L : Type 0} (show : Shows D I C L) (serving : Serving) (end : End) (stage stage' : Stage D I C)
+    → EndsUnopened serving stage stage' end ⊎ GoesOn show serving stage stage' end → EndsWell end
+    → HasEndedWell show serving stage stage'
+runs-well show serving end stage stage' (inl ends) well = absurd (no-file end ends.ends.at_file well)
+runs-well show serving end stage stage' (inr on) well =
+    serves-well show serving on.proto end stage stage' on.serves well
+
+pub used-up : {D I C L : Type 0} (show : Shows D I C L) (serving : Serving) (end : End) (stage stage' : Stage D I C)
+    → RunsServe show serving end stage stage' → EndsWell end → IsUsedUp show stage'
+used-up show serving end stage stage' runs well =
+    let ended = runs-well show serving end stage stage' runs.runs well in
+    run-used show serving ended.proto stage stage' ended.outcome ended.run ended.first
+
+pub no-moment : {D I C L : Type 0} (show : Shows D I C L) (serving : Serving) (end : End) (stage stage' : Stage D I C)
+    → RunsServe show serving end stage stage' → EndsWell end → ShowsClocks show stage.opener
+    → HasNoMomentLeft show stage'
+no-moment show serving end stage stage' runs well shown =
+    let ended = runs-well show serving end stage stage' runs.runs well in
+    clocks-used show serving ended.proto stage.opener stage'.opener stage'.devices ended.outcome ended.run shown

@@ -9,7 +9,7 @@ use Rattle.srv_run.specs.declared.end.End.{End}
 use Rattle.srv_run.specs.declared.end.End.TheVariants.{Done, NoMemory, SinkFault, DoorFault, InboxFault}
 use Rattle.srv_run.specs.Closing.{EndsServing, first_end}
 use Rattle.srv_run.specs.Devices.{StopsAt}
-use Rattle.srv_run.specs.Run.{HasFailed, Runs}
+use Rattle.srv_run.specs.Run.{HasFailedAt, Runs}
 use Rattle.srv_run.specs.Serve.{EndsUnopened, GoesOn, HasRun, RunsServe, ServesDevices}
 use Rattle.srv_run.specs.Stage.{Shows, Stage}
 use Rattle.srv_run.specs.WellServed.{IsWellServed}
@@ -22,7 +22,7 @@ use Rattle.srv_run.proofs.WellUsedLemmas.{done-or-short, status-of}
 
 -- no device has failed where all counts are 0
 none-failed : {X : Type 0} (faults : X → ℕ) (xs : List X) (n : ℕ) → All (λ (x : X). faults x ≡ 0) xs
-    → HasFailed faults xs n → ⊥
+    → HasFailedAt faults xs n → ⊥
 none-failed faults [] n all has = has
 none-failed {X} faults (x ∷ xs) zero all has = omega (arith, All-head (λ (y : X). faults y ≡ 0) x xs all, has)
 none-failed {X} faults (x ∷ xs) (suc n) all has =

@@ -4,6 +4,7 @@ use Rattle.fm_base.specs.Chain.{◌>>=◌}
 use Rattle.fm_base.proofs.ChainLemmas.{same_Ok}
 use Rattle.fm_model.specs.declared.site.Site.{Site}
 use Rattle.dev_traits.specs.Link.{Wire}
+use Rattle.dev_traits.specs.Shown.{LinkShown}
 use Rattle.dev_traits.specs.World.{WorldShown}
 use Rattle.web_frame.proofs.ItemLemmas.{ReadsTo-start}
 use Rattle.web_session.specs.State.{fresh}
@@ -31,9 +32,8 @@ RunsOrEnds site path steps world world' end at =
     ⊎ EndsAtPrototype site path world.files world'.files world.link world'.link end at
 
 -- a connection at its start, whose input is all that is left
-opens-link : (world : WorldShown) (wire : Wire) → world.link.held ≡ Some wire
-    → IsOpen wire.left 0 world.link fresh
-opens-link world wire is = record {
+unfoldable pub opens-link : (link : LinkShown) (wire : Wire) → link.held ≡ Some wire → IsOpen wire.left 0 link fresh
+opens-link link wire is = record {
   so_far = [];
   wire = wire;
   wire_is = is;
@@ -60,7 +60,7 @@ excused-run site path steps world world' end at (inl runs) used =
         proto_is = same_Ok runs.proto used.well_formed.proto (sym made ∙ used.well_formed.proto_is);
         seen_is = refl;
       };
-      line = inl (opens-link world used.wire used.wire_is);
+      line = inl (opens-link world.link used.wire used.wire_is);
     }) used.well_formed.taken used.well_formed.asked runs.does
 excused-run site path steps world world' end at (inr ends) used =
     excused-value end _ used.well_formed.proto used.well_formed.proto_is
@@ -93,6 +93,6 @@ pub status-once : {D I C L : Type 0} (show : Shows D I C L) (site : Site) (path 
     → IsWellUsed site path steps stage.outside stage'.outside → (status ≡ 0) ⊎ (status ≡ 4)
 status-once show site path steps status stage stage' runs used =
     status-of runs.end status runs.status_is (elim runs.does [
-      | inl does ↦ end-once site path steps runs.end stage.outside stage'.outside does used
+      | inl does ↦ end-once site path steps runs.end stage.outside stage'.outside does.0 used
       | inr short ↦ inr short.0
     ])

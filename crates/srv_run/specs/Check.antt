@@ -8,7 +8,7 @@ use Rattle.dev_traits.specs.Shown.{FilesShown, SinkShown}
 use Rattle.srv_run.specs.declared.end.End.{End}
 use Rattle.srv_run.specs.declared.end.End.TheVariants.{Done, Refused, SinkFault}
 use Rattle.srv_run.specs.Reading.{file_or_end, file_faults_after, Gives, IsEndAtFile}
-use Rattle.srv_run.specs.Report.{CutsLine, line_of, Reports, WritesLine}
+use Rattle.srv_run.specs.Report.{CutsLine, Reports, WritesLine}
 
 -- the header of a file that has no fault, else the refusal by its first fault
 unfoldable pub sound_or_refusal : List ℕ → Result Header End
@@ -32,7 +32,7 @@ abbrev pub EndsCheck : List ℕ → Result Header End → End → SinkShown → 
 EndsCheck path (Ok header) Done sink sink' = WritesLine (sound_line header) sink sink'
 EndsCheck path (Ok header) SinkFault sink sink' = CutsLine (sound_line header) sink sink'
 EndsCheck path (Ok header) end sink sink' = ⊥
-EndsCheck path (Err found) end sink sink' = (end ≡ found) × Reports (line_of found path) sink sink'
+EndsCheck path (Err found) end sink sink' = (end ≡ found) × Reports found path sink sink'
 
 -- A file was checked up to this end: the check found a header or an end, as defined where the content is known. The
 -- files are blamed where their call failed.

@@ -14,7 +14,7 @@ use Rattle.srv_workers.specs.declared.outcome.Outcome.{Outcome}
 use Rattle.srv_run.specs.declared.end.End.{End}
 use Rattle.srv_run.specs.declared.end.End.TheVariants.{Done, NoMemory, SinkFault, DoorFault, InboxFault}
 use Rattle.srv_run.specs.Load.{field}
-use Rattle.srv_run.specs.Report.{CutsLine, line_of, Reports, WritesLine}
+use Rattle.srv_run.specs.Report.{CutsLine, Reports, WritesLine}
 
 -- memory ran out, if it did so at least once
 abbrev pub short_end : ℕ → Option End
@@ -75,4 +75,4 @@ abbrev pub EndsServing : Outcome → Option End → End → SinkShown → SinkSh
 EndsServing outcome None Done sink sink' = WritesLine (serve_line outcome) sink sink'
 EndsServing outcome None SinkFault sink sink' = CutsLine (serve_line outcome) sink sink'
 EndsServing outcome None end sink sink' = ⊥
-EndsServing outcome (Some found) end sink sink' = (end ≡ found) × Reports (line_of found []) sink sink'
+EndsServing outcome (Some found) end sink sink' = (end ≡ found) × Reports found [] sink sink'

@@ -11,8 +11,8 @@ use Rattle.srv_run.specs.Opening.{OpensClock, OpensDoors, OpensInboxes}
 use Rattle.srv_run.specs.Stage.{Shows}
 
 -- the request for each door
-abbrev pub asked_of : Serving → DoorAsked
-asked_of serving = record { address = serving.listen; connections = serving.connections }
+abbrev pub door_request : Serving → DoorAsked
+door_request serving = record { address = serving.listen; connections = serving.connections }
 
 -- for how many seconds a run is kept; nothing asks where there is no clock
 abbrev pub kept_for : Option ℕ → ℕ
@@ -29,12 +29,13 @@ pub record OpensDevices {D I C L : Type 0} (show : Shows D I C L) (serving : Ser
     (opener opener' : Option (Stock D I C)) (devices : Devices D I C) : Type 0 where
   pub after_doors : Option (Stock D I C)
   pub after_inboxes : Option (Stock D I C)
-  pub doors : OpensDoors show.door (asked_of serving) opener after_doors devices.doors
+  pub doors : OpensDoors show.door (door_request serving) opener after_doors devices.doors
   pub inboxes : OpensInboxes show.inbox serving.inboxes after_doors after_inboxes devices.inboxes
   pub clock : OpensClock show.clock serving.ticks after_inboxes opener' devices.clocks
 
 -- All devices were opened that are asked for, and no call of the opener failed.
-pub record AreAll {D I C : Type 0} (serving : Serving) (devices : Devices D I C) (faults faults' : ℕ) : Type 0 where
+pub record AreAllOpened {D I C : Type 0} (serving : Serving) (devices : Devices D I C) (faults faults' : ℕ)
+    : Type 0 where
   pub doors : length devices.doors ≡ serving.workers
   pub inboxes : length devices.inboxes ≡ length serving.inboxes
   pub clocks : length devices.clocks ≡ clocks_for serving.keep

@@ -4,6 +4,7 @@ pub mod Devices
 pub mod Load
 pub mod Once
 pub mod Opening
+pub mod Output
 pub mod Publishing
 pub mod Reading
 pub mod Report
@@ -13,3 +14,4 @@ pub mod Stage
 pub mod Steps
 pub mod WellFormed
 pub mod WellServed
+pub mod Worked

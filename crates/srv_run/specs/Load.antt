@@ -6,7 +6,7 @@ use Rattle.srv_load.specs.declared.summary.Summary.{Summary}
 use Rattle.srv_load.specs.Summary.{summary_of}
 use Rattle.srv_run.specs.declared.end.End.{End}
 use Rattle.srv_run.specs.declared.end.End.TheVariants.{Done, NoMemory, SinkFault}
-use Rattle.srv_run.specs.Report.{CutsLine, line_of, Reports, WritesLine}
+use Rattle.srv_run.specs.Report.{CutsLine, Reports, WritesLine}
 
 -- a word and a number
 unfoldable pub field : List ℕ → ℕ → List ℕ
@@ -30,5 +30,5 @@ load_line summary = held_text summary ++ views_text summary ++ field (codes " su
 abbrev pub EndsLoad : ℕ → ℕ → End → SinkShown → SinkShown → Type 0
 EndsLoad seed files Done sink sink' = WritesLine (load_line (summary_of seed files)) sink sink'
 EndsLoad seed files SinkFault sink sink' = CutsLine (load_line (summary_of seed files)) sink sink'
-EndsLoad seed files NoMemory sink sink' = Reports (line_of NoMemory []) sink sink'
+EndsLoad seed files NoMemory sink sink' = Reports NoMemory [] sink sink'
 EndsLoad seed files end sink sink' = ⊥

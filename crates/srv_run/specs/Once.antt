@@ -10,8 +10,8 @@ use Rattle.web_session.specs.State.{fresh, State}
 use Rattle.srv_words.specs.declared.job.Step.{Step}
 use Rattle.srv_run.specs.declared.end.End.{End}
 use Rattle.srv_run.specs.Reading.{file_or_end, file_faults_after, IsEndAtFile, IsEndOf, proto_or_end}
-use Rattle.srv_run.specs.Report.{line_of, Reports}
-use Rattle.srv_run.specs.Steps.{Does, progress}
+use Rattle.srv_run.specs.Report.{Reports}
+use Rattle.srv_run.specs.Steps.{DoesSteps, progress}
 
 -- A file was read as the prototype of a collection.
 pub record Opens (site : Site) (path : List ℕ) (files : FilesShown) (proto : Proto) : Type 0 where
@@ -38,7 +38,7 @@ pub record RunsSteps (site : Site) (path : List ℕ) (steps : List Step) (files 
   pub opens : Opens site path files proto
   pub history : History
   pub session : State
-  pub does : Does steps (progress files (opened proto) fresh link) (progress files' history session link') end at
+  pub does : DoesSteps steps (progress files (opened proto) fresh link) (progress files' history session link') end at
 
 -- The run ended at the file of its prototype; the link wasn't used.
 pub record EndsAtPrototype (site : Site) (path : List ℕ) (files files' : FilesShown) (link link' : LinkShown)
@@ -47,10 +47,10 @@ pub record EndsAtPrototype (site : Site) (path : List ℕ) (files files' : Files
   pub unused : link' ≡ link
   pub at_is : at ≡ path
 
--- A run of `once` ended so, at the file at a path, and its line was written or cut.
+-- A run of `once` ended so, at the file at a path, and was reported.
 pub record RunsOnce (site : Site) (path : List ℕ) (steps : List Step) (end : End) (world world' : WorldShown)
     : Type 0 where
   pub at : List ℕ
   pub runs : RunsSteps site path steps world.files world'.files world.link world'.link end at
       ⊎ EndsAtPrototype site path world.files world'.files world.link world'.link end at
-  pub reports : Reports (line_of end at) world.sink world'.sink
+  pub reports : Reports end at world.sink world'.sink

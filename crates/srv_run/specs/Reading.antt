@@ -3,7 +3,6 @@ use Rattle.std.specs.Prelude.{◌≡◌, ⊤, ℕ, ◌==◌, List, Option, Some,
 use Rattle.std.specs.List.{after_last}
 use Rattle.fm_base.specs.Chain.{fault_as}
 use Rattle.fm_model.specs.declared.full.Full.{Full as TooMany}
-use Rattle.fm_model.specs.declared.limit.TheConstants.{MAX_FILE_BYTES}
 use Rattle.fm_model.specs.declared.loaded.Loaded.{Loaded}
 use Rattle.fm_model.specs.declared.proto.Proto.{Proto}
 use Rattle.fm_model.specs.declared.site.Site.{Site}
@@ -16,7 +15,6 @@ use Rattle.dev_traits.specs.Cause.{one_more}
 use Rattle.dev_traits.specs.Files.{found_of}
 use Rattle.srv_run.specs.declared.end.End.{End}
 use Rattle.srv_run.specs.declared.end.End.TheVariants.{Refused, NoMemory, FileFault, NoFile, TooLong}
-use Rattle.srv_run.specs.declared.end.TheConstants.{NO_ROOM}
 
 -- the bytes that were found, or the end of the run
 abbrev pub content_or_end : Found → Result (List ℕ) End
@@ -24,9 +22,9 @@ content_or_end (Content bytes) = Ok bytes
 content_or_end Absent = Err NoFile
 content_or_end (TooLongFound len) = Err (TooLong len)
 
--- the file at a path is read whole, or ends the run
+-- the file at a path is read whole, or ends the run: it has at most 512 MiB
 unfoldable pub file_or_end : Option (List ℕ) → Result (List ℕ) End
-file_or_end held = content_or_end (found_of MAX_FILE_BYTES held)
+file_or_end held = content_or_end (found_of 536_870_912 held)
 
 -- the prototype that bytes are, or the refusal by their first fault
 unfoldable pub proto_or_end : Site → List ℕ → Result Proto End
@@ -44,7 +42,7 @@ loaded_or_end proto path bytes =
 -- the value, unless there is something too many of
 abbrev pub unless_no_room : {A : Type 0} → Option TooMany → A → Result A End
 unless_no_room None value = Ok value
-unless_no_room (Some full) value = Err (Refused NO_ROOM)
+unless_no_room (Some full) value = Err (Refused 61)
 
 -- A run that ended so ended as defined, unless memory ran out or a device failed.
 abbrev pub IsEndOf : {Y : Type 0} → End → Result Y End → Type 0

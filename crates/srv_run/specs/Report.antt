@@ -1,11 +1,11 @@
 -- The report of a program on its end: its status and a line.
-use Rattle.std.specs.Prelude.{◌≡◌, ◌⊎◌, ℕ, ◌≤◌, List, [], ◌++◌, length, take, codes, decimal, Option, Result, MatchResult}
-use Rattle.dev_traits.specs.World.{WorldShown}
+use Rattle.std.specs.Prelude.{◌≡◌, ◌⊎◌, ⊤, ℕ, ◌≤◌, List, [], ◌++◌, length, take, codes, decimal, Option, Result, MatchResult}
 use Rattle.dev_traits.specs.Cause.{one_more}
 use Rattle.dev_traits.specs.Shown.{SinkShown}
 use Rattle.dev_traits.specs.Sink.{after_append}
 use Rattle.srv_run.specs.declared.end.End.{End}
 use Rattle.srv_run.specs.declared.end.End.TheVariants.{Done, BadWords, Refused, NoMemory, FileFault, SinkFault, LinkFault, DoorFault, InboxFault, NoFile, TooLong, InputEnded}
+use Rattle.srv_run.specs.Stage.{LeavesDevices, Stage}
 
 -- the status of a program that ended so
 abbrev pub status_of : End → ℕ
@@ -72,11 +72,30 @@ pub record CutsLine (line : List ℕ) (sink sink' : SinkShown) : Type 0 where
   pub faults : sink'.faults ≡ one_more sink.faults
 
 -- The line was written whole, or it was cut.
-abbrev pub Reports : List ℕ → SinkShown → SinkShown → Type 0
-Reports line sink sink' = WritesLine line sink sink' ⊎ CutsLine line sink sink'
+abbrev pub PutsLine : List ℕ → SinkShown → SinkShown → Type 0
+PutsLine line sink sink' = WritesLine line sink sink' ⊎ CutsLine line sink sink'
 
--- Only the sink was used, for this line.
-pub record Says (line : List ℕ) (world world' : WorldShown) : Type 0 where
-  pub unread : world'.files ≡ world.files
-  pub unused : world'.link ≡ world.link
-  pub reports : Reports line world.sink world'.sink
+-- An end has no line: every step was done, or the line of what was done couldn't be written.
+abbrev pub HasNoLine : End → Type 0
+HasNoLine Done = ⊤
+HasNoLine SinkFault = ⊤
+HasNoLine end = ⊥
+
+-- An end at the file at a path was reported: its line was written whole or cut. The sink of an end without a line is as
+-- before.
+abbrev pub Reports : End → List ℕ → SinkShown → SinkShown → Type 0
+Reports Done path sink sink' = sink' ≡ sink
+Reports SinkFault path sink sink' = sink' ≡ sink
+Reports end path sink sink' = PutsLine (line_of end path) sink sink'
+
+-- An end with this status was reported.
+abbrev pub Said : ℕ → SinkShown → SinkShown → Type 0
+Said status sink sink' =
+    (end : End) × (path : List ℕ) × (status ≡ status_of end) × Reports end path sink sink'
+
+-- Only the sink was used, for the line of an end at no file.
+pub record Says {D I C : Type 0} (end : End) (stage stage' : Stage D I C) : Type 0 where
+  pub unread : stage'.outside.files ≡ stage.outside.files
+  pub unused : stage'.outside.link ≡ stage.outside.link
+  pub leaves : LeavesDevices stage stage'
+  pub reports : Reports end [] stage.outside.sink stage'.outside.sink

@@ -9,17 +9,16 @@ use Rattle.srv_workers.specs.declared.outcome.Outcome.{Outcome}
 use Rattle.srv_workers.specs.Runs.{RanTogether}
 use Rattle.srv_run.specs.declared.end.End.{End}
 use Rattle.srv_run.specs.Closing.{EndsServing, first_end}
-use Rattle.srv_run.specs.Devices.{AreAll, kept_for, OpensDevices, StopsAt}
+use Rattle.srv_run.specs.Devices.{AreAllOpened, kept_for, OpensDevices, StopsAt}
 use Rattle.srv_run.specs.Once.{EndsOpening, Opens}
-use Rattle.srv_run.specs.Report.{line_of, Reports}
-use Rattle.srv_run.specs.Stage.{Shows, Stage}
+use Rattle.srv_run.specs.Report.{Reports}
+use Rattle.srv_run.specs.Stage.{LeavesDevices, Shows, Stage}
 
--- The run ended at the file of its prototype: nothing was opened.
+-- The run ended at the file of its prototype, so with status 3, 4, 5 or 10: nothing was opened.
 pub record EndsUnopened {D I C : Type 0} (serving : Serving) (stage stage' : Stage D I C) (end : End) : Type 0 where
   pub ends : EndsOpening serving.site serving.proto stage.outside.files stage'.outside.files end
-  pub opener_is : stage'.opener ≡ stage.opener
-  pub devices_are : stage'.devices ≡ stage.devices
-  pub reports : Reports (line_of end serving.proto) stage.outside.sink stage'.outside.sink
+  pub leaves : LeavesDevices stage stage'
+  pub reports : Reports end serving.proto stage.outside.sink stage'.outside.sink
 
 -- Devices were opened, but not all, or memory ran out before a worker ran: they are as they were opened.
 pub record HasStopped {D I C L : Type 0} (show : Shows D I C L) (serving : Serving) (opener opener' : OpenerShown D I C)
@@ -32,16 +31,16 @@ pub record HasRun {D I C L : Type 0} (show : Shows D I C L) (serving : Serving) 
     (opener opener' : OpenerShown D I C) (left : Devices D I C) (outcome : Outcome) : Type 0 where
   pub devices : Devices D I C
   pub opens : OpensDevices show serving opener.held opener'.held devices
-  pub all : AreAll serving devices opener.faults opener'.faults
+  pub all : AreAllOpened serving devices opener.faults opener'.faults
   pub ran : RanTogether show.door show.link show.inbox show.clock proto (kept_for serving.keep) devices left outcome
 
--- Devices were opened, but no worker ran, and a line was written.
+-- Devices were opened, but no worker ran: so the status is 4, 6 or 8.
 pub record EndsUnserved {D I C L : Type 0} (show : Shows D I C L) (serving : Serving)
     (stage stage' : Stage D I C) (end : End) : Type 0 where
   pub stopped : HasStopped show serving stage.opener stage'.opener stage'.devices end
-  pub reports : Reports (line_of end []) stage.outside.sink stage'.outside.sink
+  pub reports : Reports end [] stage.outside.sink stage'.outside.sink
 
--- Workers ran over all devices, and a line was written.
+-- Workers ran over all devices, and a line was written: the status is 0, 4, 6, 7 or 8.
 pub record HasServed {D I C L : Type 0} (show : Shows D I C L) (serving : Serving) (proto : Proto)
     (stage stage' : Stage D I C) (end : End) : Type 0 where
   pub outcome : Outcome

@@ -1,5 +1,5 @@
 -- All that a run of `serve` works with: the outside of the run, and the devices that it opens.
-use Rattle.std.specs.Prelude.{Option}
+use Rattle.std.specs.Prelude.{◌≡◌, Option}
 use Rattle.dev_traits.specs.Shown.{FilesShown, LinkShown, SinkShown}
 use Rattle.dev_traits.specs.declared.world.World.{World}
 use Rattle.dev_traits.specs.Clock.{Moments}
@@ -34,3 +34,8 @@ stage_of opener files link sink world = record {
   opener = opener world.opener;
   devices = record { doors = world.doors; inboxes = world.inboxes; clocks = world.clocks };
 }
+
+-- The opener and the devices are as before.
+pub record LeavesDevices {D I C : Type 0} (stage stage' : Stage D I C) : Type 0 where
+  pub opener_is : stage'.opener ≡ stage.opener
+  pub devices_are : stage'.devices ≡ stage.devices

@@ -18,13 +18,13 @@ use Rattle.srv_run.specs.declared.end.End.TheVariants.{Done, NoMemory, LinkFault
 use Rattle.srv_run.specs.Publishing.{EndsPut, expired, Puts, retracted}
 
 -- a connection and its collection: the link as it shows, the operations published and looked at, and the session
-pub record Line : Type 0 where
+pub record Connection : Type 0 where
   pub link : LinkShown
   pub history : History
   pub session : State
 
-abbrev pub line : History → State → LinkShown → Line
-line history session link = record { link = link; history = history; session = session }
+abbrev pub connection : History → State → LinkShown → Connection
+connection history session link = record { link = link; history = history; session = session }
 
 -- A session has ended.
 abbrev pub HasEnded : State → Type 0
@@ -35,11 +35,12 @@ abbrev pub RestsUnlessEnded : State → Type 0
 RestsUnlessEnded session = IsAtRest session ⊎ HasEnded session
 
 -- a connection as a call that serves the link sees it
-abbrev pub seen_as : Line → List Mark → Moment
+abbrev pub seen_as : Connection → List Mark → Moment
 seen_as at trail = moment_of at.link at.history.seen at.history.looks at.session trail
 
--- The link was served, by looks at the collection as it is.
-pub record Asks (count : ℕ) (before after : Line) (stop : Stop) (trail : List Mark) : Type 0 where
+-- A link that had not ended was served, by looks at the collection as it is.
+pub record Asks (count : ℕ) (before after : Connection) (stop : Stop) (trail : List Mark) : Type 0 where
+  pub rests : IsAtRest before.session
   pub serves : Serves before.history.proto true (seen_as before []) (seen_as after trail) count stop
   pub proto_is : after.history.proto ≡ before.history.proto
 
@@ -50,7 +51,7 @@ end_of_stop (stops.Ended ends.NoMemory) = NoMemory
 end_of_stop stop = InputEnded
 
 -- The replies that were asked for were written whole; the link goes on, or it ended after the last of them.
-pub record AnswersAsk (count : ℕ) (before after : Line) : Type 0 where
+pub record AnswersAsk (count : ℕ) (before after : Connection) : Type 0 where
   pub stop : Stop
   pub trail : List Mark
   pub asks : Asks count before after stop trail
@@ -58,7 +59,7 @@ pub record AnswersAsk (count : ℕ) (before after : Line) : Type 0 where
   pub calm : end_of_stop stop ≡ InputEnded
 
 -- The link ended before the replies that were asked for were written whole.
-pub record StopsShort (count : ℕ) (before after : Line) (end : End) : Type 0 where
+pub record StopsShort (count : ℕ) (before after : Connection) (end : End) : Type 0 where
   pub stop : Stop
   pub trail : List Mark
   pub asks : Asks count before after stop trail
@@ -66,29 +67,29 @@ pub record StopsShort (count : ℕ) (before after : Line) (end : End) : Type 0 w
   pub short : end ≡ InputEnded → length trail < count
 
 -- The link had ended before.
-pub record IsOver (before after : Line) (end : End) : Type 0 where
+pub record HasEndedBefore (before after : Connection) (end : End) : Type 0 where
   pub ended : HasEnded before.session
   pub same : after ≡ before
   pub end_is : end ≡ InputEnded
 
 -- The replies that were asked for weren't written.
-abbrev pub EndsAsk : ℕ → Line → Line → End → Type 0
-EndsAsk count before after end = StopsShort count before after end ⊎ IsOver before after end
+abbrev pub EndsAsk : ℕ → Connection → Connection → End → Type 0
+EndsAsk count before after end = StopsShort count before after end ⊎ HasEndedBefore before after end
 
 -- where a run of `once` stands: what the files show, and the connection
 pub record Progress : Type 0 where
   pub files : FilesShown
-  pub at : Line
+  pub at : Connection
 
 abbrev pub progress : FilesShown → History → State → LinkShown → Progress
-progress files history session link = record { files = files; at = line history session link }
+progress files history session link = record { files = files; at = connection history session link }
 
 -- the same but for what was published and looked at
 abbrev pub with_history : Progress → History → Progress
 with_history at history = progress at.files history at.at.session at.at.link
 
 -- The link and the session are as they were.
-pub record LeavesLink (before after : Line) : Type 0 where
+pub record LeavesLink (before after : Connection) : Type 0 where
   pub link_is : after.link ≡ before.link
   pub session_is : after.session ≡ before.session
 
@@ -116,8 +117,8 @@ path_of (Retract name) = []
 path_of (Ask count) = []
 
 -- The steps are done in their order up to the first that isn't, which ends the run.
-unfoldable pub Does : List Step → Progress → Progress → End → List ℕ → Type 0
-Does [] before after end path = (after ≡ before) × (end ≡ Done) × (path ≡ [])
-Does (step ∷ steps) before after end path =
-    ((next : Progress) × IsDone step before next × Does steps next after end path)
+unfoldable pub DoesSteps : List Step → Progress → Progress → End → List ℕ → Type 0
+DoesSteps [] before after end path = (after ≡ before) × (end ≡ Done) × (path ≡ [])
+DoesSteps (step ∷ steps) before after end path =
+    ((next : Progress) × IsDone step before next × DoesSteps steps next after end path)
     ⊎ (EndsAt step before after end × (path ≡ path_of step))

@@ -47,7 +47,7 @@ AreThere input before (Ask count ∷ steps) = HasRequests input before count × 
 
 -- the file of the prototype is there and is one, the files of the steps are there and are taken, and the requests that
 -- the steps ask for are there
-pub record IsWellFormed (site : Site) (path : List ℕ) (steps : List Step) (held : List ℕ → Option (List ℕ))
+pub record IsWellFormedRun (site : Site) (path : List ℕ) (steps : List Step) (held : List ℕ → Option (List ℕ))
     (input : List ℕ) : Type 0 where
   pub proto : Proto
   pub proto_is : (file_or_end (held path) >>= proto_or_end site) ≡ Ok proto
@@ -64,6 +64,6 @@ pub record IsWellUsed (site : Site) (path : List ℕ) (steps : List Step) (world
   pub held_is : world.files.held ≡ Some held
   pub wire : Wire
   pub wire_is : world.link.held ≡ Some wire
-  pub well_formed : IsWellFormed site path steps held wire.left
+  pub well_formed : IsWellFormedRun site path steps held wire.left
   pub files : HasNotFailed world.files world'.files
   pub link : HasNotFailed world.link world'.link

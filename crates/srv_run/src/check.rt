@@ -80,7 +80,7 @@ pub(crate) fn check<F: Files, S: Sink>(
     let header = match check_file(alloc, files, path) {
         Ok(header) => header,
         Err(end) => {
-            let _written = report(sink, end, path);
+            report(sink, end, path);
             return end;
         }
     };

@@ -1,7 +1,8 @@
 //! The end of a run of `serve` by its workers' reports, and its line.
-ghost use Rattle.std.specs.Prelude.{◌≡◌, ◌<◌, ◌^◌, ◌++◌, length, sum_by};
+ghost use Rattle.std.specs.Prelude.{◌≡◌, ◌<◌, ◌^◌, ◌++◌, ℕ, Option as Optional, length, sum_by};
 ghost use Rattle.srv_workers.specs.Runs.{told_of};
 ghost use Rattle.dev_traits.specs.Cause.{HasCause};
+ghost use Rattle.srv_run.specs.declared.end.End.{End as EndOf};
 ghost use Rattle.srv_run.specs.Closing as spec;
 ghost use Rattle.srv_run.specs.Report.{Appends};
 
@@ -21,64 +22,54 @@ fn short_end(short: u64) -> Option<End>
     if short > 0 { Some(End::NoMemory) } else { None }
 }
 
-// The end of a run at the door of this number.
-fn door_end(number: u32, report: DoorReport) -> Option<End>
-    ensures { result ≡ spec.door_end number report }
-{
-    match report.end {
-        DoorEnd::DoorFault => Some(End::DoorFault(number)),
-        DoorEnd::Closed => short_end(report.short),
-    }
+// A worker's report, at which a run may end.
+trait Reported {
+    ghost ends: { ℕ → Self → Optional EndOf };
+
+    // The end of a run at the device of this number.
+    fn end_at(&self, number: u32) -> Option<End>
+        ensures { result ≡ ends number self.now };
 }
 
-// The end of a run at the inbox of this number.
-fn inbox_end(number: u32, report: IngestReport) -> Option<End>
-    ensures { result ≡ spec.inbox_end number report }
-{
-    match report.end {
-        IngestEnd::InboxFault => Some(End::InboxFault(number)),
-        IngestEnd::NoMemory => Some(End::NoMemory),
-        IngestEnd::Done => short_end(report.short),
-    }
-}
+impl Reported for DoorReport {
+    ghost ends = { spec.door_end };
 
-// The first end at the doors.
-#[tactic(auto, using(crate::proofs::ClosingLemmas::ends))]
-fn first_at_doors(reports: &[DoorReport]) -> Option<End>
-    requires { length reports.now < 2 ^ 32 }
-    ensures { result ≡ spec.first_from spec.door_end 0 reports.now }
-{
-    for number in 0..reports.len() {
-        let end = door_end(number as u32, reports[number]);
-        if end.is_some() {
-            return end;
+    fn end_at(&self, number: u32) -> Option<End> {
+        match self.end {
+            DoorEnd::DoorFault => Some(End::DoorFault(number)),
+            DoorEnd::Closed => short_end(self.short),
         }
     }
-    None
 }
 
-// The first end at the inboxes.
-#[tactic(auto, using(crate::proofs::ClosingLemmas::ends))]
-fn first_at_inboxes(reports: &[IngestReport]) -> Option<End>
-    requires { length reports.now < 2 ^ 32 }
-    ensures { result ≡ spec.first_from spec.inbox_end 0 reports.now }
-{
-    for number in 0..reports.len() {
-        let end = inbox_end(number as u32, reports[number]);
-        if end.is_some() {
-            return end;
+impl Reported for IngestReport {
+    ghost ends = { spec.inbox_end };
+
+    fn end_at(&self, number: u32) -> Option<End> {
+        match self.end {
+            IngestEnd::InboxFault => Some(End::InboxFault(number)),
+            IngestEnd::NoMemory => Some(End::NoMemory),
+            IngestEnd::Done => short_end(self.short),
         }
     }
-    None
 }
 
-// The first end at the clocks.
+impl Reported for ExpireReport {
+    ghost ends = { spec.clock_end };
+
+    fn end_at(&self, _number: u32) -> Option<End> {
+        short_end(self.short)
+    }
+}
+
+// The first end at devices of a kind.
 #[tactic(auto, using(crate::proofs::ClosingLemmas::ends))]
-fn first_at_clocks(reports: &[ExpireReport]) -> Option<End>
-    ensures { result ≡ spec.first_from spec.clock_end 0 reports.now }
+fn first_at<R: Reported>(reports: &[R]) -> Option<End>
+    requires { length reports.now < 2 ^ 32 }
+    ensures { result ≡ spec.first_from R.ends 0 reports.now }
 {
     for number in 0..reports.len() {
-        let end = short_end(reports[number].short);
+        let end = reports[number].end_at(number as u32);
         if end.is_some() {
             return end;
         }
@@ -90,37 +81,29 @@ fn first_at_clocks(reports: &[ExpireReport]) -> Option<End>
 fn first_end(outcome: &Outcome) -> Option<End>
     requires doors { length outcome.now.doors < 2 ^ 32 }
     requires inboxes { length outcome.now.inboxes < 2 ^ 32 }
+    requires clocks { length outcome.now.clocks < 2 ^ 32 }
     ensures { result ≡ spec.first_end outcome.now }
 {
-    first_at_doors(outcome.doors.as_slice())
-        .or(first_at_inboxes(outcome.inboxes.as_slice()))
-        .or(first_at_clocks(outcome.clocks.as_slice()))
+    first_at(outcome.doors.as_slice())
+        .or(first_at(outcome.inboxes.as_slice()))
+        .or(first_at(outcome.clocks.as_slice()))
 }
 
-// The sum of a count over reports.
+// How many files came, and how many were taken back.
 #[tactic(auto, using(crate::proofs::ClosingLemmas::sums))]
-fn published(reports: &[IngestReport]) -> u64
-    requires { sum_by (λ (report : _). report.published) reports.now < 2 ^ 64 }
-    ensures { result ≡ sum_by (λ (report : _). report.published) reports.now }
+fn taken_in(reports: &[IngestReport]) -> (u64, u64)
+    requires published { sum_by (λ (report : _). report.published) reports.now < 2 ^ 64 }
+    requires retracted { sum_by (λ (report : _). report.retracted) reports.now < 2 ^ 64 }
+    ensures published { result.0 ≡ sum_by (λ (report : _). report.published) reports.now }
+    ensures retracted { result.1 ≡ sum_by (λ (report : _). report.retracted) reports.now }
 {
-    let mut sum = 0;
+    let mut published = 0;
+    let mut retracted = 0;
     for number in 0..reports.len() {
-        sum += reports[number].published;
+        published += reports[number].published;
+        retracted += reports[number].retracted;
     }
-    sum
-}
-
-// The number of files that were taken back.
-#[tactic(auto, using(crate::proofs::ClosingLemmas::sums))]
-fn retracted(reports: &[IngestReport]) -> u64
-    requires { sum_by (λ (report : _). report.retracted) reports.now < 2 ^ 64 }
-    ensures { result ≡ sum_by (λ (report : _). report.retracted) reports.now }
-{
-    let mut sum = 0;
-    for number in 0..reports.len() {
-        sum += reports[number].retracted;
-    }
-    sum
+    (published, retracted)
 }
 
 // The number of times that runs went.
@@ -212,9 +195,7 @@ fn put_served<S: Sink>(sink: &mut S, outcome: &Outcome) -> Result<(), Failed>
     ensures put { Appends (spec.serve_line outcome.now) (S.shown sink.old).held (S.shown sink.new).held result }
     ensures cause { HasCause (S.shown sink.old).faults (S.shown sink.new).faults result }
 {
-    let inboxes = outcome.inboxes.as_slice();
-    let published = published(inboxes);
-    let retracted = retracted(inboxes);
+    let (published, retracted) = taken_in(outcome.inboxes.as_slice());
     let expired = expired(outcome.clocks.as_slice());
     put_counts(
         sink,
@@ -230,11 +211,12 @@ fn put_served<S: Sink>(sink: &mut S, outcome: &Outcome) -> Result<(), Failed>
 pub(crate) fn close<S: Sink>(sink: &mut S, outcome: &Outcome) -> End
     requires doors { length outcome.now.doors < 2 ^ 32 }
     requires inboxes { length outcome.now.inboxes < 2 ^ 32 }
+    requires clocks { length outcome.now.clocks < 2 ^ 32 }
     requires told { told_of outcome.now < 2 ^ 64 }
     ensures { spec.EndsServing outcome.now (spec.first_end outcome.now) result (S.shown sink.old) (S.shown sink.new) }
 {
     if let Some(end) = first_end(outcome) {
-        let _written = report(sink, end, b"");
+        report(sink, end, b"");
         return end;
     }
     match put_served(sink, outcome) {

@@ -1,10 +1,11 @@
 //! Jobs: the work that the words ask for.
 ghost use Rattle.std.specs.Prelude.{◌≡◌, ◌<◌, ◌≤◌, [], IfOk, Option, Some};
 ghost use Rattle.dev_traits.specs.World.{world_shown};
+ghost use Rattle.srv_words.specs.declared.job.Command.TheVariants as commands;
 ghost use Rattle.srv_words.specs.declared.job.Job.{Job as Work};
-ghost use Rattle.srv_words.specs.Jobs.{IsJob, job_of};
+ghost use Rattle.srv_words.specs.Jobs.{IsJob, command_of, job_of};
 ghost use Rattle.srv_run.specs.Run as spec;
-ghost use Rattle.srv_run.specs.Stage.{shows, stage_of};
+ghost use Rattle.srv_run.specs.Stage.{LeavesDevices, shows, stage_of};
 
 use crate::check::check;
 use crate::end::End;
@@ -14,7 +15,7 @@ use crate::report::say;
 use crate::serve::serve;
 use dev_traits::{Door, Files, Gate, Link, Opener, Sink, World};
 use fm_base::{Bytes, Fail, List};
-use srv_words::{Job, read_job};
+use srv_words::{Command, Job, read_job};
 use std::alloc::Global;
 use std::marker::{Send, Sync};
 use std::sync::Wait;
@@ -26,8 +27,10 @@ fn check_path<O: Opener, F: Files, L: Link, S: Sink, G: Gate>(
     path: &[u8],
     world: &mut World<O, F, L, S, G>,
 ) -> End
-    ensures { let shown = world_shown F.shown L.shown S.shown in
+    ensures runs { let shown = world_shown F.shown L.shown S.shown in
         spec.RunsCheck path.now result (shown world.old) (shown world.new) }
+    ensures leaves { let stage = stage_of O.shown F.shown L.shown S.shown in
+        LeavesDevices (stage world.old) (stage world.new) }
 {
     check(alloc, &mut world.files, &mut world.sink, path)
 }
@@ -41,8 +44,10 @@ fn load_files<O: Opener, F: Files, L: Link, S: Sink, G: Gate>(
 ) -> End
     requires some { 0 < files }
     requires few { files ≤ 400 }
-    ensures { let shown = world_shown F.shown L.shown S.shown in
+    ensures runs { let shown = world_shown F.shown L.shown S.shown in
         spec.RunsLoad seed files result (shown world.old) (shown world.new) }
+    ensures leaves { let stage = stage_of O.shown F.shown L.shown S.shown in
+        LeavesDevices (stage world.old) (stage world.new) }
 {
     load(alloc, &mut world.sink, seed, files)
 }
@@ -104,55 +109,32 @@ pub(crate) fn job_or_end(alloc: Global, words: &List<Bytes>) -> Result<Job, End>
     }
 }
 
-// The same, where it is `once`.
-pub(crate) fn once_or_end(alloc: Global, words: &List<Bytes>) -> Result<Job, End>
-    ensures job { spec.IsJobOrEnd (spec.once_alone (job_of words.now)) result }
-    ensures sound { IfOk result IsJob }
-    ensures alone { IfOk result spec.IsAlone }
+// Whether a job is of a command.
+fn is_of(job: &Job, command: Command) -> bool
+    ensures { result ≡ spec.is_same command (command_of job.now) }
 {
-    let job = job_or_end(alloc, words)?;
-    if matches!(&job, Job::Once { .. }) {
-        Ok(job)
-    } else {
-        Err(End::BadWords)
-    }
+    matches!(
+        (command, job.command()),
+        (Command::Once, Command::Once)
+            | (Command::Check, Command::Check)
+            | (Command::Load, Command::Load)
+            | (Command::Serve, Command::Serve)
+    )
 }
 
-// The same, where it is `check`.
-pub(crate) fn check_or_end(alloc: Global, words: &List<Bytes>) -> Result<Job, End>
-    ensures job { spec.IsJobOrEnd (spec.check_alone (job_of words.now)) result }
+// The job of the words where it is of this command, or the end of a run without one.
+#[tactic(auto, using(crate::proofs::JobLemmas::jobs))]
+pub(crate) fn command_or_end(
+    alloc: Global,
+    words: &List<Bytes>,
+    command: Command,
+) -> Result<Job, End>
+    ensures job { spec.IsJobOrEnd (spec.only command (job_of words.now)) result }
     ensures sound { IfOk result IsJob }
-    ensures alone { IfOk result spec.IsAlone }
+    ensures alone { (command ≡ commands.Serve → ⊥) → IfOk result spec.IsAlone }
 {
     let job = job_or_end(alloc, words)?;
-    if matches!(&job, Job::Check { .. }) {
-        Ok(job)
-    } else {
-        Err(End::BadWords)
-    }
-}
-
-// The same, where it is `load`.
-pub(crate) fn load_or_end(alloc: Global, words: &List<Bytes>) -> Result<Job, End>
-    ensures job { spec.IsJobOrEnd (spec.load_alone (job_of words.now)) result }
-    ensures sound { IfOk result IsJob }
-    ensures alone { IfOk result spec.IsAlone }
-{
-    let job = job_or_end(alloc, words)?;
-    if matches!(&job, Job::Load { .. }) {
-        Ok(job)
-    } else {
-        Err(End::BadWords)
-    }
-}
-
-// The same, where it is `serve`.
-pub(crate) fn serve_or_end(alloc: Global, words: &List<Bytes>) -> Result<Job, End>
-    ensures job { spec.IsJobOrEnd (spec.serve_alone (job_of words.now)) result }
-    ensures sound { IfOk result IsJob }
-{
-    let job = job_or_end(alloc, words)?;
-    if matches!(&job, Job::Serve(_)) {
+    if is_of(&job, command) {
         Ok(job)
     } else {
         Err(End::BadWords)

@@ -72,7 +72,7 @@ pub(crate) fn load<S: Sink>(alloc: Global, sink: &mut S, seed: u32, files: u32) 
     ensures { spec.EndsLoad seed files result (S.shown sink.old) (S.shown sink.new) }
 {
     let Ok(line) = line_of_made(alloc, seed, files) else {
-        let _written = report(sink, End::NoMemory, b"");
+        report(sink, End::NoMemory, b"");
         return End::NoMemory;
     };
     match sink.put(line.as_slice()) {

@@ -4,7 +4,8 @@ ghost use Rattle.fm_model.specs.Site.{IsPrototype, IsSite};
 ghost use Rattle.dev_traits.specs.World.{world_shown};
 ghost use Rattle.web_session.specs.State.{fresh};
 ghost use Rattle.srv_run.specs.Once as spec;
-ghost use Rattle.srv_run.specs.Steps.{Does, path_of, progress, RestsUnlessEnded};
+ghost use Rattle.srv_run.specs.Stage.{LeavesDevices, stage_of};
+ghost use Rattle.srv_run.specs.Steps.{DoesSteps, path_of, progress, RestsUnlessEnded};
 
 use crate::end::End;
 use crate::reading::{content_of, proto_of};
@@ -65,6 +66,7 @@ fn step_path(step: &Step) -> &[u8]
 }
 
 // Does the steps in their order up to the first that isn't done, and returns how that ends and the path of its file.
+#[tactic(auto, using(crate::proofs::StepLemmas::steps))]
 fn do_steps<'a, F: Files, L: Link>(
     alloc: Global,
     service: &mut Service,
@@ -73,7 +75,7 @@ fn do_steps<'a, F: Files, L: Link>(
     link: &mut L,
 ) -> (End, &'a [u8])
     requires { RestsUnlessEnded service.old.session }
-    ensures { Does steps.entry.now
+    ensures { DoesSteps steps.entry.now
         (progress (F.shown files.old) service.old.plain service.old.session (L.shown link.old))
         (progress (F.shown files.new) service.new.plain service.new.session (L.shown link.new))
         result.0 result.1.now }
@@ -112,7 +114,7 @@ fn run_steps<'a, F: Files, L: Link>(
     do_steps(alloc, &mut service, steps, files, link)
 }
 
-// Runs `once`, and writes the line of how it ended.
+// Runs `once`, and reports how it ended.
 pub(crate) fn once<O: Opener, F: Files, L: Link, S: Sink, G: Gate>(
     alloc: Global,
     site: Site,
@@ -121,10 +123,12 @@ pub(crate) fn once<O: Opener, F: Files, L: Link, S: Sink, G: Gate>(
     world: &mut World<O, F, L, S, G>,
 ) -> End
     requires { IsSite site }
-    ensures { let shown = world_shown F.shown L.shown S.shown in
+    ensures runs { let shown = world_shown F.shown L.shown S.shown in
         spec.RunsOnce site path.now steps.now result (shown world.old) (shown world.new) }
+    ensures leaves { let stage = stage_of O.shown F.shown L.shown S.shown in
+        LeavesDevices (stage world.old) (stage world.new) }
 {
     let (end, at) = run_steps(alloc, site, path, steps, &mut world.files, &mut world.link);
-    let _written = report(&mut world.sink, end, at);
+    report(&mut world.sink, end, at);
     end
 }

@@ -106,7 +106,7 @@ pub(crate) fn open_devices<O: Opener>(
     ensures opens { devices.OpensDevices (shows O.D.shown O.D.L.shown O.I.shown O.C.shown) serving.now
         (O.shown opener.old).held (O.shown opener.new).held opened.new }
     ensures all { OnOk result
-        (devices.AreAll serving.now opened.new (O.shown opener.old).faults (O.shown opener.new).faults) }
+        (devices.AreAllOpened serving.now opened.new (O.shown opener.old).faults (O.shown opener.new).faults) }
     ensures stops { IfErr result
         (devices.StopsAt serving.now opened.new (O.shown opener.old).faults (O.shown opener.new).faults) }
 {

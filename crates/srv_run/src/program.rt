@@ -1,22 +1,37 @@
 //! The top call of the program, and a call for each of its commands.
 ghost use Rattle.std.specs.Prelude.{◌≡◌};
 ghost use Rattle.std.specs.Process.{exit_status};
+ghost use Rattle.srv_words.specs.declared.job.Command.TheVariants as commands;
 ghost use Rattle.srv_words.specs.Jobs.{job_of};
 ghost use Rattle.srv_run.specs.Run as spec;
 ghost use Rattle.srv_run.specs.Stage.{shows, stage_of};
 
 use crate::end::End;
-use crate::job::{
-    check_or_end, do_found, do_found_alone, job_or_end, load_or_end, once_or_end, serve_or_end,
-};
+use crate::job::{command_or_end, do_found, do_found_alone, job_or_end};
 use dev_traits::{Door, Files, Gate, Link, Opener, Sink, World};
 use fm_base::{Bytes, List};
-use srv_words::usage_of;
+use srv_words::{Command, usage_of};
 use std::alloc::Global;
 use std::marker::{Send, Sync};
 use std::process::ExitCode;
 use std::sync::Wait;
 use std::thread::Threads;
+
+// Runs a command that waits for nobody but the devices.
+fn run_alone<O: Opener, F: Files, L: Link, S: Sink, G: Gate>(
+    alloc: Global,
+    words: &List<Bytes>,
+    command: Command,
+    world: &mut World<O, F, L, S, G>,
+) -> u8
+    requires { command ≡ commands.Serve → ⊥ }
+    ensures { let stage = stage_of O.shown F.shown L.shown S.shown in
+        spec.Ends (shows O.D.shown O.D.L.shown O.I.shown O.C.shown)
+        (spec.only command (job_of words.now)) result (stage world.old) (stage world.new) }
+{
+    let found = command_or_end(alloc, words, command);
+    do_found_alone(alloc, found, world)
+}
 
 /// Runs `once --name NAME --proto PROTO [--epoch INSTANT] [--mark MARK] STEP..`: reads the prototype PROTO, and does
 /// the steps in their order on an empty collection over it and one connection over the link. Returns the status of
@@ -41,21 +56,16 @@ use std::thread::Threads;
 /// | 11 | `input ended` | exactly where the link ended before an `ask` had its replies |
 ///
 /// The first step that isn't done ends the run. A line that can't be written changes no status.
-#[tactic(auto, using(crate::proofs::BlameLemmas::runs))]
 pub fn run_once<O: Opener, F: Files, L: Link, S: Sink, G: Gate>(
     alloc: Global,
     words: &List<Bytes>,
     world: &mut World<O, F, L, S, G>,
 ) -> u8
-    ensures runs { let stage = stage_of O.shown F.shown L.shown S.shown in
-        spec.Runs (shows O.D.shown O.D.L.shown O.I.shown O.C.shown)
-        (spec.once_alone (job_of words.now)) result (stage world.old) (stage world.new) }
-    ensures blames { let stage = stage_of O.shown F.shown L.shown S.shown in
-        spec.Blames (shows O.D.shown O.D.L.shown O.I.shown O.C.shown)
-        (spec.once_alone (job_of words.now)) result (stage world.old) (stage world.new) }
+    ensures { let stage = stage_of O.shown F.shown L.shown S.shown in
+        spec.Ends (shows O.D.shown O.D.L.shown O.I.shown O.C.shown)
+        (spec.only commands.Once (job_of words.now)) result (stage world.old) (stage world.new) }
 {
-    let found = once_or_end(alloc, words);
-    do_found_alone(alloc, found, world)
+    run_alone(alloc, words, Command::Once, world)
 }
 
 /// Runs `check FILE`: reads the header of a file in the netCDF classic format and sees that all its data lies in the
@@ -72,21 +82,16 @@ pub fn run_once<O: Opener, F: Files, L: Link, S: Sink, G: Gate>(
 /// | 10 | `no file FILE`, `too long FILE LEN` | exactly where the path has no file, or one of over 536,870,912 bytes |
 ///
 /// A line of another status that can't be written changes no status. The link isn't used.
-#[tactic(auto, using(crate::proofs::BlameLemmas::runs))]
 pub fn run_check<O: Opener, F: Files, L: Link, S: Sink, G: Gate>(
     alloc: Global,
     words: &List<Bytes>,
     world: &mut World<O, F, L, S, G>,
 ) -> u8
-    ensures runs { let stage = stage_of O.shown F.shown L.shown S.shown in
-        spec.Runs (shows O.D.shown O.D.L.shown O.I.shown O.C.shown)
-        (spec.check_alone (job_of words.now)) result (stage world.old) (stage world.new) }
-    ensures blames { let stage = stage_of O.shown F.shown L.shown S.shown in
-        spec.Blames (shows O.D.shown O.D.L.shown O.I.shown O.C.shown)
-        (spec.check_alone (job_of words.now)) result (stage world.old) (stage world.new) }
+    ensures { let stage = stage_of O.shown F.shown L.shown S.shown in
+        spec.Ends (shows O.D.shown O.D.L.shown O.I.shown O.C.shown)
+        (spec.only commands.Check (job_of words.now)) result (stage world.old) (stage world.new) }
 {
-    let found = check_or_end(alloc, words);
-    do_found_alone(alloc, found, world)
+    run_alone(alloc, words, Command::Check, world)
 }
 
 /// Runs `load SEED FILES`: makes the first FILES files of a seed, puts them one after the other in a collection whose
@@ -103,21 +108,16 @@ pub fn run_check<O: Opener, F: Files, L: Link, S: Sink, G: Gate>(
 /// the dataset of the first run, of the offset 0, and of the forecast at the last run; S is the sum of the bytes of
 /// their data modulo 2^32. A line of another status that can't be written changes no status. No file is read, nor is
 /// the link used.
-#[tactic(auto, using(crate::proofs::BlameLemmas::runs))]
 pub fn run_load<O: Opener, F: Files, L: Link, S: Sink, G: Gate>(
     alloc: Global,
     words: &List<Bytes>,
     world: &mut World<O, F, L, S, G>,
 ) -> u8
-    ensures runs { let stage = stage_of O.shown F.shown L.shown S.shown in
-        spec.Runs (shows O.D.shown O.D.L.shown O.I.shown O.C.shown)
-        (spec.load_alone (job_of words.now)) result (stage world.old) (stage world.new) }
-    ensures blames { let stage = stage_of O.shown F.shown L.shown S.shown in
-        spec.Blames (shows O.D.shown O.D.L.shown O.I.shown O.C.shown)
-        (spec.load_alone (job_of words.now)) result (stage world.old) (stage world.new) }
+    ensures { let stage = stage_of O.shown F.shown L.shown S.shown in
+        spec.Ends (shows O.D.shown O.D.L.shown O.I.shown O.C.shown)
+        (spec.only commands.Load (job_of words.now)) result (stage world.old) (stage world.new) }
 {
-    let found = load_or_end(alloc, words);
-    do_found_alone(alloc, found, world)
+    run_alone(alloc, words, Command::Load, world)
 }
 
 /// Runs `serve --name NAME --proto PROTO --listen ADDRESS [--workers K] [--connections C] [--keep SECONDS] [--ticks
@@ -143,7 +143,6 @@ pub fn run_load<O: Opener, F: Files, L: Link, S: Sink, G: Gate>(
 /// and times that the collection holds at the end, and V the operations that were published, P + T + E of them. The
 /// first worker that didn't end well gives the status: doors come before inboxes, and these before the clock. A line
 /// of another status that can't be written changes no status. The devices stand in the world as they were left.
-#[tactic(auto, using(crate::proofs::BlameLemmas::runs))]
 pub fn run_serve<R: Threads + Wait + Sync, O: Opener, F: Files, L: Link, S: Sink, G: Gate + Sync>(
     rt: &R,
     alloc: Global,
@@ -155,20 +154,16 @@ where
     O::I: Send,
     O::C: Send,
     <O::D as Door>::L: Send,
-    ensures runs { let stage = stage_of O.shown F.shown L.shown S.shown in
-        spec.Runs (shows O.D.shown O.D.L.shown O.I.shown O.C.shown)
-        (spec.serve_alone (job_of words.now)) result (stage world.old) (stage world.new) }
-    ensures blames { let stage = stage_of O.shown F.shown L.shown S.shown in
-        spec.Blames (shows O.D.shown O.D.L.shown O.I.shown O.C.shown)
-        (spec.serve_alone (job_of words.now)) result (stage world.old) (stage world.new) }
+    ensures { let stage = stage_of O.shown F.shown L.shown S.shown in
+        spec.Ends (shows O.D.shown O.D.L.shown O.I.shown O.C.shown)
+        (spec.only commands.Serve (job_of words.now)) result (stage world.old) (stage world.new) }
 {
-    let found = serve_or_end(alloc, words);
+    let found = command_or_end(alloc, words, Command::Serve);
     do_found(rt, alloc, found, world)
 }
 
 /// Does what the words ask for, without the program's own name, reports how it ended, and returns the status of the
 /// program: as the call of the command that the words name, whose other calls have the same answers for bad words.
-#[tactic(auto, using(crate::proofs::BlameLemmas::runs))]
 pub fn run<R: Threads + Wait + Sync, O: Opener, F: Files, L: Link, S: Sink, G: Gate + Sync>(
     rt: &R,
     alloc: Global,
@@ -180,11 +175,8 @@ where
     O::I: Send,
     O::C: Send,
     <O::D as Door>::L: Send,
-    ensures runs { let stage = stage_of O.shown F.shown L.shown S.shown in
-        spec.Runs (shows O.D.shown O.D.L.shown O.I.shown O.C.shown)
-        (job_of words.now) result (stage world.old) (stage world.new) }
-    ensures blames { let stage = stage_of O.shown F.shown L.shown S.shown in
-        spec.Blames (shows O.D.shown O.D.L.shown O.I.shown O.C.shown)
+    ensures { let stage = stage_of O.shown F.shown L.shown S.shown in
+        spec.Ends (shows O.D.shown O.D.L.shown O.I.shown O.C.shown)
         (job_of words.now) result (stage world.old) (stage world.new) }
 {
     let found = job_or_end(alloc, words);
@@ -215,7 +207,7 @@ where
     O::C: Send,
     <O::D as Door>::L: Send,
     ensures { let stage = stage_of O.shown F.shown L.shown S.shown in
-        spec.Runs (shows O.D.shown O.D.L.shown O.I.shown O.C.shown)
+        spec.Ends (shows O.D.shown O.D.L.shown O.I.shown O.C.shown)
         (job_of words.now) (exit_status result.0) (stage world.old) (stage world.new) }
 {
     let status = run(rt, alloc, words, world);

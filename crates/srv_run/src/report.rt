@@ -1,10 +1,10 @@
 //! Reports how a run ended.
-ghost use Rattle.std.specs.Prelude.{◌≡◌, []};
+ghost use Rattle.std.specs.Prelude.{◌≡◌};
 ghost use Rattle.std.specs.List.{flat_map};
-ghost use Rattle.dev_traits.specs.World.{world_shown};
 ghost use Rattle.dev_traits.specs.Cause.{HasCause};
 ghost use Rattle.srv_run.specs.Report as spec;
 ghost use Rattle.srv_run.specs.Report.{Appends};
+ghost use Rattle.srv_run.specs.Stage.{stage_of};
 
 use crate::end::End;
 use dev_traits::{Failed, Files, Gate, Link, Opener, Sink, World};
@@ -90,9 +90,10 @@ fn put_no_file<S: Sink>(sink: &mut S, path: &[u8]) -> Result<(), Failed>
 
 // Writes the line of an end at the file at a path, or its first bytes where the sink fails. It takes no memory.
 #[tactic(auto, unfolding(crate::specs::Report::line_of))]
-pub(crate) fn report<S: Sink>(sink: &mut S, end: End, path: &[u8]) -> Result<(), Failed>
+fn put_line<S: Sink>(sink: &mut S, end: End, path: &[u8]) -> Result<(), Failed>
     ensures put { Appends (spec.line_of end path.now) (S.shown sink.old).held (S.shown sink.new).held result }
     ensures cause { HasCause (S.shown sink.old).faults (S.shown sink.new).faults result }
+    ensures none { spec.HasNoLine end → S.shown sink.new ≡ S.shown sink.old }
 {
     match end {
         End::Done | End::SinkFault => Ok(()),
@@ -109,15 +110,23 @@ pub(crate) fn report<S: Sink>(sink: &mut S, end: End, path: &[u8]) -> Result<(),
     }
 }
 
-// Writes the line of an end at which no file is named.
+// Reports an end at the file at a path. A line that can't be written changes nothing else.
+#[tactic(auto, using(crate::proofs::ReportLemmas::reports))]
+pub(crate) fn report<S: Sink>(sink: &mut S, end: End, path: &[u8])
+    ensures { spec.Reports end path.now (S.shown sink.old) (S.shown sink.new) }
+{
+    let _written = put_line(sink, end, path);
+}
+
+// Reports an end at which no file is named, and returns it.
 pub(crate) fn say<O: Opener, F: Files, L: Link, S: Sink, G: Gate>(
     world: &mut World<O, F, L, S, G>,
     end: End,
 ) -> End
     ensures end { result ≡ end }
-    ensures says { let shown = world_shown F.shown L.shown S.shown in
-        spec.Says (spec.line_of end []) (shown world.old) (shown world.new) }
+    ensures says { let stage = stage_of O.shown F.shown L.shown S.shown in
+        spec.Says end (stage world.old) (stage world.new) }
 {
-    let _written = report(&mut world.sink, end, b"");
+    report(&mut world.sink, end, b"");
     end
 }

@@ -75,7 +75,19 @@ where
     Ok(outcome)
 }
 
+// The devices of a run before any is opened.
+fn no_devices<D, I, C>(alloc: Global) -> Devices<D, I, C>
+    ensures { result ≡ record { doors = []; inboxes = []; clocks = [] } }
+{
+    Devices {
+        doors: List::new(alloc),
+        inboxes: List::new(alloc),
+        clocks: List::new(alloc),
+    }
+}
+
 // Serves over a prototype, and returns the end.
+#[tactic(auto, using(crate::proofs::RunLemmas::few))]
 fn serve_over<R: Threads + Wait + Sync, O: Opener, F: Files, L: Link, S: Sink, G: Gate + Sync>(
     rt: &R,
     alloc: Global,
@@ -96,32 +108,16 @@ where
     ensures files { F.shown world.new.files ≡ F.shown world.old.files }
     ensures link { L.shown world.new.link ≡ L.shown world.old.link }
 {
-    let mut devices = Devices {
-        doors: List::new(alloc),
-        inboxes: List::new(alloc),
-        clocks: List::new(alloc),
-    };
-    let ran = open_and_run(
-        rt,
-        alloc,
-        serving,
-        proto,
-        &mut world.opener,
-        &world.gate,
-        &mut devices,
-    );
-    let Devices {
-        doors,
-        inboxes,
-        clocks,
-    } = devices;
-    world.doors = doors;
-    world.inboxes = inboxes;
-    world.clocks = clocks;
+    let mut devices = no_devices(alloc);
+    let opener = &mut world.opener;
+    let ran = open_and_run(rt, alloc, serving, proto, opener, &world.gate, &mut devices);
+    world.doors = devices.doors;
+    world.inboxes = devices.inboxes;
+    world.clocks = devices.clocks;
     match ran {
         Ok(outcome) => close(&mut world.sink, &outcome),
         Err(end) => {
-            let _written = report(&mut world.sink, end, b"");
+            report(&mut world.sink, end, b"");
             end
         }
     }
@@ -149,7 +145,7 @@ where
     match read_shared(alloc, &mut world.files, serving) {
         Ok(proto) => serve_over(rt, alloc, serving, &proto, world),
         Err(end) => {
-            let _written = report(&mut world.sink, end, serving.proto.as_slice());
+            report(&mut world.sink, end, serving.proto.as_slice());
             end
         }
     }

@@ -95,9 +95,11 @@ fn ask<L: Link>(
     requires proto { plain.old.proto ≡ proto.now }
     requires stands { spec.RestsUnlessEnded session.old }
     ensures done { OnOk result (spec.AnswersAsk count
-        (spec.line plain.old session.old (L.shown link.old)) (spec.line plain.new session.new (L.shown link.new))) }
+        (spec.connection plain.old session.old (L.shown link.old))
+        (spec.connection plain.new session.new (L.shown link.new))) }
     ensures ends { IfErr result (λ end. spec.EndsAsk count
-        (spec.line plain.old session.old (L.shown link.old)) (spec.line plain.new session.new (L.shown link.new)) end) }
+        (spec.connection plain.old session.old (L.shown link.old))
+        (spec.connection plain.new session.new (L.shown link.new)) end) }
     ensures stands { spec.RestsUnlessEnded session.new }
     ensures same { plain.new.proto ≡ plain.old.proto }
 {

@@ -9,7 +9,6 @@ use Rattle.fm_base.proofs.OptionLemmas.{mapped_some}
 use Rattle.clap.specs.Walk.{Row, Text, first_of}
 use Rattle.srv_words.specs.declared.job.Job.{Job}
 use Rattle.srv_words.specs.declared.job.Job.TheVariants.{Check, Load}
-use Rattle.srv_words.specs.declared.load.TheConstants.{MAX_MADE, MAX_SEED}
 use Rattle.srv_words.specs.Command.{is_taken, used}
 use Rattle.srv_words.specs.Jobs.{IsJob, once_of, check_of, load_of, serve_of, job_in, job_of}
 use Rattle.srv_words.specs.Reads.{◌>>=◌}
@@ -27,15 +26,15 @@ check_of-some rows job is =
 load_of-some : (rows : List Row) (job : Job) → load_of rows ≡ Some job → IsJob job
 unfolding load_of
 load_of-some rows job is =
-    let seed = step_some (option_and_then (number_in 0 MAX_SEED) (first_of (codes "SEED") rows)) (λ (seed : ℕ).
-    option_and_then (number_in 1 MAX_MADE) (first_of (codes "FILES") rows) >>= λ (files : ℕ). Some (Load seed files))
+    let seed = step_some (option_and_then (number_in 0 4_294_967_295) (first_of (codes "SEED") rows)) (λ (seed : ℕ).
+    option_and_then (number_in 1 400) (first_of (codes "FILES") rows) >>= λ (files : ℕ). Some (Load seed files))
     job is in
-    let files = step_some (option_and_then (number_in 1 MAX_MADE) (first_of (codes "FILES") rows)) (λ (files : ℕ).
+    let files = step_some (option_and_then (number_in 1 400) (first_of (codes "FILES") rows)) (λ (files : ℕ).
     Some (Load seed.0 files)) job seed.2 in
-    let first = then_some (number_in 0 MAX_SEED) (first_of (codes "SEED") rows) seed.0 seed.1 in
-    let second = then_some (number_in 1 MAX_MADE) (first_of (codes "FILES") rows) files.0 files.1 in
-    let sound = number_in-some 0 MAX_SEED seed.0 first.0 first.2 in
-    let few = number_in-some 1 MAX_MADE files.0 second.0 second.2 in
+    let first = then_some (number_in 0 4_294_967_295) (first_of (codes "SEED") rows) seed.0 seed.1 in
+    let second = then_some (number_in 1 400) (first_of (codes "FILES") rows) files.0 files.1 in
+    let sound = number_in-some 0 4_294_967_295 seed.0 first.0 first.2 in
+    let few = number_in-some 1 400 files.0 second.0 second.2 in
     subst IsJob (same_Some (Load seed.0 files.0) job files.2) (sound.2, omega (arith, few.0), few.1)
 
 if_some : {A P : Type 0} (test : Bool) (first second : Option A) (x : A)

@@ -15,7 +15,6 @@ use Rattle.srv_words.specs.declared.job.Job.{Job}
 use Rattle.srv_words.specs.declared.job.Job.TheVariants.{Once}
 use Rattle.srv_words.specs.declared.job.Step.{Step}
 use Rattle.srv_words.specs.declared.job.Step.TheVariants.{Put, Expire, Retract, Ask}
-use Rattle.srv_words.specs.declared.steps.TheConstants.{MAX_ASKED}
 use Rattle.srv_words.specs.Jobs.{IsJob, site_of, step_words_of, once_of}
 use Rattle.srv_words.specs.Reads.{◌>>=◌, if_so}
 use Rattle.srv_words.specs.Steps.{IsStep, asked_of, cutoff_of, step_of, steps_from, steps_of}
@@ -34,11 +33,11 @@ cutoff_of-some epoch word cutoff is =
     negated true is = refl
     negated false is = absurd cc
 
-asked_of-some : (word : List ℕ) (n : ℕ) → asked_of word ≡ Some n → (0 < n) × (n ≤ MAX_ASKED)
+asked_of-some : (word : List ℕ) (n : ℕ) → asked_of word ≡ Some n → (0 < n) × (n ≤ 10_000)
 unfolding asked_of
 asked_of-some word n is =
-    let read = then_some (number_in 1 MAX_ASKED) (rest_of (codes "ask:") word) n is in
-    let number = number_in-some 1 MAX_ASKED n read.0 read.2 in
+    let read = then_some (number_in 1 10_000) (rest_of (codes "ask:") word) n is in
+    let number = number_in-some 1 10_000 n read.0 read.2 in
     (omega (arith, number.0), number.1)
 
 step_of-some : (epoch : ℤ) (word : List ℕ) (step : Step) → step_of epoch word ≡ Some step → IsStep step

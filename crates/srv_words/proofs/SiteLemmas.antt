@@ -1,34 +1,36 @@
 -- The site of a job is one that a collection may have, and its mark is short.
 use Rattle.std.proofs.Common.{◌≡◌, ◌<◌, ◌≤◌, ◌≤ℤ◌, ℕ, ℤ, ◌&&◌, List, ◌++◌, length, Option, Some, None, ap, subst, arith, codes, length-append}
-use Rattle.std.specs.Prelude.{int_le, nat_le, IsTrue}
+use Rattle.std.specs.Prelude.{int_le, nat_le, neg_ℤ, pos, IsTrue}
 use Rattle.std.proofs.lemmas.Bool.{and_parts}
 use Rattle.std.proofs.lemmas.Int.{ints}
 use Rattle.std.proofs.lemmas.Option.{same_Some}
 use Rattle.nc_model.specs.Instant.{instant_of}
 use Rattle.fm_base.proofs.NumberLemmas.{at_most_from_test}
-use Rattle.fm_model.specs.declared.limit.TheConstants.{MAX_NAME}
 use Rattle.fm_model.specs.declared.site.Site.{Site}
 use Rattle.fm_model.specs.Prototype.{is_plain_name}
 use Rattle.fm_model.specs.Site.{IsSite}
 use Rattle.clap.specs.Walk.{Row, first_of}
-use Rattle.srv_words.specs.declared.values.TheConstants.{DEFAULT_EPOCH, FIRST_EPOCH, LAST_EPOCH, MAX_MARK}
 use Rattle.srv_words.specs.Jobs.{name_of, site_of}
 use Rattle.srv_words.specs.Reads.{◌>>=◌, if_so}
 use Rattle.srv_words.specs.Values.{epoch_at, epoch_of, is_collection_name, is_epoch, mark_of}
 use Rattle.srv_words.proofs.SomeLemmas.{step_some, then_some, so_some, within}
 
-epoch_of-some : (given : Option (List ℕ)) (epoch : ℤ) → epoch_of given ≡ Some epoch
-    → (FIRST_EPOCH ≤ℤ epoch) × (epoch ≤ℤ LAST_EPOCH)
+-- an instant of the years 100 to 9900
+abbrev IsOfYears : ℤ → Type 0
+IsOfYears t = (neg_ℤ (pos 59_011_459_200) ≤ℤ t) × (t ≤ℤ pos 250_278_163_199)
+
+epoch_of-some : (given : Option (List ℕ)) (epoch : ℤ) → epoch_of given ≡ Some epoch → IsOfYears epoch
 unfolding epoch_of epoch_at is_epoch
 epoch_of-some None epoch is =
-    let same : DEFAULT_EPOCH ≡ epoch = same_Some DEFAULT_EPOCH epoch is in
-    subst (λ (t : ℤ). (FIRST_EPOCH ≤ℤ t) × (t ≤ℤ LAST_EPOCH)) same (omega (arith, ints), omega (arith, ints))
+    let same : pos 1_577_836_800 ≡ epoch = same_Some (pos 1_577_836_800) epoch is in
+    subst IsOfYears same (omega (arith, ints), omega (arith, ints))
 epoch_of-some (Some text) epoch is =
     let read = then_some epoch_at (instant_of text) epoch is in
     let there = so_some (is_epoch read.0) read.0 epoch read.2 in
-    let parts = and_parts (int_le FIRST_EPOCH read.0) (int_le read.0 LAST_EPOCH) there.0 in
-    subst (λ (t : ℤ). (FIRST_EPOCH ≤ℤ t) × (t ≤ℤ LAST_EPOCH)) there.1
-    (at_most_from_test FIRST_EPOCH read.0 parts.0, at_most_from_test read.0 LAST_EPOCH parts.1)
+    let first = neg_ℤ (pos 59_011_459_200) in
+    let last = pos 250_278_163_199 in
+    let parts = and_parts (int_le first read.0) (int_le read.0 last) there.0 in
+    subst IsOfYears there.1 (at_most_from_test first read.0 parts.0, at_most_from_test read.0 last parts.1)
 
 mark_of-some : (name mark : List ℕ) (given : Option (List ℕ)) → length name ≤ 64 → mark_of name given ≡ Some mark
     → length mark ≤ 65
@@ -37,8 +39,8 @@ mark_of-some name mark None few is =
     let long : length (name ++ codes "_") ≡ length mark = ap length (same_Some (name ++ codes "_") mark is) in
     omega (arith, long, length-append name (codes "_"))
 mark_of-some name mark (Some given) few is =
-    let there = so_some (nat_le (length given) MAX_MARK) given mark is in
-    let short : length given ≤ 64 = within (length given) MAX_MARK there.0 in
+    let there = so_some (nat_le (length given) 64) given mark is in
+    let short : length given ≤ 64 = within (length given) 64 there.0 in
     let long : length given ≡ length mark = ap length there.1 in
     omega (arith, short, long)
 
@@ -52,12 +54,12 @@ unfolding name_of is_collection_name
 name_of-some rows name is =
     let read = step_some (first_of (codes "name") rows) (λ (n : List ℕ). if_so (is_collection_name n) n) name is in
     let there = so_some (is_collection_name read.0) read.0 name read.2 in
-    let parts = and_parts (nat_le 1 (length read.0) && nat_le (length read.0) MAX_NAME)
+    let parts = and_parts (nat_le 1 (length read.0) && nat_le (length read.0) 64)
     (is_plain_name read.0) there.0 in
-    let sizes = and_parts (nat_le 1 (length read.0)) (nat_le (length read.0) MAX_NAME) parts.0 in
+    let sizes = and_parts (nat_le 1 (length read.0)) (nat_le (length read.0) 64) parts.0 in
     let some : 1 ≤ length read.0 = within 1 (length read.0) sizes.0 in
     subst IsName there.1
-    (record { some = omega (arith, some); few = within (length read.0) MAX_NAME sizes.1; plain = parts.1 })
+    (record { some = omega (arith, some); few = within (length read.0) 64 sizes.1; plain = parts.1 })
 
 -- the site of a job is one that a collection may have
 pub site_of-some : (rows : List Row) (site : Site) → site_of rows ≡ Some site → IsSite site × (length site.mark ≤ 65)

@@ -6,9 +6,10 @@ use Rattle.std.specs.Str.{bytes_eq, is_utf8}
 use Rattle.clap.specs.Walk.{Row, Text, all_of, first_of}
 use Rattle.fm_model.specs.declared.site.Site.{Site}
 use Rattle.fm_model.specs.Site.{IsSite}
+use Rattle.srv_words.specs.declared.job.Command.{Command}
+use Rattle.srv_words.specs.declared.job.Command.TheVariants as commands
 use Rattle.srv_words.specs.declared.job.Job.{Job}
 use Rattle.srv_words.specs.declared.job.Job.TheVariants.{Once, Check, Load, Serve}
-use Rattle.srv_words.specs.declared.load.TheConstants.{MAX_MADE, MAX_SEED}
 use Rattle.srv_words.specs.Command.{is_taken, used}
 use Rattle.srv_words.specs.Reads.{◌>>=◌, if_so}
 use Rattle.srv_words.specs.Serve.{IsServing, doors_of, inboxes_of, serving_of, ticking_of}
@@ -51,8 +52,8 @@ check_of rows = option_map Check (first_of (codes "FILE") rows)
 -- the job of `load`
 unfoldable pub load_of : List Row → Option Job
 load_of rows = do
-  seed ← option_and_then (number_in 0 MAX_SEED) (first_of (codes "SEED") rows)
-  files ← option_and_then (number_in 1 MAX_MADE) (first_of (codes "FILES") rows)
+  seed ← option_and_then (number_in 0 4_294_967_295) (first_of (codes "SEED") rows)
+  files ← option_and_then (number_in 1 400) (first_of (codes "FILES") rows)
   Some (Load seed files)
 
 -- the job of `serve`
@@ -77,10 +78,17 @@ unfoldable pub job_of : List (List ℕ) → Option Job
 job_of words = if list_all is_utf8 words && is_taken words
     then option_and_then (λ (found : Text × List Row). job_in found.0 found.1) (used words) else None
 
+-- the command that does a job
+abbrev pub command_of : Job → Command
+command_of (Once site proto steps) = commands.Once
+command_of (Check path) = commands.Check
+command_of (Load seed files) = commands.Load
+command_of (Serve serving) = commands.Serve
+
 -- a job has a site that a collection may have, with a mark of at most 65 bytes, and one step at least; or it makes 1 to
 -- 400 files; or it serves what may be served
 abbrev pub IsJob : Job → Type 0
 IsJob (Once site proto steps) = IsSite site × (length site.mark ≤ 65) × (0 < length steps) × All IsStep steps
 IsJob (Check path) = Unit {0}
-IsJob (Load seed files) = (seed < 2 ^ 32) × (0 < files) × (files ≤ MAX_MADE)
+IsJob (Load seed files) = (seed < 2 ^ 32) × (0 < files) × (files ≤ 400)
 IsJob (Serve serving) = IsServing serving

@@ -5,7 +5,6 @@ use Rattle.nc_model.specs.Instant.{instant_of}
 use Rattle.fm_model.specs.LoadTimes.{IsInstant}
 use Rattle.srv_words.specs.declared.job.Step.{Step}
 use Rattle.srv_words.specs.declared.job.Step.TheVariants.{Put, Expire, Retract, Ask}
-use Rattle.srv_words.specs.declared.steps.TheConstants.{MAX_ASKED}
 use Rattle.srv_words.specs.Reads.{◌>>=◌}
 use Rattle.srv_words.specs.Values.{from_epoch, number_in, rest_of}
 
@@ -16,7 +15,7 @@ cutoff_of epoch word =
 
 -- the number of `ask:NUMBER`
 unfoldable pub asked_of : List ℕ → Option ℕ
-asked_of word = option_and_then (number_in 1 MAX_ASKED) (rest_of (codes "ask:") word)
+asked_of word = option_and_then (number_in 1 10_000) (rest_of (codes "ask:") word)
 
 -- the step that a word is: `put:PATH`, `expire:INSTANT`, `retract:NAME` or `ask:NUMBER`
 unfoldable pub step_of : ℤ → List ℕ → Option Step
@@ -34,9 +33,9 @@ steps_from epoch found (word ∷ words) =
 unfoldable pub steps_of : ℤ → List (List ℕ) → Option (List Step)
 steps_of epoch words = steps_from epoch [] words
 
--- paths and names aren't empty, a cutoff is an instant of the collection, and 1 to MAX_ASKED replies are asked for
+-- paths and names aren't empty, a cutoff is an instant of the collection, and 1 to 10,000 replies are asked for
 abbrev pub IsStep : Step → Type 0
 IsStep (Put path) = 0 < length path
 IsStep (Expire cutoff) = IsInstant cutoff
 IsStep (Retract name) = 0 < length name
-IsStep (Ask count) = (0 < count) × (count ≤ MAX_ASKED)
+IsStep (Ask count) = (0 < count) × (count ≤ 10_000)

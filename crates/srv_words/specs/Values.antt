@@ -1,15 +1,13 @@
 -- What the values of options and positionals say.
-use Rattle.std.specs.Prelude.{ℕ, ◌^◌, Bool, ◌&&◌, nat_eq, nat_le, nat_lt, List, ◌++◌, length, drop, codes, Option, Some, None, ℤ, ◌-ℤ◌, int_le}
+use Rattle.std.specs.Prelude.{ℕ, ◌^◌, Bool, ◌&&◌, nat_eq, nat_le, nat_lt, List, ◌++◌, length, drop, codes, Option, Some, None, ℤ, pos, neg_ℤ, ◌-ℤ◌, int_le}
 use Rattle.std.specs.Fmt.{decimal}
 use Rattle.std.specs.List.{starts_with}
 use Rattle.std.specs.Option.{option_and_then}
 use Rattle.std.specs.Str.{bytes_eq}
 use Rattle.std.specs.Str.Parse.{digits_value}
 use Rattle.nc_model.specs.Instant.{instant_of}
-use Rattle.fm_model.specs.declared.limit.TheConstants.{MAX_NAME}
 use Rattle.fm_model.specs.LoadTimes.{is_instant}
 use Rattle.fm_model.specs.Prototype.{is_plain_name}
-use Rattle.srv_words.specs.declared.values.TheConstants.{DEFAULT_EPOCH, FIRST_EPOCH, LAST_EPOCH, MAX_MARK}
 use Rattle.srv_words.specs.Reads.{if_so}
 
 -- the number of 32 bits of which a text is the decimal, without sign or leading zeros
@@ -24,13 +22,13 @@ in_range least most n = if_so (nat_le least n && nat_le n most) n
 unfoldable pub number_in : ℕ → ℕ → List ℕ → Option ℕ
 number_in least most text = option_and_then (in_range least most) (decimal_of text)
 
--- whether a collection may have this name: 1 to MAX_NAME letters, digits, `_` and `-`
+-- whether a collection may have this name: 1 to 64 letters, digits, `_` and `-`
 unfoldable pub is_collection_name : List ℕ → Bool
-is_collection_name name = nat_le 1 (length name) && nat_le (length name) MAX_NAME && is_plain_name name
+is_collection_name name = nat_le 1 (length name) && nat_le (length name) 64 && is_plain_name name
 
 -- whether an instant lies in the years 100 to 9900
 unfoldable pub is_epoch : ℤ → Bool
-is_epoch t = int_le FIRST_EPOCH t && int_le t LAST_EPOCH
+is_epoch t = int_le (neg_ℤ (pos 59_011_459_200)) t && int_le t (pos 250_278_163_199)
 
 -- an instant of these years
 unfoldable pub epoch_at : ℤ → Option ℤ
@@ -38,13 +36,13 @@ epoch_at t = if_so (is_epoch t) t
 
 -- the epoch that a text writes, and 2020-01-01T00:00:00Z where there is none
 unfoldable pub epoch_of : Option (List ℕ) → Option ℤ
-epoch_of None = Some DEFAULT_EPOCH
+epoch_of None = Some (pos 1_577_836_800)
 epoch_of (Some text) = option_and_then epoch_at (instant_of text)
 
--- the mark, which has at most MAX_MARK bytes, and the name and `_` where there is none
+-- the mark, which has at most 64 bytes, and the name and `_` where there is none
 unfoldable pub mark_of : List ℕ → Option (List ℕ) → Option (List ℕ)
 mark_of name None = Some (name ++ codes "_")
-mark_of name (Some mark) = if_so (nat_le (length mark) MAX_MARK) mark
+mark_of name (Some mark) = if_so (nat_le (length mark) 64) mark
 
 -- the text after this front, where it isn't empty
 unfoldable pub rest_of : List ℕ → List ℕ → Option (List ℕ)

@@ -1,4 +1,6 @@
 //! What the words ask for.
+ghost use Rattle.std.specs.Prelude.{◌≡◌};
+ghost use Rattle.srv_words.specs.Jobs.{command_of};
 
 use fm_base::{Bytes, List};
 use fm_model::Site;
@@ -39,6 +41,15 @@ pub struct Serving {
     pub inboxes: List<Bytes>,
 }
 
+/// A command of the program.
+#[derive(Clone, Copy, Debug, PartialEq, Eq)]
+pub enum Command {
+    Once,
+    Check,
+    Load,
+    Serve,
+}
+
 /// The job that the words ask for. Paths are as they stand in the words.
 #[derive(Debug, Drop)]
 pub enum Job {
@@ -59,4 +70,18 @@ pub enum Job {
     },
     /// A collection is served.
     Serve(Serving),
+}
+
+impl Job {
+    /// The command that does the job.
+    pub fn command(&self) -> Command
+        ensures { result ≡ command_of self.now }
+    {
+        match self {
+            Job::Once { .. } => Command::Once,
+            Job::Check { .. } => Command::Check,
+            Job::Load { .. } => Command::Load,
+            Job::Serve(_) => Command::Serve,
+        }
+    }
 }

@@ -16,6 +16,6 @@ mod steps;
 mod usage;
 mod values;
 
-pub use job::{BadWords, Job, Serving, Step};
+pub use job::{BadWords, Command, Job, Serving, Step};
 pub use read::read_job;
 pub use usage::usage_of;

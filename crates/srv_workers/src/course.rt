@@ -17,7 +17,7 @@ fn learn<D, I, C, H, N: Name>(worker: &mut Worker<D, I, C, OwnPass<N>, H>, log: 
     worker.pass.learn(log);
 }
 
-// Has each worker learn the log, one after the other.
+// Has each worker learn the log, in one thread. The contract of `for_each_mut` says what became of each.
 fn learn_each<R: Threads + Sync, D: Send, I: Send, C: Send, H: Send, N: Name + Send + Sync>(
     rt: &R,
     staff: &mut [Worker<D, I, C, OwnPass<N>, H>],

@@ -1,9 +1,13 @@
-//! Rows whose input is a text: units and instants, values, constraints and what they ask for, and words of a command.
+//! Rows whose input is a text: units and instants, values, constraints and what they ask for, words of a command,
+//! targets, the heads of a stream of bytes, and sessions.
 #![tactic(auto)]
 
 mod constraints;
 mod declared;
+mod heads;
 mod projections;
+mod sessions;
+mod targets;
 mod times;
 mod values;
 mod words;
@@ -42,6 +46,11 @@ fn answer(alloc: Global, files: &[File], row: &Row<'_>) -> Result<Option<String>
             "asks" => projections::projection(alloc, files, row),
             "words" => words::words(alloc, row),
             "no words" => words::no_words(alloc, row),
+            "target" => targets::target(alloc, row),
+            "head" => heads::head(alloc, row),
+            "feed" | "feed file" => heads::stream(alloc, row),
+            "input" => sessions::input(alloc, row),
+            "on" | "on file" => sessions::events(alloc, row),
             _ => continue,
         };
     }

@@ -45,7 +45,7 @@ instant_of-spelled_instant year month day hour minute second y m d h n s =
       number_of-two_digits second s,
     ) refl
 
-digit_range : (byte : ℕ) → is_ascii_digit byte ≡ true → (48 ≤ byte) × (byte ≤ 57)
+pub digit_range : (byte : ℕ) → is_ascii_digit byte ≡ true → (48 ≤ byte) × (byte ≤ 57)
 digit_range byte h = let parts = and_parts (nat_le 48 byte) (nat_le byte 57) h in
     (leb-true _ _ parts.0, leb-true _ _ parts.1)
 

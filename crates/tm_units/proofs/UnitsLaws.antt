@@ -1,24 +1,27 @@
 -- What a result of reading units says of the text and the calendar, and that what is spelled is read.
-use Rattle.std.proofs.Common.{◌≡◌, ◌⊎◌, inl, inr, ℕ, suc, ◌+◌, ◌≤◌, Bool, true, false, List, length, take, drop, Option, Result, Ok, Err, refl, sym, ap, subst, ◌∙◌, IsTrue, arith}
-use Rattle.std.specs.Char.{is_ascii_digit}
-use Rattle.std.specs.List.{list_all}
+use Rattle.std.proofs.Common.{◌≡◌, inl, inr, ℕ, suc, ◌+◌, ◌<◌, ◌≤◌, Bool, true, false, List, ◌++◌, length, take, replicate, Option, Result, Ok, Err, refl, sym, ap, subst, ◌∙◌, arith}
+use Rattle.std.proofs.lemmas.Bool.{cases_lt}
+use Rattle.std.proofs.lemmas.List.{length-replicate}
 use Rattle.nc_model.specs.declared.units.UnitsFault.{UnitsFault}
 use Rattle.nc_model.specs.declared.units.UnitsFault.TheVariants.{BadUnits}
 use Rattle.fm_base.specs.Chain.{◌>>=◌, fault_as}
-use Rattle.fm_base.specs.Input.{Input, whole}
+use Rattle.fm_base.specs.Input.{whole}
+use Rattle.fm_base.specs.Parser.{value_of}
 use Rattle.nc_model.specs.Units.{Settles, in_calendar, is_gregorian, is_proleptic, is_before_gregorian, units_of}
-use Rattle.nc_model.specs.UnitsFaults.{GoesOn, GoesNowhere, IsWrongUnit, IsWrongNumber, GoesWrong}
+use Rattle.nc_model.specs.UnitsFaults.{EndsForm, IsWrongUnit, GoesWrongFirst}
+use Rattle.nc_model.specs.UnitsRanges.{OutUnits}
 use Rattle.nc_model.specs.UnitsReading.{UnitsOutcome as Outcome, units_at, Written, written_or_fault}
 use Rattle.nc_model.specs.UnitsSpelling.{SpellsUnits}
-use Rattle.fm_base.proofs.Exact.{input}
-use Rattle.tm_units.proofs.UnitsLocal.{EndToo, WrongRun, Failed, err_is}
-use Rattle.tm_units.proofs.UnitsSpelled.{SpellsUnits-written_or_fault, written_or_fault-spelled}
-use Rattle.tm_units.proofs.UnitsWrong.{units_fail, wrong_unit_fails}
-use Rattle.tm_units.proofs.UnitsBegunEnds.{Viable-units}
-use Rattle.fm_base.specs.Parser.{value_of}
+use Rattle.fm_base.proofs.ChainLemmas.{same_Ok}
+use Rattle.fm_base.proofs.ListLemmas.{agree_less}
+use Rattle.fm_base.proofs.Local.{Beyond, fault_is}
+use Rattle.fm_base.proofs.Parts.{begun_same}
+use Rattle.tm_units.proofs.Lawful.{places}
+use Rattle.tm_units.proofs.UnitsReadings.{Lawful-units}
+use Rattle.tm_units.proofs.UnitsSpelled.{spelled_read, read_spelled}
 
 -- what a calendar makes of a reading
-calendar_settles : (text : List ℕ) (calendar : Option (List ℕ)) (w : Written) → SpellsUnits text w
+calendar_settles : (text : List ℕ) (calendar : Option (List ℕ)) (w : Written) → SpellsUnits true text w
     → Settles text calendar (in_calendar calendar w)
 unfolding in_calendar
 calendar_settles text calendar w s =
@@ -32,94 +35,200 @@ calendar_settles text calendar w s =
     by_tests true false false ea eb ec = rw (ea, eb, ec) (w, s, rw (ea, eb, ec) refl)
 
 -- a text that is spelled doesn't go wrong
-not_wrong : (other : List ℕ) (units : Written) (place : ℕ) → SpellsUnits other units
-    → units_at (input 0 other) ≡ Err place → ⊥
-unfolding written_or_fault
-not_wrong other units place s e = let no = sym (written_or_fault-spelled other units s)
-    ∙ ap (λ (r : Outcome Written). fault_as BadUnits (value_of r)) e in absurd cc
+not_wrong : (strict : Bool) (other : List ℕ) (units : Written) (place : ℕ) → SpellsUnits strict other units
+    → units_at strict (whole other) ≡ Err place → ⊥
+not_wrong strict other units place s e = let no = sym (spelled_read strict other units s) ∙ e in absurd cc
 
--- a number that is wrong whatever follows it
-wrong_number : (text : List ℕ) (place count : ℕ) → count ≡ place → WrongRun units_at 0 text count
-    → IsWrongNumber place text
-wrong_number text place count here w = record {
-  count = w.size;
-  some = w.some;
-  within = subst (λ (n : ℕ). n + w.size ≤ length text) here w.within;
-  digits = subst (λ (n : ℕ). IsTrue (list_all is_ascii_digit (take w.size (drop n text)))) here w.run;
-  nowhere = λ other units s same ends.
-      not_wrong other units (0 + count) s
-      (w.again other (subst (λ (n : ℕ). take (n + w.size) text ≡ take (n + w.size) other) (sym here) (sym same))
-      (subst (λ (n : ℕ). EndToo (n + w.size) text other) (sym here) ends));
-}
-
--- where reading goes wrong after the unit, the text does
-fails_wrong : (text : List ℕ) (place : ℕ) → Failed units_at 0 text place → GoesNowhere (suc place) text
-    ⊎ IsWrongNumber place text
-fails_wrong text place f =
-    let here : f.count ≡ place = let is = f.place_is in omega arith in
-    elim f.why [
-      | inl told ↦
-          inl (λ other units s same. not_wrong other units (0 + f.count) s
-          (told other (subst (λ (n : ℕ). take (suc n) text ≡ take (suc n) other) (sym here) (sym same))))
-      | inr w ↦ inr (wrong_number text place f.count here w)
-    ]
-
--- where reading goes wrong, the text does
-goes_wrong : (text : List ℕ) (place : ℕ) → units_at (whole text) ≡ Err place → GoesWrong place text
-goes_wrong text place e =
-    let b = Viable-units.fails 0 text place e in
-    let begun : b.count ≡ place = let is = b.place_is in omega arith in
+-- where the form goes wrong in reading, it ends
+form_ends : (text : List ℕ) (place : ℕ) → units_at false (whole text) ≡ Err place → EndsForm place text
+form_ends text place e =
+    let b = Lawful-units.form.fails 0 text place tt e in
+    let begun : b.count ≡ place = let is = b.stands in omega arith in
+    let f = Lawful-units.form.local.fails 0 text place e in
     record {
       begun = record {
         other = b.some.text;
         units = b.some.a;
         within = subst (λ (n : ℕ). n ≤ length text) begun b.within;
         spelled = b.some.spelled;
-        goes_on = subst (λ (n : ℕ). GoesOn (take n text) b.some.text) begun b.goes_on;
+        same = subst (λ (n : ℕ). take n b.some.text ≡ take n text) begun (sym (begun_same b));
       };
-      wrong = elim (units_fail text place e) [
-        | inl unit ↦ inr (inl unit)
-        | inr f ↦ elim (fails_wrong text place f) [ inl nowhere ↦ inl nowhere | inr number ↦ inr (inr number) ]
+      nowhere = λ other units s same. elim f.why [
+        | inl w ↦
+            let here : f.count ≡ place = let is = w.stands in omega arith in
+            let within = w.within in
+            let one = w.uncut in
+            not_wrong false other units place s (w.again other
+            (agree_less (f.count + f.size) (suc place) text other (omega arith) (sym same)))
+        | inr short ↦ absurd short.fault_is
       ];
-      known = λ before less w. let same =
-          err_is {A = Written × Input} before place (sym (wrong_unit_fails text before w) ∙ e) in absurd (omega arith);
     }
 
--- the place of a fault is that of the reading
-place_of : (text : List ℕ) (fault : UnitsFault) → written_or_fault text ≡ Err fault
-    → (place : ℕ) × (fault ≡ BadUnits place) × (units_at (whole text) ≡ Err place)
-unfolding written_or_fault
-place_of text fault e = by_reading (units_at (whole text)) refl e
-  where
-    by_reading : (r : Outcome Written) → units_at (whole text) ≡ r → fault_as BadUnits (value_of r) ≡ Err fault
-        → (place : ℕ) × (fault ≡ BadUnits place) × (units_at (whole text) ≡ Err place)
-    by_reading (Ok p) is k = absurd cc
-    by_reading (Err at) is k = (at, cc, is)
+-- no text ends its form at two places
+form_ends_once : (text : List ℕ) (m n : ℕ) → EndsForm m text → EndsForm n text → m < n → ⊥
+form_ends_once text m n one other less =
+    let begun = other.begun in
+    one.nowhere begun.other begun.units begun.spelled
+    (agree_less (suc m) n begun.other text (omega arith) begun.same)
 
--- a text that is refused goes wrong at its place, and spells nothing
-none_spelled : (text : List ℕ) (calendar : Option (List ℕ)) (fault : UnitsFault) → written_or_fault text ≡ Err fault
-    → Settles text calendar (Err fault)
-none_spelled text calendar fault e =
-    let place = place_of text fault e in
-    subst (λ (f : UnitsFault). Settles text calendar (Err f)) (sym place.1)
-    (goes_wrong text place.0 place.2, λ w s. not_wrong text w place.0 s place.2)
+-- where the form ends, reading it goes wrong
+ends_form : (text : List ℕ) (place : ℕ) → EndsForm place text → units_at false (whole text) ≡ Err place
+ends_form text place ends = by_reading (units_at false (whole text)) refl
+  where
+    by_reading : (r : Outcome Written) → units_at false (whole text) ≡ r → r ≡ Err place
+    by_reading (Ok x) is = absurd (ends.nowhere text x.0 (read_spelled false text x.0 x.1 is) refl)
+    by_reading (Err bad) is =
+        let other = form_ends text bad is in
+        elim (cases_lt bad place) [
+          | inl less ↦ absurd (form_ends_once text bad place other ends less)
+          | inr more ↦ elim (cases_lt place bad) [
+            | inl less ↦ absurd (form_ends_once text place bad ends other less)
+            | inr same ↦ let is : bad ≡ place = omega arith in ap (λ (n : ℕ). Err n) is
+          ]
+        ]
+
+-- a value out of its range is where reading goes wrong
+out_fails : (text : List ℕ) (place : ℕ) → OutUnits place text → units_at true (whole text) ≡ Err place
+out_fails text place out =
+    let here : 0 + place ≡ place = omega arith in
+    Lawful-units.refuses 0 text place out ∙ ap (λ (n : ℕ). Err n) here
+
+-- where reading goes wrong, the text does, and at no place before
+wrong_first : (text : List ℕ) (place : ℕ) → units_at true (whole text) ≡ Err place → GoesWrongFirst place text
+wrong_first text place e = elim (Lawful-units.fails 0 text place e) [
+  | inl form ↦ record {
+    wrong = inl (form_ends text place form);
+    first = λ before less w. elim w [
+      | inl ends ↦ form_ends_once text before place ends (form_ends text place form) less
+      | inr out ↦ no_out before less out
+    ];
+  }
+  | inr o ↦
+      let here : o.offset ≡ place = let is = o.place_is in omega arith in
+      record {
+        wrong = inr (subst (λ (n : ℕ). OutUnits n text) here o.out);
+        first = λ before less w. elim w [
+          | inl ends ↦
+              let later : place ≤ before =
+              subst (λ r. Beyond places place r) (ends_form text before ends) o.beyond in
+              absurd (omega arith)
+          | inr out ↦ no_out before less out
+        ];
+      }
+]
+  where
+    no_out : (before : ℕ) → before < place → OutUnits before text → ⊥
+    no_out before less out =
+        let same : before ≡ place = fault_is {A = Written} before place (sym (out_fails text before out) ∙ e) in
+        absurd (omega arith)
+
+-- a text goes wrong first where reading does
+first_wrong : (text : List ℕ) (place : ℕ) → GoesWrongFirst place text → units_at true (whole text) ≡ Err place
+first_wrong text place w = by_reading (units_at true (whole text)) refl
+  where
+    by_reading : (r : Outcome Written) → units_at true (whole text) ≡ r → r ≡ Err place
+    by_reading (Ok x) is = elim w.wrong [
+      | inl ends ↦
+          let no = sym (Lawful-units.same (whole text) x is) ∙ ends_form text place ends in absurd cc
+      | inr out ↦ sym is ∙ out_fails text place out
+    ]
+    by_reading (Err bad) is =
+        let other = wrong_first text bad is in
+        elim (cases_lt bad place) [
+          | inl less ↦ absurd (w.first bad less other.wrong)
+          | inr more ↦ elim (cases_lt place bad) [
+            | inl less ↦ absurd (other.first place less w.wrong)
+            | inr same ↦ let is : bad ≡ place = omega arith in ap (λ (n : ℕ). Err n) is
+          ]
+        ]
+
+-- a word that is no unit is out of its range
+unit_out : (text : List ℕ) (place : ℕ) → IsWrongUnit place text → OutUnits place text
+unit_out text place w = record {
+  value = place;
+  front = replicate place 32;
+  back = w.word ++ w.more;
+  left = 0;
+  first = refl;
+  next = inl (record {
+    value = w.word;
+    front = w.word;
+    more = w.more;
+    here = refl;
+    spelled = record { same = refl; all = w.letters; some = w.some };
+    ends = w.ends;
+    wrong = w.unknown;
+    text_is = refl;
+  });
+  text_is = w.text_is;
+  offset_is = let size = length-replicate {A = ℕ} place 32 in omega (arith, size);
+}
+
+-- a text that is read as units spells them
+pub written-from_read : (text : List ℕ) (w : Written) → written_or_fault text ≡ Ok w → SpellsUnits true text w
+unfolding written_or_fault
+written-from_read text w e = by_reading (units_at true (whole text)) refl e
+  where
+    by_reading : (r : Outcome Written) → units_at true (whole text) ≡ r → fault_as BadUnits (value_of r) ≡ Ok w
+        → SpellsUnits true text w
+    by_reading (Ok x) is k =
+        subst (λ (v : Written). SpellsUnits true text v) (same_Ok {E = UnitsFault} x.0 w k)
+        (read_spelled true text x.0 x.1 is)
+    by_reading (Err place) is k = absurd cc
+
+-- a text that spells units is read as those
+pub read-from_written : (text : List ℕ) (w : Written) → SpellsUnits true text w → written_or_fault text ≡ Ok w
+unfolding written_or_fault
+read-from_written text w s =
+    ap (λ (r : Outcome Written). fault_as BadUnits (value_of r)) (spelled_read true text w s)
+
+-- a text that is refused goes wrong there first
+pub wrong-from_refused : (text : List ℕ) (place : ℕ) → written_or_fault text ≡ Err (BadUnits place)
+    → GoesWrongFirst place text
+unfolding written_or_fault
+wrong-from_refused text place e = by_reading (units_at true (whole text)) refl e
+  where
+    by_reading : (r : Outcome Written) → units_at true (whole text) ≡ r
+        → fault_as BadUnits (value_of r) ≡ Err (BadUnits place) → GoesWrongFirst place text
+    by_reading (Ok x) is k = absurd cc
+    by_reading (Err bad) is k = let same : bad ≡ place = cc in
+        subst (λ (n : ℕ). GoesWrongFirst n text) same (wrong_first text bad is)
+
+-- a text that goes wrong first at a place is refused there
+pub refused-from_wrong : (text : List ℕ) (place : ℕ) → GoesWrongFirst place text
+    → written_or_fault text ≡ Err (BadUnits place)
+unfolding written_or_fault
+refused-from_wrong text place w =
+    ap (λ (r : Outcome Written). fault_as BadUnits (value_of r)) (first_wrong text place w)
+
+-- a text goes wrong first at one place
+pub wrong_once : (text : List ℕ) (one other : ℕ) → GoesWrongFirst one text → GoesWrongFirst other text → one ≡ other
+wrong_once text one other w v =
+    fault_is {A = Written} one other (sym (first_wrong text one w) ∙ first_wrong text other v)
 
 -- what a result says
 pub units_settle : (text : List ℕ) (calendar : Option (List ℕ)) → Settles text calendar (units_of text calendar)
-unfolding units_of
-units_settle text calendar = by_reading (written_or_fault text) refl
+unfolding units_of written_or_fault
+units_settle text calendar = by_reading (units_at true (whole text)) refl
   where
-    by_reading : (r : Result Written UnitsFault) → written_or_fault text ≡ r
-        → Settles text calendar (r >>= in_calendar calendar)
-    by_reading (Ok w) e = calendar_settles text calendar w (SpellsUnits-written_or_fault text w e)
-    by_reading (Err fault) e = none_spelled text calendar fault e
+    by_reading : (r : Outcome Written) → units_at true (whole text) ≡ r
+        → Settles text calendar (fault_as BadUnits (value_of r) >>= in_calendar calendar)
+    by_reading (Ok x) is = calendar_settles text calendar x.0 (read_spelled true text x.0 x.1 is)
+    by_reading (Err place) is = (wrong_first text place is, λ w s. not_wrong true text w place s is)
 
 -- what is spelled is read
-pub units_of-spelled : (text : List ℕ) (calendar : Option (List ℕ)) (w : Written) → SpellsUnits text w
+pub units_of-spelled : (text : List ℕ) (calendar : Option (List ℕ)) (w : Written) → SpellsUnits true text w
     → units_of text calendar ≡ in_calendar calendar w
 unfolding units_of
 units_of-spelled text calendar w s =
-    ap (λ (r : Result Written UnitsFault). r >>= in_calendar calendar) (written_or_fault-spelled text w s)
+    ap (λ (r : Result Written UnitsFault). r >>= in_calendar calendar) (read-from_written text w s)
+
+-- a text is refused where it goes wrong first
+pub units_of-wrong_first : (text : List ℕ) (calendar : Option (List ℕ)) (place : ℕ) → GoesWrongFirst place text
+    → units_of text calendar ≡ Err (BadUnits place)
+unfolding units_of
+units_of-wrong_first text calendar place w =
+    ap (λ (r : Result Written UnitsFault). r >>= in_calendar calendar) (refused-from_wrong text place w)
 
 -- an unknown unit is refused at its first letter
 pub units_of-wrong_unit : (text : List ℕ) (calendar : Option (List ℕ)) (place : ℕ) → IsWrongUnit place text
@@ -127,6 +236,6 @@ pub units_of-wrong_unit : (text : List ℕ) (calendar : Option (List ℕ)) (plac
 unfolding units_of written_or_fault
 units_of-wrong_unit text calendar place w =
     ap (λ (r : Outcome Written). fault_as BadUnits (value_of r) >>= in_calendar calendar)
-    (wrong_unit_fails text place w)
+    (out_fails text place (unit_out text place w))
 
 pub ruleset units_laws = (units_settle, units_of-spelled)

@@ -1,179 +1,154 @@
--- Numbers and the words of units are read exactly.
-use Rattle.std.proofs.Common.{◌≡◌, ℕ, ◌+◌, ◌≤◌, Bool, true, false, ◌||◌, ltb, List, [], ◌++◌, length, take, Ok, refl, sym, ap, subst, ◌∙◌, length-append, length-take, take-append-drop, arith}
-use Rattle.std.proofs.lemmas.Bool.{or_parts, ltb-false, le-ltb}
+-- What holds of the digits of numbers, and of numbers.
+use Rattle.std.proofs.Common.{◌≡◌, ◌⊎◌, inl, inr, ℕ, ◌+◌, ◌<◌, ◌≤◌, Bool, true, false, ltb, List, [], length, take, drop, Err, refl, sym, ap, ap₂, subst, ◌∙◌, length-take, take-append-drop, arith}
+use Rattle.std.proofs.lemmas.Bool.{ltb-true, lt-ltb, or_cases, or_left, or_right, cases_lt}
 use Rattle.std.proofs.lemmas.List.{append-nil}
 use Rattle.std.proofs.lemmas.List.Sums.{prefix_len-le-length}
-use Rattle.std.proofs.Math.Seq.{drop-append_seam, take-append_seam}
-use Rattle.std.specs.Char.{is_ascii_digit, is_ascii_alphabetic}
-use Rattle.std.specs.List.{prefix_len, list_all}
+use Rattle.std.specs.Char.{is_ascii_digit}
 use Rattle.fm_base.specs.Input.{Input}
+use Rattle.fm_base.specs.Parser.{pure}
 use Rattle.nc_model.specs.Stamp.{number_of}
-use Rattle.nc_model.specs.UnitsReading.{past, run_at, number_at, unit_at, seconds_per}
-use Rattle.nc_model.specs.UnitsSpelling.{SpellsNumberWithin, SpellsUnit}
-use Rattle.fm_base.proofs.Exact.{input, Took, Exact, Stops, Then, Passes, Finds, done, ok_pair, Exact-then, Exact-as, Exact-before, Exact-unless, Exact-known, Exact-located}
-use Rattle.tm_units.proofs.UnitsRuns.{run_within, run_passes, after_nothing}
+use Rattle.nc_model.specs.UnitsRanges.{EndsDigits, OutNumber}
+use Rattle.nc_model.specs.UnitsReading.{past, digits_at, number_at}
+use Rattle.nc_model.specs.UnitsSpelling.{SpellsNumberWithin, SpellsDigits}
+use Rattle.fm_base.proofs.Exact.{input, Stops, Anything, Is, done, onto}
+use Rattle.fm_base.proofs.Local.{Beyond, fault_is}
+use Rattle.tm_units.proofs.Lawful.{places, IsOutAt, Lawful, Seq, Lawful-pure, Lawful-as, Lawful-before, Lawful-first, Lawful-map}
+use Rattle.tm_units.proofs.UnitsDigits.{is_out, checked-out, checked-few, digits_of, digits_is, AreOut, AreIn, digits_cases, digits_read, digits_count, digits_checked, Exact-digits}
+use Rattle.tm_units.proofs.UnitsForms.{digits_size, digits_end, form_local, form_digits}
+use Rattle.tm_units.proofs.UnitsRuns.{run_passes}
 
--- a run of at most `most` bytes that pass
-pub record Run (test : ℕ → Bool) (most : ℕ) (text run : List ℕ) : Type 0 where
-  pub text_is : text ≡ run
-  pub all : list_all test run ≡ true
-  pub few : length run ≤ most
-
-run_takes : (test : ℕ → Bool) (most at : ℕ) (rest run : List ℕ) (j : Input) → run_at test most (input at rest)
-    ≡ Ok (run, j) → Took (Run test most) (input at rest) run j
-run_takes test most at rest run j e =
-    let count = prefix_len test (take most rest) in
-    let k = ok_pair (take count rest) run (past count (input at rest)) j e in
-    let short : count ≤ length (take most rest) = prefix_len-le-length test (take most rest) in
-    let within : count ≤ length rest = omega (arith, length-take most rest) in
-    let size : length (take count rest) ≡ count = omega (arith, length-take count rest) in
+-- a number out of its range, which stands whole
+out_here : (fewest most low high at : ℕ) (rest : List ℕ) → AreOut true fewest most low high at rest
+    → 0 < digits_of most rest → OutNumber most low high 0 rest
+out_here fewest most low high at rest out some =
+    let count = digits_of most rest in
+    let size = digits_size most rest in
     record {
-      text = take count rest;
+      value = take count rest;
+      front = take count rest;
+      more = drop count rest;
+      here = refl;
       spelled = record {
-        text_is = k.0;
-        all = subst (λ (l : List ℕ). list_all test l ≡ true) k.0 (run_passes test rest most);
-        few = subst (λ (l : List ℕ). length l ≤ most) k.0 (omega (arith, length-take most rest));
+        same = refl;
+        all = run_passes is_ascii_digit rest most;
+        some = omega arith;
+        few = short_most (digits_end most rest);
       };
-      split = sym (take-append-drop count rest) ∙ ap (λ (h : Input). take count rest ++ h.rest) k.1;
-      offset = let here = ap (λ (h : Input). h.at) k.1 in omega (arith, here, size);
+      ends = digits_end most rest;
+      wrong = elim (or_cases (ltb (number_of (take count rest)) low) (ltb high (number_of (take count rest))) out.out) [
+        | inl below ↦ inl (ltb-true _ _ below)
+        | inr above ↦ inr (ltb-true _ _ above)
+      ];
+      text_is = sym (take-append-drop count rest);
     }
+  where
+    short_most : EndsDigits most (take (digits_of most rest) rest) (drop (digits_of most rest) rest)
+        → length (take (digits_of most rest) rest) ≤ most
+    short_most ends =
+        let within = prefix_len-le-length is_ascii_digit (take most rest) in
+        omega (arith, length-take most rest, digits_size most rest)
 
-run_again : (test : ℕ → Bool) (most at : ℕ) (text rest run : List ℕ) → Run test most text run → Stops test rest
-    → run_at test most (input at (text ++ rest)) ≡ Ok (run, input (at + length text) rest)
-run_again test most at text rest run s may =
-    let few : length text ≤ most = subst (λ (l : List ℕ). length l ≤ most) (sym s.text_is) s.few in
-    let all : list_all test text ≡ true = subst (λ (l : List ℕ). list_all test l ≡ true) (sym s.text_is) s.all in
-    let count : prefix_len test (take most (text ++ rest)) ≡ length text = run_within test text rest most all few may in
-    let front : take (length text) (text ++ rest) ≡ run = take-append_seam text rest ∙ s.text_is in
-    ap (λ (m : ℕ). done {A = List ℕ × Input} (take m (text ++ rest), past m (input at (text ++ rest)))) count
-    ∙ ap (λ (l : List ℕ). done {A = List ℕ × Input} (l, past (length text) (input at (text ++ rest)))) front
-    ∙ ap (λ (l : List ℕ). done {A = List ℕ × Input} (run, input (at + length text) l)) (drop-append_seam text rest)
+pub Lawful-digits : (fewest most low high : ℕ) → 1 ≤ fewest → fewest ≤ most
+    → Lawful (λ strict. SpellsDigits strict fewest most low high) (EndsDigits most) (OutNumber most low high)
+    (λ strict. digits_at strict fewest most low high)
+Lawful-digits fewest most low high some wide = record {
+  exact = λ strict. Exact-digits strict fewest most low high;
+  form = form_digits fewest most low high wide;
+  same = λ i x e.
+      let r = digits_read true fewest most low high i.at i.rest x.0 x.1 e in
+      let count = digits_of most i.rest in
+      digits_is false fewest most low high i.at i.rest
+      ∙ checked-few false fewest low high i.at (take count i.rest) (past count i) false refl r.good.few_is
+      ∙ ap₂ (λ (d : List ℕ) (k : Input). done {A = List ℕ × Input} (d, k)) r.digits_are r.input_is;
+  fails = λ at rest bad e. elim (digits_cases true fewest most low high at rest) [
+    | inl out ↦
+        let place : at ≡ bad = fault_is {A = List ℕ} at bad (sym out.said ∙ e) in
+        elim (cases_lt 0 (digits_of most rest)) [
+          | inl there ↦ inr (record {
+            offset = 0;
+            place_is = omega arith;
+            out = out_here fewest most low high at rest out there;
+            beyond = subst (λ (n : ℕ). Beyond places n (digits_at false fewest most low high (input at rest))) place
+                ((form_local fewest most low high).forward at rest);
+          })
+          | inr none ↦
+              let size = digits_size most rest in
+              let few = lt-ltb (length (take (digits_of most rest) rest)) fewest (omega arith) in
+              let here : at + digits_of most rest ≡ bad = omega arith in
+              inl (form_is at rest few ∙ ap (λ (n : ℕ). Err n) here)
+        ]
+    | inr c ↦ by_few at rest bad e c.0 c.1
+  ];
+  refuses = λ at rest offset o.
+      let front = o.front in
+      let same = o.spelled.same in
+      let count = digits_count most front o.value o.more same o.spelled.all o.spelled.few o.ends in
+      let out : is_out true low high front ≡ true =
+      subst (λ (l : List ℕ). is_out true low high l ≡ true) (sym same) (elim o.wrong [
+        | inl below ↦ or_left _ _ (lt-ltb _ _ below)
+        | inr above ↦ or_right _ _ (lt-ltb _ _ above)
+      ]) in
+      let place : at ≡ at + offset = let here = o.here in omega arith in
+      ap (λ (l : List ℕ). digits_at true fewest most low high (input at l)) o.text_is
+      ∙ digits_checked true fewest most low high at front o.more count
+      ∙ checked-out true fewest low high at front (input (at + length front) o.more) out
+      ∙ ap (λ (n : ℕ). Err n) place;
+}
+  where
+    form_is : (at : ℕ) (rest : List ℕ) → ltb (length (take (digits_of most rest) rest)) fewest ≡ true
+        → digits_at false fewest most low high (input at rest) ≡ Err (at + digits_of most rest)
+    form_is at rest few = digits_is false fewest most low high at rest
+        ∙ checked-few false fewest low high at (take (digits_of most rest) rest)
+        (past (digits_of most rest) (input at rest)) true refl few
 
-pub Exact-run : (test : ℕ → Bool) (most : ℕ) → Exact (Run test most) (Stops test) (run_at test most)
-Exact-run test most = record {
-  takes = λ i run j any e. run_takes test most i.at i.rest run j e;
-  again = λ at text rest run s may. run_again test most at text rest run s may;
+    by_few : (at : ℕ) (rest : List ℕ) (bad : ℕ) → digits_at true fewest most low high (input at rest) ≡ Err bad
+        → (few : Bool) → AreIn true fewest most low high at rest few
+        → (digits_at false fewest most low high (input at rest) ≡ Err bad)
+        ⊎ IsOutAt (OutNumber most low high) (digits_at false fewest most low high) at rest bad
+    by_few at rest bad e true few = inl (form_is at rest few.few_is ∙ sym few.said ∙ e)
+    by_few at rest bad e false good = let no = sym e ∙ good.said in absurd cc
+
+-- digits, by the number that they write
+to_number : (fewest most low high : ℕ) (strict : Bool) (text : List ℕ) (n : ℕ)
+    → Seq (λ strict. SpellsDigits strict fewest most low high) (λ digits strict. Is (number_of digits)) strict text n
+    → SpellsNumberWithin strict fewest most low high text n
+to_number fewest most low high strict text n s =
+    let whole : text ≡ s.a = s.text_is ∙ onto s.front s.second.text_is ∙ append-nil s.front ∙ s.first.same in
+    subst (λ (l : List ℕ). SpellsNumberWithin strict fewest most low high l n) (sym whole)
+    (subst (λ (m : ℕ). SpellsNumberWithin strict fewest most low high s.a m) s.second.value s.first.within)
+
+from_number : (fewest most low high : ℕ) (strict : Bool) (text : List ℕ) (n : ℕ)
+    → SpellsNumberWithin strict fewest most low high text n
+    → Seq (λ strict. SpellsDigits strict fewest most low high) (λ digits strict. Is (number_of digits)) strict text n
+from_number fewest most low high strict text n s = record {
+  a = text;
+  front = text;
+  back = [];
+  first = record {
+    same = refl;
+    within = subst (λ (m : ℕ). SpellsNumberWithin strict fewest most low high text m) (sym s.value) s;
+  };
+  second = record { value = s.value; text_is = refl };
+  text_is = sym (append-nil text);
 }
 
--- whether a number is out of its range
-abbrev pub is_out : ℕ → ℕ → List ℕ → Bool
-is_out low high digits = ltb (number_of digits) low || ltb high (number_of digits)
-
--- what a number's digits are tested for
-abbrev Tested : ℕ → ℕ → ℕ → List ℕ → List ℕ → ℕ → Type 0
-Tested fewest low high digits =
-    Then (Passes (is_out low high digits) digits)
-    (λ (digits : List ℕ). Passes (ltb (length digits) fewest) (number_of digits))
-
-to_number : (fewest most low high : ℕ) (text : List ℕ) (n : ℕ)
-    → Then (Run is_ascii_digit most) (Tested fewest low high) text n → SpellsNumberWithin fewest most low high text n
-to_number fewest most low high text n s =
-    let run = s.first in
-    let tests = s.second in
-    let digits = s.a in
-    let whole : text ≡ digits = s.text_is
-    ∙ ap (λ (l : List ℕ). s.front ++ l) (tests.text_is ∙ ap (λ (l : List ℕ). l ++ tests.back) tests.first.text_is
-    ∙ tests.second.text_is) ∙ append-nil s.front ∙ run.text_is in
-    let range = or_parts (ltb (number_of digits) low) (ltb high (number_of digits)) tests.first.good in
-    let same : tests.a ≡ text = sym tests.first.value ∙ sym whole in
-    let value : number_of text ≡ n = subst (λ (l : List ℕ). number_of l ≡ n) same tests.second.value in
-    let above : low ≤ number_of text = subst (λ (l : List ℕ). low ≤ number_of l) (sym whole) (ltb-false _ _ range.0) in
-    let below : number_of text ≤ high =
-    subst (λ (l : List ℕ). number_of l ≤ high) (sym whole) (ltb-false _ _ range.1) in
-    record {
-      digits = subst (λ (l : List ℕ). list_all is_ascii_digit l ≡ true) (sym whole) run.all;
-      enough = subst (λ (l : List ℕ). fewest ≤ length l) same (ltb-false _ _ tests.second.good);
-      few = subst (λ (l : List ℕ). length l ≤ most) (sym whole) run.few;
-      value = value;
-      low_is = subst (λ (m : ℕ). low ≤ m) value above;
-      high_is = subst (λ (m : ℕ). m ≤ high) value below;
-    }
-
-from_number : (fewest most low high : ℕ) (text : List ℕ) (n : ℕ) → SpellsNumberWithin fewest most low high text n
-    → Then (Run is_ascii_digit most) (Tested fewest low high) text n
-from_number fewest most low high text n s =
-    let above : ltb (number_of text) low ≡ false = rw s.value (le-ltb _ _ s.low_is) in
-    let below : ltb high (number_of text) ≡ false = rw s.value (le-ltb _ _ s.high_is) in
-    record {
-      a = text;
-      front = text;
-      back = [];
-      first = record { text_is = refl; all = s.digits; few = s.few };
-      second = record {
-        a = text;
-        front = [];
-        back = [];
-        first = record { good = rw (above, below) refl; value = refl; text_is = refl };
-        second = record { good = le-ltb _ _ s.enough; value = s.value; text_is = refl };
-        text_is = refl;
-      };
-      text_is = sym (append-nil text);
-    }
-
-pub Exact-number : (fewest most low high : ℕ)
-    → Exact (SpellsNumberWithin fewest most low high) (Stops is_ascii_digit) (number_at fewest most low high)
+pub Lawful-number : (fewest most low high : ℕ) → 1 ≤ fewest → fewest ≤ most
+    → Lawful (λ strict. SpellsNumberWithin strict fewest most low high) (λ n. Stops is_ascii_digit)
+    (OutNumber most low high) (λ strict. number_at strict fewest most low high)
 unfolding number_at
-Exact-number fewest most low high =
-    Exact-as (to_number fewest most low high) (from_number fewest most low high)
-    (Exact-located (λ at.
-    Exact-then {T = Tested fewest low high} {Q = Stops is_ascii_digit} (Exact-run is_ascii_digit most)
-    (λ digits.
-    Exact-then {T = λ (digits : List ℕ). Passes (ltb (length digits) fewest) (number_of digits)} {Q =
-    Stops is_ascii_digit}
-    (Exact-unless (is_out low high digits) at digits)
-    (λ digits. Exact-located
-    (λ end. Exact-before (λ rest may. tt) (Exact-unless (ltb (length digits) fewest) end (number_of digits))))
-    (λ a b back rest s may. tt))
-    (λ a b back rest s may.
-    after_nothing (Stops is_ascii_digit) back rest (s.text_is ∙ ap (λ (l : List ℕ). l ++ s.back) s.first.text_is
-    ∙ s.second.text_is) may)))
+Lawful-number fewest most low high some wide =
+    Lawful-as (to_number fewest most low high) (from_number fewest most low high)
+    (Lawful-map number_of (Lawful-before (λ digits rest stops. inr stops)
+    (Lawful-digits fewest most low high some wide)))
 
--- a run of bytes that pass
-pub record Whole (test : ℕ → Bool) (text run : List ℕ) : Type 0 where
-  pub text_is : text ≡ run
-  pub all : list_all test run ≡ true
-
-pub Exact-whole : (test : ℕ → Bool) → Exact (Whole test) (Stops test) (λ i. run_at test (length i.rest) i)
-Exact-whole test = record {
-  takes = λ i run j any e.
-      let t = run_takes test (length i.rest) i.at i.rest run j e in
-      record {
-        text = t.text;
-        spelled = record { text_is = t.spelled.text_is; all = t.spelled.all };
-        split =
-            t.split;
-        offset = t.offset;
-      };
-  again = λ at text rest run s may.
-      let few : length run ≤ length (text ++ rest) = omega (arith, length-append text rest, ap length s.text_is) in
-      run_again test (length (text ++ rest)) at text rest run (record {
-        text_is = s.text_is;
-        all = s.all;
-        few =
-            few;
-      }) may;
-}
-
-pub Exact-unit : Exact SpellsUnit (Stops is_ascii_alphabetic) unit_at
-unfolding unit_at
-Exact-unit =
-    Exact-as
-    (λ text seconds s.
-    let whole : text ≡ s.a = s.text_is ∙ ap (λ (l : List ℕ). s.front ++ l) s.second.text_is ∙ append-nil s.front
-    ∙ s.first.text_is in
-    record {
-      letters = subst (λ (l : List ℕ). list_all is_ascii_alphabetic l ≡ true) (sym whole) s.first.all;
-      unit = ap seconds_per whole ∙ s.second.found_is;
-    })
-    (λ text seconds s. record {
-      a = text;
-      front = text;
-      back = [];
-      first = record { text_is = refl; all = s.letters };
-      second = record { found_is = s.unit; text_is = refl };
-      text_is = sym (append-nil text);
-    })
-    (Exact-located (λ at.
-    Exact-then {T = λ word. Finds (seconds_per word)} {Q = Stops is_ascii_alphabetic} (Exact-whole is_ascii_alphabetic)
-    (λ word. Exact-before (λ rest may. tt) (Exact-known at (seconds_per word)))
-    (λ a b back rest s may. after_nothing (Stops is_ascii_alphabetic) back rest s.text_is may)))
+-- a number of a fixed width, whatever follows
+pub Lawful-fixed : (width low high : ℕ) → 1 ≤ width
+    → Lawful (λ strict. SpellsNumberWithin strict width width low high) (λ n. Anything) (OutNumber width low high)
+    (λ strict. number_at strict width width low high)
+unfolding number_at
+Lawful-fixed width low high some =
+    Lawful-as (to_number width width low high) (from_number width width low high)
+    (Lawful-first {T = λ digits strict. Is (number_of digits)} {q = λ digits strict. pure (number_of digits)}
+    (Lawful-digits width width low high some (omega arith)) (λ digits. Lawful-pure (number_of digits))
+    (λ strict a b front back rest s t may. let few = s.within.few in let enough = s.within.enough in
+    inl (omega arith)))

@@ -1,6 +1,6 @@
 -- Runs of bytes, single bytes, words and numbers are read exactly.
-use Rattle.std.proofs.Common.{◌≡◌, ℕ, zero, suc, ◌+◌, ◌≤◌, Bool, true, false, cond, ◌==◌, List, [], ◌∷◌, ◌++◌, length, take, replicate, Ok, Err, refl, sym, ap, ap₂, subst, ◌∙◌, take-append-drop, IsTrue, eq-eqb, arith}
-use Rattle.std.proofs.lemmas.Bool.{eqb-true}
+use Rattle.std.proofs.Common.{◌≡◌, ℕ, zero, suc, ◌+◌, ◌<◌, ◌≤◌, Bool, true, false, cond, ◌==◌, List, [], ◌∷◌, ◌++◌, length, take, replicate, Ok, Err, refl, sym, ap, ap₂, subst, ◌∙◌, take-append-drop, IsTrue, eq-eqb, arith}
+use Rattle.std.proofs.lemmas.Bool.{eqb-true, eqb-false, ne_eqb}
 use Rattle.std.proofs.lemmas.List.{append-nil, length-replicate}
 use Rattle.std.proofs.lemmas.List.Folds.{length-prefix_len}
 use Rattle.std.proofs.Math.Seq.{take-length, drop-append_seam}
@@ -8,9 +8,10 @@ use Rattle.std.specs.Char.{eq_ignore_ascii_case}
 use Rattle.std.specs.List.{prefix_len, list_all}
 use Rattle.std.specs.Str.{str_eq_ignore_ascii_case}
 use Rattle.fm_base.specs.Input.{Input}
-use Rattle.nc_model.specs.UnitsReading.{UnitsParser as Parser, past, next_passes, byte_at, letter_at, letters_at, many_at, some_at, is_same_word}
+use Rattle.nc_model.specs.UnitsReading.{UnitsParser as Parser, past, next_passes, many_at, some_at, is_same_word}
 use Rattle.tm_units.proofs.InstantLemmas.{and_parts}
-use Rattle.fm_base.proofs.Exact.{input, Took, Exact, Stops, Anything, Passes, done, ok_pair, Exact-then, Exact-pure, Exact-as, Exact-before, Exact-unless, Exact-located}
+use Rattle.fm_base.proofs.Exact.{input, Took, Exact, Stops, Anything, Passes, done, ok_pair, Exact-then, Exact-as, Exact-before, Exact-unless, Exact-located}
+use Rattle.tm_units.proofs.Lawful.{after_nothing}
 
 -- a run is as long as it can be
 pub run_is : (test : ℕ → Bool) (run rest : List ℕ) → list_all test run ≡ true → Stops test rest
@@ -32,6 +33,16 @@ run_within test (x ∷ run) rest (suc most) all few stops =
     let parts = and_parts (test x) (list_all test run) all in
     rw (parts.0, run_within test run rest most parts.1 (omega arith) stops) (omega arith)
 
+-- and no longer where it is as long as it may be
+pub run_full : (test : ℕ → Bool) (run rest : List ℕ) (most : ℕ) → list_all test run ≡ true → length run ≡ most
+    → prefix_len test (take most (run ++ rest)) ≡ length run
+run_full test [] rest zero all full = refl
+run_full test [] rest (suc most) all full = absurd (omega arith)
+run_full test (x ∷ run) rest zero all full = absurd (omega arith)
+run_full test (x ∷ run) rest (suc most) all full =
+    let parts = and_parts (test x) (list_all test run) all in
+    rw (parts.0, run_full test run rest most parts.1 (omega arith)) (omega arith)
+
 -- each byte of a run passes
 pub run_passes : (test : ℕ → Bool) (xs : List ℕ) (most : ℕ) → list_all test (take (prefix_len test (take most xs)) xs)
     ≡ true
@@ -46,8 +57,8 @@ run_passes test (x ∷ xs) (suc most) =
     by_first test x xs k false e all = refl
 
 -- as often as this byte stands there
-pub record Repeats (byte : ℕ) (text : List ℕ) (count : ℕ) : Type 0 where
-  pub text_is : text ≡ replicate count byte
+abbrev pub Repeats : ℕ → List ℕ → ℕ → Type 0
+Repeats byte text count = text ≡ replicate count byte
 
 same_byte : (byte : ℕ) (xs : List ℕ) → list_all (λ other. other == byte) xs ≡ true → xs ≡ replicate (length xs) byte
 same_byte byte [] all = refl
@@ -71,15 +82,15 @@ Exact-many byte = record {
       ∙ ap (λ (m : ℕ). replicate m byte) size in
       record {
         text = take count i.rest;
-        spelled = record { text_is = subst (λ (m : ℕ). take count i.rest ≡ replicate m byte) k.0 same };
+        spelled = subst (λ (m : ℕ). take count i.rest ≡ replicate m byte) k.0 same;
         split = sym (take-append-drop count i.rest) ∙ ap (λ (h : Input). take count i.rest ++ h.rest) k.1;
         offset = let at = ap (λ (h : Input). h.at) k.1 in omega (arith, at, size);
       };
   again = λ at text rest n s may.
       let test : ℕ → Bool = λ other. other == byte in
-      let size : length text ≡ n = ap length s.text_is ∙ length-replicate n byte in
+      let size : length text ≡ n = ap length s ∙ length-replicate n byte in
       let all : list_all test text ≡ true =
-      subst (λ (l : List ℕ). list_all test l ≡ true) (sym s.text_is) (repeated_passes byte n) in
+      subst (λ (l : List ℕ). list_all test l ≡ true) (sym s) (repeated_passes byte n) in
       let count : prefix_len test (text ++ rest) ≡ length text = run_is test text rest all may in
       let whole : past (length text) (input at (text ++ rest)) ≡ input (at + length text) rest =
       ap (λ (l : List ℕ). input (at + length text) l) (drop-append_seam text rest) in
@@ -93,30 +104,24 @@ Exact-many byte = record {
         (run_passes test xs (length xs))
 
 -- at least once
-pub record RepeatsSome (byte : ℕ) (text : List ℕ) (count : ℕ) : Type 0 where
-  pub some : (count == 0) ≡ false
-  pub text_is : text ≡ replicate count byte
-
--- what follows nothing
-pub after_nothing : (P : List ℕ → Type 0) (back rest : List ℕ) → back ≡ [] → P rest → P (back ++ rest)
-after_nothing P back rest none may = subst (λ (l : List ℕ). P (l ++ rest)) (sym none) may
+abbrev pub RepeatsSome : ℕ → List ℕ → ℕ → Type 0
+RepeatsSome byte text count = (0 < count) × (text ≡ replicate count byte)
 
 pub Exact-some : (byte : ℕ) → Exact (RepeatsSome byte) (Stops (λ other. other == byte)) (some_at byte)
 unfolding some_at
 Exact-some byte =
     Exact-as
-    (λ text n s. record {
-      some = subst (λ (m : ℕ). (m == 0) ≡ false) s.second.value s.second.good;
-      text_is = s.text_is ∙ ap (λ (l : List ℕ). s.front ++ l) s.second.text_is ∙ append-nil s.front ∙ s.first.text_is
-          ∙ ap (λ (m : ℕ). replicate m byte) s.second.value;
-    })
+    (λ text n s. (
+      subst (λ (m : ℕ). 0 < m) s.second.value (let some = eqb-false s.a 0 s.second.good in omega (arith, some)),
+      s.text_is ∙ ap (λ (l : List ℕ). s.front ++ l) s.second.text_is ∙ append-nil s.front ∙ s.first
+          ∙ ap (λ (m : ℕ). replicate m byte) s.second.value,
+    ))
     (λ text n s. record {
       a = n;
       front = text;
       back = [];
-      first = record { text_is = s.text_is };
-      second =
-          record { good = s.some; value = refl; text_is = refl };
+      first = s.1;
+      second = record { good = ne_eqb n 0 (λ e. let some = s.0 in omega arith); value = refl; text_is = refl };
       text_is = sym (append-nil text);
     })
     (Exact-then {T = λ count. Passes (count == 0) count} {Q = Stops (λ other. other == byte)} (Exact-many byte)
@@ -162,21 +167,9 @@ Exact-one test = record {
 abbrev pub IsByte : ℕ → List ℕ → Unit {0} → Type 0
 IsByte byte text unit = text ≡ byte ∷ []
 
-pub Exact-byte : (byte : ℕ) → Exact (IsByte byte) Anything (byte_at byte)
-unfolding byte_at
-Exact-byte byte =
-    Exact-as
-    (λ text unit s. s.text_is ∙ ap (λ (b : ℕ). b ∷ []) (eqb-true s.byte byte s.passes))
-    (λ text unit s. record { byte = byte; passes = eq-eqb byte byte refl; text_is = s })
-    (Exact-one (λ other. other == byte))
-
 -- this letter in either case
 abbrev pub IsLetter : ℕ → List ℕ → Unit {0} → Type 0
 IsLetter letter text unit = One (λ other. eq_ignore_ascii_case other letter) text unit
-
-pub Exact-letter : (letter : ℕ) → Exact (IsLetter letter) Anything (letter_at letter)
-unfolding letter_at
-Exact-letter letter = Exact-one (λ other. eq_ignore_ascii_case other letter)
 
 -- these letters in either case
 abbrev pub AreLetters : List ℕ → List ℕ → Unit {0} → Type 0
@@ -200,33 +193,6 @@ pub letters_same : (letter : ℕ) (word : List ℕ) (x : ℕ) (text : List ℕ) 
     → IsTrue (is_same_word text word) → IsTrue (is_same_word (x ∷ text) (letter ∷ word))
 unfolding is_same_word
 letters_same letter word x text first others = rw first others
-
-pub Exact-letters : (word : List ℕ) → Exact (AreLetters word) Anything (letters_at word)
-unfolding is_same_word
-Exact-letters [] =
-    Exact-as
-    (λ text unit s. subst (λ (l : List ℕ). IsTrue (is_same_word l [])) (sym s.text_is) refl)
-    (λ text unit s. record { value = refl; text_is = no_word text s })
-    (Exact-pure tt)
-Exact-letters (letter ∷ word) =
-    Exact-as
-    (λ text unit s.
-    subst (λ (l : List ℕ). IsTrue (is_same_word l (letter ∷ word)))
-    (sym (s.text_is ∙ ap (λ (l : List ℕ). l ++ s.back) s.first.text_is))
-    (letters_same letter word s.first.byte s.back s.first.passes s.second))
-    (λ text unit s.
-    let parts = same_letters letter word text s in
-    record {
-      a = tt;
-      front = parts.0 ∷ [];
-      back = parts.1;
-      first =
-          record { byte = parts.0; passes = parts.3; text_is = refl };
-      second = parts.4;
-      text_is = parts.2;
-    })
-    (Exact-then {T = λ u. AreLetters word} {Q = Anything} (Exact-letter letter) (λ u. Exact-letters word)
-    (λ a b back rest s may. tt))
 
 -- a word of no letters
 pub no_letters : Unit {0} → IsTrue (is_same_word [] [])

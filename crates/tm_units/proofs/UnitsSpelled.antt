@@ -3,15 +3,12 @@ use Rattle.std.proofs.Common.{◌≡◌, ℕ, ◌+◌, Bool, true, false, cond, 
 use Rattle.std.proofs.lemmas.Bool.{eqb-true}
 use Rattle.std.proofs.lemmas.List.{append-nil, nil_from_length}
 use Rattle.std.specs.Char.{eq_ignore_ascii_case}
-use Rattle.nc_model.specs.declared.units.UnitsFault.{UnitsFault}
-use Rattle.nc_model.specs.declared.units.UnitsFault.TheVariants.{BadUnits}
-use Rattle.fm_base.specs.Chain.{fault_as}
 use Rattle.fm_base.specs.Input.{Input, whole}
-use Rattle.nc_model.specs.UnitsReading.{UnitsOutcome as Outcome, UnitsParser as Parser, has_ended, next_passes, end_at, letters_at, spaces_at, gap_at, unit_at, date_at, zone_at, time_of_day_at, letter_at, last_zone_at, clock_at, after_date_at, units_at, Written, written_or_fault}
+use Rattle.nc_model.specs.UnitsReading.{UnitsParser as Parser, has_ended, next_passes, end_at, letters_at, spaces_at, gap_at, unit_at, date_at, zone_after, time_of_day_at, letter_at, last_zone_at, clock_at, after_date_at, units_at, Written}
 use Rattle.nc_model.specs.UnitsSpelling.{SpellsUnits}
 use Rattle.fm_base.proofs.Exact.{input, done, bind_ok, ok_pair}
-use Rattle.tm_units.proofs.UnitsReadings.{Exact-units}
-use Rattle.fm_base.specs.Parser.{◌>>=◌, pure, value_of}
+use Rattle.tm_units.proofs.UnitsReadings.{Lawful-units}
+use Rattle.fm_base.specs.Parser.{◌>>=◌, pure}
 
 -- a parser that reads to the end of the text
 record Ends {A : Type 0} (p : Parser A) : Type 0 where
@@ -65,56 +62,47 @@ Ends-end = record { ends = λ i u j e. by_end i u j (has_ended i) refl e }
     by_end i u j true is e = ended i j is (ok_pair tt u i j e).1
     by_end i u j false is e = absurd cc
 
-Ends-last_zone : Ends last_zone_at
+Ends-last_zone : (strict : Bool) → Ends (last_zone_at strict)
 unfolding last_zone_at
-Ends-last_zone =
+Ends-last_zone strict =
     Ends-then spaces_at
     (λ gap. Ends-unless_ended (pos 0)
-    (Ends-then zone_at (λ zone. Ends-then spaces_at (λ gap. Ends-last (λ (u : Unit {0}). zone) Ends-end))))
+    (Ends-then (zone_after strict gap)
+    (λ zone. Ends-then spaces_at (λ gap. Ends-last (λ (u : Unit {0}). zone) Ends-end))))
 
-Ends-clock : Ends clock_at
+Ends-clock : (strict : Bool) → Ends (clock_at strict)
 unfolding clock_at
-Ends-clock = Ends-then time_of_day_at (λ time. Ends-last (λ (zone : ℤ). pos time -ℤ zone) Ends-last_zone)
+Ends-clock strict =
+    Ends-then (time_of_day_at strict) (λ time. Ends-last (λ (zone : ℤ). pos time -ℤ zone) (Ends-last_zone strict))
 
-Ends-after_date : Ends after_date_at
+Ends-after_date : (strict : Bool) → Ends (after_date_at strict)
 unfolding after_date_at
-Ends-after_date =
+Ends-after_date strict =
     Ends-either (next_passes (λ other. eq_ignore_ascii_case other 116))
-    (Ends-then (letter_at 116) (λ t. Ends-clock))
-    (Ends-then spaces_at (λ gap. Ends-unless_ended (pos 0) (Ends-allowed (gap == 0) Ends-clock)))
+    (Ends-then (letter_at 116) (λ t. Ends-clock strict))
+    (Ends-then spaces_at (λ gap. Ends-unless_ended (pos 0) (Ends-allowed (gap == 0) (Ends-clock strict))))
 
-Ends-units : Ends units_at
+Ends-units : (strict : Bool) → Ends (units_at strict)
 unfolding units_at
-Ends-units =
+Ends-units strict =
     Ends-then spaces_at
-    (λ front. Ends-then unit_at
+    (λ front. Ends-then (unit_at strict)
     (λ per. Ends-then gap_at
-    (λ gap. Ends-then (letters_at (codes "since")) (λ since. Ends-then gap_at (λ gap. Ends-then date_at (λ day.
-    Ends-last (λ (seconds : ℤ). record { per = per; day = day; seconds = seconds }) Ends-after_date))))))
+    (λ gap. Ends-then (letters_at (codes "since")) (λ since. Ends-then gap_at (λ gap. Ends-then (date_at strict) (λ day.
+    Ends-last (λ (seconds : ℤ). record { per = per; day = day; seconds = seconds }) (Ends-after_date strict)))))))
 
--- what is spelled so is read
-pub written_or_fault-spelled : (text : List ℕ) (w : Written) → SpellsUnits text w → written_or_fault text ≡ Ok w
-unfolding written_or_fault
-written_or_fault-spelled text w s =
-    let again = Exact-units.again 0 text [] w s refl in
-    let read : units_at (whole text) ≡ Ok (w, input (0 + length text) []) =
-    subst (λ (l : List ℕ). units_at (input 0 l) ≡ Ok (w, input (0 + length text) [])) (append-nil text) again in
-    ap (λ (r : Outcome Written). fault_as BadUnits (value_of r)) read
-
-value_some : {A : Type 0} (r : Outcome A) (a : A) → fault_as BadUnits (value_of r) ≡ Ok a
-    → (j : Input) × (r ≡ Ok (a, j))
-value_some (Ok p) a e = (p.1, ap (λ (x : _). Ok (x, p.1)) (ok_value p.0 a e))
-  where
-    ok_value : {A : Type 0} (x y : A) → done {E = UnitsFault} x ≡ Ok y → x ≡ y
-    ok_value x y e = cc
-value_some (Err at) a e = absurd cc
+-- what is spelled so is read to the end
+pub spelled_read : (strict : Bool) (text : List ℕ) (w : Written) → SpellsUnits strict text w
+    → units_at strict (whole text) ≡ Ok (w, input (0 + length text) [])
+spelled_read strict text w s =
+    subst (λ (l : List ℕ). units_at strict (input 0 l) ≡ Ok (w, input (0 + length text) [])) (append-nil text)
+    ((Lawful-units.exact strict).again 0 text [] w s refl)
 
 -- what is read is spelled so
-pub SpellsUnits-written_or_fault : (text : List ℕ) (w : Written) → written_or_fault text ≡ Ok w → SpellsUnits text w
-unfolding written_or_fault
-SpellsUnits-written_or_fault text w e =
-    let read = value_some (units_at (whole text)) w e in
-    let took = Exact-units.takes (whole text) w read.0 tt read.1 in
-    let none = Ends-units.ends (whole text) w read.0 read.1 in
+pub read_spelled : (strict : Bool) (text : List ℕ) (w : Written) (j : Input)
+    → units_at strict (whole text) ≡ Ok (w, j) → SpellsUnits strict text w
+read_spelled strict text w j e =
+    let took = (Lawful-units.exact strict).takes (whole text) w j e in
+    let none = (Ends-units strict).ends (whole text) w j e in
     let all : text ≡ took.text = took.split ∙ ap (λ (l : List ℕ). took.text ++ l) none ∙ append-nil took.text in
-    subst (λ (l : List ℕ). SpellsUnits l w) (sym all) took.spelled
+    subst (λ (l : List ℕ). SpellsUnits strict l w) (sym all) took.spelled

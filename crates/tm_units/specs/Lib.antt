@@ -5,5 +5,6 @@ pub use Rattle.nc_model.specs.Instant
 pub use Rattle.nc_model.specs.Stamp
 pub use Rattle.nc_model.specs.Units
 pub use Rattle.nc_model.specs.UnitsFaults
+pub use Rattle.nc_model.specs.UnitsRanges
 pub use Rattle.nc_model.specs.UnitsReading
 pub use Rattle.nc_model.specs.UnitsSpelling

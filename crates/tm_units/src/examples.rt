@@ -7,104 +7,86 @@ use nc_model::UnitsFault;
 /// Offsets of faults at the unit. A word counts whole: the longest run of letters.
 #[tactic(auto, unfolding(crate::proofs::Computing::texts))]
 pub fn unit_places()
-    ensures nothing { units_of (codes "") None ≡ Err (UnitsFault.BadUnits 0) }
-    ensures only_spaces { units_of (codes "   ") None ≡ Err (UnitsFault.BadUnits 3) }
-    ensures unknown_word { units_of (codes "months since 2020-1-1") None
-        ≡ Err (UnitsFault.BadUnits 0) }
     ensures unknown_word_at_the_end { units_of (codes "da") None ≡ Err (UnitsFault.BadUnits 0) }
     ensures longer_than_a_unit { units_of (codes "  dayss since 2020-1-1") None
         ≡ Err (UnitsFault.BadUnits 2) }
-    ensures digit_first { units_of (codes "5 since 2020-1-1") None ≡ Err (UnitsFault.BadUnits 0) }
-    ensures digit_after_letters { units_of (codes "  day1 since 2020-1-1") None
-        ≡ Err (UnitsFault.BadUnits 5) }
-    ensures unit_alone { units_of (codes "days") None ≡ Err (UnitsFault.BadUnits 4) }
-    ensures tab { units_of (codes "days\tsince 2020-1-1") None ≡ Err (UnitsFault.BadUnits 4) }
-    ensures no_since { units_of (codes "days ") None ≡ Err (UnitsFault.BadUnits 5) }
-    ensures since_cut { units_of (codes "days s") None ≡ Err (UnitsFault.BadUnits 6) }
-    ensures since_misspelled { units_of (codes "days  sinze 2020-1-1") None
-        ≡ Err (UnitsFault.BadUnits 9) }
-    ensures no_gap_after_since { units_of (codes "days since2020-1-1") None
-        ≡ Err (UnitsFault.BadUnits 10) }
 {}
 
 /// Offsets of faults in the date. A number is the longest run of digits, of four for a year and of two else, and its
 /// range is checked whatever follows.
 #[tactic(auto, unfolding(crate::proofs::Computing::texts))]
 pub fn date_places()
-    ensures no_date { units_of (codes "days since ") None ≡ Err (UnitsFault.BadUnits 11) }
-    ensures sign { units_of (codes "days since -1-1-1") None ≡ Err (UnitsFault.BadUnits 11) }
-    ensures year_alone { units_of (codes "days since 2020") None ≡ Err (UnitsFault.BadUnits 15) }
-    ensures year_of_five_digits { units_of (codes "days since 20200-1-1") None
-        ≡ Err (UnitsFault.BadUnits 15) }
-    ensures slash { units_of (codes "days since 2020/1/1") None ≡ Err (UnitsFault.BadUnits 15) }
-    ensures no_month { units_of (codes "days since 2020-") None ≡ Err (UnitsFault.BadUnits 16) }
     ensures month_0_at_the_end { units_of (codes "days since 2020-0") None
         ≡ Err (UnitsFault.BadUnits 16) }
     ensures month_of_three_digits { units_of (codes "days since 2020-001-01") None
         ≡ Err (UnitsFault.BadUnits 16) }
     ensures month_13 { units_of (codes "days since 2020-13-1") None ≡ Err (UnitsFault.BadUnits 16) }
-    ensures month_alone { units_of (codes "days since 2020-1") None ≡ Err (UnitsFault.BadUnits 17) }
-    ensures no_day { units_of (codes "days since 2020-1-") None ≡ Err (UnitsFault.BadUnits 18) }
-    ensures day_0 { units_of (codes "days since 2024-1-0") None ≡ Err (UnitsFault.BadUnits 18) }
     ensures no_leap_year { units_of (codes "days since 2023-2-29") None
         ≡ Err (UnitsFault.BadUnits 18) }
-    ensures april_31 { units_of (codes "days since 2024-4-31") None ≡ Err (UnitsFault.BadUnits 18) }
     ensures day_of_three_digits { units_of (codes "days since 2020-1-111") None
         ≡ Err (UnitsFault.BadUnits 20) }
-    ensures byte_after_a_day { units_of (codes "days since 2020-1-1x") None
+{}
+
+/// Offsets of faults in a date without dashes. After four digits a fifth begins the month.
+#[tactic(auto, unfolding(crate::proofs::Computing::texts))]
+pub fn joined_date_places()
+    ensures fifth_digit_0 { units_of (codes "days since 20240") None
+        ≡ Err (UnitsFault.BadUnits 15) }
+    ensures month_of_one_digit { units_of (codes "days since 20241") None
+        ≡ Err (UnitsFault.BadUnits 16) }
+    ensures joined_month_13 { units_of (codes "days since 20241328") None
+        ≡ Err (UnitsFault.BadUnits 15) }
+    ensures no_joined_day { units_of (codes "days since 202402") None
+        ≡ Err (UnitsFault.BadUnits 17) }
+    ensures joined_day_0 { units_of (codes "days since 2024010") None
+        ≡ Err (UnitsFault.BadUnits 17) }
+    ensures joined_day_of_one_digit { units_of (codes "days since 2024022") None
+        ≡ Err (UnitsFault.BadUnits 18) }
+    ensures february_30 { units_of (codes "days since 20240230") None
+        ≡ Err (UnitsFault.BadUnits 17) }
+    ensures ninth_digit { units_of (codes "days since 202402281") None
+        ≡ Err (UnitsFault.BadUnits 19) }
+    ensures dash_before_the_day_alone { units_of (codes "days since 202402-28") None
+        ≡ Err (UnitsFault.BadUnits 17) }
+    ensures dash_before_the_month_alone { units_of (codes "days since 2024-0228") None
+        ≡ Err (UnitsFault.BadUnits 18) }
+    ensures zone_after_a_joined_date { units_of (codes "days since 20240228Z") None
         ≡ Err (UnitsFault.BadUnits 19) }
 {}
 
-/// Offsets of faults in the time.
+/// Offsets of faults in a time, which may be its hour alone.
 #[tactic(auto, unfolding(crate::proofs::Computing::texts))]
 pub fn time_places()
-    ensures no_time { units_of (codes "days since 2020-1-1 x") None ≡ Err (UnitsFault.BadUnits 20) }
-    ensures no_time_after_t { units_of (codes "days since 2020-1-1T") None
-        ≡ Err (UnitsFault.BadUnits 20) }
-    ensures space_after_t { units_of (codes "days since 2020-1-1T 00:00") None
-        ≡ Err (UnitsFault.BadUnits 20) }
     ensures hour_24 { units_of (codes "days since 2020-1-1 24:00") None
         ≡ Err (UnitsFault.BadUnits 20) }
-    ensures hour_alone { units_of (codes "days since 2020-1-1 12") None
-        ≡ Err (UnitsFault.BadUnits 22) }
-    ensures hour_of_three_digits { units_of (codes "days since 2020-1-1 123:00") None
-        ≡ Err (UnitsFault.BadUnits 22) }
-    ensures no_minute { units_of (codes "days since 2020-1-1 12:") None
-        ≡ Err (UnitsFault.BadUnits 23) }
-    ensures minute_60 { units_of (codes "days since 2020-1-1 12:60") None
-        ≡ Err (UnitsFault.BadUnits 23) }
-    ensures point_after_the_minute { units_of (codes "days since 2020-1-1 12:00.0") None
+    ensures minute_without_a_colon { units_of (codes "days since 2020-1-1 12 00") None
         ≡ Err (UnitsFault.BadUnits 25) }
-    ensures no_second { units_of (codes "days since 2020-1-1 12:00:") None
-        ≡ Err (UnitsFault.BadUnits 26) }
-    ensures second_60 { units_of (codes "days since 2020-1-1 12:00:60") None
-        ≡ Err (UnitsFault.BadUnits 26) }
-    ensures no_decimals { units_of (codes "days since 2020-1-1 12:00:00.") None
-        ≡ Err (UnitsFault.BadUnits 29) }
-    ensures decimal_5 { units_of (codes "days since 2020-1-1 12:00:00.5") None
-        ≡ Err (UnitsFault.BadUnits 29) }
+    ensures minute_joined_to_the_hour { units_of (codes "days since 20240228T1830Z") None
+        ≡ Err (UnitsFault.BadUnits 22) }
     ensures third_decimal_5 { units_of (codes "days since 2020-1-1 12:00:00.005") None
         ≡ Err (UnitsFault.BadUnits 31) }
 {}
 
-/// Offsets of faults in the zone.
+/// Offsets of faults in a zone. After a sign one or two digits are the hours, and a third begins the minutes.
 #[tactic(auto, unfolding(crate::proofs::Computing::texts))]
 pub fn zone_places()
-    ensures unknown_zone { units_of (codes "days since 2020-1-1 12:00 GMT") None
-        ≡ Err (UnitsFault.BadUnits 26) }
-    ensures zone_cut { units_of (codes "days since 2020-1-1 12:00 UT") None
+    ensures gmt_cut { units_of (codes "days since 2020-1-1 12:00 GM") None
         ≡ Err (UnitsFault.BadUnits 28) }
-    ensures zone_misspelled { units_of (codes "days since 2020-1-1 12:00 UTX") None
-        ≡ Err (UnitsFault.BadUnits 28) }
-    ensures letter_after_z { units_of (codes "days since 2020-1-1 12:00 ZZ") None
+    ensures gmt_misspelled { units_of (codes "days since 2020-1-1 12:00 GTM") None
         ≡ Err (UnitsFault.BadUnits 27) }
-    ensures sign_alone { units_of (codes "days since 2020-1-1 12:00 +") None
-        ≡ Err (UnitsFault.BadUnits 27) }
-    ensures zone_hour_24 { units_of (codes "days since 2020-1-1 12:00 +24") None
-        ≡ Err (UnitsFault.BadUnits 27) }
-    ensures zone_of_four_digits { units_of (codes "days since 2020-1-1 12:00 +0530") None
+    ensures plus_after_gmt { units_of (codes "days since 2020-1-1 12:00 GMT+1") None
         ≡ Err (UnitsFault.BadUnits 29) }
-    ensures no_zone_minute { units_of (codes "days since 2020-1-1 12:00 +5:") None
+    ensures zone_of_three_digits { units_of (codes "days since 2020-1-1 12:00 +053") None
+        ≡ Err (UnitsFault.BadUnits 30) }
+    ensures zone_of_three_digits_and_a_colon { units_of (codes "days since 2020-1-1 12:00 +053:0") None
+        ≡ Err (UnitsFault.BadUnits 30) }
+    ensures zone_of_five_digits { units_of (codes "days since 2020-1-1 12:00 +05300") None
+        ≡ Err (UnitsFault.BadUnits 31) }
+    ensures zone_of_four_digits_and_a_colon { units_of (codes "days since 2020-1-1 12:00 +0530:00") None
+        ≡ Err (UnitsFault.BadUnits 31) }
+    ensures zone_hour_53 { units_of (codes "days since 2020-1-1 12:00 +530") None
+        ≡ Err (UnitsFault.BadUnits 27) }
+    ensures joined_zone_minute_60 { units_of (codes "days since 2020-1-1 12:00 -0560") None
         ≡ Err (UnitsFault.BadUnits 29) }
     ensures zone_minute_of_one_digit { units_of (codes "days since 2020-1-1 12:00 +5:6") None
         ≡ Err (UnitsFault.BadUnits 30) }
@@ -112,8 +94,48 @@ pub fn zone_places()
         ≡ Err (UnitsFault.BadUnits 30) }
     ensures zone_minute_60 { units_of (codes "days since 2020-1-1 12:00 -5:60") None
         ≡ Err (UnitsFault.BadUnits 29) }
-    ensures zone_minute_of_three_digits { units_of (codes "days since 2020-1-1 12:00 +5:300") None
-        ≡ Err (UnitsFault.BadUnits 31) }
-    ensures digit_after_the_zone { units_of (codes "days since 2020-1-1 12:00 Z 1") None
+{}
+
+/// Offsets of faults in a zone without its sign, which stands after a gap alone.
+#[tactic(auto, unfolding(crate::proofs::Computing::texts))]
+pub fn shift_places()
+    ensures shift_without_a_gap { units_of (codes "days since 2020-1-1 12:000:00") None
+        ≡ Err (UnitsFault.BadUnits 25) }
+    ensures shift_of_hours_alone { units_of (codes "days since 2020-1-1 0:0 1") None
+        ≡ Err (UnitsFault.BadUnits 25) }
+    ensures shift_hour_24 { units_of (codes "days since 2020-1-1 12:00 24:00") None
+        ≡ Err (UnitsFault.BadUnits 26) }
+    ensures shift_of_one_minute_digit { units_of (codes "days since 2020-1-1 12:00 1:5") None
+        ≡ Err (UnitsFault.BadUnits 29) }
+    ensures shift_minute_60 { units_of (codes "days since 2020-1-1 12:00 1:60") None
         ≡ Err (UnitsFault.BadUnits 28) }
+    ensures shift_without_a_colon { units_of (codes "days since 2020-1-1 12:00 0530") None
+        ≡ Err (UnitsFault.BadUnits 28) }
+    ensures word_after_a_shift { units_of (codes "days since 2020-1-1 12:00 0:00Z") None
+        ≡ Err (UnitsFault.BadUnits 30) }
+    ensures second_zone { units_of (codes "days since 2020-1-1 12:00 +1 1:00") None
+        ≡ Err (UnitsFault.BadUnits 29) }
+{}
+
+/// Newer spellings say what older ones say.
+#[tactic(auto, unfolding(crate::proofs::Computing::texts))]
+pub fn same_units()
+    ensures joined_date { units_of (codes "days since 20240228") None
+        ≡ units_of (codes "days since 2024-2-28") None }
+    ensures hour_alone { units_of (codes "days since 2024-2-28 18") None
+        ≡ units_of (codes "days since 2024-2-28 18:00") None }
+    ensures hour_and_zulu { units_of (codes "days since 20240228T18Z") None
+        ≡ units_of (codes "days since 2024-2-28 18:00:00 Z") None }
+    ensures gmt { units_of (codes "days since 2024-2-28 1:02 gMt") None
+        ≡ units_of (codes "days since 2024-2-28 1:02 UTC") None }
+    ensures gmt_without_a_gap { units_of (codes "days since 2024-2-28 0gmt") None
+        ≡ units_of (codes "days since 2024-2-28 0:00 Z") None }
+    ensures joined_zone { units_of (codes "days since 2024-2-28 0 -0130") None
+        ≡ units_of (codes "days since 2024-2-28 0:00 -1:30") None }
+    ensures zone_behind { units_of (codes "days since 2024-2-28 0 -0130") None
+        ≡ units_of (codes "days since 2024-2-28 1:30") None }
+    ensures no_shift { units_of (codes "days since 2024-2-28 1:02:03.0 0:00") None
+        ≡ units_of (codes "days since 2024-2-28 1:02:03 Z") None }
+    ensures shift { units_of (codes "days since 2024-2-28 18  01:30 ") None
+        ≡ units_of (codes "days since 2024-2-28 18:00 +1:30") None }
 {}

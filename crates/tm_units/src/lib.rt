@@ -6,6 +6,7 @@ mod date;
 pub mod examples;
 mod form;
 mod instant;
+pub mod laws;
 mod mark;
 mod number;
 mod scanner;

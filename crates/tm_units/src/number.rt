@@ -1,5 +1,6 @@
 //! Numbers and words of a text.
-ghost use Rattle.std.specs.Prelude.{◌≡◌, ◌≤◌, IfOk};
+ghost use Rattle.std.specs.Prelude.{◌≡◌, ◌≤◌, IfOk, length, true};
+ghost use Rattle.nc_model.specs.Stamp.{number_of};
 ghost use Rattle.nc_model.specs.UnitsReading as spec;
 ghost use Rattle.tm_units.specs.Scanning.{Reads};
 
@@ -15,13 +16,14 @@ pub(crate) struct Digits {
     pub(crate) high: u32,
 }
 
-// Reads a number, which is the longest run of digits up to the most that it may have.
-#[tactic(auto, unfolding(nc_model::specs::UnitsReading::number_at))]
-pub(crate) fn number(scanner: &mut Scanner<'_>, digits: Digits) -> Result<u32, BadPlace>
+// Reads the digits of a number, which are the longest run up to the most that it may have.
+#[tactic(auto, unfolding(nc_model::specs::UnitsReading::digits_at))]
+pub(crate) fn digits_in<'a>(scanner: &mut Scanner<'a>, digits: Digits) -> Result<&'a [u8], BadPlace>
     requires { digits.most ≤ 4 }
-    ensures read { let parser = spec.number_at digits.fewest digits.most digits.low digits.high in
-        Reads (λ n. n) (parser scanner.old) result scanner.new }
-    ensures range { IfOk result (λ n. n ≤ digits.high) }
+    ensures read { let parser = spec.digits_at true digits.fewest digits.most digits.low digits.high in
+        Reads (λ text. text.now) (parser scanner.old) result scanner.new }
+    ensures range { IfOk result (λ text. number_of text.now ≤ digits.high) }
+    ensures bound { IfOk result (λ text. length text.now ≤ digits.most) }
 {
     let place = scanner.at();
     let text = scanner.digits(digits.most);
@@ -32,7 +34,19 @@ pub(crate) fn number(scanner: &mut Scanner<'_>, digits: Digits) -> Result<u32, B
     if text.len() < digits.fewest {
         return Err(BadPlace { at: scanner.at() });
     }
-    Ok(number)
+    Ok(text)
+}
+
+// Reads a number.
+#[tactic(auto, unfolding(nc_model::specs::UnitsReading::number_at))]
+pub(crate) fn number(scanner: &mut Scanner<'_>, range: Digits) -> Result<u32, BadPlace>
+    requires { range.most ≤ 4 }
+    ensures read { let parser = spec.number_at true range.fewest range.most range.low range.high in
+        Reads (λ n. n) (parser scanner.old) result scanner.new }
+    ensures range { IfOk result (λ n. n ≤ range.high) }
+{
+    let text = digits_in(scanner, range)?;
+    Ok(number_of(text))
 }
 
 // Passes over these letters in either case.

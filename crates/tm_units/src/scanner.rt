@@ -102,6 +102,16 @@ impl<'a> Scanner<'a> {
         }
     }
 
+    // Whether a digit follows, where one may.
+    pub(crate) fn digit_follows(&self, may: bool) -> bool
+        ensures { result ≡ spec.digit_follows may self.now }
+    {
+        match self.rest.first() {
+            Some(next) => may && next.is_ascii_digit(),
+            None => false,
+        }
+    }
+
     // Takes the next bytes.
     pub(crate) fn take(&mut self, count: usize) -> &'a [u8]
         requires { count ≤ length self.old.rest }

@@ -1,5 +1,5 @@
 //! The words for units of time.
-ghost use Rattle.std.specs.Prelude.{◌≡◌};
+ghost use Rattle.std.specs.Prelude.{◌≡◌, true};
 ghost use Rattle.nc_model.specs.UnitsReading as spec;
 ghost use Rattle.tm_units.specs.Scanning.{Reads};
 
@@ -77,7 +77,7 @@ fn seconds_per(word: &[u8]) -> Option<u32>
 // Reads the word of a unit, which is the longest run of letters.
 #[tactic(auto, unfolding(nc_model::specs::UnitsReading::unit_at))]
 pub(crate) fn unit(scanner: &mut Scanner<'_>) -> Result<u32, BadPlace>
-    ensures { Reads (λ n. n) (spec.unit_at scanner.old) result scanner.new }
+    ensures { Reads (λ n. n) (spec.unit_at true scanner.old) result scanner.new }
 {
     let place = scanner.at();
     let word = scanner.letters();

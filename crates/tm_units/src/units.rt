@@ -1,7 +1,7 @@
 //! The `units` and `calendar` attributes of a time variable.
-ghost use Rattle.std.specs.Prelude.{◌≡◌, Err, option_map};
+ghost use Rattle.std.specs.Prelude.{◌≡◌, Err, option_map, true};
 ghost use Rattle.nc_model.specs.Units as spec;
-ghost use Rattle.nc_model.specs.UnitsFaults.{IsWrongUnit};
+ghost use Rattle.nc_model.specs.UnitsFaults.{GoesWrongFirst, IsWrongUnit};
 ghost use Rattle.nc_model.specs.UnitsReading.{units_at};
 ghost use Rattle.nc_model.specs.UnitsSpelling.{SpellsUnits};
 ghost use Rattle.tm_units.specs.Scanning.{Reads};
@@ -29,7 +29,7 @@ struct Written {
 #[tactic(auto, unfolding(nc_model::specs::UnitsReading::units_at))]
 fn read_written(scanner: &mut Scanner<'_>) -> Result<Written, BadPlace>
     ensures { Reads (λ w. record { per = w.per; day = w.day; seconds = w.seconds })
-        (units_at scanner.old) result scanner.new }
+        (units_at true scanner.old) result scanner.new }
 {
     scanner.many(b' ');
     let per = unit(scanner)?;
@@ -109,13 +109,17 @@ fn units_of(text: &[u8], calendar: Option<&[u8]>) -> Result<Units, UnitsFault>
 pub fn read_units(text: &[u8], calendar: Option<&[u8]>) -> Result<Units, UnitsFault>
     ensures value { result ≡ spec.units_of text.now (option_map (λ text. text.now) calendar.entry) }
 
-    // Units are those that the text spells. A text with a fault spells none and goes wrong there, and a calendar is
-    // refused only beside a text that spells units.
+    // Units are those that the text spells. A text with a bad place spells none and goes wrong there first, and a
+    // calendar is refused only beside a text that spells units.
     ensures settled { spec.Settles text.now (option_map (λ text. text.now) calendar.entry) result }
 
     // What is spelled is read, so a text spells one reading at most.
-    ensures spelled { (written : _) → SpellsUnits text.now written
+    ensures spelled { (written : _) → SpellsUnits true text.now written
         → result ≡ spec.in_calendar (option_map (λ text. text.now) calendar.entry) written }
+
+    // A text is refused where it goes wrong first: at no other place, and for no calendar.
+    ensures wrong { (place : _) → GoesWrongFirst place text.now
+        → result ≡ Err (UnitsFault.BadUnits place) }
 
     // A word that is no unit, where the unit stands, is refused at its first letter.
     ensures unit { (place : _) → IsWrongUnit place text.now

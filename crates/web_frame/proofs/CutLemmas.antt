@@ -5,7 +5,7 @@ use Rattle.std.proofs.lemmas.Bool.{cases_eq, ne_eqb, le-leb}
 use Rattle.web_frame.specs.declared.scan.State.{State}
 use Rattle.web_frame.specs.declared.scan.State.TheVariants.{Before, BeforeReturn, Inside, LineStart, LineReturn}
 use Rattle.web_frame.specs.Cut.{begins_with_line_feed, begins_with_empty_line, empty_line_len, lines_len, head_len, Cut, whole, too_long, cut_at, cut_of}
-use Rattle.web_frame.specs.declared.limit.TheConstants.{MAX_HEAD}
+use Rattle.web_frame.specs.Limit.{MAX_HEAD}
 use Rattle.web_frame.specs.Scan.{state_after, state_past, end_from}
 use Rattle.web_frame.proofs.ScanLemmas.{end_from_after, end_from_here, state_past_after}
 

@@ -3,6 +3,7 @@ pub mod HeadLaws
 pub mod HeadLemmas
 pub mod ItemLaws
 pub mod ItemLemmas
+pub mod LeftLemmas
 pub mod LineLemmas
 pub mod ScanLemmas
 pub mod SpanLemmas

@@ -1,9 +1,8 @@
 -- Where the head of a request ends (RFC 9112, sections 2.1 and 2.2). A line ends in CR LF or in LF alone, empty lines
--- may
--- stand before a head, and an empty line ends it.
+-- may stand before a head, and an empty line ends it.
 use Rattle.std.specs.Prelude.{ℕ, suc, Bool, true, false, ◌&&◌, ◌||◌, ◌==◌, nat_lt, nat_le, if◌then◌else◌, List, [], ◌∷◌, length, Option, Some, None, option_map}
 use Rattle.httparse.specs.Ascii.{line_feed, carriage_return}
-use Rattle.web_frame.specs.declared.limit.TheConstants.{MAX_HEAD}
+use Rattle.web_frame.specs.Limit.{MAX_HEAD}
 
 -- the bytes begin with LF
 unfoldable pub begins_with_line_feed : List ℕ → Bool

@@ -1,12 +1,11 @@
--- The head that some bytes are, by the grammar of `httparse`. A grammar's head is printed in one way, so the parts that
--- a
--- text would have as a head are cut out of it, and it is a head where they are valid and print it.
+-- The head that some bytes are, by the grammar of `httparse`. A grammar's head is printed in one way. So the parts that
+-- a text would have as a head are cut out of it, and it is a head where they are valid and print it.
 use Rattle.std.specs.Prelude.{ℕ, ◌-◌, Bool, true, false, ◌&&◌, ◌==◌, nat_lt, nat_le, if◌then◌else◌, List, [], ◌∷◌, length, reverse, map, slice_index}
 use Rattle.std.specs.List.{before_first, after_first, slice_split, list_all}
 use Rattle.std.specs.Str.{bytes_eq, is_utf8}
 use Rattle.httparse.specs.Ascii.{line_feed, carriage_return, space, colon, digit_zero}
 use Rattle.httparse.specs.Grammar.{LineEnd, crlf, lf, Field, RequestHead, print_request, is_token, is_uri_byte, is_value_byte}
-use Rattle.web_frame.specs.declared.limit.TheConstants.{MAX_FIELDS}
+use Rattle.web_frame.specs.Limit.{MAX_FIELDS}
 
 -- a line: its text, and what ends it
 pub record Line : Type 0 where

@@ -5,8 +5,7 @@ use Rattle.web_frame.specs.Cut.{cut_of, Cut, none_yet, whole, too_long}
 use Rattle.web_frame.specs.Head.{head_of, is_head}
 use Rattle.web_frame.specs.Said.{request_of}
 
--- an item of a stream: a head with its target, bytes that end as a head does and aren't one, or a head that is
--- too
+-- an item of a stream: a head with its target, bytes that end as a head does and aren't one, or a head that is too
 -- long
 pub data Item : Type 0 where
   request : Request → List ℕ → Item
@@ -46,6 +45,17 @@ heads_of bytes = heads_within (length bytes) bytes
 -- some items, before the heads of what follows
 abbrev pub items_before : List Item → Heads → Heads
 items_before items heads = record { items = items ++ heads.items; rest = heads.rest }
+
+-- the bytes after the head at their front, where one is whole
+abbrev pub past_cut : Cut → List ℕ → List ℕ
+past_cut none_yet bytes = bytes
+past_cut (whole len) bytes = drop len bytes
+past_cut too_long bytes = bytes
+
+-- the bytes after the first n heads
+unfoldable pub bytes_after : ℕ → List ℕ → List ℕ
+bytes_after zero bytes = bytes
+bytes_after (suc n) bytes = past_cut (cut_of (bytes_after n bytes)) (bytes_after n bytes)
 
 -- once these items of the bytes are read, these bytes are left to read, whatever follows
 pub record ReadsTo (bytes : List ℕ) (items : List Item) (left : List ℕ) : Type 0 where

@@ -46,7 +46,7 @@ unfoldable pub next_of : List ℕ → Next
 next_of rest = next_by (cut_of rest) rest
 
 -- the target of an item, empty where it has none
-abbrev pub target_of : Item → List ℕ
-target_of (request r target) = target
-target_of bad_head = []
-target_of head_too_long = []
+abbrev pub target_in : Item → List ℕ
+target_in (request r target) = target
+target_in bad_head = []
+target_in head_too_long = []

@@ -42,7 +42,7 @@ impl Model for Frame {
     ghost use Rattle.std.specs.Prelude.{◌≡◌, ◌≤◌, length, take, drop};
     ghost use Rattle.httparse.specs.Spans.{IsWithin, span_bytes};
     ghost use Rattle.web_frame.specs.Items.{item_of};
-    ghost use Rattle.web_frame.specs.Stream.{Held, target_of};
+    ghost use Rattle.web_frame.specs.Stream.{Held, target_in};
 
     ghost Value = { Held };
 
@@ -50,7 +50,7 @@ impl Model for Frame {
 
     ghost invariant = { λ f. (f.given ≤ length f.unread)
         × IsWithin f.given f.target
-        × (span_bytes (take f.given f.unread) f.target ≡ target_of (item_of (take f.given f.unread))) };
+        × (span_bytes (take f.given f.unread) f.target ≡ target_in (item_of (take f.given f.unread))) };
 }
 
 const NO_BYTES: Span = Span { start: 0, end: 0 };
@@ -135,7 +135,7 @@ impl Frame {
 
     /// The target of the head that the last call to `next` gave, and no bytes where it gave none.
     pub fn target(&self) -> &[u8]
-        ensures { result.now ≡ spec.target_of (item_of self.now.head) }
+        ensures { result.now ≡ spec.target_in (item_of self.now.head) }
     {
         self.target.of(&self.unread.as_slice()[..self.given])
     }

@@ -1,7 +1,9 @@
+pub mod CutLemmas
 pub mod FrontLemmas
 pub mod MomentLemmas
 pub mod NumberLemmas
 pub mod PathLaws
 pub mod ScanLemmas
 pub mod SpelledLemmas
+pub mod TargetLemmas
 pub mod ViewLemmas

@@ -3,3 +3,4 @@ pub mod Escape
 pub mod Path
 pub mod Reading
 pub mod Target
+pub mod Url

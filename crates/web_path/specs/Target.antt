@@ -14,6 +14,16 @@ use Rattle.web_path.specs.declared.target.Target.{Target}
 use Rattle.web_path.specs.Escape.{bad_escape}
 use Rattle.web_path.specs.Reading.{view_of}
 
+-- the bytes `.`, `/` and `?`
+abbrev pub dot : ℕ
+dot = 46
+
+abbrev pub slash : ℕ
+slash = 47
+
+abbrev pub question : ℕ
+question = 63
+
 -- the service that the end of a path names
 unfoldable pub service_of : List ℕ → Option Service
 service_of end = if bytes_eq end (codes "dds") then Some Dds
@@ -26,7 +36,7 @@ last_part path (Some parts) = parts.1
 
 -- what stands after the last `/` of a path
 unfoldable pub label_of : List ℕ → List ℕ
-label_of path = last_part path (rsplit_once 47 path)
+label_of path = last_part path (rsplit_once slash path)
 
 -- the target of a view and a service
 abbrev pub served : List ℕ → List ℕ → ViewName → Option Service → Result Target PathFault
@@ -46,11 +56,11 @@ asked_of_parts site constraint (Some parts) = viewed parts.0 parts.1 constraint 
 
 -- what a path and a constraint ask for that are decoded
 unfoldable pub asked_of : Site → List ℕ → List ℕ → Result Target PathFault
-asked_of site path constraint = asked_of_parts site constraint (rsplit_once 46 path)
+asked_of site path constraint = asked_of_parts site constraint (rsplit_once dot path)
 
 -- the offset of the first `?` of a target, or its length
 abbrev pub question_of : List ℕ → ℕ
-question_of target = position_or_len (λ b. b == 63) target
+question_of target = position_or_len (λ b. b == question) target
 
 -- what a target without a bad escape asks for
 abbrev pub asked_unless : Site → List ℕ → Option ℕ → Result Target PathFault

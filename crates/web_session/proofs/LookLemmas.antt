@@ -3,7 +3,7 @@ use Rattle.std.proofs.Common.{◌≡◌, ℕ, List, [], ◌∷◌, ◌++◌, len
 use Rattle.std.proofs.lemmas.List.{take_at}
 use Rattle.web_frame.specs.Cut.{Cut, none_yet, whole, too_long, cut_of}
 use Rattle.web_frame.specs.Items.{Item, request, bad_head, head_too_long, item_of, Heads, item_before, heads_of, items_before, ReadsTo, AreFirst}
-use Rattle.web_frame.specs.Stream.{Held, target_of, next_by_item, next_by, next_of, held_by, held_after}
+use Rattle.web_frame.specs.Stream.{Held, target_in, next_by_item, next_by, next_of, held_by, held_after}
 use Rattle.web_frame.proofs.ItemLemmas.{heads_of-cut}
 use Rattle.web_session.specs.declared.action.Asked.{Asked}
 use Rattle.web_session.specs.declared.action.Asked.TheVariants as says
@@ -106,8 +106,8 @@ begins_item : (item : Item) (n : ℕ) (left : List ℕ) (what : Asked) (held : H
     → BeginsWith left (item_asked what held)
 begins_item (request r target) n left what held is item looked_is held_is =
     let same : says.Head r ≡ what = cc in
-    let head : target_of (item_of held.head) ≡ target =
-    ap (λ (h : Held). target_of (item_of h.head)) held_is ∙ ap target_of item in
+    let head : target_in (item_of held.head) ≡ target =
+    ap (λ (h : Held). target_in (item_of h.head)) held_is ∙ ap target_in item in
     let asked_item : item_asked what held ≡ request r target =
     ap (λ (w : Asked). item_asked w held) (sym same) ∙ ap (request r) head in
     let heads : heads_of left ≡ item_before (request r target) (drop n left) (heads_of (drop n left)) =

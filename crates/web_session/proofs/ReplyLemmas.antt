@@ -3,7 +3,7 @@ use Rattle.std.proofs.Common.{◌≡◌, ℕ, ◌+◌, Bool, true, false, if◌t
 use Rattle.web_frame.specs.declared.request.Request.{Request}
 use Rattle.web_frame.specs.Cut.{Cut, none_yet, whole, too_long, cut_of}
 use Rattle.web_frame.specs.Items.{Item, request, bad_head, head_too_long, item_of, heads_of, ReadsTo, AreFirst}
-use Rattle.web_frame.specs.Stream.{Held, target_of, next_by_item, next_by, held_by}
+use Rattle.web_frame.specs.Stream.{Held, target_in, next_by_item, next_by, held_by}
 use Rattle.web_frame.proofs.ItemLemmas.{ReadsTo-item}
 use Rattle.web_session.specs.declared.action.Asked.{Asked}
 use Rattle.web_session.specs.declared.action.Asked.TheVariants as says
@@ -21,8 +21,8 @@ reads_on_item : (item : Item) (n : ℕ) (left text : List ℕ) (done : List Item
     → ReadsTo text (done ++ item_asked (says.Head r) held ∷ []) held.rest
 reads_on_item (request q target) n left text done r held reads is item looked_is held_is =
     let same : q ≡ r = cc in
-    let head : target_of (item_of held.head) ≡ target =
-    ap (λ (h : Held). target_of (item_of h.head)) held_is ∙ ap target_of item in
+    let head : target_in (item_of held.head) ≡ target =
+    ap (λ (h : Held). target_in (item_of h.head)) held_is ∙ ap target_in item in
     let asked_item : request q target ≡ item_asked (says.Head r) held =
     ap (λ (x : Request). request x target) same ∙ ap (request r) (sym head) in
     let rest : drop n left ≡ held.rest = sym (ap (λ (h : Held). h.rest) held_is) in

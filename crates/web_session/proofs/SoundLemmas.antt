@@ -2,7 +2,7 @@
 use Rattle.std.proofs.Common.{◌≡◌, ℕ, ◌+◌, ◌-◌, ◌^◌, ◌<◌, Bool, true, false, ◌&&◌, if◌then◌else◌, ltb, min, List, length, take, refl, sym, ap, ◌∙◌, arith, inl, inr}
 use Rattle.std.proofs.lemmas.Bool.{lt-ltb, ltb-true, and_parts, cases_lt, le-ltb}
 use Rattle.std.proofs.lemmas.List.{take_all}
-use Rattle.web_frame.specs.declared.limit.TheConstants.{MAX_HEAD}
+use Rattle.web_frame.specs.Limit.{MAX_HEAD}
 use Rattle.web_frame.specs.Cut.{Cut, none_yet, too_long, cut_of}
 use Rattle.web_frame.specs.Cut as cuts
 use Rattle.web_frame.specs.Items.{Item, request, bad_head, head_too_long, item_of}
@@ -12,7 +12,7 @@ use Rattle.web_session.specs.declared.action.Asked.{Asked}
 use Rattle.web_session.specs.declared.action.End.{End}
 use Rattle.web_session.specs.declared.phase.Phase.{Phase}
 use Rattle.web_session.specs.declared.phase.Phase.TheVariants.{Waiting, Asking, Sending, Ended}
-use Rattle.web_session.specs.declared.phase.TheConstants.{MAX_REPLIES}
+use Rattle.web_session.specs.State.{MAX_REPLIES}
 use Rattle.web_session.specs.State.{State, is_sound_in, is_sound, phase_after, replied, sent}
 
 -- both tests pass

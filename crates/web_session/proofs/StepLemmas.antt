@@ -1,7 +1,7 @@
 -- What a session asked for, after one event: the first heads of what it was fed.
 use Rattle.std.proofs.Common.{◌≡◌, ℕ, ◌+◌, ◌-◌, List, [], ◌++◌, take, refl, sym, ap, subst, ◌∙◌, append-nil}
 use Rattle.std.proofs.lemmas.List.{take_all}
-use Rattle.web_frame.specs.declared.limit.TheConstants.{MAX_HEAD}
+use Rattle.web_frame.specs.Limit.{MAX_HEAD}
 use Rattle.web_frame.specs.Items.{Item, heads_of, ReadsTo, AreFirst}
 use Rattle.web_frame.specs.Stream.{held_len, with_bytes}
 use Rattle.web_frame.proofs.ItemLemmas.{ReadsTo-feed}
@@ -12,7 +12,7 @@ use Rattle.web_session.specs.declared.event.Event.TheVariants.{Start, Bytes, Ans
 use Rattle.web_session.specs.declared.phase.Phase.{Phase}
 use Rattle.web_session.specs.declared.phase.Phase.TheVariants.{Waiting, Asking, Sending, Ended}
 use Rattle.web_session.specs.State.{State, sent}
-use Rattle.web_session.specs.Event.{after_in, after_event, AnswersIn, Answers}
+use Rattle.web_session.specs.Event.{after_in, after_event, IsAnswerIn, IsAnswer}
 use Rattle.web_session.specs.Run.{fed_in, asks_in, asks_after}
 use Rattle.web_session.proofs.LookLemmas.{FollowsIn, Follows, look_follows, first_read, first_asked}
 use Rattle.web_session.proofs.ReplyLemmas.{ended_first, sent_follows}
@@ -34,7 +34,7 @@ first_longer text items first = subst (λ (t : List ℕ). AreFirst (items ++ [])
     (sym (append-nil text)) (ended_first text items first)
 
 step_waiting : (s : State) (event : Event) (text : List ℕ) (items : List Item) → s.phase ≡ Waiting
-    → AnswersIn Waiting s event → FollowsIn Waiting text items s.held
+    → IsAnswerIn Waiting s event → FollowsIn Waiting text items s.held
     → Follows (after_in Waiting s event) (text ++ fed_in Waiting event)
     (items ++ asks_after event (after_in Waiting s event))
 step_waiting s Start text items is answers follows = stays s Waiting text items is follows
@@ -53,7 +53,7 @@ step_waiting s NoAnswer text items is answers follows = absurd answers
 step_waiting s Fault text items is answers follows = first_longer text items (first_read follows.0)
 
 step_asking : (s : State) (what : Asked) (event : Event) (text : List ℕ) (items : List Item) → s.phase ≡ Asking what
-    → AnswersIn (Asking what) s event → FollowsIn (Asking what) text items s.held
+    → IsAnswerIn (Asking what) s event → FollowsIn (Asking what) text items s.held
     → Follows (after_in (Asking what) s event) (text ++ fed_in (Asking what) event)
     (items ++ asks_after event (after_in (Asking what) s event))
 step_asking s what Start text items is answers p = stays s (Asking what) text items is p
@@ -66,7 +66,7 @@ step_asking s what NoAnswer text items is answers p = first_longer text items (f
 step_asking s what Fault text items is answers p = absurd answers
 
 step_sending : (s : State) (what : Asked) (from len : ℕ) (event : Event) (text : List ℕ) (items : List Item)
-    → s.phase ≡ Sending what from len → AnswersIn (Sending what from len) s event
+    → s.phase ≡ Sending what from len → IsAnswerIn (Sending what from len) s event
     → FollowsIn (Sending what from len) text items s.held
     → Follows (after_in (Sending what from len) s event) (text ++ fed_in (Sending what from len) event)
     (items ++ asks_after event (after_in (Sending what from len) s event))
@@ -104,7 +104,7 @@ step_ended s end NoAnswer text items is first = ended_stays s end text items is 
 step_ended s end Fault text items is first = ended_stays s end text items is first
 
 step_in : (phase : Phase) (s : State) (event : Event) (text : List ℕ) (items : List Item) → s.phase ≡ phase
-    → AnswersIn phase s event → FollowsIn phase text items s.held
+    → IsAnswerIn phase s event → FollowsIn phase text items s.held
     → Follows (after_in phase s event) (text ++ fed_in phase event) (items ++ asks_after event (after_in phase s event))
 step_in Waiting s event text items is answers follows = step_waiting s event text items is answers follows
 step_in (Asking what) s event text items is answers follows = step_asking s what event text items is answers follows
@@ -112,8 +112,8 @@ step_in (Sending what from len) s event text items is answers follows =
     step_sending s what from len event text items is answers follows
 step_in (Ended end) s event text items is answers follows = step_ended s end event text items is follows
 
-pub step_follows : (s : State) (event : Event) (text : List ℕ) (items : List Item) → Answers s event
+pub step_follows : (s : State) (event : Event) (text : List ℕ) (items : List Item) → IsAnswer s event
     → Follows s text items
     → Follows (after_event s event) (text ++ fed_in s.phase event) (items ++ asks_after event (after_event s event))
-unfolding Answers after_event
+unfolding IsAnswer after_event
 step_follows s event text items answers follows = step_in s.phase s event text items refl answers follows

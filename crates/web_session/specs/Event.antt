@@ -1,6 +1,6 @@
 -- Where an event takes a session, and which events answer its last action.
 use Rattle.std.specs.Prelude.{◌+◌, ◌-◌, ◌<◌, ◌≤◌, length, take, ⊤}
-use Rattle.web_frame.specs.declared.limit.TheConstants.{MAX_HEAD}
+use Rattle.web_frame.specs.Limit.{MAX_HEAD}
 use Rattle.web_frame.specs.Stream.{held_len, with_bytes}
 use Rattle.web_session.specs.declared.action.End.TheVariants as ends
 use Rattle.web_session.specs.declared.event.Event.{Event}
@@ -25,19 +25,19 @@ unfoldable pub after_event : State → Event → State
 after_event s event = after_in s.phase s event
 
 -- the event answers the last action of a session in a phase
-abbrev pub AnswersIn : Phase → State → Event → Type 0
-AnswersIn Waiting s Start = ⊤
-AnswersIn Waiting s (Bytes piece) = length piece.now ≤ MAX_HEAD - held_len s.held
-AnswersIn Waiting s EndOfInput = ⊤
-AnswersIn Waiting s Fault = ⊤
-AnswersIn (Asking asked) s Start = ⊤
-AnswersIn (Asking asked) s (Answer len) = ⊤
-AnswersIn (Asking asked) s NoAnswer = ⊤
-AnswersIn (Sending asked from len) s (Sent count) = (0 < count) × (count ≤ len - from)
-AnswersIn (Sending asked from len) s Fault = ⊤
-AnswersIn (Ended end) s event = ⊤
-AnswersIn phase s event = ⊥
+abbrev pub IsAnswerIn : Phase → State → Event → Type 0
+IsAnswerIn Waiting s Start = ⊤
+IsAnswerIn Waiting s (Bytes piece) = length piece.now ≤ MAX_HEAD - held_len s.held
+IsAnswerIn Waiting s EndOfInput = ⊤
+IsAnswerIn Waiting s Fault = ⊤
+IsAnswerIn (Asking asked) s Start = ⊤
+IsAnswerIn (Asking asked) s (Answer len) = ⊤
+IsAnswerIn (Asking asked) s NoAnswer = ⊤
+IsAnswerIn (Sending asked from len) s (Sent count) = (0 < count) × (count ≤ len - from)
+IsAnswerIn (Sending asked from len) s Fault = ⊤
+IsAnswerIn (Ended end) s event = ⊤
+IsAnswerIn phase s event = ⊥
 
 -- the event answers the session's last action
-unfoldable pub Answers : State → Event → Type 0
-Answers s event = AnswersIn s.phase s event
+unfoldable pub IsAnswer : State → Event → Type 0
+IsAnswer s event = IsAnswerIn s.phase s event

@@ -1,7 +1,7 @@
 -- Runs of a session: the bytes that it is fed over some events, and the heads that it asks replies for.
 use Rattle.std.specs.Prelude.{ℕ, List, [], ◌∷◌, ◌++◌, ⊤}
 use Rattle.web_frame.specs.Items.{Item, request, bad_head, head_too_long, item_of}
-use Rattle.web_frame.specs.Stream.{Held, target_of}
+use Rattle.web_frame.specs.Stream.{Held, target_in}
 use Rattle.web_session.specs.declared.action.Asked.{Asked}
 use Rattle.web_session.specs.declared.action.Asked.TheVariants as asked
 use Rattle.web_session.specs.declared.event.Event.{Event}
@@ -9,12 +9,12 @@ use Rattle.web_session.specs.declared.event.Event.TheVariants.{Start, Bytes}
 use Rattle.web_session.specs.declared.phase.Phase.{Phase}
 use Rattle.web_session.specs.declared.phase.Phase.TheVariants.{Waiting, Asking}
 use Rattle.web_session.specs.State.{State}
-use Rattle.web_session.specs.Event.{after_event, Answers}
+use Rattle.web_session.specs.Event.{after_event, IsAnswer}
 
 -- each event answers the last action of a session
 abbrev pub AllAnswer : State → List Event → Type 0
 AllAnswer s [] = ⊤
-AllAnswer s (event ∷ events) = Answers s event × AllAnswer (after_event s event) events
+AllAnswer s (event ∷ events) = IsAnswer s event × AllAnswer (after_event s event) events
 
 -- where events take a session
 abbrev pub after_events : State → List Event → State
@@ -33,7 +33,7 @@ fed s (event ∷ events) = fed_in s.phase event ++ fed (after_event s event) eve
 
 -- the item that a reply is asked for
 abbrev pub item_asked : Asked → Held → Item
-item_asked (asked.Head r) held = request r (target_of (item_of held.head))
+item_asked (asked.Head r) held = request r (target_in (item_of held.head))
 item_asked asked.BadHead held = bad_head
 item_asked asked.HeadTooLong held = head_too_long
 

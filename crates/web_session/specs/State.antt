@@ -2,7 +2,7 @@
 use Rattle.std.specs.Prelude.{ℕ, ◌+◌, ◌-◌, Bool, true, false, ◌&&◌, ◌==◌, nat_lt, if◌then◌else◌, List, [], length, Option, Some, None, is_some, ⊤}
 use Rattle.web_frame.specs.declared.frame.Next.{Next}
 use Rattle.web_frame.specs.declared.frame.Next.TheVariants as next
-use Rattle.web_frame.specs.declared.limit.TheConstants.{MAX_HEAD}
+use Rattle.web_frame.specs.Limit.{MAX_HEAD}
 use Rattle.web_frame.specs.Cut.{after_blank}
 use Rattle.web_frame.specs.Stream.{Held, held_len, next_of, held_after}
 use Rattle.web_session.specs.declared.action.Action.{Action}
@@ -13,7 +13,10 @@ use Rattle.web_session.specs.declared.action.End.{End}
 use Rattle.web_session.specs.declared.action.End.TheVariants as ends
 use Rattle.web_session.specs.declared.phase.Phase.{Phase}
 use Rattle.web_session.specs.declared.phase.Phase.TheVariants.{Waiting, Asking, Sending, Ended}
-use Rattle.web_session.specs.declared.phase.TheConstants.{MAX_REPLIES}
+
+-- the most replies of a session
+abbrev pub MAX_REPLIES : ℕ
+MAX_REPLIES = 10000
 
 -- where a session stands, what it holds, and how many replies it sent before the present request
 pub record State : Type 0 where
@@ -54,9 +57,14 @@ phase_after (next.Head r) = Asking (asked.Head r)
 phase_after next.BadHead = Asking asked.BadHead
 phase_after next.HeadTooLong = Asking asked.HeadTooLong
 
+-- a session that rests with these bytes, after this number of replies: it has looked for a head in them, and sends
+-- nothing
+abbrev pub resting : List ℕ → ℕ → State
+resting bytes before = record { phase = phase_after (next_of bytes); held = held_after bytes; before = before }
+
 -- a session that looks for the next head
 unfoldable pub looked : Held → ℕ → State
-looked held before = record { phase = phase_after (next_of held.rest); held = held_after held.rest; before = before }
+looked held before = resting held.rest before
 
 -- a session whose reply is whole
 abbrev pub replied_by : Option End → State → State
@@ -79,11 +87,11 @@ IfRead (Send from) P = ⊤
 IfRead (Close end) P = ⊤
 
 -- whether the link ends after the reply to the present request
-unfoldable pub is_last : Phase → ℕ → Bool
-is_last Waiting before = false
-is_last (Asking asked) before = is_some (end_after asked before)
-is_last (Sending asked from len) before = is_some (end_after asked before)
-is_last (Ended end) before = false
+unfoldable pub ends_link : Phase → ℕ → Bool
+ends_link Waiting before = false
+ends_link (Asking asked) before = is_some (end_after asked before)
+ends_link (Sending asked from len) before = is_some (end_after asked before)
+ends_link (Ended end) before = false
 
 -- a session that waits has room, one that sends has bytes left, and one that goes on has replies left
 abbrev pub is_sound_in : Phase → Held → ℕ → Bool

@@ -1,8 +1,13 @@
 //! What a reader believes of sessions, each as the contract of a call that does nothing.
-ghost use Rattle.std.specs.Prelude.{◌≡◌};
+ghost use Rattle.std.specs.Prelude.{◌≡◌, ◌<◌, ◌≤◌, ◌∷◌, ℕ, List, map};
+ghost use Rattle.std.specs.List.{sum};
 ghost use Rattle.web_frame.specs.Items.{AreFirst, heads_of};
 ghost use Rattle.web_session.specs.Run.{AllAnswer, after_events, asks, fed};
-ghost use Rattle.web_session.specs.State.{fresh};
+ghost use Rattle.web_session.specs.State.{action_of, fresh, replied, State};
+ghost use Rattle.web_session.specs.declared.action.Action.{Action};
+ghost use Rattle.web_session.specs.declared.action.Asked.{Asked};
+ghost use Rattle.web_session.specs.declared.action.End.{End};
+ghost use Rattle.web_session.specs.declared.event.Event.{Event as Happens};
 
 use crate::event::Event;
 use crate::phase::Phase;
@@ -25,4 +30,21 @@ pub fn all_heads_are_asked_before_it_waits(events: &[Event<'_>])
           items = asks fresh events.now;
           rest = (after_events fresh events.now).held.rest;
         } }
+{}
+
+/// While the counts that were sent of a reply add up to less than its length, the session sends on from the first
+/// unsent byte; once they add up to its length, the reply is whole.
+pub fn a_reply_is_sent_from_its_first_unsent_byte()
+    ensures unsent { (s : State) (asked : Asked) (len : ℕ) (counts : List ℕ) → s.phase ≡ Phase.Asking asked
+        → sum counts < len
+        → action_of (after_events s (Happens.Answer len ∷ map Happens.Sent counts)) ≡ Action.Send (sum counts) }
+    ensures whole { (s : State) (asked : Asked) (len : ℕ) (counts : List ℕ) → s.phase ≡ Phase.Asking asked
+        → len ≤ sum counts
+        → after_events s (Happens.Answer len ∷ map Happens.Sent counts) ≡ replied s asked }
+{}
+
+/// A session that has ended stays as it is, whatever happens.
+pub fn an_end_stays()
+    ensures { (events : List Happens) (s : State) (end : End) → s.phase ≡ Phase.Ended end
+        → after_events s events ≡ s }
 {}

@@ -1,7 +1,7 @@
 //! One connection.
 ghost use Rattle.std.specs.Prelude.{◌≡◌, ◌<◌, IfOk};
 ghost use Rattle.web_frame.specs.Items.{item_of};
-ghost use Rattle.web_frame.specs.Stream.{held_after, next_of, target_of};
+ghost use Rattle.web_frame.specs.Stream.{held_after, next_of, target_in};
 ghost use Rattle.web_session.specs.Event as step;
 ghost use Rattle.web_session.specs.State as spec;
 
@@ -187,15 +187,15 @@ impl Session {
 
     /// The target of the present request, and no bytes where there is none.
     pub fn target(&self) -> &[u8]
-        ensures { result.now ≡ target_of (item_of self.now.held.head) }
+        ensures { result.now ≡ target_in (item_of self.now.held.head) }
     {
         self.frame.target()
     }
 
     /// Whether the link ends after the reply to the present request.
-    #[tactic(auto, using(crate::proofs::SoundLemmas::sounds), unfolding(crate::specs::State::is_last, crate::specs::State::is_sound))]
+    #[tactic(auto, using(crate::proofs::SoundLemmas::sounds), unfolding(crate::specs::State::ends_link, crate::specs::State::is_sound))]
     pub fn last(&self) -> bool
-        ensures { result ≡ spec.is_last self.now.phase self.now.before }
+        ensures { result ≡ spec.ends_link self.now.phase self.now.before }
     {
         match self.phase {
             Phase::Waiting | Phase::Ended(_) => false,

@@ -1,8 +1,11 @@
 //! Prototypes.
-ghost use Rattle.std.specs.Prelude.{◌≡◌, ◌≤◌, ℕ, List, Ok, length};
+ghost use Rattle.std.specs.Prelude.{◌≡◌, ◌≢◌, ◌≤◌, ℕ, All, List, Ok, Some, codes, length};
+ghost use Rattle.nc_model.specs.declared.header.Header.{Header as FileHeader};
+ghost use Rattle.nc_model.specs.declared.header.NcVar.{NcVar};
 ghost use Rattle.fm_model.specs.declared.proto.Proto.{Proto};
 ghost use Rattle.fm_model.specs.declared.site.Site.{Site};
-ghost use Rattle.fm_model.specs.Prototype.{proto_of, IsSound};
+ghost use Rattle.fm_model.specs.Attribute.{text_of};
+ghost use Rattle.fm_model.specs.Prototype.{kept_vars, proto_of, IsSound};
 ghost use Rattle.fm_model.specs.Site.{IsPrototype, IsSite};
 
 /// Bytes are at most one prototype at a site, which keeps the site.
@@ -27,4 +30,14 @@ pub fn a_prototype_is_sound()
     ensures read { (bytes : List ℕ) (site : Site) (proto : Proto) →
         proto_of bytes site ≡ Ok proto → IsSound proto }
     ensures given { (proto : Proto) → IsPrototype proto → IsSound proto }
+{}
+
+/// The views leave out the variable that the axis's attribute `bounds` or `climatology` names, unless it is the axis.
+pub fn views_leave_out_the_bounds_of_the_axis()
+    ensures bounds { (header : FileHeader) (axis : NcVar) (name : List ℕ) →
+        text_of axis.attrs (codes "bounds") ≡ Some name → name ≢ axis.name
+        → All (λ (var : NcVar). var.name ≢ name) (kept_vars header axis) }
+    ensures climatology { (header : FileHeader) (axis : NcVar) (name : List ℕ) →
+        text_of axis.attrs (codes "climatology") ≡ Some name → name ≢ axis.name
+        → All (λ (var : NcVar). var.name ≢ name) (kept_vars header axis) }
 {}

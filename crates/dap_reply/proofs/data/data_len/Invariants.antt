@@ -1,8 +1,11 @@
--- The parts so far are counted.
-use Rattle.std.proofs.Common.{◌≡◌, length}
+-- The parts so far are counted, each of fewer than 2^98 bytes.
+use Rattle.std.proofs.Common.{◌≡◌, ◌≤◌, ◌*◌, ◌^◌, length}
 use Rattle.dap_xdr.specs.Datasets.{content_of}
 use Rattle.dap_reply.proofs.DataLemmas.{data_before}
 use Rattle.dap_reply.proofs.data.data_len.Given as goal
 
 abbrev pub invariant-loop-part : goal.invariant-loop-part
-invariant-loop-part l = l.len ≡ length (data_before (content_of l.source) l.sent l.part-index)
+invariant-loop-part l =
+    (l.len ≡ length (data_before (content_of l.source) l.sent l.part-index))
+    × (l.len ≤ l.part-index * 2 ^ 98)
+    × (l.part-index ≤ length l.sent)

@@ -29,8 +29,8 @@ loop-place-preserved g c =
       omega (arith, c.loop-place.invariant.2, one, c.text-text.ensures.short),
     )
 
-pub returns : goal.returns
-returns g c =
+pub returns-clause-exact : goal.returns-clause-exact
+returns-clause-exact g c =
     c.loop-place.invariant.1
     ∙ ap length (texts-whole (g.S.Source.content c.args.source.now) c.args.part.now c.loop-place.place
     (subst (λ (m : ℕ). m ≤ c.loop-place.place) c.count-place-end.ensures c.loop-place-test.false))

@@ -1,5 +1,5 @@
 -- The numbers stand behind their counts.
-use Rattle.std.proofs.Common.{◌≡◌, ◌-◌, ℕ, List, take, drop, length, ap, subst, ◌∙◌, arith}
+use Rattle.std.proofs.Common.{◌≡◌, ◌-◌, ℕ, List, take, drop, length, ap, subst, ◌∙◌}
 use Rattle.dap_xdr.specs.Portion.{numbers_from, Portion}
 use Rattle.dap_xdr.proofs.DataLemmas.{data-numbers}
 use Rattle.dap_xdr.proofs.LendingLemmas.{numbers-front}

@@ -1,5 +1,5 @@
 -- An array of numbers or texts.
-use Rattle.std.proofs.Common.{◌≡◌, ◌≢◌, ◌<◌, ◌*◌, ◌^◌, ℕ, List, Some, drop, length, sym, ap, subst, ◌∙◌, arith}
+use Rattle.std.proofs.Common.{◌≡◌, ◌≢◌, ◌<◌, ◌*◌, ◌^◌, ℕ, List, Some, drop, length, sym, ap, subst, ◌∙◌}
 use Rattle.dap_model.specs.Box.{box_len}
 use Rattle.dap_model.specs.Xdr.{element_len}
 use Rattle.dap_model.specs.declared.declaration.DapKind.TheVariants.{Text}

@@ -1,13 +1,22 @@
--- Entering keeps the rule.
-use Rattle.std.proofs.Common.{[], ◌∷◌, ◌++◌, length, refl}
-use Rattle.left_right.specs.Sides.{view}
-use Rattle.pub_snap.specs.declared.rule.Known.{Known}
-use Rattle.pub_snap.proofs.Keeping.{enters}
+-- The answer is over the edition that was taken at the look.
+use Rattle.std.proofs.Common.{◌≡◌, ℕ, subst, IfOk, IfSome, MatchResult, Result, Ok, Err}
+use Rattle.fm_edition.specs.Held.{Held}
+use Rattle.fm_edition.specs.Log.{held_of}
 use Rattle.pub_snap.proofs.pass.look.Goals as goal
 
-pub enter_as-requires : goal.enter_as-requires
-enter_as-requires g c shown views is at =
-    let before : Known = view c.args.seat.place in
-    let looks = before.looks ++ length shown.log ∷ [] in
-    let step = enters g.N.Name.book g.N.Name.proto shown views c.args.seat.place.id before looks is at in
-    (record { seen = shown.log; looks = looks }, step.0, (step.1, refl))
+-- an answer comes only where there is an edition, and is over it
+answered : {A E F : Type 0} (edition : Result Held E) (out : Result A F) (held : Held) (says : Held → A → Type 0)
+    → IfOk edition (λ it. it ≡ held) → IfOk out (λ a. MatchResult edition (λ it. says it a) (λ _. ⊥))
+    → IfOk out (λ a. says held a)
+answered (Ok it) (Ok a) held says same said = subst (λ (h : Held). says h a) same said
+answered (Err e) (Ok a) held says same said = absurd said
+answered edition (Err f) held says same said = tt
+
+pub returns-clause-answer : goal.returns-clause-answer
+returns-clause-answer g c =
+    let held : Held = held_of g.N.Name.proto c.in-Some.front.seen.log in
+    let same = subst (λ o. IfSome o (λ found. IfOk found.1 (λ it. it ≡ held_of g.N.Name.proto found.0.seen.log)))
+    c.in-Some.is c.take_share-seat.ensures.held in
+    let said = answered c.in-Some.edition c.answer_over-out.result held
+    (λ it a. g.Q.Query.says c.args.query.now it c.len.result a) same c.answer_over-out.ensures in
+    subst (λ (n : ℕ). IfOk c.answer_over-out.result (λ a. g.Q.Query.says c.args.query.now held n a)) c.len.ensures said

@@ -5,20 +5,19 @@ use Rattle.srv_ingest.proofs.turn.take_next.Goals as goal
 pub returns-in_default-clause-takes : goal.returns-in_default-clause-takes
 returns-in_default-clause-takes g c =
     let next = c.in-Ok.ensures in
-    StopsNext-unfound _ _ _ _ _ _ _ _ _ next.0 next.1 next.2 c.in_default.ensures
+    StopsNext-unfound _ next.0 next.1 next.2 c.in_default.ensures.finds
 
 pub returns-in-Ok-settle-clause-takes : goal.returns-in-Ok-settle-clause-takes
 returns-in-Ok-settle-clause-takes g c =
     let next = c.in-Ok.ensures in
-    let found = rw c.as_slice-name.ensures at c.in-Ok-verdict_on.ensures in
+    let found = rw c.as_slice-name.ensures at c.in-Ok-verdict_on.ensures.finds in
     let counted = rw c.as_slice-name.ensures at c.count_published.ensures in
-    SettlesNext-taken _ _ _ _ _ _ _ _ _ _ _ _ _ _ next.0 next.1 next.2 found counted c.in-Ok-settle.ensures.ok
-    c.in-Ok-settle.ensures.cause c.count_settled.ensures
+    SettlesNext-taken next.0 next.1 next.2 found counted c.in-Ok-settle.ensures.ok c.in-Ok-settle.ensures.cause
+    c.count_settled.ensures
 
 pub returns-clause-takes : goal.returns-clause-takes
 returns-clause-takes g c =
     let next = c.in-Ok.ensures in
-    let found = rw c.as_slice-name.ensures at c.in-Ok-verdict_on.ensures in
+    let found = rw c.as_slice-name.ensures at c.in-Ok-verdict_on.ensures.finds in
     let counted = rw c.as_slice-name.ensures at c.count_published.ensures in
-    StopsNext-untaken _ _ _ _ _ _ _ _ _ _ _ _ _ next.0 next.1 next.2 found counted c.in-Err-settle.ensures.err
-    c.in-Err-settle.ensures.cause
+    StopsNext-untaken next.0 next.1 next.2 found counted c.in-Err-settle.ensures.err c.in-Err-settle.ensures.cause

@@ -5,7 +5,7 @@ use Rattle.srv_run.proofs.opening.open_doors.Goals as goal
 
 pub loop-number-preserved : goal.loop-number-preserved
 loop-number-preserved g c = record {
-  opens = OpensDoors-more _ _ _ _ _ _ _ c.in_ok-door.door c.loop-number.invariant.opens
+  opens = OpensDoors-more c.in_ok-door.door c.loop-number.invariant.opens
       c.in_ok-door.ensures.next c.in_ok-door.ensures.opened c.in_ok-door.ensures.fresh c.push_reserved.ensures.items;
   count = search rules;
   room = omega (

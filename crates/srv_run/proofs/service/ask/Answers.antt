@@ -3,4 +3,4 @@ use Rattle.srv_run.proofs.AskLemmas.{rests-Serves}
 use Rattle.srv_run.proofs.service.ask.Goals as goal
 
 pub returns-clause-stands : goal.returns-clause-stands
-returns-clause-stands g c = rests-Serves _ _ _ _ _ c.serve_link-stop.ensures.serves
+returns-clause-stands g c = rests-Serves _ c.serve_link-stop.ensures.serves

@@ -1,11 +1,22 @@
--- The lengths add up.
+-- The bytes that stand ready are counted, and the data behind them is as long as before.
 use Rattle.std.proofs.Common.{◌++◌, ◌∙◌, ap, arith}
-use Rattle.dap_reply.proofs.PlanLemmas.{behind-plan}
+use Rattle.dap_reply.proofs.PlanLemmas.{behind-plan, data-count}
 use Rattle.dap_reply.proofs.parts.Plan.behind.Goals as goal
+
+pub overflow_sub-data : goal.overflow_sub-data
+overflow_sub-data c = omega (arith, c.len.ensures, (data-count _ c.self.inside.len c.self.invariant).0)
+
+pub overflow_add-len : goal.overflow_add-len
+overflow_add-len c = omega (
+  arith,
+  c.len.ensures,
+  c.ready_len.ensures.small,
+  (data-count _ c.self.inside.len c.self.invariant).1,
+  c.self.invariant.few,
+)
 
 pub invariant_of-result : goal.invariant_of-result
 invariant_of-result c =
-    behind-plan _ c.self.inside.len c.len-begin.result c.args.front c.append.new.self c.self.invariant
-    c.len-begin.ensures
+    behind-plan _ c.self.inside.len c.ready_len.result _ c.args.front c.append.new.self c.self.invariant
+    c.ready_len.ensures.exact (omega (arith, c.len.ensures))
     (c.in_ok-append.ensures.ok ∙ ap (λ l. c.args.front ++ l) c.as_slice.ensures)
-    (omega (arith, c.if-self-begin.false, c.len-begin.type_inv))

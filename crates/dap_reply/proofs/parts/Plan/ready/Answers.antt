@@ -8,4 +8,4 @@ use Rattle.dap_reply.proofs.parts.Plan.ready.Goals as goal
 pub invariant_of-result : goal.invariant_of-result
 invariant_of-result c =
     subst (λ (sent : List Sent). IsPlan (record { front = c.args.front; source = None; sent = sent }) c.len-len.result)
-    (sym c.new.ensures) (ready-plan c.args.front c.len-len.result c.len-len.ensures c.len-len.type_inv)
+    (sym c.new.ensures) (ready-plan c.args.front c.len-len.result c.len-len.ensures)

@@ -1,6 +1,6 @@
 -- A session that hasn't ended has replies left.
 use Rattle.std.proofs.Common.{◌<◌, subst}
-use Rattle.web_session.specs.declared.phase.TheConstants.{MAX_REPLIES}
+use Rattle.web_session.specs.State.{MAX_REPLIES}
 use Rattle.web_session.specs.State.{State}
 use Rattle.web_session.proofs.SoundLemmas.{goes_on_waiting, goes_on_asking, goes_on_sending}
 use Rattle.web_session.proofs.session.Session.on.Goals as goal

@@ -1,5 +1,0 @@
-//! Devices in memory.
-
-mod doors;
-mod files;
-mod links;

@@ -1,0 +1,30 @@
+-- Whether workers ran over the devices of a run of `serve`.
+use Rattle.std.specs.Prelude.{◌≡◌, ◌⊎◌, ℕ}
+use Rattle.fm_model.specs.declared.proto.Proto.{Proto}
+use Rattle.srv_words.specs.declared.job.Serving.{Serving}
+use Rattle.srv_workers.specs.declared.outcome.Outcome.{Outcome}
+use Rattle.srv_run.specs.Devices.{OpensDevices}
+use Rattle.srv_run.specs.Once.{Opens}
+use Rattle.srv_run.specs.Serve.{HasRun}
+use Rattle.srv_run.specs.Stage.{LeavesDevices, Shows, Stage}
+
+-- Nothing was opened: memory ran out, or the prototype wasn't there, or it was refused.
+pub record HasNotOpened {D I C : Type 0} (status : ℕ) (stage stage' : Stage D I C) : Type 0 where
+  pub leaves : LeavesDevices stage stage'
+  pub status_is : (status ≡ 3) ⊎ (status ≡ 4) ⊎ (status ≡ 5) ⊎ (status ≡ 10)
+
+-- No worker ran: the devices are as the opener gave them. Memory ran out, or a door or an inbox wasn't opened.
+pub record HasNotWorked {D I C L : Type 0} (show : Shows D I C L) (serving : Serving) (status : ℕ)
+    (stage stage' : Stage D I C) : Type 0 where
+  pub opens : OpensDevices show serving stage.opener.held stage'.opener.held stage'.devices
+  pub files : stage'.outside.files ≡ stage.outside.files
+  pub status_is : (status ≡ 4) ⊎ (status ≡ 6) ⊎ (status ≡ 8)
+
+-- Workers ran over all devices, and over the prototype that was read.
+pub record HasWorked {D I C L : Type 0} (show : Shows D I C L) (serving : Serving) (stage stage' : Stage D I C)
+    : Type 0 where
+  pub proto : Proto
+  pub reads : Opens serving.site serving.proto stage.outside.files proto
+  pub files : stage'.outside.files ≡ stage.outside.files
+  pub outcome : Outcome
+  pub run : HasRun show serving proto stage.opener stage'.opener stage'.devices outcome
