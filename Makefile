@@ -1,4 +1,4 @@
-.PHONY: demo build test quick exits plants clients recipes proxy restart beside
+.PHONY: serve test demo build quick plants package installs exits clients recipes proxy page restart faults beside first
 
 # The program's crate, and the sample files in its folder data/.
 SERVER = crates/fmrcd
@@ -6,6 +6,23 @@ FIRST = gfs_20240101_0000.nc
 LATER = gfs_20240101_0600.nc
 WORDS = once --name gfs --proto $(FIRST) put:$(FIRST) put:$(LATER) ask:3
 TRY = rt try --data $(FIRST)=data/$(FIRST) --data $(LATER)=data/$(LATER) --
+
+# The program that targets run; without it, that of `make build`, which is made where it is missing or may be old.
+PROGRAM =
+
+# The port of `make serve`.
+PORT = 8080
+
+# Serves the sample files, says what can be opened and how, and waits. The program is built where there is none.
+serve: $(or $(PROGRAM),$(SERVER)/out/fmrcd)
+	@tests/serve.sh $< $(PORT)
+
+$(SERVER)/out/fmrcd:
+	$(MAKE) build
+
+# The merge gate: every proof from nothing, every must-fail edit, every test, and the program's stored run.
+test:
+	.ci/run
 
 # Runs the program on the sample data, once for three requests over two runs and once to check a file, compiled with
 # checks and not proved, so that it answers within minutes. Data is shown by `cat -v`.
@@ -20,12 +37,9 @@ demo:
 
 # Proves the program and links it as $(SERVER)/out/fmrcd.
 build:
+	@command -v rt > /dev/null || { echo "The toolchain rt isn't here: see README.md, What is trusted" >&2; exit 2; }
 	cd $(SERVER) && rt run -- once --name gfs --proto data/$(FIRST) put:data/$(FIRST) ask:1 < stdin
 	@echo "The proved program is $(SERVER)/out/fmrcd."
-
-# The merge gate: every proof from nothing, every must-fail edit, every test, and the program's stored run.
-test:
-	.ci/run
 
 # Every test and row, compiled with checks and not proved.
 quick:
@@ -35,8 +49,13 @@ quick:
 plants:
 	bench/plants.sh
 
-# The program that the targets below run; without it the program is proved first.
-PROGRAM =
+# Makes the Debian package package/out/fmrcd_VERSION_amd64.deb.
+package: $(if $(PROGRAM),,build)
+	package/build.sh $(PROGRAM)
+
+# Installs the package in a fresh system, serves there, and removes it.
+installs: $(if $(PROGRAM),,build)
+	tests/package.sh $(PROGRAM)
 
 # Runs the program as a person would, and compares exit statuses and lines.
 exits: $(if $(PROGRAM),,build)
@@ -50,14 +69,26 @@ clients: $(if $(PROGRAM),,build)
 recipes: $(if $(PROGRAM),,build)
 	clients/recipes.sh $(PROGRAM)
 
-# Runs the program behind nginx, with docs/nginx.conf, and compares their replies.
+# Runs two servers behind nginx, with docs/nginx.conf, and compares their replies.
 proxy: $(if $(PROGRAM),,build)
 	bench/proxy.sh $(PROGRAM)
 
-# Kills the program and starts it again, with docs/bring_back.sh: what it held comes back.
+# Opens the page web/index.html in headless Chromium, and compares what it shows with the files of a server.
+page: $(if $(PROGRAM),,build)
+	tests/page.sh $(PROGRAM)
+
+# Kills the program and starts it again, with fmrcd-bring-back: what it held comes back.
 restart: $(if $(PROGRAM),,build)
 	tests/bring_back.sh $(PROGRAM)
+
+# Fails each system call that the worker of a folder makes, and sees whether the folder mends itself.
+faults: $(if $(PROGRAM),,build)
+	tests/faults.sh $(PROGRAM)
 
 # Measures the program beside nginx, which sends files of the same bytes.
 beside: $(if $(PROGRAM),,build)
 	bench/beside_nginx.sh $(PROGRAM)
+
+# Does `make serve` in a fresh clone, and opens what it says.
+first: $(if $(PROGRAM),,build)
+	tests/first_command.sh $(or $(PROGRAM),$(SERVER)/out/fmrcd)

@@ -142,7 +142,7 @@ def main():
                 file.write(body_of(server.port, target)[1])
     port = free_port()
     site = "server { listen 127.0.0.1:%d; root %s; default_type application/octet-stream; }" % (port, files)
-    nginx = Nginx(os.path.join(folder, "nginx"), site, port, os.cpu_count(), False)
+    nginx = Nginx(os.path.join(folder, "nginx"), site, port, os.cpu_count())
 
     last = APART * (FILES - 1)
     run_loads(small, nginx, small_loads, "requests", (name_of(last), file_of(last)), turns)

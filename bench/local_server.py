@@ -42,7 +42,7 @@ def stop(process):
 class Server:
     """A program that serves one folder; `proto` is the content of its prototype."""
 
-    def __init__(self, program, folder, proto, workers, port=None):
+    def __init__(self, program, folder, proto, workers, port=None, collection="gfs"):
         self.inbox = os.path.join(folder, "inbox")
         self.part = os.path.join(self.inbox, "arriving.part")
         os.makedirs(self.inbox)
@@ -50,8 +50,8 @@ class Server:
         with open(name, "wb") as file:
             file.write(proto)
         self.port = port or free_port()
-        line = [program, "serve", "--name", "gfs", "--proto", name, "--listen", "127.0.0.1:%d" % self.port]
-        # As docs/fmrcd.service does it.
+        line = [program, "serve", "--name", collection, "--proto", name, "--listen", "127.0.0.1:%d" % self.port]
+        # As docs/fmrcd@.service does it.
         given = dict(os.environ, MALLOC_MMAP_THRESHOLD_="1048576")
         self.process = subprocess.Popen(line + ["--workers", str(workers), self.inbox], env=given)
         atexit.register(stop, self.process)
@@ -81,9 +81,7 @@ class Server:
 MAIN = """%(user)sdaemon off; pid %(folder)s/pid; error_log %(folder)s/error.log; worker_processes %(processes)d;
 events { worker_connections 256; }
 http {
-    sendfile on; tcp_nopush on; keepalive_requests 1000000;
-    log_format cache '$upstream_cache_status';
-    access_log %(log)s;
+    sendfile on; tcp_nopush on; keepalive_requests 1000000; access_log off;
     client_body_temp_path %(folder)s/body; proxy_temp_path %(folder)s/proxy; fastcgi_temp_path %(folder)s/fastcgi;
     uwsgi_temp_path %(folder)s/uwsgi; scgi_temp_path %(folder)s/scgi;
     include %(folder)s/site.conf;
@@ -94,15 +92,14 @@ http {
 class Nginx:
     """nginx with `processes` processes over the configuration of a site; `port` is where it listens."""
 
-    def __init__(self, folder, site, port, processes, logs):
+    def __init__(self, folder, site, port, processes):
         self.port = port
-        self.log = os.path.join(folder, "access.log")
         os.makedirs(folder, exist_ok=True)
         program = shutil.which("nginx", path=os.environ.get("PATH", "") + ":/usr/sbin")
         if program is None:
             sys.exit("nginx isn't here; it is in Debian's package nginx-core")
         user = "user root; " if os.geteuid() == 0 else ""
-        given = {"user": user, "folder": folder, "processes": processes, "log": self.log + " cache" if logs else "off"}
+        given = {"user": user, "folder": folder, "processes": processes}
         for name, content in (("main.conf", MAIN % given), ("site.conf", site)):
             with open(os.path.join(folder, name), "w") as file:
                 file.write(content)

@@ -8,7 +8,7 @@ trap 'rm -r "$folder"' EXIT
 top=$(cd "$(dirname "$0")/.." && pwd)
 "$top/bench/crates.sh" "$folder" looks fm_load fm_sample pub_snap
 cp "$top/HANDLES" "$folder/HANDLES"
-cp "$top/crates/publisher_tests/src/files.rt" "$top/crates/publisher_tests/src/probe.rt" "$folder/crates/looks/src/"
+cp "$top/crates/server_tests/src/publishing/files.rt" "$top/crates/server_tests/src/publishing/probe.rt" "$folder/crates/looks/src/"
 mkdir -p "$folder/crates/looks/proofs/row" "$folder/crates/looks/proofs/write_on"
 : > "$folder/crates/looks/proofs/Lib.antt"
 cat > "$folder/crates/looks/proofs/write_on/Invariants.antt" << 'TURNS'

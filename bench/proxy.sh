@@ -1,8 +1,9 @@
 #!/bin/sh
-# Runs the server behind nginx on this machine, with docs/nginx.conf but for its ports and its folder. It checks that
-# replies through nginx are those that the server gives, also HEAD, errors, a large reply and TLS; that connections are
-# kept on both sides; and that while files arrive no reply is older than one that any client had before it asked, also
-# from the cache, nor is one from the cache after the server was started again.
+# Runs two servers behind nginx on this machine, with docs/nginx.conf but for its ports and its folders. It checks that
+# replies through nginx are those that the servers give, also HEAD, errors, compressed replies, a large reply and TLS;
+# that the page, the fields for other sites and the log are there; and that connections are kept on both sides. While
+# files arrive, no reply may be older than one that any client had before it asked, also from the cache, nor may one
+# come from the cache that is of before the server was started again.
 # Use: bench/proxy.sh [PROGRAM]; by default the proved program, which 'make build' leaves. It ends within a minute, with
 # status 0 where all is as it must be. nginx and openssl are installed where they are missing.
 set -eu

@@ -1,7 +1,9 @@
-"""Runs a server behind nginx and compares what both reply; bench/proxy.sh says how."""
+"""Runs servers behind nginx and compares what both reply; bench/proxy.sh says how."""
+import gzip
 import http.client
 import os
 import random
+import re
 import signal
 import ssl
 import subprocess
@@ -19,16 +21,17 @@ BEFORE, ARRIVING, CLIENTS = 20, 40, 4
 PAUSE = 7
 
 # What nginx adds or says for its own connection.
-OWN = {"Date", "Server", "Connection"}
+OWN = {"Date", "Server", "Connection", "Vary", "Access-Control-Allow-Origin", "Access-Control-Expose-Headers"}
 
 BEST = "/thredds/dodsC/gfs/gfs_best.ncd"
 RUN = "/thredds/dodsC/gfs/runs/gfs_RUN_2020-01-01T00:00:00Z"
 TARGETS = [BEST + ".dds", BEST + ".das", BEST + ".dods", BEST + ".dods?t", RUN + ".dds", RUN + ".dods?t%5B0:2:6%5D"]
 TARGETS += [BEST + ".dds?time,time_run", "/thredds/dodsC/gfs/offset/gfs_Offset_10800s.dods?time"]
 TARGETS += ["/thredds/dodsC/gfs/forecast/gfs_ConstantForecast_20200102T000000Z.dods?time"]
-FAULTS = ["/", "/none", BEST + ".nc", BEST + ".dds?none", BEST + ".dods?t%5B9:1:2%5D", BEST + ".dds?%"]
+FAULTS = ["/thredds", "/none", BEST + ".nc", BEST + ".dds?none", BEST + ".dods?t%5B9:1:2%5D", BEST + ".dds?%"]
 FAULTS += [BEST + ".dds?" + "x" * 9000, "/thredds/dodsC/gfs/offset/gfs_Offset_1s.dds"]
 FAULTS += ["/thredds//dodsC/gfs/../gfs/gfs_best.ncd.dds"]
+OF_WAVES = [target.replace("gfs", "waves") for target in TARGETS + FAULTS]
 
 failures = []
 
@@ -46,15 +49,23 @@ def passed(text):
         print(text, flush=True)
 
 
-def site_of(server, port, secure, folder):
-    """docs/nginx.conf with the ports and the folder of this run."""
+def log_in(folder):
+    """Where nginx writes a line for each request."""
+    return os.path.join(folder, "access.log")
+
+
+def site_of(gfs, waves, port, secure, folder):
+    """docs/nginx.conf with two servers, and the ports and the folder of this run."""
     with open(os.path.join(TOP, "docs", "nginx.conf")) as file:
         site = file.read()
     tls = "listen 127.0.0.1:%d ssl; ssl_certificate %s/cert.pem; ssl_certificate_key %s/key.pem;"
     own = {
-        "server 127.0.0.1:8080;": "server 127.0.0.1:%d;" % server.port,
+        "server 127.0.0.1:8080;": "server 127.0.0.1:%d;" % gfs.port,
+        "server 127.0.0.1:8081;": "server 127.0.0.1:%d;" % waves.port,
         "listen 80;": "listen 127.0.0.1:%d; " % port + tls % (secure, folder, folder),
         "proxy_cache_path /var/cache/fmrcd ": "proxy_cache_path %s/cache " % folder,
+        "access_log /var/log/nginx/fmrcd.log ": "access_log %s " % log_in(folder),
+        "root /usr/share/fmrcd/web;": "root %s;" % os.path.join(TOP, "web"),
     }
     for old, new in own.items():
         if site.count(old) != 1:
@@ -83,11 +94,11 @@ def compare(what, one, other):
         fail("%s: through nginx %r, directly %r" % (what, shown[0], shown[1]))
 
 
-def check_same(server, nginx):
+def check_same(server, nginx, targets):
     """The replies to some requests, three times each, and the revisions where the collection was looked at."""
     count = 0
     for method in ("GET", "HEAD", "POST"):
-        for target in TARGETS + FAULTS:
+        for target in targets:
             for _ in range(3):
                 body = b"some" if method == "POST" else None
                 direct = http.client.HTTPConnection("127.0.0.1", server.port, timeout=30)
@@ -100,6 +111,47 @@ def check_same(server, nginx):
                 through.close()
                 count += 1
     return count
+
+
+def told(nginx, target, fields):
+    """The status, the fields and the body of the reply to a request with these fields."""
+    link = http.client.HTTPConnection("127.0.0.1", nginx.port, timeout=30)
+    link.request("GET", target, headers=fields)
+    reply = link.getresponse()
+    body = reply.read()
+    link.close()
+    return reply.status, reply.headers, body
+
+
+def check_page(nginx):
+    """The page stands at the root, and beside it the names of the collections."""
+    with open(os.path.join(TOP, "web", "index.html"), "rb") as file:
+        page = file.read()
+    for target, kind, right in (("/", "text/html", page), ("/collections", "text/plain", b"gfs waves\n")):
+        status, fields, body = told(nginx, target, {})
+        if (status, fields["Content-Type"], body) != (200, kind, right):
+            fail("%s: status %d, %s, %r" % (target, status, fields["Content-Type"], body[:80]))
+
+
+def check_added(nginx, folder, revision):
+    """What nginx adds: compression where it is asked for, leave for other sites, and a line in its log."""
+    target, refused = BEST + ".dods?t", BEST + ".dds?none"
+    right = told(nginx, target, {})[2]
+    status, fields, packed = told(nginx, target, {"Accept-Encoding": "deflate, gzip"})
+    if (status, fields["Content-Encoding"]) != (200, "gzip") or gzip.decompress(packed) != right:
+        fail("a compressed reply: status %d, encoding %r" % (status, fields["Content-Encoding"]))
+    for asked in (target, refused):
+        status, fields, _ = told(nginx, asked, {"Origin": "http://elsewhere"})
+        shown = fields["Access-Control-Expose-Headers"] or ""
+        if fields["Access-Control-Allow-Origin"] != "*" or "X-Collection-Revision" not in shown:
+            fail("%s: other sites aren't let in: %r" % (asked, fields.items()))
+    with open(log_in(folder)) as file:
+        lines = file.read().splitlines()[-2:]
+    for line, asked, status in zip(lines, (target, refused), (200, 400)):
+        wanted = r'127.0.0.1 \[\S+\] "GET %s HTTP/1.1" %d [0-9]+ [0-9.]+ %d \S+'
+        if not re.fullmatch(wanted % (re.escape(asked), status, revision), line):
+            fail("the log has the line %r" % line)
+    return len(packed), len(right)
 
 
 def links_to(port):
@@ -165,10 +217,10 @@ def read(nginx, readings, number, is_over):
         readings.add(revision, (view, what), body, least)
 
 
-def check_arrivals(server, nginx, runs):
+def check_arrivals(server, nginx, folder, runs):
     """Lets files arrive while clients read. How many replies there were, and how many came from the cache."""
     readings, is_over = Readings(), threading.Event()
-    with open(nginx.log) as file:
+    with open(log_in(folder)) as file:
         file.seek(0, 2)
         given = [(nginx, readings, number, is_over) for number in range(CLIENTS)]
         clients = [threading.Thread(target=read, args=client, daemon=True) for client in given]
@@ -228,7 +280,7 @@ def check_large(program, folder, secure):
     server = Server(program, os.path.join(folder, "server"), content, 8)
     server.arrive("gfs_20200101_0000.nc", content)
     port = free_port()
-    nginx = Nginx(folder, site_of(server, port, secure, folder), port, 2, False)
+    nginx = Nginx(folder, site_of(server, server, port, secure, folder), port, 2)
     direct = http.client.HTTPConnection("127.0.0.1", server.port, timeout=30)
     right = ask(direct, "GET", RUN + ".dods?t")
     trusted = ssl.create_default_context(cafile=os.path.join(folder, "cert.pem"))
@@ -247,15 +299,21 @@ def main():
     signal.signal(signal.SIGTERM, lambda *_: sys.exit("stopped"))
     make_certificate(folder)
     server = Server(program, os.path.join(folder, "first"), file_of(0), 8)
+    waves = Server(program, os.path.join(folder, "waves"), file_of(0), 8, collection="waves")
     port = free_port()
-    nginx = Nginx(folder, site_of(server, port, free_port(), folder), port, 2, True)
-    passed("nothing held: %d replies are the same" % check_same(server, nginx))
+    nginx = Nginx(folder, site_of(server, waves, port, free_port(), folder), port, 2)
+    check_page(nginx)
+    passed("the page and the names of the collections are there")
+    passed("nothing held: %d replies are the same" % check_same(server, nginx, TARGETS + FAULTS))
     runs = [APART * number for number in range(BEFORE)]
     for run in runs:
         server.arrive(name_of(run), file_of(run))
-    passed("%d files held: %d replies are the same" % (BEFORE, check_same(server, nginx)))
+    passed("%d files held: %d replies are the same" % (BEFORE, check_same(server, nginx, TARGETS + FAULTS)))
+    waves.arrive(name_of(0).replace("gfs", "waves"), file_of(0))
+    passed("another collection: %d replies are the same" % check_same(waves, nginx, OF_WAVES))
+    passed("compressed, %d bytes in place of %d; open to other sites; in the log" % check_added(nginx, folder, BEFORE))
     passed("300 requests over 1 connection to nginx and %d to the server" % check_kept(server, nginx))
-    readings, hits = check_arrivals(server, nginx, runs)
+    readings, hits = check_arrivals(server, nginx, folder, runs)
     shown = "%d files arrived during %d replies, %d of them from the cache: each right, none older than one before it"
     passed(shown % (ARRIVING, readings.count, hits))
     check_restart(program, os.path.join(folder, "second"), server, nginx)

@@ -22,13 +22,13 @@ wanted() {
     fi
 }
 
-# One crate's stored run, in a folder that holds the files of its data/.
+# One crate's stored run, in a folder that holds the files and folders of its data/.
 try_program() {
     input=/dev/null
     [ ! -f stdin ] || input=stdin
     want=0
     [ ! -f status ] || want=$(cat status)
-    files=$(for file in data/*; do [ ! -f "$file" ] || echo "--data ${file#data/}=$file"; done)
+    files=$([ ! -d data ] || find data -type f | sed 's|^data/\(.*\)|--data \1=&|')
     got=0
     # shellcheck disable=SC2046,SC2086  # a word a line
     rt try --seconds 600 $files -- $(words) < "$input" > "$logs/$crate.out" 2> "$logs/$crate.err" || got=$?

@@ -150,6 +150,15 @@ fn data_body(front: Bytes, source: Dataset, sent: List<Sent>) -> Result<Body, Fa
     })
 }
 
+// The text before the data that a target asks for.
+fn front_of(alloc: Global, target: &Target, projected: &Projected) -> Result<Bytes, NoMemory>
+    ensures { IfOk result (λ text. text ≡ structure_of target.now projected.now ++ codes "Data:\n") }
+{
+    let mut text = structure_of(alloc, target, projected)?;
+    text.append(b"Data:\n")?;
+    Ok(text)
+}
+
 // The data that a target asks for.
 #[tactic(auto, unfolding(crate::specs::Body::data_asked), using(crate::proofs::SentLemmas::sent))]
 fn data_asked(alloc: Global, edition: &Edition, target: &Target) -> Result<Body, Fail<DapFault>>
@@ -159,8 +168,7 @@ fn data_asked(alloc: Global, edition: &Edition, target: &Target) -> Result<Body,
     // Few parts are sent, and each is one of the dataset, since the prototype is that of a file.
     let _proto = source.proto();
     let projected = projected_of(alloc, source.decls().as_slice(), target)?;
-    let mut front = structure_of(alloc, target, &projected)?;
-    front.append(b"Data:\n")?;
+    let front = front_of(alloc, target, &projected)?;
     data_body(front, source, projected.sent)
 }
 

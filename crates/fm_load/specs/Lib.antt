@@ -1,3 +1,4 @@
 pub mod Accepted
 pub mod Axis
 pub mod Compared
+pub mod Loading

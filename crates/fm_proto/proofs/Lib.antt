@@ -1,3 +1,4 @@
+pub mod CheckedLemmas
 pub mod NameLemmas
 pub mod PrototypeLemmas
 pub mod SearchLemmas

@@ -4,11 +4,10 @@ ghost use Rattle.fm_base.specs.Answer.{Answers, AnswersAs};
 ghost use Rattle.fm_model.specs.declared.limit.TheConstants.{MAX_FILE_BYTES};
 ghost use Rattle.fm_model.specs.Prototype as spec;
 ghost use Rattle.fm_model.specs.Site.{IsPrototype, IsSite};
+ghost use Rattle.fm_proto.specs.Checked.{proto_over};
 
 use crate::prototype::proto_with;
-use crate::steps::{
-    dims_have_lengths, names_are_free, names_are_plain, proto_axis, time_stands_first,
-};
+use crate::steps::checked_axis;
 use fm_base::{Bytes, Fail, fault_as};
 use fm_file::{read_sound, reference_of};
 use fm_model::{Proto, ProtoFault, Site};
@@ -35,20 +34,24 @@ fn proto_header<'a>(alloc: Global, bytes: &'a [u8]) -> Result<FileView<'a>, Fail
     fault_as(read_sound(alloc, bytes), fault_of_proto)
 }
 
+// The prototype that a file is at a site, or its first fault.
+#[tactic(auto, unfolding(crate::specs::Checked::proto_over))]
+fn prototype_over(alloc: Global, file: &FileView<'_>, site: Site) -> Result<Proto, Fail<ProtoFault>>
+    ensures { Answers (proto_over file.now.bytes site file.now.layout.header) result }
+{
+    let header = file.header();
+    let axis = checked_axis(alloc, header)?;
+    let reference = reference_of(header);
+    Ok(proto_with(alloc, site, file, reference, axis)?)
+}
+
 // The prototype that some bytes are at a site, or its first fault.
-#[tactic(auto, unfolding(fm_model::specs::Prototype::proto_of))]
+#[tactic(auto, using(crate::proofs::CheckedLemmas::steps))]
 fn prototype_in(alloc: Global, bytes: &[u8], site: Site) -> Result<Proto, Fail<ProtoFault>>
     ensures { Answers (spec.proto_of bytes.now site) result }
 {
     let file = proto_header(alloc, bytes)?;
-    let header = file.header();
-    let axis = proto_axis(header)?;
-    time_stands_first(alloc, header, axis)?;
-    names_are_plain(alloc, header)?;
-    let reference = reference_of(header);
-    names_are_free(alloc, header, reference, axis)?;
-    dims_have_lengths(alloc, header, axis)?;
-    Ok(proto_with(alloc, site, &file, reference, axis)?)
+    prototype_over(alloc, &file, site)
 }
 
 /// Takes the bytes of a netCDF classic file as the prototype of a collection at a site, or returns the first fault: 1

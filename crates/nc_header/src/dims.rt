@@ -7,9 +7,9 @@ ghost use Rattle.nc_header.specs.Turns.{one_more};
 
 use crate::found::Found;
 use crate::names::read_name;
-use crate::reader::Reader;
 use fm_base::{Bytes, Fail, List};
 use nc_model::{Dim, HeaderFault};
+use nc_reader::Reader;
 use std::alloc::Global;
 
 // The tag of the list.

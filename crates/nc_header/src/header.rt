@@ -8,10 +8,10 @@ ghost use Rattle.nc_header.specs.NoHeader.{HasNoHeader};
 
 use crate::attrs::read_attr_list;
 use crate::dims::read_dim_list;
-use crate::reader::Reader;
 use crate::vars::read_var_list;
 use fm_base::Fail;
 use nc_model::{Header, HeaderFault};
+use nc_reader::Reader;
 use std::alloc::Global;
 
 #[tactic(auto, unfolding(nc_model::specs::Reading::header_at))]

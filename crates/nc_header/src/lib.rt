@@ -7,7 +7,6 @@ mod found;
 mod header;
 mod laws;
 mod names;
-mod reader;
 mod vars;
 
 pub use fm_base::Fail;

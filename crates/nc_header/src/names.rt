@@ -7,9 +7,9 @@ ghost use Rattle.nc_model.specs.Reading as spec;
 ghost use Rattle.nc_model.specs.Reading.{Reads};
 
 use crate::found::{Found, Named};
-use crate::reader::Reader;
 use fm_base::Fail;
 use nc_model::HeaderFault;
+use nc_reader::Reader;
 
 #[tactic(auto, using(crate::proofs::NameLemmas::utf8_laws))]
 fn is_utf8(text: &[u8]) -> bool

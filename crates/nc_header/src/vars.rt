@@ -8,9 +8,9 @@ ghost use Rattle.nc_header.specs.Turns.{one_more};
 use crate::attrs::read_attr_list;
 use crate::found::Found;
 use crate::names::read_name;
-use crate::reader::Reader;
 use fm_base::{Bytes, Fail, List};
 use nc_model::{Dim, HeaderFault, NcVar};
+use nc_reader::Reader;
 use std::alloc::Global;
 
 // The tag of the list.

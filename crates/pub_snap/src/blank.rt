@@ -1,6 +1,7 @@
 //! Opening a desk with its passes and shares.
-ghost use Rattle.std.specs.Prelude.{◌≡◌, ◌≤◌, [], replicate, IfOk};
+ghost use Rattle.std.specs.Prelude.{◌≡◌, ◌≤◌, ◌<◌, [], replicate, IfOk};
 ghost use Rattle.fm_model.specs.Site.{IsPrototype};
+ghost use Rattle.left_right.specs.Sides.{view};
 ghost use Rattle.pub_snap.specs.Opening.{unused, IsNamed};
 ghost use Rattle.pub_snap.specs.Rule.{IsOf};
 
@@ -95,14 +96,24 @@ impl Blank {
         let shares = cut(alloc, &mut rest, shares)?;
         let mut seats = unseated(alloc, first.front(), passes)?;
         let front = first.front().again();
-        let second = first.again()?;
         // A writer ends by waiting alone, so nothing may fail once it is there. Each call of the desk that publishes
         // asks for the room that it needs.
-        let board = Writer::new(alloc, first, second, passes as usize)?;
+        let board = board_of(alloc, first, passes)?;
         seat_all(&board, seats.items.as_mut_slice());
         let desk = Desk::of(board, page, front, total, rest, List::new(alloc));
         Ok((desk, seats, shares))
     }
+}
+
+// A writer of two copies that hold the same, for so many readers.
+fn board_of<N: Name>(alloc: Global, first: Shown, readers: u32) -> Result<Board<N>, NoMemory>
+    requires of { (first.book ≡ N.book) × (first.held.proto ≡ N.proto) }
+    requires readers { (0 < readers) × (readers ≤ 25) }
+    ensures shown { IfOk result (λ board. board.desk.shown.value ≡ first) }
+    ensures seen { IfOk result (λ board. (view board.desk.place).seen ≡ []) }
+{
+    let second = first.again()?;
+    Ok(Writer::new(alloc, first, second, readers as usize)?)
 }
 
 // `count` passes without a seat.

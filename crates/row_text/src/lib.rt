@@ -10,6 +10,6 @@ mod values;
 
 pub use described::{File, content};
 pub use reading::{Inputs, Text, read_inputs, without_folders};
-pub use running::{Answers, Count, end, run, run_all};
+pub use running::{Answers, Count, end, run};
 pub use text::{Field, Row, rows};
 pub use values::{bytes, hex, put_hex, put_shown};

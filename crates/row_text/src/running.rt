@@ -1,6 +1,5 @@
 //! Rows that are run and counted.
 
-use crate::reading::Text;
 use crate::text::{Row, rows};
 use std::alloc::{AllocError, Global};
 use std::io::{self, Eprint, Print};
@@ -61,27 +60,6 @@ fn report(rt: &impl Eprint, path: &str, row: &Row<'_>, got: &Option<String>) -> 
         None => eprintln!(rt; "-- got a row of another form")?,
     }
     eprintln!(rt; "-- want\n{}", row.value("want").unwrap_or("(no want)"))
-}
-
-/// Runs the rows of all texts, and prints their counts.
-pub fn run_all<A: Answers, R: Eprint + Print>(
-    rt: &R,
-    alloc: Global,
-    texts: &[Text],
-    answers: &A,
-) -> io::Result<ExitCode> {
-    let mut count = Count::default();
-    for text in texts {
-        run(
-            rt,
-            alloc,
-            text.path.as_str(),
-            text.text.as_str(),
-            answers,
-            &mut count,
-        )?;
-    }
-    end(rt, count)
 }
 
 /// Prints the counts. The exit status is 0 where no row was wrong.

@@ -6,7 +6,7 @@ use Rattle.std.proofs.lemmas.List.Sums.{sum_by-cons}
 use Rattle.srv_ingest.specs.Attempts.{RiseBetween}
 use Rattle.srv_ingest.proofs.SeesLemmas.{RiseBetween-le}
 
--- how many numbers have a property, of so many above a bound
+-- how many numbers have a property, of the `room` numbers above `low`
 abbrev pub many : (ℕ → Bool) → ℕ → ℕ → ℕ
 many has low zero = 0
 many has low (suc room) = cond (has (suc low)) 1 0 + many has (suc low) room

@@ -1,5 +1,5 @@
 //! All the data of a view, counted.
-ghost use Rattle.std.specs.Prelude.{◌≡◌, IfOk, OnOk, false};
+ghost use Rattle.std.specs.Prelude.{◌≡◌, IfOk, OnOk, false, length, true};
 ghost use Rattle.fm_edition.specs.Log.{held_of};
 ghost use Rattle.dap_reply.specs.Parts.{bytes_of};
 ghost use Rattle.dap_reply.specs.Reply.{reply_text};
@@ -61,6 +61,20 @@ fn reply_to(
     Ok(reply)
 }
 
+// How long the head of the reply to a target is.
+fn head_len(
+    alloc: Global,
+    edition: &Edition,
+    revision: u64,
+    target: &Target,
+) -> Result<u64, NoMemory>
+    ensures { IfOk result (λ len. len
+        ≡ length (reply_text (spec.answer_for edition.now target.now) revision true false)) }
+{
+    let head = reply_to(alloc, edition, revision, target, true)?;
+    Ok(head.len())
+}
+
 // The sum of the body of the reply to a target: what is left of the reply behind its head.
 fn body_sum(
     alloc: Global,
@@ -70,9 +84,9 @@ fn body_sum(
 ) -> Result<u32, NoMemory>
     ensures { IfOk result (λ sum. sum ≡ spec.sum_of (spec.body_over edition.now target.now)) }
 {
-    let head = reply_to(alloc, edition, revision, target, true)?;
+    let head = head_len(alloc, edition, revision, target)?;
     let whole = reply_to(alloc, edition, revision, target, false)?;
-    Ok(sum_from(&whole, head.len()))
+    Ok(sum_from(&whole, head))
 }
 
 #[tactic(auto, unfolding(crate::specs::Asked::counted))]

@@ -103,7 +103,9 @@ Written-instant_of text t h =
     (moment_of (number_at text 0 4) (number_at text 5 2) (number_at text 8 2) (number_at text 11 2)
     (number_at text 14 2) (number_at text 17 2)) t h in
     let form = and_parts (begins_in_form instant_form text) (length text == 20) there.0 in
-    let moment = moment_of-some _ _ _ _ _ _ t there.1 in
+    let moment =
+    moment_of-some (number_at text 0 4) (number_at text 5 2) (number_at text 8 2) (number_at text 11 2)
+    (number_at text 14 2) (number_at text 17 2) t there.1 in
     let date = is_date-true _ _ _ moment.0 in
     record {
       year = number_at text 0 4;

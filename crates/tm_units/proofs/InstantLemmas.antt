@@ -117,9 +117,9 @@ glue year month day hour minute second =
     year ++ codes "-" ++ month ++ codes "-" ++ day ++ codes "T" ++ hour ++ codes ":" ++ minute ++ codes ":"
     ++ second ++ codes "Z"
 
-glue_same : (y y₂ m m₂ d d₂ h h₂ n n₂ s s₂ : List ℕ) → y ≡ y₂ → m ≡ m₂ → d ≡ d₂ → h ≡ h₂ → n ≡ n₂ → s ≡ s₂
+glue_same : {y y₂ m m₂ d d₂ h h₂ n n₂ s s₂ : List ℕ} → y ≡ y₂ → m ≡ m₂ → d ≡ d₂ → h ≡ h₂ → n ≡ n₂ → s ≡ s₂
     → glue y m d h n s ≡ glue y₂ m₂ d₂ h₂ n₂ s₂
-glue_same y y₂ m m₂ d d₂ h h₂ n n₂ s s₂ ey em ed eh en es = cc
+glue_same ey em ed eh en es = cc
 
 -- a text of the form is written so from its numbers
 pub spelled_instant-form : (text : List ℕ) → begins_in_form instant_form text ≡ true → length text ≡ 20
@@ -162,7 +162,7 @@ spelled_instant-form text h len =
     ∷ second.first ∷ second.second ∷ 90 ∷ l) none in
     subst (λ (l : List ℕ). l ≡ spelled_instant (number_at l 0 4) (number_at l 5 2) (number_at l 8 2)
     (number_at l 11 2) (number_at l 14 2) (number_at l 17 2)) (sym all)
-    (sym (glue_same _ _ _ _ _ _ _ _ _ _ _ _
+    (sym (glue_same
     (four_digits-number_of century.first century.second year.first year.second century.digits.0 century.digits.1
     year.digits.0 year.digits.1)
     (two_digits-number_of month.first month.second month.digits.0 month.digits.1)

@@ -17,7 +17,7 @@ use Rattle.tm_units.proofs.Lawful.{places, by_exact, Lawful, NoOut, Lawful-plain
 use Rattle.tm_units.proofs.LawfulChoices.{agree_first, Local-here}
 use Rattle.tm_units.proofs.UnitsRuns.{One, one_at, IsByte, IsLetter, AreLetters, Repeats, RepeatsSome, Exact-one, Exact-many, Exact-some, same_letters, letters_same, no_word, no_letters}
 
--- a fault after so many bytes, by those and the next one
+-- a fault after `count` bytes, by those and the next one
 pub fails_after : {A : Type 0} (p : Parser A) (at : ℕ) (rest : List ℕ) (bad count : ℕ) → bad ≡ at + count
     → count ≤ length rest → ((other : List ℕ) → Agree (suc count) rest other → p (input at other) ≡ Err bad)
     → Failed places p at rest bad

@@ -42,7 +42,7 @@ spaces_end (suc count) text front back is some may =
       text_is = is ∙ ap (λ (l : List ℕ). l ++ back) some;
     })
 
--- a zone after so many spaces, by its first byte
+-- a zone after `gap` spaces, by its first byte
 abbrev pub TheZoneAfter : ℕ → Bool → List ℕ → ℤ → Type 0
 TheZoneAfter gap strict text zone =
     ((ltb 0 gap ≡ true) × SpellsShift strict text zone) ⊎ SpellsZone strict text zone

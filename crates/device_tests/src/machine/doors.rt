@@ -3,9 +3,8 @@
 use dev_host::{TcpDoor, TcpLink};
 use dev_traits::{Door, Failed, Link};
 use std::alloc::Global;
-use std::io::{self, Read, Write};
+use std::io::{Read, Write};
 use std::net::{Shutdown, SocketAddr, TcpListener, TcpStream};
-use std::test::Fail;
 use std::thread::{Threads, join};
 use std::time::Duration;
 use std::{rt, thread};
@@ -21,59 +20,97 @@ fn own_door(
     rt: HostRuntime,
     connections: u32,
     patience: u64,
-) -> io::Result<(TcpDoor<HostRuntime>, SocketAddr)> {
-    let listener = TcpListener::bind(&rt, "127.0.0.1:0")?;
-    let address = listener.local_addr()?;
-    Ok((
-        TcpDoor::new(rt, listener, connections, Duration::from_millis(patience)),
-        address,
-    ))
+) -> Option<(TcpDoor<HostRuntime>, SocketAddr)> {
+    let listener = TcpListener::bind(&rt, "127.0.0.1:0").ok()?;
+    let address = listener.local_addr().ok()?;
+    let patience = Duration::from_millis(patience);
+    Some((TcpDoor::new(rt, listener, connections, patience), address))
 }
 
-// The next link of a door, which is to give one.
-fn next_link(
-    rt: &HostRuntime,
-    door: &mut TcpDoor<HostRuntime>,
-) -> Result<TcpLink<HostRuntime>, Failed> {
-    match door.accept()? {
-        Some(link) => Ok(link),
-        None => Err(Failed),
+// Two clients that are connected to an address.
+pub(crate) fn two_clients(rt: &HostRuntime, address: SocketAddr) -> Option<(TcpStream, TcpStream)> {
+    let one = TcpStream::connect(rt, address).ok()?;
+    let other = TcpStream::connect(rt, address).ok()?;
+    Some((one, other))
+}
+
+// Whether the next accept gives a link, or shows that the door is closed.
+pub(crate) fn gives_link(door: &mut TcpDoor<HostRuntime>, some: bool) -> bool {
+    match door.accept() {
+        Ok(found) => found.is_some() == some,
+        Err(Failed) => false,
     }
 }
 
-// Whether each of the next two accepts gives a link, or shows that the door is closed.
-fn gives_twice(door: &mut TcpDoor<HostRuntime>, some: bool) -> Result<bool, Failed> {
-    let first = door.accept()?.is_some();
-    let second = door.accept()?.is_some();
-    Ok(first == some && second == some)
+// Whether a door gives two links, and is then closed.
+fn gives_two(door: &mut TcpDoor<HostRuntime>) -> bool {
+    gives_link(door, true)
+        && gives_link(door, true)
+        && gives_link(door, false)
+        && gives_link(door, false)
+        && door.faults() == 0
+}
+
+// Whether a door for two connections gives two links to two clients.
+fn closes_after_two(rt: HostRuntime) -> bool {
+    let Some((mut door, address)) = own_door(rt, 2, LONG) else {
+        return false;
+    };
+    match two_clients(&rt, address) {
+        Some(_clients) => gives_two(&mut door),
+        None => false,
+    }
 }
 
 #[test]
-fn a_door_closes_after_its_connections(rt: HostRuntime) -> Result<(), Fail> {
-    let (mut door, address) = own_door(rt, 2, LONG)?;
-    let clients = (
-        TcpStream::connect(&rt, address)?,
-        TcpStream::connect(&rt, address)?,
-    );
-    assert!(rt; gives_twice(&mut door, true)? && gives_twice(&mut door, false)?);
-    assert_eq!(rt; door.faults(), 0);
-    let _ = clients;
-    Ok(())
+fn a_door_closes_after_its_connections(rt: HostRuntime) {
+    assert!(rt; closes_after_two(rt));
 }
 
-// Sends four bytes, and returns all that comes.
-fn talk(alloc: Global, client: TcpStream) -> io::Result<Vec<u8>> {
-    let mut client = client;
-    client.write_all(b"ping")?;
-    client.shutdown(Shutdown::Write)?;
-    all_of(alloc, &mut client)
+// Whether this holds of a door for one connection, the link that it gives, and its client.
+fn holds_of_ends<F>(rt: HostRuntime, patience: u64, fact: F) -> bool
+where
+    F: FnOnce(HostRuntime, &mut TcpDoor<HostRuntime>, TcpLink<HostRuntime>, TcpStream) -> bool,
+    requires { F.IsAlwaysCallable fact }
+{
+    let Some((mut door, address)) = own_door(rt, 1, patience) else {
+        return false;
+    };
+    match TcpStream::connect(&rt, address) {
+        Ok(client) => holds_of_link(rt, &mut door, client, fact),
+        Err(_) => false,
+    }
 }
 
-// All that comes.
-fn all_of(alloc: Global, client: &mut TcpStream) -> io::Result<Vec<u8>> {
+// Whether this holds of a door, its next link and a client.
+fn holds_of_link<F>(
+    rt: HostRuntime,
+    door: &mut TcpDoor<HostRuntime>,
+    client: TcpStream,
+    fact: F,
+) -> bool
+where
+    F: FnOnce(HostRuntime, &mut TcpDoor<HostRuntime>, TcpLink<HostRuntime>, TcpStream) -> bool,
+    requires { F.IsAlwaysCallable fact }
+{
+    match door.accept() {
+        Ok(Some(link)) => fact(rt, door, link, client),
+        _ => false,
+    }
+}
+
+// Whether these bytes come, and no more.
+fn hears(alloc: Global, client: &mut TcpStream, wanted: &[u8]) -> bool {
     let mut bytes = Vec::new(alloc);
-    client.read_to_end(&mut bytes)?;
-    Ok(bytes)
+    client.read_to_end(&mut bytes).is_ok() && bytes.as_slice() == wanted
+}
+
+// Whether four bytes are sent and come back.
+fn talk(alloc: Global, client: TcpStream) -> bool {
+    let mut client = client;
+    client.write_all(b"ping").is_ok()
+        && client.shutdown(Shutdown::Write).is_ok()
+        && hears(alloc, &mut client, b"ping")
 }
 
 // Sends back all that comes.
@@ -89,37 +126,54 @@ fn echo<L: Link>(link: &mut L) -> Result<(), Failed> {
     Ok(())
 }
 
-#[test]
-fn bytes_go_both_ways(rt: HostRuntime) -> Result<(), Fail> {
-    let (mut door, address) = own_door(rt, 1, LONG)?;
-    let client = TcpStream::connect(&rt, address)?;
-    let alloc = rt.alloc();
-    let mut link = next_link(&rt, &mut door)?;
-    let (heard, echoed) = join(
-        &rt,
-        || talk(alloc, client),
-        || {
-            let echoed = echo(&mut link);
-            door.done(link);
-            echoed
-        },
-    );
-    echoed?;
-    assert_eq!(rt; heard?.as_slice(), b"ping".as_slice());
-    assert_eq!(rt; door.faults(), 0);
-    Ok(())
+// Sends back all that comes, and ends the connection. Returns whether all was sent.
+fn echo_and_end(door: &mut TcpDoor<HostRuntime>, link: TcpLink<HostRuntime>) -> bool {
+    let mut link = link;
+    let echoed = echo(&mut link).is_ok();
+    door.done(link);
+    echoed
+}
+
+fn is_echoed<R: Threads>(
+    threads: &R,
+    alloc: Global,
+    door: &mut TcpDoor<HostRuntime>,
+    link: TcpLink<HostRuntime>,
+    client: TcpStream,
+) -> bool {
+    let (heard, echoed) = join(threads, || talk(alloc, client), || echo_and_end(door, link));
+    heard && echoed && door.faults() == 0
 }
 
 #[test]
-fn a_client_that_stays_silent_is_given_up(rt: HostRuntime) -> Result<(), Fail> {
-    let (mut door, address) = own_door(rt, 1, SHORT)?;
-    let client = TcpStream::connect(&rt, address)?;
-    let mut link = next_link(&rt, &mut door)?;
-    assert_eq!(rt; link.take(&mut [0u8; 8])?, 0);
-    assert_eq!(rt; link.faults(), 0);
+fn bytes_go_both_ways(rt: HostRuntime) {
+    let holds = holds_of_ends(rt, LONG, |_clock, door, link, client| {
+        is_echoed(&rt, rt.alloc(), door, link, client)
+    });
+    assert!(rt; holds);
+}
+
+// Whether a take gives no byte, and no call has failed.
+fn gives_nothing<L: Link>(link: &mut L) -> bool {
+    link.take(&mut [0u8; 8]) == Ok(0) && link.faults() == 0
+}
+
+fn is_given_up(
+    _rt: HostRuntime,
+    door: &mut TcpDoor<HostRuntime>,
+    link: TcpLink<HostRuntime>,
+    client: TcpStream,
+) -> bool {
+    let mut link = link;
+    let silent = gives_nothing(&mut link);
     drop(client);
     door.done(link);
-    Ok(())
+    silent
+}
+
+#[test]
+fn a_client_that_stays_silent_is_given_up(rt: HostRuntime) {
+    assert!(rt; holds_of_ends(rt, SHORT, is_given_up));
 }
 
 // Sends a byte each 50 milliseconds, 40 in all where the peer takes them.
@@ -133,40 +187,60 @@ fn drip<R: rt::Clock>(rt: &R, client: TcpStream) {
     }
 }
 
-// How many bytes come, one by one, before the link ends.
-fn count_bytes<L: Link>(link: &mut L) -> Result<u64, Failed> {
-    let mut count = 0u64;
-    for _ in 0..10_000 {
-        if link.take(&mut [0u8; 1])? == 0 {
-            return Ok(count);
+// Whether fewer bytes than this come, one by one, before the link ends.
+fn ends_before<L: Link>(link: &mut L, limit: u64) -> bool {
+    for _ in 0..limit {
+        match link.take(&mut [0u8; 1]) {
+            Ok(0) => return link.faults() == 0,
+            Ok(_) => {}
+            Err(Failed) => return false,
         }
-        count = count.saturating_add(1);
     }
-    Ok(count)
+    false
+}
+
+fn is_given_up_at_drips<R: Threads>(
+    threads: &R,
+    clock: HostRuntime,
+    link: TcpLink<HostRuntime>,
+    client: TcpStream,
+) -> bool {
+    let mut link = link;
+    let ((), ended) = join(
+        threads,
+        || drip(&clock, client),
+        || ends_before(&mut link, 40),
+    );
+    ended
 }
 
 #[test]
-fn a_client_that_drips_is_given_up(rt: HostRuntime) -> Result<(), Fail> {
-    let (mut door, address) = own_door(rt, 1, SHORT)?;
-    let client = TcpStream::connect(&rt, address)?;
-    let mut link = next_link(&rt, &mut door)?;
-    let ((), counted) = join(&rt, || drip(&rt, client), || count_bytes(&mut link));
-    assert!(rt; counted? < 40);
-    assert_eq!(rt; link.faults(), 0);
-    Ok(())
+fn a_client_that_drips_is_given_up(rt: HostRuntime) {
+    let holds = holds_of_ends(rt, SHORT, |clock, _door, link, client| {
+        is_given_up_at_drips(&rt, clock, link, client)
+    });
+    assert!(rt; holds);
 }
 
-#[test]
-fn a_refusal_reaches_a_client_whose_bytes_are_not_read(rt: HostRuntime) -> Result<(), Fail> {
-    let (mut door, address) = own_door(rt, 1, LONG)?;
-    let mut client = TcpStream::connect(&rt, address)?;
-    client.write_all(&[b'x'; 30_000])?;
-    client.shutdown(Shutdown::Write)?;
-    let mut link = next_link(&rt, &mut door)?;
-    assert_eq!(rt; link.put(b"no")?, 2);
+// Sends 30,000 bytes, and nothing after them. Returns whether all were sent.
+fn send_much(client: &mut TcpStream) -> bool {
+    client.write_all(&[b'x'; 30_000]).is_ok() && client.shutdown(Shutdown::Write).is_ok()
+}
+
+fn is_refused(
+    rt: HostRuntime,
+    door: &mut TcpDoor<HostRuntime>,
+    link: TcpLink<HostRuntime>,
+    client: TcpStream,
+) -> bool {
+    let mut link = link;
+    let mut client = client;
+    let refused = send_much(&mut client) && link.put(b"no") == Ok(2);
     door.done(link);
-    let reply = all_of(rt.alloc(), &mut client)?;
-    assert_eq!(rt; reply.as_slice(), b"no".as_slice());
-    assert_eq!(rt; door.faults(), 0);
-    Ok(())
+    refused && hears(rt.alloc(), &mut client, b"no") && door.faults() == 0
+}
+
+#[test]
+fn a_refusal_reaches_a_client_whose_bytes_are_not_read(rt: HostRuntime) {
+    assert!(rt; holds_of_ends(rt, LONG, is_refused));
 }

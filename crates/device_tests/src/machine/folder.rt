@@ -1,129 +1,82 @@
 //! A folder of a test's own.
 
+use super::own_path::{path_for, put_at, remove_at};
 use dev_host::FolderInbox;
-use dev_traits::{Arrival, Inbox, Verdict};
-use fm_base::NoMemory;
-use std::path::PathBuf;
-use std::test::Fail;
-use std::{env, fs, process};
+use dev_traits::Failed;
+use fm_base::Fail;
+use std::alloc::Global;
+use std::fs;
 
 // A folder below that for temporary files.
 #[derive(Drop)]
 pub(crate) struct Folder {
-    path: PathBuf,
+    rt: HostRuntime,
+    path: String,
 }
 
 impl Folder {
-    // A folder with these files, whose own name no other test has.
-    pub(crate) fn with(rt: &HostRuntime, name: &str, files: &[&str]) -> Result<Folder, Fail> {
-        let folder = Folder::new(rt, name)?;
-        for file in files {
-            folder.put(rt, file)?;
+    // A folder whose own name no other test has. A name of its entries that ends in a slash is an empty folder's.
+    pub(crate) fn with(rt: HostRuntime, name: &str, entries: &[&str]) -> Option<Folder> {
+        let path = path_for(&rt, name)?;
+        let folder = Folder { rt, path };
+        if folder.begin(entries) {
+            Some(folder)
+        } else {
+            None
         }
-        Ok(folder)
     }
 
-    fn new(rt: &HostRuntime, name: &str) -> Result<Folder, Fail> {
-        let alloc = rt.alloc();
-        let name = format!(in alloc; "fmrcd-inbox-{}-{}", process::id(rt.process()), name)?;
-        let path = env::temp_dir(rt)?.join(alloc, name.as_str())?;
-        fs::create_dir(rt, path.as_str())?;
-        Ok(Folder { path })
+    // Makes it, and puts these there.
+    fn begin(&self, entries: &[&str]) -> bool {
+        if fs::create_dir(&self.rt, self.path.as_str()).is_err() {
+            return false;
+        }
+        for entry in entries {
+            if !self.put(entry) {
+                return false;
+            }
+        }
+        true
     }
 
-    // Its inbox.
-    pub(crate) fn inbox(&self, rt: HostRuntime) -> Result<FolderInbox<HostRuntime>, Fail> {
-        Ok(FolderInbox::open(rt, rt.alloc(), self.path.as_str().as_bytes())?)
-    }
-
-    // Whether it can be opened as an inbox.
-    pub(crate) fn is_inbox(&self, rt: HostRuntime) -> bool {
-        FolderInbox::open(rt, rt.alloc(), self.path.as_str().as_bytes()).is_ok()
+    pub(crate) fn alloc(&self) -> Global {
+        self.rt.alloc()
     }
 
     // The path of a name in it.
-    fn path_of(&self, rt: &HostRuntime, name: &str) -> Result<PathBuf, NoMemory> {
-        Ok(self.path.join(rt.alloc(), name)?)
+    fn path_of(&self, name: &str) -> Option<String> {
+        format!(in self.rt.alloc(); "{}/{}", self.path.as_str(), name).ok()
     }
 
-    // Puts a file there that has its name as its content.
-    pub(crate) fn put(&self, rt: &HostRuntime, name: &str) -> Result<(), Fail> {
-        fs::write(rt, self.path_of(rt, name)?.as_str(), name.as_bytes())?;
-        Ok(())
+    // Puts a file there that has its name as its content, or a folder. Returns whether it was put.
+    pub(crate) fn put(&self, name: &str) -> bool {
+        match self.path_of(name) {
+            Some(path) => put_at(&self.rt, path.as_str(), name.as_bytes()),
+            None => false,
+        }
     }
 
-    // Makes a folder there.
-    pub(crate) fn make_folder(&self, rt: &HostRuntime, name: &str) -> Result<(), Fail> {
-        fs::create_dir(rt, self.path_of(rt, name)?.as_str())?;
-        Ok(())
-    }
-
-    // Removes a file.
-    pub(crate) fn take_away(&self, rt: &HostRuntime, name: &str) -> Result<(), Fail> {
-        fs::remove_file(rt, self.path_of(rt, name)?.as_str())?;
-        Ok(())
-    }
-
-    // Removes an empty folder.
-    pub(crate) fn take_folder(&self, rt: &HostRuntime, name: &str) -> Result<(), Fail> {
-        fs::remove_dir(rt, self.path_of(rt, name)?.as_str())?;
-        Ok(())
+    // Removes a file, or an empty folder. Returns whether it was removed.
+    pub(crate) fn take_away(&self, name: &str) -> bool {
+        match self.path_of(name) {
+            Some(path) => remove_at(&self.rt, path.as_str()),
+            None => false,
+        }
     }
 
     // Whether a file lies there.
-    pub(crate) fn has(&self, rt: &HostRuntime, name: &str) -> Result<bool, Fail> {
-        Ok(fs::exists(rt, self.path_of(rt, name)?.as_str())?)
+    pub(crate) fn has(&self, name: &str) -> Option<bool> {
+        let path = self.path_of(name)?;
+        fs::exists(&self.rt, path.as_str()).ok()
     }
 
-    // Removes the folder and all that lies there.
-    pub(crate) fn remove(self, rt: &HostRuntime) -> Result<(), Fail> {
-        fs::remove_dir_all(rt, self.path.as_str())?;
-        Ok(())
+    // Removes the folder and all that lies there. Returns whether it was removed.
+    pub(crate) fn remove(&self) -> bool {
+        fs::remove_dir_all(&self.rt, self.path.as_str()).is_ok()
     }
-}
 
-// Whether this name arrives next.
-pub(crate) fn comes<I: Inbox>(rt: &HostRuntime, inbox: &mut I, name: &str) -> Result<bool, Fail> {
-    match inbox.next(rt.alloc())? {
-        Arrival::Name(found) => Ok(found.as_slice() == name.as_bytes()),
-        Arrival::Idle | Arrival::Done => Ok(false),
+    // Its inbox.
+    pub(crate) fn inbox(&self) -> Result<FolderInbox<HostRuntime>, Fail<Failed>> {
+        FolderInbox::open(self.rt, self.rt.alloc(), self.path.as_bytes())
     }
-}
-
-// Whether these names arrive next, in this order. Each is published.
-pub(crate) fn publishes(
-    rt: &HostRuntime,
-    inbox: &mut FolderInbox<HostRuntime>,
-    names: &[&str],
-) -> Result<bool, Fail> {
-    for name in names {
-        if !settles(rt, inbox, name, Verdict::Published(1))? {
-            return Ok(false);
-        }
-    }
-    Ok(true)
-}
-
-// Whether this name arrives next. It is given this verdict.
-pub(crate) fn settles(
-    rt: &HostRuntime,
-    inbox: &mut FolderInbox<HostRuntime>,
-    name: &str,
-    verdict: Verdict,
-) -> Result<bool, Fail> {
-    if !comes(rt, inbox, name)? {
-        return Ok(false);
-    }
-    inbox.settle(name.as_bytes(), verdict)?;
-    Ok(true)
-}
-
-// Whether nothing has arrived.
-pub(crate) fn is_idle<I: Inbox>(rt: &HostRuntime, inbox: &mut I) -> Result<bool, Fail> {
-    Ok(matches!(inbox.next(rt.alloc())?, Arrival::Idle))
-}
-
-// Whether nothing will arrive any more.
-pub(crate) fn is_done<I: Inbox>(rt: &HostRuntime, inbox: &mut I) -> Result<bool, Fail> {
-    Ok(matches!(inbox.next(rt.alloc())?, Arrival::Done))
 }

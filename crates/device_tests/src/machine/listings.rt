@@ -1,12 +1,13 @@
 //! Folders in memory, whose listings have names that aren't text, and fail.
 
+use super::wanted::{Content, Next};
 use dev_host::FolderInbox;
-use dev_traits::{Arrival, Found, Inbox};
+use dev_traits::{Failed, Inbox};
+use fm_base::Fail;
 use std::alloc::{Allocator, Global};
 use std::fs::{File, Metadata, OpenOptions};
 use std::io::{self, Error, ErrorKind, Read};
 use std::rt;
-use std::test::Fail;
 use std::time::Duration;
 
 // A machine on which each folder has these names, each ended by a NUL, and each name is a file that can't be read; only
@@ -112,56 +113,90 @@ impl Alloc for Machine {
     }
 }
 
-// The inbox of a folder with these names.
-fn inbox(rt: HostRuntime, names: &'static [u8], fails: bool) -> Result<FolderInbox<Machine>, Fail> {
-    let machine = Machine { rt, names, fails };
-    Ok(FolderInbox::open(machine, rt.alloc(), b"in")?)
+// Whether this arrives next.
+fn gives(alloc: Global, inbox: &mut FolderInbox<Machine>, next: Next<'_>) -> bool {
+    next.is(inbox.next(alloc))
 }
 
-// Whether this name arrives next.
-fn comes(alloc: Global, inbox: &mut FolderInbox<Machine>, name: &[u8]) -> Result<bool, Fail> {
-    match inbox.next(alloc)? {
-        Arrival::Name(found) => Ok(found.as_slice() == name),
-        Arrival::Idle | Arrival::Done => Ok(false),
+// Whether an inbox gives these, one after the other.
+fn gives_all(alloc: Global, inbox: &mut FolderInbox<Machine>, given: &[Next<'_>]) -> bool {
+    for next in given {
+        if !gives(alloc, inbox, *next) {
+            return false;
+        }
+    }
+    true
+}
+
+// The inbox of a folder with these names.
+fn open(
+    rt: HostRuntime,
+    names: &'static [u8],
+    fails: bool,
+) -> Result<FolderInbox<Machine>, Fail<Failed>> {
+    let machine = Machine { rt, names, fails };
+    FolderInbox::open(machine, rt.alloc(), b"in")
+}
+
+// Whether the inbox of a folder with these names gives these, and has so many faults then. `fails` says whether a
+// listing fails after its last name.
+fn lists(
+    rt: HostRuntime,
+    names: &'static [u8],
+    fails: bool,
+    given: &[Next<'_>],
+    faults: u64,
+) -> bool {
+    match open(rt, names, fails) {
+        Ok(inbox) => {
+            let mut inbox = inbox;
+            gives_all(rt.alloc(), &mut inbox, given) && inbox.faults() == faults
+        }
+        Err(_) => false,
+    }
+}
+
+const BOTH: &[Next<'static>] = &[Next::Name(b"a.nc"), Next::Name(b"b.nc")];
+
+#[test]
+fn a_name_that_is_not_text_is_passed_over(rt: HostRuntime) {
+    assert!(rt; lists(rt, b"b.nc\0\xff.nc\0a.nc\0", false, BOTH, 0));
+}
+
+#[test]
+fn an_entry_that_cannot_be_looked_at_is_passed_over(rt: HostRuntime) {
+    assert!(rt; lists(rt, b"loop.nc\0a.nc\0", false, &[Next::Name(b"a.nc")], 0));
+}
+
+// Whether a name arrives whose file can't be read, and is absent then.
+fn is_absent(alloc: Global, inbox: &mut FolderInbox<Machine>) -> bool {
+    gives(alloc, inbox, Next::Name(b"a.nc"))
+        && Content::Absent.is(inbox.fetch(alloc, b"a.nc", 10))
+        && inbox.faults() == 0
+}
+
+// Whether that holds of the inbox of a folder with one name.
+fn lists_unreadable(rt: HostRuntime) -> bool {
+    match open(rt, b"a.nc\0", false) {
+        Ok(inbox) => {
+            let mut inbox = inbox;
+            is_absent(rt.alloc(), &mut inbox)
+        }
+        Err(_) => false,
     }
 }
 
 #[test]
-fn a_name_that_is_not_text_is_passed_over(rt: HostRuntime) -> Result<(), Fail> {
-    let mut inbox = inbox(rt, b"b.nc\0\xff.nc\0a.nc\0", false)?;
-    assert!(rt; comes(rt.alloc(), &mut inbox, b"a.nc")?);
-    assert!(rt; comes(rt.alloc(), &mut inbox, b"b.nc")? && inbox.faults() == 0);
-    Ok(())
+fn a_file_that_cannot_be_read_is_absent(rt: HostRuntime) {
+    assert!(rt; lists_unreadable(rt));
 }
 
 #[test]
-fn an_entry_that_cannot_be_looked_at_is_passed_over(rt: HostRuntime) -> Result<(), Fail> {
-    let mut inbox = inbox(rt, b"loop.nc\0a.nc\0", false)?;
-    assert!(rt; comes(rt.alloc(), &mut inbox, b"a.nc")? && inbox.faults() == 0);
-    Ok(())
+fn a_listing_that_fails_gives_no_name(rt: HostRuntime) {
+    assert!(rt; lists(rt, b"b.nc\0a.nc\0", true, &[Next::Fault, Next::Fault], 2));
 }
 
 #[test]
-fn a_file_that_cannot_be_read_is_absent(rt: HostRuntime) -> Result<(), Fail> {
-    let mut inbox = inbox(rt, b"a.nc\0", false)?;
-    assert!(rt; matches!(inbox.next(rt.alloc())?, Arrival::Name(_)));
-    assert!(rt; matches!(inbox.fetch(rt.alloc(), b"a.nc", 10)?, Found::Absent));
-    assert_eq!(rt; inbox.faults(), 0);
-    Ok(())
-}
-
-#[test]
-fn a_listing_that_fails_gives_no_name(rt: HostRuntime) -> Result<(), Fail> {
-    let mut inbox = inbox(rt, b"b.nc\0a.nc\0", true)?;
-    assert!(rt; inbox.next(rt.alloc()).is_err());
-    assert!(rt; inbox.next(rt.alloc()).is_err());
-    assert_eq!(rt; inbox.faults(), 2);
-    Ok(())
-}
-
-#[test]
-fn a_folder_without_files_is_idle(rt: HostRuntime) -> Result<(), Fail> {
-    let mut inbox = inbox(rt, b"a.txt\0", false)?;
-    assert!(rt; matches!(inbox.next(rt.alloc())?, Arrival::Idle));
-    Ok(())
+fn a_folder_without_files_is_idle(rt: HostRuntime) {
+    assert!(rt; lists(rt, b"a.txt\0", false, &[Next::Idle], 0));
 }

@@ -1,36 +1,69 @@
 //! What the machine opens.
 
+use super::doors::{gives_link, two_clients};
 use dev_host::{RealOpener, TcpDoor, host_world};
-use dev_traits::{Clock, Door, Failed, Inbox, Opener};
+use dev_traits::{Clock, Inbox, Opener};
 use fm_base::List;
 use std::alloc::Global;
-use std::net::{TcpListener, TcpStream};
-use std::test::Fail;
+use std::net::{SocketAddr, TcpListener};
 
-// Whether each of two doors gives one link, and the first of them is then closed.
+// Whether each of two doors at an address gives one link, and the first of them is then closed.
 fn give_one_each(
+    rt: &HostRuntime,
+    address: SocketAddr,
     one: &mut TcpDoor<HostRuntime>,
     other: &mut TcpDoor<HostRuntime>,
-) -> Result<bool, Failed> {
-    let both = one.accept()?.is_some() && other.accept()?.is_some();
-    Ok(both && one.accept()?.is_none())
+) -> bool {
+    match two_clients(rt, address) {
+        Some(_clients) => {
+            gives_link(one, true) && gives_link(other, true) && gives_link(one, false)
+        }
+        None => false,
+    }
+}
+
+// Whether two doors are at one address, and each gives one link.
+fn are_at_one(
+    rt: &HostRuntime,
+    one: &mut TcpDoor<HostRuntime>,
+    other: &mut TcpDoor<HostRuntime>,
+) -> bool {
+    match (one.local_addr(), other.local_addr()) {
+        (Ok(address), Ok(same)) => same == address && give_one_each(rt, address, one, other),
+        _ => false,
+    }
+}
+
+// Whether this door and the next one are at one address.
+fn is_first_of_two(
+    rt: &HostRuntime,
+    opener: &mut RealOpener<HostRuntime>,
+    one: &mut TcpDoor<HostRuntime>,
+) -> bool {
+    match opener.door(rt.alloc(), b"127.0.0.1:0", 1) {
+        Ok(other) => {
+            let mut other = other;
+            are_at_one(rt, one, &mut other)
+        }
+        Err(_) => false,
+    }
+}
+
+// Whether two doors that are opened at one address share a socket.
+fn share_a_socket(rt: &HostRuntime, opener: &mut RealOpener<HostRuntime>) -> bool {
+    match opener.door(rt.alloc(), b"127.0.0.1:0", 1) {
+        Ok(one) => {
+            let mut one = one;
+            is_first_of_two(rt, opener, &mut one)
+        }
+        Err(_) => false,
+    }
 }
 
 #[test]
-fn doors_at_one_address_share_a_socket(rt: HostRuntime) -> Result<(), Fail> {
-    let alloc = rt.alloc();
+fn doors_at_one_address_share_a_socket(rt: HostRuntime) {
     let mut opener = RealOpener::new(rt);
-    let mut one = opener.door(alloc, b"127.0.0.1:0", 1)?;
-    let mut other = opener.door(alloc, b"127.0.0.1:0", 1)?;
-    let address = one.local_addr()?;
-    assert!(rt; other.local_addr()? == address);
-    let clients = (
-        TcpStream::connect(&rt, address)?,
-        TcpStream::connect(&rt, address)?,
-    );
-    assert!(rt; give_one_each(&mut one, &mut other)? && opener.faults() == 0);
-    let _ = clients;
-    Ok(())
+    assert!(rt; share_a_socket(&rt, &mut opener) && opener.faults() == 0);
 }
 
 // Addresses at which no door can be opened: a port out of range, another machine's, and no text.
@@ -38,49 +71,83 @@ const NO_DOORS: [&[u8]; 3] = [b"127.0.0.1:99999", b"192.0.2.1:0", b"\xff"];
 
 const NO_FOLDERS: [&[u8]; 3] = [b"/no/such/folder", b"", b"\xff"];
 
-// Whether no door is opened at any of these.
-fn opens_no_door(alloc: Global, opener: &mut RealOpener<HostRuntime>) -> bool {
-    for address in &NO_DOORS {
-        if opener.door(alloc, address, 1).is_ok() {
+// Whether a door is opened at this address, or else an inbox at this path.
+fn opens(alloc: Global, opener: &mut RealOpener<HostRuntime>, at: &[u8], is_door: bool) -> bool {
+    if is_door {
+        opener.door(alloc, at, 1).is_ok()
+    } else {
+        opener.inbox(alloc, at).is_ok()
+    }
+}
+
+// Whether nothing is opened at any of these, and the opener has so many faults then.
+fn opens_none(
+    alloc: Global,
+    opener: &mut RealOpener<HostRuntime>,
+    all: &[&[u8]],
+    are_doors: bool,
+    faults: u64,
+) -> bool {
+    for at in all {
+        if opens(alloc, opener, at, are_doors) {
             return false;
         }
     }
-    true
+    opener.faults() == faults
 }
 
-// Whether none of these is opened as an inbox.
-fn opens_no_inbox(alloc: Global, opener: &mut RealOpener<HostRuntime>) -> bool {
-    for path in &NO_FOLDERS {
-        if opener.inbox(alloc, path).is_ok() {
-            return false;
-        }
+// Whether each that isn't opened is a fault.
+fn are_faults(alloc: Global, opener: &mut RealOpener<HostRuntime>) -> bool {
+    opens_none(alloc, opener, &NO_DOORS, true, 3)
+        && opens_none(alloc, opener, &NO_FOLDERS, false, 6)
+}
+
+#[test]
+fn what_cannot_be_opened_is_a_fault(rt: HostRuntime) {
+    assert!(rt; are_faults(rt.alloc(), &mut RealOpener::new(rt)));
+}
+
+// The address of a socket that listens, as text.
+fn address_of(alloc: Global, listener: &TcpListener) -> Option<String> {
+    let address = listener.local_addr().ok()?;
+    format!(in alloc; "{}", address).ok()
+}
+
+// Whether no door is opened at the address of a socket that listens, which is a fault.
+fn is_in_use(alloc: Global, opener: &mut RealOpener<HostRuntime>, listener: &TcpListener) -> bool {
+    match address_of(alloc, listener) {
+        Some(address) => opener.door(alloc, address.as_bytes(), 1).is_err() && opener.faults() == 1,
+        None => false,
     }
-    true
+}
+
+// Whether no door is opened beside a socket that listens.
+fn is_taken(rt: HostRuntime) -> bool {
+    match TcpListener::bind(&rt, "127.0.0.1:0") {
+        Ok(listener) => is_in_use(rt.alloc(), &mut RealOpener::new(rt), &listener),
+        Err(_) => false,
+    }
 }
 
 #[test]
-fn what_cannot_be_opened_is_a_fault(rt: HostRuntime) -> Result<(), Fail> {
-    let mut opener = RealOpener::new(rt);
-    assert!(rt; opens_no_door(rt.alloc(), &mut opener) && opener.faults() == 3);
-    assert!(rt; opens_no_inbox(rt.alloc(), &mut opener) && opener.faults() == 6);
-    Ok(())
+fn an_address_in_use_cannot_be_opened(rt: HostRuntime) {
+    assert!(rt; is_taken(rt));
 }
 
-#[test]
-fn an_address_in_use_cannot_be_opened(rt: HostRuntime) -> Result<(), Fail> {
-    let alloc = rt.alloc();
-    let listener = TcpListener::bind(&rt, "127.0.0.1:0")?;
-    let address = format!(in alloc; "{}", listener.local_addr()?)?;
-    let mut opener = RealOpener::new(rt);
-    assert!(rt; opener.door(alloc, address.as_bytes(), 1).is_err() && opener.faults() == 1);
-    Ok(())
+// Whether an opener's clock gives one moment.
+fn opens_a_clock(opener: &mut RealOpener<HostRuntime>) -> bool {
+    let mut clock = opener.clock(1);
+    clock.next().is_some() && clock.next().is_none()
 }
 
-#[test]
-fn a_world_of_a_process_opens_a_clock(rt: HostRuntime) -> Result<(), Fail> {
+// Whether the world of a process opens a clock, and is open nowhere.
+fn is_closed(rt: HostRuntime) -> bool {
     let mut world = host_world(rt, &List::new(rt.alloc()));
-    let mut clock = world.opener.clock(1);
-    assert!(rt; clock.next().is_some() && clock.next().is_none());
-    assert!(rt; world.doors.is_empty() && world.inboxes.is_empty() && world.clocks.is_empty());
-    Ok(())
+    let is_empty = world.doors.is_empty() && world.inboxes.is_empty() && world.clocks.is_empty();
+    is_empty && opens_a_clock(&mut world.opener)
+}
+
+#[test]
+fn a_world_of_a_process_opens_a_clock(rt: HostRuntime) {
+    assert!(rt; is_closed(rt));
 }

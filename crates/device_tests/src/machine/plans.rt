@@ -1,11 +1,13 @@
 //! Readers and writers in memory that cut, fail and are interrupted.
 
+use super::calls::{Call, gives_all};
+use super::wanted::Content;
 use dev_std::{StreamLink, StreamSink, read_to_end};
 use dev_traits::{Failed, Found, Link, Sink};
+use fm_base::Fail;
 use std::alloc::Global;
 use std::io;
 use std::io::{Error, ErrorKind, Read, Write};
-use std::test::Fail;
 
 // What calls do, by their numbers from 1: some are interrupted, some fail, and each other one takes at most `most`
 // bytes.
@@ -83,71 +85,78 @@ fn link(alloc: Global) -> StreamLink<Reader<'static>, Writer<'static>> {
     StreamLink::new(input, output)
 }
 
-// Whether a take gives these bytes, or fails where it is to give `None`.
-fn gives(link: &mut impl Link, bytes: Option<&[u8]>) -> bool {
-    let mut buf = [0u8; 8];
-    match (link.take(&mut buf), bytes) {
-        (Ok(count), Some(bytes)) => count == bytes.len() && buf.starts_with(bytes),
-        (Err(Failed), None) => true,
-        _ => false,
+// Whether that link gives what these calls are to give. One of them fails, and the link then has put these bytes.
+fn gives(alloc: Global, calls: &[Call<'_>], put: &[u8]) -> bool {
+    let mut link = link(alloc);
+    gives_all(&mut link, calls) && link.output.all.as_slice() == put && link.faults() == 1
+}
+
+const TAKES: &[Call<'static>] = &[
+    Call::Take(Some(b"abc")),
+    Call::Take(None),
+    Call::Take(Some(b"de")),
+    Call::Take(Some(b"")),
+];
+
+#[test]
+fn a_link_takes_what_its_stream_gives(rt: HostRuntime) {
+    assert!(rt; gives(rt.alloc(), TAKES, b""));
+}
+
+const PUTS: &[Call<'static>] = &[
+    Call::Put(b"xyz", Some(2)),
+    Call::Put(b"z", None),
+    Call::Put(b"z", Some(1)),
+];
+
+#[test]
+fn a_link_puts_what_its_stream_takes(rt: HostRuntime) {
+    assert!(rt; gives(rt.alloc(), PUTS, b"xyz"));
+}
+
+// Whether each line is put whole where it is to be, and else fails.
+fn puts_all<S: Sink>(sink: &mut S, lines: &[(&[u8], bool)]) -> bool {
+    for (line, is_whole) in lines {
+        if sink.put(line).is_ok() != *is_whole {
+            return false;
+        }
     }
+    true
 }
 
-#[test]
-fn a_link_takes_what_its_stream_gives(rt: HostRuntime) -> Result<(), Fail> {
-    let mut link = link(rt.alloc());
-    assert!(rt; gives(&mut link, Some(b"abc")) && gives(&mut link, None));
-    assert!(rt; gives(&mut link, Some(b"de")) && gives(&mut link, Some(b"")));
-    assert_eq!(rt; link.faults(), 1);
-    Ok(())
-}
-
-#[test]
-fn a_link_puts_what_its_stream_takes(rt: HostRuntime) -> Result<(), Fail> {
-    let mut link = link(rt.alloc());
-    assert_eq!(rt; link.put(b"xyz")?, 2);
-    assert!(rt; link.put(b"z").is_err());
-    assert_eq!(rt; link.put(b"z")?, 1);
-    assert_eq!(rt; link.output.all.as_slice(), b"xyz".as_slice());
-    assert_eq!(rt; link.faults(), 1);
-    Ok(())
-}
-
-#[test]
-fn a_sink_writes_a_line_whole_or_up_to_a_failure(rt: HostRuntime) -> Result<(), Fail> {
+// Whether a sink over a writer with this plan puts these lines, and its writer then has these bytes. `faults` is how
+// many of them fail.
+fn writes(alloc: Global, plan: Plan<'_>, lines: &[(&[u8], bool)], all: &[u8], faults: u64) -> bool {
     let output = Writer {
-        all: Vec::new(rt.alloc()),
-        plan: Plan::new(2, &[1, 3], &[6]),
+        all: Vec::new(alloc),
+        plan,
     };
     let mut sink = StreamSink::new(output);
-    sink.put(b"line\n")?;
-    assert_eq!(rt; sink.output.all.as_slice(), b"line\n".as_slice());
-    assert!(rt; sink.put(b"more\n").is_err());
-    assert_eq!(rt; sink.faults(), 1);
-    sink.put(b"")?;
-    assert_eq!(rt; sink.output.all.as_slice(), b"line\n".as_slice());
-    Ok(())
+    puts_all(&mut sink, lines) && sink.output.all.as_slice() == all && sink.faults() == faults
+}
+
+// A plan that interrupts two writes, and lets the sixth one fail.
+fn cut_short() -> Plan<'static> {
+    Plan::new(2, &[1, 3], &[6])
+}
+
+const WHOLE: &[(&[u8], bool)] = &[(b"line\n", true)];
+
+const SECOND_FAILS: &[(&[u8], bool)] = &[(b"line\n", true), (b"more\n", false), (b"", true)];
+
+#[test]
+fn a_sink_writes_a_line_whole_or_up_to_a_failure(rt: HostRuntime) {
+    assert!(rt; writes(rt.alloc(), cut_short(), WHOLE, b"line\n", 0));
+    assert!(rt; writes(rt.alloc(), cut_short(), SECOND_FAILS, b"line\n", 1));
 }
 
 #[test]
-fn a_writer_that_takes_nothing_has_failed(rt: HostRuntime) -> Result<(), Fail> {
-    let output = Writer {
-        all: Vec::new(rt.alloc()),
-        plan: Plan::new(0, &[], &[]),
-    };
-    let mut sink = StreamSink::new(output);
-    assert!(rt; sink.put(b"x").is_err());
-    assert_eq!(rt; sink.faults(), 1);
-    Ok(())
+fn a_writer_that_takes_nothing_has_failed(rt: HostRuntime) {
+    assert!(rt; writes(rt.alloc(), Plan::new(0, &[], &[]), &[(b"x", false)], b"", 1));
 }
 
 // What is read from these bytes, a thousand at a time.
-fn found(
-    alloc: Global,
-    bytes: &[u8],
-    failing: &[u64],
-    limit: u64,
-) -> Result<Found, fm_base::Fail<Failed>> {
+fn found(alloc: Global, bytes: &[u8], failing: &[u64], limit: u64) -> Result<Found, Fail<Failed>> {
     let mut reader = Reader {
         left: bytes,
         plan: Plan::new(1000, &[2, 3], failing),
@@ -156,34 +165,44 @@ fn found(
 }
 
 // 70,001 bytes.
-fn many(alloc: Global) -> Result<Vec<u8>, Fail> {
+fn many(alloc: Global) -> Option<Vec<u8>> {
     let mut bytes = Vec::new(alloc);
     for i in 0..70_001u32 {
-        bytes.push((i % 251) as u8)?;
+        bytes.push((i % 251) as u8).ok()?;
     }
-    Ok(bytes)
+    Some(bytes)
+}
+
+// Whether 70,001 bytes that keep the limit are read whole.
+fn is_read_whole(alloc: Global) -> bool {
+    match many(alloc) {
+        Some(bytes) => {
+            Content::Bytes(bytes.as_slice()).is(found(alloc, bytes.as_slice(), &[], 70_001))
+        }
+        None => false,
+    }
 }
 
 #[test]
-fn more_than_65_536_bytes_are_read_whole(rt: HostRuntime) -> Result<(), Fail> {
-    let alloc = rt.alloc();
-    let bytes = many(alloc)?;
-    let bytes = bytes.as_slice();
-    match found(alloc, bytes, &[], 70_001)? {
-        Found::Content(content) => assert!(rt; content.as_slice() == bytes),
-        Found::Absent | Found::TooLong(_) => panic!(rt; "70,001 bytes keep the limit"),
+fn more_than_65_536_bytes_are_read_whole(rt: HostRuntime) {
+    assert!(rt; is_read_whole(rt.alloc()));
+}
+
+// Whether bytes are too long by one, and can't be read where a read fails.
+fn is_too_long_or_fails(alloc: Global, bytes: &[u8]) -> bool {
+    Content::TooLong(70_001).is(found(alloc, bytes, &[], 70_000))
+        && Content::Fault.is(found(alloc, bytes, &[50], 70_001))
+}
+
+// Whether that holds of 70,001 bytes.
+fn are_too_long_or_fail(alloc: Global) -> bool {
+    match many(alloc) {
+        Some(bytes) => is_too_long_or_fails(alloc, bytes.as_slice()),
+        None => false,
     }
-    Ok(())
 }
 
 #[test]
-fn more_bytes_than_the_limit_are_too_long_and_a_failing_read_is_a_fault(
-    rt: HostRuntime,
-) -> Result<(), Fail> {
-    let alloc = rt.alloc();
-    let bytes = many(alloc)?;
-    let bytes = bytes.as_slice();
-    assert!(rt; matches!(found(alloc, bytes, &[], 70_000)?, Found::TooLong(70_001)));
-    assert!(rt; found(alloc, bytes, &[50], 70_001).is_err());
-    Ok(())
+fn more_bytes_than_the_limit_are_too_long_and_a_failing_read_is_a_fault(rt: HostRuntime) {
+    assert!(rt; are_too_long_or_fail(rt.alloc()));
 }

@@ -1,0 +1,164 @@
+//! What a row gives.
+
+use super::arriving::Arriving;
+use super::linked::Linked;
+use super::values::{append, entry, numbers, put_numbers};
+use dev_memory::Entry;
+use fm_base::{Bytes, List, NoMemory};
+use row_text::{Field, File, Row};
+use std::alloc::Global;
+
+// The keys of a row beside `name` and `want`.
+const KEYS: [&str; 21] = [
+    "words",
+    "word",
+    "file",
+    "files fail",
+    "sink fails",
+    "opener fails",
+    "ask",
+    "input",
+    "fill",
+    "link fails",
+    "take",
+    "put",
+    "hold",
+    "door",
+    "door fails",
+    "link",
+    "inbox",
+    "inbox fails",
+    "arrives",
+    "clock",
+    "moments",
+];
+
+/// The words of a run, and its world.
+#[derive(Drop)]
+pub struct Given {
+    pub words: List<Bytes>,
+    pub files: List<Entry>,
+    pub failing_files: List<u64>,
+    pub failing_sink: List<u64>,
+    pub failing_opener: List<u64>,
+    /// The link of the run itself, and then those of the doors.
+    pub links: Vec<Linked>,
+    /// For each door the accepts that fail.
+    pub doors: Vec<List<u64>>,
+    pub inboxes: Vec<Arriving>,
+    pub clocks: Vec<List<u64>>,
+}
+
+impl Given {
+    fn new(alloc: Global) -> Result<Given, NoMemory> {
+        let mut links = Vec::new(alloc);
+        links.push(Linked::new(alloc, 0))?;
+        Ok(Given {
+            words: List::new(alloc),
+            files: List::new(alloc),
+            failing_files: List::new(alloc),
+            failing_sink: List::new(alloc),
+            failing_opener: List::new(alloc),
+            links,
+            doors: Vec::new(alloc),
+            inboxes: Vec::new(alloc),
+            clocks: Vec::new(alloc),
+        })
+    }
+
+    /// What a row gives, or `None` where it is of another form.
+    pub fn read(alloc: Global, bases: &[File], row: &Row<'_>) -> Result<Option<Given>, NoMemory> {
+        if !row.has_only(&KEYS) {
+            return Ok(None);
+        }
+        let mut given = Given::new(alloc)?;
+        for field in &row.fields {
+            if !given.add(alloc, bases, field)? {
+                return Ok(None);
+            }
+        }
+        Ok(Some(given))
+    }
+
+    // Adds what a field says. It is false where that isn't known.
+    fn add(&mut self, alloc: Global, bases: &[File], field: &Field<'_>) -> Result<bool, NoMemory> {
+        let value = field.value.as_str();
+        match field.key {
+            "name" | "want" => Ok(true),
+            "words" | "word" => self.add_words(alloc, field.key, value),
+            "file" => self.add_file(alloc, bases, value),
+            "files fail" => put_numbers(alloc, value, &mut self.failing_files),
+            "sink fails" => put_numbers(alloc, value, &mut self.failing_sink),
+            "opener fails" => put_numbers(alloc, value, &mut self.failing_opener),
+            _ => self.add_device(alloc, bases, field),
+        }
+    }
+
+    // Adds a word, or the words between blanks.
+    fn add_words(&mut self, alloc: Global, key: &str, value: &str) -> Result<bool, NoMemory> {
+        if key == "word" {
+            return self.add_word(alloc, value);
+        }
+        for word in value.split_whitespace() {
+            if !self.add_word(alloc, word)? {
+                return Ok(false);
+            }
+        }
+        Ok(true)
+    }
+
+    fn add_word(&mut self, alloc: Global, value: &str) -> Result<bool, NoMemory> {
+        let mut word = Bytes::new(alloc);
+        let known = append(alloc, value, &mut word)?;
+        self.words.push(word)?;
+        Ok(known)
+    }
+
+    fn add_file(&mut self, alloc: Global, bases: &[File], value: &str) -> Result<bool, NoMemory> {
+        let Some(file) = entry(alloc, bases, value)? else {
+            return Ok(false);
+        };
+        self.files.push(file)?;
+        Ok(true)
+    }
+
+    // Begins a device, or adds what a field says of the last one of its kind.
+    fn add_device(
+        &mut self,
+        alloc: Global,
+        bases: &[File],
+        field: &Field<'_>,
+    ) -> Result<bool, NoMemory> {
+        match (field.key, field.value.as_str()) {
+            ("door", "") => self.doors.push(List::new(alloc))?,
+            ("link", "") if !self.doors.is_empty() => {
+                self.links.push(Linked::new(alloc, self.doors.len()))?
+            }
+            ("inbox", "") => self.inboxes.push(Arriving::new(alloc))?,
+            ("clock", "") => self.clocks.push(List::new(alloc))?,
+            _ => return self.add_to_last(alloc, bases, field),
+        }
+        Ok(true)
+    }
+
+    fn add_to_last(
+        &mut self,
+        alloc: Global,
+        bases: &[File],
+        field: &Field<'_>,
+    ) -> Result<bool, NoMemory> {
+        let value = field.value.as_str();
+        match (field.key, self.doors.last_mut(), self.inboxes.last_mut()) {
+            ("door fails", Some(door), _) => put_numbers(alloc, value, door),
+            ("arrives" | "inbox fails", _, Some(inbox)) => inbox.add(alloc, bases, field),
+            ("moments", _, _) => match self.clocks.last_mut() {
+                Some(clock) => put_numbers(alloc, value, clock),
+                None => Ok(false),
+            },
+            _ => match self.links.last_mut() {
+                Some(link) => link.add(alloc, field),
+                None => Ok(false),
+            },
+        }
+    }
+}

@@ -1,0 +1,217 @@
+//! The world in memory that a row describes.
+ghost use Rattle.std.specs.Prelude.{◌≡◌, All, IfOk};
+ghost use Rattle.dev_traits.specs.Door.{IsFresh};
+
+use super::arriving::Arriving;
+use super::given::Given;
+use super::linked::Linked;
+use dev_memory::{Entry, MemClock, MemDoor, MemFiles, MemInbox, MemLink, MemOpener, MemSink};
+use dev_traits::{Door, Inbox, Link, OpenGate, World};
+use fm_base::{Bytes, List, NoMemory};
+use std::alloc::Global;
+
+/// A world in memory.
+pub type MemWorld = World<MemOpener, MemFiles, MemLink, MemSink, OpenGate>;
+
+// Links to come, none of which was used.
+#[derive(Drop)]
+struct Links {
+    list: List<MemLink>,
+    ghost fresh: { All (λ link. IsFresh (⟦<MemLink as Link>⟧.shown link)) list },
+}
+
+impl Links {
+    fn push(&mut self, link: MemLink) -> Result<(), NoMemory>
+        requires { IsFresh (⟦<MemLink as Link>⟧.shown link) }
+    {
+        self.list.push(link)
+    }
+
+    fn into_list(self) -> List<MemLink>
+        ensures { All (λ link. IsFresh (⟦<MemLink as Link>⟧.shown link)) result }
+    {
+        self.list
+    }
+}
+
+// Doors to open, none of which has failed.
+#[derive(Drop)]
+struct Doors {
+    list: List<MemDoor>,
+    ghost calm: { All (λ door. (⟦<MemDoor as Door>⟧.shown door).faults ≡ 0) list },
+}
+
+impl Doors {
+    fn push(&mut self, door: MemDoor) -> Result<(), NoMemory>
+        requires { (⟦<MemDoor as Door>⟧.shown door).faults ≡ 0 }
+    {
+        self.list.push(door)
+    }
+
+    fn into_list(self) -> List<MemDoor>
+        ensures { All (λ door. (⟦<MemDoor as Door>⟧.shown door).faults ≡ 0) result }
+    {
+        self.list
+    }
+}
+
+// Inboxes to open, none of which has failed.
+#[derive(Drop)]
+struct Inboxes {
+    list: List<MemInbox>,
+    ghost calm: { All (λ inbox. (⟦<MemInbox as Inbox>⟧.shown inbox).faults ≡ 0) list },
+}
+
+impl Inboxes {
+    fn push(&mut self, inbox: MemInbox) -> Result<(), NoMemory>
+        requires { (⟦<MemInbox as Inbox>⟧.shown inbox).faults ≡ 0 }
+    {
+        self.list.push(inbox)
+    }
+
+    fn into_list(self) -> List<MemInbox>
+        ensures { All (λ inbox. (⟦<MemInbox as Inbox>⟧.shown inbox).faults ≡ 0) result }
+    {
+        self.list
+    }
+}
+
+// The bytes that a link or the sink takes before it fails.
+const ROOM: usize = 65_536;
+
+fn copy_of(alloc: Global, numbers: &List<u64>) -> Result<List<u64>, NoMemory> {
+    let mut copy = List::new(alloc);
+    for number in numbers.as_slice() {
+        copy.push(*number)?;
+    }
+    Ok(copy)
+}
+
+fn names_of(alloc: Global, names: &List<Bytes>) -> Result<List<Bytes>, NoMemory> {
+    let mut copies = List::new(alloc);
+    for name in names.as_slice() {
+        copies.push(Bytes::copy_of(alloc, name.as_slice())?)?;
+    }
+    Ok(copies)
+}
+
+fn entries_of(alloc: Global, entries: &List<Entry>) -> Result<List<Entry>, NoMemory> {
+    let mut copies = List::new(alloc);
+    for entry in entries.as_slice() {
+        copies.push(Entry {
+            path: Bytes::copy_of(alloc, entry.path.as_slice())?,
+            content: Bytes::copy_of(alloc, entry.content.as_slice())?,
+        })?;
+    }
+    Ok(copies)
+}
+
+fn link_of(alloc: Global, linked: &Linked) -> Result<MemLink, NoMemory>
+    ensures { IfOk result (λ link. IsFresh (⟦<MemLink as Link>⟧.shown link)) }
+{
+    let input = Bytes::copy_of(alloc, linked.input.as_slice())?;
+    let link = MemLink::new(alloc, input, ROOM, copy_of(alloc, &linked.failing)?)?;
+    let link = link.in_pieces(linked.most_taken, linked.most_put);
+    Ok(match linked.hold {
+        Some(hold) => link.held_back(hold.offset, hold.put),
+        None => link,
+    })
+}
+
+// The links of the door with this number, from 1.
+fn links_of(alloc: Global, given: &Given, door: usize) -> Result<List<MemLink>, NoMemory>
+    ensures { IfOk result (All (λ link. IsFresh (⟦<MemLink as Link>⟧.shown link))) }
+{
+    let mut links = Links {
+        list: List::new(alloc),
+    };
+    for linked in &given.links {
+        if linked.door == door {
+            links.push(link_of(alloc, linked)?)?;
+        }
+    }
+    Ok(links.into_list())
+}
+
+fn doors_of(alloc: Global, given: &Given) -> Result<List<MemDoor>, NoMemory>
+    ensures { IfOk result (All (λ door. (⟦<MemDoor as Door>⟧.shown door).faults ≡ 0)) }
+{
+    let mut doors = Doors {
+        list: List::new(alloc),
+    };
+    for (index, failing) in given.doors.iter().enumerate() {
+        let links = links_of(alloc, given, index.saturating_add(1))?;
+        doors.push(MemDoor::new(alloc, links, copy_of(alloc, failing)?)?)?;
+    }
+    Ok(doors.into_list())
+}
+
+fn inbox_of(alloc: Global, arriving: &Arriving) -> Result<MemInbox, NoMemory>
+    ensures { IfOk result (λ inbox. (⟦<MemInbox as Inbox>⟧.shown inbox).faults ≡ 0) }
+{
+    let names = names_of(alloc, &arriving.names)?;
+    let files = entries_of(alloc, &arriving.files)?;
+    MemInbox::new(alloc, names, files, copy_of(alloc, &arriving.failing)?)
+}
+
+fn inboxes_of(alloc: Global, given: &Given) -> Result<List<MemInbox>, NoMemory>
+    ensures { IfOk result (All (λ inbox. (⟦<MemInbox as Inbox>⟧.shown inbox).faults ≡ 0)) }
+{
+    let mut inboxes = Inboxes {
+        list: List::new(alloc),
+    };
+    for arriving in &given.inboxes {
+        inboxes.push(inbox_of(alloc, arriving)?)?;
+    }
+    Ok(inboxes.into_list())
+}
+
+fn clocks_of(alloc: Global, given: &Given) -> Result<List<MemClock>, NoMemory> {
+    let mut clocks = List::new(alloc);
+    for numbers in &given.clocks {
+        let mut moments = List::new(alloc);
+        for number in numbers.as_slice() {
+            moments.push(i64::try_from(*number).unwrap_or(i64::MAX))?;
+        }
+        clocks.push(MemClock::new(alloc, moments)?)?;
+    }
+    Ok(clocks)
+}
+
+fn own_link(alloc: Global, given: &Given) -> Result<MemLink, NoMemory> {
+    match given.links.first() {
+        Some(linked) => link_of(alloc, linked),
+        None => link_of(alloc, &Linked::new(alloc, 0)),
+    }
+}
+
+/// The world that a row describes.
+pub fn world_of(alloc: Global, given: &Given) -> Result<MemWorld, NoMemory> {
+    let sink = MemSink::new(alloc, ROOM, copy_of(alloc, &given.failing_sink)?)?;
+    let files = files_of(alloc, given)?;
+    let link = own_link(alloc, given)?;
+    let opener = opener_of(alloc, given)?;
+    Ok(World {
+        opener,
+        doors: List::new(alloc),
+        inboxes: List::new(alloc),
+        clocks: List::new(alloc),
+        files,
+        link,
+        sink,
+        gate: OpenGate,
+    })
+}
+
+fn files_of(alloc: Global, given: &Given) -> Result<MemFiles, NoMemory> {
+    let failing = copy_of(alloc, &given.failing_files)?;
+    Ok(MemFiles::new(entries_of(alloc, &given.files)?, failing))
+}
+
+fn opener_of(alloc: Global, given: &Given) -> Result<MemOpener, NoMemory> {
+    let failing = copy_of(alloc, &given.failing_opener)?;
+    let clocks = clocks_of(alloc, given)?;
+    let inboxes = inboxes_of(alloc, given)?;
+    let doors = doors_of(alloc, given)?;
+    Ok(MemOpener::new(alloc, doors, inboxes, clocks, failing))
+}

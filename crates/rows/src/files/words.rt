@@ -1,0 +1,87 @@
+//! Headers in words.
+
+use super::faults::put_header_fault;
+use fm_base::{Fail, NoMemory};
+use nc_header::read_header;
+use nc_model::{Attr, Dim, Header, Kind, NcVar};
+use row_text::{put_hex, put_shown};
+use std::alloc::Global;
+
+/// Appends the header of some bytes, or its fault.
+pub fn put_header(alloc: Global, bytes: &[u8], out: &mut String) -> Result<(), NoMemory> {
+    match read_header(alloc, bytes) {
+        Ok(header) => put_fields(&header, out),
+        Err(Fail::NoMemory) => Err(NoMemory),
+        Err(Fail::Fault(fault)) => put_header_fault(fault, out),
+    }
+}
+
+fn put_fields(header: &Header, out: &mut String) -> Result<(), NoMemory> {
+    write!(
+        out,
+        "version {}, {} records",
+        header.version, header.numrecs
+    )?;
+    put_dims(header.dims.as_slice(), out)?;
+    put_attrs(header.attrs.as_slice(), out)?;
+    for var in header.vars.as_slice() {
+        put_var(var, out)?;
+    }
+    Ok(())
+}
+
+fn put_var(var: &NcVar, out: &mut String) -> Result<(), NoMemory> {
+    put_front(var.name.as_slice(), var.kind, var.dims.as_slice(), out)?;
+    write!(out, " from {}", var.begin)?;
+    put_attrs(var.attrs.as_slice(), out)
+}
+
+/// Appends a line for each dimension: its name and its length.
+pub fn put_dims(dims: &[Dim], out: &mut String) -> Result<(), NoMemory> {
+    for dim in dims {
+        out.push_str("\ndimension ")?;
+        put_shown(dim.name.as_slice(), out)?;
+        write!(out, " {}", dim.size)?;
+    }
+    Ok(())
+}
+
+/// Appends a line for each attribute: its name, its kind and its values, characters as text and others in hexadecimal
+/// digits.
+pub fn put_attrs(attrs: &[Attr], out: &mut String) -> Result<(), NoMemory> {
+    for attr in attrs {
+        out.push_str("\nattribute ")?;
+        put_shown(attr.name.as_slice(), out)?;
+        write!(out, " {} ", kind_name(attr.kind))?;
+        match attr.kind {
+            Kind::Char => put_shown(attr.values.as_slice(), out)?,
+            _ => put_hex(attr.values.as_slice(), out)?,
+        }
+    }
+    Ok(())
+}
+
+/// Appends the front of a variable's line: its name, its kind and the numbers of its dimensions.
+pub fn put_front(name: &[u8], kind: Kind, dims: &[u32], out: &mut String) -> Result<(), NoMemory> {
+    out.push_str("\nvariable ")?;
+    put_shown(name, out)?;
+    write!(out, " {} (", kind_name(kind))?;
+    for (number, dim) in dims.iter().enumerate() {
+        if number > 0 {
+            out.push_str(", ")?;
+        }
+        write!(out, "{dim}")?;
+    }
+    Ok(out.push(')')?)
+}
+
+fn kind_name(kind: Kind) -> &'static str {
+    match kind {
+        Kind::Byte => "Byte",
+        Kind::Char => "Char",
+        Kind::Short => "Short",
+        Kind::Int => "Int",
+        Kind::Float => "Float",
+        Kind::Double => "Double",
+    }
+}

@@ -1,0 +1,184 @@
+//! An edition over ordered maps against one that is a list of its files, after the same operations.
+ghost use Rattle.std.specs.Prelude.{IfOk};
+ghost use Rattle.fm_edition.specs.Held.{OpFits};
+
+mod made;
+
+use fm_base::Arc;
+use fm_edition::{Edition, plain_list};
+use fm_model::{Loaded, Op, Proto, Row};
+use fm_sample::{File, edition_of};
+use made::{HOURS, NAMES, file, hour, name, run_of};
+use std::alloc::Global;
+use std::process::Abort;
+use std::test::Fail;
+
+// The number of operations that are done.
+const OPERATIONS: u32 = 1_000;
+
+// Least offsets: none, at the run, at six hours, and a second more.
+const LEAST: [Option<i64>; 4] = [None, Some(0), Some(21_600), Some(21_601)];
+
+// The same files in both forms.
+#[derive(Drop)]
+struct Both {
+    maps: Edition,
+    list: plain_list::Edition,
+}
+
+// The operation of some numbers over a prototype: one of sixteen lets runs expire, three take a name back, the others
+// put a file.
+fn op_of(rt: &impl Abort, alloc: Global, proto: &Proto, x: [u8; 3]) -> Result<Op, Fail>
+    ensures { IfOk result (OpFits proto.now) }
+{
+    let [a, b, c] = x;
+    let (kind, how, k) = (c / 16, b / 32, (a ^ c) % NAMES);
+    if kind == 0 {
+        return Ok(Op::Expire(run_of(k)));
+    }
+    if kind < 4 {
+        return Ok(Op::Retract(name(alloc, k)?));
+    }
+    Ok(Op::Put(file(rt, alloc, proto, k, how)?))
+}
+
+// Goes on to the next numbers of a recurrence.
+fn next(x: &mut [u8; 3]) {
+    let [a, b, c] = *x;
+    let a = a.wrapping_mul(5).wrapping_add(17);
+    let b = b.wrapping_add(a);
+    *x = [a, b, c.wrapping_add(b)];
+}
+
+// Both forms after the operation of some numbers.
+fn after(rt: &impl Abort, alloc: Global, both: &Both, x: [u8; 3]) -> Result<Both, Fail> {
+    let op = op_of(rt, alloc, both.maps.proto().get(), x)?;
+    let maps = both.maps.after(alloc, &op)?;
+    let op = op_of(rt, alloc, both.list.proto().get(), x)?;
+    let list = both.list.after(alloc, &op)?;
+    Ok(Both { maps, list })
+}
+
+// Two files have the same name and times.
+fn same_file(one: &Loaded, other: &Loaded) -> bool {
+    one.name.as_slice() == other.name.as_slice() && one.times.as_slice() == other.times.as_slice()
+}
+
+fn same_row(one: &Row, other: &Row) -> bool {
+    (one.valid, one.run, one.place) == (other.valid, other.run, other.place)
+        && same_file(one.file.get(), other.file.get())
+}
+
+// The two have a row, and the same.
+fn same_rows(one: Option<&Row>, other: Option<&Row>) -> bool {
+    match (one, other) {
+        (Some(row), Some(same)) => same_row(row, same),
+        _ => false,
+    }
+}
+
+// The two have the same cell, or none.
+fn same_cell(one: Option<(&Arc<Loaded>, u32)>, other: Option<(&Arc<Loaded>, u32)>) -> bool {
+    match (one, other) {
+        (Some((file, index)), Some((same, there))) => {
+            index == there && same_file(file.get(), same.get())
+        }
+        (None, None) => true,
+        _ => false,
+    }
+}
+
+// Both hold a name, or a run before its run, or neither does.
+fn same_names(rt: &impl Abort, alloc: Global, both: &Both, k: u8) -> Result<(), Fail> {
+    let (name, run) = (name(alloc, k)?, run_of(k));
+    assert_eq!(rt;
+        both.maps.holds(name.as_slice()),
+        both.list.holds(name.as_slice())
+    );
+    assert_eq!(rt; both.maps.older_than(run), both.list.older_than(run));
+    Ok(())
+}
+
+// The cells and the valid times of a run agree.
+fn same_run(rt: &impl Abort, alloc: Global, both: &Both, run: i64) -> Result<(), Fail> {
+    let times = both.maps.times_of(alloc, run)?;
+    assert_eq!(rt;
+        times.as_slice(),
+        both.list.times_of(alloc, run)?.as_slice()
+    );
+    for i in 0..HOURS {
+        let valid = hour(i);
+        assert!(rt; same_cell(both.maps.cell(run, valid), both.list.cell(run, valid)));
+    }
+    Ok(())
+}
+
+// The best runs agree.
+fn same_best_runs(rt: &impl Abort, both: &Both, least: Option<i64>) {
+    for i in 0..HOURS {
+        let valid = hour(i);
+        let run = both.maps.best_run(valid, least);
+        assert_eq!(rt; run, both.list.best_run(valid, least));
+    }
+}
+
+// The rows of the best time series agree, and their number.
+fn same_best(rt: &impl Abort, alloc: Global, both: &Both, least: Option<i64>) -> Result<(), Fail> {
+    let rows = both.maps.best_rows(alloc, least)?;
+    let others = both.list.best_rows(alloc, least)?;
+    assert_eq!(rt; rows.len(), others.len());
+    assert_eq!(rt; rows.len(), both.maps.best_count(least));
+    for index in 0..rows.len() {
+        assert!(rt; same_rows(rows.get(index), others.get(index)));
+    }
+    Ok(())
+}
+
+// Both forms answer alike.
+fn compare(rt: &impl Abort, alloc: Global, both: &Both) -> Result<(), Fail> {
+    assert_eq!(rt; both.maps.tally(), both.list.tally());
+    let held = both.maps.runs(alloc)?;
+    assert_eq!(rt; held.as_slice(), both.list.runs(alloc)?.as_slice());
+    for k in 0..NAMES {
+        same_names(rt, alloc, both, k)?;
+        same_run(rt, alloc, both, run_of(k))?;
+    }
+    for least in LEAST {
+        same_best_runs(rt, both, least);
+        same_best(rt, alloc, both, least)?;
+    }
+    Ok(())
+}
+
+// Both forms of the empty collection over the sample.
+fn empty(alloc: Global) -> Result<Both, Fail> {
+    let maps = edition_of(alloc, File::Sample.bytes(alloc)?)?;
+    let list = plain_list::Edition::empty(alloc, maps.proto().share()?)?;
+    Ok(Both { maps, list })
+}
+
+// Does the operation of some numbers to both forms, and compares them.
+fn go_on(rt: &impl Abort, alloc: Global, both: &mut Both, x: [u8; 3]) -> Result<(), Fail> {
+    *both = after(rt, alloc, both, x)?;
+    compare(rt, alloc, both)
+}
+
+// Compares both forms after each operation. The most files that were held.
+fn compare_all(rt: &impl Abort, alloc: Global, both: &mut Both) -> Result<u32, Fail> {
+    let mut most = 0;
+    let mut x = [7, 0, 0];
+    for _ in 0..OPERATIONS {
+        next(&mut x);
+        go_on(rt, alloc, both, x)?;
+        most = both.maps.tally().files.max(most);
+    }
+    Ok(most)
+}
+
+#[test]
+fn both_forms_agree_after_each_of_1000_operations(rt: HostRuntime) -> Result<(), Fail> {
+    let mut both = empty(rt.alloc())?;
+    let most = compare_all(&rt, rt.alloc(), &mut both)?;
+    assert!(rt; most > 10);
+    Ok(())
+}

@@ -1,0 +1,90 @@
+//! Links that are cut or fail at every offset in turn, and one of many requests.
+
+use super::by_lines::ByLines;
+use super::given::{ONCE, asked, link_of};
+use super::texts::{REPLIES, REQUESTS, STRUCTURE};
+use dev_memory::MemLink;
+use fm_base::{Bytes, NoMemory};
+use std::alloc::Global;
+use std::test::Fail;
+
+// The room of a link's output.
+const ROOM: usize = 8_192;
+
+#[test]
+fn the_replies_are_the_same_however_the_input_is_cut(rt: HostRuntime) -> Result<(), Fail> {
+    for most_taken in 1..REQUESTS.len() + 1 {
+        let link = link_of(rt.alloc(), REQUESTS, ROOM, 0)?.in_pieces(most_taken, usize::MAX);
+        let left = asked(&rt, rt.alloc(), ONCE, link)?;
+        assert_eq!(rt; left.status, 0);
+        assert_eq!(rt; left.output.as_slice(), REPLIES);
+    }
+    Ok(())
+}
+
+#[test]
+fn the_replies_are_the_same_where_each_cr_is_cut_from_its_lf(rt: HostRuntime) -> Result<(), Fail> {
+    let lines = ByLines {
+        link: link_of(rt.alloc(), REQUESTS, ROOM, 0)?,
+    };
+    let left = asked(&rt, rt.alloc(), ONCE, lines)?;
+    assert_eq!(rt; left.status, 0);
+    assert_eq!(rt; left.output.as_slice(), REPLIES);
+    Ok(())
+}
+
+#[test]
+fn nothing_is_sent_where_the_input_ends_within_a_request(rt: HostRuntime) -> Result<(), Fail> {
+    for count in 1..STRUCTURE.len() {
+        let (front, _) = STRUCTURE.split_at(count);
+        let link = link_of(rt.alloc(), front, ROOM, 0)?;
+        let left = asked(&rt, rt.alloc(), ONCE, link)?;
+        assert_eq!(rt; (left.status, left.output.len()), (11, 0));
+    }
+    Ok(())
+}
+
+// Of 18 takes of at most 7 bytes and 9 puts of at most 100 each fails in turn.
+#[test]
+fn whatever_call_fails_the_output_is_a_front_of_the_replies(rt: HostRuntime) -> Result<(), Fail> {
+    for call in 1..28u64 {
+        let link = link_of(rt.alloc(), REQUESTS, ROOM, call)?.in_pieces(7, 100);
+        let left = asked(&rt, rt.alloc(), ONCE, link)?;
+        assert_eq!(rt; left.status, 9);
+        assert!(rt; REPLIES.starts_with(left.output.as_slice()));
+    }
+    Ok(())
+}
+
+// The words of a run that asks for one reply more than a link has.
+const MANY: &str =
+    "once --name gfs --proto gfs_20240101_0000.nc put:gfs_20240101_0000.nc ask:10000 ask:1";
+
+// Whether some bytes say that the link is closed.
+fn says_close(bytes: &[u8]) -> bool {
+    let close = b"\r\nConnection: close\r\n".as_slice();
+    bytes.windows(close.len()).any(|part| part == close)
+}
+
+// A link with one request more than it has replies.
+fn many_requests(alloc: Global) -> Result<MemLink, NoMemory> {
+    let mut input = Bytes::new(alloc);
+    for _ in 0..10_001 {
+        input.append(b"GET / HTTP/1.1\r\n\r\n")?;
+    }
+    link_of(alloc, input.as_slice(), 4_194_304, 0)
+}
+
+#[test]
+fn reply_10000_is_the_last(rt: HostRuntime) -> Result<(), Fail> {
+    let alloc = rt.alloc();
+    let left = asked(&rt, alloc, MANY, many_requests(alloc)?)?;
+    assert_eq!(rt; left.status, 11);
+    let output = left.output.as_slice();
+    assert_eq!(rt; output.len(), 9_999 * 238 + 233);
+    let (before, last) = output.split_at(9_999 * 238);
+    let (first, _) = before.split_at(238);
+    assert!(rt; before.chunks(238).all(|reply| reply == first));
+    assert!(rt; says_close(last) && !says_close(first));
+    Ok(())
+}

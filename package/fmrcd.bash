@@ -1,0 +1,42 @@
+# The words of fmrcd for bash's completion.
+
+_fmrcd() {
+    local word=${COMP_WORDS[COMP_CWORD]} before=${COMP_WORDS[COMP_CWORD - 1]}
+    local site="--name --proto --epoch --mark" serve="--listen --workers --connections --keep --ticks"
+    COMPREPLY=()
+    if [ "$COMP_CWORD" = 1 ]; then
+        mapfile -t COMPREPLY < <(compgen -W "serve once check load" -- "$word")
+        return
+    fi
+    case $before in
+        # A colon parts words here, so this is what follows `put:`.
+        --proto | :)
+            compopt -o filenames
+            mapfile -t COMPREPLY < <(compgen -f -- "${word#:}")
+            return
+            ;;
+        --name | --epoch | --mark | --listen | --workers | --connections | --keep | --ticks) return ;;
+    esac
+    case ${COMP_WORDS[1]}$word in
+        serve-*) mapfile -t COMPREPLY < <(compgen -W "$site $serve" -- "$word") ;;
+        once-*) mapfile -t COMPREPLY < <(compgen -W "$site" -- "$word") ;;
+        once:*)
+            compopt -o filenames
+            mapfile -t COMPREPLY < <(compgen -f -- "${word#:}")
+            ;;
+        once*)
+            compopt -o nospace
+            mapfile -t COMPREPLY < <(compgen -W "put: expire: retract: ask:" -- "$word")
+            ;;
+        serve*)
+            compopt -o filenames
+            mapfile -t COMPREPLY < <(compgen -d -- "$word")
+            ;;
+        check*)
+            compopt -o filenames
+            mapfile -t COMPREPLY < <(compgen -f -- "$word")
+            ;;
+    esac
+}
+
+complete -F _fmrcd fmrcd

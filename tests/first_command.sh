@@ -1,0 +1,41 @@
+#!/bin/sh
+# Does what README begins with, in a fresh clone: 'make serve' has to print the addresses of five datasets, each of
+# which a client can open, and to end with its server where it is told to.
+# Use: tests/first_command.sh [PROGRAM]; by default the clone proves its own, which takes as long as 'make build'.
+set -eu
+top=$(cd "$(dirname "$0")/.." && pwd)
+folder=$(mktemp -d)
+process=
+trap '[ -z "$process" ] || kill "$process"; rm -rf "$folder"' EXIT
+trap 'exit 1' HUP INT TERM
+git clone -q "$top" "$folder/clone"
+if [ $# -gt 0 ]; then
+    mkdir "$folder/clone/crates/fmrcd/out"
+    cp "$1" "$folder/clone/crates/fmrcd/out/fmrcd"
+fi
+port=$(python3 -c 'import socket; s = socket.socket(); s.bind(("127.0.0.1", 0)); print(s.getsockname()[1])')
+make -s -C "$folder/clone" serve "PORT=$port" > "$folder/said" 2>&1 &
+process=$!
+while ! grep -q "Ctrl-C" "$folder/said"; do
+    kill -0 "$process" || { process=; cat "$folder/said"; exit 1; }
+    sleep 0.1
+done
+count=0
+for address in $(grep -o "^  .* http://[^ ]*$" "$folder/said" | grep -v ncdump | sed "s/.* //"); do
+    curl -sSgf "$address.dds" > "$folder/structure"
+    grep -q "^} ${address##*/};$" "$folder/structure" || { echo "$address: $(cat "$folder/structure")"; exit 1; }
+    count=$((count + 1))
+done
+[ "$count" = 5 ] || { echo "$count datasets are named"; cat "$folder/said"; exit 1; }
+# The lines to type, but for those that need more than this machine may have.
+eval "$(grep "^  curl " "$folder/said")" > "$folder/typed" 2> "$folder/none"
+grep -q "gfs_best.ncd" "$folder/typed"
+kill "$process"
+wait "$process" 2> /dev/null || true
+process=
+for _ in 1 2 3 4 5 6 7 8 9 10; do
+    curl -s "http://127.0.0.1:$port/" > "$folder/none" || { echo "5 datasets opened, and the server ended"; exit 0; }
+    sleep 0.2
+done
+echo "the server goes on"
+exit 1

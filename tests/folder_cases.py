@@ -1,0 +1,213 @@
+"""What people and other programs do to a folder, and what a server has to make of it."""
+import os
+import signal
+import subprocess
+import time
+
+from faulty_folder import A, B, C, LASTS, MINUTE, SOON, Tracer, own_port, said_of, wait_until
+from serve_replies import APART, file_of
+
+
+def comes(folder, name, **given):
+    """Notes where a file isn't taken in soon."""
+    if not folder.sees(name, **given):
+        folder.wrongs("%s isn't taken in" % said_of(name))
+
+
+def folder_away(folder):
+    os.rename(folder.inbox, folder.inbox + ".away")
+    time.sleep(LASTS)
+    os.rename(folder.inbox + ".away", folder.inbox)
+    folder.bring(B)
+    comes(folder, B)
+
+
+def done_is_a_file(folder):
+    os.rename(folder.path("done"), folder.path("away"))
+    with open(folder.path("done"), "wb"):
+        pass
+    folder.bring(B)
+    time.sleep(LASTS)
+    os.remove(folder.path("done"))
+    os.rename(folder.path("away"), folder.path("done"))
+    comes(folder, B)
+    folder.bring(C)
+    comes(folder, C)
+
+
+def done_read_only(folder):
+    os.chmod(folder.path("done"), 0o555)
+    folder.bring(B)
+    time.sleep(LASTS)
+    os.chmod(folder.path("done"), 0o755)
+    comes(folder, B)
+    folder.bring(C)
+    comes(folder, C)
+
+
+def folder_in_the_place(folder):
+    """A folder lies where the file should go: the others come, and the file once that has gone."""
+    os.mkdir(folder.path("done", B))
+    folder.bring(B)
+    if not wait_until(lambda: folder.shows({A, B}), SOON):
+        folder.wrongs("%s isn't published" % said_of(B))
+    folder.held.add(B)
+    folder.bring(C)
+    comes(folder, C)
+    os.rmdir(folder.path("done", B))
+    comes(folder, B)
+
+
+def unreadable(folder):
+    folder.bring(B, mode=0)
+    folder.bring(C)
+    comes(folder, C)
+    os.chmod(folder.path(B), 0o644)
+    comes(folder, B)
+
+
+def unreadable_replaced(folder):
+    folder.bring(B, mode=0)
+    time.sleep(1)
+    folder.bring(B)
+    comes(folder, B)
+
+
+def unread_once(folder):
+    """A file whose opening failed once is opened again within a minute, though nobody touches it."""
+    words = ["-e", "trace=openat", "-e", "inject=openat:error=EIO:when=1"]
+    tracer = Tracer(folder, folder.thread(), words, [folder.path(B)])
+    folder.bring(B)
+    time.sleep(1)
+    tracer.detach()
+    comes(folder, B, seconds=MINUTE)
+
+
+def held_up_at_the_opening(folder, meanwhile):
+    """Holds the worker up for a second as it opens B, and does something to the file in that time."""
+    words = ["-e", "trace=openat", "-e", "inject=openat:delay_enter=1000000:when=1"]
+    tracer = Tracer(folder, folder.thread(), words, [folder.path(B)])
+    folder.bring(B)
+    time.sleep(0.6)
+    meanwhile()
+    time.sleep(1)
+    tracer.detach()
+
+
+def vanished(folder):
+    held_up_at_the_opening(folder, lambda: os.remove(folder.path(B)))
+    folder.bring(C)
+    comes(folder, C)
+    folder.bring(B)
+    comes(folder, B)
+
+
+def pipe(folder):
+    """A pipe takes the place of a file that was listed."""
+
+    def put_pipe():
+        os.mkfifo(folder.path("pipe"))
+        os.rename(folder.path("pipe"), folder.path(B))
+
+    held_up_at_the_opening(folder, put_pipe)
+    folder.bring(C)
+    comes(folder, C)
+    folder.bring(B)
+    comes(folder, B)
+
+
+def stop_taken_away(folder):
+    """STOP in one of two folders, which is taken away again."""
+    stop = folder.path("STOP")
+    with open(stop, "wb"):
+        pass
+    time.sleep(1)
+    os.remove(stop)
+    folder.bring(B)
+    comes(folder, B)
+    folder.bring(C, inbox=folder.inboxes[1])
+    comes(folder, C, inbox=folder.inboxes[1])
+
+
+def stop_ends_the_server(folder):
+    with open(folder.path("STOP"), "wb"):
+        pass
+    if not wait_until(lambda: folder.process.poll() is not None, 5):
+        folder.wrongs("STOP doesn't end a server without --connections")
+    elif folder.process.returncode != 0:
+        folder.wrongs("STOP ends the server with %d" % folder.process.returncode)
+
+
+def taken_back(folder):
+    folder.retract(A)
+    if os.path.exists(folder.path("done", A)) or not os.path.exists(folder.path("taken", A)):
+        folder.wrongs("a file that was taken back isn't moved to taken")
+
+
+def relative_link(folder):
+    """It would be broken once it was moved."""
+    with open(os.path.join(folder.top, "source.nc"), "wb") as file:
+        file.write(file_of(APART))
+    os.symlink("../source.nc", folder.path(B))
+    if not wait_until(lambda: os.path.lexists(folder.path("refused", B)), SOON):
+        folder.wrongs("a relative link isn't refused")
+    if not folder.shows({A}):
+        folder.wrongs("a relative link is published")
+
+
+def passed_over(folder):
+    """Names that aren't taken in are told, each once."""
+    names = [b"gfs_20200101_0600.NC", b"gfs_20200101_0600.nc4", b"gfs_\xff.nc"]
+    for name in names:
+        with open(os.path.join(folder.inbox.encode(), name), "wb"):
+            pass
+    time.sleep(LASTS)
+    for name in names:
+        told = sum(name.decode(errors="replace")[:20] in line for line in folder.lines())
+        if told != 1:
+            folder.wrongs("%r is told %d times" % (name, told))
+
+
+def second_server(folder):
+    """A second server over the folder, and one at the address of the first: each ends, and says why."""
+    for port, status, why in ((own_port(), 8, "folder"), (folder.port, 6, "in use")):
+        inbox = folder.inbox
+        if status == 6:
+            inbox = os.path.join(folder.top, "other")
+            os.mkdir(inbox)
+            os.chown(inbox, 65534, 65534)
+        said = os.path.join(folder.top, "said%d" % status)
+        other = folder.start(port, [inbox], said)
+        try:
+            other.wait(SOON)
+        except subprocess.TimeoutExpired:
+            other.kill()
+            folder.wrongs("a second server over one %s goes on" % why)
+        other.communicate()
+        with open(said) as file:
+            text = file.read()
+        if other.returncode not in (status, -signal.SIGKILL) or why not in text:
+            folder.wrongs("a second server ends with %d, and says %r, not %r" % (other.returncode, text, why))
+    folder.bring(B)
+    comes(folder, B)
+
+
+# What a case is called, what it does, over how many folders, and whether lines have to say that calls fail and work
+# again.
+CASES = [
+    ("the folder is away for 2 s", folder_away, 1, True),
+    ("done is a file for 2 s", done_is_a_file, 1, True),
+    ("done may not be written for 2 s", done_read_only, 1, True),
+    ("a folder lies where the file should go", folder_in_the_place, 1, True),
+    ("a file that may not be read may be read later", unreadable, 1, False),
+    ("a file that may not be read is replaced by one that may", unreadable_replaced, 1, False),
+    ("a file that couldn't be opened once lies there for a minute", unread_once, 1, False),
+    ("a listed file vanishes and comes again", vanished, 1, False),
+    ("a pipe takes the place of a listed file", pipe, 1, False),
+    ("STOP is taken away while another folder runs", stop_taken_away, 2, False),
+    ("STOP ends a server", stop_ends_the_server, 1, False),
+    ("a file is taken back", taken_back, 1, False),
+    ("a relative link", relative_link, 1, False),
+    ("names that are passed over", passed_over, 1, False),
+    ("a second server", second_server, 1, False),
+]
