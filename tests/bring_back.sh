@@ -81,7 +81,7 @@ afresh() {
     mkdir "$inbox" "$inbox/done" "$inbox/later" "$inbox/refused"
 }
 
-# The first bytes of a file with so many records.
+# The first bytes of a file with this number of records.
 records() {
     printf 'CDF\1'
     # shellcheck disable=SC2059  # the bytes of a number
@@ -116,7 +116,7 @@ compare "brought back 2, stay: older 0, taken back 1, without room 0" \
 records 5 | cmp - "$inbox/gfs_20240101_0000_a.nc"
 records 5 | cmp - "$inbox/gfs_20240101_0000_c.nc"
 
-# Files of so many records each, of the runs from one number to another.
+# Files of this number of records each, of the runs from one number to another.
 many() {
     # shellcheck disable=SC2046  # a file a word
     records "$1" | tee $(seq -f "$inbox/done/gfs_2024%g_0000.nc" "$2" "$3") > /dev/null

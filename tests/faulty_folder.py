@@ -39,7 +39,7 @@ def own_port():
 
 
 def wait_until(fact, seconds):
-    """Whether a fact holds within so many seconds."""
+    """Whether a fact holds within these seconds."""
     end = time.monotonic() + seconds
     while not fact():
         if time.monotonic() > end:
@@ -130,7 +130,7 @@ class Folder:
         self.wrong.append(text)
 
     def sees(self, name, seconds=SOON, inbox=None):
-        """Whether a file that came is published within so many seconds. Where it isn't moved then, that is noted."""
+        """Whether a file that came is published within these seconds. Where it isn't moved then, that is noted."""
         after = self.held | {name}
         path = os.path.join(inbox or self.inbox, "done", name)
         is_moved = wait_until(lambda: os.path.isfile(path) and self.shows(after), seconds)
