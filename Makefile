@@ -1,4 +1,5 @@
-.PHONY: serve test demo build quick plants package installs exits clients recipes proxy page restart faults beside first
+.PHONY: serve test demo build quick plants package installs exits clients recipes proxy page restart faults beside first \
+    limits memory fuzz day
 
 # The program's crate, and the sample files in its folder data/.
 SERVER = crates/fmrcd
@@ -84,6 +85,26 @@ restart: $(if $(PROGRAM),,build)
 # Fails each system call that the worker of a folder makes, and sees whether the folder mends itself.
 faults: $(if $(PROGRAM),,build)
 	tests/faults.sh $(PROGRAM)
+
+# Runs the program at each of its limits.
+limits: $(if $(PROGRAM),,build)
+	tests/limits.sh $(PROGRAM)
+
+# Lets memory run out under the program, at each request for it in turn.
+memory: $(if $(PROGRAM),,build)
+	bench/out_of_memory.sh $(PROGRAM)
+
+# How long `make fuzz` tries each of four ways, and how many minutes the day of `make day` takes.
+SECONDS = 3600
+MINUTES = 60
+
+# Fuzzes the program by files and by streams of requests.
+fuzz: $(if $(PROGRAM),,build)
+	bench/fuzz.sh $(or $(PROGRAM),$(SERVER)/out/fmrcd) $(SECONDS)
+
+# Runs four servers through a day, with clients and faults.
+day: $(if $(PROGRAM),,build)
+	bench/day.sh $(or $(PROGRAM),$(SERVER)/out/fmrcd) $(MINUTES)
 
 # Measures the program beside nginx, which sends files of the same bytes.
 beside: $(if $(PROGRAM),,build)

@@ -6,7 +6,7 @@ ghost use Rattle.dap_ce.specs.Phases.{and_number, numbers_of};
 use dap_model::Slab;
 
 // The numbers of a slab before the one that is read next.
-#[derive(Clone, Copy, Debug)]
+#[derive(Clone, Copy)]
 pub(crate) enum Numbers {
     Zero,
     One(u64),
@@ -15,7 +15,7 @@ pub(crate) enum Numbers {
 
 // Where reading stands: at the first byte of a name; in the name that begins at an offset; at the first digit of a
 // number; in a number, with how many digits it has and its value; or behind a slab.
-#[derive(Clone, Copy, Debug)]
+#[derive(Clone, Copy)]
 pub(crate) enum Phase {
     BeforeName,
     InName(usize),

@@ -1,7 +1,10 @@
+pub mod BucketLemmas
 pub mod CutLemmas
 pub mod FaultLemmas
+pub mod FilledLemmas
 pub mod NoteLemmas
 pub mod PlaceLemmas
 pub mod SentLemmas
 pub mod SlotLemmas
 pub mod StepLemmas
+pub mod WholeLemmas

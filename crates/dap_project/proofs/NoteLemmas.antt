@@ -1,14 +1,15 @@
 -- The note of a declaration after clauses.
-use Rattle.std.proofs.Common.{cond, ◌≡◌, Bool, true, false, ◌||◌, List, [], ◌∷◌, ◌++◌, map, Some, None, refl, sym, ap, ap₂, ◌∙◌}
-use Rattle.std.proofs.lemmas.Bool.{cond-true, cond-false}
+use Rattle.std.proofs.Common.{cond, ◌≡◌, ℕ, ◌+◌, Bool, true, false, ◌||◌, List, [], ◌∷◌, ◌++◌, map, Some, None, refl, sym, ap, ap₂, ◌∙◌}
+use Rattle.std.proofs.lemmas.Bool.{cond-true, cond-false, true≢false}
 use Rattle.std.specs.List.{list_any}
 use Rattle.dap_model.specs.ClauseFaults.{conflict_fault}
-use Rattle.dap_model.specs.Picking.{Picked, given_by, is_every, is_picked, name_of, parts_of, picked_by, slabs_for}
+use Rattle.dap_model.specs.Picking.{Picked, nothing, every, only, given_by, is_every, is_picked, name_of, parts_of, picked_by, slabs_for}
 use Rattle.dap_model.specs.declared.declaration.Decl.{Decl}
 use Rattle.dap_model.specs.declared.fault.ProjectFault.TheVariants.{SlabConflict}
 use Rattle.dap_model.specs.declared.projection.Clause.{Clause}
-use Rattle.dap_project.specs.Notes.{free_slots, fresh_note, note_after, note_from, note_of, notes_after, slots_differ}
+use Rattle.dap_project.specs.Notes.{free_slots, fresh_note, note_after, note_from, note_of, notes_after, slots_after, slots_differ}
 use Rattle.dap_project.specs.declared.note.Note.{Note}
+use Rattle.dap_project.specs.declared.slot.Slot.{Slot}
 use Rattle.dap_project.proofs.SlotLemmas.{differ_from, slots_from, slots_from-none, slots_from-step, or-assoc, or-none}
 
 pub note_from-push : (decl : Decl) (note : Note) (clauses : List Clause) (clause : Clause)
@@ -16,6 +17,33 @@ pub note_from-push : (decl : Decl) (note : Note) (clauses : List Clause) (clause
 unfolding note_from
 note_from-push decl note [] clause = refl
 note_from-push decl note (first ∷ clauses) clause = note_from-push decl (note_after decl first note) clauses clause
+
+slots_after-nothing : (part : ℕ) (slots : List Slot) → slots_after (λ p. None) part slots ≡ slots
+unfolding slots_after
+slots_after-nothing part [] = refl
+slots_after-nothing part (slot ∷ slots) = ap (λ (l : List Slot). slot ∷ l) (slots_after-nothing (part + 1) slots)
+
+-- a clause that picks nothing of a declaration leaves its note
+pub note_kept : (decl : Decl) (clause : Clause) (note : Note) → is_picked (picked_by decl clause.path) ≡ false
+    → note_after decl clause note ≡ note
+unfolding note_after given_by
+note_kept decl clause note none = by_picked (picked_by decl clause.path) none
+  where
+    after : Picked → Note
+    after picked = record {
+      picked = note.picked || is_picked picked;
+      every = note.every || is_every picked;
+      slots = slots_after (λ part. slabs_for decl clause.slabs part picked) 0 note.slots;
+    }
+
+    by_picked : (picked : Picked) → is_picked picked ≡ false → after picked ≡ note
+    by_picked nothing none = λ i. record {
+      picked = sym (or-none note.picked) i;
+      every = sym (or-none note.every) i;
+      slots = slots_after-nothing 0 note.slots i;
+    }
+    by_picked every none = absurd (true≢false none)
+    by_picked (only part) none = absurd (true≢false none)
 
 pub notes_after-map : (clause : Clause) (clauses : List Clause) (decls : List Decl)
     → notes_after clause decls (map (note_of clauses) decls) ≡ map (note_of (clauses ++ clause ∷ [])) decls

@@ -1,3 +1,4 @@
+pub mod Buckets
 pub mod Checks
 pub mod Notes
 pub mod Noted

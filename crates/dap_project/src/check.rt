@@ -2,6 +2,7 @@
 ghost use Rattle.std.specs.Prelude.{◌≡◌, ◌≤◌, List, All, IfOk, IsTrue, OnOk, length, map};
 ghost use Rattle.dap_model.specs.ClauseFaults as spec;
 ghost use Rattle.dap_model.specs.declared.projection.Clause as clauses;
+ghost use Rattle.dap_project.specs.Buckets.{places_for};
 ghost use Rattle.dap_project.specs.Checks.{Finds, HasCountable, IsCountable};
 ghost use Rattle.dap_project.specs.Notes.{note_of};
 
@@ -95,13 +96,7 @@ fn check_conflict(
         → Finds (spec.conflict_fault decl.now earlier clause.now) result }
 {
     let choice = picked_by(decl, clause.path.as_slice());
-    if slots_differ(
-        alloc,
-        decl,
-        clause.slabs.as_slice(),
-        choice,
-        note.slots.as_slice(),
-    )? {
+    if slots_differ(decl, clause.slabs.as_slice(), choice, note.slots.as_slice()) {
         let name = Bytes::copy_of(alloc, name_of(decl))?;
         return Err(Fail::Fault(ProjectFault::SlabConflict(name)));
     }
@@ -128,20 +123,22 @@ fn check_decl(
     check_conflict(alloc, decl, note, clause)
 }
 
-// The first fault of a clause.
+// The first fault of a clause, which may pick something of the declarations at these places alone.
 #[tactic(auto, unfolding(dap_model::specs::ClauseFaults::clause_fault))]
 pub(crate) fn check_clause(
     alloc: Global,
     decls: &[Decl],
+    places: &[usize],
     notes: &[Note],
     clause: &Clause,
 ) -> Result<(), Fail<ProjectFault>>
-    requires { length notes.now ≡ length decls.now }
+    requires count { length notes.now ≡ length decls.now }
+    requires places { places.now ≡ places_for decls.now clause.now.path }
     ensures fault { (earlier : List clauses.Clause) → notes.now ≡ map (note_of earlier) decls.now
         → Finds (spec.clause_fault decls.now earlier clause.now) result }
     ensures countable { OnOk result (HasCountable clause.now) }
 {
-    match place_named(decls, clause.path.as_slice()) {
+    match place_named(decls, places, clause.path.as_slice()) {
         Some(at) => check_decl(alloc, &decls[at], &notes[at], clause),
         None => {
             let name = path_text(alloc, clause.path.as_slice())?;

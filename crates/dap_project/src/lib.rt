@@ -3,6 +3,7 @@
 
 mod check;
 mod cut;
+mod index;
 mod note;
 mod part;
 mod picked;

@@ -1,11 +1,11 @@
 //! What clauses ask of the declarations of a dataset, noted clause by clause.
 ghost use Rattle.std.specs.Prelude.{◌≡◌, IfOk, OnOk, length, map, None};
 ghost use Rattle.dap_model.specs.Picking as picking;
+ghost use Rattle.dap_project.specs.Buckets.{places_for};
 ghost use Rattle.dap_project.specs.Notes as spec;
 
 use crate::part::part_count;
 use crate::picked::{Choice, is_every, is_picked, picked_by};
-use crate::slabs::slabs_for;
 use crate::slot::{Slot, slot_differs};
 use dap_model::{Clause, Decl, Slab};
 use fm_base::{List, NoMemory};
@@ -44,30 +44,22 @@ fn note_slots(
         (λ part. picking.slabs_for decl.now slabs.now part (spec.picked_of choice)) 0 slots.old) }
 {
     for part in 0..slots.len() {
-        let given = slabs_for(alloc, decl, slabs, part, choice)?;
-        slots[part].add(given);
+        slots[part].add(alloc, decl, slabs, part, choice)?;
     }
     Ok(())
 }
 
 // Whether a clause gives some part of a declaration other slabs than an earlier clause did.
-pub(crate) fn slots_differ(
-    alloc: Global,
-    decl: &Decl,
-    slabs: &[Slab],
-    choice: Choice,
-    slots: &[Slot],
-) -> Result<bool, NoMemory>
-    ensures { IfOk result (λ differ. differ ≡ spec.slots_differ
-        (λ part. picking.slabs_for decl.now slabs.now part (spec.picked_of choice)) 0 slots.now) }
+pub(crate) fn slots_differ(decl: &Decl, slabs: &[Slab], choice: Choice, slots: &[Slot]) -> bool
+    ensures { result ≡ spec.slots_differ
+        (λ part. picking.slabs_for decl.now slabs.now part (spec.picked_of choice)) 0 slots.now }
 {
     for part in 0..slots.len() {
-        let given = slabs_for(alloc, decl, slabs, part, choice)?;
-        if slot_differs(&slots[part], &given) {
-            return Ok(true);
+        if slot_differs(&slots[part], decl, slabs, part, choice) {
+            return true;
         }
     }
-    Ok(false)
+    false
 }
 
 impl Note {
@@ -84,7 +76,7 @@ impl Note {
         })
     }
 
-    // Notes what a clause asks of the declaration.
+    // Notes what a clause asks of the declaration. Most clauses ask nothing of it.
     #[tactic(auto, unfolding(crate::specs::Notes::note_after, dap_model::specs::Picking::given_by))]
     pub(crate) fn add(
         &mut self,
@@ -95,6 +87,9 @@ impl Note {
         ensures { OnOk result (self.new ≡ spec.note_after decl.now clause.now self.old) }
     {
         let choice = picked_by(decl, clause.path.as_slice());
+        if !is_picked(choice) {
+            return Ok(());
+        }
         let slots = &mut self.slots;
         note_slots(
             alloc,
@@ -120,18 +115,20 @@ pub(crate) fn fresh_notes(alloc: Global, decls: &[Decl]) -> Result<List<Note>, N
     Ok(notes)
 }
 
-// Notes what a clause asks of each declaration.
+// Notes what a clause asks of each declaration. It may pick something of those at these places alone.
 pub(crate) fn note_clause(
     alloc: Global,
     decls: &[Decl],
+    places: &[usize],
     notes: &mut [Note],
     clause: &Clause,
 ) -> Result<(), NoMemory>
-    requires { length notes.old ≡ length decls.now }
+    requires count { length notes.old ≡ length decls.now }
+    requires places { places.now ≡ places_for decls.now clause.now.path }
     ensures { OnOk result (notes.new ≡ spec.notes_after clause.now decls.now notes.old) }
 {
-    for at in 0..decls.len() {
-        notes[at].add(alloc, &decls[at], clause)?;
+    for place in places {
+        notes[*place].add(alloc, &decls[*place], clause)?;
     }
     Ok(())
 }

@@ -3,6 +3,7 @@ ghost use Rattle.std.specs.Prelude.{◌≡◌, ◌<◌, ◌≤◌, length, Match
 ghost use Rattle.std.specs.List.{position_or_len};
 ghost use Rattle.std.specs.Str.{bytes_eq};
 ghost use Rattle.dap_model.specs.Picking as spec;
+ghost use Rattle.dap_project.specs.Buckets.{places_for};
 ghost use Rattle.dap_project.specs.Notes.{picked_of};
 
 use dap_model::{Array, Decl};
@@ -118,15 +119,15 @@ pub(crate) fn is_every(choice: Choice) -> bool
     }
 }
 
-// The place of the first declaration that a path names, or names a part of.
-#[tactic(auto, unfolding(dap_model::specs::Picking::decl_named))]
-pub(crate) fn place_named(decls: &[Decl], path: &[Bytes]) -> Option<usize>
+// The place of the first declaration that a path names, or names a part of, which is one of these.
+pub(crate) fn place_named(decls: &[Decl], places: &[usize], path: &[Bytes]) -> Option<usize>
+    requires { places.now ≡ places_for decls.now path.now }
     ensures { MatchOption result (spec.decl_named decls.now path.now ≡ None)
         (λ at. (at < length decls.now) × (slice_get decls.now at ≡ spec.decl_named decls.now path.now)) }
 {
-    for at in 0..decls.len() {
-        if is_picked(picked_by(&decls[at], path)) {
-            return Some(at);
+    for place in places {
+        if is_picked(picked_by(&decls[*place], path)) {
+            return Some(*place);
         }
     }
     None

@@ -4,11 +4,13 @@ ghost use Rattle.fm_base.specs.Answer.{Answers};
 ghost use Rattle.dap_model.specs.ClauseFaults.{clause_fault, first_fault};
 ghost use Rattle.dap_model.specs.Projection.{projection_of};
 ghost use Rattle.dap_model.specs.declared.projection.Clause as clauses;
+ghost use Rattle.dap_project.specs.Buckets.{AreBuckets};
 ghost use Rattle.dap_project.specs.Checks.{Finds, HasCountable};
 ghost use Rattle.dap_project.specs.Noted.{notes_or_fault};
 ghost use Rattle.dap_project.specs.Notes.{note_for, note_of, notes_after};
 
 use crate::check::check_clause;
+use crate::index::Index;
 use crate::note::{Note, fresh_notes, note_clause};
 use crate::sent::all_sent;
 use crate::whole::whole_notes;
@@ -20,17 +22,20 @@ use std::alloc::Global;
 fn add_clause(
     alloc: Global,
     decls: &[Decl],
+    index: &Index,
     notes: &mut List<Note>,
     clause: &Clause,
 ) -> Result<(), Fail<ProjectFault>>
-    requires { length notes.old ≡ length decls.now }
+    requires count { length notes.old ≡ length decls.now }
+    requires index { AreBuckets decls.now index.now.buckets }
     ensures fault { (earlier : List clauses.Clause) → notes.old ≡ map (note_of earlier) decls.now
         → Finds (clause_fault decls.now earlier clause.now) result }
     ensures notes { OnOk result (notes.new ≡ notes_after clause.now decls.now notes.old) }
     ensures countable { OnOk result (HasCountable clause.now) }
 {
-    check_clause(alloc, decls, notes.as_slice(), clause)?;
-    note_clause(alloc, decls, notes.items.as_mut_slice(), clause)?;
+    let places = index.places(clause.path.as_slice());
+    check_clause(alloc, decls, places, notes.as_slice(), clause)?;
+    note_clause(alloc, decls, places, notes.items.as_mut_slice(), clause)?;
     Ok(())
 }
 
@@ -44,9 +49,10 @@ fn notes_of(
         (first_fault decls.now [] clauses.now)) result }
     ensures countable { OnOk result (All HasCountable clauses.now) }
 {
+    let index = Index::of(alloc, decls)?;
     let mut notes = fresh_notes(alloc, decls)?;
     for clause in clauses {
-        add_clause(alloc, decls, &mut notes, clause)?;
+        add_clause(alloc, decls, &index, &mut notes, clause)?;
     }
     Ok(notes)
 }

@@ -1,11 +1,13 @@
 //! The slabs of one part, as clauses give them.
-ghost use Rattle.std.specs.Prelude.{◌≡◌};
-ghost use Rattle.std.specs.Cmp.Lexicographic.{pointwise};
-ghost use Rattle.dap_model.specs.ClauseFaults.{is_same_slab};
+ghost use Rattle.std.specs.Prelude.{◌≡◌, IfOk, OnOk};
+ghost use Rattle.dap_model.specs.Picking.{slabs_for};
 ghost use Rattle.dap_project.specs.Notes as spec;
 
-use dap_model::Slab;
-use fm_base::List;
+use crate::picked::Choice;
+use crate::slabs::{is_given, slabs_for};
+use dap_model::{Decl, Slab};
+use fm_base::{List, NoMemory};
+use std::alloc::Global;
 use std::mem;
 
 // A part that no clause has named, or the slabs that the first clause gave it, and whether a later one gave it others.
@@ -16,45 +18,65 @@ pub(crate) enum Slot {
     Taken(List<Slab>, bool),
 }
 
-// Whether slabs are the same.
-fn are_same(first: &[Slab], second: &[Slab]) -> bool
-    ensures { result ≡ pointwise is_same_slab first.now second.now }
+// A slot after a clause that gives its part slabs, or none. Those of a taken slot are compared where they lie.
+fn slot_after(
+    alloc: Global,
+    slot: Slot,
+    decl: &Decl,
+    slabs: &[Slab],
+    part: usize,
+    choice: Choice,
+) -> Result<Slot, NoMemory>
+    ensures { IfOk result (λ next. next
+        ≡ spec.slot_after (slabs_for decl.now slabs.now part (spec.picked_of choice)) slot) }
 {
-    first == second
-}
-
-// A slot after a clause that gives its part these slabs, or none.
-fn slot_after(slot: Slot, given: Option<List<Slab>>) -> Slot
-    ensures { result ≡ spec.slot_after given slot }
-{
-    match (slot, given) {
-        (slot, None) => slot,
-        (Slot::Free, Some(slabs)) => Slot::Taken(slabs, false),
-        (Slot::Taken(first, mixed), Some(slabs)) => {
-            let mixed = mixed || !are_same(first.as_slice(), slabs.as_slice());
-            Slot::Taken(first, mixed)
-        }
+    match slot {
+        Slot::Free => match slabs_for(alloc, decl, slabs, part, choice)? {
+            Some(slabs) => Ok(Slot::Taken(slabs, false)),
+            None => Ok(Slot::Free),
+        },
+        Slot::Taken(first, mixed) => match is_given(decl, slabs, part, choice, first.as_slice()) {
+            Some(same) => Ok(Slot::Taken(first, mixed || !same)),
+            None => Ok(Slot::Taken(first, mixed)),
+        },
     }
 }
 
 impl Slot {
     // Notes what a clause gives the part.
-    pub(crate) fn add(&mut self, given: Option<List<Slab>>)
-        ensures { self.new ≡ spec.slot_after given self.old }
+    pub(crate) fn add(
+        &mut self,
+        alloc: Global,
+        decl: &Decl,
+        slabs: &[Slab],
+        part: usize,
+        choice: Choice,
+    ) -> Result<(), NoMemory>
+        ensures { OnOk result (self.new
+            ≡ spec.slot_after (slabs_for decl.now slabs.now part (spec.picked_of choice)) self.old) }
     {
         let slot = mem::replace(self, Slot::Free);
-        *self = slot_after(slot, given);
+        *self = slot_after(alloc, slot, decl, slabs, part, choice)?;
+        Ok(())
     }
 }
 
 // Whether slabs that a clause gives a part differ from some that an earlier clause gave it.
-pub(crate) fn slot_differs(slot: &Slot, given: &Option<List<Slab>>) -> bool
-    ensures { result ≡ spec.slot_differs slot.now given.now }
+pub(crate) fn slot_differs(
+    slot: &Slot,
+    decl: &Decl,
+    slabs: &[Slab],
+    part: usize,
+    choice: Choice,
+) -> bool
+    ensures { result
+        ≡ spec.slot_differs slot.now (slabs_for decl.now slabs.now part (spec.picked_of choice)) }
 {
-    match (slot, given) {
-        (Slot::Taken(first, mixed), Some(slabs)) => {
-            *mixed || !are_same(first.as_slice(), slabs.as_slice())
-        }
-        _ => false,
+    match slot {
+        Slot::Free => false,
+        Slot::Taken(first, mixed) => match is_given(decl, slabs, part, choice, first.as_slice()) {
+            Some(same) => *mixed || !same,
+            None => false,
+        },
     }
 }

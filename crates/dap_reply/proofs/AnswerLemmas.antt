@@ -24,7 +24,7 @@ use Rattle.dap_reply.specs.declared.body.BodyKind.TheVariants.{Attributes, Struc
 use Rattle.dap_reply.specs.declared.fault.DapFault.TheVariants.{Constraint, Projection}
 use Rattle.dap_reply.specs.Asked.{shown_of, AsksForView, IsProjected}
 use Rattle.dap_reply.specs.Body.{attributes_asked, body_of, data_asked, data_body, has_no_rows, projected_of, some_rows, some_shown, structure_asked, structure_of, text_body, within_limit, MAX_BODY}
-use Rattle.dap_reply.specs.Parts.{bytes_of, data_behind}
+use Rattle.dap_plan.specs.Parts.{bytes_of, data_behind}
 use Rattle.dap_reply.specs.Reply.{fine_with, answer_to, answered}
 
 some-rows : (found : List Row) → found ≢ [] → some_rows (length found) ≡ Ok (length found)

@@ -1,5 +1,4 @@
 pub mod AnswerLemmas
-pub mod DataLemmas
 pub mod FewLemmas
 pub mod FieldCosts
 pub mod HeaderCosts
@@ -8,7 +7,6 @@ pub mod MapLemmas
 pub mod MessageLemmas
 pub mod NameLemmas
 pub mod OrderLemmas
-pub mod PlanLemmas
 pub mod ReplyLemmas
 pub mod ScriptLemmas
 pub mod SentLemmas

@@ -11,7 +11,7 @@ use Rattle.dap_reply.specs.declared.body.BodyKind.{BodyKind}
 use Rattle.dap_reply.specs.declared.body.BodyKind.TheVariants.{Data}
 use Rattle.dap_reply.specs.declared.fault.DapFault.TheVariants.{TooLarge}
 use Rattle.dap_reply.specs.Body.{text_body, within_limit, MAX_BODY}
-use Rattle.dap_reply.specs.Parts.{bytes_of, data_behind, ready, Parts}
+use Rattle.dap_plan.specs.Parts.{bytes_of, data_behind, ready, Parts}
 
 under : (body : Body) (len : ℕ) → len ≡ length (bytes_of body.bytes) → len ≤ MAX_BODY → within_limit body ≡ Ok body
 unfolding within_limit

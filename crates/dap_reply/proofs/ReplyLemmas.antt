@@ -9,7 +9,7 @@ use Rattle.web_frame.specs.declared.request.Request.{Request}
 use Rattle.web_frame.specs.Items.{request, Item}
 use Rattle.dap_reply.specs.declared.body.Answer.{Answer}
 use Rattle.dap_reply.specs.Head.{head_text}
-use Rattle.dap_reply.specs.Parts.{bytes_of, data_behind}
+use Rattle.dap_plan.specs.Parts.{bytes_of, data_behind}
 use Rattle.dap_reply.specs.Reply.{answer_to, has_head_alone, answer_head, is_last, reply_of, reply_parts, reply_text}
 
 pub parts-bytes : (answer : Answer) (revision : ℕ) (head_alone last : Bool)

@@ -29,7 +29,7 @@ use Rattle.dap_model.specs.declared.projection.Projection.{Projection as Asks}
 use Rattle.dap_reply.specs.declared.fault.DapFault.TheVariants.{Constraint, Projection}
 use Rattle.dap_reply.specs.Body.{projected_of}
 use Rattle.dap_xdr.specs.Content.{array_in, FitsArray}
-use Rattle.dap_reply.specs.Parts.{IsSentOf}
+use Rattle.dap_plan.specs.Parts.{IsSentOf}
 use Rattle.dap_reply.proofs.FewLemmas.{all_sent-few}
 use Rattle.dap_reply.proofs.MapLemmas.{gridded}
 use Rattle.dap_reply.proofs.NameLemmas.{named-apart}

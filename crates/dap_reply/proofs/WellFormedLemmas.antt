@@ -20,7 +20,7 @@ use Rattle.dap_reply.specs.declared.body.BodyKind.TheVariants.{Attributes, Struc
 use Rattle.dap_reply.specs.declared.fault.DapFault.TheVariants.{BodyNotTaken, Method, Path}
 use Rattle.dap_reply.specs.Asked.{AsksForView}
 use Rattle.dap_reply.specs.Body.{structure_of, text_body, MAX_BODY}
-use Rattle.dap_reply.specs.Parts.{bytes_of, data_behind}
+use Rattle.dap_plan.specs.Parts.{bytes_of, data_behind}
 use Rattle.dap_reply.specs.Reply.{fine_with, answer_to, target_wanted, has_head_alone, is_last, reply_of, reply_text, target_asked}
 use Rattle.dap_reply.specs.WellFormed.{IsBodyBy, IsWellFormed, Requests}
 use Rattle.dap_reply.proofs.AnswerLemmas.{attributes-asked, data-asked, structure-asked}

@@ -22,7 +22,7 @@ use Rattle.dap_reply.specs.declared.body.BodyKind.{BodyKind}
 use Rattle.dap_reply.specs.declared.body.BodyKind.TheVariants.{Structure, Attributes, Data}
 use Rattle.dap_reply.specs.declared.fault.DapFault.{DapFault}
 use Rattle.dap_reply.specs.declared.fault.DapFault.TheVariants.{Constraint, Projection, TooLarge, NoRows}
-use Rattle.dap_reply.specs.Parts.{bytes_of, ready}
+use Rattle.dap_plan.specs.Parts.{bytes_of, ready}
 
 -- the most bytes that a body may have
 abbrev pub MAX_BODY : ℕ

@@ -1,10 +1,10 @@
+pub use Rattle.dap_plan.specs.Parts
 pub mod Asked
 pub mod Body
 pub mod Fault
 pub mod Head
 pub mod Kind
 pub mod Order
-pub mod Parts
 pub mod Planned
 pub mod Reply
 pub mod Script

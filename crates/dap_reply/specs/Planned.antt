@@ -6,7 +6,7 @@ use Rattle.dap_reply.specs.declared.body.Answer.{Answer}
 use Rattle.dap_reply.specs.declared.fault.DapFault.{DapFault}
 use Rattle.dap_reply.specs.declared.wanted.Dap.{Dap}
 use Rattle.dap_reply.specs.Body.{body_of}
-use Rattle.dap_reply.specs.Parts.{Parts}
+use Rattle.dap_plan.specs.Parts.{Parts}
 use Rattle.dap_reply.specs.Reply.{answered, refusal_of, reply_parts}
 
 -- what is answered to a request over an edition

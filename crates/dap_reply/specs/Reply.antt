@@ -21,7 +21,7 @@ use Rattle.dap_reply.specs.declared.status.Status.TheVariants.{Fine}
 use Rattle.dap_reply.specs.Body.{body_of, text_body}
 use Rattle.dap_reply.specs.Fault.{error_text, fault_status}
 use Rattle.dap_reply.specs.Head.{head_text}
-use Rattle.dap_reply.specs.Parts.{bytes_of, ready, Parts}
+use Rattle.dap_plan.specs.Parts.{bytes_of, ready, Parts}
 
 -- what a request asks for, or the first fault that no collection has to be looked at for
 unfoldable pub target_asked : Site → Request → List ℕ → Result Target DapFault

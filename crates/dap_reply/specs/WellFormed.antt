@@ -18,7 +18,7 @@ use Rattle.dap_reply.specs.declared.body.Body.{Body}
 use Rattle.dap_reply.specs.declared.body.BodyKind.TheVariants.{Structure, Attributes}
 use Rattle.dap_reply.specs.Asked.{shown_of, IsProjected}
 use Rattle.dap_reply.specs.Body.{data_body, structure_of, text_body, MAX_BODY}
-use Rattle.dap_reply.specs.Parts.{bytes_of}
+use Rattle.dap_plan.specs.Parts.{bytes_of}
 
 -- an item is a request by GET or HEAD, without a body, whose target asks for this
 pub record Requests (site : Site) (item : Item) (target : Target) : Type 0 where

@@ -6,16 +6,15 @@ ghost use Rattle.fm_dataset.specs.Declarations.{decls_of};
 ghost use Rattle.dap_reply.specs.declared.body.BodyKind.{BodyKind as Kind};
 ghost use Rattle.dap_reply.specs.Body.{attributes_asked, body_of, data_asked, projected_of, some_rows, some_shown, structure_asked};
 ghost use Rattle.dap_reply.specs.Body.{structure_of, text_body, within_limit};
-ghost use Rattle.dap_reply.specs.Parts.{IsSentOf};
+ghost use Rattle.dap_plan.specs.Parts.{IsSentOf};
 
 use crate::body::{Body, BodyKind};
-use crate::data::data_len;
 use crate::fault::DapFault;
-use crate::parts::Plan;
 use dap_ce::read_constraint;
 use dap_das::das_text_of;
 use dap_dds::dds_text;
 use dap_model::{Decl, Projected, Sent};
+use dap_plan::{Plan, lay_out};
 use dap_project::project;
 use fm_base::{Bytes, Fail, List, NoMemory, fault_as};
 use fm_dataset::{Dataset, decls};
@@ -126,7 +125,12 @@ fn attributes_asked(
 }
 
 // A body that is data, within the limit.
-fn data_body(front: Bytes, source: Dataset, sent: List<Sent>) -> Result<Body, Fail<DapFault>>
+fn data_body(
+    alloc: Global,
+    front: Bytes,
+    source: Dataset,
+    sent: List<Sent>,
+) -> Result<Body, Fail<DapFault>>
     requires sent { All (IsSentOf source) sent }
     requires few { length sent < 2 ^ 28 }
     ensures { Answers (within_limit (record {
@@ -134,16 +138,16 @@ fn data_body(front: Bytes, source: Dataset, sent: List<Sent>) -> Result<Body, Fa
       bytes = record { front = front; source = Some source; sent = sent };
     })) result }
 {
-    let behind = data_len(&source, sent.as_slice());
+    let layout = lay_out(alloc, &source, sent.as_slice())?;
     let begin = front.len() as u128;
-    let len = behind + begin;
+    let len = layout.len + begin;
     if len > MAX_BODY as u128 {
         return Err(Fail::Fault(DapFault::TooLarge {
             len,
             limit: MAX_BODY,
         }));
     }
-    let bytes = Plan::with_data(front, source, sent, len as u64);
+    let bytes = Plan::with_data(front, source, sent, layout.parts, len as u64);
     Ok(Body {
         kind: BodyKind::Data,
         bytes,
@@ -169,7 +173,7 @@ fn data_asked(alloc: Global, edition: &Edition, target: &Target) -> Result<Body,
     let _proto = source.proto();
     let projected = projected_of(alloc, source.decls().as_slice(), target)?;
     let front = front_of(alloc, target, &projected)?;
-    data_body(front, source, projected.sent)
+    data_body(alloc, front, source, projected.sent)
 }
 
 // The body that a target asks for over an edition.

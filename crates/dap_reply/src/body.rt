@@ -2,8 +2,8 @@
 ghost use Rattle.std.specs.Prelude.{◌≡◌};
 ghost use Rattle.dap_reply.specs.Kind.{description_of, media_of};
 
-use crate::parts::Plan;
 use crate::status::Status;
+use dap_plan::Plan;
 
 /// What a body is: a structure text, an attribute text, data behind a structure text, or an Error (ESE-RFC-004).
 #[derive(Clone, Copy, Debug, PartialEq, Eq)]

@@ -20,7 +20,7 @@ ghost use Rattle.dap_reply.specs.declared.body.BodyKind.TheVariants.{Attributes,
 ghost use Rattle.dap_reply.specs.Body.{body_of, data_body, structure_of, text_body, MAX_BODY};
 ghost use Rattle.dap_reply.specs.Asked.{shown_of, AsksForView, IsProjected};
 ghost use Rattle.dap_reply.specs.Head.{head_text, no_memory_reply};
-ghost use Rattle.dap_reply.specs.Parts.{bytes_of};
+ghost use Rattle.dap_plan.specs.Parts.{bytes_of};
 ghost use Rattle.dap_reply.specs.Reply.{fine_with, answer_to, target_wanted, has_head_alone, answer_head, is_last, is_wanted, reply_of, reply_parts, reply_text};
 ghost use Rattle.fm_model.specs.declared.op.Op.{Op};
 ghost use Rattle.fm_model.specs.declared.proto.Proto.{Proto};

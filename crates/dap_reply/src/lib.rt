@@ -3,14 +3,12 @@
 
 mod asked;
 mod body;
-mod data;
 pub mod examples;
 mod fault;
 mod head;
 pub mod laws;
 mod message;
 mod ordering;
-mod parts;
 mod query;
 mod replying;
 mod served;
@@ -19,10 +17,10 @@ mod wanted;
 
 pub use asked::MAX_BODY;
 pub use body::{Answer, Body, BodyKind};
+pub use dap_plan::Plan;
 pub use fault::DapFault;
 pub use head::Head;
 pub use ordering::order;
-pub use parts::Plan;
 pub use replying::{plan, refusal};
 pub use served::{Mark, Stop};
 pub use status::Status;

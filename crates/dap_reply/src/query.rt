@@ -2,9 +2,9 @@
 ghost use Rattle.std.specs.Prelude.{◌≡◌};
 ghost use Rattle.dap_reply.specs.Planned.{planned};
 
-use crate::parts::Plan;
 use crate::replying::plan;
 use crate::wanted::Dap;
+use dap_plan::Plan;
 use fm_base::NoMemory;
 use fm_edition::Edition;
 use pub_look::Query;

@@ -1,6 +1,6 @@
 //! The reply to a request over an edition, and the reply that refuses.
 ghost use Rattle.std.specs.Prelude.{◌≡◌, IfOk};
-ghost use Rattle.dap_reply.specs.Parts.{bytes_of};
+ghost use Rattle.dap_plan.specs.Parts.{bytes_of};
 ghost use Rattle.dap_reply.specs.Planned.{answer_over, planned, refused};
 ghost use Rattle.dap_reply.specs.Reply.{answer_head, refusal_of, reply_parts, reply_text};
 ghost use Rattle.dap_reply.specs.Head.{head_text};
@@ -10,9 +10,9 @@ use crate::body::{Answer, Body, BodyKind};
 use crate::fault::DapFault;
 use crate::head::{Head, put_head};
 use crate::message::error_text;
-use crate::parts::Plan;
 use crate::status::Status;
 use crate::wanted::Dap;
+use dap_plan::Plan;
 use fm_base::{Bytes, Fail, NoMemory};
 use fm_edition::Edition;
 use std::alloc::Global;

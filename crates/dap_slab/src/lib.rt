@@ -10,4 +10,4 @@ mod walk;
 pub use count::{slab_count, slab_len};
 pub use index::put_index;
 pub use part::part_of;
-pub use walk::Walk;
+pub use walk::{Walk, advance};

@@ -43,9 +43,9 @@ fn starts(alloc: Global, slabs: &[Slab]) -> Result<Vec<u64>, NoMemory>
     Ok(index)
 }
 
-// Moves an index list on to the next one, where `given` were given. Each slab from the last on starts again, up to one
-// that has a further index.
-fn advance(slabs: &[Slab], index: &mut [u64], given: u64) -> u64
+/// Moves an index list on to the next one, where `given` were given, and returns how many then are. Each slab from the
+/// last on starts again, up to one that has a further index.
+pub fn advance(slabs: &[Slab], index: &mut [u64], given: u64) -> u64
     requires slabs { All HasIndex slabs.now }
     requires index { index.old ≡ index_at slabs.now (given - 1) }
     requires begun { 1 ≤ given }

@@ -1,10 +1,9 @@
--- A dataset meets what a source of values owes.
-use Rattle.std.proofs.Common.{◌≡◌, ◌≢◌, ℕ, ◌^◌, ◌<◌, min, true, false, List, [], ◌∷◌, ◌++◌, length, map, take, drop, Option, Some, None, refl, sym, ap, ap₂, subst, ◌∙◌, arith}
-use Rattle.std.specs.Prelude.{IfSome, IsSomeAnd, nat_lt, not}
+-- What the columns of a dataset show.
+use Rattle.std.proofs.Common.{◌≡◌, ◌≢◌, ℕ, ◌^◌, ◌<◌, min, true, false, List, [], ◌∷◌, ◌++◌, length, map, take, drop, Option, Some, refl, sym, ap, ap₂, subst, ◌∙◌, arith}
+use Rattle.std.specs.Prelude.{IsSomeAnd, nat_lt}
 use Rattle.std.specs.Int.{w8, w16, w32, w64, from_be_bytes}
 use Rattle.std.specs.List.{flat_map}
-use Rattle.std.specs.Option.{option_map_or}
-use Rattle.std.proofs.lemmas.Bool.{and_parts, lt-ltb, ltb-true, not-true}
+use Rattle.std.proofs.lemmas.Bool.{lt-ltb}
 use Rattle.std.proofs.lemmas.List.Elements.{All-cons, All-drop, All-nil, All-take}
 use Rattle.std.proofs.lemmas.Option.{same_Some}
 use Rattle.std.proofs.lemmas.Nat.{be_bytes_2, be_bytes_4, be_bytes_8}
@@ -27,7 +26,7 @@ use Rattle.dap_model.specs.declared.declaration.DapKind.TheVariants as daps
 use Rattle.dap_model.specs.Xdr.{bits_in, AreBitsOf}
 use Rattle.fm_dataset.specs.Declarations.{array_of, dap_kind_of, decls_of, is_axis_of, kind_in}
 use Rattle.fm_dataset.specs.Rows.{AreRows}
-use Rattle.fm_dataset.specs.Values.{array_at, bits_of, element_of, is_stored, left_in_row, raw_of, shape_of_array, text_of_part, var_bits, var_of_part, var_raw, HasNumber, HasNumberAt, HasStored, HasText, HasTextAt, IsSmall, Shown}
+use Rattle.fm_dataset.specs.Values.{array_at, bits_of, element_of, left_in_row, raw_of, shape_of_array, text_of_part, var_bits, var_of_part, var_raw, HasNumber, HasNumberAt, HasStored, HasText, HasTextAt, IsSmall, Shown}
 use Rattle.fm_dataset.proofs.ElementLemmas.{stored_len}
 use Rattle.fm_dataset.proofs.OrderLemmas.{follow_in_array}
 use Rattle.fm_dataset.proofs.PartLemmas.{part_is}
@@ -116,29 +115,6 @@ read_numbers kind element bits (x ∷ xs) number same each bytes =
       bytes_are = ap₂ (λ (l r : List ℕ). l ++ r)
           (first.text_is ∙ ap (stored_bytes (dap_kind_of kind)) (sym (same x))) rest.bytes_are;
     }
-
--- a part whose numbers stand in files or in the prototype is that of a variable that isn't the axis
-record IsOfVar (shown : Shown) (decl part : ℕ) : Type 0 where
-  below : decl < length shown.proto.vars
-  other : option_map_or (is_axis_of shown.proto) (var_of_part shown.proto decl part) false ≡ false
-
-of_var : (shown : Shown) (decl part : ℕ) → is_stored shown decl part ≡ true → IsOfVar shown decl part
-unfolding is_stored
-of_var shown decl part e =
-    let parts = and_parts (nat_lt decl (length shown.proto.vars))
-    (not (option_map_or (is_axis_of shown.proto) (var_of_part shown.proto decl part) false)) e in
-    record { below = ltb-true decl (length shown.proto.vars) parts.0; other = not-true _ parts.1 }
-
-pub has_stored : (shown : Shown) (decl part : ℕ) (index : List ℕ) → is_stored shown decl part ≡ true
-    → HasNumber shown decl part index → HasStored shown decl part index
-has_stored shown decl part index stored has =
-    let is = of_var shown decl part stored in
-    record { has = has; of_variable = is.below; other = by_var (var_of_part shown.proto decl part) is.other }
-  where
-    by_var : (o : Option ProtoVar) → option_map_or (is_axis_of shown.proto) o false ≡ false
-        → IfSome o (λ var. is_axis_of shown.proto var ≡ false)
-    by_var None other = tt
-    by_var (Some var) other = other
 
 -- the bits of a number that stands in a file are those of its element
 stored_bits : (shown : Shown) (decl part : ℕ) (var : ProtoVar) (index : List ℕ) → decl < length shown.proto.vars

@@ -9,7 +9,6 @@ use Rattle.dap_model.specs.Box.{box_len, box_of, index_at}
 use Rattle.dap_model.specs.Xdr.{array_bytes, count_twice, element_bytes, element_len, zeros_after}
 use Rattle.dap_model.proofs.BoxLemmas.{length-box_of}
 use Rattle.dap_model.proofs.XdrLemmas.{elements_laid, length-element_bytes}
-use Rattle.dap_xdr.specs.Content.{Content}
 use Rattle.dap_xdr.specs.Front.{IsFront}
 use Rattle.dap_xdr.specs.Portion.{array_of, bits_in, body_of, numbers_from, Portion}
 use Rattle.dap_xdr.specs.Overlay.{overlay}
@@ -18,50 +17,50 @@ use Rattle.dap_xdr.proofs.FrontLemmas.{front-more, overlay-front}
 use Rattle.dap_xdr.proofs.PickedLemmas.{drop-place}
 
 -- the first numbers from a place on, and those after them
-pub from-split : (content : Content) (n : Portion) (place count : ℕ)
-    → numbers_from content n place
-    ≡ flat_map (element_bytes n.array.kind) (map (bits_in content n) (take count (drop place (box_of n.sent.slabs))))
-    ++ flat_map (element_bytes n.array.kind) (map (bits_in content n) (drop count (drop place (box_of n.sent.slabs))))
+pub from-split : (n : Portion) (place count : ℕ)
+    → numbers_from n place
+    ≡ flat_map (element_bytes n.array.kind) (map (bits_in n) (take count (drop place (box_of n.sent.slabs))))
+    ++ flat_map (element_bytes n.array.kind) (map (bits_in n) (drop count (drop place (box_of n.sent.slabs))))
 unfolding numbers_from
-from-split content n place count =
+from-split n place count =
     let f = element_bytes n.array.kind in
-    let b = bits_in content n in
+    let b = bits_in n in
     let box = drop place (box_of n.sent.slabs) in
     ap (λ (l : List (List ℕ)). flat_map f (map b l)) (sym (take-append-drop count box))
     ∙ ap (flat_map f) (map-append b (take count box) (drop count box))
     ∙ flat_map-append f (map b (take count box)) (map b (drop count box))
 
 -- what is written of numbers that are picked from a place on is a front of all from there on
-pub picked-front : (content : Content) (n : Portion) (place skip most count : ℕ) (stored old new : List ℕ)
-    → ArePicked n.array.kind (bits_in content n) n.sent.slabs place most stored
+pub picked-front : (n : Portion) (place skip most count : ℕ) (stored old new : List ℕ)
+    → ArePicked n.array.kind (bits_in n) n.sent.slabs place most stored
     → ((numbers : List ℕ) → AreBytesOf n.array.kind numbers stored
     → IsFront (drop skip (flat_map (element_bytes n.array.kind) numbers)) old new count)
-    → IsFront (drop skip (numbers_from content n place)) old new count
-picked-front content n place skip most count stored old new picked each =
-    subst (λ (l : List ℕ). IsFront (drop skip l) old new count) (sym (from-split content n place picked.count))
+    → IsFront (drop skip (numbers_from n place)) old new count
+picked-front n place skip most count stored old new picked each =
+    subst (λ (l : List ℕ). IsFront (drop skip l) old new count) (sym (from-split n place picked.count))
     (front-more _ _ old new skip count (each _ picked.bytes_are))
 
 -- what is written of the number at a place is a front of all from there on
-pub one-front : (content : Content) (n : Portion) (place skip count : ℕ) (old : List ℕ)
+pub one-front : (n : Portion) (place skip count : ℕ) (old : List ℕ)
     → place < box_len n.sent.slabs
     → count ≡ min (length old)
-    (length (element_bytes n.array.kind (bits_in content n (index_at n.sent.slabs place))) - skip)
-    → IsFront (drop skip (numbers_from content n place)) old
-    (overlay (drop skip (element_bytes n.array.kind (bits_in content n (index_at n.sent.slabs place)))) old) count
+    (length (element_bytes n.array.kind (bits_in n (index_at n.sent.slabs place))) - skip)
+    → IsFront (drop skip (numbers_from n place)) old
+    (overlay (drop skip (element_bytes n.array.kind (bits_in n (index_at n.sent.slabs place)))) old) count
 unfolding numbers_from
-one-front content n place skip count old within is =
+one-front n place skip count old within is =
     let f = element_bytes n.array.kind in
-    let b = bits_in content n in
+    let b = bits_in n in
     let one = f (b (index_at n.sent.slabs place)) in
-    let all : numbers_from content n place ≡ one ++ numbers_from content n (suc place) =
+    let all : numbers_from n place ≡ one ++ numbers_from n (suc place) =
     ap (λ (l : List (List ℕ)). flat_map f (map b l)) (drop-place n.sent.slabs place within) in
     subst (λ (l : List ℕ). IsFront (drop skip l) old (overlay (drop skip one) old) count) (sym all)
-    (front-more one (numbers_from content n (suc place)) old (overlay (drop skip one) old) skip count
+    (front-more one (numbers_from n (suc place)) old (overlay (drop skip one) old) skip count
     (overlay-front (drop skip one) old count
     (is ∙ ap (λ (m : ℕ). min (length old) m) (sym (length-drop skip one)))))
 
 -- n texts of one length are left out by n times the length
-flat-drop : {A : Type 0} (f : A → List ℕ) (width times : ℕ) → ((x : A) → length (f x) ≡ width) → (xs : List A)
+pub flat-drop : {A : Type 0} (f : A → List ℕ) (width times : ℕ) → ((x : A) → length (f x) ≡ width) → (xs : List A)
     → drop (times * width) (flat_map f xs) ≡ flat_map f (drop times xs)
 flat-drop f width zero each xs =
     let none : zero * width ≡ 0 = omega arith in
@@ -74,7 +73,7 @@ flat-drop f width (suc times) each (x ∷ xs) =
     ∙ flat-drop f width times each xs
 
 -- texts of one length
-flat-length : {A : Type 0} (f : A → List ℕ) (width : ℕ) → ((x : A) → length (f x) ≡ width) → (xs : List A)
+pub flat-length : {A : Type 0} (f : A → List ℕ) (width : ℕ) → ((x : A) → length (f x) ≡ width) → (xs : List A)
     → length (flat_map f xs) ≡ length xs * width
 flat-length f width each [] = omega arith
 flat-length f width each (x ∷ xs) =
@@ -83,13 +82,13 @@ flat-length f width each (x ∷ xs) =
     ∙ omega (arith, suc-mul (length xs) width)
 
 -- the bytes from a later place on are what is left of those from an earlier one
-pub from-later : (content : Content) (n : Portion) (place times skip : ℕ)
-    → drop (times * element_len n.array.kind + skip) (numbers_from content n place)
-    ≡ drop skip (numbers_from content n (place + times))
+pub from-later : (n : Portion) (place times skip : ℕ)
+    → drop (times * element_len n.array.kind + skip) (numbers_from n place)
+    ≡ drop skip (numbers_from n (place + times))
 unfolding numbers_from
-from-later content n place times skip =
+from-later n place times skip =
     let f = element_bytes n.array.kind in
-    let b = bits_in content n in
+    let b = bits_in n in
     let w = element_len n.array.kind in
     let box = box_of n.sent.slabs in
     let numbers = map b (drop place box) in
@@ -99,32 +98,32 @@ from-later content n place times skip =
     ∙ ap (λ (l : List (List ℕ)). flat_map f (map b l)) (drop-drop times place box))
 
 -- how many bytes there are from a place on
-pub length-from : (content : Content) (n : Portion) (place : ℕ)
-    → length (numbers_from content n place) ≡ (box_len n.sent.slabs - place) * element_len n.array.kind
+pub length-from : (n : Portion) (place : ℕ)
+    → length (numbers_from n place) ≡ (box_len n.sent.slabs - place) * element_len n.array.kind
 unfolding numbers_from
-length-from content n place =
+length-from n place =
     let box = box_of n.sent.slabs in
     flat-length (element_bytes n.array.kind) (element_len n.array.kind) (length-element_bytes n.array.kind)
-    (map (bits_in content n) (drop place box))
+    (map (bits_in n) (drop place box))
     ∙ ap (λ (m : ℕ). m * element_len n.array.kind)
-    (length-map (drop place box) (bits_in content n) ∙ length-drop place box
+    (length-map (drop place box) (bits_in n) ∙ length-drop place box
     ∙ ap (λ (m : ℕ). m - place) (length-box_of n.sent.slabs))
 
 -- an array is its count twice and its body
-pub array-body : (content : Content) (n : Portion)
-    → array_of content n ≡ count_twice (box_len n.sent.slabs) ++ body_of content n
+pub array-body : (n : Portion)
+    → array_of n ≡ count_twice (box_len n.sent.slabs) ++ body_of n
 unfolding array_of body_of array_bytes numbers_from
-array-body content n =
-    let numbers = map (bits_in content n) (box_of n.sent.slabs) in
+array-body n =
+    let numbers = map (bits_in n) (box_of n.sent.slabs) in
     let many : length numbers ≡ box_len n.sent.slabs =
-    length-map (box_of n.sent.slabs) (bits_in content n) ∙ length-box_of n.sent.slabs in
+    length-map (box_of n.sent.slabs) (bits_in n) ∙ length-box_of n.sent.slabs in
     ap₂ (λ (m : ℕ) (l : List ℕ). count_twice m ++ l) many
     (elements_laid n.array.kind numbers
     ∙ ap (λ (m : ℕ). flat_map (element_bytes n.array.kind) numbers ++ zeros_after (m * element_len n.array.kind)) many)
 
 -- how many bytes all numbers take
-pub length-all : (content : Content) (n : Portion)
-    → length (numbers_from content n 0) ≡ box_len n.sent.slabs * element_len n.array.kind
-length-all content n =
+pub length-all : (n : Portion)
+    → length (numbers_from n 0) ≡ box_len n.sent.slabs * element_len n.array.kind
+length-all n =
     let all : box_len n.sent.slabs - 0 ≡ box_len n.sent.slabs = omega arith in
-    length-from content n 0 ∙ ap (λ (m : ℕ). m * element_len n.array.kind) all
+    length-from n 0 ∙ ap (λ (m : ℕ). m * element_len n.array.kind) all

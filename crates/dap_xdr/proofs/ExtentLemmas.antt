@@ -1,17 +1,18 @@
 -- The extent of slabs, one dimension more at a time.
-use Rattle.std.proofs.Common.{◌≡◌, ℕ, zero, suc, ◌-◌, ◌*◌, ◌/◌, ◌<◌, ◌≤◌, List, [], ◌∷◌, length, get_or, map, drop, inl, inr, refl, true, ap, ap₂, subst, arith}
+use Rattle.std.proofs.Common.{◌≡◌, ℕ, zero, suc, ◌-◌, ◌*◌, ◌/◌, ◌<◌, ◌≤◌, List, [], ◌∷◌, length, get_or, map, drop, inl, inr, refl, ap, ap₂, subst, arith}
 use Rattle.std.specs.List.{All, AllZip}
-use Rattle.std.proofs.Math.Nat.{div-mul-le_self, le-mul_of_pos_right, mul-le-mul_left, mul-le-mul_right}
+use Rattle.std.proofs.Math.Nat.{div-mul-le_self, le-mul_of_pos_right, mul_comm, mul-le-mul_left, mul-le-mul_right}
 use Rattle.std.proofs.lemmas.Nat.{mul-le}
 use Rattle.std.proofs.Math.Seq.{drop-cons}
-use Rattle.std.proofs.lemmas.List.Elements.{All-tail}
+use Rattle.std.proofs.lemmas.List.Elements.{All-cons, All-nil, All-tail}
 use Rattle.nc_model.specs.Layout.{product}
 use Rattle.nc_model.specs.declared.header.Dim.{Dim}
 use Rattle.dap_model.specs.declared.projection.Slab.{Slab}
-use Rattle.dap_model.specs.Box.{slab_count, HasStride}
+use Rattle.dap_model.specs.Box.{box_len, slab_count, HasStride}
 use Rattle.dap_model.specs.ProjectionFacts.{FitsDim}
 use Rattle.dap_model.proofs.SlabLemmas.{count_cases}
-use Rattle.dap_xdr.specs.Stretch.{extent_before, extent_of}
+use Rattle.dap_slab.specs.Walking.{HasIndex}
+use Rattle.dap_xdr.specs.Stretch.{extent_before, extent_of, no_extent}
 use Rattle.dap_xdr.proofs.FitLemmas.{as_many}
 
 -- each slab fits the dimension at its place
@@ -28,9 +29,30 @@ pub have_strides : (dims : List Dim) (slabs : List Slab) → AllZip FitsDim dims
 have_strides dims slabs fits = λ at slab within.
     (fits-at dims slabs at (record { name = []; size = 0 }) slab fits within).stride
 
+-- slabs that pick something each have an index
+pub have-indices : (slabs : List Slab) → All HasStride slabs → 0 < box_len slabs → All HasIndex slabs
+unfolding box_len product
+have-indices [] strides some = All-nil HasIndex
+have-indices (slab ∷ slabs) strides some =
+    let first : 0 < slab_count slab = factor (slab_count slab) (box_len slabs) some in
+    let others : 0 < box_len slabs =
+    factor (box_len slabs) (slab_count slab)
+    (subst (λ (n : ℕ). 0 < n) (mul_comm (slab_count slab) (box_len slabs)) some) in
+    let ordered : slab.start ≤ slab.stop = elim (count_cases slab) [
+      | inl t ↦ t.0
+      | inr f ↦ absurd (omega (arith, first, f.1))
+    ] in
+    All-cons HasIndex slab slabs
+    (record { stride = strides 0 slab (omega arith); ordered = ordered })
+    (have-indices slabs (All-tail HasStride slab slabs strides) others)
+  where
+    factor : (a b : ℕ) → 0 < a * b → 0 < a
+    factor zero b some = absurd (omega (arith, some))
+    factor (suc a) b some = omega arith
+
 -- the extent of no slab
 pub extent_of-past : (dims : List Dim) (slabs : List Slab) (at : ℕ) → AllZip FitsDim dims slabs → length slabs ≤ at
-    → extent_of (drop at dims) (drop at slabs) ≡ record { count = 1; unit = 1; whole = true }
+    → extent_of (drop at dims) (drop at slabs) ≡ no_extent
 unfolding extent_of
 extent_of-past [] [] zero fits past = refl
 extent_of-past [] [] (suc at) fits past = refl
@@ -119,4 +141,45 @@ extent-fits dims slabs (suc at) d fits sizes some within =
     subst (λ (n : ℕ). (get_or dims n d).size * (extent_of (drop (suc at) dims) (drop (suc at) slabs)).count
     ≤ product (sizes_of dims)) same (omega (arith, whole, all, bound))
 
-pub ruleset extents = (as_many, fits-at, extent_of-past, extent_of-before, extent-fits)
+-- the size of an extent is how many elements the dimensions have
+pub extent-size : (dims : List Dim) (slabs : List Slab) → AllZip FitsDim dims slabs
+    → (extent_of dims slabs).size ≡ product (sizes_of dims)
+unfolding extent_of product
+extent-size [] [] fits = refl
+extent-size [] (slab ∷ slabs) fits = absurd fits
+extent-size (dim ∷ dims) [] fits = absurd fits
+extent-size (dim ∷ dims) (slab ∷ slabs) fits = ap (λ (n : ℕ). dim.size * n) (extent-size dims slabs fits.1)
+
+-- a dimension times what those after it have is no more than all dimensions have
+pub size-fits : (dims : List Dim) (slabs : List Slab) (at : ℕ) (d : Dim) → AllZip FitsDim dims slabs
+    → HaveSizes dims → 0 < at → at ≤ length slabs
+    → (get_or dims (at - 1) d).size * (extent_of (drop at dims) (drop at slabs)).size ≤ product (sizes_of dims)
+unfolding product
+size-fits dims slabs zero d fits sizes some within = absurd (omega arith)
+size-fits dims slabs (suc at) d fits sizes some within =
+    let long : at < length dims = subst (λ (n : ℕ). at < n) (as_many dims slabs fits) within in
+    let size = extent-size (drop (suc at) dims) (drop (suc at) slabs) (fits-drop dims slabs (suc at) fits) in
+    let whole : product (sizes_of (drop at dims))
+    ≡ (get_or dims at d).size * product (sizes_of (drop (suc at) dims)) =
+    ap (λ (ds : List Dim). product (sizes_of ds)) (drop-cons dims at d long) in
+    let all = product-drop dims at sizes in
+    let same : at ≡ suc at - 1 = omega arith in
+    subst (λ (n : ℕ). (get_or dims n d).size * (extent_of (drop (suc at) dims) (drop (suc at) slabs)).size
+    ≤ product (sizes_of dims)) same
+    (omega (arith, whole, all, ap (λ (n : ℕ). (get_or dims at d).size * n) size))
+
+-- a slab that picks more than one index of a dimension has a stride below its size
+pub stride_within : (size : ℕ) (slab : Slab) → HasStride slab → (slab.start ≤ slab.stop → slab.stop < size)
+    → 1 < slab_count slab → slab.stride ≤ size
+stride_within size slab stride within many = elim (count_cases slab) [
+  | inl t ↦
+      let one : 1 ≤ (slab.stop - slab.start) / slab.stride = omega (arith, many, t.1) in
+      let least : 1 * slab.stride ≤ (slab.stop - slab.start) / slab.stride * slab.stride =
+      mul-le-mul_right slab.stride one in
+      let split = div-mul-le_self (slab.stop - slab.start) slab.stride in
+      let last = within t.0 in
+      omega (arith, least, split, last)
+  | inr f ↦ absurd (omega (arith, many, f.1))
+]
+
+pub ruleset extents = (as_many, fits-at, extent_of-past, extent_of-before, extent-fits, size-fits)

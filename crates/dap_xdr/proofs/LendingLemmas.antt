@@ -8,7 +8,6 @@ use Rattle.std.proofs.lemmas.Nat.{div-add-mod'}
 use Rattle.dap_model.specs.Box.{box_len, box_of}
 use Rattle.dap_model.specs.Xdr.{count_twice, element_bytes, element_len, zeros_after}
 use Rattle.dap_model.specs.declared.declaration.DapKind.TheVariants.{Int16}
-use Rattle.dap_xdr.specs.Content.{Content}
 use Rattle.dap_xdr.specs.Portion.{array_of, bits_in, body_of, numbers_from, Portion}
 use Rattle.dap_xdr.specs.Stretch.{ArePicked}
 use Rattle.dap_xdr.proofs.ElementLemmas.{array-body, from-later, from-split}
@@ -37,37 +36,37 @@ front-behind xs ys front is =
     take-append-le (length front) xs ys within ∙ is
 
 -- what is left of stored numbers is a front of what is left of all
-pub stored-front : (content : Content) (n : Portion) (from place most passed : ℕ) (stored : List ℕ)
+pub stored-front : (n : Portion) (from place most passed : ℕ) (stored : List ℕ)
     → n.array.kind ≢ Int16 → place ≡ from / element_len n.array.kind
-    → ArePicked n.array.kind (bits_in content n) n.sent.slabs place most stored
+    → ArePicked n.array.kind (bits_in n) n.sent.slabs place most stored
     → passed ≡ min (from % element_len n.array.kind) (length stored)
-    → take (length (drop passed stored)) (drop from (numbers_from content n 0)) ≡ drop passed stored
-stored-front content n from place most passed stored other is picked few =
+    → take (length (drop passed stored)) (drop from (numbers_from n 0)) ≡ drop passed stored
+stored-front n from place most passed stored other is picked few =
     let w = element_len n.array.kind in
-    let numbers = map (bits_in content n) (take picked.count (drop place (box_of n.sent.slabs))) in
+    let numbers = map (bits_in n) (take picked.count (drop place (box_of n.sent.slabs))) in
     let same : stored ≡ flat_map (element_bytes n.array.kind) numbers =
     picked.bytes_are.bytes_are ∙ all-same n.array.kind numbers other in
     let spread : from ≡ place * w + from % w =
     sym (div-add-mod' from w) ∙ ap (λ (m : ℕ). m * w + from % w) (sym is) in
-    let left : drop from (numbers_from content n 0) ≡ drop (from % w) (numbers_from content n place) =
-    ap (λ (m : ℕ). drop m (numbers_from content n 0)) spread ∙ from-later content n 0 place (from % w)
-    ∙ ap (λ (m : ℕ). drop (from % w) (numbers_from content n m)) (zero-add place) in
-    let all = from-split content n place picked.count in
+    let left : drop from (numbers_from n 0) ≡ drop (from % w) (numbers_from n place) =
+    ap (λ (m : ℕ). drop m (numbers_from n 0)) spread ∙ from-later n 0 place (from % w)
+    ∙ ap (λ (m : ℕ). drop (from % w) (numbers_from n m)) (zero-add place) in
+    let all = from-split n place picked.count in
     ap (take (length (drop passed stored)))
     (left ∙ ap (drop (from % w)) (all ∙ ap (λ (l : List ℕ). l ++ flat_map (element_bytes n.array.kind)
-    (map (bits_in content n) (drop picked.count (drop place (box_of n.sent.slabs))))) (sym same)))
+    (map (bits_in n) (drop picked.count (drop place (box_of n.sent.slabs))))) (sym same)))
     ∙ left-front stored _ (from % w) passed few
 
 -- a front of what is left of the numbers is one of what is left of the array
-pub numbers-front : (content : Content) (n : Portion) (from : ℕ) (front : List ℕ) → 8 ≤ from
-    → take (length front) (drop (from - 8) (numbers_from content n 0)) ≡ front
-    → take (length front) (drop from (array_of content n)) ≡ front
+pub numbers-front : (n : Portion) (from : ℕ) (front : List ℕ) → 8 ≤ from
+    → take (length front) (drop (from - 8) (numbers_from n 0)) ≡ front
+    → take (length front) (drop from (array_of n)) ≡ front
 unfolding body_of count_twice
-numbers-front content n from front behind is =
+numbers-front n from front behind is =
     let far : from ≡ length (count_twice (box_len n.sent.slabs)) + (from - 8) = omega (arith, behind) in
     let zeros = zeros_after (box_len n.sent.slabs * element_len n.array.kind) in
-    ap (λ (l : List ℕ). take (length front) (drop from l)) (array-body content n)
-    ∙ ap (λ (m : ℕ). take (length front) (drop m (count_twice (box_len n.sent.slabs) ++ body_of content n))) far
-    ∙ ap (take (length front)) (drop-append-add (count_twice (box_len n.sent.slabs)) (body_of content n) (from - 8)
-    ∙ drop-both (numbers_from content n 0) zeros (from - 8))
-    ∙ front-behind (drop (from - 8) (numbers_from content n 0)) _ front is
+    ap (λ (l : List ℕ). take (length front) (drop from l)) (array-body n)
+    ∙ ap (λ (m : ℕ). take (length front) (drop m (count_twice (box_len n.sent.slabs) ++ body_of n))) far
+    ∙ ap (take (length front)) (drop-append-add (count_twice (box_len n.sent.slabs)) (body_of n) (from - 8)
+    ∙ drop-both (numbers_from n 0) zeros (from - 8))
+    ∙ front-behind (drop (from - 8) (numbers_from n 0)) _ front is

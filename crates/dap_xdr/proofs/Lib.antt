@@ -1,3 +1,4 @@
+pub mod ColumnLemmas
 pub mod DataLemmas
 pub mod DatasetLemmas
 pub mod ElementLemmas
@@ -5,9 +6,13 @@ pub mod ExtentLemmas
 pub mod FitLemmas
 pub mod FrontLemmas
 pub mod LendingLemmas
+pub mod MarkLemmas
 pub mod PickedLemmas
+pub mod RowLemmas
 pub mod SoFarLemmas
 pub mod StoredLemmas
 pub mod StretchLemmas
 pub mod TextsLemmas
+pub mod TurnLemmas
+pub mod TurnRowLemmas
 pub mod WidenLemmas

@@ -14,9 +14,9 @@ use Rattle.dap_model.specs.Box.{box_len, box_of, index_at}
 use Rattle.dap_model.specs.ProjectionFacts.{FitsDim}
 use Rattle.dap_model.proofs.BoxLemmas.{EachPicks-index_at, get_or-box_of, length-box_of, split_of}
 use Rattle.dap_model.proofs.ProjectionFitLemmas.{picked_within}
-use Rattle.dap_model.specs.declared.declaration.Decl.{Decl}
 use Rattle.fm_dataset.specs.Values.{HasNumberAt, HasTextAt}
 use Rattle.dap_xdr.specs.Content.{array_in}
+use Rattle.dap_xdr.specs.Datasets.{content_of}
 use Rattle.dap_xdr.specs.Portion.{IsPortion, Portion}
 use Rattle.dap_xdr.specs.declared.slabs.Extent.{Extent}
 use Rattle.dap_xdr.specs.Stretch.{extent_of, left_at, AreBytesOf, AreStored, ArePicked}
@@ -56,11 +56,11 @@ drop-place slabs place within =
     ∙ ap (λ (i : List ℕ). i ∷ drop (suc place) (box_of slabs)) (get_or-box_of slabs place [] within)
 
 -- the index list at a place has this number among all
-record Stands (dims : List Dim) (slabs : List Slab) (place rank : ℕ) : Type 0 where
-  within : place < box_len slabs
-  rank_is : rank_in (sizes_of dims) (index_at slabs place) ≡ rank
+pub record Stands (dims : List Dim) (slabs : List Slab) (place rank : ℕ) : Type 0 where
+  pub within : place < box_len slabs
+  pub rank_is : rank_in (sizes_of dims) (index_at slabs place) ≡ rank
 
-follow : (count : ℕ) (dims : List Dim) (slabs : List Slab) (place rank : ℕ) → AllZip FitsDim dims slabs
+pub follow : (count : ℕ) (dims : List Dim) (slabs : List Slab) (place rank : ℕ) → AllZip FitsDim dims slabs
     → ((more : ℕ) → more < count → Stands dims slabs (place + more) (rank + more))
     → take count (drop rank (indices_of (sizes_of dims))) ≡ take count (drop place (box_of slabs))
 follow zero dims slabs place rank fits each = refl
@@ -116,12 +116,11 @@ left_of n extent place numbered same within =
     (record { some = omega (arith, split.second); below = split.second })
 
 -- a number of an array that is sent, at a place
-pub has-number : (decls : List Decl) (n : Portion) (place : ℕ) (index : List ℕ) → IsPortion n → n.array.kind ≢ Text
-    → array_in decls n.sent.decl n.sent.part ≡ Some n.array → place < box_len n.sent.slabs
-    → index ≡ index_at n.sent.slabs place
-    → IsSomeAnd (array_in decls n.sent.decl n.sent.part) (HasNumberAt index)
-has-number decls n place index numbered number is within same =
-    subst (λ (found : Option Array). IsSomeAnd found (HasNumberAt index)) (sym is) (record {
+pub has-number : (n : Portion) (place : ℕ) (index : List ℕ) → IsPortion n → n.array.kind ≢ Text
+    → place < box_len n.sent.slabs → index ≡ index_at n.sent.slabs place
+    → IsSomeAnd (array_in (content_of n.shown).decls n.sent.decl n.sent.part) (HasNumberAt index)
+has-number n place index numbered number within same =
+    subst (λ (found : Option Array). IsSomeAnd found (HasNumberAt index)) (sym numbered.part_is) (record {
       number = number;
       index_is = subst (IsIndex (sizes_of n.array.dims)) (sym same)
           (index_at-within n.array.dims n.sent.slabs place numbered.fits within);
@@ -139,12 +138,11 @@ raw-picked n bits place least most index bytes numbered within same short stored
     record { count = picked.count; few = omega (arith, short, picked.few); bytes_are = picked.bytes_are }
 
 -- a text of an array that is sent, at a place
-pub has-text : (decls : List Decl) (n : Portion) (place : ℕ) (index : List ℕ) → IsPortion n → n.array.kind ≡ Text
-    → array_in decls n.sent.decl n.sent.part ≡ Some n.array → place < box_len n.sent.slabs
-    → index ≡ index_at n.sent.slabs place
-    → IsSomeAnd (array_in decls n.sent.decl n.sent.part) (HasTextAt index)
-has-text decls n place index portion text is within same =
-    subst (λ (found : Option Array). IsSomeAnd found (HasTextAt index)) (sym is) (record {
+pub has-text : (n : Portion) (place : ℕ) (index : List ℕ) → IsPortion n → n.array.kind ≡ Text
+    → place < box_len n.sent.slabs → index ≡ index_at n.sent.slabs place
+    → IsSomeAnd (array_in (content_of n.shown).decls n.sent.decl n.sent.part) (HasTextAt index)
+has-text n place index portion text within same =
+    subst (λ (found : Option Array). IsSomeAnd found (HasTextAt index)) (sym portion.part_is) (record {
       text = text;
       index_is = subst (IsIndex (sizes_of n.array.dims)) (sym same)
           (index_at-within n.array.dims n.sent.slabs place portion.fits within);

@@ -8,7 +8,6 @@ use Rattle.dap_model.specs.Box.{box_len}
 use Rattle.dap_model.specs.Xdr.{element_len}
 use Rattle.dap_model.specs.declared.declaration.DapKind.{DapKind}
 use Rattle.dap_model.specs.declared.declaration.DapKind.TheVariants.{Byte, Int16, Int32, Float32, Float64, Text}
-use Rattle.dap_xdr.specs.Content.{Content}
 use Rattle.dap_xdr.specs.Portion.{numbers_from, Portion}
 use Rattle.dap_xdr.specs.Overlay.{overlay}
 use Rattle.dap_xdr.proofs.ElementLemmas.{from-later, length-from}
@@ -34,53 +33,53 @@ element_len-most Float64 = omega arith
 element_len-most Text = omega arith
 
 -- `filled` bytes are written over the front of a buffer, and what is left begins at a place among the bytes of a number
-pub record SoFar (content : Content) (n : Portion) (from filled place skip : ℕ) (old now : List ℕ) : Type 0 where
+pub record SoFar (n : Portion) (from filled place skip : ℕ) (old now : List ℕ) : Type 0 where
   pub below : skip < element_len n.array.kind
   pub fits : filled ≤ length old
-  pub within : filled ≤ length (drop from (numbers_from content n 0))
-  pub left : drop filled (drop from (numbers_from content n 0)) ≡ drop skip (numbers_from content n place)
-  pub now_is : now ≡ take filled (drop from (numbers_from content n 0)) ++ drop filled old
+  pub within : filled ≤ length (drop from (numbers_from n 0))
+  pub left : drop filled (drop from (numbers_from n 0)) ≡ drop skip (numbers_from n place)
+  pub now_is : now ≡ take filled (drop from (numbers_from n 0)) ++ drop filled old
 
-pub so-far-first : (content : Content) (n : Portion) (from : ℕ) (old : List ℕ) → n.array.kind ≢ Text
-    → SoFar content n from 0 (from / element_len n.array.kind) (from % element_len n.array.kind) old old
-so-far-first content n from old number =
+pub so-far-first : (n : Portion) (from : ℕ) (old : List ℕ) → n.array.kind ≢ Text
+    → SoFar n from 0 (from / element_len n.array.kind) (from % element_len n.array.kind) old old
+so-far-first n from old number =
     let w = element_len n.array.kind in
     let spread : from ≡ from / w * w + from % w = sym (div-add-mod' from w) in
     record {
       below = mod_below from w (element_len-pos n.array.kind number);
       fits = omega arith;
       within = omega arith;
-      left = ap (λ (m : ℕ). drop m (numbers_from content n 0)) spread
-          ∙ from-later content n 0 (from / w) (from % w)
-          ∙ ap (λ (m : ℕ). drop (from % w) (numbers_from content n m)) (zero-add (from / w));
+      left = ap (λ (m : ℕ). drop m (numbers_from n 0)) spread
+          ∙ from-later n 0 (from / w) (from % w)
+          ∙ ap (λ (m : ℕ). drop (from % w) (numbers_from n m)) (zero-add (from / w));
       now_is = refl;
     }
 
 -- how many bytes a buffer has of which a front is written
-pub so-far-long : (content : Content) (n : Portion) (from filled place skip : ℕ) (old now : List ℕ)
-    → SoFar content n from filled place skip old now → length now ≡ length old
-so-far-long content n from filled place skip old now so =
+pub so-far-long : (n : Portion) (from filled place skip : ℕ) (old now : List ℕ)
+    → SoFar n from filled place skip old now → length now ≡ length old
+so-far-long n from filled place skip old now so =
     ap length so.now_is
-    ∙ length-append (take filled (drop from (numbers_from content n 0))) (drop filled old)
+    ∙ length-append (take filled (drop from (numbers_from n 0))) (drop filled old)
     ∙ omega (
       arith,
-      length-take-le filled (drop from (numbers_from content n 0)) so.within,
+      length-take-le filled (drop from (numbers_from n 0)) so.within,
       length-drop filled old,
       so.fits,
     )
 
 -- the next bytes
-pub so-far-more : (content : Content) (n : Portion) (from filled place skip count : ℕ) (old now next : List ℕ)
-    → n.array.kind ≢ Text → SoFar content n from filled place skip old now
+pub so-far-more : (n : Portion) (from filled place skip count : ℕ) (old now next : List ℕ)
+    → n.array.kind ≢ Text → SoFar n from filled place skip old now
     → filled + count ≤ length now
-    → count ≤ length (drop skip (numbers_from content n place))
-    → next ≡ take filled now ++ (take count (drop skip (numbers_from content n place)) ++ drop (filled + count) now)
-    → SoFar content n from (filled + count) (place + (skip + count) / element_len n.array.kind)
+    → count ≤ length (drop skip (numbers_from n place))
+    → next ≡ take filled now ++ (take count (drop skip (numbers_from n place)) ++ drop (filled + count) now)
+    → SoFar n from (filled + count) (place + (skip + count) / element_len n.array.kind)
     ((skip + count) % element_len n.array.kind) old next
-so-far-more content n from filled place skip count old now next number so fits within written =
+so-far-more n from filled place skip count old now next number so fits within written =
     let w = element_len n.array.kind in
-    let all = drop from (numbers_from content n 0) in
-    let here = numbers_from content n place in
+    let all = drop from (numbers_from n 0) in
+    let here = numbers_from n place in
     let front = take filled all in
     let long : filled ≡ length front = sym (length-take-le filled all so.within) in
     let spread : skip + count ≡ (skip + count) / w * w + (skip + count) % w = sym (div-add-mod' (skip + count) w) in
@@ -91,11 +90,11 @@ so-far-more content n from filled place skip count old now next number so fits w
     ∙ drop-append-add front (drop filled old) count ∙ drop-drop count filled old in
     record {
       below = mod_below (skip + count) w (element_len-pos n.array.kind number);
-      fits = omega (arith, fits, so-far-long content n from filled place skip old now so);
+      fits = omega (arith, fits, so-far-long n from filled place skip old now so);
       within = omega (arith, so.within, within, ap length so.left, length-drop filled all);
       left = sym (drop-drop count filled all) ∙ ap (drop count) so.left ∙ drop-drop count skip here
           ∙ ap (λ (m : ℕ). drop m here) spread
-          ∙ from-later content n place ((skip + count) / w) ((skip + count) % w);
+          ∙ from-later n place ((skip + count) / w) ((skip + count) % w);
       now_is = written
           ∙ ap₂ (λ (l r : List ℕ). l ++ (take count (drop skip here) ++ r)) head tail
           ∙ ap (λ (l : List ℕ). front ++ (take count l ++ drop (filled + count) old)) (sym so.left)
@@ -104,14 +103,14 @@ so-far-more content n from filled place skip count old now next number so fits w
     }
 
 -- the next place is at most behind the last number
-pub so-far-place : (content : Content) (n : Portion) (place skip count : ℕ) → n.array.kind ≢ Text
+pub so-far-place : (n : Portion) (place skip count : ℕ) → n.array.kind ≢ Text
     → place < box_len n.sent.slabs → skip < element_len n.array.kind
-    → count ≤ length (drop skip (numbers_from content n place))
+    → count ≤ length (drop skip (numbers_from n place))
     → place + (skip + count) / element_len n.array.kind ≤ box_len n.sent.slabs
-so-far-place content n place skip count number here below within =
+so-far-place n place skip count number here below within =
     let w = element_len n.array.kind in
-    let long = length-from content n place in
-    let left = length-drop skip (numbers_from content n place) in
+    let long = length-from n place in
+    let left = length-drop skip (numbers_from n place) in
     let some : 1 ≤ box_len n.sent.slabs - place = omega (arith, here) in
     let one : 1 * w ≤ (box_len n.sent.slabs - place) * w = mul-le-mul_right w some in
     let few : skip + count ≤ w * (box_len n.sent.slabs - place) =
@@ -121,43 +120,43 @@ so-far-place content n place skip count number here below within =
     omega (arith, most, here)
 
 -- where the buffer is full
-pub so-far-full : (content : Content) (n : Portion) (from filled place skip : ℕ) (old now : List ℕ)
-    → SoFar content n from filled place skip old now → length now ≤ filled
-    → now ≡ overlay (drop from (numbers_from content n 0)) old
+pub so-far-full : (n : Portion) (from filled place skip : ℕ) (old now : List ℕ)
+    → SoFar n from filled place skip old now → length now ≤ filled
+    → now ≡ overlay (drop from (numbers_from n 0)) old
 unfolding overlay
-so-far-full content n from filled place skip old now so full =
-    let long = so-far-long content n from filled place skip old now so in
+so-far-full n from filled place skip old now so full =
+    let long = so-far-long n from filled place skip old now so in
     let same : filled ≡ length old = omega (arith, long, full, so.fits) in
     so.now_is
-    ∙ ap₂ (λ (m : ℕ) (l : List ℕ). take m (drop from (numbers_from content n 0)) ++ l) same
+    ∙ ap₂ (λ (m : ℕ) (l : List ℕ). take m (drop from (numbers_from n 0)) ++ l) same
     (drop_all filled old (omega (arith, same))
-    ∙ sym (drop_all (length (drop from (numbers_from content n 0))) old (omega (arith, so.within, same))))
+    ∙ sym (drop_all (length (drop from (numbers_from n 0))) old (omega (arith, so.within, same))))
 
 -- where no number is left
-pub so-far-all : (content : Content) (n : Portion) (from filled place skip : ℕ) (old now : List ℕ)
-    → SoFar content n from filled place skip old now → box_len n.sent.slabs ≤ place
-    → filled ≡ length (drop from (numbers_from content n 0))
-so-far-all content n from filled place skip old now so past =
+pub so-far-all : (n : Portion) (from filled place skip : ℕ) (old now : List ℕ)
+    → SoFar n from filled place skip old now → box_len n.sent.slabs ≤ place
+    → filled ≡ length (drop from (numbers_from n 0))
+so-far-all n from filled place skip old now so past =
     let gone : 0 ≡ box_len n.sent.slabs - place = omega (arith, past) in
-    let none : length (numbers_from content n place) ≡ 0 =
-    length-from content n place
+    let none : length (numbers_from n place) ≡ 0 =
+    length-from n place
     ∙ subst (λ (m : ℕ). m * element_len n.array.kind ≡ 0) gone (omega arith) in
     omega (
       arith,
       ap length so.left,
-      length-drop filled (drop from (numbers_from content n 0)),
-      length-drop skip (numbers_from content n place),
+      length-drop filled (drop from (numbers_from n 0)),
+      length-drop skip (numbers_from n place),
       none,
       so.within,
     )
 
-pub so-far-done : (content : Content) (n : Portion) (from filled place skip : ℕ) (old now : List ℕ)
-    → SoFar content n from filled place skip old now → box_len n.sent.slabs ≤ place
-    → now ≡ overlay (drop from (numbers_from content n 0)) old
+pub so-far-done : (n : Portion) (from filled place skip : ℕ) (old now : List ℕ)
+    → SoFar n from filled place skip old now → box_len n.sent.slabs ≤ place
+    → now ≡ overlay (drop from (numbers_from n 0)) old
 unfolding overlay
-so-far-done content n from filled place skip old now so past =
-    let all = so-far-all content n from filled place skip old now so past in
+so-far-done n from filled place skip old now so past =
+    let all = so-far-all n from filled place skip old now so past in
     so.now_is
     ∙ ap₂ (λ (l : List ℕ) (m : ℕ). l ++ drop m old)
-    (take_all filled (drop from (numbers_from content n 0)) (omega (arith, all))
-    ∙ sym (take_all (length old) (drop from (numbers_from content n 0)) (omega (arith, all, so.fits)))) all
+    (take_all filled (drop from (numbers_from n 0)) (omega (arith, all))
+    ∙ sym (take_all (length old) (drop from (numbers_from n 0)) (omega (arith, all, so.fits)))) all

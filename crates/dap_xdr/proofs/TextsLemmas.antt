@@ -1,38 +1,32 @@
 -- The bytes of texts, one after the other.
-use Rattle.std.proofs.Common.{◌≡◌, ℕ, suc, ◌+◌, ◌-◌, ◌<◌, ◌≤◌, List, [], ◌∷◌, ◌++◌, length, map, min, take, drop, sym, ap, ap₂, subst, ◌∙◌, arith}
+use Rattle.std.proofs.Common.{◌≡◌, ℕ, suc, ◌+◌, ◌-◌, ◌<◌, ◌≤◌, List, [], ◌∷◌, ◌++◌, length, map, min, take, drop, refl, sym, ap, ap₂, subst, ◌∙◌, arith}
 use Rattle.std.specs.Int.{w32, to_be_bytes}
 use Rattle.std.specs.List.{flat_map}
-use Rattle.std.proofs.Math.Seq.{take-suc}
+use Rattle.std.proofs.Math.Seq.{drop-append-add, take-suc}
 use Rattle.std.proofs.lemmas.Grind.{flat_map-append}
-use Rattle.std.proofs.lemmas.List.{append-nil, drop_all, length-append, length-drop, length-map, map-append, take-append-drop}
+use Rattle.std.proofs.lemmas.List.{append-nil, drop_all, length-append, length-drop, length-map, map-append, take_all, take-append-drop}
 use Rattle.dap_model.specs.Box.{box_len, box_of, index_at}
 use Rattle.dap_model.specs.Xdr.{text_bytes, text_len, texts_bytes}
 use Rattle.dap_model.proofs.BoxLemmas.{get_or-box_of, length-box_of}
 use Rattle.dap_model.proofs.XdrLemmas.{length-text_bytes}
-use Rattle.dap_xdr.specs.Content.{Content}
+use Rattle.dap_xdr.specs.Marks.{texts_before, IsMark}
 use Rattle.dap_xdr.specs.Overlay.{overlay, IsPut}
 use Rattle.dap_xdr.specs.Portion.{text_in, texts_of, Portion}
-use Rattle.dap_xdr.proofs.FrontLemmas.{drop-both, put-behind, put-full, put-left, put-long}
-
--- the count and the texts before a place
-unfoldable pub texts_before : Content → Portion → ℕ → List ℕ
-texts_before content n place =
-    to_be_bytes w32 (box_len n.sent.slabs)
-    ++ flat_map text_bytes (map (text_in content n) (take place (box_of n.sent.slabs)))
+use Rattle.dap_xdr.proofs.FrontLemmas.{drop-both, put-behind, put-full, put-long}
 
 -- the texts so far are written, as far as they fit, and `left` bytes are still to be passed over
-pub record TextsSoFar (content : Content) (n : Portion) (from filled place left : ℕ) (old now : List ℕ) : Type 0 where
-  pub put_is : IsPut (drop from (texts_before content n place)) old now filled
-  pub left_is : left ≡ from - length (texts_before content n place)
+pub record TextsSoFar (n : Portion) (from filled place left : ℕ) (old now : List ℕ) : Type 0 where
+  pub put_is : IsPut (drop from (texts_before n place)) old now filled
+  pub left_is : left ≡ from - length (texts_before n place)
 
 -- one text more
-pub texts-more : (content : Content) (n : Portion) (place : ℕ) → place < box_len n.sent.slabs
-    → texts_before content n (place + 1)
-    ≡ texts_before content n place ++ text_bytes (text_in content n (index_at n.sent.slabs place))
+pub texts-more : (n : Portion) (place : ℕ) → place < box_len n.sent.slabs
+    → texts_before n (place + 1)
+    ≡ texts_before n place ++ text_bytes (text_in n (index_at n.sent.slabs place))
 unfolding texts_before
-texts-more content n place within =
+texts-more n place within =
     let box = box_of n.sent.slabs in
-    let w = text_in content n in
+    let w = text_in n in
     let long : place < length box = subst (λ (m : ℕ). place < m) (sym (length-box_of n.sent.slabs)) within in
     let next : place + 1 ≡ suc place = omega arith in
     let one : take (place + 1) box ≡ take place box ++ index_at n.sent.slabs place ∷ [] =
@@ -46,64 +40,98 @@ texts-more content n place within =
     (append-nil (text_bytes (w (index_at n.sent.slabs place)))))
 
 -- the texts from a place on
-texts_behind : Content → Portion → ℕ → List ℕ
-texts_behind content n place = flat_map text_bytes (map (text_in content n) (drop place (box_of n.sent.slabs)))
+texts_behind : Portion → ℕ → List ℕ
+texts_behind n place = flat_map text_bytes (map (text_in n) (drop place (box_of n.sent.slabs)))
 
 -- all texts are those before a place and those from there on
-texts-split : (content : Content) (n : Portion) (place : ℕ)
-    → texts_of content n ≡ texts_before content n place ++ texts_behind content n place
+texts-split : (n : Portion) (place : ℕ)
+    → texts_of n ≡ texts_before n place ++ texts_behind n place
 unfolding texts_before texts_behind texts_of texts_bytes
-texts-split content n place =
+texts-split n place =
     let box = box_of n.sent.slabs in
-    let w = text_in content n in
+    let w = text_in n in
     let many : length (map w box) ≡ box_len n.sent.slabs = length-map box w ∙ length-box_of n.sent.slabs in
     ap₂ (λ (m : ℕ) (l : List ℕ). to_be_bytes w32 m ++ l) many
     (ap (λ (l : List (List ℕ)). flat_map text_bytes (map w l)) (sym (take-append-drop place box))
     ∙ ap (flat_map text_bytes) (map-append w (take place box) (drop place box))
     ∙ flat_map-append text_bytes (map w (take place box)) (map w (drop place box)))
 
-texts-none : (content : Content) (n : Portion) (place : ℕ) → box_len n.sent.slabs ≤ place
-    → texts_behind content n place ≡ []
+texts-none : (n : Portion) (place : ℕ) → box_len n.sent.slabs ≤ place
+    → texts_behind n place ≡ []
 unfolding texts_behind
-texts-none content n place past =
-    ap (λ (l : List (List ℕ)). flat_map text_bytes (map (text_in content n) l))
+texts-none n place past =
+    ap (λ (l : List (List ℕ)). flat_map text_bytes (map (text_in n) l))
     (drop_all place (box_of n.sent.slabs) (subst (λ (m : ℕ). m ≤ place) (sym (length-box_of n.sent.slabs)) past))
 
 -- those before the end are all
-pub texts-whole : (content : Content) (n : Portion) (place : ℕ) → box_len n.sent.slabs ≤ place
-    → texts_before content n place ≡ texts_of content n
-texts-whole content n place past =
-    sym (texts-split content n place
-    ∙ ap (λ (l : List ℕ). texts_before content n place ++ l) (texts-none content n place past)
-    ∙ append-nil (texts_before content n place))
+pub texts-whole : (n : Portion) (place : ℕ) → box_len n.sent.slabs ≤ place
+    → texts_before n place ≡ texts_of n
+texts-whole n place past =
+    sym (texts-split n place
+    ∙ ap (λ (l : List ℕ). texts_before n place ++ l) (texts-none n place past)
+    ∙ append-nil (texts_before n place))
 
--- before the first text stands the count
-pub texts-first : (content : Content) (n : Portion) (from filled left : ℕ) (count old now : List ℕ)
+-- the texts behind the count are written behind it
+pub texts-start : (n : Portion) (count old mid front back rest : List ℕ) (from first second left : ℕ)
     → count ≡ to_be_bytes w32 (box_len n.sent.slabs)
-    → filled ≡ min (length old) (length count - from) → now ≡ overlay (drop from count) old → left ≡ from - 4
-    → TextsSoFar content n from filled 0 left old now
+    → first ≡ min (length old) (length count - from) → mid ≡ overlay (drop from count) old
+    → mid ≡ front ++ back → length front ≡ first → left ≡ from - 4
+    → IsPut (drop (length (texts_before n 0) + left) (texts_of n)) back rest second
+    → IsPut (drop from (texts_of n)) old (front ++ rest) (first + second)
 unfolding texts_before
-texts-first content n from filled left count old now is many written passed =
-    let first : count ≡ texts_before content n 0 = is ∙ sym (append-nil (to_be_bytes w32 (box_len n.sent.slabs))) in
+texts-start n count old mid front back rest from first second left is many written split long passed put =
+    let none = texts_before n 0 in
+    let behind = texts_behind n 0 in
+    let all = texts-split n 0 in
+    let head : count ≡ none = is ∙ sym (append-nil (to_be_bytes w32 (box_len n.sent.slabs))) in
+    let four : 4 ≡ length none = refl in
+    let reached : drop (length none + left) (texts_of n) ≡ drop left behind =
+    ap (drop (length none + left)) all ∙ drop-append-add none behind left in
+    subst (λ (l : List ℕ). IsPut (drop from l) old (front ++ rest) (first + second)) (sym all)
+    (put-behind none behind old mid front back rest from first second left
+    (many ∙ ap (λ (l : List ℕ). min (length old) (length l - from)) head)
+    (written ∙ ap (λ (l : List ℕ). overlay (drop from l) old) head) split long
+    (passed ∙ ap (λ (m : ℕ). from - m) four)
+    (subst (λ (l : List ℕ). IsPut l back rest second) reached put))
+
+-- what is left behind a mark is what is left of all
+pub texts-from-mark : (n : Portion) (place offset from count : ℕ) (old new : List ℕ) → IsMark n place offset
+    → offset ≤ from
+    → IsPut (drop (length (texts_before n place) + (from - offset)) (texts_of n)) old new count
+    → IsPut (drop from (texts_of n)) old new count
+texts-from-mark n place offset from count old new mark passed put =
+    let whole : length (texts_before n place) + (from - offset) ≡ from = omega (arith, mark.offset_is, passed) in
+    subst (λ (m : ℕ). IsPut (drop m (texts_of n)) old new count) whole put
+
+-- where a mark is passed over, all before it is
+pub texts-marked : (n : Portion) (from place offset left : ℕ) (old : List ℕ) → IsMark n place offset → offset ≤ from
+    → left ≡ from - offset → TextsSoFar n from 0 place left old old
+unfolding overlay
+texts-marked n from place offset left old mark passed left_is =
+    let none : drop from (texts_before n place) ≡ [] =
+    drop_all from (texts_before n place) (omega (arith, passed, mark.offset_is)) in
     record {
-      put_is = subst (λ (l : List ℕ). IsPut (drop from l) old now filled) first (put-left count old now from filled
-          many written);
-      left_is = passed;
+      put_is = subst (λ (l : List ℕ). IsPut l old old 0) (sym none)
+          (record {
+            count_is = omega arith;
+            new_is = ap (λ (l : List ℕ). l ++ old) (sym (take_all (length old) [] (omega arith)));
+          });
+      left_is = left_is ∙ ap (λ (m : ℕ). from - m) mark.offset_is;
     }
 
 -- the next text
-pub texts-next : (content : Content) (n : Portion) (from filled place left count next_left : ℕ)
+pub texts-next : (n : Portion) (from filled place left count next_left : ℕ)
     (old now front back rest text : List ℕ)
-    → TextsSoFar content n from filled place left old now → place < box_len n.sent.slabs
-    → text ≡ text_in content n (index_at n.sent.slabs place)
+    → TextsSoFar n from filled place left old now → place < box_len n.sent.slabs
+    → text ≡ text_in n (index_at n.sent.slabs place)
     → now ≡ front ++ back → length front ≡ filled → IsPut (drop left (text_bytes text)) back rest count
     → next_left ≡ left - text_len (length text)
-    → TextsSoFar content n from (filled + count) (place + 1) next_left old (front ++ rest)
-texts-next content n from filled place left count next_left old now front back rest text so within is split long put
+    → TextsSoFar n from (filled + count) (place + 1) next_left old (front ++ rest)
+texts-next n from filled place left count next_left old now front back rest text so within is split long put
     passed =
-    let before = texts_before content n place in
-    let more : before ++ text_bytes text ≡ texts_before content n (place + 1) =
-    ap (λ (l : List ℕ). before ++ text_bytes l) is ∙ sym (texts-more content n place within) in
+    let before = texts_before n place in
+    let more : before ++ text_bytes text ≡ texts_before n (place + 1) =
+    ap (λ (l : List ℕ). before ++ text_bytes l) is ∙ sym (texts-more n place within) in
     let many : filled ≡ min (length old) (length before - from) =
     so.put_is.count_is ∙ ap (λ (m : ℕ). min (length old) m) (length-drop from before) in
     record {
@@ -121,19 +149,19 @@ texts-next content n from filled place left count next_left old now front back r
     }
 
 -- where the buffer is full
-pub texts-full : (content : Content) (n : Portion) (from filled place left : ℕ) (old now : List ℕ)
-    → TextsSoFar content n from filled place left old now → length now ≤ filled
-    → IsPut (drop from (texts_of content n)) old now filled
-texts-full content n from filled place left old now so full =
-    let all = texts-split content n place in
+pub texts-full : (n : Portion) (from filled place left : ℕ) (old now : List ℕ)
+    → TextsSoFar n from filled place left old now → length now ≤ filled
+    → IsPut (drop from (texts_of n)) old now filled
+texts-full n from filled place left old now so full =
+    let all = texts-split n place in
     subst (λ (l : List ℕ). IsPut l old now filled)
-    (sym (ap (drop from) all ∙ drop-both (texts_before content n place) (texts_behind content n place) from))
-    (put-full (drop from (texts_before content n place)) _ old now filled so.put_is
+    (sym (ap (drop from) all ∙ drop-both (texts_before n place) (texts_behind n place) from))
+    (put-full (drop from (texts_before n place)) _ old now filled so.put_is
     (subst (λ (m : ℕ). m ≤ filled) (put-long _ old now filled so.put_is) full))
 
 -- where no text is left
-pub texts-done : (content : Content) (n : Portion) (from filled place left : ℕ) (old now : List ℕ)
-    → TextsSoFar content n from filled place left old now → box_len n.sent.slabs ≤ place
-    → IsPut (drop from (texts_of content n)) old now filled
-texts-done content n from filled place left old now so past =
-    subst (λ (l : List ℕ). IsPut (drop from l) old now filled) (texts-whole content n place past) so.put_is
+pub texts-done : (n : Portion) (from filled place left : ℕ) (old now : List ℕ)
+    → TextsSoFar n from filled place left old now → box_len n.sent.slabs ≤ place
+    → IsPut (drop from (texts_of n)) old now filled
+texts-done n from filled place left old now so past =
+    subst (λ (l : List ℕ). IsPut (drop from l) old now filled) (texts-whole n place past) so.put_is

@@ -1,4 +1,4 @@
--- What is sent of a dataset's values (ESE-RFC-004, the data of DAP 2.0), by what a source of values shows.
+-- What is sent of a dataset's values (ESE-RFC-004, the data of DAP 2.0), by what it shows.
 use Rattle.std.specs.Prelude.{ℕ, List, [], slice_get, Option, option_and_then}
 use Rattle.std.specs.List.{flat_map, AllZip}
 use Rattle.std.specs.Option.{option_map_or}
@@ -9,7 +9,7 @@ use Rattle.dap_model.specs.Picking.{parts_of}
 use Rattle.dap_model.specs.ProjectionFacts.{FitsDim}
 use Rattle.dap_model.specs.Xdr.{xdr_of, values_at}
 
--- what a source of values shows: its declarations, and by declaration, part and index list the bits of each number and
+-- what a dataset shows: its declarations, and by declaration, part and index list the bits of each number and
 -- each text
 pub record Content : Type 0 where
   pub decls : List Decl

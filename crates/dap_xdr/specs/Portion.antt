@@ -6,45 +6,53 @@ use Rattle.dap_model.specs.declared.projection.Sent.{Sent}
 use Rattle.dap_model.specs.Box.{box_len, box_of}
 use Rattle.dap_model.specs.ProjectionFacts.{FitsDim}
 use Rattle.dap_model.specs.Xdr.{array_bytes, element_bytes, element_len, texts_bytes, zeros_after}
-use Rattle.fm_dataset.specs.Values.{IsSmall}
-use Rattle.dap_xdr.specs.Content.{array_in, Content}
+use Rattle.fm_dataset.specs.Columns.{PartOf}
+use Rattle.fm_dataset.specs.Values.{IsSmall, Shown}
+use Rattle.dap_xdr.specs.Content.{array_data, array_in}
+use Rattle.dap_xdr.specs.Datasets.{content_of}
 
--- an array, and what is sent of it
+-- an array, what is sent of it, and what the dataset shows whose part it is
 pub record Portion : Type 0 where
+  pub shown : Shown
   pub sent : Sent
   pub array : Array
 
--- the slabs fit the array
+-- what is sent of the array of a column
+abbrev pub portion_of : PartOf → Sent → Array → Portion
+portion_of column sent array = record { shown = column.shown; sent = sent; array = array }
+
+-- the array is the part that is sent, and the slabs fit it
 pub record IsPortion (n : Portion) : Type 0 where
+  pub part_is : array_in (content_of n.shown).decls n.sent.decl n.sent.part ≡ Some n.array
   pub fits : AllZip FitsDim n.array.dims n.sent.slabs
   pub small : IsSmall n.array
 
--- the array is the part of the source that is sent
-abbrev pub IsOf : Content → Portion → Type 0
-IsOf content n = array_in content.decls n.sent.decl n.sent.part ≡ Some n.array
+-- the bytes of what is sent
+abbrev pub data_in : Portion → List ℕ
+data_in n = array_data (content_of n.shown) n.sent n.array
 
 -- the bits at an index list
-abbrev pub bits_in : Content → Portion → List ℕ → ℕ
-bits_in content n = content.bits n.sent.decl n.sent.part
+abbrev pub bits_in : Portion → List ℕ → ℕ
+bits_in n = (content_of n.shown).bits n.sent.decl n.sent.part
 
 -- the bytes of the numbers that are sent from a place on
-unfoldable pub numbers_from : Content → Portion → ℕ → List ℕ
-numbers_from content n place =
-    flat_map (element_bytes n.array.kind) (map (bits_in content n) (drop place (box_of n.sent.slabs)))
+unfoldable pub numbers_from : Portion → ℕ → List ℕ
+numbers_from n place =
+    flat_map (element_bytes n.array.kind) (map (bits_in n) (drop place (box_of n.sent.slabs)))
 
 -- their bytes, and zero bytes up to a multiple of four
-unfoldable pub body_of : Content → Portion → List ℕ
-body_of content n =
-    numbers_from content n 0 ++ zeros_after (box_len n.sent.slabs * element_len n.array.kind)
+unfoldable pub body_of : Portion → List ℕ
+body_of n =
+    numbers_from n 0 ++ zeros_after (box_len n.sent.slabs * element_len n.array.kind)
 
 -- the bytes of an array of numbers: how many there are, twice, the numbers, and zero bytes up to a multiple of four
-unfoldable pub array_of : Content → Portion → List ℕ
-array_of content n = array_bytes n.array.kind (map (bits_in content n) (box_of n.sent.slabs))
+unfoldable pub array_of : Portion → List ℕ
+array_of n = array_bytes n.array.kind (map (bits_in n) (box_of n.sent.slabs))
 
 -- the text at an index list
-abbrev pub text_in : Content → Portion → List ℕ → List ℕ
-text_in content n = content.text n.sent.decl n.sent.part
+abbrev pub text_in : Portion → List ℕ → List ℕ
+text_in n = (content_of n.shown).text n.sent.decl n.sent.part
 
 -- the bytes of an array of texts: how many there are, and each of them
-unfoldable pub texts_of : Content → Portion → List ℕ
-texts_of content n = texts_bytes (map (text_in content n) (box_of n.sent.slabs))
+unfoldable pub texts_of : Portion → List ℕ
+texts_of n = texts_bytes (map (text_in n) (box_of n.sent.slabs))

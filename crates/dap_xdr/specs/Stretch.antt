@@ -1,5 +1,5 @@
 -- Numbers that an array has one after the other and slabs pick one after the other.
-use Rattle.std.specs.Prelude.{◌≡◌, ℕ, ◌-◌, ◌%◌, ◌+◌, ◌*◌, ◌≤◌, List, [], ◌∷◌, map, take, drop, Bool, true, ◌==◌, ◌&&◌, if◌then◌else◌, All}
+use Rattle.std.specs.Prelude.{◌≡◌, ℕ, ◌-◌, ◌/◌, ◌%◌, ◌+◌, ◌*◌, ◌≤◌, List, [], ◌∷◌, map, take, drop, Bool, true, nat_lt, ◌==◌, ◌&&◌, if◌then◌else◌, All}
 use Rattle.std.specs.Int.{w16, w32, w64, to_be_bytes}
 use Rattle.std.specs.List.{flat_map}
 use Rattle.nc_model.specs.declared.header.Dim.{Dim}
@@ -21,6 +21,15 @@ stored_bytes Int32 bits = to_be_bytes w32 bits
 stored_bytes Float32 bits = to_be_bytes w32 bits
 stored_bytes Float64 bits = to_be_bytes w64 bits
 stored_bytes Text bits = []
+
+-- how many bytes that takes
+unfoldable pub stored_len : DapKind → ℕ
+stored_len Byte = 1
+stored_len Int16 = 2
+stored_len Int32 = 4
+stored_len Float32 = 4
+stored_len Float64 = 8
+stored_len Text = 0
 
 -- the bytes are those of these numbers, each of this kind
 pub record AreBytesOf (kind : DapKind) (numbers bytes : List ℕ) : Type 0 where
@@ -45,21 +54,50 @@ pub record ArePicked (kind : DapKind) (bits : List ℕ → ℕ) (slabs : List Sl
 unfoldable pub is_whole : ℕ → Slab → Bool
 is_whole size slab = slab.start == 0 && slab.stride == 1 && slab.stop + 1 == size
 
--- the extent with the slab of one dimension before it: where it has stride 1 and those after it are whole, all that it
--- picks with them stands together
+-- a slab has stride 1 and those behind it are whole, so that all that it picks with them stands together
+abbrev pub stands_together : Slab → Extent → Bool
+stands_together slab extent = slab.stride == 1 && extent.whole
+
+-- all that is picked behind a slab stands together, and the slab picks some of that more than once
+abbrev pub begins_turns : Slab → Extent → Bool
+begins_turns slab extent = extent.unit == extent.count && nat_lt 1 (slab_count slab)
+
+-- the extent with the slab of one dimension before it. What stands together is a unit. The first slab before the unit
+-- that picks more than one index gives the turns: how many units follow each other, and how far each is from the last
 abbrev pub extent_before : ℕ → Slab → Extent → Extent
 extent_before size slab extent = record {
   count = slab_count slab * extent.count;
-  unit = if slab.stride == 1 && extent.whole then slab_count slab * extent.count else extent.unit;
+  size = size * extent.size;
+  unit = if stands_together slab extent then slab_count slab * extent.count else extent.unit;
+  turns =
+      if stands_together slab extent
+      then 1
+      else if begins_turns slab extent
+      then slab_count slab
+      else extent.turns;
+  pitch =
+      if stands_together slab extent
+      then 0
+      else if begins_turns slab extent
+      then slab.stride * extent.size
+      else extent.pitch;
   whole = is_whole size slab && extent.whole;
 }
 
+-- the extent of no slab
+abbrev pub no_extent : Extent
+no_extent = record { count = 1; size = 1; unit = 1; turns = 1; pitch = 0; whole = true }
+
 -- the extent of slabs of dimensions
 unfoldable pub extent_of : List Dim → List Slab → Extent
-extent_of [] slabs = record { count = 1; unit = 1; whole = true }
-extent_of (dim ∷ dims) [] = record { count = 1; unit = 1; whole = true }
+extent_of [] slabs = no_extent
+extent_of (dim ∷ dims) [] = no_extent
 extent_of (dim ∷ dims) (slab ∷ slabs) = extent_before dim.size slab (extent_of dims slabs)
 
 -- how many of what slabs pick stand together in the array from a place on
 abbrev pub left_at : List Dim → List Slab → ℕ → ℕ
 left_at dims slabs place = (extent_of dims slabs).unit - place % (extent_of dims slabs).unit
+
+-- how many units are left of the turns from a place on
+abbrev pub turns_at : Extent → ℕ → ℕ
+turns_at extent place = extent.turns - place / extent.unit % extent.turns

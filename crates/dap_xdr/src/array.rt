@@ -4,13 +4,12 @@ ghost use Rattle.std.specs.Int.{w32, to_be_bytes};
 ghost use Rattle.dap_model.specs.Box.{box_len};
 ghost use Rattle.dap_model.specs.declared.declaration.DapKind.{DapKind};
 ghost use Rattle.dap_model.specs.Xdr.{count_twice, element_len, zeros_after};
-ghost use Rattle.dap_xdr.specs.Portion.{array_of, body_of, IsOf};
+ghost use Rattle.dap_xdr.specs.Portion.{array_of, body_of};
 ghost use Rattle.dap_xdr.specs.Overlay.{overlay, IsPut};
 
 use crate::elements::put_elements;
 use crate::kind::element_len;
 use crate::part::Part;
-use crate::source::Source;
 use crate::writing::put;
 
 // A count in four bytes.
@@ -40,41 +39,27 @@ pub(crate) fn put_zeros(len: u64, from: u64, out: &mut [u8]) -> usize
 }
 
 // Writes the numbers and the zero bytes after them from an offset on.
-fn put_body<S: Source>(
-    source: &S,
-    part: &Part,
-    from: u64,
-    out: &mut [u8],
-    index: &mut [u64],
-) -> usize
-    requires source { IsOf (S.content source.now) part.now }
+fn put_body(part: &Part, from: u64, out: &mut [u8], index: &mut [u64]) -> usize
     requires number { part.now.array.kind ≢ DapKind.Text }
     requires index { length index.old ≡ length part.now.sent.slabs }
     requires small { box_len part.now.sent.slabs * element_len part.now.array.kind < 2 ^ 64 }
-    ensures { IsPut (drop from (body_of (S.content source.now) part.now)) out.old out.new result }
+    ensures { IsPut (drop from (body_of part.now)) out.old out.new result }
 {
     let len = part.count() * element_len(part.kind());
-    let count = put_elements(source, part, from, out, index);
+    let count = put_elements(part, from, out, index);
     let (_, rest) = out.split_at_mut(count);
     count + put_zeros(len, from.saturating_sub(len), rest)
 }
 
 // Writes the bytes of an array of numbers from an offset on, as many as fit. The buffer `index` has room for an index
 // list.
-pub(crate) fn put_array<S: Source>(
-    source: &S,
-    part: &Part,
-    from: u64,
-    out: &mut [u8],
-    index: &mut [u64],
-) -> usize
-    requires source { IsOf (S.content source.now) part.now }
+pub(crate) fn put_array(part: &Part, from: u64, out: &mut [u8], index: &mut [u64]) -> usize
     requires number { part.now.array.kind ≢ DapKind.Text }
     requires index { length index.old ≡ length part.now.sent.slabs }
     requires small { box_len part.now.sent.slabs * element_len part.now.array.kind < 2 ^ 64 }
-    ensures { IsPut (drop from (array_of (S.content source.now) part.now)) out.old out.new result }
+    ensures { IsPut (drop from (array_of part.now)) out.old out.new result }
 {
     let count = put(&count_twice(part.count()), from, out);
     let (_, rest) = out.split_at_mut(count);
-    count + put_body(source, part, from.saturating_sub(8), rest, index)
+    count + put_body(part, from.saturating_sub(8), rest, index)
 }

@@ -1,11 +1,14 @@
 //! The array that is a part of a declaration.
 ghost use Rattle.std.specs.Prelude.{◌≡◌, IsSomeAnd, Some};
-ghost use Rattle.dap_xdr.specs.Content.{array_data, array_in, part_data, FitsArray};
-ghost use Rattle.dap_xdr.specs.Portion.{IsOf, IsPortion};
+ghost use Rattle.fm_model.specs.Site.{IsPrototype};
+ghost use Rattle.fm_dataset.specs.Rows.{AreRows};
+ghost use Rattle.dap_xdr.specs.Content.{array_in, FitsArray};
+ghost use Rattle.dap_xdr.specs.Datasets.{content_of};
+ghost use Rattle.dap_xdr.specs.Portion.{IsPortion};
 
-use crate::source::Source;
 use dap_model::{Array, Decl, Sent};
 use dap_slab::part_of;
+use fm_dataset::Dataset;
 
 // The array of what is sent.
 #[tactic(auto, unfolding(crate::specs::Content::array_in))]
@@ -20,12 +23,12 @@ fn array_in<'a>(decls: &'a [Decl], sent: &Sent) -> &'a Array
     array
 }
 
-// The array of what is sent of a source, whose data is that of the part.
-pub(crate) fn array_of<'a, S: Source>(source: &'a S, sent: &Sent) -> &'a Array
-    requires { IsSomeAnd (array_in (S.content source.now).decls sent.now.decl sent.now.part) (FitsArray sent.now) }
-    ensures source { IsOf (S.content source.now) (record { sent = sent.now; array = result.now }) }
-    ensures portion { IsPortion (record { sent = sent.now; array = result.now }) }
-    ensures data { array_data (S.content source.now) sent.now result.now ≡ part_data (S.content source.now) sent.now }
+// The array of what is sent of a dataset.
+pub(crate) fn array_of<'a>(set: &'a Dataset, sent: &Sent) -> &'a Array
+    requires part { IsSomeAnd (array_in (content_of set.now).decls sent.now.decl sent.now.part) (FitsArray sent.now) }
+    requires prototype { IsPrototype set.now.proto }
+    requires rows { AreRows set.now.proto set.now.rows }
+    ensures { IsPortion (record { shown = set.now; sent = sent.now; array = result.now }) }
 {
-    array_in(source.decls(), sent)
+    array_in(set.decls().as_slice(), sent)
 }

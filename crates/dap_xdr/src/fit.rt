@@ -1,12 +1,13 @@
-//! Whether a part is one of a source, with slabs that fit it.
+//! Whether a part is one of a dataset, with slabs that fit it.
 ghost use Rattle.std.specs.Prelude.{◌↔◌, IsSomeAnd, IsTrue};
 ghost use Rattle.std.specs.List.{AllZip};
 ghost use Rattle.dap_model.specs.ProjectionFacts.{FitsDim};
 ghost use Rattle.dap_xdr.specs.Content.{array_in, FitsArray};
+ghost use Rattle.dap_xdr.specs.Datasets.{content_of};
 
-use crate::source::Source;
 use dap_model::{Sent, Slab};
 use dap_slab::part_of;
+use fm_dataset::Dataset;
 use nc_model::Dim;
 
 // Whether a slab has a stride, and its indices lie within a dimension.
@@ -29,13 +30,13 @@ fn fit_dims(dims: &[Dim], slabs: &[Slab]) -> bool
     }
 }
 
-/// Whether a part is one of the source, with slabs that fit it, as the other calls ask.
+/// Whether a part is one of the dataset, with slabs that fit it, as the other calls ask.
 #[tactic(auto, unfolding(crate::specs::Content::array_in))]
-pub fn fits<S: Source>(source: &S, sent: &Sent) -> bool
+pub fn fits(set: &Dataset, sent: &Sent) -> bool
     ensures { IsTrue result
-        ↔ IsSomeAnd (array_in (S.content source.now).decls sent.now.decl sent.now.part) (FitsArray sent.now) }
+        ↔ IsSomeAnd (array_in (content_of set.now).decls sent.now.decl sent.now.part) (FitsArray sent.now) }
 {
-    let Some(decl) = source.decls().get(sent.decl as usize) else {
+    let Some(decl) = set.decls().as_slice().get(sent.decl as usize) else {
         return false;
     };
     match part_of(decl, sent.part as usize) {

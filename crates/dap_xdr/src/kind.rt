@@ -1,7 +1,8 @@
 //! Numbers as XDR, by their kind.
-ghost use Rattle.std.specs.Prelude.{◌≡◌, ◌-◌, drop, length, min};
+ghost use Rattle.std.specs.Prelude.{◌≡◌, ◌-◌, ◌*◌, ◌≤◌, drop, length, min};
 ghost use Rattle.dap_model.specs.Xdr.{element_bytes, element_len, number_bytes, number_len, AreBitsOf};
 ghost use Rattle.dap_xdr.specs.Overlay.{overlay};
+ghost use Rattle.dap_xdr.specs.Stretch.{stored_len};
 
 use crate::writing::put;
 use dap_model::DapKind;
@@ -16,6 +17,21 @@ pub(crate) fn element_len(kind: DapKind) -> u64
         DapKind::Byte => 1,
         DapKind::Int16 | DapKind::Int32 | DapKind::Float32 => 4,
         DapKind::Float64 => 8,
+    }
+}
+
+// How many bytes `count` numbers take in a netCDF file.
+#[tactic(auto, unfolding(crate::specs::Stretch::stored_len))]
+pub(crate) fn stored_len(kind: DapKind, count: u64) -> u64
+    requires { count ≤ 1_152_921_504_606_846_976 }
+    ensures { result ≡ count * stored_len kind }
+{
+    match kind {
+        DapKind::Text => 0,
+        DapKind::Byte => count,
+        DapKind::Int16 => count * 2,
+        DapKind::Int32 | DapKind::Float32 => count * 4,
+        DapKind::Float64 => count * 8,
     }
 }
 

@@ -2,7 +2,6 @@
 #![tactic(auto)]
 
 mod array;
-mod dataset;
 mod elements;
 mod find;
 mod fit;
@@ -11,8 +10,8 @@ mod len;
 mod lending;
 mod part;
 mod piece;
+mod rows;
 mod slabs;
-mod source;
 mod stored;
 mod text;
 mod texts;
@@ -20,8 +19,7 @@ mod widen;
 mod writing;
 
 pub use fit::fits;
-pub use len::xdr_len;
+pub use len::{Marked, xdr_len, xdr_marks};
 pub use lending::lent;
-pub use piece::xdr_piece;
-pub use source::Source;
+pub use piece::{xdr_piece, xdr_piece_marked};
 pub use writing::put;

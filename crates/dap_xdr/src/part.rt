@@ -1,15 +1,20 @@
 //! A portion of an array: what is sent of it.
-ghost use Rattle.std.specs.Prelude.{◌≡◌, ◌≢◌, ◌<◌, ◌≤◌, ◌^◌, length};
+ghost use Rattle.std.specs.Prelude.{◌≡◌, ◌≢◌, ◌+◌, ◌-◌, ◌<◌, ◌≤◌, ◌^◌, [], length, IsSomeAnd, IsTrue};
 ghost use Rattle.dap_model.specs.Box.{box_len, index_at};
 ghost use Rattle.dap_model.specs.Xdr.{AreBitsOf};
 ghost use Rattle.dap_model.specs.declared.declaration.DapKind.{DapKind};
-ghost use Rattle.dap_xdr.specs.Portion.{bits_in, text_in, IsPortion, IsOf};
-ghost use Rattle.dap_xdr.specs.Stretch.{left_at, ArePicked};
+ghost use Rattle.dap_xdr.specs.Content.{array_in, part_data, FitsArray};
+ghost use Rattle.dap_xdr.specs.Datasets.{content_of};
+ghost use Rattle.dap_xdr.specs.Portion.{bits_in, data_in, text_in, IsPortion};
+ghost use Rattle.dap_xdr.specs.Rows.{PickRows};
+ghost use Rattle.dap_xdr.specs.Stretch.{left_at, AreStored, ArePicked};
 
+use crate::find::array_of;
+use crate::rows::{Rows, rows_at};
 use crate::slabs::{Extent, extent_of};
-use crate::source::Source;
 use dap_model::{Array, DapKind, Sent};
-use dap_slab::put_index;
+use dap_slab::{advance, put_index};
+use fm_dataset::{Column, Dataset};
 use std::marker::Model;
 
 // The greatest rank of an array.
@@ -18,38 +23,56 @@ pub(crate) const MAX_RANK: usize = 1025;
 // A rank that few arrays pass: room for an index list of it is cleared in no time.
 pub(crate) const FEW: usize = 8;
 
-// An array, the slabs that are sent of it, and how much they pick.
+// A column, its array, the slabs that are sent of it, and how much they pick.
 #[derive(Drop)]
-pub(crate) struct Part<'a> {
-    sent: &'a Sent,
+pub(crate) struct Part<'a, 'b> {
+    column: Column<'a>,
+    sent: &'b Sent,
     array: &'a Array,
     extent: Extent,
 }
 
-impl<'a> Model for Part<'a> {
+impl<'a, 'b> Model for Part<'a, 'b> {
     ghost use Rattle.std.specs.Prelude.{◌≡◌};
-    ghost use Rattle.dap_xdr.specs.Portion.{IsPortion, Portion};
+    ghost use Rattle.dap_xdr.specs.Datasets.{IsColumnOf};
+    ghost use Rattle.dap_xdr.specs.Portion.{portion_of, IsPortion, Portion};
     ghost use Rattle.dap_xdr.specs.Stretch.{extent_of};
 
     ghost Value = { Portion };
 
-    ghost view = { λ n. record { sent = n.sent.now; array = n.array.now } };
+    ghost view = { λ n. portion_of n.column n.sent.now n.array.now };
 
-    ghost invariant = { λ n. IsPortion (record { sent = n.sent.now; array = n.array.now })
+    ghost invariant = { λ n. IsColumnOf n.column n.sent.now
+        × IsPortion (portion_of n.column n.sent.now n.array.now)
         × (n.extent ≡ extent_of n.array.now.dims n.sent.now.slabs) };
 }
 
-impl<'a> Part<'a> {
-    pub fn new(sent: &'a Sent, array: &'a Array) -> Part<'a>
-        requires { IsPortion (record { sent = sent.now; array = array.now }) }
-        ensures { result ≡ record { sent = sent.now; array = array.now } }
+impl<'a, 'b> Part<'a, 'b> {
+    // What is sent of a dataset.
+    pub fn new(set: &'a Dataset, sent: &'b Sent) -> Part<'a, 'b>
+        requires { IsSomeAnd (array_in (content_of set.now).decls sent.now.decl sent.now.part) (FitsArray sent.now) }
+        ensures portion { IsPortion result }
+        ensures shown { result.shown ≡ set.now }
+        ensures sent { result.sent ≡ sent.now }
+        ensures data { data_in result ≡ part_data (content_of set.now) sent.now }
     {
+        let column = set.column(sent.decl, sent.part);
+        let array = array_of(set, sent);
         let extent = extent_of(array.dims.as_slice(), sent.slabs.as_slice());
         Part {
+            column,
             sent,
             array,
             extent,
         }
+    }
+
+    // How many dimensions there are.
+    pub fn rank(&self) -> usize
+        ensures value { result ≡ length self.now.sent.slabs }
+        ensures few { result ≤ 1025 }
+    {
+        self.sent.slabs.len()
     }
 
     // How many numbers or texts are sent.
@@ -66,6 +89,31 @@ impl<'a> Part<'a> {
         self.array.kind
     }
 
+    // Whether numbers stand in a file as they are sent: all but texts and numbers of two bytes.
+    pub fn stands_as_sent(&self) -> bool
+        ensures number { IsTrue result → self.now.array.kind ≢ DapKind.Text }
+        ensures same { IsTrue result → self.now.array.kind ≢ DapKind.Int16 }
+    {
+        match self.kind() {
+            DapKind::Text | DapKind::Int16 => false,
+            _ => true,
+        }
+    }
+
+    // Whether there is an array of texts.
+    pub fn has_texts(&self) -> bool
+        ensures text { IsTrue result → self.now.array.kind ≡ DapKind.Text }
+        ensures many { IsTrue result → self.now.sent.slabs ≢ [] }
+    {
+        if self.rank() == 0 {
+            return false;
+        }
+        match self.kind() {
+            DapKind::Text => true,
+            _ => false,
+        }
+    }
+
     // Writes the index list at a place.
     #[tactic(auto, using(crate::proofs::ExtentLemmas::have_strides))]
     pub fn put_index(&self, place: u64, index: &mut [u64])
@@ -76,16 +124,49 @@ impl<'a> Part<'a> {
         put_index(self.sent.slabs.as_slice(), self.count(), place, index);
     }
 
+    // Whether a number or a text is sent at a place.
+    pub fn has_place(&self, place: u64) -> bool
+        ensures within { IsTrue result → place < box_len self.now.sent.slabs }
+        ensures all { place < box_len self.now.sent.slabs → IsTrue result }
+        ensures few { IsTrue result → place + 1 < 2 ^ 64 }
+    {
+        place < self.count()
+    }
+
+    // Writes the index list at a place, where there is one.
+    pub fn begin_at(&self, place: u64, index: &mut [u64])
+        requires { length index.old ≡ length self.now.sent.slabs }
+        ensures index { place < box_len self.now.sent.slabs → index.new ≡ index_at self.now.sent.slabs place }
+        ensures room { length index.new ≡ length index.old }
+    {
+        if !self.has_place(place) {
+            return;
+        }
+        self.put_index(place, index);
+    }
+
+    // Moves the index list before a place on to the place, where there is one. It takes no division.
+    pub fn go_on_to(&self, place: u64, index: &mut [u64])
+        requires begun { 1 ≤ place }
+        requires before { index.old ≡ index_at self.now.sent.slabs (place - 1) }
+        ensures index { place < box_len self.now.sent.slabs → index.new ≡ index_at self.now.sent.slabs place }
+        ensures room { length index.new ≡ length index.old }
+    {
+        if !self.has_place(place) {
+            return;
+        }
+        advance(self.sent.slabs.as_slice(), index, place);
+    }
+
     // The bits of the number at a place, whose index list stands in `index`.
-    pub fn bits<S: Source>(&self, source: &S, place: u64, index: &[u64]) -> u64
-        requires source { IsOf (S.content source.now) self.now }
+    pub fn bits(&self, place: u64, index: &[u64]) -> u64
         requires number { self.now.array.kind ≢ DapKind.Text }
         requires place { place < box_len self.now.sent.slabs }
         requires index { index.now ≡ index_at self.now.sent.slabs place }
-        ensures exact { result ≡ bits_in (S.content source.now) self.now index.now }
+        ensures exact { result ≡ bits_in self.now index.now }
         ensures width { AreBitsOf self.now.array.kind result }
     {
-        source.bits(self.sent.decl, self.sent.part, index)
+        self.column.bits(index)
     }
 
     // How many numbers from a place on stand together in the array.
@@ -93,39 +174,58 @@ impl<'a> Part<'a> {
         requires place { place < box_len self.now.sent.slabs }
         ensures exact { result ≡ left_at self.now.array.dims self.now.sent.slabs place }
         ensures some { 1 ≤ result }
+        ensures portion { IsPortion self.now }
     {
         self.extent.unit - place % self.extent.unit
     }
 
-    // Numbers from a place on, as they stand in a file: at most `most`, maybe none. Their index list stands in `index`.
-    pub fn raw<'b, S: Source>(
-        &self,
-        source: &'b S,
-        place: u64,
-        index: &[u64],
-        most: u64,
-    ) -> &'b [u8]
-        requires source { IsOf (S.content source.now) self.now }
+    // Numbers of the array from a place on, as they stand in a file: at most `most`, maybe none. Their index list
+    // stands in `index`.
+    pub fn stored(&self, place: u64, index: &[u64], most: u64) -> &'a [u8]
         requires number { self.now.array.kind ≢ DapKind.Text }
         requires place { place < box_len self.now.sent.slabs }
         requires index { index.now ≡ index_at self.now.sent.slabs place }
-        requires some { 1 ≤ most }
-        ensures { ArePicked self.now.array.kind (bits_in (S.content source.now) self.now) self.now.sent.slabs place
-            most result.now }
+        ensures { AreStored self.now.array (bits_in self.now) index.now most result.now }
+    {
+        if !self.column.is_stored() {
+            return b"".as_slice();
+        }
+        let lent = self.column.raw(index, most);
+        lent
+    }
+
+    // Numbers that are sent from a place on, as they stand in a file: at most `most`, maybe none. Their index list
+    // stands in `index`.
+    pub fn raw(&self, place: u64, index: &[u64], most: u64) -> &'a [u8]
+        requires number { self.now.array.kind ≢ DapKind.Text }
+        requires place { place < box_len self.now.sent.slabs }
+        requires index { index.now ≡ index_at self.now.sent.slabs place }
+        ensures { ArePicked self.now.array.kind (bits_in self.now) self.now.sent.slabs place most result.now }
     {
         let most = most.min(self.left(place));
-        source.raw(self.sent.decl, self.sent.part, index, most)
+        self.stored(place, index, most)
+    }
+
+    // What stands in a file from a place on, and the rows in it that are sent: maybe none. The index list of the place
+    // stands in `index`.
+    pub fn rows(&self, place: u64, index: &[u64]) -> (&'a [u8], Rows)
+        requires number { self.now.array.kind ≢ DapKind.Text }
+        requires place { place < box_len self.now.sent.slabs }
+        requires index { index.now ≡ index_at self.now.sent.slabs place }
+        ensures { PickRows self.now place result.1 result.0.now }
+    {
+        let stored = self.stored(place, index, u64::MAX);
+        (stored, rows_at(self.array.kind, self.extent, place))
     }
 
     // The text at a place, whose index list stands in `index`.
-    pub fn text<'b, S: Source>(&self, source: &'b S, place: u64, index: &[u64]) -> &'b [u8]
-        requires source { IsOf (S.content source.now) self.now }
+    pub fn text(&self, place: u64, index: &[u64]) -> &'a [u8]
         requires text { self.now.array.kind ≡ DapKind.Text }
         requires place { place < box_len self.now.sent.slabs }
         requires index { index.now ≡ index_at self.now.sent.slabs place }
-        ensures exact { result.now ≡ text_in (S.content source.now) self.now index.now }
+        ensures exact { result.now ≡ text_in self.now index.now }
         ensures short { length result.now < 2 ^ 32 }
     {
-        source.text(self.sent.decl, self.sent.part, index)
+        self.column.text(index)
     }
 }

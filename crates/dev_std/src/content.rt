@@ -1,5 +1,5 @@
 //! Reads what is left of a reader.
-ghost use Rattle.std.specs.Prelude.{◌≡◌, IfOk, IfSome};
+ghost use Rattle.std.specs.Prelude.{◌≡◌, ◌≤◌, IfOk, IfSome, take};
 ghost use Rattle.dev_std.specs.Content.{IsAllOf};
 ghost use Rattle.dev_traits.specs.Files.{KeepsLimit};
 
@@ -8,10 +8,27 @@ use fm_base::{Fail, List, NoMemory};
 use std::alloc::Global;
 use std::io::{ErrorKind, Read};
 
+// What bytes are found to be of which at most `most` were read: all that there were, or too many.
+#[tactic(auto, using(crate::proofs::ContentLemmas::contents))]
+fn found_in(items: Vec<u8>, limit: u64, most: u64) -> Result<Found, Fail<Failed>>
+    requires { limit ≤ most }
+    ensures limit { IfOk result (KeepsLimit limit) }
+    ensures content { (bytes : _) → items.items ≡ take most bytes → IfOk result (IsAllOf bytes limit) }
+{
+    let read = items.len() as u64;
+    if read > limit {
+        return Ok(Found::TooLong(read));
+    }
+    // The greatest limit has no byte after it. No memory holds such a file.
+    if read == most {
+        return Err(Fail::NoMemory);
+    }
+    Ok(Found::Content(List { items }))
+}
+
 /// All that a reader has left, where it is at most `limit` bytes. They are read in place, into room for `len` bytes,
 /// which grows where there are more. A reader that fails is a fault, and never an end; a read that a signal
 /// interrupts is made again. Of a reader without end at most `limit` bytes and one are read.
-#[tactic(auto, using(crate::proofs::ContentLemmas::contents))]
 pub fn read_to_end<R: Read>(
     alloc: Global,
     reader: &mut R,
@@ -31,13 +48,5 @@ pub fn read_to_end<R: Read>(
             Fail::Fault(Failed)
         });
     }
-    let read = items.len() as u64;
-    if read > limit {
-        return Ok(Found::TooLong(read));
-    }
-    // The greatest limit has no byte after it. No memory holds such a file.
-    if read == most {
-        return Err(Fail::NoMemory);
-    }
-    Ok(Found::Content(List { items }))
+    found_in(items, limit, most)
 }

@@ -1,13 +1,12 @@
 //! Numbers in the hexadecimal form: `0x1.`, a fraction, `p` and an exponent of two.
-ghost use Rattle.std.specs.Prelude.{◌≡◌, ◌++◌, ◌<◌, OnOk};
-ghost use Rattle.fm_bits.specs.Text.{exponent_text, hex_fraction, hex_text};
+ghost use Rattle.std.specs.Prelude.{◌≡◌, ◌++◌, ◌<◌, OnOk, pos, ◌+ℤ◌};
+ghost use Rattle.fm_bits.specs.Text.{exponent_text, hex_fraction, hex_text, high_place};
 
 use crate::digits::{put_count, put_digits};
 use fm_base::{Bytes, NoMemory};
 use std::alloc::Global;
 
 // Writes the number `odd * 2^exponent`.
-#[tactic(auto, unfolding(crate::specs::Text::hex_text, crate::specs::Text::high_place))]
 pub(crate) fn put_hexadecimal(
     alloc: Global,
     odd: u64,
@@ -20,11 +19,16 @@ pub(crate) fn put_hexadecimal(
     out.append(b"0x1")?;
     put_fraction(odd, out)?;
     out.push(b'p')?;
-    put_exponent(
-        alloc,
-        i64::from(exponent) + i64::from(63 - odd.leading_zeros()),
-        out,
-    )
+    put_exponent(alloc, high_exponent(odd, exponent), out)
+}
+
+// The exponent of the highest bit of the number `odd * 2^exponent`.
+#[tactic(auto, unfolding(crate::specs::Text::high_place))]
+fn high_exponent(odd: u64, exponent: i32) -> i64
+    requires { 0 < odd }
+    ensures { result ≡ exponent +ℤ pos (high_place odd) }
+{
+    i64::from(exponent) + i64::from(63 - odd.leading_zeros())
 }
 
 // Writes what stands below the highest bit, in whole digits, and a point before it.

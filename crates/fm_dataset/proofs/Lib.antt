@@ -1,5 +1,6 @@
 pub mod BlockLemmas
 pub mod CountLemmas
+pub mod ColumnLemmas
 pub mod CoordinateLemmas
 pub mod ElementLemmas
 pub mod FileCounts

@@ -1,3 +1,4 @@
+pub mod Columns
 pub mod Declarations
 pub mod Kept
 pub mod Rows

@@ -5,6 +5,7 @@
 mod array;
 mod block;
 mod build;
+mod column;
 mod declare;
 mod grid;
 mod index;
@@ -17,5 +18,6 @@ mod time;
 mod value;
 
 pub use build::dataset;
+pub use column::Column;
 pub use declare::decls;
 pub use shown::Dataset;

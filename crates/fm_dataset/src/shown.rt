@@ -44,6 +44,13 @@ impl Dataset {
         &self.proto
     }
 
+    // The rows.
+    pub(crate) fn rows(&self) -> &Rows
+        ensures { result.now ≡ self.now.rows }
+    {
+        &self.rows
+    }
+
     /// The view.
     pub fn view(&self) -> &ViewName
         ensures { result.now ≡ self.now.view }

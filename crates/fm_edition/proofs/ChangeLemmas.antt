@@ -12,10 +12,11 @@ use Rattle.fm_model.specs.Collection.{after_op, kept_from, without}
 use Rattle.fm_model.proofs.CellLemmas.{has-in, in-has}
 use Rattle.fm_model.proofs.InstantLemmas.{In-runs_of, In-times_of}
 use Rattle.fm_model.proofs.Members.{In}
-use Rattle.fm_edition.specs.declared.maps.by.By.{By}
-use Rattle.fm_edition.specs.declared.maps.by.By.TheVariants.{Run, Time}
-use Rattle.fm_edition.specs.Change.{added, changed, gone, keeps}
-use Rattle.fm_edition.specs.Indexes.{instants, is_among, part, part_after, selects}
+use Rattle.fm_list.specs.declared.by.By.{By}
+use Rattle.fm_list.specs.declared.by.By.TheVariants.{Run, Time}
+use Rattle.fm_list.specs.Change.{added, changed, gone, keeps}
+use Rattle.fm_list.specs.Selected.{part, part_after, selects}
+use Rattle.fm_edition.specs.Indexes.{instants, is_among}
 
 -- two selections in either order
 pub filter-filter : {A : Type 0} (p q : A → Bool) (xs : List A) → filter p (filter q xs) ≡ filter q (filter p xs)

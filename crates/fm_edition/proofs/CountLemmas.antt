@@ -16,13 +16,13 @@ use Rattle.fm_model.specs.Collection.{tally, IsWithin}
 use Rattle.fm_model.specs.Rising.{insert_once, rising}
 use Rattle.fm_model.specs.Rows.{best_row, row_at}
 use Rattle.fm_model.proofs.BestLemmas.{cell-from_Any, IsBest-from_best, value-from_some}
-use Rattle.fm_edition.specs.declared.maps.by.By.TheVariants.{Time}
-use Rattle.fm_edition.specs.Indexes.{entries_of, entry_row, instants, AreParts, Pages}
+use Rattle.fm_list.specs.declared.by.By.TheVariants.{Time}
+use Rattle.fm_edition.specs.Indexes.{entries_of, instants, AreParts, Pages}
 use Rattle.fm_edition.proofs.KeyLemmas.{keys_are}
 use Rattle.fm_edition.proofs.TallyLemmas.{bounds}
 
 -- there is a row exactly where there is a best run
-is_some-best_row : (files : List Loaded) (least : Option ℤ) (valid : ℤ)
+pub is_some-best_row : (files : List Loaded) (least : Option ℤ) (valid : ℤ)
     → is_some (best_row files least valid) ≡ is_some (best files valid least)
 unfolding best_row row_at
 is_some-best_row files least valid = by_best (best files valid least) refl
@@ -37,13 +37,6 @@ is_some-best_row files least valid = by_best (best files valid least) refl
         let there = value-from_some (cell files run valid)
         (cell-from_Any files run valid (IsBest-from_best files valid least run is).has) in
         rw there.1 refl
-
--- the files by a valid time have a row exactly where their best run is found
-pub has_row : (entry : ℤ × List Loaded) (least : Option ℤ) (held : List Loaded) (found : Option ℤ) (there : Bool)
-    → held ≡ entry.1 → found ≡ best held entry.0 least → is_some found ≡ there
-    → is_some (entry_row least entry) ≡ there
-has_row entry least held found there same is test = is_some-best_row entry.1 least entry.0
-    ∙ ap (λ files. is_some (best files entry.0 least)) (sym same) ∙ ap is_some (sym is) ∙ test
 
 -- one more item that something is made of
 pub counted_more : {A B : Type 0} (make : A → Option B) (count : ℕ) (item : A) (rest before : List A) (whole : ℕ)

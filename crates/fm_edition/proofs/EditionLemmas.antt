@@ -1,11 +1,10 @@
 -- What an edition keeps: at the start, after an operation, and after a log.
-use Rattle.std.proofs.Common.{◌≤◌, List, [], ◌∷◌, ◌++◌, length, get_or, arith}
+use Rattle.std.proofs.Common.{◌≤◌, List, [], ◌∷◌, ◌++◌, get_or, arith}
 use Rattle.std.specs.Prelude.{All, fold, not, int_le}
 use Rattle.std.specs.Str.{bytes_eq}
 use Rattle.std.proofs.lemmas.List.Elements.{All-append, All-filter, All-nil}
 use Rattle.fm_model.specs.declared.full.Which.{Which}
 use Rattle.fm_model.specs.declared.full.Which.TheVariants.{Files, Rows, Size}
-use Rattle.fm_model.specs.declared.limit.TheConstants.{MAX_TIMES}
 use Rattle.fm_model.specs.declared.loaded.Loaded.{Loaded}
 use Rattle.fm_model.specs.declared.op.Op.{Op}
 use Rattle.fm_model.specs.declared.op.Op.TheVariants.{Put, Expire, Retract}
@@ -16,8 +15,9 @@ use Rattle.fm_model.specs.Site.{IsPrototype}
 use Rattle.fm_model.proofs.CollectionLemmas.{differ_after}
 use Rattle.fm_model.proofs.FullLemmas.{full_at-none}
 use Rattle.fm_model.proofs.Members.{All-from_each, AllPairs-from_each, each_from_AllPairs}
-use Rattle.fm_model.proofs.TimeLemmas.{few-times}
+use Rattle.fm_model.proofs.TimeLemmas.{few-times, times_are_instants, times_differ}
 use Rattle.fm_edition.specs.Held.{Held, held_after, IsEdition, OpFits}
+use Rattle.fm_list.specs.Selected.{AreSound}
 use Rattle.fm_edition.specs.Log.{CanFollow, held_of, IsLog, IsLogFrom}
 
 within_none : (which : Which) → number_of which (tally []) ≤ limit_of which
@@ -103,7 +103,12 @@ pub CanFollow-from_log : (proto : Proto) (before after : List Op) (op : Op) → 
 unfolding coll
 CanFollow-from_log proto before after op log = follows proto [] before after op log
 
--- files that fit have few times
-pub times_are_few : (proto : Proto) (files : List Loaded) → All (λ file. Fits file proto) files
-    → All (λ (file : Loaded). length file.times ≤ MAX_TIMES) files
-times_are_few proto files fit = λ k d lt. few-times (get_or files k d) proto (fit k d lt)
+-- files that fit have sound times
+pub times_are_sound : (proto : Proto) (files : List Loaded) → All (λ file. Fits file proto) files → AreSound files
+times_are_sound proto files fit = λ k d lt.
+    let file = get_or files k d in
+    record {
+      few = few-times file proto (fit k d lt);
+      differ = times_differ file proto (fit k d lt);
+      instants = times_are_instants file proto (fit k d lt);
+    }

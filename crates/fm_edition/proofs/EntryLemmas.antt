@@ -15,9 +15,10 @@ use Rattle.fm_model.proofs.CellLemmas.{has-in, in-has}
 use Rattle.fm_model.proofs.InstantLemmas.{in_times_of}
 use Rattle.fm_model.proofs.Members.{In, Each, Contains-from_in, in_from_Contains, Each-from_in, Each-in, each_from_All, In-filter, in_filter, In-flat_map, in_flat_map, In-map, in_map}
 use Rattle.fm_model.proofs.RisingLemmas.{in_rising}
-use Rattle.fm_edition.specs.declared.maps.by.By.{By}
-use Rattle.fm_edition.specs.declared.maps.by.By.TheVariants.{Run, Time}
-use Rattle.fm_edition.specs.Indexes.{entries_of, in_page, instants, page_of, part, selects, shown_in, some_of, AreParts, Pages}
+use Rattle.fm_list.specs.declared.by.By.{By}
+use Rattle.fm_list.specs.declared.by.By.TheVariants.{Run, Time}
+use Rattle.fm_list.specs.Selected.{part, selects}
+use Rattle.fm_edition.specs.Indexes.{entries_of, in_page, instants, page_of, shown_in, some_of, AreParts, Pages}
 use Rattle.fm_edition.proofs.ChangeLemmas.{one_of}
 
 -- an entry of a map in order is what is found there

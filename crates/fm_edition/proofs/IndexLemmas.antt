@@ -10,13 +10,14 @@ use Rattle.fm_model.specs.declared.op.Op.{Op}
 use Rattle.fm_model.specs.declared.proto.Proto.{Proto}
 use Rattle.fm_model.specs.Collection.{after_op, tally}
 use Rattle.fm_model.specs.Site.{IsPrototype}
-use Rattle.fm_edition.specs.declared.maps.by.By.{By}
-use Rattle.fm_edition.specs.declared.maps.by.By.TheVariants.{Run, Time}
-use Rattle.fm_edition.specs.Change.{changed}
+use Rattle.fm_list.specs.declared.by.By.{By}
+use Rattle.fm_list.specs.declared.by.By.TheVariants.{Run, Time}
+use Rattle.fm_list.specs.Change.{changed}
 use Rattle.fm_edition.specs.Held.{Held, held_after, IsEdition}
-use Rattle.fm_edition.specs.Indexes.{entries_of, in_page, instants, page_of, page_set, part, rows_at, shown_in, AreBest, AreOrdered, AreParts, IsIndexed, IsTimed, Pages, RowPages}
+use Rattle.fm_list.specs.Selected.{part}
+use Rattle.fm_edition.specs.Indexes.{entries_of, in_page, instants, page_of, page_set, rows_at, shown_in, AreBest, AreOrdered, AreParts, IsIndexed, IsTimed, Pages, RowPages}
 use Rattle.fm_edition.specs.Log.{CanFollow}
-use Rattle.fm_edition.proofs.EditionLemmas.{times_are_few, IsEdition-after, IsEdition-none}
+use Rattle.fm_edition.proofs.EditionLemmas.{times_are_sound, IsEdition-after, IsEdition-none}
 use Rattle.fm_edition.proofs.PageLemmas.{AreParts-after}
 use Rattle.fm_edition.proofs.RowLemmas.{entries_timed}
 
@@ -61,7 +62,7 @@ pub entries_timed-after : (held : Held) (op : Op) (by_time next : Pages) → IsE
     → All IsTimed (entries_of next)
 entries_timed-after held op by_time next sound can are done = entries_timed (after_op held.files op) next
     (AreParts-after Time held.files op by_time next are done.ordered done.set)
-    (times_are_few held.proto (after_op held.files op) (IsEdition-after held op sound can).fit)
+    (times_are_sound held.proto (after_op held.files op) (IsEdition-after held op sound can).fit)
 
 -- the maps after an operation
 pub IsIndexed-after : (held : Held) (op : Op) (before count : Tally) (by_run by_time next_run next_time : Pages)

@@ -10,8 +10,8 @@ use Rattle.fm_model.specs.declared.loaded.Loaded.{Loaded}
 use Rattle.fm_model.proofs.InstantLemmas.{rises_runs_of, rises_times_of}
 use Rattle.fm_model.proofs.Members.{In, Each, EachPair, AllPairs-from_each, each_from_AllPairs, Contains-from_in, in_from_Contains, Each-from_in, Each-in, each_from_All, in_flat_map, In-map, in_map}
 use Rattle.fm_model.proofs.RisingLemmas.{Above, Rises-members}
-use Rattle.fm_edition.specs.declared.maps.by.By.{By}
-use Rattle.fm_edition.specs.declared.maps.by.By.TheVariants.{Run, Time}
+use Rattle.fm_list.specs.declared.by.By.{By}
+use Rattle.fm_list.specs.declared.by.By.TheVariants.{Run, Time}
 use Rattle.fm_edition.specs.Indexes.{entries_of, instants, page_of, AreParts, Pages}
 use Rattle.fm_edition.proofs.EntryLemmas.{key_held, key_there, shown_entry}
 use Rattle.fm_edition.proofs.OrderLemmas.{Rises-from_sorted}

@@ -1,6 +1,4 @@
 pub mod BestLemmas
-pub mod BestSteps
-pub mod CellSteps
 pub mod ChangeLemmas
 pub mod CountLemmas
 pub mod EditionLemmas
@@ -8,8 +6,11 @@ pub mod PageLemmas
 pub mod EntryLemmas
 pub mod IndexLemmas
 pub mod KeyLemmas
+pub mod LeastLemmas
+pub mod LeastSteps
 pub mod OrderLemmas
 pub mod PartLemmas
 pub mod RowLemmas
+pub mod RunLemmas
 pub mod TallyLemmas
 pub mod WalkLemmas

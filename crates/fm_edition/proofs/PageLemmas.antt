@@ -10,9 +10,10 @@ use Rattle.std.proofs.lemmas.List.Folds.{list_any-append}
 use Rattle.fm_model.specs.declared.loaded.Loaded.{Loaded}
 use Rattle.fm_model.specs.declared.op.Op.{Op}
 use Rattle.fm_model.specs.Collection.{after_op}
-use Rattle.fm_edition.specs.declared.maps.by.By.{By}
-use Rattle.fm_edition.specs.Change.{changed}
-use Rattle.fm_edition.specs.Indexes.{in_page, instants, is_among, or_none, page_of, page_set, part, part_after, shown_in, some_of, updated, AreOrdered, AreParts, Pages}
+use Rattle.fm_list.specs.declared.by.By.{By}
+use Rattle.fm_list.specs.Change.{changed}
+use Rattle.fm_list.specs.Selected.{part, part_after}
+use Rattle.fm_edition.specs.Indexes.{in_page, instants, is_among, or_none, page_of, page_set, shown_in, some_of, updated, AreOrdered, AreParts, Pages}
 use Rattle.fm_edition.proofs.ChangeLemmas.{part-after, part-untouched}
 
 -- entries that are clones are the same

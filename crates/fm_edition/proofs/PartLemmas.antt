@@ -1,21 +1,21 @@
 -- What is looked up among the files by an instant is what is looked up among all files.
-use Rattle.std.proofs.Common.{◌≡◌, ◌≤◌, Bool, true, false, List, [], ◌∷◌, length, Option, Some, None, ℤ, refl, sym, ap, ◌∙◌}
-use Rattle.std.specs.Prelude.{All, filter, if◌then◌else◌}
+use Rattle.std.proofs.Common.{◌≡◌, Bool, true, false, List, [], ◌∷◌, Option, Some, None, ℤ, refl, sym, ap, ◌∙◌}
+use Rattle.std.specs.Prelude.{filter, if◌then◌else◌}
 use Rattle.std.specs.Option.{option_map, option_or}
 use Rattle.std.specs.Ordering.{int_eq}
 use Rattle.std.specs.Cmp.{signed_Decides}
 use Rattle.std.proofs.lemmas.Bool.{and_parts, both_ways}
 use Rattle.std.proofs.lemmas.List.Elements.{All-filter}
-use Rattle.fm_model.specs.declared.limit.TheConstants.{MAX_TIMES}
 use Rattle.fm_model.specs.declared.loaded.Loaded.{Loaded}
 use Rattle.fm_model.specs.Cell.{best, cell, has_cell, has_time, last_such, place_of_time, times_of, times_of_run, HasCell, HasTimeFrom}
 use Rattle.fm_model.proofs.BestLemmas.{IsBest-from_best, best-from_IsBest, no_best_both}
 use Rattle.fm_model.proofs.CellLemmas.{in-has}
 use Rattle.fm_model.proofs.Members.{All-from_each, Any-from_in, Each-from_in, In-filter, in_filter, in_from_Any, in_from_Contains}
 use Rattle.fm_model.proofs.CollectionLemmas.{filter-filter}
-use Rattle.fm_edition.specs.declared.maps.by.By.{By}
-use Rattle.fm_edition.specs.declared.maps.by.By.TheVariants.{Run, Time}
-use Rattle.fm_edition.specs.Indexes.{in_page, or_none, page_of, part, selects, shown_in, AreParts, HaveTime, Pages}
+use Rattle.fm_list.specs.declared.by.By.{By}
+use Rattle.fm_list.specs.declared.by.By.TheVariants.{Run, Time}
+use Rattle.fm_list.specs.Selected.{part, selects, AreSound, HasSoundTimes, HaveTime}
+use Rattle.fm_edition.specs.Indexes.{in_page, or_none, page_of, shown_in, AreParts, Pages}
 use Rattle.fm_edition.proofs.PageLemmas.{or_none-some_of}
 
 or_nothing : {A : Type 0} (o : Option A) → option_or o None ≡ o
@@ -23,8 +23,8 @@ or_nothing None = refl
 or_nothing (Some x) = refl
 
 -- a selection that has each item that passes has the last of them
-last_such-filter : {A : Type 0} (test selects : A → Bool) → ((x : A) → test x ≡ true → selects x ≡ true) → (xs : List A)
-    → last_such test (filter selects xs) ≡ last_such test xs
+pub last_such-filter : {A : Type 0} (test selects : A → Bool) → ((x : A) → test x ≡ true → selects x ≡ true)
+    → (xs : List A) → last_such test (filter selects xs) ≡ last_such test xs
 last_such-filter test selects has [] = refl
 last_such-filter {A} test selects has (x ∷ xs) = by_tests (selects x) (test x) refl refl
     (last_such-filter test selects has xs)
@@ -74,11 +74,10 @@ pub times_of_run-part : (files : List Loaded) (run : ℤ) → times_of_run (part
 unfolding times_of_run part selects
 times_of_run-part files run = ap times_of (filter-filter (λ (f : Loaded). int_eq f.run run) files)
 
-pub few-part : (by : By) (files : List Loaded) (key : ℤ)
-    → All (λ (file : Loaded). length file.times ≤ MAX_TIMES) files
-    → All (λ (file : Loaded). length file.times ≤ MAX_TIMES) (part by files key)
+pub sound-part : (by : By) (files : List Loaded) (key : ℤ)
+    → AreSound files → AreSound (part by files key)
 unfolding part
-few-part by files key few = All-filter (selects by key) (λ (file : Loaded). length file.times ≤ MAX_TIMES) files few
+sound-part by files key sound = All-filter (selects by key) HasSoundTimes files sound
 
 -- the files by a valid time have it
 pub have-part : (files : List Loaded) (valid : ℤ) → HaveTime valid (part Time files valid)

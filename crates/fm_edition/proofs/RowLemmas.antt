@@ -9,11 +9,14 @@ use Rattle.fm_model.specs.declared.row.Row.{Row}
 use Rattle.fm_model.specs.Cell.{best, cell, runs_of, times_of}
 use Rattle.fm_model.specs.Rows.{best_row, row_at}
 use Rattle.fm_model.proofs.Members.{Each, All-from_each, Each-weaker}
-use Rattle.fm_edition.specs.declared.maps.by.By.TheVariants.{Run, Time}
-use Rattle.fm_edition.specs.Indexes.{entries_of, entry_row, instants, part, AreFew, AreParts, HaveTime, IsTimed, Pages}
+use Rattle.fm_list.specs.declared.by.By.{By}
+use Rattle.fm_list.specs.declared.by.By.TheVariants.{Run, Time}
+use Rattle.fm_edition.specs.declared.maps.wanted.Wanted.TheVariants as wanted
+use Rattle.fm_list.specs.Selected.{part, AreSound, HaveTime}
+use Rattle.fm_edition.specs.Indexes.{entries_of, entry_row, instants, AreParts, IsTimed, Pages}
 use Rattle.fm_edition.proofs.EntryLemmas.{entry_files}
 use Rattle.fm_edition.proofs.KeyLemmas.{keys_are}
-use Rattle.fm_edition.proofs.PartLemmas.{best-part, cell-part, few-part, have-part}
+use Rattle.fm_edition.proofs.PartLemmas.{best-part, cell-part, sound-part, have-part}
 
 -- the files by a valid time have the row of its best run
 best_row-part : (files : List Loaded) (valid : ℤ) (least : Option ℤ)
@@ -34,22 +37,25 @@ best_row-part files valid least = rw (best-part files valid least) (by_best (bes
     by_best None = refl
     by_best (Some run) = ap (option_map (λ (found : Loaded × ℕ). row found run)) (cell-part files run valid)
 
-rows_by_entries : (files : List Loaded) (least : Option ℤ) (entries : List (ℤ × List Loaded))
-    → Each (λ (entry : ℤ × List Loaded). part Time files entry.0 ≡ entry.1) entries
-    → filter_map (entry_row least) entries ≡ filter_map (best_row files least) (keys_of entries)
-rows_by_entries files least [] each = refl
-rows_by_entries files least (entry ∷ entries) each =
-    let first : entry_row least entry ≡ best_row files least entry.0 =
-    ap (λ held. best_row held least entry.0) (sym each.0) ∙ best_row-part files entry.0 least in
-    ap (λ o. cons_option o (filter_map (entry_row least) entries)) first
-    ∙ ap (cons_option (best_row files least entry.0)) (rows_by_entries files least entries each.1)
+-- the rows of entries are those of their instants among all files
+pub rows_by_entries : (by : By) (files : List Loaded) (row : List Loaded → ℤ → Option Row)
+    → ((key : ℤ) → row (part by files key) key ≡ row files key) → (entries : List (ℤ × List Loaded))
+    → Each (λ (entry : ℤ × List Loaded). part by files entry.0 ≡ entry.1) entries
+    → filter_map (λ (entry : ℤ × List Loaded). row entry.1 entry.0) entries ≡ filter_map (row files) (keys_of entries)
+rows_by_entries by files row same [] each = refl
+rows_by_entries by files row same (entry ∷ entries) each =
+    let first : row entry.1 entry.0 ≡ row files entry.0 =
+    ap (λ held. row held entry.0) (sym each.0) ∙ same entry.0 in
+    ap (λ o. cons_option o (filter_map (λ (e : ℤ × List Loaded). row e.1 e.0) entries)) first
+    ∙ ap (cons_option (row files entry.0)) (rows_by_entries by files row same entries each.1)
 
 -- the rows of all entries are those of the best time series
 pub rows-from_pages : (files : List Loaded) (least : Option ℤ) (pages : Pages) → AreParts Time files pages
-    → filter_map (entry_row least) (entries_of pages) ≡ filter_map (best_row files least) (times_of files)
+    → filter_map (entry_row (wanted.Best least)) (entries_of pages) ≡ filter_map (best_row files least) (times_of files)
 unfolding instants
 rows-from_pages files least pages are =
-    rows_by_entries files least (entries_of pages) (entry_files Time files pages are)
+    rows_by_entries Time files (λ held valid. best_row held least valid) (λ valid. best_row-part files valid least)
+    (entries_of pages) (entry_files Time files pages are)
     ∙ ap (filter_map (best_row files least)) (keys_are Time files pages are)
 
 -- the keys by runs are the runs
@@ -58,13 +64,13 @@ pub runs-from_pages : (files : List Loaded) (pages : Pages) → AreParts Run fil
 unfolding instants
 runs-from_pages files pages are = keys_are Run files pages are
 
--- the files of each entry have its valid time, and few times
-pub entries_timed : (files : List Loaded) (pages : Pages) → AreParts Time files pages → AreFew files
+-- the files of each entry have its valid time, and sound times
+pub entries_timed : (files : List Loaded) (pages : Pages) → AreParts Time files pages → AreSound files
     → All IsTimed (entries_of pages)
-entries_timed files pages are few = All-from_each IsTimed (entries_of pages)
+entries_timed files pages are sound = All-from_each IsTimed (entries_of pages)
     (Each-weaker (λ (entry : ℤ × List Loaded). part Time files entry.0 ≡ entry.1) IsTimed
     (λ entry own. record {
       have = subst (HaveTime entry.0) own (have-part files entry.0);
-      few = subst AreFew own (few-part Time files entry.0 few);
+      sound = subst AreSound own (sound-part Time files entry.0 sound);
     })
     (entries_of pages) (entry_files Time files pages are))

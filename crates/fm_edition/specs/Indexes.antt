@@ -1,21 +1,22 @@
 -- What the maps of an edition hold, each as a function of its list of files.
-use Rattle.std.specs.Prelude.{◌≡◌, ◌≤◌, ◌++◌, All, length, ◌&&◌, filter, Bool, List, [], ◌∷◌, Option, None, Some, option_and_then, ℤ, pos, if◌then◌else◌, true}
+use Rattle.std.specs.Prelude.{◌≡◌, ◌+ℤ◌, All, ◌&&◌, Bool, List, [], ◌∷◌, Option, None, Some, option_and_then, ℤ, pos, if◌then◌else◌}
 use Rattle.std.specs.BTreeMap.{BTreeMap, get, values, IsOrdered}
 use Rattle.std.specs.Int.{int_div_euclid}
 use Rattle.std.specs.List.{filter_map, flat_map, list_any}
 use Rattle.std.specs.Option.{option_map}
 use Rattle.std.specs.Ordering.{int_cmp, int_eq}
 use Rattle.fm_model.specs.declared.full.Tally.{Tally}
-use Rattle.fm_model.specs.declared.limit.TheConstants.{MAX_TIMES}
 use Rattle.fm_model.specs.declared.loaded.Loaded.{Loaded}
 use Rattle.fm_model.specs.declared.op.Op.{Op}
 use Rattle.fm_model.specs.declared.row.Row.{Row}
-use Rattle.fm_model.specs.Cell.{has_time, runs_of, times_of}
+use Rattle.fm_model.specs.Cell.{runs_of, times_of}
 use Rattle.fm_model.specs.Collection.{tally}
-use Rattle.fm_model.specs.Rows.{best_row}
-use Rattle.fm_edition.specs.declared.maps.by.By.{By}
-use Rattle.fm_edition.specs.declared.maps.by.By.TheVariants.{Run, Time}
-use Rattle.fm_edition.specs.Change.{added, keeps}
+use Rattle.fm_model.specs.Rows.{best_row, row_at}
+use Rattle.fm_list.specs.declared.by.By.{By}
+use Rattle.fm_list.specs.declared.by.By.TheVariants.{Run, Time}
+use Rattle.fm_list.specs.Selected.{part, part_after, AreSound, HaveTime}
+use Rattle.fm_edition.specs.declared.maps.wanted.Wanted.{Wanted}
+use Rattle.fm_edition.specs.declared.maps.wanted.Wanted.TheVariants.{Best, After, At}
 use Rattle.fm_edition.specs.Held.{Held, IsEdition}
 
 -- a list, unless it is empty
@@ -36,23 +37,10 @@ is_among instants instant = list_any (λ other. int_eq other instant) instants
 abbrev pub updated : {A : Type 0} → ℤ → Option A → (ℤ → Option A) → ℤ → Option A
 updated key value held other = if int_eq key other then value else held other
 
--- whether a file is of a run, or has a valid time
-unfoldable pub selects : By → ℤ → Loaded → Bool
-selects Run run file = int_eq file.run run
-selects Time valid file = has_time valid file
-
 -- the runs of some files, or their valid times
 unfoldable pub instants : By → List Loaded → List ℤ
 instants Run files = runs_of files
 instants Time files = times_of files
-
--- the files of a run, or those that have a valid time, in the list's order
-unfoldable pub part : By → List Loaded → ℤ → List Loaded
-part by files key = filter (selects by key) files
-
--- such files after an operation
-unfoldable pub part_after : By → ℤ → Op → List Loaded → List Loaded
-part_after by key op files = filter (keeps op) files ++ filter (selects by key) (added op)
 
 -- the number of the page of an instant
 unfoldable pub page_of : ℤ → ℤ
@@ -94,21 +82,24 @@ entries_in pages = flat_map (λ (page : ℤ × BTreeMap ℤ (List Loaded)). page
 abbrev pub entries_of : Pages → List (ℤ × List Loaded)
 entries_of pages = entries_in pages.entries
 
--- the row of a valid time from the best run of the files that have it
-abbrev pub entry_row : Option ℤ → ℤ × List Loaded → Option Row
-entry_row least entry = best_row entry.1 least entry.0
+-- the row that is wanted of an instant and its files: of a valid time that from its best run, of a run that at an
+-- offset in seconds, or that at a valid time
+abbrev pub entry_row : Wanted → ℤ × List Loaded → Option Row
+entry_row (Best least) entry = best_row entry.1 least entry.0
+entry_row (After seconds) entry = row_at entry.1 entry.0 (entry.0 +ℤ seconds)
+entry_row (At valid) entry = row_at entry.1 entry.0 valid
 
--- each file has few times
-abbrev pub AreFew : List Loaded → Type 0
-AreFew files = All (λ (file : Loaded). length file.times ≤ MAX_TIMES) files
+-- the row of a valid time in the best time series, also with a least offset
+abbrev pub best_of_entry : Option ℤ → ℤ × List Loaded → Option Row
+best_of_entry least = entry_row (Best least)
 
--- each of some files has a valid time
-abbrev pub HaveTime : ℤ → List Loaded → Type 0
-HaveTime valid files = All (λ (file : Loaded). has_time valid file ≡ true) files
+-- the row of a valid time in the best time series
+abbrev pub kept_row : ℤ × List Loaded → Option Row
+kept_row = best_of_entry None
 
 -- the rows of a page's valid times from their best runs
 abbrev pub page_rows : BTreeMap ℤ (List Loaded) → List Row
-page_rows page = filter_map (entry_row None) page.entries
+page_rows page = filter_map kept_row page.entries
 
 -- the rows of the best time series, page by page
 abbrev pub RowPages : Type 0
@@ -127,10 +118,16 @@ pub record AreBest (pages : Pages) (best : RowPages) : Type 0 where
   pub ordered : IsOrdered int_cmp best
   pub shown : (number : ℤ) → get int_cmp best number ≡ rows_at pages number
 
--- the files by a valid time have it, and few times each
+-- the files by a valid time have it, and sound times
 pub record IsTimed (entry : ℤ × List Loaded) : Type 0 where
   pub have : HaveTime entry.0 entry.1
-  pub few : AreFew entry.1
+  pub sound : AreSound entry.1
+
+-- what is asked of an instant and its files before the row that is wanted of them is made
+abbrev pub IsReady : Wanted → ℤ × List Loaded → Type 0
+IsReady (Best least) entry = IsTimed entry
+IsReady (After seconds) entry = AreSound entry.1
+IsReady (At valid) entry = AreSound entry.1
 
 -- what every edition keeps, also of its tally and its maps
 pub record IsIndexed (held : Held) (count : Tally) (by_run by_time : Pages) (best : RowPages) : Type 0 where

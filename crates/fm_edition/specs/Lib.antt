@@ -1,7 +1,6 @@
-pub mod Change
-pub mod Found
 pub mod Held
 pub mod Indexes
+pub mod Least
 pub mod Log
 pub use Rattle.fm_model.specs.Collection
 pub use Rattle.fm_model.specs.Cell

@@ -3,9 +3,8 @@
 
 pub mod laws;
 mod maps;
-mod offset;
 pub mod plain_list;
 
+pub use fm_list::keeps_least_offset;
 pub use fm_model::{Full, Tally, Which};
 pub use maps::Edition;
-pub use offset::keeps_least_offset;

@@ -12,17 +12,18 @@ ghost use Rattle.fm_edition.specs.Held.{next_or_full, IsEdition, OpFits};
 ghost use Rattle.fm_edition.specs.Indexes as spec;
 
 mod best;
-mod by;
-mod change;
+mod by_run;
+mod entry;
+mod page_rows;
 mod pages;
-mod part;
 mod shared;
 mod walk;
+mod wanted;
 
-use crate::plain_list::{changing, counting, finding, instants};
+use crate::plain_list::{changing, counting, instants};
 use best::{RowPages, best_after};
-use by::By;
 use fm_base::{Arc, Fail, List, NoMemory};
+use fm_list::{By, Placed, change, finding, part};
 use fm_model::{Full, Loaded, Op, Proto, Tally};
 use fm_rows::Rows;
 use pages::{Change, Pages};
@@ -34,7 +35,7 @@ use std::marker::Model;
 #[derive(Drop)]
 pub struct Edition {
     proto: Arc<Proto>,
-    files: List<Arc<Loaded>>,
+    files: List<Placed>,
     tally: Tally,
     by_run: Pages,
     by_time: Pages,
@@ -105,8 +106,8 @@ impl Edition {
         let files = changing::files_after(alloc, old, op)?;
         let tally = counting::tally_of(files.as_slice());
         let proto = self.proto.share()?;
-        let runs = part::instants_in(alloc, By::Run, changed.as_slice())?;
-        let times = part::instants_in(alloc, By::Time, changed.as_slice())?;
+        let runs = instants::instants_in(alloc, By::Run, changed.as_slice())?;
+        let times = instants::instants_in(alloc, By::Time, changed.as_slice())?;
         let by_run = after_change(alloc, &self.by_run, By::Run, runs.as_slice(), op)?;
         let by_time = after_change(alloc, &self.by_time, By::Time, times.as_slice(), op)?;
         let best = best_after(alloc, &self.best, &by_time, times.as_slice())?;
@@ -179,25 +180,19 @@ impl Edition {
     }
 
     /// One row for each valid time that has a best run, from that run.
-    /// Without a least offset none of them is made: they are those that the edition keeps.
+    /// Of a page of valid times whose rows keep the least offset none is made: they are those that the edition keeps.
     pub fn best_rows(&self, alloc: Global, least: Option<i64>) -> Result<Rows, NoMemory>
         ensures { IfOk result (λ rows.
             rows ≡ filter_map (best_row self.now.files least) (times_of self.now.files)) }
     {
-        match least {
-            None => best::kept_rows(alloc, &self.by_time, &self.best),
-            least => Rows::of_page(alloc, walk::best_rows(alloc, &self.by_time, least)?),
-        }
+        best::best_rows(alloc, &self.by_time, &self.best, least)
     }
 
     /// How many valid times have a best run.
     pub fn best_count(&self, least: Option<i64>) -> usize
         ensures { result ≡ length (filter_map (best_row self.now.files least) (times_of self.now.files)) }
     {
-        match least {
-            None => best::kept_count(&self.by_time, &self.best),
-            least => walk::best_count(&self.by_time, least),
-        }
+        best::best_count(&self.by_time, &self.best, least)
     }
 
     /// The prototype, and what every edition keeps.

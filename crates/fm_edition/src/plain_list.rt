@@ -11,10 +11,10 @@ ghost use Rattle.fm_edition.specs.Held.{next_or_full, IsEdition, OpFits};
 pub(crate) mod best;
 pub(crate) mod changing;
 pub(crate) mod counting;
-pub(crate) mod finding;
 pub(crate) mod instants;
 
 use fm_base::{Arc, Fail, List, NoMemory};
+use fm_list::{Placed, finding};
 use fm_model::{Full, Loaded, Op, Proto, Tally};
 use fm_rows::Rows;
 use std::alloc::Global;
@@ -24,7 +24,7 @@ use std::marker::Model;
 #[derive(Drop)]
 pub struct Edition {
     proto: Arc<Proto>,
-    files: List<Arc<Loaded>>,
+    files: List<Placed>,
 }
 
 impl Model for Edition {

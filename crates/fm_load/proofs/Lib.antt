@@ -1,5 +1,4 @@
 pub mod AcceptLemmas
-pub mod GridLemmas
 pub mod InstantLemmas
 pub mod LengthLemmas
 pub mod PackingLemmas

@@ -3,7 +3,7 @@ ghost use Rattle.std.specs.Prelude.{◌≡◌, ◌≢◌, [], IfOk};
 ghost use Rattle.fm_base.specs.Answer.{OnFault};
 ghost use Rattle.fm_model.specs.Rows as views;
 
-use crate::runs::{rows_at_offset, rows_at_valid, rows_of_run};
+use crate::runs::rows_of_run;
 use fm_base::{Fail, NoMemory};
 use fm_edition::Edition;
 use fm_model::ViewName;
@@ -36,10 +36,7 @@ fn all_rows(alloc: Global, edition: &Edition, view: &ViewName) -> Result<Rows, N
         ViewName::Best => edition.best_rows(alloc, None),
         ViewName::BestFrom(least) => edition.best_rows(alloc, Some(*least)),
         ViewName::Run(run) => Rows::of_page(alloc, rows_of_run(alloc, edition, *run)?),
-        ViewName::Offset(seconds) => Rows::of_page(
-            alloc,
-            rows_at_offset(alloc, edition, *seconds)?,
-        ),
-        ViewName::Forecast(valid) => Rows::of_page(alloc, rows_at_valid(alloc, edition, *valid)?),
+        ViewName::Offset(seconds) => edition.offset_rows(alloc, *seconds),
+        ViewName::Forecast(valid) => edition.forecast_rows(alloc, *valid),
     }
 }

@@ -4,3 +4,4 @@ pub use Rattle.nc_model.specs.Spelling
 pub mod Names
 pub mod NoHeader
 pub mod Turns
+pub mod Variable

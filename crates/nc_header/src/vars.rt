@@ -1,15 +1,16 @@
 //! The list of the variables.
-ghost use Rattle.std.specs.Prelude.{◌≡◌, []};
+ghost use Rattle.std.specs.Prelude.{◌≡◌, [], IfOk};
 ghost use Rattle.nc_model.specs.Format.{VARIABLE_TAG};
 ghost use Rattle.nc_model.specs.Reading as spec;
 ghost use Rattle.nc_model.specs.Reading.{Reads};
 ghost use Rattle.nc_header.specs.Turns.{one_more};
+ghost use Rattle.nc_header.specs.Variable.{var_from};
 
 use crate::attrs::read_attr_list;
 use crate::found::Found;
 use crate::names::read_name;
 use fm_base::{Bytes, Fail, List};
-use nc_model::{Dim, HeaderFault, NcVar};
+use nc_model::{Attr, Dim, HeaderFault, NcVar};
 use nc_reader::Reader;
 use std::alloc::Global;
 
@@ -53,7 +54,32 @@ fn read_dim_ids(
     Ok(found)
 }
 
-#[tactic(auto, unfolding(nc_model::specs::Reading::var_at, crate::specs::Turns::one_more))]
+// Reads a variable from its kind on.
+#[tactic(auto, unfolding(crate::specs::Variable::var_from))]
+fn read_rest(
+    alloc: Global,
+    reader: &mut Reader<'_>,
+    version: u8,
+    name: &[u8],
+    ids: List<u32>,
+    attrs: List<Attr>,
+) -> Result<NcVar, Fail<HeaderFault>>
+    ensures read { Reads (λ var. var) (var_from version name.now ids attrs reader.old) result reader.new }
+    ensures name { IfOk result (λ var. var.name ≡ name.now) }
+{
+    let kind = reader.kind()?;
+    let _size = reader.take(4)?;
+    let begin = reader.begin(version)?;
+    Ok(NcVar {
+        name: Bytes::copy_of(alloc, name)?,
+        dims: ids,
+        attrs,
+        kind,
+        begin,
+    })
+}
+
+#[tactic(auto, unfolding(nc_model::specs::Reading::var_at, crate::specs::Turns::one_more, crate::specs::Variable::var_from))]
 fn read_var<'a>(
     alloc: Global,
     reader: &mut Reader<'a>,
@@ -68,16 +94,7 @@ fn read_var<'a>(
     let rank = reader.rank()?;
     let ids = read_dim_ids(alloc, reader, dims, rank)?;
     let attrs = read_attr_list(alloc, reader)?;
-    let kind = reader.kind()?;
-    let _size = reader.take(4)?;
-    let begin = reader.begin(version)?;
-    let var = NcVar {
-        name: Bytes::copy_of(alloc, name)?,
-        dims: ids,
-        attrs,
-        kind,
-        begin,
-    };
+    let var = read_rest(alloc, reader, version, name, ids, attrs)?;
     found.push(name, var)?;
     Ok(())
 }

@@ -105,7 +105,7 @@ impl Blank {
     }
 }
 
-// A writer of two copies that hold the same, for so many readers.
+// A writer of two copies that hold the same, for `readers` readers.
 fn board_of<N: Name>(alloc: Global, first: Shown, readers: u32) -> Result<Board<N>, NoMemory>
     requires of { (first.book ≡ N.book) × (first.held.proto ≡ N.proto) }
     requires readers { (0 < readers) × (readers ≤ 25) }

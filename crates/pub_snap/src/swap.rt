@@ -22,8 +22,8 @@ pub(crate) fn show<N: Name, R: Wait>(rt: &R, slot: &mut Option<Board<N>>, next: 
     ensures { IsSomeAnd slot.new (λ board.
         (board.desk.shown.value ≡ next) × ((view board.desk.place).seen ≡ next.log)) }
 {
-    let board = slot.take().unwrap();
-    let board = append(rt, board, next);
+    let mut board = slot.take().unwrap();
+    append(rt, &mut board, next);
     let board = swap(rt, board);
     match mem::replace(slot, Some(board)) {
         None => {}
@@ -84,15 +84,14 @@ fn show_again<N: Name, R: Wait>(rt: &R, board: Board<N>) -> (Board<N>, Result<()
 }
 
 // Appends a copy as the last that waits to be shown.
-fn append<N: Name, R: Wait>(rt: &R, board: Board<N>, next: Shown) -> Board<N>
-    ensures desk { result.desk ≡ board.desk }
-    ensures last { EndsWith (drop result.behind result.log.items) next }
+fn append<N: Name, R: Wait>(rt: &R, board: &mut Board<N>, next: Shown)
+    ensures desk { board.new.desk ≡ board.old.desk }
+    ensures last { EndsWith (drop board.new.behind board.new.log.items) next }
 {
-    let mut board = board;
     let mut next = next;
     for _ in rt.forever() {
         match board.append(next) {
-            Ok(()) => return board,
+            Ok(()) => return,
             Err(back) => next = back,
         }
     }

@@ -1,10 +1,10 @@
 //! The content of a file, as a row describes it.
 
-use crate::values::hex;
+use crate::values::{hex, put_bytes_of};
 use std::alloc::{AllocError, Global};
 
-/// A file that rows begin from.
-#[derive(Debug, Drop)]
+/// A file that rows begin from, under its name without the folders in front.
+#[derive(Drop)]
 pub struct File {
     pub name: String,
     pub content: Vec<u8>,
@@ -15,43 +15,50 @@ pub struct File {
 /// COUNT HEX` (bytes more, so often). `None` where the words say something else, or an offset or a length lies past the
 /// end.
 pub fn content(alloc: Global, files: &[File], words: &str) -> Result<Option<Vec<u8>>, AllocError> {
+    let mut content = Vec::new(alloc);
+    let known = put_content(alloc, files, words, &mut content)?;
+    Ok(if known { Some(content) } else { None })
+}
+
+// Appends the content that words describe. It is false where they describe none.
+fn put_content(
+    alloc: Global,
+    files: &[File],
+    words: &str,
+    out: &mut Vec<u8>,
+) -> Result<bool, AllocError> {
     let mut words = words.split_whitespace();
-    let first = words.next().unwrap_or("");
-    let begun = match first {
-        "hex" => hex(alloc, words.next().unwrap_or(""))?,
-        name => named(alloc, files, name)?,
+    let mut known = match words.next().unwrap_or("") {
+        "hex" => put_bytes_of(words.next().unwrap_or(""), out)?,
+        name => put_named(files, name, out)?,
     };
-    let Some(mut content) = begun else {
-        return Ok(None);
-    };
-    while let Some(word) = words.next() {
-        let done = match word {
+    while known && let Some(word) = words.next() {
+        known = match word {
             "at" => {
                 let offset = number(words.next());
-                replace(alloc, &mut content, offset, words.next())?
+                replace(alloc, out, offset, words.next())?
             }
-            "cut" => cut(&mut content, number(words.next())),
-            "add" => fill(alloc, &mut content, Some(1), words.next())?,
+            "cut" => cut(out, number(words.next())),
+            "add" => fill(alloc, out, Some(1), words.next())?,
             "fill" => {
                 let count = number(words.next());
-                fill(alloc, &mut content, count, words.next())?
+                fill(alloc, out, count, words.next())?
             }
             _ => false,
         };
-        if !done {
-            return Ok(None);
-        }
     }
-    Ok(Some(content))
+    Ok(known)
 }
 
-fn named(alloc: Global, files: &[File], name: &str) -> Result<Option<Vec<u8>>, AllocError> {
+// Appends the content of the file of a name. It is false where there is none.
+fn put_named(files: &[File], name: &str, out: &mut Vec<u8>) -> Result<bool, AllocError> {
     for file in files {
         if file.name.as_str() == name {
-            return Ok(Some(Vec::from_slice(alloc, file.content.as_slice())?));
+            out.extend_from_slice(file.content.as_slice())?;
+            return Ok(true);
         }
     }
-    Ok(None)
+    Ok(false)
 }
 
 fn number(word: Option<&str>) -> Option<usize> {
@@ -64,16 +71,21 @@ fn replace(
     offset: Option<usize>,
     digits: Option<&str>,
 ) -> Result<bool, AllocError> {
-    let (Some(offset), Some(bytes)) = (offset, hex(alloc, digits.unwrap_or(""))?) else {
-        return Ok(false);
-    };
+    match (offset, hex(alloc, digits.unwrap_or(""))?) {
+        (Some(offset), Some(bytes)) => Ok(put_at(content, offset, bytes.as_slice())),
+        _ => Ok(false),
+    }
+}
+
+// Puts bytes in place of those from an offset on. It is false where there is no byte, or one past the end.
+fn put_at(content: &mut Vec<u8>, offset: usize, bytes: &[u8]) -> bool {
     if content.len() < offset || content.len() - offset < bytes.len() {
-        return Ok(false);
+        return false;
     }
     for (index, byte) in bytes.iter().enumerate() {
         content[offset + index] = *byte;
     }
-    Ok(!bytes.is_empty())
+    !bytes.is_empty()
 }
 
 fn cut(content: &mut Vec<u8>, len: Option<usize>) -> bool {
@@ -92,11 +104,16 @@ fn fill(
     count: Option<usize>,
     digits: Option<&str>,
 ) -> Result<bool, AllocError> {
-    let (Some(count), Some(bytes)) = (count, hex(alloc, digits.unwrap_or(""))?) else {
-        return Ok(false);
-    };
+    match (count, hex(alloc, digits.unwrap_or(""))?) {
+        (Some(count), Some(bytes)) => repeat(content, count, bytes.as_slice()),
+        _ => Ok(false),
+    }
+}
+
+// Appends bytes so often. It is false where there are none.
+fn repeat(content: &mut Vec<u8>, count: usize, bytes: &[u8]) -> Result<bool, AllocError> {
     for _ in 0..count {
-        content.extend_from_slice(bytes.as_slice())?;
+        content.extend_from_slice(bytes)?;
     }
     Ok(!bytes.is_empty())
 }

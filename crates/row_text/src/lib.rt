@@ -9,7 +9,7 @@ mod text;
 mod values;
 
 pub use described::{File, content};
-pub use reading::{Inputs, Text, read_inputs, without_folders};
+pub use reading::{Inputs, Text, read_inputs};
 pub use running::{Answers, Count, end, run};
 pub use text::{Field, Row, rows};
 pub use values::{bytes, hex, put_hex, put_shown};

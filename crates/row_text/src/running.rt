@@ -6,7 +6,7 @@ use std::io::{self, Eprint, Print};
 use std::process::ExitCode;
 
 /// The number of rows that were run, and of those whose answer isn't the wanted one.
-#[derive(Clone, Copy, Debug, Default)]
+#[derive(Clone, Copy, Default)]
 pub struct Count {
     pub rows: usize,
     pub wrong: usize,
@@ -14,8 +14,8 @@ pub struct Count {
 
 /// The answer to a row, in the words of its `want`.
 pub trait Answers {
-    /// The answer, or `None` where the row isn't one that this program knows.
-    fn answer(&self, alloc: Global, row: &Row<'_>) -> Result<Option<String>, AllocError>;
+    /// Puts the answer into an empty text. It is false where the row isn't one that this program knows.
+    fn answer(&self, alloc: Global, row: &Row<'_>, out: &mut String) -> Result<bool, AllocError>;
 }
 
 /// Runs and counts the rows of a text. A row with another answer than the wanted one goes to standard error. So does a
@@ -29,37 +29,63 @@ pub fn run<A: Answers>(
     count: &mut Count,
 ) -> io::Result<()> {
     for row in &rows(alloc, text)? {
-        count.rows = count.rows.saturating_add(1);
-        let got = answers.answer(alloc, row)?;
-        let right = is_wanted(row, &got);
-        if !right {
-            count.wrong = count.wrong.saturating_add(1);
-            report(rt, path, row, &got)?;
-        }
+        run_row(rt, alloc, path, row, answers, count)?;
     }
     Ok(())
 }
 
+fn run_row<A: Answers>(
+    rt: &impl Eprint,
+    alloc: Global,
+    path: &str,
+    row: &Row<'_>,
+    answers: &A,
+    count: &mut Count,
+) -> io::Result<()> {
+    let mut got = String::new(alloc);
+    let known = answers.answer(alloc, row, &mut got)?;
+    compare(
+        rt,
+        path,
+        row,
+        if known { Some(got.as_str()) } else { None },
+        count,
+    )
+}
+
+// Counts a row, and prints it where its answer isn't the wanted one.
+fn compare(
+    rt: &impl Eprint,
+    path: &str,
+    row: &Row<'_>,
+    got: Option<&str>,
+    count: &mut Count,
+) -> io::Result<()> {
+    count.rows = count.rows.saturating_add(1);
+    if is_wanted(row, got) {
+        return Ok(());
+    }
+    count.wrong = count.wrong.saturating_add(1);
+    report(rt, path, row, got)
+}
+
 // Whether an answer is the one that a row wants.
-fn is_wanted(row: &Row<'_>, got: &Option<String>) -> bool {
+fn is_wanted(row: &Row<'_>, got: Option<&str>) -> bool {
     match (got, row.value("want")) {
-        (Some(got), Some(want)) => got.as_str() == want,
+        (Some(got), Some(want)) => got == want,
         _ => false,
     }
 }
 
 // Prints a row's name, its answer and the wanted one.
-fn report(rt: &impl Eprint, path: &str, row: &Row<'_>, got: &Option<String>) -> io::Result<()> {
+fn report(rt: &impl Eprint, path: &str, row: &Row<'_>, got: Option<&str>) -> io::Result<()> {
+    let name = row.value("name").unwrap_or("(no name)");
+    let want = row.value("want").unwrap_or("(no want)");
+    let got = got.unwrap_or("(a row of another form)");
     eprintln!(rt;
-        "{path}:{}: {}",
-        row.line,
-        row.value("name").unwrap_or("(no name)")
-    )?;
-    match got {
-        Some(got) => eprintln!(rt; "-- got\n{}", got.as_str())?,
-        None => eprintln!(rt; "-- got a row of another form")?,
-    }
-    eprintln!(rt; "-- want\n{}", row.value("want").unwrap_or("(no want)"))
+        "{path}:{}: {name}\n-- got\n{got}\n-- want\n{want}",
+        row.line
+    )
 }
 
 /// Prints the counts. The exit status is 0 where no row was wrong.

@@ -4,14 +4,14 @@ use crate::values::bytes;
 use std::alloc::{AllocError, Global};
 
 /// A line `key: value`, with the lines `| ..` below it. A line without a colon has the empty key.
-#[derive(Debug, Drop)]
+#[derive(Drop)]
 pub struct Field<'a> {
     pub key: &'a str,
     pub value: String,
 }
 
 /// The fields of a paragraph, and the number of its first line.
-#[derive(Debug, Drop)]
+#[derive(Drop)]
 pub struct Row<'a> {
     pub line: usize,
     pub fields: Vec<Field<'a>>,
@@ -50,9 +50,12 @@ impl<'a> Row<'a> {
 
     /// Whether each of these keys stands once, and no other beside one `name` and one `want`.
     pub fn has_each(&self, keys: &[&str]) -> bool {
-        self.has_only(keys)
-            && self.fields.len() == keys.len() + 2
-            && keys.iter().all(|key| self.value(key).is_some())
+        for key in keys {
+            if self.value(key).is_none() {
+                return false;
+            }
+        }
+        self.has_only(keys) && self.fields.len() == keys.len() + 2
     }
 
     /// The bytes that the value of a key stands for; `None` where there is no such key, or its value stands for none.
@@ -95,19 +98,41 @@ fn is_among(key: &str, keys: &[&str]) -> bool {
 /// with the value above it.
 pub fn rows(alloc: Global, text: &str) -> Result<Vec<Row<'_>>, AllocError> {
     let mut rows = Vec::new(alloc);
-    let mut row = Row::new(alloc, 1);
-    for (number, line) in text.lines().chain("\n".lines()).enumerate() {
+    put_rows(alloc, text, &mut rows)?;
+    Ok(rows)
+}
+
+// Appends the paragraphs of a text.
+fn put_rows<'a>(alloc: Global, text: &'a str, rows: &mut Vec<Row<'a>>) -> Result<(), AllocError> {
+    let mut first = 1usize;
+    let mut begins = true;
+    for (number, line) in text.lines().enumerate() {
         if line.trim_end().is_empty() {
-            if !row.fields.is_empty() {
-                rows.push(row)?;
-            }
-            row = Row::new(alloc, number.saturating_add(2));
-        } else if let Some(more) = line.strip_prefix('|') {
-            row.add_line(alloc, more.strip_prefix(' ').unwrap_or(more))?;
+            first = number.saturating_add(2);
+            begins = true;
         } else if !line.starts_with('#') {
-            let (key, value) = line.split_once(':').unwrap_or(("", line));
-            row.add(alloc, key, value.trim())?;
+            if begins {
+                rows.push(Row::new(alloc, first))?;
+            }
+            begins = false;
+            add_to_last(alloc, rows, line)?;
         }
     }
-    Ok(rows)
+    Ok(())
+}
+
+// Adds a line to the last row.
+fn add_to_last<'a>(
+    alloc: Global,
+    rows: &mut Vec<Row<'a>>,
+    line: &'a str,
+) -> Result<(), AllocError> {
+    let Some(row) = rows.last_mut() else {
+        return Ok(());
+    };
+    if let Some(more) = line.strip_prefix('|') {
+        return row.add_line(alloc, more.strip_prefix(' ').unwrap_or(more));
+    }
+    let (key, value) = line.split_once(':').unwrap_or(("", line));
+    row.add(alloc, key, value.trim())
 }

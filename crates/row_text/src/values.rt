@@ -6,46 +6,62 @@ use std::alloc::{AllocError, Global};
 /// The bytes that a value stands for: its own, a carriage return as `\r`, a line feed as `\n`, and any byte as `\xNN`,
 /// a backslash too; `None` where a backslash begins nothing of these.
 pub fn bytes(alloc: Global, value: &str) -> Result<Option<Vec<u8>>, AllocError> {
+    let mut bytes = Vec::new(alloc);
+    let known = put_bytes(value, &mut bytes)?;
+    Ok(if known { Some(bytes) } else { None })
+}
+
+// Appends the bytes that a value stands for. It is false where a backslash begins nothing of these.
+fn put_bytes(value: &str, out: &mut Vec<u8>) -> Result<bool, AllocError> {
     let mut parts = value.split('\\');
-    let mut bytes = Vec::from_slice(alloc, parts.next().unwrap_or("").as_bytes())?;
+    out.extend_from_slice(parts.next().unwrap_or("").as_bytes())?;
     for part in parts {
-        let rest = match part.as_bytes() {
-            [b'r', rest @ ..] => {
-                bytes.push(b'\r')?;
-                rest
-            }
-            [b'n', rest @ ..] => {
-                bytes.push(b'\n')?;
-                rest
-            }
-            [b'x', high, low, rest @ ..] => {
-                let (Some(high), Some(low)) = (hex_digit(*high), hex_digit(*low)) else {
-                    return Ok(None);
-                };
-                bytes.push(high * 16 + low)?;
-                rest
-            }
-            _ => return Ok(None),
+        let Some((byte, rest)) = escaped(part.as_bytes()) else {
+            return Ok(false);
         };
-        bytes.extend_from_slice(rest)?;
+        out.push(byte)?;
+        out.extend_from_slice(rest)?;
     }
-    Ok(Some(bytes))
+    Ok(true)
+}
+
+// The byte that stands behind a backslash, and what comes after it.
+fn escaped(part: &[u8]) -> Option<(u8, &[u8])> {
+    match part {
+        [b'r', rest @ ..] => Some((b'\r', rest)),
+        [b'n', rest @ ..] => Some((b'\n', rest)),
+        [b'x', high, low, rest @ ..] => Some((byte_of(*high, *low)?, rest)),
+        _ => None,
+    }
 }
 
 /// The bytes of hexadecimal digits, two for each byte; blanks and line ends may stand between bytes.
 pub fn hex(alloc: Global, digits: &str) -> Result<Option<Vec<u8>>, AllocError> {
     let mut bytes = Vec::new(alloc);
+    let known = put_bytes_of(digits, &mut bytes)?;
+    Ok(if known { Some(bytes) } else { None })
+}
+
+/// Appends the bytes of hexadecimal digits. It is false where the text is something else.
+pub fn put_bytes_of(digits: &str, out: &mut Vec<u8>) -> Result<bool, AllocError> {
     for word in digits.split_whitespace() {
         let mut digits = word.bytes();
         while let Some(high) = digits.next() {
-            let (Some(high), Some(low)) = (hex_digit(high), digits.next().and_then(hex_digit))
-            else {
-                return Ok(None);
+            let Some(byte) = byte_of(high, digits.next().unwrap_or(b' ')) else {
+                return Ok(false);
             };
-            bytes.push(high * 16 + low)?;
+            out.push(byte)?;
         }
     }
-    Ok(Some(bytes))
+    Ok(true)
+}
+
+// The byte of two hexadecimal digits.
+fn byte_of(high: u8, low: u8) -> Option<u8> {
+    let (Some(high), Some(low)) = (hex_digit(high), hex_digit(low)) else {
+        return None;
+    };
+    Some(high * 16 + low)
 }
 
 fn hex_digit(digit: u8) -> Option<u8>
@@ -86,16 +102,19 @@ fn digit_of(value: u8) -> char {
 /// return is `\r`, and any other byte and a backslash `\xNN`.
 pub fn put_shown(bytes: &[u8], out: &mut String) -> Result<(), AllocError> {
     for byte in bytes {
-        match *byte {
-            b'\r' => out.push_str("\\r")?,
-            b'\\' => out.push_str("\\x5c")?,
-            b'\n' => out.push('\n')?,
-            32..=126 => out.push(*byte as char)?,
-            _ => {
-                out.push_str("\\x")?;
-                put_digits(*byte, out)?;
-            }
-        }
+        put_byte(*byte, out)?;
     }
     Ok(())
+}
+
+fn put_byte(byte: u8, out: &mut String) -> Result<(), AllocError> {
+    match byte {
+        b'\r' => out.push_str("\\r"),
+        b'\\' => out.push_str("\\x5c"),
+        b'\n' | 32..=126 => out.push(byte as char),
+        _ => {
+            out.push_str("\\x")?;
+            put_digits(byte, out)
+        }
+    }
 }

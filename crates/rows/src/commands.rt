@@ -32,15 +32,16 @@ pub struct Runs {
 }
 
 impl Answers for Runs {
-    fn answer(&self, alloc: Global, row: &Row<'_>) -> Result<Option<String>, AllocError> {
+    fn answer(&self, _alloc: Global, row: &Row<'_>, out: &mut String) -> Result<bool, AllocError> {
         for left in &self.left {
             if left.line == row.line
                 && let Some(shown) = &left.shown
             {
-                return Ok(Some(String::from_str(alloc, shown.as_str())?));
+                out.push_str(shown.as_str())?;
+                return Ok(true);
             }
         }
-        Ok(None)
+        Ok(false)
     }
 }
 

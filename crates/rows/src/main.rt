@@ -3,35 +3,30 @@
 #![tactic(auto)]
 
 mod commands;
-mod declarations;
-mod files;
-mod replies;
-mod texts;
-mod wrong;
 
-use files::Files;
-use replies::Collections;
-use row_text::{Answers, Count, File, Row, Text, end, read_inputs, run, without_folders};
+use file_rows::Files;
+use reply_rows::Collections;
+use row_text::{Answers, Count, File, Row, Text, end, read_inputs, run};
 use std::alloc::{AllocError, Global};
 use std::io::{self, Eprint, Print};
 use std::marker::Sync;
 use std::process::ExitCode;
 use std::sync::Wait;
 use std::thread::Threads;
-use texts::Texts;
+use text_rows::Texts;
 
 // The answers to rows of no known subject.
 struct Unknown;
 
 impl Answers for Unknown {
-    fn answer(&self, _alloc: Global, _row: &Row<'_>) -> Result<Option<String>, AllocError> {
-        Ok(None)
+    fn answer(
+        &self,
+        _alloc: Global,
+        _row: &Row<'_>,
+        _out: &mut String,
+    ) -> Result<bool, AllocError> {
+        Ok(false)
     }
-}
-
-// The name of the folder in which a file lies.
-fn folder_of(path: &str) -> &str {
-    path.rsplit('/').nth(1).unwrap_or("")
 }
 
 // Runs and counts the rows of a text.
@@ -44,7 +39,7 @@ fn run_text<R: Threads + Wait + Eprint + Sync>(
 ) -> io::Result<()> {
     let files = collections.files;
     let (path, rows) = (text.path.as_str(), text.text.as_str());
-    match folder_of(path) {
+    match text.folder() {
         "commands" => {
             let runs = commands::all_run(rt, alloc, files, rows)?;
             run(rt, alloc, path, rows, &runs, count)
@@ -72,8 +67,11 @@ fn run_all<R: Threads + Wait + Eprint + Print + Sync>(
 }
 
 fn main(rt: HostRuntime) -> io::Result<ExitCode> {
-    let alloc = rt.alloc();
     let inputs = read_inputs(&rt)?;
-    let files = without_folders(alloc, inputs.files)?;
-    run_all(&rt, alloc, files.as_slice(), inputs.texts.as_slice())
+    run_all(
+        &rt,
+        rt.alloc(),
+        inputs.files.as_slice(),
+        inputs.texts.as_slice(),
+    )
 }

@@ -3,8 +3,12 @@
 #![tactic(auto)]
 
 #[cfg(test)]
+mod arriving;
+#[cfg(test)]
 mod interleaving;
 #[cfg(test)]
 mod publishing;
+#[cfg(test)]
+mod sampled;
 #[cfg(test)]
 mod serving;

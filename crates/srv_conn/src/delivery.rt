@@ -7,8 +7,11 @@ ghost use Rattle.dap_reply.specs.Parts.{bytes_of};
 use dap_reply::Plan;
 use dev_traits::{Failed, Link};
 
+// The length from which on what stands in a file is sent from where it lies.
+const LONG: usize = 8_192;
+
 // Sends the next bytes of a plan, from an offset. Bytes that stand ready or in a file are sent as they lie there, where
-// they fill the room or are all that is left; else the room is filled. Returns the number of bytes sent.
+// they are many or all that is left; else the room is filled. Returns the number of bytes sent.
 fn put_next<L: Link>(link: &mut L, plan: &Plan, from: u64, room: &mut [u8]) -> Result<usize, Failed>
     requires offset { from < length (bytes_of plan.now) }
     requires room { 0 < length room.old }
@@ -20,7 +23,7 @@ fn put_next<L: Link>(link: &mut L, plan: &Plan, from: u64, room: &mut [u8]) -> R
     ensures cause { HasCause (L.shown link.old).faults (L.shown link.new).faults result }
 {
     let lent = plan.lent(from);
-    if lent.len() >= room.len() || lent.len() as u64 == plan.len() - from {
+    if lent.len() >= LONG || lent.len() as u64 == plan.len() - from {
         return link.put(lent);
     }
     let count = plan.piece(from, room);

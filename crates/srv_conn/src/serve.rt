@@ -15,7 +15,7 @@ use std::alloc::Global;
 use web_session::Session;
 
 // The bytes that a served link has for its own use.
-const ROOM: usize = 8_192;
+const ROOM: usize = 65_536;
 
 /// Serves a link until `most` replies were written in this call, or the link has ended: the requests that come are
 /// answered in order, each whole, over collections that never get older. It waits for nobody but the link.

@@ -5,7 +5,7 @@ use Rattle.pub_look.specs.History.{Continues, History}
 use Rattle.srv_ingest.specs.declared.report.ExpireReport.{ExpireReport}
 use Rattle.srv_ingest.specs.Expires.{AllSettledWith, AreAll, SettledMoment}
 use Rattle.srv_ingest.specs.Turns.{HasNoMoment}
-use Rattle.srv_ingest.proofs.ExpireLemmas.{MomentsSoFar, MomentsSoFar-more, MomentsSoFar-none, MovesOnIn, share-settled}
+use Rattle.srv_ingest.proofs.ExpireLemmas.{MomentsSoFar, MovesOnIn}
 
 -- all moments, where none is left
 all-moved : (a b c : Option Moments) (settled : List SettledMoment) → MovesOnIn a b settled
@@ -38,6 +38,13 @@ AllSettledWith-all keep epoch a b c pass pass' pass'' share share' expired short
       short_is = short_is ∙ far.short_is;
     })
 
+-- what was seen by the end, as it was called before
+pub AllSettledWith-seen : {keep : ℕ} {epoch : ℤ} {a c : Option Moments} {pass seen seen' : History}
+    {report : ExpireReport} → AllSettledWith keep epoch a c pass seen report → seen' ≡ seen
+    → AllSettledWith keep epoch a c pass seen' report
+AllSettledWith-seen {keep} {epoch} {a} {c} {pass} {seen} {seen'} {report} settled same =
+    subst (λ (h : History). AllSettledWith keep epoch a c pass h report) (sym same) settled
+
 -- what was seen by the end goes on from what was seen before
 pub later-all : (keep : ℕ) (epoch : ℤ) (a b c : Option Moments) (pass pass' pass'' : History)
     (share share' expired short : ℕ) → MomentsSoFar keep epoch a b pass pass' expired short
@@ -51,5 +58,3 @@ pub proto-all : (keep : ℕ) (epoch : ℤ) (a b c : Option Moments) (pass pass' 
     → HasNoMoment b c pass' pass'' share share' → pass''.proto ≡ pass.proto
 proto-all keep epoch a b c pass pass' pass'' share share' expired short far none =
     ap (λ (h : History). h.proto) none.pass_is ∙ far.sees.proto
-
-pub ruleset moments = (MomentsSoFar-none, MomentsSoFar-more, share-settled, AllSettledWith-all, later-all, proto-all)

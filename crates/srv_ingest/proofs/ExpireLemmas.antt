@@ -1,5 +1,5 @@
 -- The moments that were settled so far, and one more.
-use Rattle.std.proofs.Common.{◌≡◌, ℕ, ℤ, ◌+◌, if◌then◌else◌, All, List, [], ◌∷◌, ◌++◌, length, map, drop, Option, Some, None, IfSome, IsSomeAnd, count_by, refl, sym, ap, ap₂, subst, ◌∙◌, append_assoc, append-nil}
+use Rattle.std.proofs.Common.{◌≡◌, ℕ, ℤ, ◌+◌, ◌≤◌, if◌then◌else◌, All, List, [], ◌∷◌, ◌++◌, length, map, drop, Option, Some, None, IfSome, IsSomeAnd, count_by, refl, sym, ap, ap₂, subst, ◌∙◌, append_assoc, append-nil, arith}
 use Rattle.std.proofs.lemmas.List.{map-append}
 use Rattle.std.proofs.lemmas.List.Elements.{All-append, All-cons, All-nil, All-weaker}
 use Rattle.std.proofs.lemmas.Option.{none-some, same_Some}
@@ -119,8 +119,23 @@ MomentsSoFar-more keep epoch a b c pass pass' pass'' share share' expired expire
     P : SettledMoment → Type 0
     P = IsRightAt keep epoch pass''.seen
 
--- the share counts a moment at which runs went
-pub share-settled : (keep : ℕ) (epoch : ℤ) (b c : Option Moments) (pass' pass'' : History) (share share' : ℕ)
-    (verdict : Expiry) → SettlesMoment keep epoch b c pass' pass'' share share' verdict
-    → share' ≡ share + length (expired_number verdict)
-share-settled keep epoch b c pass' pass'' share share' verdict next = next.decides.counted
+-- what a share has counted holds one moment more at which runs went
+pub count-fits : (keep : ℕ) (epoch : ℤ) (b c : Option Moments) (pass' pass'' : History)
+    (before share share' expired : ℕ) (verdict : Expiry)
+    → SettlesMoment keep epoch b c pass' pass'' share share' verdict → share ≡ before + expired
+    → expired + length (expired_number verdict) ≤ share'
+count-fits keep epoch b c pass' pass'' before share share' expired verdict next is =
+    omega (arith, next.decides.counted, is)
+
+-- what a share has counted, after one more moment
+pub share-more : (keep : ℕ) (epoch : ℤ) (b c : Option Moments) (pass' pass'' : History)
+    (before share share' expired expired' : ℕ) (verdict : Expiry)
+    → SettlesMoment keep epoch b c pass' pass'' share share' verdict → share ≡ before + expired
+    → expired' ≡ expired + length (expired_number verdict) → share' ≡ before + expired'
+share-more keep epoch b c pass' pass'' before share share' expired expired' verdict next is more =
+    omega (arith, next.decides.counted, is, more)
+
+-- what a share has counted by the end
+pub share-all : (before share share' counted expired : ℕ) → share ≡ before + expired → share' ≡ share
+    → counted ≡ share' → counted ≡ before + expired
+share-all before share share' counted expired is same seen = seen ∙ same ∙ is

@@ -1,5 +1,3 @@
-pub mod AcceptedLemmas
-pub mod AloneLemmas
 pub mod AttemptLemmas
 pub mod CountLemmas
 pub mod DecidingLemmas
@@ -12,10 +10,7 @@ pub mod MomentCounts
 pub mod MomentLemmas
 pub mod NextLemmas
 pub mod ReportLemmas
-pub mod RisingNumbers
 pub mod SeesLemmas
 pub mod SoFar
-pub mod SpokenLemmas
-pub mod TakenIn
 pub mod TurnLemmas
 pub mod VerdictLemmas

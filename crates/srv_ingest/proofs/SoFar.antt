@@ -1,6 +1,7 @@
 -- All names that an inbox gave so far were settled.
-use Rattle.std.proofs.Common.{◌≡◌, List, [], ◌∷◌, ◌++◌, option_to_list, append-nil, refl, sym, ap, subst, ◌∙◌, Option, None}
+use Rattle.std.proofs.Common.{◌≡◌, ℕ, ◌+◌, ◌≤◌, List, [], ◌∷◌, ◌++◌, option_to_list, append-nil, refl, sym, ap, subst, ◌∙◌, Option, None, arith}
 use Rattle.dev_traits.specs.Inbox.{InboxShown, Post}
+use Rattle.fm_model.specs.declared.op.Op.{Op}
 use Rattle.fm_model.specs.declared.proto.Proto.{Proto}
 use Rattle.dev_traits.specs.Cause.{one_more}
 use Rattle.pub_look.specs.History.{Continues, History}
@@ -9,7 +10,7 @@ use Rattle.srv_ingest.specs.declared.report.IngestEnd.{IngestEnd}
 use Rattle.srv_ingest.specs.declared.report.IngestEnd.TheVariants as ends
 use Rattle.srv_ingest.specs.declared.report.IngestReport.{IngestReport}
 use Rattle.srv_ingest.specs.Ingests.{Counts, EndsIngest, found_with, Settled, SettledWith, Settlement}
-use Rattle.srv_ingest.specs.Turns.{SettlesNext, StopsNext}
+use Rattle.srv_ingest.specs.Turns.{operations, SettlesNext, StopsNext}
 use Rattle.srv_ingest.proofs.CountLemmas.{Counts-found, Counts-more, Counts-none}
 use Rattle.srv_ingest.proofs.IngestLemmas.{Settled-more, Settled-none, Settled-then}
 
@@ -112,4 +113,27 @@ pub proto-stopped : (proto : Proto) (a b c : InboxShown) (pass pass' pass'' : Hi
 proto-stopped proto a b c pass pass' pass'' report report' end far stops =
     stops.sees.proto ∙ far.is.sees.proto
 
-pub ruleset so_far = (SoFar-none, SoFar-more, later-stopped, proto-stopped)
+-- what was seen by the end goes on, as it was called before
+pub later-seen : (before : List Op) (seen seen' : History) → Continues before seen.seen → seen' ≡ seen
+    → Continues before seen'.seen
+later-seen before seen seen' later same = (later.0, ap (λ (h : History). h.seen) same ∙ later.1)
+
+-- the prototype stays, as what was seen was called before
+pub proto-seen : (proto : Proto) (seen seen' : History) → seen.proto ≡ proto → seen' ≡ seen → seen'.proto ≡ proto
+proto-seen proto seen seen' stays same = ap (λ (h : History). h.proto) same ∙ stays
+
+-- what a share has counted, before the next turn
+pub share-fits : (before share : ℕ) (report : IngestReport) → share ≡ before + operations report
+    → operations report ≤ share
+share-fits before share report is = omega (arith, is)
+
+-- what a share has counted, after one more turn
+pub share-more : (before share share' : ℕ) (report report' : IngestReport) → share ≡ before + operations report
+    → share' + operations report ≡ share + operations report' → share' ≡ before + operations report'
+share-more before share share' report report' is counted = omega (arith, is, counted)
+
+-- what a share has counted by the end
+pub share-stopped : (before share share' counted : ℕ) (report report' : IngestReport)
+    → share ≡ before + operations report → share' + operations report ≡ share + operations report'
+    → counted ≡ share' → counted ≡ before + report'.published + report'.retracted
+share-stopped before share share' counted report report' is more same = omega (arith, is, more, same)

@@ -1,5 +1,3 @@
-pub mod Accepted
-pub mod Alone
 pub mod Attempts
 pub mod Expires
 pub mod Ingests

@@ -96,7 +96,6 @@ fn count_short(short: u64, verdict: Expiry) -> u64
 
 /// Lets all runs go that are more than `keep` seconds old, at each moment of the clock, and returns once the clock has
 /// no more. It waits for the clock, for the desk, and for readers that are inside the copy that is changed.
-#[tactic(auto, using(crate::proofs::ExpireEnd::moments))]
 pub fn expire_all<N: Name, R: Wait, C: Clock>(
     rt: &R,
     alloc: Global,

@@ -16,7 +16,6 @@ use std::sync::{Mutex, Wait};
 /// Takes in all names that arrive, until none will arrive any more or the inbox fails. A file comes to the collection,
 /// and a name that ends in `.retract` takes back the file that it names. Each name gets its verdict, in order. It waits
 /// for the inbox, for the desk, and for readers that are inside the copy that is changed.
-#[tactic(auto, using(crate::proofs::SoFar::so_far))]
 pub fn ingest_all<N: Name, R: Wait, I: Inbox>(
     rt: &R,
     alloc: Global,

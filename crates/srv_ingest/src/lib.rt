@@ -8,7 +8,6 @@ mod deciding;
 mod expire;
 mod file;
 mod ingest;
-pub mod laws;
 mod report;
 mod seat;
 mod turn;

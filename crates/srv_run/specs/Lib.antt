@@ -4,7 +4,6 @@ pub mod Devices
 pub mod Load
 pub mod Once
 pub mod Opening
-pub mod Output
 pub mod Publishing
 pub mod Reading
 pub mod Report
@@ -12,6 +11,3 @@ pub mod Run
 pub mod Serve
 pub mod Stage
 pub mod Steps
-pub mod WellFormed
-pub mod WellServed
-pub mod Worked

@@ -5,7 +5,6 @@ mod check;
 mod closing;
 mod end;
 mod job;
-pub mod laws;
 mod load;
 mod once;
 mod opening;

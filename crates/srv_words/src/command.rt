@@ -1,6 +1,6 @@
 //! The command as `clap` takes it apart.
 ghost use Rattle.std.specs.Prelude.{◌≡◌, true, false, Some, IfOk};
-ghost use Rattle.clap.specs.Simple.{app_of, on_top, with_rule, with_subcommand as added};
+ghost use Rattle.clap.specs.Simple.{App, app_of, on_top, with_rule, with_subcommand as added};
 ghost use Rattle.clap.specs.Walk.{rule_of};
 ghost use Rattle.clap.specs.declared.builder.command.Command.TheViews.{out-Command};
 ghost use Rattle.srv_words.specs.Command as spec;
@@ -65,55 +65,69 @@ fn with_arg<'a>(command: Command<'a>, arg: Arg<'a>) -> Result<Command<'a>, NoMem
     Ok(command.arg(arg)?)
 }
 
-// A command with one more option.
+// A command with one more option, where memory sufficed for the command.
 fn with_option<'a>(
     alloc: Global,
-    command: Command<'a>,
+    command: Result<Command<'a>, NoMemory>,
     id: &'a str,
     value: &'a str,
     help: &'a str,
     required: bool,
 ) -> Result<Command<'a>, NoMemory>
-    requires { (out-Command command).has_globals ≡ false }
-    ensures app { IfOk result (λ c. app_of c ≡ with_rule (app_of command.entry) (spec.option id.entry.now required)) }
+    requires { IfOk command (λ c. (out-Command c).has_globals ≡ false) }
+    ensures app { (before : App) → IfOk command.entry (λ c. app_of c ≡ before)
+        → IfOk result (λ c. app_of c ≡ with_rule before (spec.option id.entry.now required)) }
     ensures plain { IfOk result (λ c. (out-Command c).has_globals ≡ false) }
 {
+    let command = command?;
     with_arg(command, option(alloc, id, value, help, required))
 }
 
 // The options of a collection.
 #[tactic(auto, unfolding(crate::specs::Command::with_site))]
-fn with_site<'a>(alloc: Global, command: Command<'a>) -> Result<Command<'a>, NoMemory>
-    requires { (out-Command command).has_globals ≡ false }
-    ensures app { IfOk result (λ c. app_of c ≡ spec.with_site (app_of command.entry)) }
+fn with_site<'a>(
+    alloc: Global,
+    command: Result<Command<'a>, NoMemory>,
+) -> Result<Command<'a>, NoMemory>
+    requires { IfOk command (λ c. (out-Command c).has_globals ≡ false) }
+    ensures app { (before : App) → IfOk command.entry (λ c. app_of c ≡ before)
+        → IfOk result (λ c. app_of c ≡ spec.with_site before) }
     ensures plain { IfOk result (λ c. (out-Command c).has_globals ≡ false) }
 {
-    let command = with_option(alloc, command, "name", "NAME", NAME_HELP, true)?;
-    let command = with_option(alloc, command, "proto", "PATH", PROTO_HELP, true)?;
-    let command = with_option(alloc, command, "epoch", "INSTANT", EPOCH_HELP, false)?;
+    let command = with_option(alloc, command, "name", "NAME", NAME_HELP, true);
+    let command = with_option(alloc, command, "proto", "PATH", PROTO_HELP, true);
+    let command = with_option(alloc, command, "epoch", "INSTANT", EPOCH_HELP, false);
     with_option(alloc, command, "mark", "MARK", MARK_HELP, false)
 }
 
 // The options of a door.
 #[tactic(auto, unfolding(crate::specs::Command::with_door))]
-fn with_door<'a>(alloc: Global, command: Command<'a>) -> Result<Command<'a>, NoMemory>
-    requires { (out-Command command).has_globals ≡ false }
-    ensures app { IfOk result (λ c. app_of c ≡ spec.with_door (app_of command.entry)) }
+fn with_door<'a>(
+    alloc: Global,
+    command: Result<Command<'a>, NoMemory>,
+) -> Result<Command<'a>, NoMemory>
+    requires { IfOk command (λ c. (out-Command c).has_globals ≡ false) }
+    ensures app { (before : App) → IfOk command.entry (λ c. app_of c ≡ before)
+        → IfOk result (λ c. app_of c ≡ spec.with_door before) }
     ensures plain { IfOk result (λ c. (out-Command c).has_globals ≡ false) }
 {
-    let command = with_option(alloc, command, "listen", "ADDRESS", LISTEN_HELP, true)?;
-    let command = with_option(alloc, command, "workers", "K", WORKERS_HELP, false)?;
+    let command = with_option(alloc, command, "listen", "ADDRESS", LISTEN_HELP, true);
+    let command = with_option(alloc, command, "workers", "K", WORKERS_HELP, false);
     with_option(alloc, command, "connections", "C", CONNECTIONS_HELP, false)
 }
 
 // The options of a clock.
 #[tactic(auto, unfolding(crate::specs::Command::with_clock))]
-fn with_clock<'a>(alloc: Global, command: Command<'a>) -> Result<Command<'a>, NoMemory>
-    requires { (out-Command command).has_globals ≡ false }
-    ensures app { IfOk result (λ c. app_of c ≡ spec.with_clock (app_of command.entry)) }
+fn with_clock<'a>(
+    alloc: Global,
+    command: Result<Command<'a>, NoMemory>,
+) -> Result<Command<'a>, NoMemory>
+    requires { IfOk command (λ c. (out-Command c).has_globals ≡ false) }
+    ensures app { (before : App) → IfOk command.entry (λ c. app_of c ≡ before)
+        → IfOk result (λ c. app_of c ≡ spec.with_clock before) }
     ensures plain { IfOk result (λ c. (out-Command c).has_globals ≡ false) }
 {
-    let command = with_option(alloc, command, "keep", "S", KEEP_HELP, false)?;
+    let command = with_option(alloc, command, "keep", "S", KEEP_HELP, false);
     with_option(alloc, command, "ticks", "T", TICKS_HELP, false)
 }
 
@@ -123,7 +137,7 @@ fn once<'a>(alloc: Global) -> Result<Command<'a>, NoMemory>
     ensures plain { IfOk result (λ c. (out-Command c).has_globals ≡ false) }
 {
     let command = Command::new(alloc, "once").about(ONCE_HELP);
-    let command = with_site(alloc, command)?;
+    let command = with_site(alloc, Ok(command))?;
     with_arg(command, words(alloc, "STEP", STEP_HELP))
 }
 
@@ -152,8 +166,8 @@ fn serve<'a>(alloc: Global) -> Result<Command<'a>, NoMemory>
     ensures plain { IfOk result (λ c. (out-Command c).has_globals ≡ false) }
 {
     let command = Command::new(alloc, "serve").about(SERVE_HELP);
-    let command = with_site(alloc, command)?;
-    let command = with_door(alloc, command)?;
+    let command = with_site(alloc, Ok(command));
+    let command = with_door(alloc, command);
     let command = with_clock(alloc, command)?;
     with_arg(command, words(alloc, "INBOX", INBOX_HELP))
 }
@@ -167,6 +181,20 @@ fn with_subcommand<'a>(
     ensures { IfOk result (λ c. app_of c ≡ added (app_of command.entry) (app_of subcommand.entry).top) }
 {
     Ok(command.subcommand(subcommand)?)
+}
+
+// The same of a command and a subcommand for which memory may have run out.
+fn joined<'a>(
+    command: Result<Command<'a>, NoMemory>,
+    subcommand: Result<Command<'a>, NoMemory>,
+) -> Result<Command<'a>, NoMemory>
+    requires plain { IfOk subcommand (λ c. (out-Command c).has_globals ≡ false) }
+    ensures { (first second : App) → IfOk command.entry (λ c. app_of c ≡ first)
+        → IfOk subcommand.entry (λ c. app_of c ≡ second) → IfOk result (λ c. app_of c ≡ added first second.top) }
+{
+    let command = command?;
+    let subcommand = subcommand?;
+    with_subcommand(command, subcommand)
 }
 
 // A command that wants a subcommand, and is given the words after the program's name.
@@ -190,8 +218,8 @@ fn top<'a>(alloc: Global) -> Result<Command<'a>, NoMemory>
 pub(crate) fn fmrcd<'a>(alloc: Global) -> Result<Command<'a>, NoMemory>
     ensures { IfOk result (λ c. app_of c ≡ spec.fmrcd) }
 {
-    let command = with_subcommand(top(alloc)?, once(alloc)?)?;
-    let command = with_subcommand(command, check(alloc)?)?;
-    let command = with_subcommand(command, load(alloc)?)?;
-    with_subcommand(command, serve(alloc)?)
+    let command = joined(top(alloc), once(alloc));
+    let command = joined(command, check(alloc));
+    let command = joined(command, load(alloc));
+    joined(command, serve(alloc))
 }

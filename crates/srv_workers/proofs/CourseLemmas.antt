@@ -108,5 +108,3 @@ sound-turn {D} {I} {C} {H} proto log (u ∷ us) (v ∷ vs) (w ∷ ws) some one s
 
     learnt : AllZip (HasLearnt log) (v ∷ vs) (w ∷ ws)
     learnt = AllZip-at (HasLearnt log) (v ∷ vs) (w ∷ ws) same two
-
-pub ruleset courses = (keeps-start, keeps-turn, tasks-turn, begin-turn, sound-turn)

@@ -26,12 +26,17 @@ use Rattle.srv_workers.specs.Runs.{AreRuns, IsClockRun, IsDoorRun, IsInboxRun, R
 use Rattle.srv_workers.specs.Tasks.{Adds, clock_of, clock_told, door_of, door_told, inbox_of, inbox_told}
 use Rattle.srv_workers.proofs.DoneLemmas.{AreDone-is, runs-count}
 
--- passes for all tasks
-pub passes-for : {D I C : Type 0} (tasks : List (Task D I C ℕ)) (devices : Devices D I C) (passes : List History)
-    (u : History) → Adds [] tasks devices.doors devices.inboxes devices.clocks
-    → passes ≡ replicate (device_count devices) u → passes ≡ replicate (length tasks) u
-passes-for tasks devices passes u adds is =
-    is ∙ ap (λ (n : ℕ). replicate n u) (omega (arith, adds.count))
+-- one of equal items for each task
+pub one-for-each : {D I C X : Type 0} (tasks : List (Task D I C ℕ)) (devices : Devices D I C) (items : List X) (u : X)
+    → Adds [] tasks devices.doors devices.inboxes devices.clocks → items ≡ replicate (device_count devices) u
+    → items ≡ replicate (length tasks) u
+one-for-each tasks devices items u adds are =
+    are ∙ ap (λ (n : ℕ). replicate n u) (omega (arith, adds.count))
+
+-- room for a worker for each task
+pub room-for-each : {D I C : Type 0} (tasks : List (Task D I C ℕ)) (devices : Devices D I C) (free : ℕ)
+    → Adds [] tasks devices.doors devices.inboxes devices.clocks → device_count devices ≤ free → length tasks ≤ free
+room-for-each tasks devices free adds enough = omega (arith, adds.count, enough)
 
 -- workers whose tasks are these
 pub IsHired-is : {D I C : Type 0} (proto : Proto) (devices : Devices D I C) (tasks : List (Task D I C ℕ))
@@ -154,4 +159,4 @@ RanTogether-is door link inbox clock proto keep log before after tasks outcome d
         + sum_by (λ (report : IngestReport). report.retracted) is
         + sum_by (λ (report : ExpireReport). report.expired) cs) closes.inboxes_told closes.clocks_told
 
-pub ruleset hires = (passes-for, IsHired-is, hired-some, hired-done)
+pub ruleset hires = (hired-some, hired-done)

@@ -1,11 +1,11 @@
 -- Workers that get their tasks and passes one after the other.
-use Rattle.std.proofs.Common.{◌≡◌, ℕ, zero, suc, ◌+◌, ◌-◌, List, [], ◌∷◌, ◌++◌, length, map, take, drop, All, replicate, slice_index_or, sym, ap, subst, ◌∙◌, arith}
-use Rattle.std.proofs.lemmas.List.{map-append}
+use Rattle.std.proofs.Common.{◌≡◌, ℕ, zero, suc, ◌+◌, ◌-◌, ◌<◌, ◌≤◌, List, [], ◌∷◌, ◌++◌, length, map, take, drop, All, replicate, slice_index_or, sym, ap, subst, ◌∙◌, arith}
+use Rattle.std.proofs.lemmas.List.{length-drop, length-replicate, map-append, take_all}
 use Rattle.std.proofs.lemmas.List.Elements.{All-nil, All-cons, All-append}
 use Rattle.pub_look.specs.History.{History}
 use Rattle.srv_workers.specs.declared.task.Task.{Task}
 use Rattle.srv_workers.specs.declared.task.Worker.{Worker}
-use Rattle.srv_workers.proofs.TaskLemmas.{drop-next, take-next}
+use Rattle.srv_workers.proofs.TaskLemmas.{take-next}
 
 -- the tasks of workers, with one more
 pub staff-more : {D I C P H : Type 0} (n : ℕ) (staff staff' : List (Worker D I C P H))
@@ -56,4 +56,39 @@ pub equal-first : {X : Type 0} (len n : ℕ) (u : X) (items more : List X) (item
     → items ≡ replicate (len - n) u → items ≡ item ∷ more → item ≡ u
 equal-first len n u items more item are first = (replicate-first (len - n) u item more (sym are ∙ first)).0
 
-pub ruleset staffs = (staff-more, unused-more, equals-next, equal-first, drop-next)
+-- no worker has a task yet
+pub staff-none : {D I C P H : Type 0} (staff : List (Worker D I C P H)) (tasks : List (Task D I C H)) → staff ≡ []
+    → map (λ (w : Worker D I C P H). w.task) staff ≡ take 0 tasks
+staff-none {D} {I} {C} {P} {H} staff tasks none =
+    ap (λ (l : List (Worker D I C P H)). map (λ (w : Worker D I C P H). w.task) l) none
+
+-- no worker has a pass yet
+pub unused-none : {D I C H : Type 0} (u : History) (staff : List (Worker D I C History H)) → staff ≡ []
+    → All (λ (w : Worker D I C History H). w.pass ≡ u) staff
+unused-none {D} {I} {C} {H} u staff none =
+    subst (λ (l : List (Worker D I C History H)). All (λ (w : Worker D I C History H). w.pass ≡ u) l) (sym none)
+    (All-nil (λ (w : Worker D I C History H). w.pass ≡ u))
+
+-- some of equal items are left
+pub equals-some : {X : Type 0} (len n : ℕ) (u : X) (items : List X) → n < len → items ≡ replicate (len - n) u
+    → 0 < length items
+equals-some {X} len n u items below are =
+    omega (arith, below, ap (λ (l : List X). length l) are, length-replicate (len - n) u)
+
+-- some items are left
+pub tasks-some : {X : Type 0} (n : ℕ) (items rest : List X) → n < length items → rest ≡ drop n items → 0 < length rest
+tasks-some {X} n items rest below is =
+    omega (arith, below, ap (λ (l : List X). length l) is, length-drop n items)
+
+-- the tasks of all workers
+pub staff-all : {D I C P H : Type 0} (n : ℕ) (staff staff' : List (Worker D I C P H)) (tasks : List (Task D I C H))
+    → staff' ≡ staff → map (λ (w : Worker D I C P H). w.task) staff ≡ take n tasks → length tasks ≤ n
+    → map (λ (w : Worker D I C P H). w.task) staff' ≡ tasks
+staff-all {D} {I} {C} {P} {H} n staff staff' tasks same are all =
+    ap (λ (l : List (Worker D I C P H)). map (λ (w : Worker D I C P H). w.task) l) same ∙ are ∙ take_all n tasks all
+
+-- the passes of all workers
+pub unused-all : {D I C H : Type 0} (u : History) (staff staff' : List (Worker D I C History H)) → staff' ≡ staff
+    → All (λ (w : Worker D I C History H). w.pass ≡ u) staff → All (λ (w : Worker D I C History H). w.pass ≡ u) staff'
+unused-all {D} {I} {C} {H} u staff staff' same =
+    subst (λ (l : List (Worker D I C History H)). All (λ (w : Worker D I C History H). w.pass ≡ u) l) (sym same)

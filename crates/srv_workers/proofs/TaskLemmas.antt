@@ -1,5 +1,6 @@
 -- Tasks that are put behind others.
-use Rattle.std.proofs.Common.{◌≡◌, ℕ, zero, suc, ◌+◌, List, [], ◌∷◌, ◌++◌, take, drop, All, replicate, Option, Some, None, refl, sym, ap, subst, ◌∙◌, append_assoc, append-nil, length-append, take-add, drop-drop, arith}
+use Rattle.std.proofs.Common.{◌≡◌, ℕ, zero, suc, ◌+◌, List, [], ◌∷◌, ◌++◌, length, take, drop, All, replicate, Option, Some, None, refl, sym, ap, subst, ◌∙◌, append_assoc, append-nil, length-append, take-add, drop-drop, arith}
+use Rattle.std.proofs.lemmas.List.{length-replicate}
 use Rattle.std.proofs.lemmas.List.Elements.{All-nil, All-cons, All-append, All-head, All-tail, filter_map-append}
 use Rattle.std.specs.List.{cons_option, filter_map}
 use Rattle.srv_conn.specs.declared.door_report.DoorReport.{DoorReport}
@@ -151,11 +152,12 @@ Adds-next-clock {D} {I} {C} before after after' n clocks rest clock more share r
     (Adds-clock before after [] [] (take n clocks) clock share report unused adds))
 
 -- tasks for all devices, of which there were none before
-pub Adds-all : {D I C : Type 0} (none first second all : List (Task D I C ℕ)) (doors : List D) (inboxes : List I)
-    (clocks : List C) → none ≡ [] → Adds none first doors [] [] → Adds first second [] inboxes []
-    → Adds second all [] [] clocks → Adds [] all doors inboxes clocks
-Adds-all {D} {I} {C} none first second all doors inboxes clocks empty one two three =
-    subst (λ (l : List (Task D I C ℕ)). Adds l all doors inboxes clocks) empty (record {
+pub Adds-all : {D I C : Type 0} (none first second all tasks : List (Task D I C ℕ)) (doors : List D)
+    (inboxes : List I) (clocks : List C) → none ≡ [] → tasks ≡ all → Adds none first doors [] []
+    → Adds first second [] inboxes [] → Adds second all [] [] clocks → Adds [] tasks doors inboxes clocks
+Adds-all {D} {I} {C} none first second all tasks doors inboxes clocks empty same one two three =
+    subst (λ (l : List (Task D I C ℕ)). Adds [] l doors inboxes clocks) (sym same)
+    (subst (λ (l : List (Task D I C ℕ)). Adds l all doors inboxes clocks) empty (record {
       doors_are = three.doors_are ∙ append-nil (filter_map door_of second) ∙ two.doors_are
           ∙ append-nil (filter_map door_of first) ∙ one.doors_are;
       inboxes_are = three.inboxes_are ∙ append-nil (filter_map inbox_of second) ∙ two.inboxes_are
@@ -164,7 +166,7 @@ Adds-all {D} {I} {C} none first second all doors inboxes clocks empty one two th
           ∙ append-nil (filter_map clock_of first) ∙ one.clocks_are ∙ append-nil (filter_map clock_of none));
       unused = λ unused. three.unused (two.unused (one.unused unused));
       count = omega (arith, one.count, two.count, three.count);
-    })
+    }))
 
 -- shares that have counted nothing
 pub unused-shares : (n : ℕ) (shares : List ℕ) → shares ≡ replicate n 0 → All (λ (share : ℕ). share ≡ 0) shares
@@ -173,6 +175,9 @@ unused-shares zero shares is = subst (λ (l : List ℕ). All (λ (share : ℕ). 
 unused-shares (suc n) shares is = subst (λ (l : List ℕ). All (λ (share : ℕ). share ≡ 0) l) (sym is)
     (All-cons (λ (share : ℕ). share ≡ 0) 0 (replicate n 0) refl (unused-shares n (replicate n 0) refl))
 
-pub ruleset adds = (Adds-none, Adds-next-door, Adds-next-inbox, Adds-next-clock, drop-next)
+-- there are shares for inboxes and clocks
+pub shares-count : (inboxes clocks : ℕ) (shares : List ℕ) → shares ≡ replicate (inboxes + clocks) 0
+    → length shares ≡ inboxes + clocks
+shares-count inboxes clocks shares is = ap (λ (l : List ℕ). length l) is ∙ length-replicate (inboxes + clocks) 0
 
-pub ruleset all_tasks = (Adds-all, unused-shares)
+pub ruleset adds = (Adds-none, Adds-next-door, Adds-next-inbox, Adds-next-clock, drop-next)

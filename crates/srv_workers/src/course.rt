@@ -76,7 +76,6 @@ fn learn_once<R: Threads + Sync, D: Send, I: Send, C: Send, H: Send, N: Name + S
 }
 
 // Has each worker learn the whole log. All operations that a worker had seen before begin it.
-#[tactic(auto, using(crate::proofs::CourseLemmas::courses))]
 pub(crate) fn learn_all<
     R: Threads + Wait + Sync,
     D: Send,

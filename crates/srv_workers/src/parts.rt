@@ -2,7 +2,7 @@
 ghost use Rattle.std.specs.Prelude.{◌≡◌, ◌+◌, ◌<◌, ◌≤◌, ◌^◌, ◌∷◌, [], IfOk, map};
 ghost use Rattle.srv_workers.specs.Parts.{HasRoom, IsEmpty, PutsParts};
 
-use crate::slots::{Slots, take_off};
+use crate::slots::{Slots, pair_with_room, take_off};
 use crate::task::{Task, Worker};
 use fm_base::{List, NoMemory};
 use pub_snap::Share;
@@ -39,14 +39,18 @@ pub(crate) fn room_for<D: Drop, I: Drop, C: Drop, H: Drop>(
     ensures clocks { IfOk result (λ parts. (clocks ≤ parts.clocks.free) × (clocks ≤ parts.clocks_told.free)) }
     ensures shares { IfOk result (λ parts. inboxes + clocks ≤ parts.shares.free) }
 {
+    let shares = Slots::with_room(alloc, inboxes + clocks)?;
+    let doors = pair_with_room(alloc, doors)?;
+    let inboxes = pair_with_room(alloc, inboxes)?;
+    let clocks = pair_with_room(alloc, clocks)?;
     Ok(Parts {
-        doors: Slots::with_room(alloc, doors)?,
-        inboxes: Slots::with_room(alloc, inboxes)?,
-        clocks: Slots::with_room(alloc, clocks)?,
-        shares: Slots::with_room(alloc, inboxes + clocks)?,
-        doors_told: Slots::with_room(alloc, doors)?,
-        inboxes_told: Slots::with_room(alloc, inboxes)?,
-        clocks_told: Slots::with_room(alloc, clocks)?,
+        doors: doors.first,
+        inboxes: inboxes.first,
+        clocks: clocks.first,
+        shares,
+        doors_told: doors.second,
+        inboxes_told: inboxes.second,
+        clocks_told: clocks.second,
     })
 }
 

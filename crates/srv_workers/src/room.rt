@@ -5,7 +5,7 @@ ghost use Rattle.srv_workers.specs.Room.{IsRoomFor};
 use crate::outcome::Devices;
 use crate::own::copies_of;
 use crate::parts::{DeskParts, room_for};
-use crate::slots::Slots;
+use crate::slots::{Slots, pair_with_room};
 use crate::task::{DeskTask, DeskWorker};
 use fm_base::{Arc, List, NoMemory};
 use fm_model::Proto;
@@ -34,10 +34,13 @@ pub(crate) fn room_of<D: Drop, I: Drop, C: Drop, N: Name>(
     let inboxes = devices.inboxes.len();
     let clocks = devices.clocks.len();
     let count = doors + inboxes + clocks;
+    let protos = copies_of(alloc, proto, count)?;
+    let workers = pair_with_room(alloc, count)?;
+    let parts = room_for(alloc, doors, inboxes, clocks)?;
     Ok(Room {
-        tasks: Slots::with_room(alloc, count)?,
-        staff: Slots::with_room(alloc, count)?,
-        parts: room_for(alloc, doors, inboxes, clocks)?,
-        protos: copies_of(alloc, proto, count)?,
+        tasks: workers.first,
+        staff: workers.second,
+        parts,
+        protos,
     })
 }

@@ -51,6 +51,26 @@ impl<T: Drop> Slots<T> {
     }
 }
 
+// Two lists with room for equally many items.
+#[derive(Drop)]
+pub(crate) struct SlotPair<A, B> {
+    pub first: Slots<A>,
+    pub second: Slots<B>,
+}
+
+// No items yet, and room for `count` in each of two lists.
+pub(crate) fn pair_with_room<A: Drop, B: Drop>(
+    alloc: Global,
+    count: usize,
+) -> Result<SlotPair<A, B>, NoMemory>
+    ensures items { IfOk result (λ pair. (pair.first.items ≡ []) × (pair.second.items ≡ [])) }
+    ensures free { IfOk result (λ pair. (count ≤ pair.first.free) × (count ≤ pair.second.free)) }
+{
+    let first = Slots::with_room(alloc, count)?;
+    let second = Slots::with_room(alloc, count)?;
+    Ok(SlotPair { first, second })
+}
+
 // Takes the first item off a list.
 pub(crate) fn take_off<T>(list: &mut List<T>) -> T
     requires { 0 < length list.old }

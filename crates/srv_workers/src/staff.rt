@@ -10,7 +10,6 @@ use fm_model::Proto;
 use pub_snap::{Name, Pass};
 
 // A worker for each of the tasks, with one of the passes each, and the prototype.
-#[tactic(auto, using(crate::proofs::StaffLemmas::staffs))]
 pub(crate) fn staff_of<D: Drop, I: Drop, C: Drop, N: Name>(
     tasks: List<DeskTask<D, I, C, N>>,
     passes: List<Pass<N>>,

@@ -85,7 +85,6 @@ pub(crate) fn let_go_each<D: Drop, I: Drop, C: Drop, N: Name>(
 }
 
 // A task for each device: the doors first, then the inboxes, then the clocks. It takes no memory.
-#[tactic(auto, using(crate::proofs::TaskLemmas::all_tasks))]
 pub(crate) fn tasks_of<D: Drop, I: Drop, C: Drop, N: Name>(
     devices: &mut Devices<D, I, C>,
     shares: List<Share<N>>,

@@ -25,7 +25,6 @@ use std::sync::Wait;
 use std::thread::Threads;
 
 // A worker for each device, with a pass that has seen nothing, and a share where it publishes. It takes no memory.
-#[tactic(auto, using(crate::proofs::HireLemmas::hires))]
 fn hire<D: Drop, I: Drop, C: Drop, N: Name>(
     devices: &mut Devices<D, I, C>,
     passes: List<Pass<N>>,

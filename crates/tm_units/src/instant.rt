@@ -1,7 +1,8 @@
 //! Instants as texts.
-ghost use Rattle.std.specs.Prelude.{◌≡◌, ◌+◌, ◌%◌, ◌++◌, OnOk, OnErr, IfSome, pos, neg_ℤ, unsigned_abs};
+ghost use Rattle.std.specs.Prelude.{◌≡◌, ◌+◌, ◌%◌, ◌++◌, ◌&&◌, ◌==◌, length, IsTrue, OnOk, OnErr, IfSome, pos, neg_ℤ, unsigned_abs};
 ghost use Rattle.jiff_core.specs.Calendar.{IsBetween};
 ghost use Rattle.nc_model.specs.Instant as spec;
+ghost use Rattle.nc_model.specs.Stamp.{begins_in_form};
 ghost use Rattle.tm_units.specs.Parts.{HasParts};
 
 use crate::calendar::{Time, moment_of};
@@ -25,12 +26,21 @@ pub fn read_instant(text: &[u8]) -> Option<i64>
     moment_in(text)
 }
 
+// Whether a text is of the form of an instant.
+#[tactic(auto, unfolding(nc_model::specs::Instant::instant_form))]
+fn has_form(text: &[u8]) -> bool
+    ensures form { result ≡ (begins_in_form spec.instant_form text.now && length text.now == 20) }
+    ensures len { IsTrue result → length text.now ≡ 20 }
+{
+    begins_in_form(b"0000-00-00T00:00:00Z", text) && text.len() == 20
+}
+
 // The instant that a text writes.
-#[tactic(auto, unfolding(nc_model::specs::Instant::instant_of, nc_model::specs::Instant::instant_form))]
+#[tactic(auto, unfolding(nc_model::specs::Instant::instant_of))]
 fn moment_in(text: &[u8]) -> Option<i64>
     ensures { result ≡ spec.instant_of text.now }
 {
-    if !begins_in_form(b"0000-00-00T00:00:00Z", text) || text.len() != 20 {
+    if !has_form(text) {
         return None;
     }
     let time = Time {

@@ -1,5 +1,5 @@
 //! The time of an origin, and its zone.
-ghost use Rattle.std.specs.Prelude.{◌≡◌, ◌<◌, ◌≤◌, IfOk, true};
+ghost use Rattle.std.specs.Prelude.{◌≡◌, ◌<◌, ◌≤◌, IfOk, false, true};
 ghost use Rattle.jiff_core.specs.Calendar.{IsWithin};
 ghost use Rattle.nc_model.specs.UnitsReading as spec;
 ghost use Rattle.tm_units.specs.Scanning.{Reads};
@@ -130,6 +130,26 @@ fn shift(scanner: &mut Scanner<'_>) -> Result<i32, BadPlace>
     Ok((hour * 3600 + minute * 60) as i32)
 }
 
+// Reads a zone without a sign: a word for UTC.
+#[tactic(auto, unfolding(nc_model::specs::UnitsReading::zone_at))]
+fn zone_word(scanner: &mut Scanner<'_>) -> Result<i32, BadPlace>
+    requires east { spec.next_is 43 scanner.old ≡ false }
+    requires west { spec.next_is 45 scanner.old ≡ false }
+    ensures read { Reads (λ n. n) (spec.zone_at true scanner.old) result scanner.new }
+    ensures range { IfOk result (λ z. IsWithin 86_399 z) }
+{
+    if scanner.next_is_letter(b'z') {
+        scanner.letter(b'z')?;
+        return Ok(0);
+    }
+    if scanner.next_is_letter(b'g') {
+        letters(scanner, b"gmt")?;
+        return Ok(0);
+    }
+    letters(scanner, b"utc")?;
+    Ok(0)
+}
+
 // Reads a zone as the seconds by which its clocks are ahead of UTC.
 #[tactic(auto, unfolding(nc_model::specs::UnitsReading::zone_at))]
 fn zone(scanner: &mut Scanner<'_>) -> Result<i32, BadPlace>
@@ -144,16 +164,7 @@ fn zone(scanner: &mut Scanner<'_>) -> Result<i32, BadPlace>
         scanner.byte(b'-')?;
         return Ok(-(distance(scanner)? as i32));
     }
-    if scanner.next_is_letter(b'z') {
-        scanner.letter(b'z')?;
-        return Ok(0);
-    }
-    if scanner.next_is_letter(b'g') {
-        letters(scanner, b"gmt")?;
-        return Ok(0);
-    }
-    letters(scanner, b"utc")?;
-    Ok(0)
+    zone_word(scanner)
 }
 
 // Reads a zone, which may lack its sign after a gap.

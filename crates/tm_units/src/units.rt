@@ -1,5 +1,6 @@
 //! The `units` and `calendar` attributes of a time variable.
 ghost use Rattle.std.specs.Prelude.{◌≡◌, Err, option_map, true};
+ghost use Rattle.nc_model.specs.Calendar.{unix_seconds};
 ghost use Rattle.nc_model.specs.Units as spec;
 ghost use Rattle.nc_model.specs.UnitsFaults.{GoesWrongFirst, IsWrongUnit};
 ghost use Rattle.nc_model.specs.UnitsReading.{units_at};
@@ -75,6 +76,13 @@ fn is_before_gregorian(day: i32) -> bool
     day < Date::constant(1582, 10, 15).to_plain().to_unix_epoch_day()
 }
 
+// The Unix seconds of an origin, by its day and the seconds from the midnight that begins it.
+fn origin(day: i32, seconds: i32) -> i64
+    ensures { result ≡ unix_seconds day seconds }
+{
+    i64::from(day) * SECONDS_PER_DAY + i64::from(seconds)
+}
+
 // The units of what a text says, in a calendar.
 #[tactic(auto, unfolding(nc_model::specs::Units::in_calendar))]
 fn in_calendar(written: Written, calendar: Option<&[u8]>) -> Result<Units, UnitsFault>
@@ -89,7 +97,7 @@ fn in_calendar(written: Written, calendar: Option<&[u8]>) -> Result<Units, Units
     }
     Ok(Units {
         per: written.per,
-        origin: i64::from(written.day) * SECONDS_PER_DAY + i64::from(written.seconds),
+        origin: origin(written.day, written.seconds),
     })
 }
 

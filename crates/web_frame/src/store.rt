@@ -25,6 +25,29 @@ impl Model for Store {
     ghost invariant = { λ s. (s.start ≤ s.end) × (s.end ≤ MAX_HEAD) × (length s.bytes.items ≡ MAX_HEAD) };
 }
 
+// Moves the bytes from `start` to `end` to the front, and returns where they end there.
+fn to_front(bytes: &mut [u8], start: usize, end: usize) -> usize
+    requires ordered { start ≤ end }
+    requires within { end ≤ length bytes.old }
+    ensures end { result ≡ end - start }
+    ensures bytes { slice_range bytes.new 0 result ≡ slice_range bytes.old start end }
+    ensures len { length bytes.new ≡ length bytes.old }
+{
+    if start > 0 {
+        bytes.copy_within(start..end, 0);
+    }
+    end - start
+}
+
+// Writes bytes over those from `at` on.
+fn put_at(bytes: &mut [u8], at: usize, piece: &[u8])
+    requires { at + length piece.now ≤ length bytes.old }
+    ensures bytes { slice_range bytes.new 0 (at + length piece.now) ≡ slice_range bytes.old 0 at ++ piece.now }
+    ensures len { length bytes.new ≡ length bytes.old }
+{
+    bytes[at..at + piece.len()].copy_from_slice(piece);
+}
+
 impl Store {
     pub fn new(alloc: Global) -> Result<Store, NoMemory>
         ensures { IfOk result (λ s. s ≡ []) }
@@ -55,13 +78,10 @@ impl Store {
         ensures count { result ≡ min (length piece.now) (MAX_HEAD - length self.old) }
         ensures bytes { self.new ≡ self.old ++ take result piece.now }
     {
-        if self.start > 0 {
-            self.bytes.copy_within(self.start..self.end, 0);
-            self.end -= self.start;
-            self.start = 0;
-        }
+        self.end = to_front(self.bytes.as_mut_slice(), self.start, self.end);
+        self.start = 0;
         let count = piece.len().min(MAX_HEAD - self.end);
-        self.bytes[self.end..self.end + count].copy_from_slice(&piece[..count]);
+        put_at(self.bytes.as_mut_slice(), self.end, &piece[..count]);
         self.end += count;
         count
     }

@@ -138,7 +138,7 @@ fn open(
     FolderInbox::open(machine, rt.alloc(), b"in")
 }
 
-// Whether the inbox of a folder with these names gives these, and has so many faults then. `fails` says whether a
+// Whether the inbox of a folder with these names gives these, and has `faults` faults then. `fails` says whether a
 // listing fails after its last name.
 fn lists(
     rt: HostRuntime,

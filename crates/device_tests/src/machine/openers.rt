@@ -80,7 +80,7 @@ fn opens(alloc: Global, opener: &mut RealOpener<HostRuntime>, at: &[u8], is_door
     }
 }
 
-// Whether nothing is opened at any of these, and the opener has so many faults then.
+// Whether nothing is opened at any of these, and the opener has `faults` faults then.
 fn opens_none(
     alloc: Global,
     opener: &mut RealOpener<HostRuntime>,

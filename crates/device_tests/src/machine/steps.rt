@@ -86,7 +86,7 @@ fn all_come_true(
     true
 }
 
-// Whether all steps come true of a folder and its inbox, which then has so many faults.
+// Whether all steps come true of a folder and its inbox, which then has `faults` faults.
 fn hold(folder: &Folder, steps: &[Step<'_>], faults: u64) -> bool {
     match folder.inbox() {
         Ok(inbox) => {
@@ -97,8 +97,8 @@ fn hold(folder: &Folder, steps: &[Step<'_>], faults: u64) -> bool {
     }
 }
 
-// Whether all steps come true of a folder with these entries and its inbox, which then has so many faults. The folder
-// is then removed.
+// Whether all steps come true of a folder with these entries and its inbox, which then has `faults` faults. The
+// folder is then removed.
 pub(crate) fn hold_at(
     rt: HostRuntime,
     name: &str,

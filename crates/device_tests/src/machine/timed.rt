@@ -10,8 +10,8 @@ use std::time::{Duration, Instant};
 // For how many milliseconds a peer is waited for.
 const PATIENCE: u64 = 250;
 
-// Whether a link over these turns gives what these calls are to give, and has so many faults then. Its clock goes on by
-// `step` milliseconds each time that it is read.
+// Whether a link over these turns gives what these calls are to give, and has `faults` faults then. Its clock goes on
+// by `step` milliseconds each time that it is read.
 fn gives(step: u64, turns: &[Turn], calls: &[Call<'_>], faults: u64) -> bool {
     let clock = Ticking::new(step);
     let Ok(now) = Instant::now(&clock) else {
@@ -84,7 +84,7 @@ fn a_put_that_is_not_taken_is_a_fault(rt: HostRuntime) {
     assert!(rt; fails_at(Turn::Nothing) && fails_at(Turn::Fails(ErrorKind::WouldBlock)));
 }
 
-// Whether so many bytes of a stream with these turns are dropped, at a clock with this step that begins now.
+// Whether `count` bytes of a stream with these turns are dropped, at a clock with this step that begins now.
 fn drops(step: u64, turns: &[Turn], count: usize) -> bool {
     let clock = Ticking::new(step);
     match Instant::now(&Ticking::new(0)) {

@@ -30,7 +30,7 @@ impl Next<'_> {
 #[derive(Clone, Copy)]
 pub(crate) enum Content<'a> {
     Bytes(&'a [u8]),
-    // so many bytes, as far as they were counted
+    // the number of bytes, as far as they were counted
     TooLong(u64),
     Absent,
     Fault,

@@ -5,25 +5,27 @@ ghost use Rattle.std.specs.List.{filter_map};
 ghost use Rattle.std.specs.Ordering.{int_cmp, int_eq};
 ghost use Rattle.fm_edition.specs.Indexes as spec;
 
+use crate::maps::page_rows::PageRows;
 use crate::maps::pages::{Page, Pages, page_of};
 use crate::maps::shared::Shared;
-use crate::maps::walk::push_page;
-use fm_base::{List, NoMemory};
+use crate::maps::walk::{count_page, push_page};
+use crate::maps::wanted::Wanted;
+use fm_base::{Arc, List, NoMemory};
 use fm_model::Row;
 use fm_rows::Rows;
 use std::alloc::Global;
 use std::collections::BTreeMap;
 
 /// The rows of each page by its number.
-pub(crate) type RowPages = BTreeMap<i64, Shared<List<Row>>>;
+pub(crate) type RowPages = BTreeMap<i64, Shared<PageRows>>;
 
-// The rows of a page.
-fn rows_of(alloc: Global, page: &Page) -> Result<List<Row>, NoMemory>
+// The rows of a page, also with a least offset.
+fn rows_of(alloc: Global, page: &Page, least: Option<i64>) -> Result<List<Row>, NoMemory>
     requires { All spec.IsTimed page.now.entries }
-    ensures { IfOk result (λ rows. rows ≡ spec.page_rows page.now) }
+    ensures { IfOk result (λ rows. rows ≡ filter_map (spec.best_of_entry least) page.now.entries) }
 {
     let mut rows = List::new(alloc);
-    push_page(&mut rows, page, None)?;
+    push_page(&mut rows, page, Wanted::Best(least))?;
     Ok(rows)
 }
 
@@ -38,7 +40,7 @@ fn set_rows(alloc: Global, best: &mut RowPages, pages: &Pages, number: i64) -> R
 {
     match pages.get(&number) {
         Some(page) => {
-            let rows = rows_of(alloc, page.get())?;
+            let rows = PageRows::new(alloc, rows_of(alloc, page.get(), None)?)?;
             best.insert(number, Shared::new(alloc, rows)?)?;
         }
         None => {
@@ -83,39 +85,76 @@ pub(crate) fn best_after(
 }
 
 // The rows that are kept of a page.
-fn kept_page<'a>(best: &'a RowPages, number: &i64) -> &'a Shared<List<Row>>
+fn kept_page<'a>(best: &'a RowPages, number: &i64) -> &'a PageRows
     requires { tree.get int_cmp best.now number.now ≢ None }
     ensures { tree.get int_cmp best.now number.now ≡ Some result.now }
 {
     match best.get(number) {
-        Some(rows) => rows,
+        Some(rows) => rows.get(),
         None => unreachable!(),
     }
 }
 
-// The rows of all pages. None is made or copied.
-pub(crate) fn kept_rows(alloc: Global, pages: &Pages, best: &RowPages) -> Result<Rows, NoMemory>
+// The rows of a page with a least offset: those that are kept, where they keep it.
+fn rows_from(
+    alloc: Global,
+    kept: &PageRows,
+    page: &Page,
+    least: Option<i64>,
+) -> Result<Arc<List<Row>>, NoMemory>
+    requires kept { kept.now ≡ spec.page_rows page.now }
+    requires timed { All spec.IsTimed page.now.entries }
+    ensures { IfOk result (λ rows. rows ≡ filter_map (spec.best_of_entry least) page.now.entries) }
+{
+    if kept.keeps(least) {
+        return kept.share();
+    }
+    Arc::new(alloc, rows_of(alloc, page, least)?)
+}
+
+// How many rows a page has with a least offset.
+fn count_from(kept: &PageRows, page: &Page, least: Option<i64>) -> usize
+    requires count { length page.now.entries < 2 ^ 63 }
+    requires kept { kept.now ≡ spec.page_rows page.now }
+    requires timed { All spec.IsTimed page.now.entries }
+    ensures { result ≡ length (filter_map (spec.best_of_entry least) page.now.entries) }
+{
+    if kept.keeps(least) {
+        return kept.len();
+    }
+    count_page(page, Wanted::Best(least))
+}
+
+// The rows of all pages, also with a least offset. Of a page whose rows keep it none is made or copied.
+pub(crate) fn best_rows(
+    alloc: Global,
+    pages: &Pages,
+    best: &RowPages,
+    least: Option<i64>,
+) -> Result<Rows, NoMemory>
     requires pages { spec.AreOrdered pages.now }
     requires best { spec.AreBest pages.now best.now }
-    ensures { IfOk result (λ rows. rows ≡ filter_map (spec.entry_row None) (spec.entries_of pages.now)) }
+    requires timed { All spec.IsTimed (spec.entries_of pages.now) }
+    ensures { IfOk result (λ rows. rows ≡ filter_map (spec.best_of_entry least) (spec.entries_of pages.now)) }
 {
     let mut rows = Rows::new(alloc);
-    for (number, _) in pages {
-        rows.push(kept_page(best, number).share()?)?;
+    for (number, page) in pages {
+        rows.push(rows_from(alloc, kept_page(best, number), page.get(), least)?)?;
     }
     Ok(rows)
 }
 
-// How many rows all pages have.
-pub(crate) fn kept_count(pages: &Pages, best: &RowPages) -> usize
+// How many rows all pages have, also with a least offset.
+pub(crate) fn best_count(pages: &Pages, best: &RowPages, least: Option<i64>) -> usize
     requires count { length (spec.entries_of pages.now) < 2 ^ 32 }
     requires pages { spec.AreOrdered pages.now }
     requires best { spec.AreBest pages.now best.now }
-    ensures { result ≡ length (filter_map (spec.entry_row None) (spec.entries_of pages.now)) }
+    requires timed { All spec.IsTimed (spec.entries_of pages.now) }
+    ensures { result ≡ length (filter_map (spec.best_of_entry least) (spec.entries_of pages.now)) }
 {
     let mut count = 0;
-    for (number, _) in pages {
-        count += kept_page(best, number).get().len();
+    for (number, page) in pages {
+        count += count_from(kept_page(best, number), page.get(), least);
     }
     count
 }

@@ -5,16 +5,16 @@ ghost use Rattle.std.specs.List.{slice_index_or};
 ghost use Rattle.std.specs.Ordering.{int_cmp, int_eq};
 ghost use Rattle.fm_edition.specs.Indexes as spec;
 
-use crate::maps::by::By;
-use crate::maps::part::part_after;
 use crate::maps::shared::Shared;
-use fm_base::{Arc, List, NoMemory};
-use fm_model::{Loaded, Op};
+use fm_base::{List, NoMemory};
+use fm_list::part::part_after;
+use fm_list::{By, Placed};
+use fm_model::Op;
 use std::alloc::Global;
 use std::collections::BTreeMap;
 
 /// The files by each instant of a page.
-pub(crate) type Page = BTreeMap<i64, Shared<List<Arc<Loaded>>>>;
+pub(crate) type Page = BTreeMap<i64, Shared<List<Placed>>>;
 
 /// The pages by their number.
 pub(crate) type Pages = BTreeMap<i64, Shared<Page>>;
@@ -28,7 +28,7 @@ pub(crate) fn page_of(key: i64) -> i64
 }
 
 // The files by an instant.
-pub(crate) fn files_at(pages: &Pages, key: i64) -> &[Arc<Loaded>]
+pub(crate) fn files_at(pages: &Pages, key: i64) -> &[Placed]
     ensures { result.now ≡ spec.or_none (spec.in_page pages.now (spec.page_of key) key) }
 {
     match pages.get(&page_of(key)) {
@@ -41,12 +41,7 @@ pub(crate) fn files_at(pages: &Pages, key: i64) -> &[Arc<Loaded>]
 }
 
 // Sets the files by an instant of a page.
-fn set_part(
-    alloc: Global,
-    page: &mut Page,
-    key: i64,
-    files: List<Arc<Loaded>>,
-) -> Result<(), NoMemory>
+fn set_part(alloc: Global, page: &mut Page, key: i64, files: List<Placed>) -> Result<(), NoMemory>
     ensures set { OnOk result ((other : ℤ) → tree.get int_cmp page.new other
         ≡ spec.updated key (spec.some_of files) (tree.get int_cmp page.old) other) }
     ensures ordered { OnOk result (tree.IsOrdered int_cmp page.new) }

@@ -4,23 +4,24 @@ ghost use Rattle.std.specs.List.{filter_map};
 ghost use Rattle.std.specs.Option.{option_to_list};
 ghost use Rattle.fm_model.specs.Cell.{times_of};
 ghost use Rattle.fm_model.specs.Rows.{best_row, row_at};
-ghost use Rattle.fm_edition.specs.Indexes.{AreFew};
+ghost use Rattle.fm_list.specs.Selected.{AreSound};
 
-use crate::plain_list::finding::{best_of, cell_of};
 use crate::plain_list::instants::all_times_in;
-use fm_base::{Arc, List, NoMemory};
-use fm_model::{Loaded, Row};
+use fm_base::{List, NoMemory};
+use fm_list::Placed;
+use fm_list::finding::{best_of, cell_of};
+use fm_model::Row;
 use std::alloc::Global;
 
 // Adds the row of a run and a valid time, where there is a run and they have a cell.
 #[tactic(auto, unfolding(fm_model::specs::Rows::row_at))]
 pub(crate) fn push_row(
     rows: &mut List<Row>,
-    files: &[Arc<Loaded>],
+    files: &[Placed],
     run: Option<i64>,
     valid: i64,
 ) -> Result<(), NoMemory>
-    requires { AreFew files.now }
+    requires { AreSound files.now }
     ensures { OnOk result (rows.new
         ≡ rows.old ++ option_to_list (option_and_then (λ run. row_at files.now run valid) run)) }
 {
@@ -42,11 +43,11 @@ pub(crate) fn push_row(
 #[tactic(auto, unfolding(fm_model::specs::Rows::best_row))]
 fn push_best(
     rows: &mut List<Row>,
-    files: &[Arc<Loaded>],
+    files: &[Placed],
     valid: i64,
     least: Option<i64>,
 ) -> Result<(), NoMemory>
-    requires { AreFew files.now }
+    requires { AreSound files.now }
     ensures { OnOk result (rows.new ≡ rows.old ++ option_to_list (best_row files.now least valid)) }
 {
     push_row(rows, files, best_of(files, valid, least), valid)
@@ -56,10 +57,10 @@ fn push_best(
 #[tactic(auto, using(crate::proofs::WalkLemmas::one_more))]
 pub(crate) fn best_rows(
     alloc: Global,
-    files: &[Arc<Loaded>],
+    files: &[Placed],
     least: Option<i64>,
 ) -> Result<List<Row>, NoMemory>
-    requires { AreFew files.now }
+    requires { AreSound files.now }
     ensures { IfOk result (λ rows. rows ≡ filter_map (best_row files.now least) (times_of files.now)) }
 {
     let times = all_times_in(alloc, files)?;

@@ -3,7 +3,7 @@ ghost use Rattle.std.specs.Prelude.{◌≡◌, ◌<◌, ◌^◌, length, sum_by}
 ghost use Rattle.fm_model.specs.declared.loaded.Loaded.{Loaded as File};
 ghost use Rattle.fm_model.specs.Collection.{full_at, full_of, tally, without, IsWithin};
 
-use fm_base::Arc;
+use fm_list::Placed;
 use fm_model::{Full, Loaded, MAX_BYTES, MAX_FILES, MAX_ROWS, Op, Tally, Which};
 
 // The number of bytes of a file.
@@ -23,7 +23,7 @@ fn rows_of(file: &Loaded) -> u64
 }
 
 // How many times some files have.
-fn rows_in(files: &[Arc<Loaded>]) -> u64
+fn rows_in(files: &[Placed]) -> u64
     requires { sum_by (λ (file : File). length file.times) files.now < 2 ^ 32 }
     ensures { result ≡ sum_by (λ (file : File). length file.times) files.now }
 {
@@ -31,7 +31,7 @@ fn rows_in(files: &[Arc<Loaded>]) -> u64
 }
 
 // How many bytes some files have.
-fn size_in(files: &[Arc<Loaded>]) -> u64
+fn size_in(files: &[Placed]) -> u64
     requires { sum_by (λ (file : File). length file.content) files.now < 2 ^ 32 }
     ensures { result ≡ sum_by (λ (file : File). length file.content) files.now }
 {
@@ -39,7 +39,7 @@ fn size_in(files: &[Arc<Loaded>]) -> u64
 }
 
 // How much some files are.
-pub(crate) fn tally_of(files: &[Arc<Loaded>]) -> Tally
+pub(crate) fn tally_of(files: &[Placed]) -> Tally
     requires { IsWithin (tally files.now) }
     ensures { result ≡ tally files.now }
 {
@@ -52,7 +52,7 @@ pub(crate) fn tally_of(files: &[Arc<Loaded>]) -> Tally
 
 // How many files have another name.
 #[tactic(auto, unfolding(fm_model::specs::Collection::without))]
-fn count_without(files: &[Arc<Loaded>], name: &[u8]) -> u64
+fn count_without(files: &[Placed], name: &[u8]) -> u64
     ensures { result ≡ length (without name.now files.now) }
 {
     files
@@ -63,7 +63,7 @@ fn count_without(files: &[Arc<Loaded>], name: &[u8]) -> u64
 
 // How many times the files of another name have.
 #[tactic(auto, unfolding(fm_model::specs::Collection::without))]
-fn rows_without(files: &[Arc<Loaded>], name: &[u8]) -> u64
+fn rows_without(files: &[Placed], name: &[u8]) -> u64
     requires { sum_by (λ (file : File). length file.times) (without name.now files.now) < 2 ^ 32 }
     ensures { result ≡ sum_by (λ (file : File). length file.times) (without name.now files.now) }
 {
@@ -76,7 +76,7 @@ fn rows_without(files: &[Arc<Loaded>], name: &[u8]) -> u64
 
 // How many bytes the files of another name have.
 #[tactic(auto, unfolding(fm_model::specs::Collection::without))]
-fn size_without(files: &[Arc<Loaded>], name: &[u8]) -> u64
+fn size_without(files: &[Placed], name: &[u8]) -> u64
     requires { sum_by (λ (file : File). length file.content) (without name.now files.now) < 2 ^ 32 }
     ensures { result ≡ sum_by (λ (file : File). length file.content) (without name.now files.now) }
 {
@@ -105,7 +105,7 @@ fn first_passed(files: u64, rows: u64, size: u64) -> Option<Full>
 }
 
 // Which limit the files would pass after an operation, if any. Only a put adds to them.
-pub(crate) fn full_after(files: &[Arc<Loaded>], op: &Op) -> Option<Full>
+pub(crate) fn full_after(files: &[Placed], op: &Op) -> Option<Full>
     requires { IsWithin (tally files.now) }
     ensures { result ≡ full_at files.now op.now }
 {

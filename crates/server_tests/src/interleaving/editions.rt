@@ -7,6 +7,7 @@ mod made;
 use fm_base::Arc;
 use fm_edition::{Edition, plain_list};
 use fm_model::{Loaded, Op, Proto, Row};
+use fm_rows::Rows;
 use fm_sample::{File, edition_of};
 use made::{HOURS, NAMES, file, hour, name, run_of};
 use std::alloc::Global;
@@ -28,7 +29,7 @@ struct Both {
 
 // The operation of some numbers over a prototype: one of sixteen lets runs expire, three take a name back, the others
 // put a file.
-fn op_of(rt: &impl Abort, alloc: Global, proto: &Proto, x: [u8; 3]) -> Result<Op, Fail>
+fn op_of(alloc: Global, proto: &Proto, x: [u8; 3]) -> Result<Op, Fail>
     ensures { IfOk result (OpFits proto.now) }
 {
     let [a, b, c] = x;
@@ -39,7 +40,7 @@ fn op_of(rt: &impl Abort, alloc: Global, proto: &Proto, x: [u8; 3]) -> Result<Op
     if kind < 4 {
         return Ok(Op::Retract(name(alloc, k)?));
     }
-    Ok(Op::Put(file(rt, alloc, proto, k, how)?))
+    Ok(Op::Put(file(alloc, proto, k, how)?))
 }
 
 // Goes on to the next numbers of a recurrence.
@@ -50,13 +51,20 @@ fn next(x: &mut [u8; 3]) {
     *x = [a, b, c.wrapping_add(b)];
 }
 
-// Both forms after the operation of some numbers.
-fn after(rt: &impl Abort, alloc: Global, both: &Both, x: [u8; 3]) -> Result<Both, Fail> {
-    let op = op_of(rt, alloc, both.maps.proto().get(), x)?;
-    let maps = both.maps.after(alloc, &op)?;
-    let op = op_of(rt, alloc, both.list.proto().get(), x)?;
-    let list = both.list.after(alloc, &op)?;
-    Ok(Both { maps, list })
+// The maps after the operation of some numbers.
+fn maps_after(alloc: Global, maps: &Edition, x: [u8; 3]) -> Result<Edition, Fail> {
+    let op = op_of(alloc, maps.proto().get(), x)?;
+    Ok(maps.after(alloc, &op)?)
+}
+
+// The list after the operation of some numbers.
+fn list_after(
+    alloc: Global,
+    list: &plain_list::Edition,
+    x: [u8; 3],
+) -> Result<plain_list::Edition, Fail> {
+    let op = op_of(alloc, list.proto().get(), x)?;
+    Ok(list.after(alloc, &op)?)
 }
 
 // Two files have the same name and times.
@@ -70,7 +78,7 @@ fn same_row(one: &Row, other: &Row) -> bool {
 }
 
 // The two have a row, and the same.
-fn same_rows(one: Option<&Row>, other: Option<&Row>) -> bool {
+fn same_rows_at(one: Option<&Row>, other: Option<&Row>) -> bool {
     match (one, other) {
         (Some(row), Some(same)) => same_row(row, same),
         _ => false,
@@ -99,18 +107,25 @@ fn same_names(rt: &impl Abort, alloc: Global, both: &Both, k: u8) -> Result<(), 
     Ok(())
 }
 
+fn same_numbers(rt: &impl Abort, one: &[i64], other: &[i64]) {
+    assert_eq!(rt; one, other);
+}
+
 // The cells and the valid times of a run agree.
 fn same_run(rt: &impl Abort, alloc: Global, both: &Both, run: i64) -> Result<(), Fail> {
     let times = both.maps.times_of(alloc, run)?;
-    assert_eq!(rt;
-        times.as_slice(),
-        both.list.times_of(alloc, run)?.as_slice()
-    );
+    let others = both.list.times_of(alloc, run)?;
+    same_numbers(rt, times.as_slice(), others.as_slice());
+    same_cells(rt, both, run);
+    Ok(())
+}
+
+// The cells of a run agree.
+fn same_cells(rt: &impl Abort, both: &Both, run: i64) {
     for i in 0..HOURS {
         let valid = hour(i);
         assert!(rt; same_cell(both.maps.cell(run, valid), both.list.cell(run, valid)));
     }
-    Ok(())
 }
 
 // The best runs agree.
@@ -126,19 +141,30 @@ fn same_best_runs(rt: &impl Abort, both: &Both, least: Option<i64>) {
 fn same_best(rt: &impl Abort, alloc: Global, both: &Both, least: Option<i64>) -> Result<(), Fail> {
     let rows = both.maps.best_rows(alloc, least)?;
     let others = both.list.best_rows(alloc, least)?;
-    assert_eq!(rt; rows.len(), others.len());
-    assert_eq!(rt; rows.len(), both.maps.best_count(least));
-    for index in 0..rows.len() {
-        assert!(rt; same_rows(rows.get(index), others.get(index)));
+    same_rows(rt, &rows, &others, both.maps.best_count(least));
+    Ok(())
+}
+
+// The rows agree, and their number is `count`.
+fn same_rows(rt: &impl Abort, rows: &Rows, others: &Rows, count: usize) {
+    assert_eq!(rt; (rows.len(), others.len()), (count, count));
+    for index in 0..count {
+        assert!(rt; same_rows_at(rows.get(index), others.get(index)));
     }
+}
+
+// As much is held in both, of the same runs.
+fn same_held(rt: &impl Abort, alloc: Global, both: &Both) -> Result<(), Fail> {
+    assert_eq!(rt; both.maps.tally(), both.list.tally());
+    let held = both.maps.runs(alloc)?;
+    let others = both.list.runs(alloc)?;
+    same_numbers(rt, held.as_slice(), others.as_slice());
     Ok(())
 }
 
 // Both forms answer alike.
 fn compare(rt: &impl Abort, alloc: Global, both: &Both) -> Result<(), Fail> {
-    assert_eq!(rt; both.maps.tally(), both.list.tally());
-    let held = both.maps.runs(alloc)?;
-    assert_eq!(rt; held.as_slice(), both.list.runs(alloc)?.as_slice());
+    same_held(rt, alloc, both)?;
     for k in 0..NAMES {
         same_names(rt, alloc, both, k)?;
         same_run(rt, alloc, both, run_of(k))?;
@@ -159,7 +185,8 @@ fn empty(alloc: Global) -> Result<Both, Fail> {
 
 // Does the operation of some numbers to both forms, and compares them.
 fn go_on(rt: &impl Abort, alloc: Global, both: &mut Both, x: [u8; 3]) -> Result<(), Fail> {
-    *both = after(rt, alloc, both, x)?;
+    both.maps = maps_after(alloc, &both.maps, x)?;
+    both.list = list_after(alloc, &both.list, x)?;
     compare(rt, alloc, both)
 }
 

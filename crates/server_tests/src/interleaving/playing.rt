@@ -1,16 +1,14 @@
 //! Steps over small files, as events.
 ghost use Rattle.std.specs.Prelude.{◌≡◌, All, IfOk};
 ghost use Rattle.fm_model.specs.Load.{Fits};
-ghost use Rattle.fm_model.specs.Site.{IsPrototype};
 ghost use Rattle.pub_core.specs.Outcome.{EventFits};
 
+use crate::sampled::{loaded, prototype};
 use fm_base::{Arc, Bytes, List, NoMemory};
-use fm_load::load;
 use fm_model::{Loaded, Op, Proto};
-use fm_sample::{File, edition_of};
+use fm_sample::File;
 use pub_core::{Event, Outcome, run_all};
 use std::alloc::Global;
-use std::process::Abort;
 use std::test::Fail;
 
 /// The names of the run of 00:00 and of the run of 06:00.
@@ -32,32 +30,6 @@ pub enum Step {
     Sent(u32, u64),
     End(u32),
     Fault(u32),
-}
-
-/// The prototype of the sample.
-pub fn proto_of(alloc: Global) -> Result<Arc<Proto>, Fail>
-    ensures { IfOk result IsPrototype }
-{
-    match edition_of(alloc, File::Sample.bytes(alloc)?) {
-        Ok(edition) => Ok(edition.proto().share()?),
-        Err(_) => Err(Fail::from("the bytes are no prototype")),
-    }
-}
-
-/// A file of the collection over a prototype.
-pub fn file_of(
-    rt: &impl Abort,
-    alloc: Global,
-    proto: &Proto,
-    name: &[u8],
-    file: File,
-) -> Result<Arc<Loaded>, Fail>
-    ensures { IfOk result (λ made. Fits made proto.now) }
-{
-    let bytes = file.bytes(alloc)?;
-    assert!(rt; bytes.len() <= 536_870_912);
-    let made = load(alloc, name, bytes, proto)?;
-    Ok(Arc::new(alloc, made)?)
 }
 
 // The event of a step.
@@ -105,17 +77,19 @@ fn events_of(
     Ok(events)
 }
 
+// The events of some steps over a prototype.
+fn events_over(alloc: Global, proto: &Proto, steps: &[Step]) -> Result<List<Event>, Fail>
+    ensures { IfOk result (All (EventFits proto.now)) }
+{
+    let first = loaded(alloc, FIRST, File::Sample.bytes(alloc)?, proto)?;
+    let second = loaded(alloc, SECOND, File::Later.bytes(alloc)?, proto)?;
+    Ok(events_of(alloc, proto, &first, &second, steps)?)
+}
+
 /// Runs some steps over `sessions` sessions.
-pub fn play(
-    rt: &impl Abort,
-    alloc: Global,
-    sessions: u32,
-    steps: &[Step],
-) -> Result<Outcome, Fail> {
-    let proto = proto_of(alloc)?;
-    let first = file_of(rt, alloc, proto.get(), FIRST, File::Sample)?;
-    let second = file_of(rt, alloc, proto.get(), SECOND, File::Later)?;
-    let events = events_of(alloc, proto.get(), &first, &second, steps)?;
+pub fn play(alloc: Global, sessions: u32, steps: &[Step]) -> Result<Outcome, Fail> {
+    let proto = prototype(alloc)?;
+    let events = events_over(alloc, proto.get(), steps)?;
     Ok(run_all(alloc, proto, sessions, &events)?)
 }
 

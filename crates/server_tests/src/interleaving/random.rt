@@ -4,7 +4,6 @@ use super::playing::{Step, play, sent_and_seen};
 use super::second::Second;
 use pub_core::Outcome;
 use std::alloc::Global;
-use std::process::Abort;
 use std::test::Fail;
 
 // The number of the sessions, and of the steps of a list.
@@ -87,12 +86,7 @@ impl Random {
 }
 
 // Has the second machine do random steps, and lists them.
-fn steps_of(
-    rt: &impl Abort,
-    alloc: Global,
-    seed: u32,
-    second: &mut Second,
-) -> Result<Vec<Step>, Fail> {
+fn steps_of(alloc: Global, seed: u32, second: &mut Second) -> Result<Vec<Step>, Fail> {
     let mut random = Random {
         x: seed,
         offsets: [0; 3],
@@ -100,16 +94,16 @@ fn steps_of(
     let mut steps = Vec::new(alloc);
     for _ in 0..STEPS {
         let step = random.step(second);
-        second.happen(rt, alloc, step)?;
+        second.happen(alloc, step)?;
         steps.push(step)?;
     }
     Ok(steps)
 }
 
 // Runs a random list in both machines, and gives what the first left.
-fn played(rt: &impl Abort, alloc: Global, seed: u32, second: &mut Second) -> Result<Outcome, Fail> {
-    let steps = steps_of(rt, alloc, seed, second)?;
-    play(rt, alloc, SESSIONS, steps.as_slice())
+fn played(alloc: Global, seed: u32, second: &mut Second) -> Result<Outcome, Fail> {
+    let steps = steps_of(alloc, seed, second)?;
+    play(alloc, SESSIONS, steps.as_slice())
 }
 
 // How many bytes were sent, or `None` where the machines differ.
@@ -125,17 +119,21 @@ fn sent_by_both(outcome: &Outcome, second: &Second) -> Option<usize> {
 }
 
 // Runs a random list in both machines. How many bytes were sent, or `None` where they differ.
-fn compare(rt: &impl Abort, alloc: Global, seed: u32) -> Result<Option<usize>, Fail> {
+fn compare_with(alloc: Global, seed: u32, second: &mut Second) -> Result<Option<usize>, Fail> {
+    let outcome = played(alloc, seed, second)?;
+    Ok(sent_by_both(&outcome, second))
+}
+
+fn compare(alloc: Global, seed: u32) -> Result<Option<usize>, Fail> {
     let mut second = Second::new(alloc, SESSIONS)?;
-    let outcome = played(rt, alloc, seed, &mut second)?;
-    Ok(sent_by_both(&outcome, &second))
+    compare_with(alloc, seed, &mut second)
 }
 
 // How many bytes are sent in the lists of some seeds.
-fn compare_all(rt: &impl Abort, alloc: Global, from: u32, to: u32) -> Result<usize, Fail> {
+fn compare_all(alloc: Global, from: u32, to: u32) -> Result<usize, Fail> {
     let mut sent = 0usize;
     for seed in from..to {
-        match compare(rt, alloc, seed)? {
+        match compare(alloc, seed)? {
             Some(count) => sent = sent.saturating_add(count),
             None => return Err(Fail::from("the machines differ")),
         }
@@ -145,14 +143,14 @@ fn compare_all(rt: &impl Abort, alloc: Global, from: u32, to: u32) -> Result<usi
 
 #[test]
 fn a_hundred_random_runs_agree_with_a_second_machine(rt: HostRuntime) -> Result<(), Fail> {
-    let sent = compare_all(&rt, rt.alloc(), 0, 100)?;
+    let sent = compare_all(rt.alloc(), 0, 100)?;
     assert!(rt; sent > 40_000);
     Ok(())
 }
 
 #[test]
 fn a_hundred_more_agree(rt: HostRuntime) -> Result<(), Fail> {
-    let sent = compare_all(&rt, rt.alloc(), 100, 200)?;
+    let sent = compare_all(rt.alloc(), 100, 200)?;
     assert!(rt; sent > 40_000);
     Ok(())
 }

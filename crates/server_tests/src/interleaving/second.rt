@@ -1,14 +1,16 @@
 //! A slow second machine, by the definition: each question about a session is answered from all the bytes that it was
 //! fed.
-use super::playing::{FIRST, SECOND, Step, file_of, proto_of};
+ghost use Rattle.fm_edition.specs.Held.{OpFits};
+
+use super::playing::{FIRST, SECOND, Step};
 use super::requests::{Requests, is_last, requests_in};
+use crate::sampled::{loaded, prototype};
 use dap_reply::{Dap, Order, Plan, order, refusal};
 use fm_base::{Bytes, NoMemory};
 use fm_model::{Op, Proto};
 use fm_sample::{File, ItsProto};
 use pub_look::{Look, Plain};
 use std::alloc::Global;
-use std::process::Abort;
 use std::test::Fail;
 use web_frame::MAX_HEAD;
 
@@ -83,19 +85,35 @@ impl Talk {
         Ok(Some(order(alloc, request.asked, target, last, &proto.site)?))
     }
 
+    // Whether the reply that was begun last ends the connection.
+    fn last_was_begun(&self) -> bool {
+        let Some(before) = self.begun.checked_sub(1) else {
+            return false;
+        };
+        match self.requests.all.get(before) {
+            Some(request) => is_last(request.asked, self.begun),
+            None => false,
+        }
+    }
+
     // Ends after a last reply, and begins a refusal that is due.
     fn settle(&mut self, alloc: Global, proto: &Proto) -> Result<(), NoMemory> {
         if self.left() > 0 {
             return Ok(());
         }
-        if let Some(before) = self.begun.checked_sub(1) {
-            if let Some(request) = self.requests.all.get(before) {
-                self.ended = self.ended || is_last(request.asked, self.begun);
-            }
+        self.ended = self.ended || self.last_was_begun();
+        if self.ended {
+            return Ok(());
         }
-        match self.next_order(alloc, proto)? {
-            Some(Order::Refused { fault, head, last }) if !self.ended => {
-                let plan = refusal(alloc, &fault, self.seen, head, last)?;
+        let order = self.next_order(alloc, proto)?;
+        self.refuse(alloc, &order)
+    }
+
+    // Begins the reply of a refusal.
+    fn refuse(&mut self, alloc: Global, order: &Option<Order>) -> Result<(), NoMemory> {
+        match order {
+            Some(Order::Refused { fault, head, last }) => {
+                let plan = refusal(alloc, fault, self.seen, *head, *last)?;
                 self.begin(alloc, &plan)
             }
             _ => Ok(()),
@@ -165,7 +183,7 @@ impl Talk {
 impl Second {
     /// `sessions` sessions over the empty collection.
     pub fn new(alloc: Global, sessions: u32) -> Result<Second, Fail> {
-        let plain = Plain::open(alloc, proto_of(alloc)?)?;
+        let plain = Plain::open(alloc, prototype(alloc)?)?;
         let mut talks = Vec::new(alloc);
         for _ in 0..sessions {
             talks.push(Talk::new(alloc))?;
@@ -173,39 +191,43 @@ impl Second {
         Ok(Second { plain, talks })
     }
 
-    // Puts a file.
-    fn put(&mut self, rt: &impl Abort, alloc: Global, name: &[u8], file: File) -> Result<(), Fail> {
-        let (proto, _) = self.plain.ask(alloc, &ItsProto)?;
-        let file = file_of(rt, alloc, proto.get(), name, file)?;
-        self.plain.publish(alloc, Op::Put(file))?;
+    // Publishes an operation.
+    fn publish(&mut self, alloc: Global, op: Op) -> Result<(), Fail>
+        requires { OpFits self.old.plain.proto op }
+    {
+        self.plain.publish(alloc, op)?;
         Ok(())
     }
 
-    /// Does what a step does.
-    pub fn happen(&mut self, rt: &impl Abort, alloc: Global, step: Step) -> Result<(), Fail> {
-        let number = match step {
-            Step::First => return self.put(rt, alloc, FIRST, File::Sample),
-            Step::Second => return self.put(rt, alloc, SECOND, File::Later),
-            Step::Expire(cutoff) => {
-                self.plain.publish(alloc, Op::Expire(cutoff))?;
-                return Ok(());
-            }
-            Step::Retract => {
-                self.plain
-                    .publish(alloc, Op::Retract(Bytes::copy_of(alloc, FIRST)?))?;
-                return Ok(());
-            }
-            Step::Look(number)
-            | Step::Learn(number, _)
-            | Step::Bytes(number, _)
-            | Step::Sent(number, _)
-            | Step::End(number)
-            | Step::Fault(number) => number,
-        };
+    // Puts a file.
+    fn put(&mut self, alloc: Global, name: &[u8], file: File) -> Result<(), Fail> {
+        let (proto, _) = self.plain.ask(alloc, &ItsProto)?;
+        let file = loaded(alloc, name, file.bytes(alloc)?, proto.get())?;
+        self.publish(alloc, Op::Put(file))
+    }
+
+    // Does what a step does to the session of a number.
+    fn tell(&mut self, alloc: Global, number: u32, step: Step) -> Result<(), Fail> {
         let (proto, _) = self.plain.ask(alloc, &ItsProto)?;
         if let Some(talk) = self.talks.get_mut(number as usize) {
             talk.happen(alloc, &mut self.plain, proto.get(), step)?;
         }
         Ok(())
+    }
+
+    /// Does what a step does.
+    pub fn happen(&mut self, alloc: Global, step: Step) -> Result<(), Fail> {
+        match step {
+            Step::First => self.put(alloc, FIRST, File::Sample),
+            Step::Second => self.put(alloc, SECOND, File::Later),
+            Step::Expire(cutoff) => self.publish(alloc, Op::Expire(cutoff)),
+            Step::Retract => self.publish(alloc, Op::Retract(Bytes::copy_of(alloc, FIRST)?)),
+            Step::Look(number)
+            | Step::Learn(number, _)
+            | Step::Bytes(number, _)
+            | Step::Sent(number, _)
+            | Step::End(number)
+            | Step::Fault(number) => self.tell(alloc, number, step),
+        }
     }
 }

@@ -1,12 +1,13 @@
 //! A collection under its lock.
 ghost use Rattle.std.specs.Prelude.{◌≡◌, ◌≤◌};
+ghost use Rattle.fm_model.specs.Site.{IsPrototype};
 ghost use Rattle.pub_snap.specs.Opening.{IsNamed};
 
-use super::files::prototype;
+use crate::sampled::prototype;
 use dev_memory::{MemClock, MemInbox};
 use fm_base::Arc;
 use fm_model::Proto;
-use pub_snap::{Blank, Closed, Name, prepare};
+use pub_snap::{Blank, Closed, Desk, Name, Pass, Share, prepare};
 use srv_ingest::{ExpireReport, expire_all, ingest_all};
 use std::alloc::Global;
 use std::marker::Brand;
@@ -16,7 +17,24 @@ use std::test::Fail;
 /// How old a run may get, in seconds: a day.
 pub const KEEP: u32 = 86_400;
 
-// Takes in all of an inbox, lets runs go at the moments of a clock, and closes the desk.
+// Takes in all of an inbox, and lets runs go at the moments of a clock.
+fn settled<N: Name, R: Wait>(
+    rt: &R,
+    alloc: Global,
+    desk: &Mutex<Desk<N>>,
+    pass: &mut Pass<N>,
+    share: &mut Share<N>,
+    proto: &Arc<Proto>,
+    inbox: &mut MemInbox,
+    clock: &mut MemClock,
+) -> ExpireReport
+    requires { proto.now ≡ N.proto }
+{
+    let _ingested = ingest_all(rt, alloc, desk, pass, inbox, proto, share);
+    expire_all(rt, alloc, desk, pass, clock, KEEP, &proto.get().site, share)
+}
+
+// The same over a desk that is then closed.
 fn expires<N: Name, R: Wait>(
     rt: &R,
     alloc: Global,
@@ -33,10 +51,22 @@ fn expires<N: Name, R: Wait>(
     let desk = Mutex::new(desk);
     let pass = &mut passes.items[0];
     let share = &mut shares.items[0];
-    let _ingested = ingest_all(rt, alloc, &desk, pass, inbox, proto, share);
-    let site = &proto.get().site;
-    let report = expire_all(rt, alloc, &desk, pass, clock, KEEP, site, share);
+    let report = settled(rt, alloc, &desk, pass, share, proto, inbox, clock);
     Ok((report, desk.into_inner().close(rt, shares)))
+}
+
+// The same over the empty collection of a prototype.
+fn over<R: Wait>(
+    rt: &R,
+    alloc: Global,
+    proto: &Arc<Proto>,
+    inbox: &mut MemInbox,
+    clock: &mut MemClock,
+) -> Result<(ExpireReport, Closed), Fail>
+    requires { IsPrototype proto.now }
+{
+    let blank = prepare(alloc, proto.share()?, 1, 1)?;
+    expires::<Brand, _>(rt, alloc, blank, proto, inbox, clock)
 }
 
 /// The report of a clock, after taking in all of an inbox, and the collection at the end.
@@ -47,6 +77,5 @@ pub fn ingested_and_expired<R: Wait>(
     clock: &mut MemClock,
 ) -> Result<(ExpireReport, Closed), Fail> {
     let proto = prototype(alloc)?;
-    let blank = prepare(alloc, proto.share()?, 1, 1)?;
-    expires::<Brand, _>(rt, alloc, blank, &proto, inbox, clock)
+    over(rt, alloc, &proto, inbox, clock)
 }

@@ -1,13 +1,14 @@
 //! The steps of the race, published over threads and without them.
-ghost use Rattle.std.specs.Prelude.{◌≡◌};
+ghost use Rattle.std.specs.Prelude.{◌≡◌, IfOk};
+ghost use Rattle.fm_model.specs.Load.{Fits};
 ghost use Rattle.fm_model.specs.Site.{IsPrototype};
 
 use super::files::{FIRST_RUN, Files, NAMES, SIX_HOURS};
 use super::probe::Sketch;
-use fm_base::{Arc, List};
-use fm_model::{Op, Proto};
+use fm_base::{Arc, List, NoMemory};
+use fm_model::{Loaded, Op, Proto};
 use pub_look::{Look, Plain};
-use pub_snap::{Desk, Name, Share};
+use pub_snap::{Desk, Name, Receipt, Share};
 use std::alloc::Global;
 use std::sync::Wait;
 use std::test::Fail;
@@ -43,6 +44,26 @@ pub(crate) fn step_at(number: u64) -> Step {
     }
 }
 
+// Whether the desk published a file.
+fn put<N: Name, R: Wait>(
+    rt: &R,
+    alloc: Global,
+    desk: &mut Desk<N>,
+    share: &mut Share<N>,
+    file: Result<Arc<Loaded>, NoMemory>,
+) -> bool
+    requires { IfOk file (λ file. Fits file N.proto) }
+{
+    match file {
+        Ok(file) => desk.publish(alloc, rt, share, Op::Put(file)).is_ok(),
+        Err(_) => false,
+    }
+}
+
+fn is_published<N: Name>(answer: Result<Option<Receipt<N>>, NoMemory>) -> bool {
+    matches!(answer, Ok(Some(_)))
+}
+
 // Whether the desk published the step.
 pub(crate) fn publish<N: Name, R: Wait>(
     rt: &R,
@@ -53,12 +74,9 @@ pub(crate) fn publish<N: Name, R: Wait>(
     step: Step,
 ) -> bool {
     match step {
-        Step::Put(number) => match files.put(number) {
-            Ok(file) => desk.publish(alloc, rt, share, Op::Put(file)).is_ok(),
-            Err(_) => false,
-        },
-        Step::Expire(cutoff) => matches!(desk.expire(alloc, rt, share, cutoff), Ok(Some(_))),
-        Step::Retract => matches!(desk.retract(alloc, rt, share, NAMES[1]), Ok(Some(_))),
+        Step::Put(number) => put(rt, alloc, desk, share, files.put(number)),
+        Step::Expire(cutoff) => is_published(desk.expire(alloc, rt, share, cutoff)),
+        Step::Retract => is_published(desk.retract(alloc, rt, share, NAMES[1])),
     }
 }
 
@@ -77,6 +95,15 @@ fn publish_plainly<N: Name>(alloc: Global, plain: &mut Plain, files: &Files<N>, 
     }
 }
 
+// Notes what a look answers.
+fn note(alloc: Global, plain: &mut Plain, answers: &mut List<u64>) -> Result<(), Fail>
+    ensures { plain.new.proto ≡ plain.old.proto }
+{
+    let (answer, _) = plain.ask(alloc, &SKETCH)?;
+    answers.push(answer)?;
+    Ok(())
+}
+
 // Publishes all steps without threads, and notes what a look answers at each revision.
 fn note_all<N: Name>(
     alloc: Global,
@@ -86,12 +113,12 @@ fn note_all<N: Name>(
 ) -> Result<(), Fail>
     requires { plain.old.proto ≡ N.proto }
 {
-    answers.push(plain.ask(alloc, &SKETCH)?.0)?;
+    note(alloc, plain, answers)?;
     for number in 0..STEPS {
         if !publish_plainly(alloc, plain, files, step_at(number)) {
             return Err("each step changes what is held".into());
         }
-        answers.push(plain.ask(alloc, &SKETCH)?.0)?;
+        note(alloc, plain, answers)?;
     }
     if !hold_as_many(answers.as_slice()) {
         return Err("as many files as by hand".into());

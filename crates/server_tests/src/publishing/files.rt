@@ -1,12 +1,11 @@
 //! The files that the tests publish.
 ghost use Rattle.std.specs.Prelude.{◌≡◌, IfOk};
 ghost use Rattle.fm_model.specs.Load.{Fits};
-ghost use Rattle.fm_model.specs.Site.{IsPrototype};
 
-use fm_base::{Arc, Fail as Failure, NoMemory};
-use fm_load::load;
+use crate::sampled::loaded;
+use fm_base::{Arc, NoMemory};
 use fm_model::{Loaded, Proto};
-use fm_sample::{File, edition_of};
+use fm_sample::File;
 use pub_snap::Name;
 use std::alloc::Global;
 use std::marker::{Model, PhantomData};
@@ -75,40 +74,16 @@ impl<N: Name> Files<N> {
     }
 }
 
-/// The prototype of the collection.
-pub fn prototype(alloc: Global) -> Result<Arc<Proto>, Fail>
-    ensures { IfOk result IsPrototype }
-{
-    match edition_of(alloc, File::Sample.bytes(alloc)?) {
-        Ok(edition) => Ok(edition.proto().share()?),
-        Err(_) => Err("the sample is a prototype".into()),
-    }
-}
-
 /// The first file as the file of a run, by the mark in its name.
 pub fn sample(alloc: Global, name: &[u8], proto: &Proto) -> Result<Arc<Loaded>, Fail>
     ensures { IfOk result (λ file. Fits file proto.now) }
 {
-    loaded(alloc, name, File::Sample, proto)
+    loaded(alloc, name, File::Sample.bytes(alloc)?, proto)
 }
 
 /// The file of the next run, whose valid times are six hours later.
 pub fn later(alloc: Global, proto: &Proto) -> Result<Arc<Loaded>, Fail>
     ensures { IfOk result (λ file. Fits file proto.now) }
 {
-    loaded(alloc, NAMES[1], File::Later, proto)
-}
-
-fn loaded(alloc: Global, name: &[u8], file: File, proto: &Proto) -> Result<Arc<Loaded>, Fail>
-    ensures { IfOk result (λ file. Fits file proto.now) }
-{
-    let bytes = file.bytes(alloc)?;
-    if bytes.len() > 352 {
-        return Err("a file of 352 bytes".into());
-    }
-    match load(alloc, name, bytes, proto) {
-        Ok(file) => Ok(Arc::new(alloc, file)?),
-        Err(Failure::NoMemory) => Err(NoMemory.into()),
-        Err(Failure::Fault(_)) => Err("the file fits".into()),
-    }
+    loaded(alloc, NAMES[1], File::Later.bytes(alloc)?, proto)
 }

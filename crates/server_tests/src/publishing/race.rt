@@ -1,10 +1,11 @@
 //! Readers that ask as fast as they can while one thread publishes, expires and retracts.
-ghost use Rattle.std.specs.Prelude.{◌≡◌, ◌≤◌, length};
+ghost use Rattle.std.specs.Prelude.{◌≡◌, ◌≤◌};
 ghost use Rattle.fm_model.specs.Site.{IsPrototype};
 ghost use Rattle.pub_snap.specs.Opening.{IsNamed};
 
 use super::course::{SKETCH, STEPS, Step, answers, publish, step_at};
-use super::files::{Files, prototype};
+use super::files::Files;
+use crate::sampled::prototype;
 use fm_base::{Arc, List};
 use fm_model::Proto;
 use pub_look::Look;
@@ -78,18 +79,16 @@ fn read_once<N: Name>(alloc: Global, reader: &mut Reader<N>, answers: &[u64]) {
     }
 }
 
-// A desk with its shares, the first of which counts what is published.
-struct Publisher<N: Name> {
-    desk: Desk<N>,
-    shares: List<Share<N>>,
-    files: Files<N>,
+// A desk, the share that counts what is published, and the files.
+#[derive(Drop)]
+struct Publisher<'a, N: Name> {
+    desk: &'a mut Desk<N>,
+    share: &'a mut Share<N>,
+    files: &'a Files<N>,
 }
 
 // Publishes all steps, and says whether each was published. Every so often it lets readers run, on few processors too.
-fn write_all<N: Name, R: Wait>(rt: &R, alloc: Global, publisher: &mut Publisher<N>) -> bool
-    requires { 1 ≤ length publisher.old.shares }
-    ensures { length publisher.new.shares ≡ length publisher.old.shares }
-{
+fn write_all<N: Name, R: Wait>(rt: &R, alloc: Global, publisher: &mut Publisher<'_, N>) -> bool {
     for number in 0..STEPS {
         if !write_one(rt, alloc, publisher, step_at(number)) {
             return false;
@@ -104,19 +103,15 @@ fn write_all<N: Name, R: Wait>(rt: &R, alloc: Global, publisher: &mut Publisher<
 fn write_one<N: Name, R: Wait>(
     rt: &R,
     alloc: Global,
-    publisher: &mut Publisher<N>,
+    publisher: &mut Publisher<'_, N>,
     step: Step,
-) -> bool
-    requires { 1 ≤ length publisher.old.shares }
-    ensures { length publisher.new.shares ≡ length publisher.old.shares }
-{
-    let share = &mut publisher.shares.items[0];
+) -> bool {
     publish(
         rt,
         alloc,
-        &mut publisher.desk,
-        share,
-        &publisher.files,
+        publisher.desk,
+        publisher.share,
+        publisher.files,
         step,
     )
 }
@@ -140,51 +135,65 @@ fn race<N: Name + Send + Sync, R: Threads + Wait + Abort + Sync>(
     requires some { 1 ≤ blank.shares }
     requires proto { IsPrototype proto × (proto ≡ N.proto) }
 {
-    let (files, audience) = prepared(alloc, proto)?;
-    let (desk, passes, shares) = blank.open::<N>(alloc)?;
-    let publisher = Publisher {
-        desk,
-        shares,
-        files,
-    };
-    hold(rt, alloc, publisher, audience, passes);
-    Ok(())
+    let files: Files<N> = Files::of(alloc, proto.get())?;
+    let mut audience = audience_of(alloc, proto, &files)?;
+    hold(rt, alloc, blank, &files, &mut audience)
 }
 
-// The files, and an audience without readers.
-fn prepared<N: Name>(alloc: Global, proto: Arc<Proto>) -> Result<(Files<N>, Audience<N>), Fail>
+// An audience without readers.
+fn audience_of<N: Name>(
+    alloc: Global,
+    proto: Arc<Proto>,
+    files: &Files<N>,
+) -> Result<Audience<N>, Fail>
     requires { IsPrototype proto × (proto ≡ N.proto) }
 {
-    let files: Files<N> = Files::of(alloc, proto.get())?;
-    let answers = answers(alloc, proto, &files)?;
+    let answers = answers(alloc, proto, files)?;
     let readers = Vec::with_capacity(alloc, 32)?;
-    Ok((files, Audience { readers, answers }))
+    Ok(Audience { readers, answers })
 }
 
-// Has the readers of these passes ask while all steps are published, and looks at what they found.
+// Has readers of all passes ask while all steps are published, and looks at what they found.
 fn hold<N: Name + Send + Sync, R: Threads + Wait + Abort + Sync>(
     rt: &R,
     alloc: Global,
-    publisher: Publisher<N>,
-    audience: Audience<N>,
-    passes: List<Pass<N>>,
-)
-    requires some { 1 ≤ length publisher.shares }
-    requires all { length publisher.shares ≡ N.parts }
+    blank: Blank,
+    files: &Files<N>,
+    audience: &mut Audience<N>,
+) -> Result<(), Fail>
+    requires named { IsNamed blank N.book N.name N.proto N.parts }
+    requires some { 1 ≤ blank.shares }
 {
-    let mut publisher = publisher;
-    let mut audience = audience;
+    let (mut desk, passes, mut shares) = blank.open::<N>(alloc)?;
     seat_all(&mut audience.readers, passes);
-    let written = read_and_write(rt, alloc, &mut publisher, &mut audience);
-    let (receipt, closed) = closed(rt, publisher);
-    assert!(rt; written && audience.readers.len() == 8);
+    let share = &mut shares.items[0];
+    let written = published(rt, alloc, &mut desk, share, files, audience);
+    let receipt = desk.receipt();
+    let closed = desk.close(rt, shares);
+    all_was_published(
+        rt,
+        audience.readers.len(),
+        written,
+        receipt.revision(),
+        closed,
+    );
+    nothing_was_wrong(rt, audience.readers.as_mut_slice(), &receipt);
+    Ok(())
+}
+
+// A reader asked for each pass, and the desk's count and that of its shares are those of the steps.
+fn all_was_published<R: Abort>(
+    rt: &R,
+    readers: usize,
+    written: bool,
+    revision: u64,
+    closed: Closed,
+) {
+    assert!(rt; written && readers == 8);
     assert_eq!(rt;
-        (receipt.revision(), closed.revision, closed.total),
+        (revision, closed.revision, closed.total),
         (STEPS, STEPS, STEPS)
     );
-    for reader in audience.readers {
-        found_nothing_wrong(rt, reader, &receipt);
-    }
 }
 
 // A reader for each pass.
@@ -194,21 +203,13 @@ fn seat_all<N: Name>(readers: &mut Vec<Reader<N>>, passes: List<Pass<N>>) {
     }
 }
 
-// Closes the desk.
-fn closed<N: Name, R: Wait>(rt: &R, publisher: Publisher<N>) -> (Receipt<N>, Closed)
-    requires { length publisher.shares ≡ N.parts }
-{
-    let Publisher {
-        desk,
-        shares,
-        files: _,
-    } = publisher;
-    let receipt = desk.receipt();
-    (receipt, desk.close(rt, shares))
+fn nothing_was_wrong<N: Name, R: Abort>(rt: &R, readers: &mut [Reader<N>], receipt: &Receipt<N>) {
+    for reader in readers.iter_mut() {
+        found_nothing_wrong(rt, reader, receipt);
+    }
 }
 
-fn found_nothing_wrong<N: Name, R: Abort>(rt: &R, reader: Reader<N>, receipt: &Receipt<N>) {
-    let mut reader = reader;
+fn found_nothing_wrong<N: Name, R: Abort>(rt: &R, reader: &mut Reader<N>, receipt: &Receipt<N>) {
     reader.pass.learn(receipt);
     assert_eq!(rt; (reader.fell, reader.wrong, reader.short), (0, 0, 0));
     assert_eq!(rt; reader.pass.seen(), STEPS);
@@ -218,16 +219,26 @@ fn found_nothing_wrong<N: Name, R: Abort>(rt: &R, reader: Reader<N>, receipt: &R
 fn read_and_write<N: Name + Send + Sync, R: Threads + Wait + Sync>(
     rt: &R,
     alloc: Global,
-    publisher: &mut Publisher<N>,
+    publisher: &mut Publisher<'_, N>,
     audience: &mut Audience<N>,
-) -> bool
-    requires { 1 ≤ length publisher.old.shares }
-    ensures { length publisher.new.shares ≡ length publisher.old.shares }
-{
+) -> bool {
     let mut reading = || read_side_by_side(rt, alloc, audience);
     let mut writing = || write_all(rt, alloc, publisher);
     let (_, written) = join_mut(rt, &mut reading, &mut writing);
     written
+}
+
+// The same over a desk, one of its shares, and the files.
+fn published<N: Name + Send + Sync, R: Threads + Wait + Sync>(
+    rt: &R,
+    alloc: Global,
+    desk: &mut Desk<N>,
+    share: &mut Share<N>,
+    files: &Files<N>,
+    audience: &mut Audience<N>,
+) -> bool {
+    let mut publisher = Publisher { desk, share, files };
+    read_and_write(rt, alloc, &mut publisher, audience)
 }
 
 fn read_side_by_side<N: Name + Send + Sync, R: Threads + Sync>(

@@ -3,8 +3,9 @@ ghost use Rattle.std.specs.Prelude.{◌≡◌, ◌≤◌, length};
 ghost use Rattle.fm_model.specs.Load.{Fits};
 ghost use Rattle.pub_snap.specs.Opening.{IsNamed};
 
-use super::files::{FIRST_RUN, NAMES, SIX_HOURS, later, prototype, sample};
+use super::files::{FIRST_RUN, NAMES, SIX_HOURS, later, sample};
 use super::probe::{FileAt, HowMuch};
+use crate::sampled::prototype;
 use fm_base::{Arc, Fail as Failure};
 use fm_model::{Full, Loaded, Op, Tally};
 use pub_look::Look;

@@ -1,28 +1,12 @@
 //! The files that arrive, and the moments that come.
 
 use super::files::NAMES;
-use dev_memory::{Entry, MemClock, MemInbox};
+use crate::arriving::two_files;
+use dev_memory::{MemClock, MemInbox};
 use fm_base::{Bytes, List, NoMemory};
-use fm_sample::File;
 use std::alloc::Global;
 
-// A file of this name.
-fn entry(alloc: Global, name: &[u8], file: File) -> Result<Entry, NoMemory> {
-    Ok(Entry {
-        path: Bytes::copy_of(alloc, name)?,
-        content: file.bytes(alloc)?,
-    })
-}
-
-// The files of the first two runs.
-fn entries(alloc: Global) -> Result<List<Entry>, NoMemory> {
-    let mut entries = List::new(alloc);
-    entries.push(entry(alloc, NAMES[0], File::Sample)?)?;
-    entries.push(entry(alloc, NAMES[1], File::Later)?)?;
-    Ok(entries)
-}
-
-// Their names.
+// The names of the files.
 fn names(alloc: Global) -> Result<List<Bytes>, NoMemory> {
     let mut names = List::new(alloc);
     names.push(Bytes::copy_of(alloc, NAMES[0])?)?;
@@ -32,7 +16,7 @@ fn names(alloc: Global) -> Result<List<Bytes>, NoMemory> {
 
 /// An inbox to which the files of two runs come.
 pub fn two_runs(alloc: Global) -> Result<MemInbox, NoMemory> {
-    MemInbox::new(alloc, names(alloc)?, entries(alloc)?, List::new(alloc))
+    MemInbox::new(alloc, names(alloc)?, two_files(alloc)?, List::new(alloc))
 }
 
 /// A clock to which one moment comes twice.

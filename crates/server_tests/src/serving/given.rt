@@ -3,10 +3,10 @@ ghost use Rattle.std.specs.Prelude.{◌≡◌, All, IfOk};
 ghost use Rattle.dev_traits.specs.Door.{IsFresh};
 
 use super::texts::STRUCTURE;
-use dev_memory::{Entry, MemDoor, MemFiles, MemInbox, MemLink, MemOpener, MemSink};
-use dev_traits::{Door, Gate, Link, OpenGate, Opener, World};
+use crate::arriving::two_files;
+use dev_memory::{MemDoor, MemFiles, MemInbox, MemLink, MemOpener, MemSink};
+use dev_traits::{Door, Gate, Inbox, Link, OpenGate, Opener, World};
 use fm_base::{Bytes, List, NoMemory};
-use fm_sample::File;
 use srv_run::run;
 use std::alloc::Global;
 use std::marker::{Send, Sync};
@@ -28,20 +28,6 @@ pub(crate) fn words_of(alloc: Global, text: &str) -> Result<List<Bytes>, NoMemor
         words.push(Bytes::copy_of(alloc, word.as_bytes())?)?;
     }
     Ok(words)
-}
-
-// The files of the first two runs.
-pub(crate) fn runs(alloc: Global) -> Result<List<Entry>, NoMemory> {
-    let mut files = List::new(alloc);
-    files.push(Entry {
-        path: Bytes::copy_of(alloc, b"gfs_20240101_0000.nc")?,
-        content: File::Sample.bytes(alloc)?,
-    })?;
-    files.push(Entry {
-        path: Bytes::copy_of(alloc, b"gfs_20240101_0600.nc")?,
-        content: File::Later.bytes(alloc)?,
-    })?;
-    Ok(files)
 }
 
 // A link with this input and room for `room` bytes of output, whose call number `failing` fails; 0 stands for none.
@@ -80,6 +66,14 @@ pub(crate) fn two_doors(alloc: Global, twice: bool) -> Result<List<MemDoor>, NoM
     Ok(doors)
 }
 
+// An inbox to which these names come.
+fn inbox_of(alloc: Global, names: &str) -> Result<MemInbox, NoMemory>
+    ensures { IfOk result (λ inbox. (⟦<MemInbox as Inbox>⟧.shown inbox).faults ≡ 0) }
+{
+    let names = words_of(alloc, names)?;
+    MemInbox::new(alloc, names, two_files(alloc)?, List::new(alloc))
+}
+
 // What opens these doors and an inbox to which these names come.
 pub(crate) fn opener_of(
     alloc: Global,
@@ -88,9 +82,8 @@ pub(crate) fn opener_of(
 ) -> Result<MemOpener, NoMemory>
     requires { All (λ door. (⟦<MemDoor as Door>⟧.shown door).faults ≡ 0) doors }
 {
-    let names = words_of(alloc, names)?;
     let mut inboxes = List::new(alloc);
-    inboxes.push(MemInbox::new(alloc, names, runs(alloc)?, List::new(alloc))?)?;
+    inboxes.push(inbox_of(alloc, names)?)?;
     Ok(MemOpener::new(alloc, doors, inboxes, List::new(alloc), List::new(alloc)))
 }
 
@@ -141,6 +134,21 @@ fn looked_at(
     })
 }
 
+// What a run has beside its devices: its words, its files, and room for its lines.
+#[derive(Drop)]
+struct Supplies {
+    words: List<Bytes>,
+    files: MemFiles,
+    sink: MemSink,
+}
+
+fn supplies_of(alloc: Global, words: &str) -> Result<Supplies, NoMemory> {
+    let words = words_of(alloc, words)?;
+    let files = MemFiles::new(two_files(alloc)?, List::new(alloc));
+    let sink = MemSink::new(alloc, 4_096, List::new(alloc))?;
+    Ok(Supplies { words, files, sink })
+}
+
 // Runs the words over devices, and says what is left. A function that owns a world is dear to prove, so none but this
 // one does.
 pub(crate) fn ran<
@@ -153,9 +161,7 @@ where
     O::I: Send + Drop,
     O::C: Send + Drop,
 {
-    let words = words_of(alloc, words)?;
-    let sink = MemSink::new(alloc, 4_096, List::new(alloc))?;
-    let files = MemFiles::new(runs(alloc)?, List::new(alloc));
+    let Supplies { words, files, sink } = supplies_of(alloc, words)?;
     let mut world = World {
         opener,
         doors: List::new(alloc),

@@ -1,12 +1,16 @@
 //! Links that are served between files that arrive.
 
 use super::course::{CountedOpener, Course, InStep};
-use super::given::{asking_door, link_of, opener_of, ran};
+use super::given::{Left, asking_door, link_of, opener_of, ran};
 use super::texts::REPLIES;
 use fm_base::{Bytes, List, NoMemory};
 use std::alloc::Global;
+use std::marker::Sync;
+use std::process::Abort;
+use std::sync::Wait;
 use std::sync::atomic::Ordering;
 use std::test::Fail;
+use std::thread::Threads;
 
 // The words of a run with one worker and one inbox.
 const ONE: &str = "serve --name gfs --proto gfs_20240101_0000.nc --listen here --workers 1 in";
@@ -34,18 +38,26 @@ fn opener_in_step(alloc: Global, course: &Course) -> Result<CountedOpener<'_>, N
     Ok(CountedOpener { opener, course })
 }
 
+// Serves one door with a gate that holds each link until a file was settled.
+fn served_in_step<R: Threads + Wait + Sync>(
+    rt: &R,
+    alloc: Global,
+    course: &Course,
+) -> Result<Left, NoMemory> {
+    let link = link_of(alloc, b"", 0, 0)?;
+    let opener = opener_in_step(alloc, course)?;
+    ran(rt, alloc, ONE, opener, link, InStep { course })
+}
+
+fn are_in_turn(rt: &impl Abort, left: &Left, gave_up: u64) {
+    assert_eq!(rt; (left.status, gave_up), (0, 0));
+    assert!(rt; left.doors == 1 && in_turn(left.replies.as_slice()));
+}
+
 #[test]
 fn each_link_is_served_from_all_that_was_settled_before_it(rt: HostRuntime) -> Result<(), Fail> {
-    let alloc = rt.alloc();
     let course = Course::new();
-    let link = link_of(alloc, b"", 0, 0)?;
-    let opener = opener_in_step(alloc, &course)?;
-    let gate = InStep { course: &course };
-    let left = ran(&rt, alloc, ONE, opener, link, gate)?;
-    assert_eq!(rt;
-        (left.status, course.gave_up.load(Ordering::SeqCst)),
-        (0, 0)
-    );
-    assert!(rt; left.doors == 1 && in_turn(left.replies.as_slice()));
+    let left = served_in_step(&rt, rt.alloc(), &course)?;
+    are_in_turn(&rt, &left, course.gave_up.load(Ordering::SeqCst));
     Ok(())
 }

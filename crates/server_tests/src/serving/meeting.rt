@@ -6,6 +6,7 @@ use dev_traits::{Gate, Place};
 use fm_base::{Bytes, NoMemory};
 use std::alloc::Global;
 use std::marker::Sync;
+use std::process::Abort;
 use std::sync::Wait;
 use std::sync::atomic::{AtomicU64, Ordering};
 use std::test::Fail;
@@ -44,15 +45,20 @@ fn served<R: Threads + Wait + Sync, G: Gate + Drop>(
     ran(rt, alloc, TWO, opener, link, gate)
 }
 
+// Two connections came and waited for each other alone, and two doors put a reply each.
+fn have_met(rt: &impl Abort, left: &Left, settled: u64, gave_up: u64) {
+    assert_eq!(rt; (left.status, settled, gave_up), (0, 2, 0));
+    assert_eq!(rt; (left.doors, left.replies.len()), (2, 2));
+    assert!(rt; left.replies.as_slice().iter().all(is_empty_reply));
+}
+
 #[test]
 fn two_connections_are_served_at_once(rt: HostRuntime) -> Result<(), Fail> {
     let course = Course::new();
     let left = served(&rt, rt.alloc(), false, Meeting { course: &course })?;
     let settled = course.settled.load(Ordering::SeqCst);
     let gave_up = course.gave_up.load(Ordering::SeqCst);
-    assert_eq!(rt; (left.status, settled, gave_up), (0, 2, 0));
-    assert_eq!(rt; (left.doors, left.replies.len()), (2, 2));
-    assert!(rt; left.replies.as_slice().iter().all(is_empty_reply));
+    have_met(&rt, &left, settled, gave_up);
     Ok(())
 }
 
@@ -95,6 +101,15 @@ impl<'a> Gate for Noting<'a> {
     }
 }
 
+// At each of two doors a link was accepted and finished, and then another.
+fn are_in_turn(rt: &impl Abort, status: u8, noted: &Noted) {
+    let first = noted.first.load(Ordering::SeqCst);
+    let second = noted.second.load(Ordering::SeqCst);
+    let others = noted.others.load(Ordering::SeqCst);
+    assert_eq!(rt; status, 0);
+    assert_eq!(rt; (first, second, others), (1212, 1212, 0));
+}
+
 #[test]
 fn a_door_passes_the_gate_with_its_number_before_and_after_each_link(
     rt: HostRuntime,
@@ -105,12 +120,6 @@ fn a_door_passes_the_gate_with_its_number_before_and_after_each_link(
         others: AtomicU64::new(0),
     };
     let left = served(&rt, rt.alloc(), true, Noting { noted: &noted })?;
-    let first = noted.first.load(Ordering::SeqCst);
-    let second = noted.second.load(Ordering::SeqCst);
-    assert_eq!(rt; left.status, 0);
-    assert_eq!(rt;
-        (first, second, noted.others.load(Ordering::SeqCst)),
-        (1212, 1212, 0)
-    );
+    are_in_turn(&rt, left.status, &noted);
     Ok(())
 }

@@ -1,23 +1,44 @@
 //! Links that are cut or fail at every offset in turn, and one of many requests.
 
 use super::by_lines::ByLines;
-use super::given::{ONCE, asked, link_of};
+use super::given::{Kept, Left, ONCE, asked, link_of};
 use super::texts::{REPLIES, REQUESTS, STRUCTURE};
 use dev_memory::MemLink;
+use dev_traits::Link;
 use fm_base::{Bytes, NoMemory};
 use std::alloc::Global;
+use std::marker::Sync;
+use std::process::Abort;
+use std::sync::Wait;
 use std::test::Fail;
+use std::thread::Threads;
 
 // The room of a link's output.
 const ROOM: usize = 8_192;
+
+fn is_left(rt: &impl Abort, left: &Left, status: u8, output: &[u8]) {
+    assert_eq!(rt; left.status, status);
+    assert_eq!(rt; left.output.as_slice(), output);
+}
+
+// A run over a link ends with this status, and puts this output on it.
+fn ends_with<R: Threads + Wait + Abort + Sync, L: Link + Kept + Drop>(
+    rt: &R,
+    alloc: Global,
+    link: L,
+    status: u8,
+    output: &[u8],
+) -> Result<(), NoMemory> {
+    let left = asked(rt, alloc, ONCE, link)?;
+    is_left(rt, &left, status, output);
+    Ok(())
+}
 
 #[test]
 fn the_replies_are_the_same_however_the_input_is_cut(rt: HostRuntime) -> Result<(), Fail> {
     for most_taken in 1..REQUESTS.len() + 1 {
         let link = link_of(rt.alloc(), REQUESTS, ROOM, 0)?.in_pieces(most_taken, usize::MAX);
-        let left = asked(&rt, rt.alloc(), ONCE, link)?;
-        assert_eq!(rt; left.status, 0);
-        assert_eq!(rt; left.output.as_slice(), REPLIES);
+        ends_with(&rt, rt.alloc(), link, 0, REPLIES)?;
     }
     Ok(())
 }
@@ -27,9 +48,7 @@ fn the_replies_are_the_same_where_each_cr_is_cut_from_its_lf(rt: HostRuntime) ->
     let lines = ByLines {
         link: link_of(rt.alloc(), REQUESTS, ROOM, 0)?,
     };
-    let left = asked(&rt, rt.alloc(), ONCE, lines)?;
-    assert_eq!(rt; left.status, 0);
-    assert_eq!(rt; left.output.as_slice(), REPLIES);
+    ends_with(&rt, rt.alloc(), lines, 0, REPLIES)?;
     Ok(())
 }
 
@@ -38,10 +57,14 @@ fn nothing_is_sent_where_the_input_ends_within_a_request(rt: HostRuntime) -> Res
     for count in 1..STRUCTURE.len() {
         let (front, _) = STRUCTURE.split_at(count);
         let link = link_of(rt.alloc(), front, ROOM, 0)?;
-        let left = asked(&rt, rt.alloc(), ONCE, link)?;
-        assert_eq!(rt; (left.status, left.output.len()), (11, 0));
+        ends_with(&rt, rt.alloc(), link, 11, b"")?;
     }
     Ok(())
+}
+
+fn is_front(rt: &impl Abort, left: &Left) {
+    assert_eq!(rt; left.status, 9);
+    assert!(rt; REPLIES.starts_with(left.output.as_slice()));
 }
 
 // Of 18 takes of at most 7 bytes and 9 puts of at most 100 each fails in turn.
@@ -50,8 +73,7 @@ fn whatever_call_fails_the_output_is_a_front_of_the_replies(rt: HostRuntime) -> 
     for call in 1..28u64 {
         let link = link_of(rt.alloc(), REQUESTS, ROOM, call)?.in_pieces(7, 100);
         let left = asked(&rt, rt.alloc(), ONCE, link)?;
-        assert_eq!(rt; left.status, 9);
-        assert!(rt; REPLIES.starts_with(left.output.as_slice()));
+        is_front(&rt, &left);
     }
     Ok(())
 }
@@ -75,16 +97,21 @@ fn many_requests(alloc: Global) -> Result<MemLink, NoMemory> {
     link_of(alloc, input.as_slice(), 4_194_304, 0)
 }
 
-#[test]
-fn reply_10000_is_the_last(rt: HostRuntime) -> Result<(), Fail> {
-    let alloc = rt.alloc();
-    let left = asked(&rt, alloc, MANY, many_requests(alloc)?)?;
-    assert_eq!(rt; left.status, 11);
-    let output = left.output.as_slice();
+// All replies but the last are the same.
+fn are_10000_replies(rt: &impl Abort, output: &[u8]) {
     assert_eq!(rt; output.len(), 9_999 * 238 + 233);
     let (before, last) = output.split_at(9_999 * 238);
     let (first, _) = before.split_at(238);
     assert!(rt; before.chunks(238).all(|reply| reply == first));
     assert!(rt; says_close(last) && !says_close(first));
+}
+
+#[test]
+fn reply_10000_is_the_last(rt: HostRuntime) -> Result<(), Fail> {
+    let alloc = rt.alloc();
+    let link = many_requests(alloc)?;
+    let left = asked(&rt, alloc, MANY, link)?;
+    assert_eq!(rt; left.status, 11);
+    are_10000_replies(&rt, left.output.as_slice());
     Ok(())
 }

@@ -8,16 +8,16 @@ use Rattle.dap_project.specs.declared.slot.Slot.{Slot}
 use Rattle.dap_project.proofs.NoteLemmas.{conflict, no_conflict}
 use Rattle.dap_project.proofs.check.check_conflict.Goals as goal
 
-pub returns-then-branch : goal.returns-then-branch
-returns-then-branch c = λ earlier is.
+pub returns-then-slots_differ : goal.returns-then-slots_differ
+returns-then-slots_differ c = λ earlier is.
     let decl = c.args.decl.now in
     let picked = picked_of c.picked_by-choice.result in
     conflict decl earlier c.args.clause.now c.args.note.now picked is
     (c.picked_by-choice.ensures ∙ ap (picked_by decl) c.as_slice.ensures)
     (ap₂ (λ (s : List Slab) (l : List Slot). slots_differ (λ part. slabs_for decl s part picked) 0 l)
     (sym c.as_slice-2.ensures) (sym c.as_slice-3.ensures)
-    ∙ sym c.in_ok-slots_differ.ensures
-    ∙ c.if-branch.true)
+    ∙ sym c.slots_differ.ensures
+    ∙ c.if-slots_differ.true)
     ∙ ap (λ (name : List ℕ). Some (SlabConflict name)) (sym (c.in_ok-name.ensures ∙ c.name_of.ensures))
 
 pub returns : goal.returns
@@ -28,5 +28,5 @@ returns c = λ earlier is.
     (c.picked_by-choice.ensures ∙ ap (picked_by decl) c.as_slice.ensures)
     (ap₂ (λ (s : List Slab) (l : List Slot). slots_differ (λ part. slabs_for decl s part picked) 0 l)
     (sym c.as_slice-2.ensures) (sym c.as_slice-3.ensures)
-    ∙ sym c.in_ok-slots_differ.ensures
-    ∙ c.if-branch.false)
+    ∙ sym c.slots_differ.ensures
+    ∙ c.if-slots_differ.false)

@@ -1,9 +1,7 @@
--- The notes before the place are noted, and those from it on are left.
-use Rattle.std.proofs.Common.{◌≡◌, ◌++◌, take, drop}
-use Rattle.dap_project.specs.Notes.{notes_after}
+-- The notes of the places so far are noted.
+use Rattle.std.proofs.Common.{drop}
+use Rattle.dap_project.proofs.BucketLemmas.{AreNoted}
 use Rattle.dap_project.proofs.note.note_clause.Given as goal
 
-abbrev pub invariant-loop-at : goal.invariant-loop-at
-invariant-loop-at l =
-    take l.at l.notes ++ notes_after l.clause (drop l.at l.decls) (drop l.at l.notes)
-    ≡ notes_after l.clause l.decls l.fn.notes
+abbrev pub invariant-loop-place : goal.invariant-loop-place
+invariant-loop-place l = AreNoted l.decls l.clause (drop l.place-index l.places) l.notes l.fn.notes

@@ -1,7 +1,7 @@
 -- The slot of the part differs, or those after it tell.
-use Rattle.std.proofs.Common.{ap, arith, sym, ◌∙◌}
+use Rattle.std.proofs.Common.{arith, sym, ◌∙◌}
 use Rattle.dap_model.specs.Picking.{slabs_for}
-use Rattle.dap_project.specs.Notes.{picked_of, slot_differs}
+use Rattle.dap_project.specs.Notes.{picked_of}
 use Rattle.dap_project.proofs.StepLemmas.{differ_end, differ_here, differ_later}
 use Rattle.dap_project.proofs.note.slots_differ.Goals as goal
 
@@ -9,18 +9,14 @@ pub returns-then-slot_differs : goal.returns-then-slot_differs
 returns-then-slot_differs c =
     differ_here (λ part. slabs_for c.args.decl.now c.args.slabs.now part (picked_of c.args.choice)) c.args.slots.now
     c.loop-part.part c.index-slots-part.result c.loop-part-test.true c.index-slots-part.is
-    (sym c.if-slot_differs.true
-    ∙ c.slot_differs.ensures
-    ∙ ap (slot_differs c.index-slots-part.result) c.in_ok-given.ensures)
+    (sym c.if-slot_differs.true ∙ c.slot_differs.ensures)
     ∙ c.loop-part.invariant
 
 pub loop-part-preserved : goal.loop-part-preserved
 loop-part-preserved c =
     differ_later (λ part. slabs_for c.args.decl.now c.args.slabs.now part (picked_of c.args.choice)) c.args.slots.now
     c.loop-part.part c.index-slots-part.result c.loop-part-test.true c.index-slots-part.is
-    (sym c.if-slot_differs.false
-    ∙ c.slot_differs.ensures
-    ∙ ap (slot_differs c.index-slots-part.result) c.in_ok-given.ensures)
+    (sym c.if-slot_differs.false ∙ c.slot_differs.ensures)
     ∙ c.loop-part.invariant
 
 pub returns : goal.returns

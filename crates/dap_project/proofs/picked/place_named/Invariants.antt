@@ -1,7 +1,9 @@
--- No declaration before the place is named.
-use Rattle.std.proofs.Common.{◌≡◌, drop}
+-- No declaration before those that are left is named.
+use Rattle.std.proofs.Common.{◌≡◌, ℕ, drop}
 use Rattle.dap_model.specs.Picking.{decl_named}
+use Rattle.dap_project.proofs.BucketLemmas.{AreLeft}
 use Rattle.dap_project.proofs.picked.place_named.Given as goal
 
-abbrev pub invariant-loop-at : goal.invariant-loop-at
-invariant-loop-at l = decl_named (drop l.at l.decls) l.path ≡ decl_named l.decls l.path
+abbrev pub invariant-loop-place : goal.invariant-loop-place
+invariant-loop-place l = (from : ℕ) × AreLeft l.decls l.path (drop l.place-index l.places) from
+    × (decl_named (drop from l.decls) l.path ≡ decl_named l.decls l.path)

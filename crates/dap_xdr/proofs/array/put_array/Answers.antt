@@ -10,15 +10,14 @@ use Rattle.dap_xdr.proofs.array.put_array.Goals as goal
 
 pub returns : goal.returns
 unfolding count_twice
-returns g c =
-    let content = g.S.Source.content c.args.source.now in
+returns c =
     let n = c.args.part.now in
     let head : c.count_twice.result ≡ count_twice (box_len n.sent.slabs) =
     c.count_twice.ensures ∙ ap count_twice c.count.ensures in
     subst (λ (l : List ℕ). IsPut (drop c.args.from l) c.args.out.now
     (c.split_at_mut-rest.result.0.now ++ c.put_body.new.out) (c.put-count.result + c.put_body.result))
-    (sym (array-body content n))
-    (put-behind (count_twice (box_len n.sent.slabs)) (body_of content n)
+    (sym (array-body n))
+    (put-behind (count_twice (box_len n.sent.slabs)) (body_of n)
     c.args.out.now c.put-count.new.out c.split_at_mut-rest.result.0.now c.split_at_mut-rest.result.1.now
     c.put_body.new.out c.args.from c.put-count.result c.put_body.result c.saturating_sub.result
     (c.put-count.ensures.count ∙ ap (λ (l : List ℕ). min (length c.args.out.now) (length l - c.args.from)) head)

@@ -10,14 +10,13 @@ use Rattle.dap_xdr.proofs.array.put_body.Goals as goal
 
 pub returns : goal.returns
 unfolding body_of
-returns g c =
-    let content = g.S.Source.content c.args.source.now in
+returns c =
     let n = c.args.part.now in
     let len : c.count.result * c.element_len.result ≡ box_len n.sent.slabs * element_len n.array.kind =
     ap₂ (λ (a b : ℕ). a * b) c.count.ensures (c.element_len.ensures ∙ ap element_len c.kind.ensures) in
-    let left : c.saturating_sub.result ≡ c.args.from - length (numbers_from content n 0) =
-    c.saturating_sub.ensures ∙ ap (λ (m : ℕ). c.args.from - m) (len ∙ sym (length-all content n)) in
-    put-behind (numbers_from content n 0) (zeros_after (box_len n.sent.slabs * element_len n.array.kind))
+    let left : c.saturating_sub.result ≡ c.args.from - length (numbers_from n 0) =
+    c.saturating_sub.ensures ∙ ap (λ (m : ℕ). c.args.from - m) (len ∙ sym (length-all n)) in
+    put-behind (numbers_from n 0) (zeros_after (box_len n.sent.slabs * element_len n.array.kind))
     c.args.out.now c.put_elements-count.new.out c.split_at_mut-rest.result.0.now c.split_at_mut-rest.result.1.now
     c.put_zeros.new.out c.args.from c.put_elements-count.result c.put_zeros.result c.saturating_sub.result
     c.put_elements-count.ensures.count c.put_elements-count.ensures.bytes c.split_at_mut-rest.ensures.value

@@ -10,20 +10,19 @@ use Rattle.dap_xdr.proofs.ElementLemmas.{one-front}
 use Rattle.dap_xdr.proofs.elements.put_first.Goals as goal
 
 pub returns-clause-some : goal.returns-clause-some
-returns-clause-some g c =
+returns-clause-some c =
     let long : length (element_bytes c.kind.result c.bits-bits.result) ≡ element_len c.args.part.now.array.kind =
     length-element_bytes c.kind.result c.bits-bits.result ∙ ap element_len c.kind.ensures in
     omega (arith, long, c.requires.skip, c.requires.room, c.put_element.ensures.count)
 
 pub returns-clause-front : goal.returns-clause-front
-returns-clause-front g c =
-    let content = g.S.Source.content c.args.source.now in
+returns-clause-front c =
     let n = c.args.part.now in
     let one : element_bytes c.kind.result c.bits-bits.result
-    ≡ element_bytes n.array.kind (bits_in content n (index_at n.sent.slabs c.args.at.place)) =
-    ap₂ element_bytes c.kind.ensures (c.bits-bits.ensures.exact ∙ ap (bits_in content n) c.requires.index) in
-    subst (λ (new : List ℕ). IsFront (drop c.args.at.skip (numbers_from content n c.args.at.place)) c.args.out.now new
+    ≡ element_bytes n.array.kind (bits_in n (index_at n.sent.slabs c.args.at.place)) =
+    ap₂ element_bytes c.kind.ensures (c.bits-bits.ensures.exact ∙ ap (bits_in n) c.requires.index) in
+    subst (λ (new : List ℕ). IsFront (drop c.args.at.skip (numbers_from n c.args.at.place)) c.args.out.now new
     c.put_element.result)
     (sym (c.put_element.ensures.bytes ∙ ap (λ (l : List ℕ). overlay (drop c.args.at.skip l) c.args.out.now) one))
-    (one-front content n c.args.at.place c.args.at.skip c.put_element.result c.args.out.now c.requires.place
+    (one-front n c.args.at.place c.args.at.skip c.put_element.result c.args.out.now c.requires.place
     (c.put_element.ensures.count ∙ ap (λ (l : List ℕ). min (length c.args.out.now) (length l - c.args.at.skip)) one))

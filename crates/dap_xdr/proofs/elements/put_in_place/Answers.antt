@@ -9,8 +9,8 @@ use Rattle.dap_xdr.proofs.ElementLemmas.{picked-front}
 use Rattle.dap_xdr.proofs.elements.put_in_place.Goals as goal
 
 pub returns : goal.returns
-returns g c =
-    picked-front (g.S.Source.content c.args.source.now) c.args.part.now c.args.at.place c.args.at.skip
+returns c =
+    picked-front c.args.part.now c.args.at.place c.args.at.skip
     (length c.args.out.now) c.put_stored.result c.raw-stored.result.now c.args.out.now
     c.put_stored.new.out c.raw-stored.ensures
     (subst (λ (kind : DapKind). (numbers : List ℕ) → AreBytesOf kind numbers c.raw-stored.result.now

@@ -1,29 +1,27 @@
 -- An array of numbers or texts.
-use Rattle.std.proofs.Common.{◌+◌, ℕ, length, sym, ap, ◌∙◌, arith}
-use Rattle.dap_model.specs.Box.{box_len}
+use Rattle.std.proofs.Common.{◌+◌, ℕ, length, sym, ap, ap₂, ◌∙◌, arith}
 use Rattle.dap_model.specs.Xdr.{elements_len}
-use Rattle.dap_xdr.specs.Portion.{texts_of, Portion}
-use Rattle.dap_xdr.proofs.DataLemmas.{data-texts, few-slabs, length-numbers}
+use Rattle.dap_xdr.proofs.DataLemmas.{data-texts, length-numbers}
+use Rattle.dap_xdr.proofs.MarkLemmas.{before-first}
+use Rattle.dap_xdr.proofs.TextsLemmas.{texts-whole}
 use Rattle.dap_xdr.proofs.len.many_len.Goals as goal
 
-pub split_at_mut-index-requires : goal.split_at_mut-index-requires
-split_at_mut-index-requires g c =
-    let few = few-slabs (record { sent = c.args.sent.now; array = c.args.array.now }) c.requires.portion in
-    omega (arith, few, c.len.ensures)
+pub texts_len-requires-clause-text : goal.texts_len-requires-clause-text
+texts_len-requires-clause-text c = sym c.kind.ensures ∙ c.in-Text.is
 
 pub returns-in-Text-clause-exact : goal.returns-in-Text-clause-exact
-returns-in-Text-clause-exact g c =
-    let content = g.S.Source.content c.args.source.now in
-    let n : Portion = record { sent = c.args.sent.now; array = c.args.array.now } in
-    c.texts_len.ensures.exact
-    ∙ ap (λ (p : Portion). length (texts_of content p)) c.new-part.ensures
-    ∙ sym (ap length (data-texts content n c.in-Text.is c.requires.many))
+returns-in-Text-clause-exact c =
+    let n = c.args.part.now in
+    omega (
+      arith,
+      c.texts_len.ensures.len,
+      before-first n,
+      ap length (texts-whole n c.count.result (omega (arith, c.count.ensures))),
+      ap length (data-texts n (sym c.kind.ensures ∙ c.in-Text.is) c.requires),
+    )
 
 pub returns-in_default-clause-exact : goal.returns-in_default-clause-exact
-returns-in_default-clause-exact g c =
-    let content = g.S.Source.content c.args.source.now in
-    let n : Portion = record { sent = c.args.sent.now; array = c.args.array.now } in
+returns-in_default-clause-exact c =
     c.numbers_len.ensures.exact
-    ∙ ap (λ (m : ℕ). 8 + elements_len c.args.array.now.kind m)
-    (c.count.ensures ∙ ap (λ (p : Portion). box_len p.sent.slabs) c.new-part.ensures)
-    ∙ sym (length-numbers content n c.in_default.not-Text c.requires.many)
+    ∙ ap₂ (λ k (m : ℕ). 8 + elements_len k m) c.kind.ensures c.count-in_default.ensures
+    ∙ sym (length-numbers c.args.part.now (λ e. c.in_default.not-Text (c.kind.ensures ∙ e)) c.requires)

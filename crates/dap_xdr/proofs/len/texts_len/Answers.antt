@@ -1,36 +1,59 @@
 -- Each turn counts one text.
-use Rattle.std.proofs.Common.{◌≡◌, ◌+◌, ◌≤◌, ◌<◌, ℕ, List, length, refl, sym, ap, ap₂, subst, ◌∙◌, arith}
+use Rattle.std.proofs.Common.{◌≡◌, ◌+◌, ◌<◌, ℕ, List, length, ap, subst, ◌∙◌, arith}
 use Rattle.std.proofs.lemmas.List.{length-append}
+use Rattle.dap_model.specs.Box.{box_len, index_at}
 use Rattle.dap_model.specs.Xdr.{text_bytes, text_len}
 use Rattle.dap_model.proofs.XdrLemmas.{length-text_bytes}
-use Rattle.dap_model.proofs.BoxLemmas.{length-index_at}
+use Rattle.dap_xdr.specs.Marks.{texts_before}
 use Rattle.dap_xdr.specs.Portion.{text_in}
-use Rattle.dap_xdr.proofs.TextsLemmas.{texts-whole, texts-more, texts_before}
+use Rattle.dap_xdr.proofs.TextsLemmas.{texts-more}
 use Rattle.dap_xdr.proofs.len.texts_len.Goals as goal
 
 pub loop-place-init : goal.loop-place-init
-unfolding texts_before
-loop-place-init g c = (refl, refl, omega arith)
+loop-place-init c = (c.begin_at.ensures.room, c.begin_at.ensures.index, omega arith, omega arith)
+
+pub text-text-requires-clause-index : goal.text-text-requires-clause-index
+text-text-requires-clause-index c =
+    c.loop-place.invariant.1 (omega (arith, c.loop-place-test.true, c.requires.within))
+
+pub go_on_to-requires-clause-before : goal.go_on_to-requires-clause-before
+go_on_to-requires-clause-before c =
+    subst (λ (m : ℕ). c.loop-place.index ≡ index_at c.args.part.now.sent.slabs m) (omega arith)
+    (c.loop-place.invariant.1 (omega (arith, c.loop-place-test.true, c.requires.within)))
 
 pub loop-place-preserved : goal.loop-place-preserved
-loop-place-preserved g c =
-    let content = g.S.Source.content c.args.source.now in
+loop-place-preserved c =
     let n = c.args.part.now in
-    let within = subst (λ (m : ℕ). c.loop-place.place < m) c.count-place-end.ensures c.loop-place-test.true in
-    let text = c.text-text.ensures.exact ∙ ap (text_in content n) c.put_index.ensures in
+    let within : c.loop-place.place < box_len n.sent.slabs = omega (arith, c.loop-place-test.true, c.requires.within) in
+    let text = c.text-text.ensures.exact ∙ ap (text_in n) (c.loop-place.invariant.1 within) in
     let one : c.from-len.result ≡ text_len (length c.text-text.result.now) = c.from-len.ensures ∙ c.text_len.ensures in
-    let more = texts-more content n c.loop-place.place within in
+    let more = texts-more n c.loop-place.place within in
     let long : length (text_bytes c.text-text.result.now) ≡ text_len (length c.text-text.result.now) =
-    length-text_bytes c.text-text.result.now in (
-      ap length c.put_index.ensures ∙ length-index_at n.sent.slabs c.loop-place.place ∙ sym c.requires.index,
-      ap₂ (λ (a b : ℕ). a + b) c.loop-place.invariant.1 (one ∙ sym long ∙ ap (λ (l : List ℕ). length (text_bytes l))
-          text)
-          ∙ sym (length-append (texts_before content n c.loop-place.place) _) ∙ ap length (sym more),
-      omega (arith, c.loop-place.invariant.2, one, c.text-text.ensures.short),
+    length-text_bytes c.text-text.result.now in
+    let same = ap (λ (l : List ℕ). length (text_bytes l)) text in (
+      c.go_on_to.ensures.room ∙ c.loop-place.invariant.0,
+      c.go_on_to.ensures.index,
+      omega (
+        arith,
+        c.loop-place.invariant.2,
+        one,
+        long,
+        same,
+        length-append (texts_before n c.loop-place.place)
+            (text_bytes (text_in n (index_at n.sent.slabs c.loop-place.place))),
+        ap length more,
+      ),
+      omega (arith, c.loop-place.invariant.3, one, c.text-text.ensures.short),
     )
 
-pub returns-clause-exact : goal.returns-clause-exact
-returns-clause-exact g c =
-    c.loop-place.invariant.1
-    ∙ ap length (texts-whole (g.S.Source.content c.args.source.now) c.args.part.now c.loop-place.place
-    (subst (λ (m : ℕ). m ≤ c.loop-place.place) c.count-place-end.ensures c.loop-place-test.false))
+pub returns-clause-len : goal.returns-clause-len
+returns-clause-len c =
+    let past = c.loop-place.auto.place-end c.requires.order in
+    let end : c.loop-place.place ≡ c.args.to = omega (arith, c.loop-place-test.false, past) in
+    subst (λ (m : ℕ). length (texts_before c.args.part.now c.args.from) + c.loop-place.len
+    ≡ length (texts_before c.args.part.now m)) end c.loop-place.invariant.2
+
+pub returns-clause-few : goal.returns-clause-few
+returns-clause-few c =
+    let past = c.loop-place.auto.place-end c.requires.order in
+    omega (arith, c.loop-place.invariant.3, past)

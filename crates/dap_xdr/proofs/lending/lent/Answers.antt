@@ -1,16 +1,14 @@
--- A long index list has room, too.
-use Rattle.std.proofs.Common.{rules}
-use Rattle.dap_xdr.proofs.DataLemmas.{few-slabs}
+-- What stands as it is sent is of another kind.
 use Rattle.dap_xdr.proofs.lending.lent.Goals as goal
 
-pub lent_array-requires-in_default-2 : goal.lent_array-requires-in_default-2
-lent_array-requires-in_default-2 g c = record {
-  source = search rules;
-  portion = search rules;
-  many = search rules;
-  number = search rules;
-  same = search rules;
-  behind = search rules;
-  room = few-slabs (record { sent = c.args.sent.now; array = c.array_of-array.result.now })
-      (search rules);
-}
+pub lent_few-requires-clause-number : goal.lent_few-requires-clause-number
+lent_few-requires-clause-number c = c.stands_as_sent.ensures.number c.if-not-stands_as_sent.false
+
+pub lent_few-requires-clause-same : goal.lent_few-requires-clause-same
+lent_few-requires-clause-same c = c.stands_as_sent.ensures.same c.if-not-stands_as_sent.false
+
+pub lent_any-requires-clause-number : goal.lent_any-requires-clause-number
+lent_any-requires-clause-number c = c.stands_as_sent.ensures.number c.if-not-stands_as_sent.false
+
+pub lent_any-requires-clause-same : goal.lent_any-requires-clause-same
+lent_any-requires-clause-same c = c.stands_as_sent.ensures.same c.if-not-stands_as_sent.false

@@ -9,21 +9,20 @@ use Rattle.dap_xdr.proofs.SoFarLemmas.{element_len-pos}
 use Rattle.dap_xdr.proofs.lending.lent_numbers.Goals as goal
 
 pub nonzero_div-place : goal.nonzero_div-place
-nonzero_div-place g c =
+nonzero_div-place c =
     subst (λ (m : ℕ). 0 < m) (sym c.element_len-width.ensures) (element_len-pos c.kind.result
     (subst (λ (kind : DapKind). kind ≢ Text) (sym c.kind.ensures) c.requires.number))
 
 pub nonzero_rem-from : goal.nonzero_rem-from
-nonzero_rem-from g c =
+nonzero_rem-from c =
     subst (λ (m : ℕ). 0 < m) (sym c.element_len-width.ensures) (element_len-pos c.kind.result
     (subst (λ (kind : DapKind). kind ≢ Text) (sym c.kind.ensures) c.requires.number))
 
 pub returns : goal.returns
-returns g c =
-    let content = g.S.Source.content c.args.source.now in
+returns c =
     let width = c.element_len-width.ensures ∙ ap element_len c.kind.ensures in
-    subst (λ (l : List ℕ). take (length l) (drop c.args.from (numbers_from content c.args.part.now 0)) ≡ l)
+    subst (λ (l : List ℕ). take (length l) (drop c.args.from (numbers_from c.args.part.now 0)) ≡ l)
     (sym c.split_at.ensures.back)
-    (stored-front content c.args.part.now c.args.from (c.args.from / c.element_len-width.result) _ c.min-skip.result
+    (stored-front c.args.part.now c.args.from (c.args.from / c.element_len-width.result) _ c.min-skip.result
     c.raw-stored.result.now c.requires.same (ap (λ (m : ℕ). c.args.from / m) width) c.raw-stored.ensures
     (c.min-skip.ensures ∙ ap (λ (m : ℕ). min (c.args.from % m) (length c.raw-stored.result.now)) width))

@@ -1,8 +1,6 @@
--- A long index list has room, too.
-use Rattle.std.proofs.Common.{rules}
-use Rattle.dap_xdr.proofs.DataLemmas.{few-slabs}
+-- No marks are those of any part.
+use Rattle.dap_xdr.proofs.MarkLemmas.{none-of}
 use Rattle.dap_xdr.proofs.piece.xdr_piece.Goals as goal
 
-pub put_many-requires-else-len-le-FEW-clause-room : goal.put_many-requires-else-len-le-FEW-clause-room
-put_many-requires-else-len-le-FEW-clause-room g c =
-    few-slabs (record { sent = c.args.sent.now; array = c.array_of-array.result.now }) (search rules)
+pub xdr_piece_marked-requires-clause-marks : goal.xdr_piece_marked-requires-clause-marks
+xdr_piece_marked-requires-clause-marks c = none-of c.args.set.now c.args.sent.now

@@ -4,13 +4,17 @@ use Rattle.std.proofs.Math.Nat.{mul-le-mul_right}
 use Rattle.dap_xdr.proofs.ExtentLemmas.{count_within}
 use Rattle.dap_xdr.proofs.slabs.with_slab.Goals as goal
 
-pub slab_count-requires-clause-few : goal.slab_count-requires-clause-few
-slab_count-requires-clause-few c =
+pub slab_count-indices-requires-clause-few : goal.slab_count-indices-requires-clause-few
+slab_count-indices-requires-clause-few c =
     omega (arith, count_within c.args.size c.args.slab c.requires.stride c.requires.within)
 
 pub overflow_mul-count : goal.overflow_mul-count
 overflow_mul-count c =
     let within = count_within c.args.size c.args.slab c.requires.stride c.requires.within in
-    let most : c.slab_count.result ≤ c.args.size = omega (arith, c.slab_count.ensures, within) in
+    let most : c.slab_count-indices.result ≤ c.args.size = omega (arith, c.slab_count-indices.ensures, within) in
     let product = mul-le-mul_right c.args.extent.count most in
     omega (arith, product, c.requires.few)
+
+pub begins_turns-requires-clause-few : goal.begins_turns-requires-clause-few
+begins_turns-requires-clause-few c =
+    omega (arith, count_within c.args.size c.args.slab c.requires.stride c.requires.within)

@@ -1,9 +1,8 @@
--- Each time of a run, and each run that is counted, has its row.
-use Rattle.std.proofs.Common.{◌+ℤ◌, rules, sym, ap, length, ◌∙◌, SFits, w64}
+-- Each time of a run has its row.
+use Rattle.std.proofs.Common.{rules, sym, ap, length, ◌∙◌, SFits, w64}
 use Rattle.std.proofs.lemmas.Int.{to_z-of_z}
-use Rattle.fm_model.specs.Cell.{runs_of}
-use Rattle.fm_model.specs.Rows.{row_at, rows}
-use Rattle.fm_views.proofs.RowSteps.{length-filter_map, length-rows_of_run}
+use Rattle.fm_model.specs.Rows.{rows}
+use Rattle.fm_views.proofs.RowSteps.{length-rows_of_run}
 use Rattle.fm_views.proofs.counting.row_count.Goals as goal
 
 pub returns-in-Best : goal.returns-in-Best
@@ -24,20 +23,14 @@ returns-in_ok-times_of-in-Run c =
     rw c.in-Run.is (c.len-count.ensures ∙ ap length times
     ∙ sym (length-rows_of_run c.args.edition.now.files c.in-Run.run'))
 
-pub returns-in_ok-count-in-Offset : goal.returns-in_ok-count-in-Offset
+pub returns-in-Offset : goal.returns-in-Offset
 unfolding rows
-returns-in_ok-count-in-Offset c =
+returns-in-Offset c =
     let a : SFits w64 c.in-Offset.seconds = search rules in
-    let count = simp to_z-of_z at c.in_ok-count-in-Offset.ensures in
-    rw c.in-Offset.is (count
-    ∙ sym (length-filter_map (λ run. row_at c.args.edition.now.files run (run +ℤ c.in-Offset.seconds))
-    (runs_of c.args.edition.now.files)))
+    rw c.in-Offset.is (simp to_z-of_z at c.offset_count-count.ensures)
 
-pub returns-in_ok-count-in-Forecast : goal.returns-in_ok-count-in-Forecast
+pub returns-in-Forecast : goal.returns-in-Forecast
 unfolding rows
-returns-in_ok-count-in-Forecast c =
+returns-in-Forecast c =
     let a : SFits w64 c.in-Forecast.valid = search rules in
-    let count = simp to_z-of_z at c.in_ok-count-in-Forecast.ensures in
-    rw c.in-Forecast.is (count
-    ∙ sym (length-filter_map (λ run. row_at c.args.edition.now.files run c.in-Forecast.valid)
-    (runs_of c.args.edition.now.files)))
+    rw c.in-Forecast.is (simp to_z-of_z at c.forecast_count-count.ensures)

@@ -21,16 +21,14 @@ returns-in_ok-rows_of_run-in-Run c =
     rw c.in-Run.is (subst (λ found. IfOk c.of_page.result (λ list. list ≡ found))
     (simp to_z-of_z at c.in_ok-rows_of_run-in-Run.ensures) c.of_page.ensures)
 
-pub returns-in_ok-rows_at_offset-in-Offset : goal.returns-in_ok-rows_at_offset-in-Offset
+pub returns-in-Offset : goal.returns-in-Offset
 unfolding rows
-returns-in_ok-rows_at_offset-in-Offset c =
+returns-in-Offset c =
     let a : SFits w64 c.in-Offset.seconds = search rules in
-    rw c.in-Offset.is (subst (λ found. IfOk c.of_page-in-Offset.result (λ list. list ≡ found))
-    (simp to_z-of_z at c.in_ok-rows_at_offset-in-Offset.ensures) c.of_page-in-Offset.ensures)
+    rw c.in-Offset.is (simp to_z-of_z at c.offset_rows.ensures)
 
-pub returns-in_ok-rows_at_valid-in-Forecast : goal.returns-in_ok-rows_at_valid-in-Forecast
+pub returns-in-Forecast : goal.returns-in-Forecast
 unfolding rows
-returns-in_ok-rows_at_valid-in-Forecast c =
+returns-in-Forecast c =
     let a : SFits w64 c.in-Forecast.valid = search rules in
-    rw c.in-Forecast.is (subst (λ found. IfOk c.of_page-in-Forecast.result (λ list. list ≡ found))
-    (simp to_z-of_z at c.in_ok-rows_at_valid-in-Forecast.ensures) c.of_page-in-Forecast.ensures)
+    rw c.in-Forecast.is (simp to_z-of_z at c.forecast_rows.ensures)

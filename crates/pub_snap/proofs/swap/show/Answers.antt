@@ -2,4 +2,4 @@
 use Rattle.pub_snap.proofs.swap.show.Goals as goal
 
 pub returns : goal.returns
-returns g c = rw c.replace.ensures.after (c.swap-board.ensures c.args.next c.append-board.ensures.last)
+returns g c = rw c.replace.ensures.after (c.swap-board.ensures c.args.next c.append.ensures.last)

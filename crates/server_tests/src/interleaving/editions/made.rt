@@ -2,12 +2,11 @@
 ghost use Rattle.std.specs.Prelude.{◌≡◌, IfOk};
 ghost use Rattle.fm_model.specs.Load.{Fits};
 
+use crate::sampled::loaded;
 use fm_base::{Arc, Bytes, NoMemory};
-use fm_load::load;
 use fm_model::{Loaded, Proto};
 use nc_sample::{SAMPLE, bytes_of};
 use std::alloc::Global;
-use std::process::Abort;
 use std::test::Fail;
 
 /// The number of names.
@@ -34,22 +33,25 @@ pub fn hour(i: u8) -> i64 {
 /// The number of these hours.
 pub const HOURS: u8 = 32;
 
-// Adds a number of two digits.
-fn put_two(out: &mut Bytes, number: u8) -> Result<(), NoMemory> {
-    let (tens, ones) = (number / 10 % 10, number % 10);
-    out.append(&[b'0'.wrapping_add(tens), b'0'.wrapping_add(ones)])
+// The two digits of a number.
+fn two(number: u8) -> [u8; 2] {
+    [
+        b'0'.wrapping_add(number / 10 % 10),
+        b'0'.wrapping_add(number % 10),
+    ]
 }
 
 /// The name of a number: the moment of its run, and a letter.
 pub fn name(alloc: Global, k: u8) -> Result<Bytes, NoMemory> {
-    let mut name = Bytes::copy_of(alloc, b"gfs_202401")?;
-    put_two(&mut name, (k / 8).wrapping_add(7))?;
-    name.append(b"_")?;
-    put_two(&mut name, (k / 2 % 4).wrapping_mul(6))?;
-    name.append(b"00-")?;
-    name.append(&[b'a'.wrapping_add(k % 2)])?;
-    name.append(b".nc")?;
-    Ok(name)
+    let [day_tens, day_ones] = two((k / 8).wrapping_add(7));
+    let [hour_tens, hour_ones] = two((k / 2 % 4).wrapping_mul(6));
+    let mut name = *b"gfs_20240101_0000-a.nc";
+    name[10] = day_tens;
+    name[11] = day_ones;
+    name[13] = hour_tens;
+    name[14] = hour_ones;
+    name[18] = b'a'.wrapping_add(k % 2);
+    Bytes::copy_of(alloc, &name)
 }
 
 // The bytes of the file of a name: three times six hours apart, the first `3 * step - 6` hours after its run. Those of
@@ -74,17 +76,9 @@ fn bytes(alloc: Global, k: u8, step: u8) -> Result<Bytes, NoMemory> {
 }
 
 /// The file of a name, whose first time is `3 * step - 6` hours after its run.
-pub fn file(
-    rt: &impl Abort,
-    alloc: Global,
-    proto: &Proto,
-    k: u8,
-    step: u8,
-) -> Result<Arc<Loaded>, Fail>
+pub fn file(alloc: Global, proto: &Proto, k: u8, step: u8) -> Result<Arc<Loaded>, Fail>
     ensures { IfOk result (λ file. Fits file proto.now) }
 {
-    let bytes = bytes(alloc, k, step)?;
-    assert!(rt; bytes.len() <= 536_870_912);
-    let file = load(alloc, name(alloc, k)?.as_slice(), bytes, proto)?;
-    Ok(Arc::new(alloc, file)?)
+    let name = name(alloc, k)?;
+    loaded(alloc, name.as_slice(), bytes(alloc, k, step)?, proto)
 }

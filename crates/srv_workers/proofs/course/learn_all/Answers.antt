@@ -1,5 +1,9 @@
-use Rattle.srv_workers.proofs.CourseLemmas.{begin-turn, keeps-turn, sound-turn, tasks-turn}
+use Rattle.srv_workers.proofs.CourseLemmas.{begin-turn, keeps-start, keeps-turn, sound-turn, tasks-turn}
 use Rattle.srv_workers.proofs.course.learn_all.Goals as goal
+
+-- each has its task
+pub loop-init : goal.loop-init
+loop-init g c = (tt, tt, keeps-start c.args.staff.now)
 
 -- what the workers had seen begins the log
 pub returns-then-learn_once-clause-begin : goal.returns-then-learn_once-clause-begin

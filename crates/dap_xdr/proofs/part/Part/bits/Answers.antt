@@ -1,18 +1,36 @@
 -- The index list at a place lies within the dimensions.
-use Rattle.std.proofs.Common.{sym, subst, IsSomeAnd}
-use Rattle.fm_dataset.specs.Values.{HasNumberAt}
-use Rattle.dap_xdr.specs.Content.{array_in}
-use Rattle.dap_xdr.specs.Portion.{IsPortion, Portion}
-use Rattle.dap_xdr.proofs.PickedLemmas.{has-number}
+use Rattle.std.proofs.Common.{◌≡◌, ◌≢◌, ◌<◌, ◌∙◌, ℕ, sym, ap, ap₂, subst}
+use Rattle.dap_model.specs.Box.{box_len, index_at}
+use Rattle.dap_model.specs.declared.declaration.DapKind.TheVariants.{Text}
+use Rattle.dap_model.specs.Xdr.{AreBitsOf}
+use Rattle.fm_dataset.specs.Values.{bits_of}
+use Rattle.dap_xdr.specs.Portion.{bits_in, Portion}
+use Rattle.dap_xdr.proofs.ColumnLemmas.{array-is, number-asked}
 use Rattle.dap_xdr.proofs.part.Part.bits.Goals as goal
 
 pub bits-requires : goal.bits-requires
-bits-requires g c =
-    let decls = (g.S.Source.content c.args.source.now).decls in
-    record {
-      has = subst (λ (n : Portion). IsSomeAnd (array_in decls n.sent.decl n.sent.part) (HasNumberAt c.args.index.now))
-          (sym c.self.view_is)
-          (has-number decls c.args.self.now c.args.place c.args.index.now
-          (subst IsPortion c.self.view_is c.self.invariant.0) c.requires.number c.requires.source c.requires.place
-          c.requires.index);
-    }
+bits-requires c =
+    let n = c.self.inside in
+    number-asked n.column n.sent.now n.array.now c.self.invariant.0 c.self.invariant.1 c.args.place c.args.index.now
+    (subst (λ (p : Portion). c.args.place < box_len p.sent.slabs) (sym c.self.view_is) c.requires.place)
+    (subst (λ (p : Portion). c.args.index.now ≡ index_at p.sent.slabs c.args.place) (sym c.self.view_is)
+    c.requires.index)
+    (subst (λ (p : Portion). p.array.kind ≢ Text) (sym c.self.view_is) c.requires.number)
+
+pub returns-clause-exact : goal.returns-clause-exact
+returns-clause-exact c =
+    let n = c.self.inside in
+    c.bits.ensures.value
+    ∙ ap₂ (λ (d p : ℕ). bits_of n.column.shown d p c.args.index.now) c.self.invariant.0.decl_is
+    c.self.invariant.0.part_is
+    ∙ ap (λ (p : Portion). bits_in p c.args.index.now) c.self.view_is
+
+pub returns-clause-width : goal.returns-clause-width
+returns-clause-width c =
+    let n = c.self.inside in
+    subst (λ (p : Portion). AreBitsOf p.array.kind c.bits.result) c.self.view_is
+    (c.bits.ensures.width n.array.now
+    (array-is n.column n.sent.now n.array.now c.self.invariant.0 c.self.invariant.1 c.args.place c.args.index.now
+    (subst (λ (p : Portion). c.args.place < box_len p.sent.slabs) (sym c.self.view_is) c.requires.place)
+    (subst (λ (p : Portion). c.args.index.now ≡ index_at p.sent.slabs c.args.place) (sym c.self.view_is)
+    c.requires.index)))

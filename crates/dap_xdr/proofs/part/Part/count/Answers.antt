@@ -8,6 +8,6 @@ use Rattle.dap_xdr.proofs.part.Part.count.Goals as goal
 
 pub returns : goal.returns
 returns c =
-    ap (λ (e : Extent). e.count) c.self.invariant.1
-    ∙ extent-count _ _ c.self.invariant.0.fits
+    ap (λ (e : Extent). e.count) c.self.invariant.2
+    ∙ extent-count _ _ c.self.invariant.1.fits
     ∙ ap (λ (n : Portion). box_len n.sent.slabs) c.self.view_is

@@ -3,8 +3,8 @@ use Rattle.std.proofs.Common.{◌≡◌, None, false, sym, ap, subst, ◌∙◌}
 use Rattle.std.specs.Option.{option_map}
 use Rattle.fm_model.specs.Collection.{after_op, full_at, tally}
 use Rattle.fm_model.proofs.FullLemmas.{full_at-none}
-use Rattle.fm_edition.specs.declared.maps.by.By.TheVariants.{Run, Time}
-use Rattle.fm_edition.specs.Change.{changed}
+use Rattle.fm_list.specs.declared.by.By.TheVariants.{Run, Time}
+use Rattle.fm_list.specs.Change.{changed}
 use Rattle.fm_edition.specs.Held.{Held, OpFits}
 use Rattle.fm_edition.specs.Indexes.{instants, page_rows, rows_at, touches}
 use Rattle.fm_edition.specs.Log.{CanFollow}

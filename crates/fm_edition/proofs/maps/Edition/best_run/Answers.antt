@@ -2,8 +2,8 @@
 use Rattle.std.proofs.Common.{rules, ap, sym, subst, ◌∙◌, SFits, w64}
 use Rattle.std.proofs.lemmas.Int.{to_z-of_z}
 use Rattle.fm_model.specs.Cell.{best}
-use Rattle.fm_edition.specs.declared.maps.by.By.TheVariants.{Time}
-use Rattle.fm_edition.specs.Indexes.{HaveTime}
+use Rattle.fm_list.specs.declared.by.By.TheVariants.{Time}
+use Rattle.fm_list.specs.Selected.{HaveTime}
 use Rattle.fm_edition.proofs.PartLemmas.{best-part, have-part, part_at}
 use Rattle.fm_edition.proofs.maps.Edition.best_run.Goals as goal
 

@@ -2,10 +2,10 @@
 use Rattle.std.proofs.Common.{◌≡◌, rules, ap, ◌∙◌, SFits, w64}
 use Rattle.std.proofs.lemmas.Int.{to_z-of_z}
 use Rattle.fm_model.specs.Cell.{cell}
-use Rattle.fm_edition.specs.declared.maps.by.By.TheVariants.{Time}
-use Rattle.fm_edition.specs.Indexes.{part}
-use Rattle.fm_edition.proofs.EditionLemmas.{times_are_few}
-use Rattle.fm_edition.proofs.PartLemmas.{cell-part, few-part, part_at}
+use Rattle.fm_list.specs.declared.by.By.TheVariants.{Time}
+use Rattle.fm_list.specs.Selected.{part}
+use Rattle.fm_edition.proofs.EditionLemmas.{times_are_sound}
+use Rattle.fm_edition.proofs.PartLemmas.{cell-part, sound-part, part_at}
 use Rattle.fm_edition.proofs.maps.Edition.cell.Goals as goal
 
 pub cell_of-requires : goal.cell_of-requires
@@ -14,8 +14,8 @@ cell_of-requires c =
     let found = simp to_z-of_z at c.files_at.ensures in
     let at = part_at Time c.self.inside.files c.self.inside.by_time c.args.valid c.self.invariant.of_times in
     let is : c.files_at.result.now ≡ part Time c.self.inside.files c.args.valid = found ∙ at in
-    rw is (few-part Time c.self.inside.files c.args.valid
-    (times_are_few c.self.inside.proto c.self.inside.files c.self.invariant.sound.fit))
+    rw is (sound-part Time c.self.inside.files c.args.valid
+    (times_are_sound c.self.inside.proto c.self.inside.files c.self.invariant.sound.fit))
 
 pub returns-clause-found : goal.returns-clause-found
 returns-clause-found c =

@@ -2,7 +2,7 @@
 use Rattle.std.proofs.Common.{◌≡◌, rules, ap, ◌∙◌, SFits, w64}
 use Rattle.std.proofs.lemmas.Int.{to_z-of_z}
 use Rattle.fm_model.specs.Cell.{times_of_run}
-use Rattle.fm_edition.specs.declared.maps.by.By.TheVariants.{Run}
+use Rattle.fm_list.specs.declared.by.By.TheVariants.{Run}
 use Rattle.fm_edition.proofs.PartLemmas.{part_at, times_of_run-part}
 use Rattle.fm_edition.proofs.maps.Edition.times_of.Goals as goal
 

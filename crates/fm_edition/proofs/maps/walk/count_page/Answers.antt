@@ -1,69 +1,67 @@
--- One more valid time has a best run or none.
-use Rattle.std.proofs.Common.{◌≡◌, true, false, length, rules, arith, sym, subst, ◌∙◌, SFits, w64}
+-- One more instant has a row or none.
+use Rattle.std.proofs.Common.{◌≡◌, true, false, length, rules, arith, sym, ap, subst, ◌∙◌, SFits, w64}
 use Rattle.std.specs.Prelude.{is_some}
 use Rattle.std.specs.List.{filter_map}
 use Rattle.std.proofs.lemmas.Int.{to_z-of_z}
 use Rattle.fm_base.proofs.ListLemmas.{length-filter_map}
-use Rattle.fm_edition.specs.Indexes.{entry_row, HaveTime, IsTimed}
-use Rattle.fm_edition.proofs.CountLemmas.{counted_more, counted_passed, has_row}
+use Rattle.fm_edition.specs.Indexes.{entry_row, IsReady}
+use Rattle.fm_edition.proofs.CountLemmas.{counted_more, counted_passed}
 use Rattle.fm_edition.proofs.WalkLemmas.{all_first, all_rest}
 use Rattle.fm_edition.proofs.maps.walk.count_page.Goals as goal
 
-pub best_among-requires : goal.best_among-requires
-best_among-requires c =
-    let a : SFits w64 c.in-Some.valid.now = search rules in
-    simp to_z-of_z (subst (HaveTime c.in-Some.valid.now) (sym (c.as_slice.ensures ∙ c.get.ensures))
-    (all_first IsTimed (c.in-Some.valid.now, c.in-Some.files.now) c.next.new.self c.loop-valid.valid-iterator
-    c.in-Some.ensures.steps c.loop-valid.invariant.timed).have)
+pub has_wanted-requires : goal.has_wanted-requires
+has_wanted-requires c =
+    let a : SFits w64 c.in-Some.key.now = search rules in
+    simp to_z-of_z (subst (λ files. IsReady c.args.wanted (c.in-Some.key.now, files))
+    (sym (c.as_slice.ensures ∙ c.get.ensures))
+    (all_first (IsReady c.args.wanted) (c.in-Some.key.now, c.in-Some.files.now) c.next.new.self c.loop-key.key-iterator
+    c.in-Some.ensures.steps c.loop-key.invariant.ready))
 
 pub overflow_add-count : goal.overflow_add-count
 overflow_add-count c =
-    let a : SFits w64 c.in-Some.valid.now = search rules in
-    let make = entry_row c.args.least in
-    let some : is_some (make (c.in-Some.valid.now, c.in-Some.files.now)) ≡ true =
-    has_row (c.in-Some.valid.now, c.in-Some.files.now) c.args.least c.as_slice.result.now c.best_among.result true
-    (c.as_slice.ensures ∙ c.get.ensures) (simp to_z-of_z at c.best_among.ensures)
-    (sym c.is_some.ensures ∙ c.if-is_some.true) in
-    let next = counted_more make c.loop-valid.count (c.in-Some.valid.now, c.in-Some.files.now) c.next.new.self
-    c.loop-valid.valid-iterator (length (filter_map make c.args.page.now.entries)) c.in-Some.ensures.steps
-    c.loop-valid.invariant.counted some in
+    let make = entry_row c.args.wanted in
+    let a : SFits w64 c.in-Some.key.now = search rules in
+    let own : is_some (make (c.in-Some.key.now, c.in-Some.files.now)) ≡ c.has_wanted.result =
+    ap (λ held. is_some (make (c.in-Some.key.now, held))) (sym (c.as_slice.ensures ∙ c.get.ensures))
+    ∙ sym (simp to_z-of_z at c.has_wanted.ensures) in
+    let next = counted_more make c.loop-key.count (c.in-Some.key.now, c.in-Some.files.now) c.next.new.self
+    c.loop-key.key-iterator (length (filter_map make c.args.page.now.entries)) c.in-Some.ensures.steps
+    c.loop-key.invariant.counted (own ∙ c.if-has_wanted.true) in
     let most = length-filter_map make c.args.page.now.entries in
     omega (arith, next, most, c.requires.count)
 
-pub loop-valid-preserved-then-is_some : goal.loop-valid-preserved-then-is_some
-loop-valid-preserved-then-is_some c =
-    let a : SFits w64 c.in-Some.valid.now = search rules in
-    let make = entry_row c.args.least in
-    let some : is_some (make (c.in-Some.valid.now, c.in-Some.files.now)) ≡ true =
-    has_row (c.in-Some.valid.now, c.in-Some.files.now) c.args.least c.as_slice.result.now c.best_among.result true
-    (c.as_slice.ensures ∙ c.get.ensures) (simp to_z-of_z at c.best_among.ensures)
-    (sym c.is_some.ensures ∙ c.if-is_some.true) in
+pub loop-key-preserved-then-has_wanted : goal.loop-key-preserved-then-has_wanted
+loop-key-preserved-then-has_wanted c =
+    let make = entry_row c.args.wanted in
+    let a : SFits w64 c.in-Some.key.now = search rules in
+    let own : is_some (make (c.in-Some.key.now, c.in-Some.files.now)) ≡ c.has_wanted.result =
+    ap (λ held. is_some (make (c.in-Some.key.now, held))) (sym (c.as_slice.ensures ∙ c.get.ensures))
+    ∙ sym (simp to_z-of_z at c.has_wanted.ensures) in
     record {
-      timed = all_rest IsTimed (c.in-Some.valid.now, c.in-Some.files.now) c.next.new.self c.loop-valid.valid-iterator
-          c.in-Some.ensures.steps c.loop-valid.invariant.timed;
-      counted = counted_more make c.loop-valid.count (c.in-Some.valid.now, c.in-Some.files.now) c.next.new.self
-          c.loop-valid.valid-iterator (length (filter_map make c.args.page.now.entries)) c.in-Some.ensures.steps
-          c.loop-valid.invariant.counted some;
+      ready = all_rest (IsReady c.args.wanted) (c.in-Some.key.now, c.in-Some.files.now) c.next.new.self
+          c.loop-key.key-iterator c.in-Some.ensures.steps c.loop-key.invariant.ready;
+      counted = counted_more make c.loop-key.count (c.in-Some.key.now, c.in-Some.files.now) c.next.new.self
+          c.loop-key.key-iterator (length (filter_map make c.args.page.now.entries)) c.in-Some.ensures.steps
+          c.loop-key.invariant.counted (own ∙ c.if-has_wanted.true);
     }
 
-pub loop-valid-preserved : goal.loop-valid-preserved
-loop-valid-preserved c =
-    let a : SFits w64 c.in-Some.valid.now = search rules in
-    let make = entry_row c.args.least in
-    let none : is_some (make (c.in-Some.valid.now, c.in-Some.files.now)) ≡ false =
-    has_row (c.in-Some.valid.now, c.in-Some.files.now) c.args.least c.as_slice.result.now c.best_among.result false
-    (c.as_slice.ensures ∙ c.get.ensures) (simp to_z-of_z at c.best_among.ensures)
-    (sym c.is_some.ensures ∙ c.if-is_some.false) in
+pub loop-key-preserved : goal.loop-key-preserved
+loop-key-preserved c =
+    let make = entry_row c.args.wanted in
+    let a : SFits w64 c.in-Some.key.now = search rules in
+    let own : is_some (make (c.in-Some.key.now, c.in-Some.files.now)) ≡ c.has_wanted.result =
+    ap (λ held. is_some (make (c.in-Some.key.now, held))) (sym (c.as_slice.ensures ∙ c.get.ensures))
+    ∙ sym (simp to_z-of_z at c.has_wanted.ensures) in
     record {
-      timed = all_rest IsTimed (c.in-Some.valid.now, c.in-Some.files.now) c.next.new.self c.loop-valid.valid-iterator
-          c.in-Some.ensures.steps c.loop-valid.invariant.timed;
-      counted = counted_passed make c.loop-valid.count (c.in-Some.valid.now, c.in-Some.files.now) c.next.new.self
-          c.loop-valid.valid-iterator (length (filter_map make c.args.page.now.entries)) c.in-Some.ensures.steps
-          c.loop-valid.invariant.counted none;
+      ready = all_rest (IsReady c.args.wanted) (c.in-Some.key.now, c.in-Some.files.now) c.next.new.self
+          c.loop-key.key-iterator c.in-Some.ensures.steps c.loop-key.invariant.ready;
+      counted = counted_passed make c.loop-key.count (c.in-Some.key.now, c.in-Some.files.now) c.next.new.self
+          c.loop-key.key-iterator (length (filter_map make c.args.page.now.entries)) c.in-Some.ensures.steps
+          c.loop-key.invariant.counted (own ∙ c.if-has_wanted.false);
     }
 
-pub loop-valid-init : goal.loop-valid-init
-loop-valid-init c =
-    let is : c.into_iter-valid-iterator.result ≡ c.args.page.now.entries =
-    c.into_iter-valid-iterator.ensures.into_iter_gives.0 in
-    record { timed = rw is c.requires.timed; counted = rw is (omega arith) }
+pub loop-key-init : goal.loop-key-init
+loop-key-init c =
+    let is : c.into_iter-key-iterator.result ≡ c.args.page.now.entries =
+    c.into_iter-key-iterator.ensures.into_iter_gives.0 in
+    record { ready = rw is c.requires.ready; counted = rw is (omega arith) }

@@ -1,0 +1,21 @@
+#!/bin/sh
+# A day of four servers in an hour. Some 500 times runs arrive in the folder of each, are corrected or are taken back,
+# which is far faster than usual. 200 clients come, read, stall, reset and go. Folders become unreadable and readable
+# again. The disk is full for a while, descriptors run out for a while, and each server is killed and started again
+# twice. Each reply has to be the defined one at its revision. At the end each file lies where its verdict says, and
+# memory and descriptors are what they were. What isn't so is shown, and the status is 1.
+# Use: bench/day.sh [PROGRAM] [MINUTES] [WORD..]; by default the proved program and 60 minutes. With words, only these
+# of `unreadable`, `full`, `descriptors` and `killed` are done. It wants root, and runs servers as nobody.
+set -eu
+top=$(cd "$(dirname "$0")/.." && pwd)
+program=${1:-$top/crates/fmrcd/out/fmrcd}
+[ -x "$program" ] || { echo "no program $program: 'make build' makes one" >&2; exit 2; }
+[ "$(id -u)" = 0 ] || { echo "only root may mount a small disk, and run servers as another user" >&2; exit 2; }
+minutes=${2:-60}
+if [ $# -lt 2 ]; then shift $#; else shift 2; fi
+folder=$(mktemp -d)
+chmod 755 "$folder"
+mount -t tmpfs -o size=64m,mode=755 tmpfs "$folder"
+trap 'umount -l "$folder"; rmdir "$folder"' EXIT
+trap 'exit 1' HUP INT TERM
+python3 -B "$top/bench/day.py" "$program" "$folder" "$top/package/fmrcd-bring-back" "$minutes" "$@"

@@ -1,0 +1,3 @@
+pub mod DataLemmas
+pub mod LaidLemmas
+pub mod PlanLemmas

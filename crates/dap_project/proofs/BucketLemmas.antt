@@ -1,0 +1,251 @@
+-- A walk through the places of a bucket passes over declarations of which a path picks nothing.
+use Rattle.std.proofs.Common.{cond, ◌≡◌, ℕ, zero, suc, ◌+◌, ◌<◌, ◌≤◌, ◌-◌, Bool, true, false, List, [], ◌∷◌, ◌++◌, length, take, drop, get_or, set, None, refl, sym, ap, ap₂, ◌∙◌, append_assoc, take-add, arith}
+use Rattle.std.proofs.lemmas.Bool.{cond-false, eq-eqb, true≢false}
+use Rattle.std.proofs.lemmas.List.{drop-drop, drop_all, drop_more, length-drop, length-set, take-append-drop}
+use Rattle.std.proofs.lemmas.Slice.Eq.{bytes_eq-Decides}
+use Rattle.std.specs.Str.{bytes_eq}
+use Rattle.dap_model.specs.Picking.{decl_named, is_picked, name_of, nothing, picked_below, picked_by}
+use Rattle.dap_model.specs.declared.declaration.Decl.{Decl}
+use Rattle.dap_model.specs.declared.projection.Clause.{Clause}
+use Rattle.dap_project.specs.Buckets.{bucket_of, may_pick, places_for, places_of}
+use Rattle.dap_project.specs.Notes.{note_after, notes_after}
+use Rattle.dap_project.specs.declared.note.Note.{Note}
+use Rattle.dap_project.proofs.NoteLemmas.{note_kept}
+use Rattle.dap_project.proofs.StepLemmas.{left, notes_step}
+
+-- a path picks nothing of these declarations
+abbrev pub NonePicked : List (List ℕ) → List Decl → Type 0
+NonePicked path [] = Unit {0}
+NonePicked path (decl ∷ decls) = (is_picked (picked_by decl path) ≡ false) × NonePicked path decls
+
+-- it picks nothing of a declaration of another bucket
+pub apart : (count : ℕ) (path : List (List ℕ)) (decl : Decl) → may_pick count path decl ≡ false
+    → is_picked (picked_by decl path) ≡ false
+unfolding picked_by
+apart count [] decl other = refl
+apart count (name ∷ names) decl other = by_name (bytes_eq (name_of decl) name) refl
+  where
+    by_name : (b : Bool) → bytes_eq (name_of decl) name ≡ b
+        → is_picked (cond (bytes_eq (name_of decl) name) (picked_below decl names) nothing) ≡ false
+    by_name false differ = ap is_picked (cond-false (bytes_eq (name_of decl) name) _ _ differ)
+    by_name true same =
+        let name_is : name_of decl ≡ name = (bytes_eq-Decides (name_of decl) name).0 same in
+        absurd (true≢false (sym (eq-eqb _ _ (ap (bucket_of count) name_is)) ∙ other))
+
+-- a place of those that are left, and what is left behind it
+pub record IsNextPlace (test : Decl → Bool) (path : List (List ℕ)) (from : ℕ) (decls : List Decl) (place : ℕ)
+    (rest : List ℕ) : Type 0 where
+  pub after : ℕ
+  pub is : place ≡ from + after
+  pub within : after < length decls
+  pub rest_is : rest ≡ places_of test (place + 1) (drop (after + 1) decls)
+  pub passed : NonePicked path (take after decls)
+
+next_place : (test : Decl → Bool) (path : List (List ℕ))
+    → ((decl : Decl) → test decl ≡ false → is_picked (picked_by decl path) ≡ false)
+    → (from : ℕ) (decls : List Decl) (place : ℕ) (rest : List ℕ) → places_of test from decls ≡ place ∷ rest
+    → IsNextPlace test path from decls place rest
+unfolding places_of
+next_place test path others from [] place rest e = absurd cc
+next_place test path others from (decl ∷ decls) place rest e =
+    by_test (test decl) refl e (next_place test path others (from + 1) decls place rest)
+  where
+    one : (n : ℕ) → suc n + 1 ≡ suc (n + 1)
+    one n = omega arith
+
+    by_test : (b : Bool) → test decl ≡ b
+        → cond b (from ∷ places_of test (from + 1) decls) (places_of test (from + 1) decls) ≡ place ∷ rest
+        → (places_of test (from + 1) decls ≡ place ∷ rest → IsNextPlace test path (from + 1) decls place rest)
+        → IsNextPlace test path from (decl ∷ decls) place rest
+    by_test true is e later =
+        let first : from ≡ place = cc in
+        let more : places_of test (from + 1) decls ≡ rest = cc in
+        record {
+          after = 0;
+          is = omega (arith, first);
+          within = omega arith;
+          rest_is = sym more ∙ ap (λ (n : ℕ). places_of test (n + 1) decls) first;
+          passed = tt;
+        }
+    by_test false is e later =
+        let next = later e in
+        record {
+          after = suc next.after;
+          is = omega (arith, next.is);
+          within = omega (arith, next.within);
+          rest_is = next.rest_is
+              ∙ ap (λ (n : ℕ). places_of test (place + 1) (drop n (decl ∷ decls))) (sym (one next.after));
+          passed = (others decl is, next.passed);
+        }
+
+no_place : (test : Decl → Bool) (path : List (List ℕ))
+    → ((decl : Decl) → test decl ≡ false → is_picked (picked_by decl path) ≡ false)
+    → (from : ℕ) (decls : List Decl) → places_of test from decls ≡ [] → NonePicked path decls
+unfolding places_of
+no_place test path others from [] e = tt
+no_place test path others from (decl ∷ decls) e =
+    by_test (test decl) refl e (no_place test path others (from + 1) decls)
+  where
+    by_test : (b : Bool) → test decl ≡ b
+        → cond b (from ∷ places_of test (from + 1) decls) (places_of test (from + 1) decls) ≡ []
+        → (places_of test (from + 1) decls ≡ [] → NonePicked path decls) → NonePicked path (decl ∷ decls)
+    by_test true is e later = absurd cc
+    by_test false is e later = (others decl is, later e)
+
+-- the places that are left, of the declarations from a place on
+pub record AreLeft (decls : List Decl) (path : List (List ℕ)) (places : List ℕ) (from : ℕ) : Type 0 where
+  pub within : from ≤ length decls
+  pub are : places ≡ places_of (may_pick (length decls) path) from (drop from decls)
+
+-- all are left at first
+pub all_left : (decls : List Decl) (path : List (List ℕ)) (places : List ℕ) → places ≡ places_for decls path
+    → AreLeft decls path places 0
+all_left decls path places are = record { within = omega arith; are = are }
+
+-- the place at an index, and what is left behind it
+pub record IsNext (decls : List Decl) (path : List (List ℕ)) (places : List ℕ) (at place from : ℕ) : Type 0 where
+  pub after : ℕ
+  pub is : place ≡ from + after
+  pub within : place < length decls
+  pub left : AreLeft decls path (drop (at + 1) places) (place + 1)
+  pub passed : NonePicked path (take after (drop from decls))
+
+pub next : (decls : List Decl) (path : List (List ℕ)) (places : List ℕ) (at d from : ℕ) → at < length places
+    → AreLeft decls path (drop at places) from → IsNext decls path places at (get_or places at d) from
+next decls path places at d from lt are =
+    let place = get_or places at d in
+    let test = may_pick (length decls) path in
+    let found = next_place test path (apart (length decls) path) from (drop from decls) place (drop (at + 1) places)
+    (sym are.are ∙ drop_more places at d lt) in
+    let long : length (drop from decls) ≡ length decls - from = length-drop from decls in
+    let whole : from + (found.after + 1) ≡ place + 1 = omega (arith, found.is) in
+    record {
+      after = found.after;
+      is = found.is;
+      within = omega (arith, found.is, found.within, long, are.within);
+      left = record {
+        within = omega (arith, found.is, found.within, long, are.within);
+        are = found.rest_is
+            ∙ ap (places_of test (place + 1)) (drop-drop (found.after + 1) from decls
+            ∙ ap (λ (n : ℕ). drop n decls) whole);
+      };
+      passed = found.passed;
+    }
+
+-- behind the last place a path picks nothing
+pub none_left : (decls : List Decl) (path : List (List ℕ)) (places : List ℕ) (at from : ℕ) → length places ≤ at
+    → AreLeft decls path (drop at places) from → NonePicked path (drop from decls)
+none_left decls path places at from past are =
+    no_place (may_pick (length decls) path) path (apart (length decls) path) from (drop from decls)
+    (sym are.are ∙ drop_all at places past)
+
+-- ---- the declaration that a path names
+
+named_passed : (path : List (List ℕ)) (decls : List Decl) (after : ℕ) → NonePicked path (take after decls)
+    → decl_named decls path ≡ decl_named (drop after decls) path
+unfolding decl_named
+named_passed path decls zero none = refl
+named_passed path [] (suc after) none = refl
+named_passed path (decl ∷ decls) (suc after) none =
+    cond-false (is_picked (picked_by decl path)) _ _ none.0 ∙ named_passed path decls after none.1
+
+-- those that the walk passes over are not named
+pub passed_named : (decls : List Decl) (path : List (List ℕ)) (places : List ℕ) (at place from : ℕ)
+    → IsNext decls path places at place from
+    → decl_named (drop from decls) path ≡ decl_named (drop place decls) path
+passed_named decls path places at place from step =
+    named_passed path (drop from decls) step.after step.passed
+    ∙ ap (λ (l : List Decl). decl_named l path) (drop-drop step.after from decls)
+    ∙ ap (λ (n : ℕ). decl_named (drop n decls) path) (sym step.is)
+
+-- nor is one of which it picks nothing
+pub named_further : (decls : List Decl) (path : List (List ℕ)) (place : ℕ) (decl : Decl) → place < length decls
+    → decl ≡ get_or decls place decl → is_picked (picked_by decl path) ≡ false
+    → decl_named (drop place decls) path ≡ decl_named (drop (place + 1) decls) path
+unfolding decl_named
+named_further decls path place decl within is fails =
+    ap (λ (l : List Decl). decl_named l path) (left decls place decl within is)
+    ∙ cond-false (is_picked (picked_by decl path)) _ _ fails
+
+pub named_none : (path : List (List ℕ)) (decls : List Decl) → NonePicked path decls
+    → decl_named decls path ≡ None
+unfolding decl_named
+named_none path [] none = refl
+named_none path (decl ∷ decls) none =
+    cond-false (is_picked (picked_by decl path)) _ _ none.0 ∙ named_none path decls none.1
+
+-- ---- the notes of a clause
+
+notes_kept : (clause : Clause) (decls : List Decl) (notes : List Note) → NonePicked clause.path decls
+    → notes_after clause decls notes ≡ notes
+unfolding notes_after
+notes_kept clause [] notes none = refl
+notes_kept clause (decl ∷ decls) [] none = refl
+notes_kept clause (decl ∷ decls) (note ∷ notes) none =
+    ap₂ (λ (n : Note) (l : List Note). n ∷ l) (note_kept decl clause note none.0)
+    (notes_kept clause decls notes none.1)
+
+notes_passed : (clause : Clause) (decls : List Decl) (notes : List Note) (after : ℕ) → after < length decls
+    → length notes ≡ length decls → NonePicked clause.path (take after decls)
+    → notes_after clause decls notes ≡ take after notes ++ notes_after clause (drop after decls) (drop after notes)
+unfolding notes_after
+notes_passed clause decls notes zero within same none = refl
+notes_passed clause [] notes (suc after) within same none = absurd (omega (arith, within))
+notes_passed clause (decl ∷ decls) [] (suc after) within same none = absurd (omega (arith, same))
+notes_passed clause (decl ∷ decls) (note ∷ notes) (suc after) within same none =
+    ap₂ (λ (n : Note) (l : List Note). n ∷ l) (note_kept decl clause note none.0)
+    (notes_passed clause decls notes after (omega (arith, within)) (omega (arith, same)) none.1)
+
+-- the notes so far, where the places that are left are those of the declarations from a place on
+pub record AreNoted (decls : List Decl) (clause : Clause) (places : List ℕ) (notes old : List Note) : Type 0 where
+  pub from : ℕ
+  pub left : AreLeft decls clause.path places from
+  pub count : length notes ≡ length decls
+  pub noted : take from notes ++ notes_after clause (drop from decls) (drop from notes)
+      ≡ notes_after clause decls old
+
+pub first_noted : (decls : List Decl) (clause : Clause) (places : List ℕ) (notes : List Note)
+    → places ≡ places_for decls clause.path → length notes ≡ length decls → AreNoted decls clause places notes notes
+first_noted decls clause places notes are same =
+    record { from = 0; left = all_left decls clause.path places are; count = same; noted = refl }
+
+pub noted_here : (decls : List Decl) (clause : Clause) (places : List ℕ) (notes old : List Note) (at d : ℕ)
+    (decl : Decl) (note new : Note) → at < length places → AreNoted decls clause (drop at places) notes old
+    → decl ≡ get_or decls (get_or places at d) decl → note ≡ get_or notes (get_or places at d) note
+    → new ≡ note_after decl clause note
+    → AreNoted decls clause (drop (at + 1) places) (set notes (get_or places at d) new) old
+noted_here decls clause places notes old at d decl note new lt so_far is_decl is_note to =
+    let place = get_or places at d in
+    let from = so_far.from in
+    let step = next decls clause.path places at d from lt so_far.left in
+    let long : length (drop from decls) ≡ length decls - from = length-drop from decls in
+    let long_notes : length (drop from notes) ≡ length notes - from = length-drop from notes in
+    let passed = notes_passed clause (drop from decls) (drop from notes) step.after
+    (omega (arith, step.is, step.within, long)) (omega (arith, long, long_notes, so_far.count)) step.passed in
+    let rest = notes_after clause (drop step.after (drop from decls)) (drop step.after (drop from notes)) in
+    let up_to_here : take from notes ++ notes_after clause (drop from decls) (drop from notes)
+    ≡ take place notes ++ notes_after clause (drop place decls) (drop place notes) =
+    ap (λ (l : List Note). take from notes ++ l) passed
+    ∙ sym (append_assoc (take from notes) (take step.after (drop from notes)) rest)
+    ∙ ap (λ (l : List Note). l ++ rest) (sym (take-add from step.after notes))
+    ∙ ap₂ (λ (d : List Decl) (n : List Note). take (from + step.after) notes ++ notes_after clause d n)
+    (drop-drop step.after from decls) (drop-drop step.after from notes)
+    ∙ ap (λ (n : ℕ). take n notes ++ notes_after clause (drop n decls) (drop n notes)) (sym step.is) in
+    record {
+      from = place + 1;
+      left = step.left;
+      count = length-set notes place new ∙ so_far.count;
+      noted = sym (notes_step clause decls notes place decl note new step.within
+          (omega (arith, step.within, so_far.count)) is_decl is_note to)
+          ∙ sym up_to_here ∙ so_far.noted;
+    }
+
+pub all_noted : (decls : List Decl) (clause : Clause) (places : List ℕ) (notes old : List Note) (at : ℕ)
+    → length places ≤ at → AreNoted decls clause (drop at places) notes old → notes ≡ notes_after clause decls old
+all_noted decls clause places notes old at past so_far =
+    let from = so_far.from in
+    let none = none_left decls clause.path places at from past so_far.left in
+    sym (take-append-drop from notes)
+    ∙ ap (λ (l : List Note). take from notes ++ l)
+    (sym (notes_kept clause (drop from decls) (drop from notes) none))
+    ∙ so_far.noted

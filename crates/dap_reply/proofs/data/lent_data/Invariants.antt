@@ -1,9 +1,0 @@
--- The parts so far are passed over.
-use Rattle.std.proofs.Common.{◌≡◌, ◌+◌, length}
-use Rattle.dap_xdr.specs.Datasets.{content_of}
-use Rattle.dap_reply.proofs.DataLemmas.{data_before}
-use Rattle.dap_reply.proofs.data.lent_data.Given as goal
-
-abbrev pub invariant-loop-part : goal.invariant-loop-part
-invariant-loop-part l =
-    l.left + length (data_before (content_of l.source) l.sent l.part-index) ≡ l.from

@@ -1,0 +1,173 @@
+-- Units that slabs pick one after the other, each as far behind the one before it in the array.
+use Rattle.std.proofs.Common.{◌≡◌, ℕ, zero, suc, ◌+◌, ◌-◌, ◌*◌, ◌/◌, ◌%◌, ◌<◌, ◌≤◌, List, [], ◌∷◌, Bool, true, false, cond, ◌==◌, refl, sym, ap, subst, ◌∙◌, arith}
+use Rattle.std.specs.Prelude.{nat_lt}
+use Rattle.std.specs.List.{AllZip}
+use Rattle.std.proofs.Math.Path.{subst₂}
+use Rattle.std.proofs.Math.Nat.{div-lt_iff_lt-mul, mul-add-mod_self_right, mul-le-mul_right, mul_assoc}
+use Rattle.std.proofs.lemmas.Bool.{and_parts, eqb-true}
+use Rattle.std.proofs.lemmas.Nat.{div-add-mod', div-mul-add, mod-mul-add, mod_below}
+use Rattle.nc_model.specs.Layout.{product, rank_in}
+use Rattle.nc_model.specs.declared.header.Dim.{Dim}
+use Rattle.dap_model.specs.declared.projection.Slab.{Slab}
+use Rattle.dap_model.specs.Box.{box_len, index_at, slab_count, slab_index}
+use Rattle.dap_model.specs.ProjectionFacts.{FitsDim}
+use Rattle.dap_model.proofs.BoxLemmas.{index_at-cons, split_of}
+use Rattle.dap_xdr.specs.Stretch.{begins_turns, extent_before, extent_of, stands_together}
+use Rattle.dap_xdr.specs.declared.slabs.Extent.{Extent}
+use Rattle.dap_xdr.proofs.ExtentLemmas.{extent-size, sizes_of}
+use Rattle.dap_xdr.proofs.StretchLemmas.{extent-count, within_turns}
+
+-- slabs pick units, `turns` of them one after the other, and in the array each begins `pitch` numbers behind the one
+-- before it
+pub record Turning (unit turns pitch : ℕ) (dims : List Dim) (slabs : List Slab) : Type 0 where
+  pub times : ℕ
+  pub whole : box_len slabs ≡ times * (turns * unit)
+  pub grows : (place k : ℕ) → place < box_len slabs → k < turns - place / unit % turns
+      → rank_in (sizes_of dims) (index_at slabs (place + k * unit))
+      ≡ rank_in (sizes_of dims) (index_at slabs place) + k * pitch
+
+-- the units that are left of the turns stay within all
+pub record Within (times turns unit place : ℕ) : Type 0 where
+  pub unit_some : 0 < unit
+  pub turns_some : 0 < turns
+  pub unit_at : place / unit < times * turns
+  pub place_is : place / unit * unit + place % unit ≡ place
+
+pub within_of : (times turns unit place : ℕ) → place < times * (turns * unit) → Within times turns unit place
+within_of times turns zero place below =
+    let one : turns * zero ≡ 0 = omega arith in
+    let none : times * (turns * zero) ≡ 0 = ap (λ (n : ℕ). times * n) one ∙ omega arith in
+    absurd (omega (arith, below, none))
+within_of times zero (suc unit) place below =
+    let one : zero * suc unit ≡ 0 = omega arith in
+    let none : times * (zero * suc unit) ≡ 0 = ap (λ (n : ℕ). times * n) one ∙ omega arith in
+    absurd (omega (arith, below, none))
+within_of times (suc turns) (suc unit) place below = record {
+  unit_some = omega arith;
+  turns_some = omega arith;
+  unit_at = (div-lt_iff_lt-mul {k = suc unit} {x = place} {y = times * suc turns} (omega arith)).1
+      (subst (λ (n : ℕ). place < n) (sym (mul_assoc times (suc turns) (suc unit))) below);
+  place_is = div-add-mod' place (suc unit);
+}
+
+pub within_turning : (times turns unit place k : ℕ) → place < times * (turns * unit)
+    → k < turns - place / unit % turns → place + k * unit < times * (turns * unit)
+within_turning times turns unit place k below short =
+    let at = within_of times turns unit place below in
+    let last : place / unit + k < times * turns = within_turns times turns (place / unit) k at.unit_at short in
+    let left : place % unit < unit = mod_below place unit at.unit_some in
+    let most : suc (place / unit + k) * unit ≤ times * turns * unit = mul-le-mul_right unit last in
+    let spread : suc (place / unit + k) * unit ≡ place / unit * unit + k * unit + unit = grind arith in
+    let whole : times * turns * unit ≡ times * (turns * unit) = mul_assoc times turns unit in
+    omega (arith, at.place_is, left, most, spread, whole)
+
+-- a quotient, some times the divisor further
+pub quotient : (m unit r : ℕ) → 0 < unit → (m * unit + r) / unit ≡ m + r / unit
+quotient m unit r some =
+    let spread : m * unit + r ≡ (m + r / unit) * unit + r % unit = grind (arith, div-add-mod' r unit) in
+    ap (λ (n : ℕ). n / unit) spread ∙ div-mul-add (m + r / unit) unit (r % unit) (mod_below r unit some)
+
+-- units that aren't picked more than once behind each other
+turning_once : (unit : ℕ) (dims : List Dim) (slabs : List Slab) → box_len slabs ≡ unit → Turning unit 1 0 dims slabs
+turning_once unit dims slabs same = record {
+  times = 1;
+  whole = omega (arith, same);
+  grows = λ place k within short.
+      let none : k ≡ 0 = omega (arith, short) in
+      let stays : place + k * unit ≡ place = ap (λ (n : ℕ). place + n * unit) none ∙ omega arith in
+      ap (λ (n : ℕ). rank_in (sizes_of dims) (index_at slabs n)) stays ∙ omega arith;
+}
+
+-- the first slab before a unit that picks more than one index
+turning_begins : (dim : Dim) (dims : List Dim) (slab : Slab) (slabs : List Slab)
+    → Turning (box_len slabs) (slab_count slab) (slab.stride * product (sizes_of dims)) (dim ∷ dims) (slab ∷ slabs)
+unfolding box_len product rank_in index_at
+turning_begins dim dims slab slabs = record {
+  times = 1;
+  whole = omega arith;
+  grows = λ place k within short.
+      let width = box_len slabs in
+      let size = product (sizes_of dims) in
+      let split = split_of (slab_count slab) width place within in
+      let q = place / width in
+      let r = place % width in
+      let first : q % slab_count slab ≡ q =
+      ap (λ (n : ℕ). n % slab_count slab) (omega arith) ∙ mod-mul-add 0 (slab_count slab) q split.first in
+      let to : place + k * width ≡ (q + k) * width + r = grind (arith, split.whole) in
+      let here : rank_in (sizes_of (dim ∷ dims)) (index_at (slab ∷ slabs) place)
+      ≡ (slab.start + q * slab.stride) * size + rank_in (sizes_of dims) (index_at slabs r) = refl in
+      let there : rank_in (sizes_of (dim ∷ dims)) (index_at (slab ∷ slabs) (place + k * width))
+      ≡ (slab.start + (q + k) * slab.stride) * size + rank_in (sizes_of dims) (index_at slabs r) =
+      ap (λ (n : ℕ). rank_in (sizes_of (dim ∷ dims)) (index_at (slab ∷ slabs) n)) to
+      ∙ ap (rank_in (sizes_of (dim ∷ dims))) (index_at-cons slab slabs (q + k) r split.second) in
+      there ∙ grind arith ∙ ap (λ (n : ℕ). n + k * (slab.stride * size)) (sym here);
+}
+
+-- the units that follow each other behind a slab do so with it
+turning_apart : (unit turns pitch : ℕ) (dim : Dim) (dims : List Dim) (slab : Slab) (slabs : List Slab)
+    → Turning unit turns pitch dims slabs → Turning unit turns pitch (dim ∷ dims) (slab ∷ slabs)
+unfolding box_len product rank_in index_at
+turning_apart unit turns pitch dim dims slab slabs others = record {
+  times = slab_count slab * others.times;
+  whole = ap (λ (n : ℕ). slab_count slab * n) others.whole
+      ∙ sym (mul_assoc (slab_count slab) others.times (turns * unit));
+  grows = λ place k within short.
+      let width = box_len slabs in
+      let split = split_of (slab_count slab) width place within in
+      let q = place / width in
+      let r = place % width in
+      let inner : r < others.times * (turns * unit) = subst (λ (n : ℕ). r < n) others.whole split.second in
+      let some = within_of others.times turns unit r inner in
+      let before : place ≡ q * (others.times * turns) * unit + r =
+      sym split.whole ∙ ap (λ (n : ℕ). q * n + r) others.whole ∙ grind arith in
+      let units : place / unit ≡ q * others.times * turns + r / unit =
+      ap (λ (n : ℕ). n / unit) before
+      ∙ quotient (q * (others.times * turns)) unit r some.unit_some
+      ∙ ap (λ (n : ℕ). n + r / unit) (sym (mul_assoc q others.times turns)) in
+      let same : place / unit % turns ≡ r / unit % turns =
+      ap (λ (n : ℕ). n % turns) units ∙ mul-add-mod_self_right (q * others.times) turns (r / unit) in
+      let close : k < turns - r / unit % turns = subst (λ (n : ℕ). k < turns - n) same short in
+      let far : r + k * unit < width = subst (λ (n : ℕ). r + k * unit < n) (sym others.whole)
+      (within_turning others.times turns unit r k inner close) in
+      let to : place + k * unit ≡ q * width + (r + k * unit) = omega (arith, split.whole) in
+      ap (λ (n : ℕ). rank_in (sizes_of (dim ∷ dims)) (index_at (slab ∷ slabs) n)) to
+      ∙ ap (rank_in (sizes_of (dim ∷ dims))) (index_at-cons slab slabs q (r + k * unit) far)
+      ∙ ap (λ (n : ℕ). slab_index slab q * product (sizes_of dims) + n) (others.grows r k split.second close)
+      ∙ omega arith;
+}
+
+-- and with a slab of one dimension more, by what the extent becomes
+turning_before : (extent : Extent) (dim : Dim) (dims : List Dim) (slab : Slab) (slabs : List Slab)
+    → extent.count ≡ box_len slabs → extent.size ≡ product (sizes_of dims)
+    → Turning extent.unit extent.turns extent.pitch dims slabs
+    → Turning (extent_before dim.size slab extent).unit (extent_before dim.size slab extent).turns
+    (extent_before dim.size slab extent).pitch (dim ∷ dims) (slab ∷ slabs)
+unfolding box_len product
+turning_before extent dim dims slab slabs count size others =
+    by_case (stands_together slab extent) (begins_turns slab extent)
+    (λ begins. eqb-true extent.unit extent.count
+    (and_parts (extent.unit == extent.count) (nat_lt 1 (slab_count slab)) begins).0)
+  where
+    by_case : (together begins : Bool) → (begins ≡ true → extent.unit ≡ extent.count)
+        → Turning (cond together (slab_count slab * extent.count) extent.unit)
+        (cond together 1 (cond begins (slab_count slab) extent.turns))
+        (cond together 0 (cond begins (slab.stride * extent.size) extent.pitch)) (dim ∷ dims) (slab ∷ slabs)
+    by_case true begins one =
+        turning_once (slab_count slab * extent.count) (dim ∷ dims) (slab ∷ slabs)
+        (ap (λ (n : ℕ). slab_count slab * n) (sym count))
+    by_case false true one =
+        subst₂ (λ (m n : ℕ). Turning m (slab_count slab) (slab.stride * n) (dim ∷ dims) (slab ∷ slabs))
+        (sym (one refl ∙ count)) (sym size) (turning_begins dim dims slab slabs)
+    by_case false false one =
+        turning_apart extent.unit extent.turns extent.pitch dim dims slab slabs others
+
+-- the units of an extent follow each other at its pitch
+pub turning_of : (dims : List Dim) (slabs : List Slab) → AllZip FitsDim dims slabs
+    → Turning (extent_of dims slabs).unit (extent_of dims slabs).turns (extent_of dims slabs).pitch dims slabs
+unfolding extent_of box_len product
+turning_of [] [] fits = turning_once 1 [] [] refl
+turning_of [] (slab ∷ slabs) fits = absurd fits
+turning_of (dim ∷ dims) [] fits = absurd fits
+turning_of (dim ∷ dims) (slab ∷ slabs) fits =
+    turning_before (extent_of dims slabs) dim dims slab slabs (extent-count dims slabs fits.1)
+    (extent-size dims slabs fits.1) (turning_of dims slabs fits.1)

@@ -1,0 +1,165 @@
+//! Numbers that stand in a file in rows, each some way behind the one before it.
+ghost use Rattle.std.specs.Prelude.{◌≡◌, ◌+◌, ◌*◌, ◌%◌, ◌<◌, ◌≤◌, ◌++◌, drop, false, length, take, IsTrue};
+ghost use Rattle.dap_xdr.specs.Front.{widened_bytes};
+ghost use Rattle.dap_xdr.specs.Rows.{ArePut, AreRowsAt, AreSentAs};
+
+use crate::kind::stored_len;
+use crate::slabs::Extent;
+use crate::widen::widen;
+use dap_model::DapKind;
+
+// How many bytes a row has, how many bytes after it the next one begins, and how many rows there are at most.
+#[derive(Clone, Copy)]
+pub(crate) struct Rows {
+    pub row: usize,
+    pub step: usize,
+    pub most: u64,
+}
+
+// The greatest distance, in numbers, that is counted in bytes: 2^60.
+const FAR: u64 = 1_152_921_504_606_846_976;
+
+// Whether a place is the first of a unit, and what follows is near enough to be counted in bytes.
+fn has_rows(extent: Extent, place: u64) -> bool
+    requires { 0 < extent.unit }
+    ensures begins { IsTrue result → place % extent.unit ≡ 0 }
+    ensures unit { IsTrue result → extent.unit ≤ 1_152_921_504_606_846_976 }
+    ensures pitch { IsTrue result → extent.pitch ≤ 1_152_921_504_606_846_976 }
+{
+    place % extent.unit == 0 && extent.unit <= FAR && extent.pitch <= FAR
+}
+
+// The rows that numbers of a kind have from a place on, where the place is the first of a unit; else none.
+pub(crate) fn rows_at(kind: DapKind, extent: Extent, place: u64) -> Rows
+    requires unit { 0 < extent.unit }
+    requires turns { 0 < extent.turns }
+    ensures { AreRowsAt kind extent place result }
+{
+    if !has_rows(extent, place) {
+        return Rows {
+            row: 0,
+            step: 0,
+            most: 0,
+        };
+    }
+    let most = extent.turns - place / extent.unit % extent.turns;
+    let row = stored_len(kind, extent.unit);
+    let step = stored_len(kind, extent.pitch);
+    Rows {
+        row: row as usize,
+        step: step as usize,
+        most,
+    }
+}
+
+// Writes bytes behind the first `at` of a buffer.
+fn put_at(bytes: &[u8], at: usize, out: &mut [u8])
+    requires { at + length bytes.now ≤ length out.old }
+    ensures { out.new ≡ take at out.old ++ (bytes.now ++ drop (at + length bytes.now) out.old) }
+{
+    let (_, rest) = out.split_at_mut(at);
+    let (target, _) = rest.split_at_mut(bytes.len());
+    target.copy_from_slice(bytes);
+}
+
+// Whether a row stands there whole, and fits behind the first `filled` bytes of a buffer.
+#[inline(always)]
+fn has_row(rest: &[u8], len: usize, out: &[u8], filled: usize) -> bool
+    requires { filled ≤ length out.now }
+    ensures there { IsTrue result → len ≤ length rest.now }
+    ensures fits { IsTrue result → filled + len ≤ length out.now }
+{
+    len <= rest.len() && len <= out.len() - filled
+}
+
+// The same of a row of numbers of two bytes, each in four.
+#[inline(always)]
+fn has_wide_row(rest: &[u8], len: usize, out: &[u8], filled: usize) -> bool
+    requires { filled ≤ length out.now }
+    ensures there { IsTrue result → len ≤ length rest.now }
+    ensures fits { IsTrue result → filled + len * 2 ≤ length out.now }
+{
+    len <= rest.len() && len * 2 <= out.len() - filled
+}
+
+// Copies rows, as many as stand there whole and fit. The length of a row is an argument of its own, so that the
+// compiler has one loop for each length that is written out.
+#[inline(always)]
+fn copy_rows(stored: &[u8], len: usize, rows: Rows, out: &mut [u8]) -> usize
+    requires { len ≡ rows.row }
+    ensures { AreSentAs (λ bytes. bytes) rows stored.now out.old out.new result }
+{
+    let mut rest = stored;
+    let mut done = 0;
+    let mut filled = 0;
+    while done < rows.most && has_row(rest, len, out, filled) {
+        let (row, _) = rest.split_at(len);
+        put_at(row, filled, out);
+        let (_, next) = rest.split_at(rows.step.min(rest.len()));
+        rest = next;
+        filled += len;
+        done += 1;
+    }
+    filled
+}
+
+// Writes rows of numbers of two bytes, each in four, as many as stand there whole and fit.
+#[inline(always)]
+fn widen_rows(stored: &[u8], len: usize, rows: Rows, out: &mut [u8]) -> usize
+    requires row { len ≡ rows.row }
+    requires even { len % 2 ≡ 0 }
+    ensures { AreSentAs widened_bytes rows stored.now out.old out.new result }
+{
+    let mut rest = stored;
+    let mut done = 0;
+    let mut filled = 0;
+    while done < rows.most && has_wide_row(rest, len, out, filled) {
+        let (row, _) = rest.split_at(len);
+        let (_, target) = out.split_at_mut(filled);
+        filled += widen(row, target);
+        let (_, next) = rest.split_at(rows.step.min(rest.len()));
+        rest = next;
+        done += 1;
+    }
+    filled
+}
+
+fn is_odd(len: usize) -> bool
+    ensures { result ≡ false → len % 2 ≡ 0 }
+{
+    len % 2 != 0
+}
+
+// The same for rows of any length: of an odd one none.
+fn widen_any(stored: &[u8], rows: Rows, out: &mut [u8]) -> usize
+    ensures { AreSentAs widened_bytes rows stored.now out.old out.new result }
+{
+    if is_odd(rows.row) {
+        return 0;
+    }
+    match rows.row {
+        2 => widen_rows(stored, 2, rows, out),
+        len => widen_rows(stored, len, rows, out),
+    }
+}
+
+fn copy_any(stored: &[u8], rows: Rows, out: &mut [u8]) -> usize
+    ensures { AreSentAs (λ bytes. bytes) rows stored.now out.old out.new result }
+{
+    match rows.row {
+        1 => copy_rows(stored, 1, rows, out),
+        4 => copy_rows(stored, 4, rows, out),
+        8 => copy_rows(stored, 8, rows, out),
+        len => copy_rows(stored, len, rows, out),
+    }
+}
+
+// Writes rows of numbers that stand in a file, as many as stand there whole and fit.
+pub(crate) fn put_rows(kind: DapKind, stored: &[u8], rows: Rows, out: &mut [u8]) -> usize
+    ensures { ArePut kind rows stored.now out.old out.new result }
+{
+    match kind {
+        DapKind::Int16 => widen_any(stored, rows, out),
+        _ => copy_any(stored, rows, out),
+    }
+}

@@ -1,0 +1,96 @@
+//! Questions about a file.
+
+use super::layouts::{put_elements, put_layout};
+use super::loading::put_loaded;
+use super::prototypes::put_prototype;
+use super::words::put_header;
+use fm_base::NoMemory;
+use fm_model::{MAX_FILE_BYTES, Proto};
+use std::alloc::Global;
+
+/// A question about the bytes alone, or over a prototype and under a name.
+#[derive(Clone, Copy)]
+pub enum Question<'a> {
+    Header,
+    Layout,
+    Elements,
+    Prototype,
+    Load(&'a Proto, &'a str),
+}
+
+impl Question<'_> {
+    /// Puts the answer about some bytes. Where `cuts` says `FROM to TO`, it is about the first `len` bytes for each
+    /// `len` in that range, with a line where the answer differs from that of the length before. It is false where
+    /// there are no such lengths.
+    pub fn put(
+        &self,
+        alloc: Global,
+        bytes: &[u8],
+        cuts: Option<&str>,
+        out: &mut String,
+    ) -> Result<bool, NoMemory> {
+        let Some(cuts) = cuts else {
+            return self.put_answer(alloc, bytes, out);
+        };
+        let Some((from, to)) = lengths(cuts) else {
+            return Ok(false);
+        };
+        let mut last = String::new(alloc);
+        for len in from..to.saturating_add(1) {
+            if !self.put_cut(alloc, bytes, len, &mut last, out)? {
+                return Ok(false);
+            }
+        }
+        Ok(true)
+    }
+
+    // Puts a line of the answer about the first bytes, where it isn't the last, and takes it as the last.
+    fn put_cut(
+        &self,
+        alloc: Global,
+        bytes: &[u8],
+        len: usize,
+        last: &mut String,
+        out: &mut String,
+    ) -> Result<bool, NoMemory> {
+        let Some(front) = bytes.get(..len) else {
+            return Ok(false);
+        };
+        let mut answer = String::new(alloc);
+        if !self.put_answer(alloc, front, &mut answer)? {
+            return Ok(false);
+        }
+        if answer.as_str() != last.as_str() {
+            put_line(len, answer.as_str(), out)?;
+            *last = answer;
+        }
+        Ok(true)
+    }
+
+    fn put_answer(&self, alloc: Global, bytes: &[u8], out: &mut String) -> Result<bool, NoMemory> {
+        let put = match self {
+            Question::Header => put_header(alloc, bytes, out),
+            Question::Layout => put_layout(alloc, bytes, out),
+            Question::Elements => put_elements(alloc, bytes, out),
+            Question::Prototype => put_prototype(alloc, bytes, out),
+            Question::Load(proto, name) => {
+                if bytes.len() as u64 > MAX_FILE_BYTES {
+                    return Ok(false);
+                }
+                put_loaded(alloc, proto, name, bytes, out)
+            }
+        };
+        put?;
+        Ok(true)
+    }
+}
+
+fn put_line(len: usize, answer: &str, out: &mut String) -> Result<(), NoMemory> {
+    out.push_str(if out.is_empty() { "" } else { "\n" })?;
+    Ok(write!(out, "{len}: {answer}")?)
+}
+
+fn lengths(cuts: &str) -> Option<(usize, usize)> {
+    let (from, to) = cuts.split_once(" to ")?;
+    Some((from.parse::<usize>().ok()?, to.parse::<usize>().ok()?))
+}

@@ -1,0 +1,16 @@
+-- The rows so far, and those of the pages that are left, are as many as those of all pages.
+use Rattle.std.proofs.Common.{◌≡◌, ◌+◌, ◌<◌, ◌^◌, length}
+use Rattle.std.specs.Prelude.{All}
+use Rattle.std.specs.List.{filter_map}
+use Rattle.fm_edition.specs.Indexes.{best_of_entry, entries_in, entries_of, IsTimed}
+use Rattle.fm_edition.proofs.BestLemmas.{HasKept}
+use Rattle.fm_edition.proofs.maps.best.best_count.Given as goal
+
+abbrev pub invariant-loop-number : goal.invariant-loop-number
+invariant-loop-number l = record {
+  few : length (entries_in l.number-iterator) < 2 ^ 32;
+  kept : All (HasKept l.best) l.number-iterator;
+  timed : All IsTimed (entries_in l.number-iterator);
+  counted : l.count + length (filter_map (best_of_entry l.least) (entries_in l.number-iterator))
+      ≡ length (filter_map (best_of_entry l.least) (entries_of l.pages));
+}

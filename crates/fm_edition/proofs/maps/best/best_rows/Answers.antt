@@ -1,0 +1,57 @@
+-- One more page's rows.
+use Rattle.std.proofs.Common.{◌≡◌, ◌++◌, ◌∙◌, ap, refl, subst, sym}
+use Rattle.std.specs.Prelude.{All}
+use Rattle.std.specs.List.{filter_map}
+use Rattle.std.proofs.lemmas.Option.{none-some, same_Some}
+use Rattle.fm_edition.specs.Indexes.{best_of_entry, entries_in, entries_of, page_rows, IsTimed}
+use Rattle.fm_edition.proofs.BestLemmas.{kept_entries, HasKept}
+use Rattle.fm_edition.proofs.WalkLemmas.{all_first, all_parts, all_rest, some_taken}
+use Rattle.fm_edition.proofs.maps.best.best_rows.Goals as goal
+
+pub loop-number-init : goal.loop-number-init
+loop-number-init c =
+    let is : c.into_iter-number-iterator.result ≡ c.args.pages.now.entries =
+    c.into_iter-number-iterator.ensures.into_iter_gives.0 in
+    record {
+      kept = rw is (kept_entries c.args.pages.now c.args.best.now c.requires.pages c.requires.best);
+      timed = rw is c.requires.timed;
+      made = rw (is, c.new-rows.ensures) refl;
+    }
+
+pub kept_page-requires : goal.kept_page-requires
+kept_page-requires c none =
+    let kept = all_first (HasKept c.args.best.now) (c.in-Some.number.now, c.in-Some.page.now) c.next.new.self
+    c.loop-number.number-iterator c.in-Some.ensures.steps c.loop-number.invariant.kept in
+    none-some (page_rows c.in-Some.page.now) (sym none ∙ kept)
+
+pub rows_from-requires-clause-kept : goal.rows_from-requires-clause-kept
+rows_from-requires-clause-kept c =
+    let page = c.in-Some.page.now in
+    let kept = all_first (HasKept c.args.best.now) (c.in-Some.number.now, page) c.next.new.self
+    c.loop-number.number-iterator c.in-Some.ensures.steps c.loop-number.invariant.kept in
+    same_Some c.kept_page.result.now (page_rows page) (sym c.kept_page.ensures ∙ kept)
+    ∙ ap page_rows (sym c.get.ensures)
+
+pub rows_from-requires-clause-timed : goal.rows_from-requires-clause-timed
+rows_from-requires-clause-timed c =
+    let all : All IsTimed (c.in-Some.page.now.entries ++ entries_in c.next.new.self) =
+    subst (λ l. All IsTimed (entries_in l)) c.in-Some.ensures.steps c.loop-number.invariant.timed in
+    rw c.get.ensures (all_parts IsTimed c.in-Some.page.now.entries (entries_in c.next.new.self) all).0
+
+pub loop-number-preserved : goal.loop-number-preserved
+loop-number-preserved c =
+    let make = best_of_entry c.args.least in
+    let page = c.in-Some.page.now in
+    let all : All IsTimed (page.entries ++ entries_in c.next.new.self) =
+    subst (λ l. All IsTimed (entries_in l)) c.in-Some.ensures.steps c.loop-number.invariant.timed in
+    let sum : c.loop-number.rows ++ filter_map make (page.entries ++ entries_in c.next.new.self)
+    ≡ filter_map make (entries_of c.args.pages.now) = subst (λ l. c.loop-number.rows
+    ++ filter_map make (entries_in l) ≡ filter_map make (entries_of c.args.pages.now)) c.in-Some.ensures.steps
+    c.loop-number.invariant.made in
+    record {
+      kept = all_rest (HasKept c.args.best.now) (c.in-Some.number.now, page) c.next.new.self
+          c.loop-number.number-iterator c.in-Some.ensures.steps c.loop-number.invariant.kept;
+      timed = (all_parts IsTimed page.entries (entries_in c.next.new.self) all).1;
+      made = rw (c.in_ok-push.ensures.ok, c.in_ok-rows_from.ensures, c.get.ensures) (some_taken make c.loop-number.rows
+          page.entries (entries_in c.next.new.self) (filter_map make (entries_of c.args.pages.now)) sum);
+    }

@@ -1,0 +1,12 @@
+-- The least offset is that of the rows.
+use Rattle.std.proofs.Common.{rules, subst, sym, ◌∙◌, SFits}
+use Rattle.std.specs.Int.{w128}
+use Rattle.std.proofs.lemmas.Int.{to_z-of_z}
+use Rattle.fm_edition.specs.Least.{LieAfter}
+use Rattle.fm_edition.proofs.maps.page_rows.PageRows.new.Goals as goal
+
+pub invariant_of-result : goal.invariant_of-result
+invariant_of-result c =
+    let a : SFits w128 c.least_of-least.result = search rules in
+    simp to_z-of_z (subst (LieAfter c.least_of-least.result) (c.as_slice.ensures ∙ sym c.in_ok-new.ensures)
+    c.least_of-least.ensures)

@@ -1,8 +1,0 @@
-//! What the files are looked up by.
-
-/// The run of a file, or a valid time that it has.
-#[derive(Clone, Copy)]
-pub(crate) enum By {
-    Run,
-    Time,
-}

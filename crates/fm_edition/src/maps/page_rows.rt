@@ -1,0 +1,84 @@
+//! The rows of the best time series of a page, and how far their valid times lie after their runs.
+ghost use Rattle.std.specs.Prelude.{◌≤ℤ◌};
+ghost use Rattle.fm_edition.specs.Least.{LieAfter};
+
+use fm_base::{Arc, List, NoMemory};
+use fm_model::Row;
+use std::alloc::Global;
+use std::marker::Model;
+
+/// The rows of a page, and the least number of seconds that the valid time of one lies after its run. A clause sees the
+/// rows alone.
+#[derive(Drop)]
+pub(crate) struct PageRows {
+    rows: Arc<List<Row>>,
+    least: i128,
+}
+
+fn lesser(one: i128, other: i128) -> i128
+    ensures first { result ≤ℤ one }
+    ensures second { result ≤ℤ other }
+{
+    if one < other { one } else { other }
+}
+
+// The least number of seconds that the valid time of a row lies after its run.
+fn least_of(rows: &[Row]) -> i128
+    ensures { LieAfter result rows.now }
+{
+    let mut least = i128::MAX;
+    for row in rows {
+        least = lesser(least, i128::from(row.valid) - i128::from(row.run));
+    }
+    least
+}
+
+impl Model for PageRows {
+    ghost use Rattle.std.specs.Prelude.{List};
+    ghost use Rattle.fm_model.specs.declared.row.Row.{Row as TheRow};
+    ghost use Rattle.fm_edition.specs.Least.{LieAfter};
+
+    ghost Value = { List TheRow };
+
+    ghost view = { λ page. page.rows };
+
+    ghost invariant = { λ page. LieAfter page.least page.rows };
+}
+
+impl PageRows {
+    ghost use Rattle.std.specs.Prelude.{◌≡◌, IfOk, IsTrue, length};
+    ghost use Rattle.fm_edition.specs.Least.{KeepLeast};
+
+    pub(crate) fn new(alloc: Global, rows: List<Row>) -> Result<PageRows, NoMemory>
+        ensures { IfOk result (λ page. page ≡ rows) }
+    {
+        let least = least_of(rows.as_slice());
+        Ok(PageRows {
+            rows: Arc::new(alloc, rows)?,
+            least,
+        })
+    }
+
+    pub(crate) fn len(&self) -> usize
+        ensures { result ≡ length self.now }
+    {
+        self.rows.get().len()
+    }
+
+    // One more owner of the rows.
+    pub(crate) fn share(&self) -> Result<Arc<List<Row>>, NoMemory>
+        ensures { IfOk result (λ rows. rows ≡ self.now) }
+    {
+        self.rows.share()
+    }
+
+    // Whether it is seen at once that each row keeps the least offset.
+    pub(crate) fn keeps(&self, least: Option<i64>) -> bool
+        ensures { IsTrue result → KeepLeast least self.now }
+    {
+        match least {
+            Some(seconds) => i128::from(seconds) <= self.least,
+            None => true,
+        }
+    }
+}

@@ -1,0 +1,3 @@
+pub mod BestSteps
+pub mod CellSteps
+pub mod SearchLemmas

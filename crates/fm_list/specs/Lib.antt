@@ -1,0 +1,5 @@
+pub mod Change
+pub mod Found
+pub mod Selected
+pub use Rattle.fm_model.specs.Cell
+pub use Rattle.fm_model.specs.Collection

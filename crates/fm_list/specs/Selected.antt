@@ -1,0 +1,38 @@
+-- The files of a run, or of a valid time, and what is asked of files before a valid time is looked for in them.
+use Rattle.std.specs.Prelude.{◌≡◌, ◌≢◌, ◌≤◌, ◌++◌, All, AllPairs, Bool, List, filter, length, ℤ, true}
+use Rattle.std.specs.Ordering.{int_eq}
+use Rattle.fm_model.specs.declared.limit.TheConstants.{MAX_TIMES}
+use Rattle.fm_model.specs.declared.loaded.Loaded.{Loaded}
+use Rattle.fm_model.specs.declared.op.Op.{Op}
+use Rattle.fm_model.specs.Cell.{has_time}
+use Rattle.fm_model.specs.LoadTimes.{IsInstant}
+use Rattle.fm_list.specs.declared.by.By.{By}
+use Rattle.fm_list.specs.declared.by.By.TheVariants.{Run, Time}
+use Rattle.fm_list.specs.Change.{added, keeps}
+
+-- whether a file is of a run, or has a valid time
+unfoldable pub selects : By → ℤ → Loaded → Bool
+selects Run run file = int_eq file.run run
+selects Time valid file = has_time valid file
+
+-- the files of a run, or those that have a valid time, in the list's order
+unfoldable pub part : By → List Loaded → ℤ → List Loaded
+part by files key = filter (selects by key) files
+
+-- such files after an operation
+unfoldable pub part_after : By → ℤ → Op → List Loaded → List Loaded
+part_after by key op files = filter (keeps op) files ++ filter (selects by key) (added op)
+
+-- a file has few times, each once, and all are instants of a collection
+pub record HasSoundTimes (file : Loaded) : Type 0 where
+  pub few : length file.times ≤ MAX_TIMES
+  pub differ : AllPairs (λ (time other : ℤ). time ≢ other) file.times
+  pub instants : All IsInstant file.times
+
+-- each of some files has such times
+abbrev pub AreSound : List Loaded → Type 0
+AreSound files = All HasSoundTimes files
+
+-- each of some files has a valid time
+abbrev pub HaveTime : ℤ → List Loaded → Type 0
+HaveTime valid files = All (λ (file : Loaded). has_time valid file ≡ true) files

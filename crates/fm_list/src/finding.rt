@@ -1,0 +1,149 @@
+//! Which files have a name, a run or a valid time.
+ghost use Rattle.std.specs.Prelude.{◌≡◌, ◌≢◌, [], ◌∷◌, ◌++◌, AllPairs, IfSome, IsNone, List, None, Some, is_some, position, slice_get, true};
+ghost use Rattle.std.specs.Ordering.{int_eq};
+ghost use Rattle.fm_model.specs.declared.loaded.Loaded.{Loaded as File};
+ghost use Rattle.fm_model.specs.Cell.{best, cell, has_time};
+ghost use Rattle.fm_model.specs.Collection.{holds, holds_older};
+ghost use Rattle.fm_list.specs.Found.{cell_in};
+ghost use Rattle.fm_list.specs.Selected.{AreSound, HasSoundTimes};
+
+use crate::offset::keeps_least_offset;
+use crate::placed::Placed;
+use fm_base::Arc;
+use fm_model::Loaded;
+
+/// Whether a file has this name.
+#[tactic(auto, unfolding(fm_model::specs::Collection::holds))]
+pub fn has_name(files: &[Placed], name: &[u8]) -> bool
+    ensures { result ≡ holds files.now name.now }
+{
+    files.iter().any(|file| file.get().name.as_slice() == name)
+}
+
+/// Whether a file is of a run before the cutoff.
+#[tactic(auto, unfolding(fm_model::specs::Collection::holds_older))]
+pub fn has_older(files: &[Placed], cutoff: i64) -> bool
+    ensures { result ≡ holds_older files.now cutoff }
+{
+    files.iter().any(|file| file.get().run < cutoff)
+}
+
+// An index of a valid time among some times: the place where it may stand, or what a search finds. Where the times
+// don't rise, a search may find none.
+fn searched(times: &[i64], place: usize, valid: i64) -> Option<usize>
+    ensures { IfSome result (λ index. slice_get times.now index ≡ Some valid) }
+{
+    if place < times.len() && times[place] == valid {
+        return Some(place);
+    }
+    match times.binary_search(&valid) {
+        Ok(index) => Some(index),
+        Err(_) => None,
+    }
+}
+
+// The first index of a valid time among times, by a walk.
+fn walked(times: &[i64], valid: i64) -> Option<usize>
+    ensures { result ≡ position (λ time. int_eq time valid) times.now }
+{
+    times.iter().position(|time| *time == valid)
+}
+
+// The first index of a valid time among times that differ. A walk finds what a search may not.
+fn index_of(times: &[i64], place: usize, valid: i64) -> Option<usize>
+    requires { AllPairs (λ time other. time ≢ other) times.now }
+    ensures { result ≡ position (λ time. int_eq time valid) times.now }
+{
+    if let Some(index) = searched(times, place, valid) {
+        return Some(index);
+    }
+    walked(times, valid)
+}
+
+// The index of a valid time in a file, where the file is of this run.
+fn index_in(file: &Placed, run: i64, valid: i64) -> Option<u32>
+    requires { HasSoundTimes file.now }
+    ensures { result ≡ cell_in run valid file.now }
+{
+    let own = file.run();
+    if own != run {
+        return None;
+    }
+    match index_of(file.get().times.as_slice(), file.place(), valid) {
+        Some(index) => Some(index as u32),
+        None => None,
+    }
+}
+
+/// The last file of a run with a valid time, and the time's index in it.
+pub fn cell_of(files: &[Placed], run: i64, valid: i64) -> Option<(&Arc<Loaded>, u32)>
+    requires { AreSound files.now }
+    ensures found { IfSome result (λ found. cell files.now run valid ≡ Some (found.0.now, found.1)) }
+    ensures none { IsNone result → cell files.now run valid ≡ None }
+{
+    let mut before = files.len();
+    while before > 0 {
+        before -= 1;
+        let file = &files[before];
+        if let Some(index) = index_in(file, run, valid) {
+            return Some((file.owner(), index));
+        }
+    }
+    None
+}
+
+// An index of a valid time among those of a file, if it is there.
+pub(crate) fn place_in(file: &Loaded, place: usize, valid: i64) -> Option<usize>
+    ensures { is_some result ≡ has_time valid file.now }
+{
+    let times = file.times.as_slice();
+    if let Some(index) = searched(times, place, valid) {
+        return Some(index);
+    }
+    walked(times, valid)
+}
+
+// The best run of some files and one more that has the valid time, where `greatest` is that of the others.
+pub(crate) fn raised_by(
+    greatest: Option<i64>,
+    file: &Placed,
+    valid: i64,
+    least: Option<i64>,
+) -> Option<i64>
+    requires { has_time valid file.now ≡ true }
+    ensures { (others : List File) → best others valid least ≡ greatest
+        → best (others ++ file.now ∷ []) valid least ≡ result }
+{
+    let own = file.run();
+    if let Some(run) = greatest {
+        if own <= run {
+            return greatest;
+        }
+    }
+    if !keeps_least_offset(least, own, valid) {
+        return greatest;
+    }
+    Some(own)
+}
+
+// The best run of some files and one more, where `greatest` is that of the others.
+fn raised(greatest: Option<i64>, file: &Placed, valid: i64, least: Option<i64>) -> Option<i64>
+    ensures { (others : List File) → best others valid least ≡ greatest
+        → best (others ++ file.now ∷ []) valid least ≡ result }
+{
+    match place_in(file.get(), file.place(), valid) {
+        Some(_) => raised_by(greatest, file, valid, least),
+        None => greatest,
+    }
+}
+
+/// The best run for a valid time.
+pub fn best_of(files: &[Placed], valid: i64, least: Option<i64>) -> Option<i64>
+    ensures { result ≡ best files.now valid least }
+{
+    let mut greatest = None;
+    for file in files {
+        greatest = raised(greatest, file, valid, least);
+    }
+    greatest
+}

@@ -1,0 +1,13 @@
+//! The files of a run, or of a valid time, as a list: what an operation leaves of it and adds, and what is found in it.
+#![tactic(auto)]
+
+mod by;
+pub mod change;
+pub mod finding;
+mod offset;
+pub mod part;
+mod placed;
+
+pub use by::By;
+pub use offset::keeps_least_offset;
+pub use placed::Placed;

@@ -1,0 +1,7 @@
+-- The events so far fit.
+use Rattle.std.specs.List.{All}
+use Rattle.pub_core.specs.Outcome.{EventFits}
+use Rattle.reply_rows.proofs.events.events_of.Given as goal
+
+abbrev pub invariant-loop-words : goal.invariant-loop-words
+invariant-loop-words l = All (EventFits l.proto) l.events

@@ -1,0 +1,89 @@
+//! A collection over a prototype, and what is done to it.
+ghost use Rattle.std.specs.Prelude.{IfOk};
+ghost use Rattle.fm_model.specs.Site.{IsPrototype};
+
+use super::moments::read_moment;
+use fm_base::{Arc, Bytes, Fail};
+use fm_edition::Edition;
+use fm_load::load;
+use fm_model::{Full, MAX_FILE_BYTES, Op, Proto, Which};
+use fm_sample::{ItsProto, edition_of};
+use pub_look::{Look, Plain};
+use row_text::{File, Row, content};
+use std::alloc::Global;
+use text_rows::Wrong;
+
+/// The bytes that some words describe.
+pub fn described(alloc: Global, files: &[File], words: &str) -> Result<Bytes, Fail<Wrong>> {
+    match content(alloc, files, words)? {
+        Some(items) => Ok(Bytes { items }),
+        None => Err(Fail::Fault(Wrong::Form)),
+    }
+}
+
+/// The instant of a row's key `epoch`, as Unix seconds, which is the beginning of 2020.
+pub fn epoch_of(row: &Row<'_>) -> Result<i64, Fail<Wrong>> {
+    match read_moment(0, row.value("epoch").unwrap_or(""))? {
+        1_577_836_800 => Ok(1_577_836_800),
+        _ => Err(Fail::Fault(Wrong::Form)),
+    }
+}
+
+/// The prototype that some words describe, of the collection `gfs`.
+pub fn prototype(alloc: Global, files: &[File], words: &str) -> Result<Arc<Proto>, Fail<Wrong>>
+    ensures { IfOk result IsPrototype }
+{
+    match edition_of(alloc, described(alloc, files, words)?) {
+        Ok(edition) => proto_of(&edition),
+        Err(Fail::NoMemory) => Err(Fail::NoMemory),
+        Err(Fail::Fault(_)) => Err(Fail::Fault(Wrong::Form)),
+    }
+}
+
+fn proto_of(edition: &Edition) -> Result<Arc<Proto>, Fail<Wrong>>
+    ensures { IfOk result IsPrototype }
+{
+    Ok(edition.proto().share()?)
+}
+
+/// Publishes the file of a name and some bytes, and puts its revision, the number of its fault, or what there would be
+/// too many of.
+pub fn put_file(
+    alloc: Global,
+    plain: &mut Plain,
+    name: &[u8],
+    bytes: Bytes,
+    out: &mut String,
+) -> Result<(), Fail<Wrong>> {
+    let (proto, _) = plain.ask(alloc, &ItsProto)?;
+    if bytes.len() as u64 > MAX_FILE_BYTES {
+        return Err(Fail::Fault(Wrong::Form));
+    }
+    match load(alloc, name, bytes, proto.get()) {
+        Ok(file) => match plain.publish(alloc, Op::Put(Arc::new(alloc, file)?)) {
+            Ok(revision) => put_revised(Some(revision), out),
+            Err(Fail::Fault(full)) => put_full(full, out),
+            Err(Fail::NoMemory) => Err(Fail::NoMemory),
+        },
+        Err(Fail::Fault(fault)) => Ok(write!(out, "refused {}", fault.code())?),
+        Err(Fail::NoMemory) => Err(Fail::NoMemory),
+    }
+}
+
+/// Puts the revision of an operation, or that nothing was done.
+pub fn put_revised(revision: Option<u64>, out: &mut String) -> Result<(), Fail<Wrong>> {
+    let put = match revision {
+        Some(revision) => write!(out, "revision {revision}"),
+        None => out.push_str("nothing"),
+    };
+    Ok(put?)
+}
+
+fn put_full(full: Full, out: &mut String) -> Result<(), Fail<Wrong>> {
+    let what = match full.which {
+        Which::Files => "files",
+        Which::Rows => "rows",
+        Which::Size => "bytes",
+    };
+    Ok(write!(out, "full: {} {what} over {}", full.held, full.limit)?)
+}

@@ -1,0 +1,46 @@
+//! The structure text of declarations that a row gives.
+
+use super::bytes::{end, put_text};
+use dap_dds::{dds_len, dds_text};
+use dap_model::Decl;
+use fm_base::{Bytes, Fail, List};
+use row_text::Row;
+use std::alloc::Global;
+use text_rows::{Wrong, read_decl};
+
+/// Puts the structure text of a row's `declare` lines under its `label`, which has as many bytes as are counted.
+pub fn put_declared(alloc: Global, row: &Row<'_>, out: &mut String) -> Result<(), Fail<Wrong>> {
+    if !row.has_only(&["label", "declare"]) {
+        return Err(Fail::Fault(Wrong::Form));
+    }
+    let label = row.value("label").unwrap_or("").as_bytes();
+    let decls = declared(alloc, row)?;
+    put_structure(alloc, label, &decls, out)
+}
+
+// The declarations of a row.
+fn declared(alloc: Global, row: &Row<'_>) -> Result<List<Decl>, Fail<Wrong>> {
+    let mut decls = List::new(alloc);
+    for field in &row.fields {
+        if field.key == "declare" {
+            decls.push(read_decl(alloc, field.value.as_str())?)?;
+        }
+    }
+    Ok(decls)
+}
+
+// Puts the structure text, which has as many bytes as are counted.
+fn put_structure(
+    alloc: Global,
+    label: &[u8],
+    decls: &List<Decl>,
+    out: &mut String,
+) -> Result<(), Fail<Wrong>> {
+    let mut text = Bytes::new(alloc);
+    dds_text(alloc, label, decls, &mut text)?;
+    if dds_len(label, decls) != text.len() as u64 {
+        return Err(Fail::Fault(Wrong::Taken));
+    }
+    put_text(text.as_slice(), out)?;
+    Ok(end(out)?)
+}

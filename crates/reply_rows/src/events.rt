@@ -1,0 +1,145 @@
+//! Events of sessions over one collection, in the order of a row's lines.
+ghost use Rattle.std.specs.Prelude.{◌≡◌, All, IfOk};
+ghost use Rattle.pub_core.specs.Outcome.{EventFits};
+
+use super::bytes::{end, put_text};
+use super::collection::{described, epoch_of, prototype};
+use super::moments::read_moment;
+use fm_base::{Arc, Bytes, Fail, List};
+use fm_load::load;
+use fm_model::{Op, Proto};
+use pub_core::{Event, Outcome, run_all};
+use row_text::{File, Row, bytes};
+use std::alloc::Global;
+use text_rows::Wrong;
+
+/// Puts the outcome of a row's events: the number of operations, and for each session its revision and its bytes.
+pub fn put_events(
+    alloc: Global,
+    files: &[File],
+    row: &Row<'_>,
+    out: &mut String,
+) -> Result<(), Fail<Wrong>> {
+    if !row.has_only(&["prototype", "epoch", "sessions", "event"]) {
+        return Err(Fail::Fault(Wrong::Form));
+    }
+    epoch_of(row)?;
+    let sessions = session_number(row.value("sessions").unwrap_or(""))?;
+    let proto = prototype(alloc, files, row.value("prototype").unwrap_or(""))?;
+    let words = words_of(alloc, row)?;
+    let events = events_of(alloc, files, proto.get(), words.as_slice())?;
+    let outcome = run_all(alloc, proto, sessions, &events)?;
+    put_outcome(&outcome, out)
+}
+
+// The words of a row's events; the only one of `none` is none.
+fn words_of<'a>(alloc: Global, row: &'a Row<'_>) -> Result<Vec<&'a str>, Fail<Wrong>> {
+    let mut all = Vec::new(alloc);
+    for field in &row.fields {
+        let words = field.value.as_str();
+        if field.key == "event" && words != "none" {
+            all.push(words)?;
+        }
+    }
+    Ok(all)
+}
+
+// The events of some words each.
+fn events_of(
+    alloc: Global,
+    files: &[File],
+    proto: &Proto,
+    all: &[&str],
+) -> Result<List<Event>, Fail<Wrong>>
+    ensures { IfOk result (All (EventFits proto.now)) }
+{
+    let mut events = List::new(alloc);
+    for words in all {
+        events.push(read_event(alloc, files, proto, words)?)?;
+    }
+    Ok(events)
+}
+
+// The event of some words.
+fn read_event(
+    alloc: Global,
+    files: &[File],
+    proto: &Proto,
+    words: &str,
+) -> Result<Event, Fail<Wrong>>
+    ensures { IfOk result (EventFits proto.now) }
+{
+    let (what, rest) = words.split_once(' ').unwrap_or((words, ""));
+    match what {
+        "put" => put(alloc, files, proto, rest),
+        "expire" => Ok(Event::Publish(Op::Expire(read_moment(proto.site.epoch, rest)?))),
+        "retract" => {
+            let name = Bytes::copy_of(alloc, rest.as_bytes())?;
+            Ok(Event::Publish(Op::Retract(name)))
+        }
+        _ => session_event(alloc, proto, what, rest),
+    }
+}
+
+fn put(alloc: Global, files: &[File], proto: &Proto, words: &str) -> Result<Event, Fail<Wrong>>
+    ensures { IfOk result (EventFits proto.now) }
+{
+    let (name, words) = words.split_once(' ').unwrap_or((words, ""));
+    let content = described(alloc, files, words)?;
+    if content.len() > 536_870_912 {
+        return Err(Fail::Fault(Wrong::Form));
+    }
+    match load(alloc, name.as_bytes(), content, proto) {
+        Ok(file) => Ok(Event::Publish(Op::Put(Arc::new(alloc, file)?))),
+        Err(Fail::Fault(_)) => Err(Fail::Fault(Wrong::Form)),
+        Err(Fail::NoMemory) => Err(Fail::NoMemory),
+    }
+}
+
+// An event of the session of a number.
+fn session_event(
+    alloc: Global,
+    _proto: &Proto,
+    what: &str,
+    words: &str,
+) -> Result<Event, Fail<Wrong>>
+    ensures { IfOk result (EventFits _proto.now) }
+{
+    let (session, rest) = words.split_once(' ').unwrap_or((words, ""));
+    let session = session_number(session)?;
+    match what {
+        "look" => Ok(Event::Look(session)),
+        "learn" => Ok(Event::Learn(session, count(rest)?)),
+        "bytes" => match bytes(alloc, rest)? {
+            Some(items) => Ok(Event::Bytes(session, Bytes { items })),
+            None => Err(Fail::Fault(Wrong::Form)),
+        },
+        "sent" => Ok(Event::Sent(session, count(rest)?)),
+        "end" => Ok(Event::End(session)),
+        "fault" => Ok(Event::Fault(session)),
+        _ => Err(Fail::Fault(Wrong::Form)),
+    }
+}
+
+fn session_number(word: &str) -> Result<u32, Fail<Wrong>> {
+    word.parse::<u32>().ok().ok_or(Fail::Fault(Wrong::Form))
+}
+
+fn count(word: &str) -> Result<u64, Fail<Wrong>> {
+    word.parse::<u64>().ok().ok_or(Fail::Fault(Wrong::Form))
+}
+
+fn put_outcome(outcome: &Outcome, out: &mut String) -> Result<(), Fail<Wrong>> {
+    write!(out, "operations {}", outcome.log.len())?;
+    for (session, output) in outcome.outputs.as_slice().iter().enumerate() {
+        let seen = outcome.seen.as_slice().get(session).copied().unwrap_or(0);
+        write!(
+            out,
+            "\nsession {session} has seen {seen}, and was sent {} bytes\n",
+            output.len()
+        )?;
+        put_text(output.as_slice(), out)?;
+        end(out)?;
+    }
+    Ok(())
+}

@@ -1,0 +1,36 @@
+//! Instants of a row, which a collection has in seconds from its epoch.
+
+use fm_base::{Bytes, Fail, NoMemory};
+use row_text::put_shown;
+use std::alloc::Global;
+use text_rows::Wrong;
+use tm_units::{instant_text, read_instant};
+
+/// The seconds from an epoch to the instant `YYYY-MM-DDThh:mm:ssZ` of a word.
+pub fn read_moment(epoch: i64, word: &str) -> Result<i64, Fail<Wrong>> {
+    match read_instant(word.as_bytes()) {
+        Some(instant) => instant.checked_sub(epoch).ok_or(Fail::Fault(Wrong::Form)),
+        None => Err(Fail::Fault(Wrong::Form)),
+    }
+}
+
+/// The number of a word.
+pub fn read_number(word: &str) -> Result<i64, Fail<Wrong>> {
+    word.parse::<i64>().ok().ok_or(Fail::Fault(Wrong::Form))
+}
+
+/// Adds the instant `moment` seconds from an epoch, or the seconds where it lies outside the years 0 to 9999.
+pub fn put_moment(
+    alloc: Global,
+    epoch: i64,
+    moment: i64,
+    out: &mut String,
+) -> Result<(), NoMemory> {
+    let instant = epoch.saturating_add(moment);
+    if instant < -62_167_219_200 || instant > 253_402_300_799 {
+        return Ok(write!(out, "{moment}")?);
+    }
+    let mut text = Bytes::new(alloc);
+    instant_text(alloc, instant, &mut text)?;
+    Ok(put_shown(text.as_slice(), out)?)
+}

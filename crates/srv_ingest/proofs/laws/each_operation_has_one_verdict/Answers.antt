@@ -1,6 +1,0 @@
--- As many operations as the log has are spoken of, each once.
-use Rattle.srv_ingest.proofs.AloneLemmas.{one-verdict}
-use Rattle.srv_ingest.proofs.laws.each_operation_has_one_verdict.Goals as goal
-
-pub returns : goal.returns
-returns c = one-verdict

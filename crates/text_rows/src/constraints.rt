@@ -1,0 +1,60 @@
+//! Constraints: names with dots, slabs as `start:stride:stop`, and clauses with semicolons.
+
+use super::only;
+use dap_ce::read_constraint;
+use dap_model::{CeFault, Clause, Slab};
+use fm_base::{Fail, NoMemory};
+use row_text::{Row, put_shown};
+use std::alloc::Global;
+use std::fmt::Write;
+
+/// Puts the clauses of a constraint, or its fault with the offset.
+pub fn put_constraint(alloc: Global, row: &Row<'_>, out: &mut String) -> Result<bool, NoMemory> {
+    match only(alloc, row, "constraint")? {
+        Some(text) => {
+            put_read(alloc, text.as_slice(), out)?;
+            Ok(true)
+        }
+        None => Ok(false),
+    }
+}
+
+fn put_read(alloc: Global, text: &[u8], out: &mut String) -> Result<(), NoMemory> {
+    match read_constraint(alloc, text) {
+        Ok(projection) => put_clauses(projection.clauses.as_slice(), out),
+        Err(Fail::Fault(fault)) => put_fault(fault, out),
+        Err(Fail::NoMemory) => Err(NoMemory),
+    }
+}
+
+fn put_fault(fault: CeFault, out: &mut String) -> Result<(), NoMemory> {
+    let put = match fault {
+        CeFault::BadConstraint(at) => write!(out, "refused 21 at {at}"),
+        CeFault::Selection(at) => write!(out, "refused 22 at {at}"),
+    };
+    Ok(put?)
+}
+
+fn put_clauses(clauses: &[Clause], out: &mut String) -> Result<(), NoMemory> {
+    for (index, clause) in clauses.iter().enumerate() {
+        out.push_str(if index == 0 { "" } else { "; " })?;
+        put_clause(clause, out)?;
+    }
+    Ok(())
+}
+
+fn put_clause(clause: &Clause, out: &mut String) -> Result<(), NoMemory> {
+    for (index, name) in clause.path.as_slice().iter().enumerate() {
+        out.push_str(if index == 0 { "" } else { "." })?;
+        put_shown(name.as_slice(), out)?;
+    }
+    put_slabs(clause.slabs.as_slice(), out)
+}
+
+/// Appends slabs, each behind a blank.
+pub fn put_slabs(slabs: &[Slab], out: &mut String) -> Result<(), NoMemory> {
+    for slab in slabs {
+        write!(out, " {}:{}:{}", slab.start, slab.stride, slab.stop)?;
+    }
+    Ok(())
+}

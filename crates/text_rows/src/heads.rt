@@ -1,0 +1,146 @@
+//! Request heads: one, however it is cut, and those of a stream.
+
+use super::only;
+use fm_base::NoMemory;
+use row_text::{Field, Row, bytes, content, put_shown};
+use std::alloc::Global;
+use std::fmt::Write;
+use web_frame::{Frame, Method, Next, Request};
+
+/// Puts the item that a head is read as. It comes whole, cut in two at each offset, and byte by byte.
+pub fn put_head(alloc: Global, row: &Row<'_>, out: &mut String) -> Result<bool, NoMemory> {
+    match only(alloc, row, "head")? {
+        Some(head) => {
+            put_item(alloc, head.as_slice(), out)?;
+            Ok(true)
+        }
+        None => Ok(false),
+    }
+}
+
+fn put_item(alloc: Global, head: &[u8], out: &mut String) -> Result<(), NoMemory> {
+    let mut frame = Frame::new(alloc)?;
+    put_read(&mut frame, head, out)
+}
+
+// Appends the item that a frame without bytes reads a head as.
+fn put_read(frame: &mut Frame, head: &[u8], out: &mut String) -> Result<(), NoMemory> {
+    frame.feed(head);
+    let read = frame.next();
+    put_next(frame, read, out)?;
+    if frame.next() != Next::Need {
+        out.push_str(", and more")?;
+    }
+    if !is_read_cut(frame, head, read) {
+        out.push_str(", but not where it is cut")?;
+    }
+    Ok(())
+}
+
+// Whether a frame without bytes reads a head as this, cut in two at each offset and byte by byte, and nothing before
+// its end.
+fn is_read_cut(frame: &mut Frame, head: &[u8], want: Next) -> bool {
+    for at in 0..head.len() {
+        if !is_read_in_two(frame, head, at, want) {
+            return false;
+        }
+    }
+    is_read_by_bytes(frame, head, want)
+}
+
+fn is_read_in_two(frame: &mut Frame, head: &[u8], at: usize, want: Next) -> bool {
+    let (front, back) = head.split_at(at.min(head.len()));
+    frame.feed(front);
+    let early = frame.next();
+    frame.feed(back);
+    early == Next::Need && frame.next() == want && frame.next() == Next::Need
+}
+
+fn is_read_by_bytes(frame: &mut Frame, head: &[u8], want: Next) -> bool {
+    for byte in head {
+        if frame.next() != Next::Need {
+            return false;
+        }
+        frame.feed(&[*byte]);
+    }
+    frame.next() == want && frame.next() == Next::Need
+}
+
+/// Puts the heads of a stream, a line for each. Its slices are fed one after the other, and all heads of one are read
+/// before the next comes.
+pub fn put_stream(alloc: Global, row: &Row<'_>, out: &mut String) -> Result<bool, NoMemory> {
+    if !row.has_only(&["feed", "feed file"]) {
+        return Ok(false);
+    }
+    let mut frame = Frame::new(alloc)?;
+    put_slices(alloc, &mut frame, row, out)
+}
+
+fn put_slices(
+    alloc: Global,
+    frame: &mut Frame,
+    row: &Row<'_>,
+    out: &mut String,
+) -> Result<bool, NoMemory> {
+    for field in &row.fields {
+        if field.key.starts_with("feed") && !put_slice(alloc, frame, field, out)? {
+            return Ok(false);
+        }
+    }
+    Ok(true)
+}
+
+// Feeds the bytes of a field, and appends the heads that end in them; false where it stands for none.
+fn put_slice(
+    alloc: Global,
+    frame: &mut Frame,
+    field: &Field<'_>,
+    out: &mut String,
+) -> Result<bool, NoMemory> {
+    let value = field.value.as_str();
+    let slice = match field.key {
+        "feed" => bytes(alloc, value)?,
+        _ => content(alloc, &[], value)?,
+    };
+    let Some(slice) = slice else {
+        return Ok(false);
+    };
+    frame.feed(slice.as_slice());
+    put_heads(frame, out)?;
+    Ok(true)
+}
+
+// Appends the heads that end in what a frame holds, at most 16 of them, and what is left.
+fn put_heads(frame: &mut Frame, out: &mut String) -> Result<(), NoMemory> {
+    for _ in 0..16 {
+        let read = frame.next();
+        out.push_str(if out.is_empty() { "" } else { "\n" })?;
+        put_next(frame, read, out)?;
+        if matches!(read, Next::Need | Next::HeadTooLong) {
+            write!(out, ", {} begun, room {}", frame.begun(), frame.room())?;
+            break;
+        }
+    }
+    Ok(())
+}
+
+fn put_next(frame: &Frame, read: Next, out: &mut String) -> Result<(), NoMemory> {
+    match read {
+        Next::Need => Ok(out.push_str("no head")?),
+        Next::Head(request) => put_request(request, frame.target(), out),
+        Next::BadHead => Ok(out.push_str("bad head")?),
+        Next::HeadTooLong => Ok(out.push_str("head too long")?),
+    }
+}
+
+/// Appends a request's method and target, and whether the connection ends after it and it has a body.
+pub fn put_request(request: Request, target: &[u8], out: &mut String) -> Result<(), NoMemory> {
+    out.push_str(match request.method {
+        Method::Get => "get ",
+        Method::Head => "head ",
+        Method::Other => "other ",
+    })?;
+    put_shown(target, out)?;
+    out.push_str(if request.close { ", close" } else { "" })?;
+    Ok(out.push_str(if request.has_body { ", body" } else { "" })?)
+}

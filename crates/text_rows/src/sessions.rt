@@ -1,0 +1,223 @@
+//! Sessions: what they do over whole input, however it is cut, and at each of some events.
+
+use super::heads::put_request;
+use super::only;
+use fm_base::NoMemory;
+use row_text::{Field, Row, bytes, content};
+use std::alloc::Global;
+use std::fmt::Write;
+use web_session::{Action, Asked, End, Event, Session};
+
+/// Puts what a session does over some input, a line for each action. Each reply has 5 bytes, of which at most 2 are
+/// sent at a time. Reads are left out: the input comes whole, and in pieces of at most 1 to 100 bytes.
+pub fn put_input(alloc: Global, row: &Row<'_>, out: &mut String) -> Result<bool, NoMemory> {
+    match only(alloc, row, "input")? {
+        Some(input) => {
+            put_all(alloc, input.as_slice(), out)?;
+            Ok(true)
+        }
+        None => Ok(false),
+    }
+}
+
+fn put_all(alloc: Global, input: &[u8], out: &mut String) -> Result<(), NoMemory> {
+    put_actions(alloc, input, input.len(), out)?;
+    for most in 1..101usize {
+        if !is_done(alloc, input, most, out.as_str())? {
+            return Ok(write!(out, "\nbut not in pieces of {most} bytes")?);
+        }
+    }
+    Ok(())
+}
+
+// Whether this is what a session does over some input, of which it reads at most `most` bytes at a time.
+fn is_done(alloc: Global, input: &[u8], most: usize, want: &str) -> Result<bool, NoMemory> {
+    let mut got = String::new(alloc);
+    put_actions(alloc, input, most, &mut got)?;
+    Ok(got.as_str() == want)
+}
+
+// Puts what a session does over some input, of which it reads at most `most` bytes at a time.
+fn put_actions(alloc: Global, input: &[u8], most: usize, out: &mut String) -> Result<(), NoMemory> {
+    let mut session = Session::new(alloc)?;
+    let mut left = input;
+    let mut action = session.on(Event::Start);
+    for _ in 0..1_000_000u32 {
+        if let Action::Read(room) = action {
+            let (piece, rest) = left.split_at(most.min(room).min(left.len()));
+            left = rest;
+            action = after_read(&mut session, piece);
+        } else {
+            put_action(&session, action, out)?;
+            if matches!(action, Action::Close(_)) {
+                break;
+            }
+            action = after(&mut session, action);
+        }
+    }
+    Ok(())
+}
+
+// What a session does once it has read some bytes, or the end of its input.
+fn after_read(session: &mut Session, piece: &[u8]) -> Action {
+    if piece.is_empty() {
+        session.on(Event::EndOfInput)
+    } else {
+        session.on(Event::Bytes(piece))
+    }
+}
+
+// The action of a session after one that is no read.
+fn after(session: &mut Session, action: Action) -> Action {
+    match action {
+        Action::Ask(_) => session.on(Event::Answer { len: 5 }),
+        Action::Send { from: 4 } => session.on(Event::Sent(1)),
+        Action::Send { .. } => session.on(Event::Sent(2)),
+        done => done,
+    }
+}
+
+/// Puts what a session does at each of some events, a line for each, after requests that were answered before.
+pub fn put_events(alloc: Global, row: &Row<'_>, out: &mut String) -> Result<bool, NoMemory> {
+    if !row.has_only(&["answered", "on", "on file"]) {
+        return Ok(false);
+    }
+    let mut session = Session::new(alloc)?;
+    put_fields(alloc, &mut session, row, out)
+}
+
+fn put_fields(
+    alloc: Global,
+    session: &mut Session,
+    row: &Row<'_>,
+    out: &mut String,
+) -> Result<bool, NoMemory> {
+    for field in &row.fields {
+        if !put_field(alloc, session, field, out)? {
+            return Ok(false);
+        }
+    }
+    Ok(true)
+}
+
+// Does what a field says, and appends what the session does then; false where that isn't known.
+fn put_field(
+    alloc: Global,
+    session: &mut Session,
+    field: &Field<'_>,
+    out: &mut String,
+) -> Result<bool, NoMemory> {
+    let value = field.value.as_str();
+    match field.key {
+        "answered" => Ok(answer(session, value)),
+        "on" => put_after(alloc, session, value, out),
+        "on file" => put_after_file(alloc, session, value, out),
+        _ => Ok(true),
+    }
+}
+
+// Requests, each of which is answered by one byte; false where the text is no number.
+fn answer(session: &mut Session, count: &str) -> bool {
+    let Ok(count) = count.parse::<u32>() else {
+        return false;
+    };
+    for _ in 0..count {
+        session.on(Event::Bytes(b"GET / HTTP/1.1\r\n\r\n"));
+        session.on(Event::Answer { len: 1 });
+        session.on(Event::Sent(1));
+    }
+    true
+}
+
+// Appends what a session does at the event of a text; false where the text is none.
+fn put_after(
+    alloc: Global,
+    session: &mut Session,
+    text: &str,
+    out: &mut String,
+) -> Result<bool, NoMemory> {
+    let (name, value) = text.split_once(' ').unwrap_or((text, ""));
+    let Some(bytes) = bytes(alloc, value)? else {
+        return Ok(false);
+    };
+    let Some(event) = event_of(name, value, bytes.as_slice()) else {
+        return Ok(false);
+    };
+    let action = session.on(event);
+    put_action(session, action, out)?;
+    Ok(true)
+}
+
+// Appends what a session does with the bytes that a text describes; false where it describes none.
+fn put_after_file(
+    alloc: Global,
+    session: &mut Session,
+    text: &str,
+    out: &mut String,
+) -> Result<bool, NoMemory> {
+    let Some(bytes) = content(alloc, &[], text)? else {
+        return Ok(false);
+    };
+    let action = session.on(Event::Bytes(bytes.as_slice()));
+    put_action(session, action, out)?;
+    Ok(true)
+}
+
+fn event_of<'a>(name: &str, value: &str, bytes: &'a [u8]) -> Option<Event<'a>> {
+    match name {
+        "start" if value.is_empty() => Some(Event::Start),
+        "end" if value.is_empty() => Some(Event::EndOfInput),
+        "no-answer" if value.is_empty() => Some(Event::NoAnswer),
+        "fault" if value.is_empty() => Some(Event::Fault),
+        "bytes" => Some(Event::Bytes(bytes)),
+        "answer" => Some(Event::Answer {
+            len: value.parse::<u64>().ok()?,
+        }),
+        "sent" => Some(Event::Sent(value.parse::<u64>().ok()?)),
+        _ => None,
+    }
+}
+
+// Appends an action as a line. A request has its target, and says whether the link ends after its reply.
+fn put_action(session: &Session, action: Action, out: &mut String) -> Result<(), NoMemory> {
+    out.push_str(if out.is_empty() { "" } else { "\n" })?;
+    match action {
+        Action::Read(room) => write!(out, "read {room}")?,
+        Action::Ask(asked) => put_asked(session, asked, out)?,
+        Action::Send { from } => write!(out, "send from {from}")?,
+        Action::Close(end) => put_end(end, out)?,
+    }
+    Ok(())
+}
+
+fn put_asked(session: &Session, asked: Asked, out: &mut String) -> Result<(), NoMemory> {
+    out.push_str("ask ")?;
+    match asked {
+        Asked::Head(request) => put_request(request, session.target(), out)?,
+        Asked::BadHead => out.push_str("bad head")?,
+        Asked::HeadTooLong => out.push_str("head too long")?,
+    }
+    Ok(out.push_str(if session.last() { ", the last" } else { "" })?)
+}
+
+fn put_end(end: End, out: &mut String) -> Result<(), NoMemory> {
+    out.push_str("close: ")?;
+    match end {
+        End::Cut(begun) => Ok(write!(out, "cut after {begun}")?),
+        other => Ok(out.push_str(end_name(other))?),
+    }
+}
+
+fn end_name(end: End) -> &'static str {
+    match end {
+        End::Closed => "closed",
+        End::Cut(_) => "cut",
+        End::Asked => "asked",
+        End::BadHead => "bad head",
+        End::HeadTooLong => "head too long",
+        End::BodyNotTaken => "body not taken",
+        End::RequestLimit => "request limit",
+        End::LinkFault => "link fault",
+        End::NoMemory => "no memory",
+    }
+}

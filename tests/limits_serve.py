@@ -1,0 +1,138 @@
+"""Limits of a server; tests/limits.sh says how."""
+import os
+import sys
+import time as clock
+
+import limits_cases as cases
+from classic import EPOCH, Classic, axis
+from folder_server import Ended, FolderServer, bring, wait_until
+from limits_cases import Wrong, path_in
+
+PROGRAM, FOLDER = sys.argv[1:3]
+BEST = b"/thredds/dodsC/gfs/gfs_best.ncd.dds"
+FORM = Classic([("time", 0)], [axis()], records=1)
+
+
+def name_at(moment):
+    """The name of a file whose run is so many seconds after the beginning of 2020."""
+    return clock.strftime("gfs_%Y%m%d_%H%M.nc", clock.gmtime(EPOCH + moment))
+
+
+def inboxes_in(folder, count):
+    paths = [os.path.join(folder, "inbox%d" % number) for number in range(count)]
+    for path in paths:
+        os.mkdir(path)
+    return paths
+
+
+def proto_in(folder):
+    path = path_in(folder, "proto.nc")
+    FORM.write(path, [EPOCH])
+    return path
+
+
+def expect(what, got, right):
+    if got != right:
+        raise Wrong("%s: %r, not %r" % (what, got, right))
+
+
+def sixteen_workers_with_eight_folders_and_a_clock(folder):
+    """Each pass looks: those of the workers by a request, those of the folders by a retraction, the clock's at once."""
+    inboxes = inboxes_in(folder, 8)
+    for number, path in enumerate(inboxes):
+        bring(os.path.join(path, name_at(3600 * number)), FORM.content([EPOCH + 3600 * number]))
+        bring(os.path.join(path, "none%d.nc.retract" % number), b"")
+        bring(os.path.join(path, "STOP"), b"")
+    options = ["--workers", "16", "--connections", "1", "--keep", "1073741823", "--ticks", "1"]
+    server = FolderServer(PROGRAM, proto_in(folder), inboxes, options)
+    links = [server.connect() for _ in range(16)]
+    wait_until("eight files are done", lambda: count_in(inboxes, "done") == 8)
+    for link in links:
+        status, revision, _ = link.ask(b"GET", BEST)
+        expect("a reply's status", status, 200)
+        expect("a reply's revision", revision, 8)
+    for link in links:
+        link.close()
+    line = "published 8 retracted 0 expired 0 held 8 rows 8 revision 8\n"
+    expect("the end", server.end(), (0, line))
+    for number, path in enumerate(inboxes):
+        expect("what is refused", os.listdir(path + "/refused"), ["none%d.nc.retract" % number])
+
+
+def operations_up_to_20000(folder):
+    """10,000 files that come and are taken back, and 20,001 looks over three connections of one worker."""
+    inbox = inboxes_in(folder, 1)[0]
+    source = path_in(folder, "source.nc")
+    FORM.write(source, [EPOCH])
+    for number in range(10000):
+        name = os.path.join(inbox, "gfs_20200101_0000_%05d.nc" % number)
+        os.link(source, name)
+        os.link(source, name + ".retract")
+    bring(os.path.join(inbox, "STOP"), b"")
+    server = FolderServer(PROGRAM, proto_in(folder), [inbox], ["--workers", "1", "--connections", "3"])
+    link = server.connect()
+    asked = 0
+    while True:
+        asked += 1
+        _, revision, _ = link.ask(b"HEAD", BEST)
+        if revision == 20000:
+            break
+        if asked > 2000:
+            raise Wrong("revision %d after %d looks" % (revision, asked))
+        clock.sleep(0.05)
+    link.close()
+    for _ in range(2):
+        link = server.connect()
+        for _ in range(100):
+            link.send(100 * (b"HEAD " + BEST + b" HTTP/1.1\r\n\r\n"))
+            for _ in range(100):
+                expect("a look", link.reply(True)[:2], (404, 20000))
+        expect("request 10,001", link.reply(True), None)
+        link.close()
+    line = "published 10000 retracted 10000 expired 0 held 0 rows 0 revision 20000\n"
+    expect("the end", server.end(), (0, line))
+    expect("what is not done", os.path.exists(inbox + "/later") and os.listdir(inbox + "/later"), False)
+
+
+def retractions_of_the_same_files_by_eight_folders(folder):
+    """Eight folders take the same files back at once: one does, and to the others they are not held."""
+    inboxes = inboxes_in(folder, 8)
+    source = path_in(folder, "source.nc")
+    FORM.write(source, [EPOCH])
+    names = ["gfs_20200101_0000_%04d.nc" % number for number in range(200)]
+    server = FolderServer(PROGRAM, proto_in(folder), inboxes, ["--workers", "1"])
+    server.connect().close()
+    for name in names:
+        os.link(source, os.path.join(inboxes[0], name))
+    wait_until("all are held", lambda: count_in(inboxes[:1], "done") == len(names))
+    for name in names:
+        for path in inboxes:
+            os.link(source, os.path.join(path, name + ".retract"))
+    wanted = 9 * len(names)
+    wait_until("all have a verdict", lambda: sum(count_in(inboxes, shelf) for shelf in SHELVES) == wanted, 120)
+    counts = [count_in(inboxes, shelf) for shelf in SHELVES]
+    expect("done, refused and later", counts, [2 * len(names), 7 * len(names), 0])
+    server.kill()
+
+
+SHELVES = ("done", "refused", "later")
+
+
+def count_in(inboxes, shelf):
+    paths = [os.path.join(path, shelf) for path in inboxes]
+    return sum(len(os.listdir(path)) for path in paths if os.path.isdir(path))
+
+
+def told(case):
+    """A case in which an end of the server is something wrong."""
+    def run(folder):
+        try:
+            case(folder)
+        except Ended as ended:
+            raise Wrong(str(ended)) from None
+    run.__name__, run.__doc__ = case.__name__, case.__doc__
+    return run
+
+
+cases.run([told(case) for case in (sixteen_workers_with_eight_folders_and_a_clock, operations_up_to_20000,
+                                   retractions_of_the_same_files_by_eight_folders)], FOLDER, sys.argv[3:])
