@@ -91,7 +91,8 @@ def operations_up_to_20000(folder):
         link.close()
     line = "published 10000 retracted 10000 expired 0 held 0 rows 0 revision 20000\n"
     expect("the end", server.end(), (0, line))
-    expect("what is not done", os.path.exists(inbox + "/later") and os.listdir(inbox + "/later"), False)
+    later = inbox + "/later"
+    expect("what is not done", os.listdir(later) if os.path.exists(later) else [], [])
 
 
 def retractions_of_the_same_files_by_eight_folders(folder):
