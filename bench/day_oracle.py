@@ -14,7 +14,7 @@ def name_of(run):
 
 
 def content_of(run, shift):
-    """The file of a run, whose first time is so many hours after it."""
+    """The file of a run, whose first time is `shift` hours after it."""
     return FORM.content([EPOCH + run + STEP * (shift + number) for number in range(TIMES)])
 
 

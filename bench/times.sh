@@ -287,7 +287,7 @@ fn grid(alloc: Global, name: Bytes) -> Result<Decl, NoMemory> {
     Ok(Decl::Grid { name, array, maps })
 }
 
-/// So many Grids. The first is named `a`.
+/// `count` Grids. The first is named `a`.
 pub fn grids(alloc: Global, count: u32) -> Result<List<Decl>, NoMemory> {
     let mut decls = one(alloc, grid(alloc, Bytes::copy_of(alloc, b"a")?)?)?;
     for k in 1..count {
@@ -296,7 +296,7 @@ pub fn grids(alloc: Global, count: u32) -> Result<List<Decl>, NoMemory> {
     Ok(decls)
 }
 
-/// A text again and again, up to so many bytes, with commas between.
+/// A text again and again, up to `most` bytes, with commas between.
 pub fn again(alloc: Global, text: &[u8], most: usize) -> Result<Bytes, NoMemory> {
     let mut list = Bytes::copy_of(alloc, text)?;
     while list.len() < most {
@@ -306,7 +306,7 @@ pub fn again(alloc: Global, text: &[u8], most: usize) -> Result<Bytes, NoMemory>
     Ok(list)
 }
 
-/// The names of so many Grids, again and again, up to so many bytes.
+/// The names of `count` Grids, again and again, up to `most` bytes.
 pub fn names(alloc: Global, count: u32, most: usize) -> Result<Bytes, NoMemory> {
     let mut list = Bytes::copy_of(alloc, b"a")?;
     for _ in 0..64u8 {

@@ -43,7 +43,7 @@ def dataset(lines):
 
 
 def data(lines, parts, revision):
-    """The reply that has data; a part that is a number stands for so many zero bytes."""
+    """The reply that has data; a part that is a number is the length of a run of zero bytes."""
     parts = [dataset(lines) + b"Data:\n"] + parts
     head = head_of("200 OK", "data", revision, length_of(parts), media="application/octet-stream")
     return [head] + parts

@@ -14,7 +14,7 @@ FORM = Classic([("time", 0)], [axis()], records=1)
 
 
 def name_at(moment):
-    """The name of a file whose run is so many seconds after the beginning of 2020."""
+    """The name of a file whose run is `moment` seconds after the beginning of 2020."""
     return clock.strftime("gfs_%Y%m%d_%H%M.nc", clock.gmtime(EPOCH + moment))
 
 
