@@ -1,5 +1,5 @@
-.PHONY: serve test demo build quick plants package installs exits clients recipes proxy page restart faults beside first \
-    limits memory fuzz day
+.PHONY: serve test demo build quick plants package installs exits clients recipes proxy page restart faults beside many \
+    first limits memory fuzz day safety
 
 # The program's crate, and the sample files in its folder data/.
 SERVER = crates/fmrcd
@@ -58,9 +58,10 @@ package: $(if $(PROGRAM),,build)
 installs: $(if $(PROGRAM),,build)
 	tests/package.sh $(PROGRAM)
 
-# Runs the program as a person would, and compares exit statuses and lines.
+# Runs the program as a person would, and compares exit statuses and lines; and serves more clients than descriptors.
 exits: $(if $(PROGRAM),,build)
 	tests/exits.sh $(PROGRAM)
+	bench/few_descriptors.sh $(PROGRAM)
 
 # Reads from the program by the clients that users have, which it installs from the machine's Debian registry.
 clients: $(if $(PROGRAM),,build)
@@ -90,9 +91,14 @@ faults: $(if $(PROGRAM),,build)
 limits: $(if $(PROGRAM),,build)
 	tests/limits.sh $(PROGRAM)
 
-# Lets memory run out under the program, at each request for it in turn.
+# Compares the page on safety with the public calls of each crate.
+safety:
+	tests/safety_page.sh
+
+# Lets memory run out under the program, and under a publisher with threads, at each request for it in turn.
 memory: $(if $(PROGRAM),,build)
 	bench/out_of_memory.sh $(PROGRAM)
+	bench/refused_publisher.sh
 
 # How long `make fuzz` tries each of four ways, and how many minutes the day of `make day` takes.
 SECONDS = 3600
@@ -109,6 +115,11 @@ day: $(if $(PROGRAM),,build)
 # Measures the program beside nginx, which sends files of the same bytes.
 beside: $(if $(PROGRAM),,build)
 	bench/beside_nginx.sh $(PROGRAM)
+
+# The same while 10,000 connections are idle and 1,000 readers are slow. With `WORKERS=1` the targets `clients`, `proxy`
+# and `restart` have one worker a server, so that it holds all their connections.
+many: $(if $(PROGRAM),,build)
+	bench/many_links.sh $(PROGRAM)
 
 # Does `make serve` in a fresh clone, and opens what it says.
 first: $(if $(PROGRAM),,build)

@@ -22,8 +22,8 @@ AREA = RUN + ".dods?t%5B0:12%5D%5B100:299%5D%5B100:299%5D"
 TIMES, SIDE, LARGE = 13, 480, 4
 UNITS = {"": 1.0, "K": 1024.0, "M": 1024.0**2, "G": 1024.0**3}
 
-# What is to be reached of nginx, of requests and of bytes.
-AIMS = {"requests": 0.5, "bytes": 0.8}
+# What is to be reached of nginx. Rows of an area are gathered, which bench/slabs.sh measures beside a program in C.
+AIM, AREA_AIM = 0.85, 0.6
 
 
 def load(port, target, links):
@@ -69,16 +69,18 @@ class Arrivals:
 
 
 def compare(title, server, nginx, target, name, measure, links, turns):
-    """Loads both in turns, and shows the middle of each and of the ratios."""
+    """Loads both in turns, shows the middle of each and of the ratios, and returns whether the aim is reached."""
     both = []
     for _ in range(turns):
         both.append((load(server.port, target, links)[measure], load(nginx.port, name, links)[measure]))
     ratios = sorted(one / other for one, other in both)
     one, other = (statistics.median(column) for column in zip(*both))
     scale, unit = (1, "/s") if measure == "requests" else (1e6, " MB/s")
-    shown = "%-38s %d connections: %8.0f%s, nginx %8.0f%s, ratio %.2f (%.2f to %.2f), aim %.1f"
-    given = (statistics.median(ratios), ratios[0], ratios[-1], AIMS[measure])
+    shown = "%-38s %d connections: %8.0f%s, nginx %8.0f%s, ratio %.2f (%.2f to %.2f), aim %.2f%s"
+    middle, aim = statistics.median(ratios), AREA_AIM if target == AREA else AIM
+    given = (middle, ratios[0], ratios[-1], aim, "" if middle >= aim else ", MISSED")
     print(shown % ((title, links, one / scale, unit, other / scale, unit) + given), flush=True)
+    return middle >= aim
 
 
 def file_name(title):
@@ -86,13 +88,15 @@ def file_name(title):
 
 
 def run_loads(server, nginx, loads, measure, arriving, turns):
-    """All loads of a server, alone and while a file arrives each second."""
+    """All loads of a server, alone and while a file arrives each second. Whether all aims are reached."""
+    good = True
     for title, target in loads:
         for links in (1, 4):
             given = (server, nginx, target, "/" + file_name(title), measure, links, turns)
-            compare(title, *given)
+            good &= compare(title, *given)
             with Arrivals(server, *arriving):
-                compare(title + ", arrivals", *given)
+                good &= compare(title + ", arrivals", *given)
+    return good
 
 
 def delays(server, count):
@@ -145,17 +149,18 @@ def main():
     nginx = Nginx(os.path.join(folder, "nginx"), site, port, os.cpu_count())
 
     last = APART * (FILES - 1)
-    run_loads(small, nginx, small_loads, "requests", (name_of(last), file_of(last)), turns)
+    good = run_loads(small, nginx, small_loads, "requests", (name_of(last), file_of(last)), turns)
     last = APART * (LARGE - 1)
     resident = large.resident()
     again = large_files.file_of(last, TIMES, SIDE)
-    run_loads(large, nginx, large_loads, "bytes", (name_of(last), again), turns)
+    good &= run_loads(large, nginx, large_loads, "bytes", (name_of(last), again), turns)
     took = delays(small, 20)
     print("from a file's rename to a reply with it: %.0f ms, %.0f ms at most" % (statistics.mean(took), took[-1]))
     held = (FILES + 20) * len(file_of(0))
     print("small files: %.1f MB resident, %.1f MB of files" % (small.resident() / 1e6, held / 1e6))
     shown = "large files: %.1f MB resident, %.1f MB after all replies and arrivals, %.1f MB of files"
     print(shown % (resident / 1e6, large.resident() / 1e6, LARGE * len(content) / 1e6))
+    sys.exit(0 if good else 1)
 
 
 if __name__ == "__main__":

@@ -1,6 +1,7 @@
 #!/bin/sh
 # Copies crates, and those that they stand on by crates.txt, into a folder with a crates.txt of its own. There a crate
-# NAME may use them all, whose source the caller writes. What their checks kept is copied too.
+# NAME may use them all, whose source the caller writes. What their checks kept is copied too; edits that must fail are
+# left out.
 # Use: bench/crates.sh FOLDER NAME CRATE..
 set -eu
 top=$(cd "$(dirname "$0")/.." && pwd)
@@ -22,5 +23,6 @@ for crate; do
     esac
 done
 # shellcheck disable=SC2086  # several crates
-tar -C "$top/crates" --exclude=incremental -cf - $crates | tar -C "$folder/crates" -xf -
+tar -C "$top/crates" --exclude=incremental --exclude=must-fail -cf - $crates | tar -C "$folder/crates" -xf -
+cp "$top/HANDLES" "$folder/"
 echo "$name: $crates" >> "$folder/crates.txt"

@@ -13,11 +13,14 @@ import time
 
 import day_oracle
 from folder_server import Ended, FolderServer, Link, bring, wait_until
+from serve_replies import name_of
 
 PROGRAM, FOLDER, BRING_BACK, MINUTES = sys.argv[1:5]
 EVENTS = sys.argv[5:] or ["unreadable", "full", "descriptors", "killed"]
 LENGTH = 60 * float(MINUTES)
 WHILE = LENGTH / 60
+# How long a verdict is waited for: what couldn't be read is looked at again after a minute.
+PATIENCE = 90 + 3 * WHILE
 SERVERS, CLIENTS = 4, 200
 # How many runs a collection has at most, and how many changes come to it over the whole length.
 RUNS, CHANGES = 40, 500
@@ -80,7 +83,7 @@ class Collection:
         else:
             run, shift = 6 * 3600 * self.next, 0
             self.next += 1
-        name = day_oracle.name_of(run) + (".retract" if shift is None else "")
+        name = name_of(run) + (".retract" if shift is None else "")
         content = b""
         if shift is not None:
             content = day_oracle.content_of(run, shift)
@@ -94,7 +97,7 @@ class Collection:
                 time.sleep(0.1)
         self.log.add(run, shift)
         self.bring_until_it_is_there(name, content)
-        wait_until("%s is done" % name, lambda: os.path.exists(done), 30 + 3 * WHILE)
+        wait_until("%s is done" % name, lambda: os.path.exists(done), PATIENCE)
         note("operations")
 
     def bring_until_it_is_there(self, name, content):
@@ -115,9 +118,9 @@ class Collection:
         subprocess.run([BRING_BACK, self.inbox], check=True, stdout=subprocess.DEVNULL)
         self.log.begin_again()
         self.start()
-        names = [day_oracle.name_of(run) for run in self.log.held]
+        names = [name_of(run) for run in self.log.held]
         wait_until("what was held is back", lambda: all(
-            os.path.exists(os.path.join(self.inbox, "done", name)) for name in names), 60)
+            os.path.exists(os.path.join(self.inbox, "done", name)) for name in names), PATIENCE)
 
     def produce(self):
         try:
@@ -232,7 +235,7 @@ def happen(collections):
 
 def look_at_the_end(collection):
     """Each file lies where its verdict says, and memory and descriptors are as at the start."""
-    wanted = {day_oracle.name_of(run) for run in collection.log.held}
+    wanted = {name_of(run) for run in collection.log.held}
     found = {name for name in os.listdir(os.path.join(collection.inbox, "done")) if name.endswith(".nc")}
     if not wanted <= found:
         fail("collection %d: not in done: %r" % (collection.number, sorted(wanted - found)))
@@ -258,7 +261,7 @@ def main():
     happen(collections)
     over.set()
     for thread in threads:
-        thread.join(120)
+        thread.join(PATIENCE + 30)
     time.sleep(3)
     for collection in collections:
         try:

@@ -1,16 +1,11 @@
 """What a collection holds after each operation, and the reply that shows it."""
 import struct
-import time
 
 from classic import EPOCH, FLOAT, Classic, Variable, axis
 
 TIMES, STEP = 8, 3600
 FORM = Classic([("time", 0), ("y", 32), ("x", 32)], [axis(), Variable("v", FLOAT, [0, 1, 2])], records=TIMES)
 TARGET = b"/thredds/dodsC/gfs/gfs_best.ncd.dods?time,time_run"
-
-
-def name_of(run):
-    return time.strftime("gfs_%Y%m%d_%H%M.nc", time.gmtime(EPOCH + run))
 
 
 def content_of(run, shift):

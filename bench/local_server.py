@@ -79,7 +79,7 @@ class Server:
 
 
 MAIN = """%(user)sdaemon off; pid %(folder)s/pid; error_log %(folder)s/error.log; worker_processes %(processes)d;
-events { worker_connections 256; }
+events { worker_connections 4096; }
 http {
     sendfile on; tcp_nopush on; keepalive_requests 1000000; access_log off;
     client_body_temp_path %(folder)s/body; proxy_temp_path %(folder)s/proxy; fastcgi_temp_path %(folder)s/fastcgi;

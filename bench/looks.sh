@@ -8,7 +8,7 @@ trap 'rm -r "$folder"' EXIT
 top=$(cd "$(dirname "$0")/.." && pwd)
 "$top/bench/crates.sh" "$folder" looks fm_load fm_sample pub_snap
 cp "$top/HANDLES" "$folder/HANDLES"
-cp "$top/crates/server_tests/src/publishing/files.rt" "$top/crates/server_tests/src/publishing/probe.rt" "$folder/crates/looks/src/"
+cp "$top/crates/publishing_tests/src/sampled.rt" "$top/crates/publishing_tests/src/threads/files.rt" "$folder/crates/looks/src/"
 mkdir -p "$folder/crates/looks/proofs/row" "$folder/crates/looks/proofs/write_on"
 : > "$folder/crates/looks/proofs/Lib.antt"
 cat > "$folder/crates/looks/proofs/write_on/Invariants.antt" << 'TURNS'
@@ -37,17 +37,18 @@ ghost use Rattle.fm_model.specs.Site.{IsPrototype};
 ghost use Rattle.pub_snap.specs.Opening.{IsNamed};
 
 mod files;
-mod probe;
+mod sampled;
 
-use files::{Files, prototype};
-use fm_base::{Arc, List};
+use files::Files;
+use fm_base::{Arc, List, NoMemory};
 use fm_edition::Edition;
-use fm_model::{Op, Proto};
-use probe::HowMuch;
+use fm_model::{Op, Proto, Tally};
 use pub_look::{Look, Query};
 use pub_snap::{Blank, Desk, Name, Pass, Share, prepare};
+use sampled::prototype;
 use std::alloc::Global;
 use std::marker::Brand;
+use std::process::Abort;
 use std::rt::Clock;
 use std::sync::atomic::AtomicBool;
 use std::sync::atomic::Ordering::SeqCst;
@@ -59,6 +60,22 @@ use std::time::Instant;
 const LOOKS: u64 = 1_000_000;
 
 const WRITES: u64 = 1_000_000_000;
+
+// How much is held.
+struct HowMuch;
+
+impl Query for HowMuch {
+    type Out = Tally;
+
+    ghost use Rattle.std.specs.Prelude.{◌≡◌};
+    ghost use Rattle.fm_model.specs.Collection.{tally};
+
+    ghost says = { λ _ held _ out. out ≡ tally held.files };
+
+    fn answer(&self, _alloc: Global, edition: &Edition, _revision: u64) -> Result<Tally, NoMemory> {
+        Ok(edition.tally())
+    }
+}
 
 // A desk with its shares, the first of which counts what is published.
 struct Publisher<N: Name> {
@@ -130,7 +147,7 @@ fn look_and_write<N: Name + Send + Sync, R: Threads + Wait + Sync>(
 }
 
 // The nanoseconds that all looks of `passes` passes take.
-fn by_passes<N: Name + Send + Sync, R: Threads + Wait + Clock + Sync>(
+fn by_passes<N: Name + Send + Sync, R: Threads + Wait + Clock + Abort + Sync>(
     rt: &R,
     alloc: Global,
     blank: Blank,
@@ -141,7 +158,7 @@ fn by_passes<N: Name + Send + Sync, R: Threads + Wait + Clock + Sync>(
     requires some { 1 ≤ blank.shares }
     requires proto { proto ≡ N.proto }
 {
-    let files: Files<N> = Files::of(alloc, proto.get())?;
+    let files: Files<N> = Files::of(rt, alloc, proto.get());
     let start = Instant::now(rt)?;
     let (desk, mut passes, shares) = blank.open::<N>(alloc)?;
     let mut publisher = Publisher { desk, shares, files };
@@ -249,7 +266,7 @@ fn take_turns<R: Wait>(rt: &R, locked: &Locked) {
 }
 
 // The thousands of looks a second, by passes and by a Mutex.
-fn row<R: Threads + Wait + Clock + Sync>(
+fn row<R: Threads + Wait + Clock + Abort + Sync>(
     rt: &R,
     alloc: Global,
     proto: &Arc<Proto>,
@@ -269,7 +286,7 @@ fn row<R: Threads + Wait + Clock + Sync>(
 
 fn main(rt: HostRuntime) -> Result<(), Fail> {
     let alloc = rt.alloc();
-    let proto = prototype(alloc)?;
+    let proto = prototype(&rt, alloc);
     for readers in [1u32, 2, 4] {
         for writing in [false, true] {
             let (passes, locked) = row(&rt, alloc, &proto, readers, writing)?;

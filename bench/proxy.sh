@@ -4,8 +4,9 @@
 # that the page, the fields for other sites and the log are there; and that connections are kept on both sides. While
 # files arrive, no reply may be older than one that any client had before it asked, also from the cache, nor may one
 # come from the cache that is of before the server was started again.
-# Use: bench/proxy.sh [PROGRAM]; by default the proved program, which 'make build' leaves. It ends within a minute, with
-# status 0 where all is as it must be. nginx and openssl are installed where they are missing.
+# Use: [WORKERS=1] bench/proxy.sh [PROGRAM]; by default the proved program, which 'make build' leaves, with 8 workers a
+# server. It ends within a minute, with status 0 where all is as it must be. nginx and openssl are installed where they
+# are missing.
 set -eu
 top=$(cd "$(dirname "$0")/.." && pwd)
 program=${1:-$top/crates/fmrcd/out/fmrcd}

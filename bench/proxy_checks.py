@@ -15,6 +15,8 @@ import large_files
 from local_server import TOP, Nginx, Server, free_port, stop
 from serve_replies import APART, HOUR, file_of, name_of, reply_of, target_of
 
+# The workers of a server.
+WORKERS = int(os.environ.get("WORKERS", "8"))
 # How many files there are before the clients come, and how many arrive while they read.
 BEFORE, ARRIVING, CLIENTS = 20, 40, 4
 # How long nginx keeps a reply, and how much later a server may start again.
@@ -254,7 +256,7 @@ def check_restart(program, folder, server, nginx):
     stop(server.process)
     time.sleep(PAUSE)
     held = [name for name in os.listdir(os.path.join(server.inbox, "done"))]
-    other = Server(program, folder, file_of(0), 8, server.port)
+    other = Server(program, folder, file_of(0), WORKERS, server.port)
     for number in range(len(held)):
         run = APART * (200 + number)
         other.bring(name_of(run), file_of(run))
@@ -277,7 +279,7 @@ def check_large(program, folder, secure):
     os.makedirs(folder)
     make_certificate(folder)
     content = large_files.file_of(0, 13, 480)
-    server = Server(program, os.path.join(folder, "server"), content, 8)
+    server = Server(program, os.path.join(folder, "server"), content, WORKERS)
     server.arrive("gfs_20200101_0000.nc", content)
     port = free_port()
     nginx = Nginx(folder, site_of(server, server, port, secure, folder), port, 2)
@@ -298,8 +300,8 @@ def main():
     program, folder = os.path.abspath(sys.argv[1]), sys.argv[2]
     signal.signal(signal.SIGTERM, lambda *_: sys.exit("stopped"))
     make_certificate(folder)
-    server = Server(program, os.path.join(folder, "first"), file_of(0), 8)
-    waves = Server(program, os.path.join(folder, "waves"), file_of(0), 8, collection="waves")
+    server = Server(program, os.path.join(folder, "first"), file_of(0), WORKERS)
+    waves = Server(program, os.path.join(folder, "waves"), file_of(0), WORKERS, collection="waves")
     port = free_port()
     nginx = Nginx(folder, site_of(server, waves, port, free_port(), folder), port, 2)
     check_page(nginx)

@@ -4,7 +4,8 @@
 # line and the status have to be right. Beside it another server takes a file back and lets old runs expire. It shows
 # how much was served, how long a file takes from its rename to its verdict, and the memory at the end, which may be
 # that of the files and 64 MiB.
-# Use: bench/serve.sh [PROGRAM]; by default the proved program, which 'make build' leaves. It ends within two minutes.
+# Use: [WORKERS=1] bench/serve.sh [PROGRAM]; by default the proved program, which 'make build' leaves, with 4 workers.
+# It ends within two minutes.
 set -eu
 top=$(cd "$(dirname "$0")/.." && pwd)
 program=${1:-$top/crates/fmrcd/out/fmrcd}

@@ -14,8 +14,9 @@ from serve_replies import APART, EPOCH, FILES, HOUR, OFFSETS, file_of, name_of, 
 BATCH, BATCH_SECONDS = 3, 0.3
 # For how many seconds each client reads, over how many connections, with how many requests on each, so long apart.
 CLIENTS, SECONDS, TURNS, ASKED, PAUSE = 16, 60.0, 120, 50, 0.002
-# More connections than the clients make; those that are left are opened at the end.
-WORKERS, CONNECTIONS = 4, 500
+# Workers, and how many connections each takes: more than the clients make. Those that are left are opened at the end.
+WORKERS = int(os.environ.get("WORKERS", "4"))
+CONNECTIONS = 2000 // WORKERS
 # After how many seconds all of this is given up, and how many bytes more than the files may be resident.
 LIMIT, ROOM = 115.0, 64 << 20
 

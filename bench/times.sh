@@ -1,153 +1,22 @@
 #!/bin/sh
 # Measures what an edition and a projection owe beside their bytes, and compares it with goals: a put of 4,096 times
 # where 63 files have the same days, the structure text of an offset and of a forecast time over 4,096 runs, the best time
-# series with a least offset, a put among 40 and among 4,096 files, and 8,000 clauses over 600 variables.
+# series with a least offset, a put and what is asked by a name among 40 and among 4,096 files, and 8,000 clauses over
+# 600 variables.
 # Each number is the least of some turns, in microseconds. Its status is 1 where a goal is missed, 2 where a step fails.
-# It wants a quiet machine.
+# It wants a quiet machine, and uses what the gate proved there (bench/build.sh).
 # Use: bench/times.sh.
 set -eu
 top=$(cd "$(dirname "$0")/.." && pwd)
 folder=$(mktemp -d)
 trap 'rm -r "$folder"' EXIT
 "$top/bench/crates.sh" "$folder" times_bench fm_views fm_load fm_sample dap_ce dap_project dap_dds
-
-# Files of 64 and of 4,096 times, each of which is its prototype too. Prints where the run and the first time stand.
-places=$(python3 - "$folder" << 'PYTHON'
-import struct
-import sys
-
-
-def words(*numbers):
-    return struct.pack(">%dI" % len(numbers), *numbers)
-
-
-def text(value):
-    return words(len(value)) + value + b"\0" * (-len(value) % 4)
-
-
-def attribute(name, value):
-    return text(name) + words(2) + text(value)
-
-
-def made(records):
-    begin = 0
-    for _ in range(2):
-        units = attribute(b"units", b"seconds since 2020-01-01 00:00:00")
-        dims = words(10, 3) + text(b"time") + words(0) + text(b"y") + words(1) + text(b"x") + words(1)
-        time = text(b"time") + words(1, 0, 12, 1) + units + words(4, 4, begin + 4)
-        run = text(b"run") + words(0, 12, 2) + attribute(b"standard_name", b"forecast_reference_time") + units
-        field = text(b"v") + words(3, 0, 1, 2, 0, 0, 5, 4, begin + 8)
-        head = b"CDF\1" + words(records) + dims + words(0, 0, 11, 3) + time + run + words(4, 4, begin) + field
-        begin = len(head)
-    return head + words(0) + b"".join(words(60 * record, 0) for record in range(records)), begin
-
-
-for name, records in (("few.nc", 64), ("many.nc", 4096)):
-    bytes, begin = made(records)
-    with open("%s/%s" % (sys.argv[1], name), "wb") as file:
-        file.write(bytes)
-print(begin, begin + 4)
-PYTHON
-)
-
-cat > "$folder/crates/times_bench/src/made.rt" << 'PROGRAM'
-//! Made files, and the clock.
-
-use fm_base::{Bytes, List, NoMemory, put_decimal};
-use std::alloc::Global;
-use std::rt::Clock;
-use std::time::Instant;
-
-/// Something that no step of this program meets.
-#[derive(Clone, Copy, Debug)]
-pub struct Untaken;
-
-impl From<NoMemory> for Untaken {
-    fn from(_error: NoMemory) -> Untaken {
-        Untaken
-    }
-}
-
-/// A file to be copied, where its run and its first time stand, and how many times it has.
-#[derive(Clone, Copy)]
-pub struct Made<'a> {
-    pub bytes: &'a [u8],
-    pub run_at: usize,
-    pub time_at: usize,
-    pub times: u32,
-}
-
-/// The run of a file, its first time, and the seconds from one time to the next, in the first half and after it.
-#[derive(Clone, Copy)]
-pub struct Shape {
-    pub run: i64,
-    pub first: i64,
-    pub step: i64,
-    pub later: i64,
-}
-
-impl Made<'_> {
-    /// The file of a shape.
-    pub fn bytes(&self, alloc: Global, shape: &Shape) -> Result<Bytes, NoMemory> {
-        let mut bytes = Bytes::copy_of(alloc, self.bytes)?;
-        set(&mut bytes, self.run_at, shape.run);
-        let mut at = self.time_at;
-        let mut time = shape.first;
-        for record in 0..self.times {
-            set(&mut bytes, at, time);
-            at = at.wrapping_add(8);
-            let step = if record < self.times / 2 { shape.step } else { shape.later };
-            time = time.wrapping_add(step);
-        }
-        Ok(bytes)
-    }
-}
-
-// Sets the four bytes at a place.
-fn set(bytes: &mut Bytes, at: usize, number: i64) {
-    let mut place = at;
-    let [_, _, _, _, a, b, c, d] = number.to_be_bytes();
-    for byte in [a, b, c, d] {
-        if let Some(old) = bytes.items.get_mut(place) {
-            *old = byte;
-        }
-        place = place.wrapping_add(1);
-    }
-}
-
-/// A name with a number.
-pub fn name_of(alloc: Global, front: &[u8], k: u32) -> Result<Bytes, NoMemory> {
-    let mut name = Bytes::copy_of(alloc, front)?;
-    put_decimal(alloc, i128::from(k), &mut name)?;
-    Ok(name)
-}
-
-/// A list of one item.
-pub fn one<T: Drop>(alloc: Global, item: T) -> Result<List<T>, NoMemory> {
-    let mut list = List::new(alloc);
-    list.push(item)?;
-    Ok(list)
-}
-
-/// The present moment.
-pub fn now<R: Clock>(rt: &R) -> Result<Instant, Untaken> {
-    match Instant::now(rt) {
-        Ok(moment) => Ok(moment),
-        Err(_) => Err(Untaken),
-    }
-}
-
-/// The nanoseconds since a moment.
-pub fn since<R: Clock>(rt: &R, start: &Instant) -> Result<u64, Untaken> {
-    match start.elapsed(rt) {
-        Ok(took) => Ok((took.as_nanos() % 1_000_000_000_000_000) as u64),
-        Err(_) => Err(Untaken),
-    }
-}
-PROGRAM
+"$top/bench/made_files.sh" "$folder" times_bench
 
 cat > "$folder/crates/times_bench/src/editions.rt" << 'PROGRAM'
 //! Puts, and what a view costs.
+ghost use Rattle.std.specs.Prelude.{IfOk};
+ghost use Rattle.fm_edition.specs.Held.{OpFits};
 
 use crate::made::{Made, Shape, Untaken, name_of, now, since};
 use dap_dds::dds_text;
@@ -155,7 +24,7 @@ use fm_base::{Arc, Bytes};
 use fm_dataset::decls;
 use fm_edition::Edition;
 use fm_load::load;
-use fm_model::{Op, ViewName};
+use fm_model::{MAX_FILE_BYTES, Op, ViewName};
 use fm_sample::edition_of;
 use fm_views::{row_count, rows};
 use std::alloc::Global;
@@ -169,22 +38,32 @@ pub fn empty(alloc: Global, made: &Made<'_>) -> Result<Edition, Untaken> {
     }
 }
 
-// The operation that puts a file of a shape under the name of a number.
-fn op_of(alloc: Global, edition: &Edition, made: &Made<'_>, k: u32, shape: &Shape) -> Result<Op, Untaken> {
-    let bytes = made.bytes(alloc, shape)?;
-    if bytes.len() > 536_870_912 {
+/// A file of a shape, which is put under the name of a number.
+#[derive(Clone, Copy)]
+pub struct Put<'a> {
+    pub made: Made<'a>,
+    pub k: u32,
+    pub shape: Shape,
+}
+
+// The operation of a put.
+fn op_of(alloc: Global, edition: &Edition, put: &Put<'_>) -> Result<Op, Untaken>
+    ensures { IfOk result (OpFits edition.now.proto) }
+{
+    let bytes = put.made.bytes(alloc, &put.shape)?;
+    if bytes.len() as u64 > MAX_FILE_BYTES {
         return Err(Untaken);
     }
-    let name = name_of(alloc, b"made-", k)?;
+    let name = name_of(alloc, b"made-", put.k)?;
     match load(alloc, name.as_slice(), bytes, edition.proto().get()) {
         Ok(file) => Ok(Op::Put(Arc::new(alloc, file)?)),
         Err(_) => Err(Untaken),
     }
 }
 
-/// The edition after a file of a shape is put under the name of a number.
-pub fn put(alloc: Global, edition: &Edition, made: &Made<'_>, k: u32, shape: &Shape) -> Result<Edition, Untaken> {
-    let op = op_of(alloc, edition, made, k, shape)?;
+/// The edition after a put.
+pub fn after(alloc: Global, edition: &Edition, put: &Put<'_>) -> Result<Edition, Untaken> {
+    let op = op_of(alloc, edition, put)?;
     match edition.after(alloc, &op) {
         Ok(next) => Ok(next),
         Err(_) => Err(Untaken),
@@ -192,25 +71,51 @@ pub fn put(alloc: Global, edition: &Edition, made: &Made<'_>, k: u32, shape: &Sh
 }
 
 /// How long a put takes, with the end of the edition that it makes.
-pub fn put_time<R: Clock>(
-    rt: &R,
-    alloc: Global,
-    edition: &Edition,
-    made: &Made<'_>,
-    k: u32,
-    shape: &Shape,
-) -> Result<u64, Untaken> {
-    let op = op_of(alloc, edition, made, k, shape)?;
+pub fn put_time<R: Clock>(rt: &R, alloc: Global, edition: &Edition, put: &Put<'_>) -> Result<u64, Untaken> {
+    let mut least = u64::MAX;
+    for _ in 0..9u8 {
+        least = least.min(one_put(rt, alloc, edition, put)?);
+    }
+    Ok(least)
+}
+
+fn one_put<R: Clock>(rt: &R, alloc: Global, edition: &Edition, put: &Put<'_>) -> Result<u64, Untaken> {
+    let op = op_of(alloc, edition, put)?;
+    let start = now(rt)?;
+    match edition.after(alloc, &op) {
+        Ok(_next) => {}
+        Err(_) => return Err(Untaken),
+    }
+    since(rt, &start)
+}
+
+/// How long a hundred questions by a held name take: whether it is held, and whether a put under it would pass a limit.
+pub fn names_time<R: Clock>(rt: &R, alloc: Global, edition: &Edition, put: &Put<'_>) -> Result<u64, Untaken> {
+    let op = op_of(alloc, edition, put)?;
+    let name = name_of(alloc, b"made-", put.k)?;
     let mut least = u64::MAX;
     for _ in 0..9u8 {
         let start = now(rt)?;
-        let next = edition.after(alloc, &op);
-        if next.is_err() {
-            return Err(Untaken);
+        for _ in 0..100u8 {
+            if !edition.holds(name.as_slice()) || edition.full_at(&op).is_some() {
+                return Err(Untaken);
+            }
         }
         least = least.min(since(rt, &start)?);
     }
     Ok(least)
+}
+
+// The structure text of a view.
+fn structure(alloc: Global, edition: &Edition, view: &ViewName) -> Result<Bytes, Untaken> {
+    let count = row_count(alloc, edition, view)?;
+    if count == 0 {
+        return Err(Untaken);
+    }
+    let decls = decls(alloc, edition.proto().get(), count)?;
+    let mut text = Bytes::new(alloc);
+    dds_text(alloc, b"made", &decls, &mut text)?;
+    Ok(text)
 }
 
 /// How long the structure text of a view takes.
@@ -218,14 +123,8 @@ pub fn structure_time<R: Clock>(rt: &R, alloc: Global, edition: &Edition, view: 
     let mut least = u64::MAX;
     for _ in 0..50u8 {
         let start = now(rt)?;
-        let count = row_count(alloc, edition, view)?;
-        let decls = decls(alloc, edition.proto().get(), count)?;
-        let mut text = Bytes::new(alloc);
-        dds_text(alloc, b"made", &decls, &mut text)?;
+        let _text = structure(alloc, edition, view)?;
         least = least.min(since(rt, &start)?);
-        if count == 0 {
-            return Err(Untaken);
-        }
     }
     Ok(least)
 }
@@ -247,7 +146,7 @@ PROGRAM
 cat > "$folder/crates/times_bench/src/clauses.rt" << 'PROGRAM'
 //! A constraint of many clauses over many variables.
 
-use crate::made::{Untaken, name_of, now, one, since};
+use crate::made::{Untaken, name_of, now, since};
 use dap_ce::read_constraint;
 use dap_model::{Array, DapKind, Decl};
 use dap_project::project;
@@ -255,6 +154,13 @@ use fm_base::{Bytes, List, NoMemory};
 use nc_model::Dim;
 use std::alloc::Global;
 use std::rt::Clock;
+
+// A list of one item.
+fn one<T: Drop>(alloc: Global, item: T) -> Result<List<T>, NoMemory> {
+    let mut list = List::new(alloc);
+    list.push(item)?;
+    Ok(list)
+}
 
 fn dim(alloc: Global, name: &[u8]) -> Result<Dim, NoMemory> {
     Ok(Dim {
@@ -299,7 +205,10 @@ pub fn grids(alloc: Global, count: u32) -> Result<List<Decl>, NoMemory> {
 /// A text again and again, up to `most` bytes, with commas between.
 pub fn again(alloc: Global, text: &[u8], most: usize) -> Result<Bytes, NoMemory> {
     let mut list = Bytes::copy_of(alloc, text)?;
-    while list.len() < most {
+    for _ in 0..most {
+        if list.len() >= most {
+            return Ok(list);
+        }
         list.append(b",")?;
         list.append(text)?;
     }
@@ -347,7 +256,7 @@ mod editions;
 mod made;
 
 use clauses::{again, grids, names, project_time};
-use editions::{empty, put, put_time, rows_time, structure_time};
+use editions::{Put, after, empty, names_time, put_time, rows_time, structure_time};
 use fm_edition::Edition;
 use fm_model::ViewName;
 use made::{Made, Shape, Untaken};
@@ -369,30 +278,6 @@ fn uneven(k: u32) -> Shape {
     }
 }
 
-// A put of as many times as a file may have, beside 63 such files of the same days.
-fn puts_of_many<R: Print + Clock>(rt: &R, alloc: Global, made: &Made<'_>) -> Result<(), Untaken> {
-    let mut edition = empty(alloc, made)?;
-    for k in 0..63 {
-        edition = put(alloc, &edition, made, k, &uneven(k))?;
-    }
-    say(rt, "put_many", put_time(rt, alloc, &edition, made, 63, &uneven(63))?);
-    say(rt, "put_many_again", put_time(rt, alloc, &edition, made, 62, &uneven(62))?);
-    let mut moved = uneven(62);
-    moved.first = 3_721;
-    say(rt, "put_many_moved", put_time(rt, alloc, &edition, made, 62, &moved)?);
-    Ok(())
-}
-
-// A run each six hours, with times an hour apart from it.
-fn hourly(k: u32) -> Shape {
-    Shape {
-        run: i64::from(k).wrapping_mul(21_600),
-        first: i64::from(k).wrapping_mul(21_600),
-        step: 3_600,
-        later: 3_600,
-    }
-}
-
 // A run each minute, all with the same times.
 fn together(k: u32) -> Shape {
     Shape {
@@ -403,92 +288,147 @@ fn together(k: u32) -> Shape {
     }
 }
 
-fn files(alloc: Global, made: &Made<'_>, count: u32, same: bool) -> Result<Edition, Untaken> {
-    let mut edition = empty(alloc, made)?;
+// How the runs and the times of files lie.
+#[derive(Clone, Copy)]
+enum Lie {
+    Uneven,
+    Together,
+    Hourly,
+}
+
+fn put_of(made: Made<'_>, lie: Lie, k: u32) -> Put<'_> {
+    let shape = match lie {
+        Lie::Uneven => uneven(k),
+        Lie::Together => together(k),
+        Lie::Hourly => Shape::hourly(21_600, k),
+    };
+    Put { made, k, shape }
+}
+
+// The edition of some files.
+fn files(alloc: Global, made: Made<'_>, lie: Lie, count: u32) -> Result<Edition, Untaken> {
+    let mut edition = empty(alloc, &made)?;
     for k in 0..count {
-        let shape = if same { together(k) } else { hourly(k) };
-        edition = put(alloc, &edition, made, k, &shape)?;
+        edition = after(alloc, &edition, &put_of(made, lie, k))?;
     }
     Ok(edition)
 }
 
-fn views<R: Print + Clock>(rt: &R, alloc: Global, made: &Made<'_>) -> Result<(), Untaken> {
-    let edition = files(alloc, made, 4_096, false)?;
-    say(rt, "best", structure_time(rt, alloc, &edition, &ViewName::Best)?);
-    say(rt, "best_from_0", structure_time(rt, alloc, &edition, &ViewName::BestFrom(0))?);
-    say(rt, "best_from_6h", structure_time(rt, alloc, &edition, &ViewName::BestFrom(21_600))?);
-    say(rt, "offset", structure_time(rt, alloc, &edition, &ViewName::Offset(7_200))?);
-    say(rt, "offset_last", structure_time(rt, alloc, &edition, &ViewName::Offset(226_800))?);
-    say(rt, "forecast", structure_time(rt, alloc, &edition, &ViewName::Forecast(44_240_400))?);
-    say(rt, "best_rows", rows_time(rt, alloc, &edition, &ViewName::Best)?);
-    say(rt, "best_from_0_rows", rows_time(rt, alloc, &edition, &ViewName::BestFrom(0))?);
-    say(rt, "best_from_6h_rows", rows_time(rt, alloc, &edition, &ViewName::BestFrom(21_600))?);
-    say(rt, "offset_rows", rows_time(rt, alloc, &edition, &ViewName::Offset(7_200))?);
-    say(rt, "put_among_4096", put_time(rt, alloc, &edition, made, 4_095, &hourly(4_095))?);
+// A put of as many times as a file may have, beside 63 such files of the same days.
+fn puts_of_many<R: Print + Clock>(rt: &R, alloc: Global, made: Made<'_>) -> Result<(), Untaken> {
+    let edition = files(alloc, made, Lie::Uneven, 63)?;
+    let mut put = put_of(made, Lie::Uneven, 63);
+    say(rt, "put_many", put_time(rt, alloc, &edition, &put)?);
+    put = put_of(made, Lie::Uneven, 62);
+    say(rt, "put_many_again", put_time(rt, alloc, &edition, &put)?);
+    put.shape.first = 3_721;
+    say(rt, "put_many_moved", put_time(rt, alloc, &edition, &put)?);
     Ok(())
 }
 
-fn same_times<R: Print + Clock>(rt: &R, alloc: Global, made: &Made<'_>) -> Result<(), Untaken> {
-    let edition = files(alloc, made, 4_096, true)?;
+fn structures<R: Print + Clock>(rt: &R, alloc: Global, edition: &Edition) -> Result<(), Untaken> {
+    for (name, view) in [
+        ("best", ViewName::Best),
+        ("best_from_0", ViewName::BestFrom(0)),
+        ("best_from_6h", ViewName::BestFrom(21_600)),
+        ("offset", ViewName::Offset(7_200)),
+        ("offset_last", ViewName::Offset(226_800)),
+        ("forecast", ViewName::Forecast(44_240_400)),
+    ] {
+        say(rt, name, structure_time(rt, alloc, edition, &view)?);
+    }
+    Ok(())
+}
+
+fn all_rows<R: Print + Clock>(rt: &R, alloc: Global, edition: &Edition) -> Result<(), Untaken> {
+    for (name, view) in [
+        ("best_rows", ViewName::Best),
+        ("best_from_0_rows", ViewName::BestFrom(0)),
+        ("best_from_6h_rows", ViewName::BestFrom(21_600)),
+        ("offset_rows", ViewName::Offset(7_200)),
+    ] {
+        say(rt, name, rows_time(rt, alloc, edition, &view)?);
+    }
+    Ok(())
+}
+
+fn same_times<R: Print + Clock>(rt: &R, alloc: Global, made: Made<'_>) -> Result<(), Untaken> {
+    let edition = files(alloc, made, Lie::Together, 4_096)?;
     say(rt, "offset_together", structure_time(rt, alloc, &edition, &ViewName::Offset(480_000))?);
     say(rt, "forecast_together", structure_time(rt, alloc, &edition, &ViewName::Forecast(601_200))?);
     say(rt, "forecast_together_rows", rows_time(rt, alloc, &edition, &ViewName::Forecast(601_200))?);
     Ok(())
 }
 
-fn few_files<R: Print + Clock>(rt: &R, alloc: Global, made: &Made<'_>) -> Result<(), Untaken> {
-    let edition = files(alloc, made, 39, false)?;
-    say(rt, "put_among_40", put_time(rt, alloc, &edition, made, 39, &hourly(39))?);
+// What a name costs among some files, with one more that is put again and again.
+fn names_among<R: Print + Clock>(rt: &R, alloc: Global, edition: &Edition, put: &Put<'_>) -> Result<(), Untaken> {
+    let count = edition.tally().files;
+    say_among(rt, "put", count, put_time(rt, alloc, edition, put)?);
+    say_among(rt, "names", count, names_time(rt, alloc, edition, put)?);
     Ok(())
+}
+
+fn say_among<R: Print>(rt: &R, name: &str, count: u32, nanos: u64) {
+    let _ = println!(rt; "{name}_among_{count} {nanos}");
+}
+
+// The edition of so many files an hour apart, and what a name costs in it.
+fn hourly<R: Print + Clock>(rt: &R, alloc: Global, made: Made<'_>, count: u32) -> Result<Edition, Untaken> {
+    let last = put_of(made, Lie::Hourly, count.wrapping_sub(1));
+    let before = files(alloc, made, Lie::Hourly, count.wrapping_sub(1))?;
+    say_among(rt, "put_new", count, put_time(rt, alloc, &before, &last)?);
+    let edition = after(alloc, &before, &last)?;
+    names_among(rt, alloc, &edition, &last)?;
+    Ok(edition)
 }
 
 fn constraints<R: Print + Clock>(rt: &R, alloc: Global) -> Result<(), Untaken> {
     let decls = grids(alloc, 600)?;
     say(rt, "one_clause", project_time(rt, alloc, &decls, b"v300")?);
-    say(rt, "same_clauses", project_time(rt, alloc, &decls, again(alloc, b"a", 16_384)?.as_slice())?);
-    say(rt, "slab_clauses", project_time(rt, alloc, &decls, again(alloc, b"a[1][2][3]", 16_384)?.as_slice())?);
-    say(rt, "part_clauses", project_time(rt, alloc, &decls, again(alloc, b"a.x", 16_384)?.as_slice())?);
-    say(rt, "all_names", project_time(rt, alloc, &decls, names(alloc, 600, 16_384)?.as_slice())?);
+    for (name, text) in [("same_clauses", "a"), ("slab_clauses", "a[1][2][3]"), ("part_clauses", "a.x")] {
+        let list = again(alloc, text.as_bytes(), 16_384)?;
+        say(rt, name, project_time(rt, alloc, &decls, list.as_slice())?);
+    }
+    let list = names(alloc, 600, 16_384)?;
+    say(rt, "all_names", project_time(rt, alloc, &decls, list.as_slice())?);
     Ok(())
 }
 
-fn shown<R: Print + Clock>(rt: &R, alloc: Global, few: &Made<'_>, many: &Made<'_>) -> Result<(), Untaken> {
+fn shown<R: Print + Clock>(rt: &R, alloc: Global, few: Made<'_>, many: Made<'_>) -> Result<(), Untaken> {
     constraints(rt, alloc)?;
-    few_files(rt, alloc, few)?;
+    let _few = hourly(rt, alloc, few, 40)?;
     puts_of_many(rt, alloc, many)?;
     same_times(rt, alloc, few)?;
-    views(rt, alloc, few)
+    let edition = hourly(rt, alloc, few, 4_096)?;
+    structures(rt, alloc, &edition)?;
+    all_rows(rt, alloc, &edition)
 }
 
 fn main(rt: HostRuntime) -> io::Result<()> {
-    let few = fs::read(&rt, "few.nc")?;
-    let many = fs::read(&rt, "many.nc")?;
+    let mut files = Vec::new(rt.alloc());
+    for path in env::args(&rt)?.skip(1) {
+        files.push(fs::read(&rt, path.as_str())?)?;
+    }
+    let (Some(many), Some(few)) = (files.pop(), files.pop()) else {
+        return Ok(());
+    };
     let few = Made {
         bytes: few.as_slice(),
-        run_at: RUN_AT,
-        time_at: TIME_AT,
         times: 64,
     };
     let many = Made {
         bytes: many.as_slice(),
-        run_at: RUN_AT,
-        time_at: TIME_AT,
         times: 4_096,
     };
-    if shown(&rt, rt.alloc(), &few, &many).is_err() {
+    if shown(&rt, rt.alloc(), few, many).is_err() {
         println!(rt; "a step failed")?;
     }
     Ok(())
 }
 PROGRAM
-# shellcheck disable=SC2086  # two numbers
-set -- $places
-sed -i "s/RUN_AT/$1/; s/TIME_AT/$2/" "$folder/crates/times_bench/src/main.rt"
-(cd "$folder/crates/times_bench" && rt check > "$folder/build.log" 2>&1 && rt run -- > "$folder/build.log" 2>&1) || {
-    [ -x "$folder/crates/times_bench/out/times_bench" ] || { cat "$folder/build.log" >&2; exit 2; }
-}
+program=$("$top/bench/build.sh" "$folder" times_bench)
 cd "$folder"
-"$folder/crates/times_bench/out/times_bench" > shown
+"$program" few.nc many.nc > shown
 cat > goals << 'GOALS'
 put_many 5000
 put_many_again 5000
@@ -517,10 +457,15 @@ for name, nanos in shown.items():
     print("%s: %.1f us%s" % (name, micros, note))
     if micros > goal:
         missed.append(name)
-few, many = (int(shown.get(name, 0)) for name in ("put_among_40", "put_among_4096"))
-if many > 2 * few:
-    missed.append("put_among_4096")
-    print("a put among 4,096 files takes %.1f times one among 40: MISSED" % (many / max(few, 1)))
-print("a step failed" if open("shown").read().endswith("a step failed\n") else "missed: %d" % len(missed))
+pairs = [("%s_among_4096" % step, "%s_among_40" % step, 2) for step in ("put_new", "put", "names")]
+for name, other, most in pairs + [("best_from_0", "best", 1.5)]:
+    ratio = int(shown.get(name, 0)) / max(int(shown.get(other, 0)), 1)
+    print("%s: %.2f times %s (goal %.1f%s)" % (name, ratio, other, most, ", MISSED" if ratio > most else ""))
+    if ratio > most:
+        missed.append(name)
+if open("shown").read().endswith("a step failed\n"):
+    print("a step failed")
+    sys.exit(2)
+print("missed: %d" % len(missed))
 sys.exit(1 if missed else 0)
 PYTHON

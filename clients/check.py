@@ -15,7 +15,7 @@ import views
 
 CLIENTS = [netcdf_tools.Ncdump, netcdf_tools.Nccopy, other_tools.Getdap, netcdf_tools.Ncks, other_tools.Cdo,
            netcdf_tools.Python, netcdf_tools.Xarray]
-WORKERS = 4
+WORKERS = int(os.environ.get("WORKERS", "4"))
 
 
 class Check:

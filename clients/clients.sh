@@ -6,7 +6,8 @@
 # whether what docs/CLIENTS.md says that a client cannot do is still so.
 # Clients that are missing are installed by apt-get, which asks for root. It ends within four minutes after that, with
 # status 0 where nothing differs.
-# Use: clients/clients.sh [PROGRAM]; by default the proved program, which 'make build' leaves.
+# Use: [WORKERS=1] clients/clients.sh [PROGRAM]; by default the proved program, which 'make build' leaves, with 4
+# workers.
 set -eu
 top=$(cd "$(dirname "$0")/.." && pwd)
 program=${1:-$top/crates/fmrcd/out/fmrcd}

@@ -1,7 +1,6 @@
 """What docs/CLIENTS.md says that a client cannot do: a line says whether it is still so. None of it fails a run."""
 import os
 import tempfile
-import time
 
 import netCDF4
 import numpy
@@ -12,7 +11,7 @@ from tools import Failed, cdl_values, run
 
 LETTERS, WIDE = 100, 100000
 TEXTS = ["x" * LETTERS, "y" * 70]
-WORKERS = 2
+WORKERS = int(os.environ.get("WORKERS", "2"))
 # The second of January in seconds from the epoch.
 DAY_2 = 126316800
 
@@ -52,16 +51,6 @@ def texts(address):
     return cdl_values(run("ncdump", "-v", "remark", address))["remark"]
 
 
-def waits(address):
-    """Whether one open dataset more than there are workers is only served once the server gives up an idle one."""
-    start = time.monotonic()
-    held = [netCDF4.Dataset(address) for _ in range(WORKERS + 1)]
-    took = time.monotonic() - start
-    for data in held:
-        data.close()
-    return 20 < took < 40
-
-
 def mislabels(served, path):
     """Whether a dataset whose times were read shows the first value of a run that came later under its own time."""
     with netCDF4.Dataset(served.base + "fc_best.ncd") as data:
@@ -90,7 +79,6 @@ def check(program):
                 "netCDF library: `odd name` is `odd%20name`": 'flag:odd%20name = "v"' in run("ncdump", "-h", best),
                 "libdap: an attribute that isn't finite is refused": "not a Float64" in run("getdap", "-a", best),
                 "CDO: a byte of -1 is 255": set(run("cdo", "-s", "output", "-selname,flag", best).split()) == {"255"},
-                "one dataset more than workers waits for 30 s": waits(best),
                 "an open dataset shows new rows under old times": mislabels(served, write(folder, 1, [0, 6])),
             }
     for what, so in known.items():

@@ -9,6 +9,7 @@ import netCDF4
 import server
 from tools import TOKEN, Failed, cdl_values, run
 
+WORKERS = int(os.environ.get("WORKERS", "4"))
 SIDE, TIMES, HOURS = 4096, 5, 6
 VALUES = [0, 1, 2, 3, 1000, 1001, 1002, 1003, 1004]
 SLAB = "[0:8][%d][%d]" % (SIDE - 1, SIDE - 1)
@@ -124,7 +125,7 @@ def check(program):
         out = os.path.join(folder, "out.nc")
         paths = write(folder)
         values = [str(value) for value in VALUES]
-        with server.Server(program, os.path.join(folder, "limits"), paths[0], 4) as served:
+        with server.Server(program, os.path.join(folder, "limits"), paths[0], WORKERS) as served:
             for path in paths:
                 served.bring(path)
             best = served.base + "fc_best.ncd"

@@ -1,7 +1,8 @@
 #!/bin/sh
 # What fmrcd-bring-back brings back. A server is killed and started again as docs/fmrcd@.service does it, and its reply
 # has to be the same as before. Then, without a server, which files come where some are too old or there are too many.
-# Use: tests/bring_back.sh [PROGRAM] [PORT]; by default the proved program, which 'make build' leaves.
+# Use: [WORKERS=1] tests/bring_back.sh [PROGRAM] [PORT]; by default the proved program, which 'make build' leaves, with
+# 4 workers.
 set -eu
 top=$(cd "$(dirname "$0")/.." && pwd)
 program=${1:-$top/crates/fmrcd/out/fmrcd}
@@ -26,7 +27,8 @@ wait_for() {
 }
 
 start() {
-    "$program" serve --name gfs --proto "$data/gfs_20240101_0000.nc" --listen "127.0.0.1:$port" "$inbox" &
+    "$program" serve --name gfs --proto "$data/gfs_20240101_0000.nc" --listen "127.0.0.1:$port" \
+        --workers "${WORKERS:-4}" "$inbox" &
     process=$!
     wait_for "$inbox/done"
 }

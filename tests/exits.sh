@@ -122,6 +122,14 @@ connect
 compare "a full device for the line of a server" $status 7 "" ""
 wait
 run "a door that can't be opened" 6 "door fault 0" "" "$folder/none" $serve nowhere "$folder/inbox"
+if [ "$(id -u)" -eq 0 ] && command -v setpriv > /dev/null; then
+    # A user without rights of its own who may have one thread. The address can't be opened, and isn't asked for.
+    chmod 755 "$folder"
+    cp "$program" "$folder/fmrcd"
+    setpriv --reuid 54321 --clear-groups prlimit --nproc=1 "$folder/fmrcd" $serve nowhere "$folder/inbox" \
+        < "$folder/none" > "$folder/out" 2> "$folder/err"
+    compare "threads that can't be started" $? 4 "no memory" ""
+fi
 run "an inbox that isn't there" 8 "inbox fault 0" "" "$folder/none" $serve 127.0.0.1:0 "$folder/absent"
 run "a second inbox that is a file" 8 "inbox fault 1" "" "$folder/none" $serve 127.0.0.1:0 "$folder/inbox" "$sample"
 run "a server whose prototype is cut short" 3 "refused $folder/cut.nc code 14" "" "$folder/none" \

@@ -2,19 +2,14 @@
 import os
 import subprocess
 import sys
-import time as clock
 
 import limits_cases as cases
 from classic import EPOCH, FLOAT, Classic, Variable, axis
 from limits_cases import HEAD, LIMIT, Wrong, data, error, head_of, numbers, path_in, structure
+from serve_replies import name_of
 
 PROGRAM, FOLDER = sys.argv[1:3]
 FIRST = "gfs_20200101_0000.nc"
-
-
-def name_at(moment):
-    """The name of a file whose run is `moment` seconds after the beginning of 2020."""
-    return clock.strftime("gfs_%Y%m%d_%H%M.nc", clock.gmtime(EPOCH + moment))
 
 
 def once(folder, proto, steps, requests, parts, status=0, said=""):
@@ -126,7 +121,7 @@ def files_up_to_4096(folder):
     form.write(proto, [EPOCH])
     steps, moments = [], [3600 * k for k in range(4097)]
     for moment in moments:
-        path = path_in(folder, name_at(moment))
+        path = path_in(folder, name_of(moment))
         form.write(path, [EPOCH + moment])
         steps.append("put:" + path)
     for count in (1000, 4096):
@@ -143,7 +138,7 @@ def times_up_to_262144(folder):
     form = Classic([("time", 0)], [axis()], records=4096)
     steps, moments = [], [60 * k for k in range(65 * 4096)]
     for first in range(0, 64 * 4096, 4096):
-        path = path_in(folder, name_at(moments[first]))
+        path = path_in(folder, name_of(moments[first]))
         form.write(path, [EPOCH + moment for moment in moments[first:first + 4096]])
         steps.append("put:" + path)
     for count in (16, 64):
@@ -153,7 +148,7 @@ def times_up_to_262144(folder):
         parts = structure(declared(some), count)
         parts += data(lines, [numbers(moments[:some]), numbers(runs)], count)
         once(folder, proto, steps[:count] + ["ask:2"], [HEAD % ".dds", HEAD % ".dods?time,time_run"], parts)
-    path = path_in(folder, name_at(moments[-4096]))
+    path = path_in(folder, name_of(moments[-4096]))
     Classic([("time", 0)], [axis()], records=1).write(path, [EPOCH + moments[-4096]])
     once(folder, proto, steps + ["put:" + path], [], [], 3, "refused %s code 61\n" % path)
 
@@ -243,7 +238,7 @@ def sum_of_3_GiB(folder):
     grid(1).write(proto, [EPOCH])
     steps = []
     for number in range(7):
-        path = path_in(folder, name_at(3600 * number))
+        path = path_in(folder, name_of(3600 * number))
         grid(1).write(path, [EPOCH + 3600 * number], LIMIT if number < 6 else None)
         steps.append("put:" + path)
     parts = structure(declared(6, "Float32 v[time = 6][y = 128][x = 256]"), 6)

@@ -6,16 +6,12 @@ import time as clock
 import limits_cases as cases
 from classic import EPOCH, Classic, axis
 from folder_server import Ended, FolderServer, bring, wait_until
-from limits_cases import Wrong, path_in
+from limits_cases import LIMIT, Wrong, path_in
+from serve_replies import name_of
 
 PROGRAM, FOLDER = sys.argv[1:3]
 BEST = b"/thredds/dodsC/gfs/gfs_best.ncd.dds"
 FORM = Classic([("time", 0)], [axis()], records=1)
-
-
-def name_at(moment):
-    """The name of a file whose run is `moment` seconds after the beginning of 2020."""
-    return clock.strftime("gfs_%Y%m%d_%H%M.nc", clock.gmtime(EPOCH + moment))
 
 
 def inboxes_in(folder, count):
@@ -40,7 +36,7 @@ def sixteen_workers_with_eight_folders_and_a_clock(folder):
     """Each pass looks: those of the workers by a request, those of the folders by a retraction, the clock's at once."""
     inboxes = inboxes_in(folder, 8)
     for number, path in enumerate(inboxes):
-        bring(os.path.join(path, name_at(3600 * number)), FORM.content([EPOCH + 3600 * number]))
+        bring(os.path.join(path, name_of(3600 * number)), FORM.content([EPOCH + 3600 * number]))
         bring(os.path.join(path, "none%d.nc.retract" % number), b"")
         bring(os.path.join(path, "STOP"), b"")
     options = ["--workers", "16", "--connections", "1", "--keep", "1073741823", "--ticks", "1"]
@@ -57,6 +53,23 @@ def sixteen_workers_with_eight_folders_and_a_clock(folder):
     expect("the end", server.end(), (0, line))
     for number, path in enumerate(inboxes):
         expect("what is refused", os.listdir(path + "/refused"), ["none%d.nc.retract" % number])
+
+
+def files_up_to_512_MiB_in_a_folder(folder):
+    """Files of 1, 10, 100 and 512 MiB are published, and one of a byte more is refused."""
+    inbox = inboxes_in(folder, 1)[0]
+    sizes = (1 << 20, 10400000, 100 << 20, LIMIT, LIMIT + 1)
+    for number, size in enumerate(sizes):
+        FORM.write(os.path.join(inbox, name_of(3600 * number)), [EPOCH + 3600 * number], size)
+    bring(os.path.join(inbox, "STOP"), b"")
+    server = FolderServer(PROGRAM, proto_in(folder), [inbox], ["--workers", "1", "--connections", "1"])
+    wait_until("each has a verdict", lambda: sum(verdicts_in([inbox])) == len(sizes))
+    link = server.connect()
+    expect("a reply", link.ask(b"HEAD", BEST)[:2], (200, 4))
+    link.close()
+    line = "published 4 retracted 0 expired 0 held 4 rows 4 revision 4\n"
+    expect("the end", server.end(), (0, line))
+    expect("what is refused", os.listdir(inbox + "/refused"), [name_of(3600 * 4)])
 
 
 def operations_up_to_20000(folder):
@@ -109,14 +122,35 @@ def retractions_of_the_same_files_by_eight_folders(folder):
     for name in names:
         for path in inboxes:
             os.link(source, os.path.join(path, name + ".retract"))
-    wanted = 9 * len(names)
-    wait_until("all have a verdict", lambda: sum(count_in(inboxes, shelf) for shelf in SHELVES) == wanted, 120)
-    counts = [count_in(inboxes, shelf) for shelf in SHELVES]
-    expect("done, refused and later", counts, [2 * len(names), 7 * len(names), 0])
+    wait_until("all have a verdict", lambda: sum(verdicts_in(inboxes)) == 9 * len(names), 120)
+    expect("done, refused and later", verdicts_in(inboxes), [2 * len(names), 7 * len(names), 0])
     server.kill()
 
 
-SHELVES = ("done", "refused", "later")
+def files_that_eight_folders_put_and_take_back_at_once(folder):
+    """Each of eight folders has the same files, and takes each back before the next: none is told that memory ran out,
+    though a file may come again between a retraction and its look."""
+    inboxes = inboxes_in(folder, 8)
+    source = path_in(folder, "source.nc")
+    FORM.write(source, [EPOCH])
+    count = 500
+    for number in range(count):
+        for path in inboxes:
+            name = os.path.join(path, "gfs_20200101_0000_%04d.nc" % number)
+            os.link(source, name)
+            os.link(source, name + ".retract")
+    server = FolderServer(PROGRAM, proto_in(folder), inboxes, ["--workers", "1"])
+    server.connect().close()
+    wait_until("all have a verdict", lambda: sum(verdicts_in(inboxes)) == 16 * count, 120)
+    done, refused, later = verdicts_in(inboxes)
+    expect("done and refused together, and later", [done + refused, later], [16 * count, 0])
+    server.kill()
+
+
+def verdicts_in(inboxes):
+    """How many files are done, taken back later on or not; how many are refused; and how many are put off."""
+    done, taken, refused, later = (count_in(inboxes, shelf) for shelf in ("done", "taken", "refused", "later"))
+    return [done + taken, refused, later]
 
 
 def count_in(inboxes, shelf):
@@ -135,5 +169,6 @@ def told(case):
     return run
 
 
-cases.run([told(case) for case in (sixteen_workers_with_eight_folders_and_a_clock, operations_up_to_20000,
-                                   retractions_of_the_same_files_by_eight_folders)], FOLDER, sys.argv[3:])
+cases.run([told(case) for case in (sixteen_workers_with_eight_folders_and_a_clock, files_up_to_512_MiB_in_a_folder,
+                                   operations_up_to_20000, retractions_of_the_same_files_by_eight_folders,
+                                   files_that_eight_folders_put_and_take_back_at_once)], FOLDER, sys.argv[3:])

@@ -1,17 +1,18 @@
 -- Where the data of each part lies.
-use Rattle.std.proofs.Common.{◌≡◌, ℕ, ◌+◌, ◌<◌, List, [], ◌∷◌, ◌++◌, length, get_or, slice_get, Option, Some, inl, inr, sym, ap, subst, ◌∙◌, arith}
+use Rattle.std.proofs.Common.{◌≡◌, ℕ, ◌+◌, ◌<◌, ◌≤◌, List, [], ◌∷◌, ◌++◌, length, get_or, slice_get, take, drop, Option, Some, inl, inr, sym, ap, subst, ◌∙◌, arith}
+use Rattle.std.specs.List.Sorted.{IsNonDecreasingBy}
 use Rattle.std.proofs.Math.Path.{subst₂}
-use Rattle.std.proofs.lemmas.Bool.{cases_lt}
-use Rattle.std.proofs.lemmas.List.{get_or_append_left, get_or_push, length_push}
+use Rattle.std.proofs.lemmas.Bool.{cases_lt, leb-false, leb-true}
+use Rattle.std.proofs.lemmas.List.{get_or_append_left, get_or_push, length-append, length_push, take-take}
 use Rattle.std.proofs.lemmas.Option.{get_or_from_slice_get, slice_get_within, slice_get-get_or}
 use Rattle.dap_model.specs.declared.projection.Sent.{Sent}
 use Rattle.fm_dataset.specs.Values.{Shown}
-use Rattle.dap_xdr.specs.Content.{Content}
+use Rattle.dap_xdr.specs.Content.{data_of, Content}
 use Rattle.dap_xdr.specs.Datasets.{content_of}
 use Rattle.dap_plan.specs.declared.laid.Laid.{Laid}
 use Rattle.dap_plan.specs.declared.laid.Position.{Position}
-use Rattle.dap_plan.specs.Laid.{AreLaid, AreLaidOf, AreSomeLaid, IsLaid, StandsAt}
-use Rattle.dap_plan.proofs.DataLemmas.{data-none, data_before, part-past, DataSoFar}
+use Rattle.dap_plan.specs.Laid.{AreBegun, AreLaid, AreLaidOf, AreSomeLaid, IsLaid, IsLastBegun, StandsAt}
+use Rattle.dap_plan.proofs.DataLemmas.{data-none, data-split, data_before, part-past, DataSoFar}
 
 -- a part is laid as it is read
 pub laid-at : (shown : Shown) (sent : List Sent) (laid : List Laid) (place : ℕ) (part : Sent) (one : Laid)
@@ -83,3 +84,48 @@ pub laid-data : (source : Option Shown) (sent items : List Sent) (laid ones : Li
     → AreLaidOf source sent laid → source ≡ Some shown → items ≡ sent → ones ≡ laid → AreLaid shown items ones
 laid-data source sent items laid ones shown are some same alike =
     subst₂ (AreLaid shown) (sym same) (sym alike) (subst (λ (o : Option Shown). AreLaidOf o sent laid) some are)
+
+-- before a later part there is no less data
+before-rise : (content : Content) (sent : List Sent) (i j : ℕ) → i ≤ j
+    → length (data_before content sent i) ≤ length (data_before content sent j)
+before-rise content sent i j le = omega (
+  arith,
+  ap length (data-split content (take j sent) i),
+  length-append (data_before content (take j sent) i) (data_of content (drop i (take j sent))),
+  ap (λ (l : List Sent). length (data_of content l)) (take-take i j sent le),
+)
+
+-- parts that are laid begin in their order
+pub laid-rise : (shown : Shown) (sent : List Sent) (laid : List Laid) → AreLaid shown sent laid
+    → IsNonDecreasingBy (λ (one : Laid). one.begin) laid
+laid-rise shown sent laid all = λ i j d le lt.
+    (let none : Sent = record { decl = 0; part = 0; slabs = [] } in
+    let is : (place : ℕ) → place < length laid
+    → IsLaid shown sent place (get_or sent place none) (get_or laid place d) =
+    λ place within. all.each place (get_or sent place none) (get_or laid place d)
+    (slice_get-get_or sent place none (omega (arith, within, all.count))) (slice_get-get_or laid place d within) in
+    omega (
+      arith,
+      (is i (omega (arith, le, lt))).begin_is,
+      (is j lt).begin_is,
+      before-rise (content_of shown) sent i j le,
+    ))
+
+-- a part among those that begin at or before an offset
+pub begun-part : (laid : List Laid) (from begun place : ℕ) (one : Laid) → AreBegun laid from begun → place < begun
+    → one ≡ get_or laid place one → one.begin ≤ from
+begun-part laid from begun place one point within is = omega (
+  arith,
+  ap (λ (l : Laid). l.begin) is,
+  leb-true (get_or laid place one).begin from (point.0 place one (omega arith) within),
+)
+
+-- the parts behind the last of these
+pub last-begun : (laid : List Laid) (from begun place : ℕ) → AreBegun laid from begun → begun ≤ place + 1
+    → IsLastBegun laid from place
+last-begun laid from begun place point past = λ later one behind at. omega (
+  arith,
+  ap (λ (l : Laid). l.begin) (get_or_from_slice_get laid later one one at),
+  leb-false (get_or laid later one).begin from
+      (point.1 later one (omega (arith, past, behind)) (slice_get_within laid later one at)),
+)

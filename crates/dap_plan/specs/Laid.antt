@@ -1,5 +1,6 @@
 -- Where the data of each part lies among that of all parts.
-use Rattle.std.specs.Prelude.{◌≡◌, ◌⊎◌, ℕ, ◌+◌, List, length, take, slice_get, Option, Some, None}
+use Rattle.std.specs.Prelude.{◌≡◌, ◌⊎◌, ℕ, ◌+◌, ◌<◌, List, length, take, slice_get, nat_le, true, false, Option, Some, None}
+use Rattle.std.specs.List.Sorted.{IsPartitionPoint}
 use Rattle.dap_model.specs.declared.projection.Sent.{Sent}
 use Rattle.fm_dataset.specs.Values.{Shown}
 use Rattle.dap_xdr.specs.Content.{data_of, part_data}
@@ -35,3 +36,13 @@ abbrev pub StandsAt : List Laid → ℕ → Position → Type 0
 StandsAt laid from at =
     ((at.place ≡ 0) × (at.left ≡ from))
     ⊎ ((one : Laid) × (slice_get laid at.place ≡ Some one) × (at.left + one.begin ≡ from))
+
+-- the parts up to a number of them begin at or before an offset, and those behind them after it
+abbrev pub AreBegun : List Laid → ℕ → ℕ → Type 0
+AreBegun laid from begun = IsPartitionPoint (λ (one : Laid). nat_le one.begin from ≡ true)
+    (λ (one : Laid). nat_le one.begin from ≡ false) laid begun
+
+-- all parts behind the one at a place begin after an offset
+abbrev pub IsLastBegun : List Laid → ℕ → ℕ → Type 0
+IsLastBegun laid from place =
+    (later : ℕ) (one : Laid) → place < later → slice_get laid later ≡ Some one → from < one.begin

@@ -1,8 +1,9 @@
 //! Where the data of each part lies among that of all parts.
-ghost use Rattle.std.specs.Prelude.{◌≡◌, ◌+◌, ◌^◌, ◌<◌, All, IfOk, IfSome, length};
+ghost use Rattle.std.specs.Prelude.{◌≡◌, ◌+◌, ◌^◌, ◌<◌, ◌≤◌, All, IfOk, length, nat_le};
+ghost use Rattle.std.specs.List.Sorted.{IsNonDecreasingBy};
 ghost use Rattle.dap_xdr.specs.Content.{data_of};
 ghost use Rattle.dap_xdr.specs.Datasets.{content_of};
-ghost use Rattle.dap_plan.specs.Laid.{AreLaid, StandsAt};
+ghost use Rattle.dap_plan.specs.Laid.{AreBegun, AreLaid, IsLastBegun, StandsAt};
 ghost use Rattle.dap_plan.specs.Parts.{IsSentOf};
 
 use dap_model::Sent;
@@ -57,29 +58,43 @@ pub fn lay_out(alloc: Global, source: &Dataset, sent: &[Sent]) -> Result<Layout,
     Ok(Layout { len, parts })
 }
 
-// How far an offset lies behind the begin of a part, where it isn't before that.
-fn behind(one: &Laid, from: u64) -> Option<u64>
-    ensures { IfSome result (λ left. left + one.now.begin ≡ from) }
+// How many parts begin at or before an offset.
+fn begun_at(laid: &[Laid], from: u64) -> usize
+    requires { IsNonDecreasingBy (λ one. one.begin) laid.now }
+    ensures bound { result ≤ length laid.now }
+    ensures begun { AreBegun laid.now from result }
 {
-    if one.begin > u128::from(from) {
-        return None;
-    }
-    Some(from - one.begin as u64)
+    laid.partition_point(
+        |one: &Laid| -> bool
+            ensures { result ≡ nat_le one.now.begin from }
+        { one.begin <= u128::from(from) },
+    )
 }
 
-// The last part that begins at or before an offset, where they begin in order, and how far behind its begin that is.
-pub(crate) fn part_at(laid: &[Laid], from: u64) -> Position
-    ensures { StandsAt laid.now from result }
+// How far an offset lies behind the begin of a part.
+fn behind(one: &Laid, from: u64) -> u64
+    requires { one.now.begin ≤ from }
+    ensures { result + one.now.begin ≡ from }
 {
-    let begun = laid.partition_point(|one| one.begin <= u128::from(from));
-    if begun > 0 {
-        let place = begun - 1;
-        if let Some(left) = behind(&laid[place], from) {
-            return Position { place, left };
-        }
+    from - one.begin as u64
+}
+
+// The last part that begins at or before an offset, and how far behind its begin that is.
+pub(crate) fn part_at(laid: &[Laid], from: u64) -> Position
+    requires { IsNonDecreasingBy (λ one. one.begin) laid.now }
+    ensures stands { StandsAt laid.now from result }
+
+    // So it ends behind the offset, or is the last of all.
+    ensures last { IsLastBegun laid.now from result.place }
+{
+    let begun = begun_at(laid, from);
+    if begun == 0 {
+        return Position {
+            place: 0,
+            left: from,
+        };
     }
-    Position {
-        place: 0,
-        left: from,
-    }
+    let place = begun - 1;
+    let left = behind(&laid[place], from);
+    Position { place, left }
 }

@@ -7,7 +7,7 @@ use dap_model::{CeFault, ProjectFault};
 use web_path::PathFault;
 
 /// The first fault of a request.
-#[derive(Debug, Drop)]
+#[derive(Drop)]
 pub enum DapFault {
     /// The constraint by itself.
     Constraint(CeFault),

@@ -5,7 +5,7 @@ use web_path::Target;
 
 /// A request that a collection is looked at for: what it asks for, whether the reply has its head alone, and whether
 /// the connection ends after it.
-#[derive(Debug, Drop)]
+#[derive(Drop)]
 pub struct Dap {
     pub target: Target,
     pub head: bool,
@@ -13,7 +13,7 @@ pub struct Dap {
 }
 
 /// A refusal for which no collection is looked at, or a request that is wanted.
-#[derive(Debug, Drop)]
+#[derive(Drop)]
 pub enum Order {
     Refused {
         fault: DapFault,

@@ -1,4 +1,5 @@
 pub mod ColumnLemmas
+pub mod CopyLemmas
 pub mod DataLemmas
 pub mod DatasetLemmas
 pub mod ElementLemmas

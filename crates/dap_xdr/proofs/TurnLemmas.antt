@@ -1,10 +1,10 @@
 -- Units that slabs pick one after the other, each as far behind the one before it in the array.
-use Rattle.std.proofs.Common.{◌≡◌, ℕ, zero, suc, ◌+◌, ◌-◌, ◌*◌, ◌/◌, ◌%◌, ◌<◌, ◌≤◌, List, [], ◌∷◌, Bool, true, false, cond, ◌==◌, refl, sym, ap, subst, ◌∙◌, arith}
+use Rattle.std.proofs.Common.{◌≡◌, ℕ, zero, suc, ◌+◌, ◌-◌, ◌*◌, ◌/◌, ◌%◌, ◌<◌, ◌≤◌, List, [], ◌∷◌, Bool, true, false, cond, ◌==◌, ◌&&◌, refl, sym, ap, ap₂, subst, ◌∙◌, arith}
 use Rattle.std.specs.Prelude.{nat_lt}
 use Rattle.std.specs.List.{AllZip}
 use Rattle.std.proofs.Math.Path.{subst₂}
 use Rattle.std.proofs.Math.Nat.{div-lt_iff_lt-mul, mul-add-mod_self_right, mul-le-mul_right, mul_assoc}
-use Rattle.std.proofs.lemmas.Bool.{and_parts, eqb-true}
+use Rattle.std.proofs.lemmas.Bool.{and_parts, eqb-true, ltb-true}
 use Rattle.std.proofs.lemmas.Nat.{div-add-mod', div-mul-add, mod-mul-add, mod_below}
 use Rattle.nc_model.specs.Layout.{product, rank_in}
 use Rattle.nc_model.specs.declared.header.Dim.{Dim}
@@ -12,7 +12,7 @@ use Rattle.dap_model.specs.declared.projection.Slab.{Slab}
 use Rattle.dap_model.specs.Box.{box_len, index_at, slab_count, slab_index}
 use Rattle.dap_model.specs.ProjectionFacts.{FitsDim}
 use Rattle.dap_model.proofs.BoxLemmas.{index_at-cons, split_of}
-use Rattle.dap_xdr.specs.Stretch.{begins_turns, extent_before, extent_of, stands_together}
+use Rattle.dap_xdr.specs.Stretch.{begins_turns, extent_before, extent_of, goes_on, stands_together}
 use Rattle.dap_xdr.specs.declared.slabs.Extent.{Extent}
 use Rattle.dap_xdr.proofs.ExtentLemmas.{extent-size, sizes_of}
 use Rattle.dap_xdr.proofs.StretchLemmas.{extent-count, within_turns}
@@ -136,6 +136,106 @@ turning_apart unit turns pitch dim dims slab slabs others = record {
       ∙ omega arith;
 }
 
+-- all that is picked behind a slab is one run of turns, with which the slab goes on at the same distance
+pub record GoesOn (slab : Slab) (extent : Extent) : Type 0 where
+  pub some : 0 < extent.unit
+  pub all_is : extent.turns * extent.unit ≡ extent.count
+  pub next_is : extent.turns * extent.pitch ≡ slab.stride * extent.size
+
+pub goes_on-parts : (slab : Slab) (extent : Extent) → goes_on slab extent ≡ true → GoesOn slab extent
+goes_on-parts slab extent goes =
+    let last = and_parts (nat_lt 0 extent.unit && extent.turns * extent.unit == extent.count)
+    (extent.turns * extent.pitch == slab.stride * extent.size) goes in
+    let first = and_parts (nat_lt 0 extent.unit) (extent.turns * extent.unit == extent.count) last.0 in
+    record {
+      some = ltb-true 0 extent.unit first.0;
+      all_is = eqb-true (extent.turns * extent.unit) extent.count first.1;
+      next_is = eqb-true (extent.turns * extent.pitch) (slab.stride * extent.size) last.1;
+    }
+
+-- the turns behind an index of a slab are those behind the indices before it, and some more
+spread-turns : (start q stride size rank m turns pitch : ℕ) → turns * pitch ≡ stride * size
+    → (start + q * stride) * size + (rank + m * pitch) ≡ start * size + rank + (q * turns + m) * pitch
+spread-turns start q stride size rank m turns pitch far =
+    let first : (start + q * stride) * size + (rank + m * pitch)
+    ≡ start * size + rank + (q * (stride * size) + m * pitch) = grind arith in
+    let last : q * (turns * pitch) + m * pitch ≡ (q * turns + m) * pitch = grind arith in
+    first ∙ ap (λ (n : ℕ). start * size + rank + (q * n + m * pitch)) (sym far)
+    ∙ ap (λ (n : ℕ). start * size + rank + n) last
+
+-- what a run of turns picks at a place stands as far behind the first unit as there are turns before it
+run-rank : (unit turns pitch : ℕ) (dims : List Dim) (slabs : List Slab) → box_len slabs ≡ turns * unit
+    → Turning unit turns pitch dims slabs → (place : ℕ) → place < box_len slabs
+    → rank_in (sizes_of dims) (index_at slabs place)
+    ≡ rank_in (sizes_of dims) (index_at slabs (place % unit)) + place / unit * pitch
+run-rank unit turns pitch dims slabs one others place within =
+    let at = within_of 1 turns unit place (omega (arith, within, one)) in
+    let none : place % unit / unit ≡ 0 =
+    ap (λ (n : ℕ). n / unit) (omega arith) ∙ div-mul-add 0 unit (place % unit) (mod_below place unit at.unit_some) in
+    let first : place % unit / unit % turns ≡ 0 =
+    ap (λ (n : ℕ). n % turns) (none ∙ omega arith) ∙ mod-mul-add 0 turns 0 at.turns_some in
+    let to : place ≡ place % unit + place / unit * unit = omega (arith, at.place_is) in
+    ap (λ (n : ℕ). rank_in (sizes_of dims) (index_at slabs n)) to
+    ∙ others.grows (place % unit) (place / unit) (omega (arith, at.place_is, within)) (omega (arith, at.unit_at, first))
+
+-- the same with a slab before them that goes on
+turn-rank : (unit turns pitch : ℕ) (dim : Dim) (dims : List Dim) (slab : Slab) (slabs : List Slab)
+    → box_len slabs ≡ turns * unit → turns * pitch ≡ slab.stride * product (sizes_of dims)
+    → Turning unit turns pitch dims slabs → (place : ℕ) → place < box_len (slab ∷ slabs)
+    → rank_in (sizes_of (dim ∷ dims)) (index_at (slab ∷ slabs) place)
+    ≡ slab.start * product (sizes_of dims) + rank_in (sizes_of dims) (index_at slabs (place % unit))
+    + place / unit * pitch
+unfolding box_len product rank_in index_at
+turn-rank unit turns pitch dim dims slab slabs one far others place within =
+    let width = box_len slabs in
+    let size = product (sizes_of dims) in
+    let split = split_of (slab_count slab) width place within in
+    let q = place / width in
+    let r = place % width in
+    let at = within_of 1 turns unit r (omega (arith, split.second, one)) in
+    let before : place ≡ q * turns * unit + r =
+    sym split.whole ∙ ap (λ (n : ℕ). q * n + r) one ∙ grind arith in
+    let units : place / unit ≡ q * turns + r / unit =
+    ap (λ (n : ℕ). n / unit) before ∙ quotient (q * turns) unit r at.unit_some in
+    let same : place % unit ≡ r % unit =
+    ap (λ (n : ℕ). n % unit) before ∙ mul-add-mod_self_right (q * turns) unit r in
+    ap (λ (n : ℕ). (slab.start + q * slab.stride) * size + n) (run-rank unit turns pitch dims slabs one others r
+    split.second)
+    ∙ spread-turns slab.start q slab.stride size (rank_in (sizes_of dims) (index_at slabs (r % unit))) (r / unit) turns
+    pitch far
+    ∙ ap₂ (λ (m n : ℕ). slab.start * size + rank_in (sizes_of dims) (index_at slabs m) + n * pitch) (sym same)
+    (sym units)
+
+-- so the turns go on with it
+turning_on : (unit turns pitch : ℕ) (dim : Dim) (dims : List Dim) (slab : Slab) (slabs : List Slab)
+    → box_len slabs ≡ turns * unit → turns * pitch ≡ slab.stride * product (sizes_of dims)
+    → Turning unit turns pitch dims slabs
+    → Turning unit (slab_count slab * turns) pitch (dim ∷ dims) (slab ∷ slabs)
+unfolding box_len product
+turning_on unit turns pitch dim dims slab slabs one far others = record {
+  times = 1;
+  whole = ap (λ (n : ℕ). slab_count slab * n) one ∙ grind arith;
+  grows = λ place k within short.
+      let all = slab_count slab * turns in
+      let size = product (sizes_of dims) in
+      let whole : box_len (slab ∷ slabs) ≡ 1 * (all * unit) =
+      ap (λ (n : ℕ). slab_count slab * n) one ∙ grind arith in
+      let below : place < 1 * (all * unit) = subst (λ (n : ℕ). place < n) whole within in
+      let at = within_of 1 all unit place below in
+      let further : place + k * unit < box_len (slab ∷ slabs) =
+      subst (λ (n : ℕ). place + k * unit < n) (sym whole) (within_turning 1 all unit place k below short) in
+      let to : place + k * unit ≡ k * unit + place = omega arith in
+      let units : (place + k * unit) / unit ≡ k + place / unit =
+      ap (λ (n : ℕ). n / unit) to ∙ quotient k unit place at.unit_some in
+      let same : (place + k * unit) % unit ≡ place % unit =
+      ap (λ (n : ℕ). n % unit) to ∙ mul-add-mod_self_right k unit place in
+      let here = turn-rank unit turns pitch dim dims slab slabs one far others place within in
+      turn-rank unit turns pitch dim dims slab slabs one far others (place + k * unit) further
+      ∙ ap₂ (λ (m n : ℕ). slab.start * size + rank_in (sizes_of dims) (index_at slabs m) + n * pitch) same units
+      ∙ grind arith
+      ∙ ap (λ (n : ℕ). n + k * pitch) (sym here);
+}
+
 -- and with a slab of one dimension more, by what the extent becomes
 turning_before : (extent : Extent) (dim : Dim) (dims : List Dim) (slab : Slab) (slabs : List Slab)
     → extent.count ≡ box_len slabs → extent.size ≡ product (sizes_of dims)
@@ -144,21 +244,27 @@ turning_before : (extent : Extent) (dim : Dim) (dims : List Dim) (slab : Slab) (
     (extent_before dim.size slab extent).pitch (dim ∷ dims) (slab ∷ slabs)
 unfolding box_len product
 turning_before extent dim dims slab slabs count size others =
-    by_case (stands_together slab extent) (begins_turns slab extent)
+    by_case (stands_together slab extent) (begins_turns slab extent) (goes_on slab extent)
     (λ begins. eqb-true extent.unit extent.count
     (and_parts (extent.unit == extent.count) (nat_lt 1 (slab_count slab)) begins).0)
+    (goes_on-parts slab extent)
   where
-    by_case : (together begins : Bool) → (begins ≡ true → extent.unit ≡ extent.count)
+    by_case : (together begins goes : Bool) → (begins ≡ true → extent.unit ≡ extent.count)
+        → (goes ≡ true → GoesOn slab extent)
         → Turning (cond together (slab_count slab * extent.count) extent.unit)
-        (cond together 1 (cond begins (slab_count slab) extent.turns))
+        (cond together 1 (cond begins (slab_count slab) (cond goes (slab_count slab * extent.turns) extent.turns)))
         (cond together 0 (cond begins (slab.stride * extent.size) extent.pitch)) (dim ∷ dims) (slab ∷ slabs)
-    by_case true begins one =
+    by_case true begins goes one on =
         turning_once (slab_count slab * extent.count) (dim ∷ dims) (slab ∷ slabs)
         (ap (λ (n : ℕ). slab_count slab * n) (sym count))
-    by_case false true one =
+    by_case false true goes one on =
         subst₂ (λ (m n : ℕ). Turning m (slab_count slab) (slab.stride * n) (dim ∷ dims) (slab ∷ slabs))
         (sym (one refl ∙ count)) (sym size) (turning_begins dim dims slab slabs)
-    by_case false false one =
+    by_case false false true one on =
+        turning_on extent.unit extent.turns extent.pitch dim dims slab slabs
+        (sym count ∙ sym (on refl).all_is)
+        ((on refl).next_is ∙ ap (λ (n : ℕ). slab.stride * n) size) others
+    by_case false false false one on =
         turning_apart extent.unit extent.turns extent.pitch dim dims slab slabs others
 
 -- the units of an extent follow each other at its pitch

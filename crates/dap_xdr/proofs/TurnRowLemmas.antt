@@ -251,6 +251,22 @@ rows-of n place most index stored rows portion number within same are lie = by_c
               (sym (lie.row_is some)) (sym (lie.step_is some)) picked;
         }
 
+-- there may be no rows
+pub no-rows : (n : Portion) (place : ℕ) (stored : List ℕ) (rows : Rows) → rows.most ≡ 0 → PickRows n place rows stored
+unfolding rows_in
+no-rows n place stored rows none = by_count
+  where
+    by_count : (count : ℕ) → count ≤ rows.most
+        → length (rows_in rows.row rows.step count stored) ≡ count * rows.row
+        → ArePicked n.array.kind (bits_in n) n.sent.slabs place
+        (count * (extent_of n.array.dims n.sent.slabs).unit) (rows_in rows.row rows.step count stored)
+    by_count zero few whole = record {
+      count = 0;
+      few = omega arith;
+      bytes_are = record { fit = All-nil (AreBitsOf n.array.kind); bytes_are = refl };
+    }
+    by_count (suc count) few whole = absurd (omega (arith, few, none))
+
 -- from a place on some units are left of the turns
 pub some-turns : (n : Portion) (place : ℕ) → IsPortion n → place < box_len n.sent.slabs
     → 0 < (extent_of n.array.dims n.sent.slabs).turns

@@ -62,8 +62,20 @@ stands_together slab extent = slab.stride == 1 && extent.whole
 abbrev pub begins_turns : Slab → Extent → Bool
 begins_turns slab extent = extent.unit == extent.count && nat_lt 1 (slab_count slab)
 
+-- all that is picked behind a slab is one run of turns, and the next index of the slab goes on with it at the same
+-- distance
+abbrev pub goes_on : Slab → Extent → Bool
+goes_on slab extent =
+    nat_lt 0 extent.unit && extent.turns * extent.unit == extent.count
+    && extent.turns * extent.pitch == slab.stride * extent.size
+
+-- how many units follow each other with a slab before them: more where they go on with it
+abbrev pub turns_with : Slab → Extent → ℕ
+turns_with slab extent = if goes_on slab extent then slab_count slab * extent.turns else extent.turns
+
 -- the extent with the slab of one dimension before it. What stands together is a unit. The first slab before the unit
--- that picks more than one index gives the turns: how many units follow each other, and how far each is from the last
+-- that picks more than one index gives the turns: how many units follow each other, and how far each is from the last.
+-- They go on with the slabs before it as long as the distance stays the same
 abbrev pub extent_before : ℕ → Slab → Extent → Extent
 extent_before size slab extent = record {
   count = slab_count slab * extent.count;
@@ -74,7 +86,7 @@ extent_before size slab extent = record {
       then 1
       else if begins_turns slab extent
       then slab_count slab
-      else extent.turns;
+      else turns_with slab extent;
   pitch =
       if stands_together slab extent
       then 0

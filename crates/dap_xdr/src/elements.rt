@@ -91,6 +91,9 @@ fn put_longest(part: &Part, at: Position, out: &mut [u8], index: &[u64]) -> usiz
     ensures some { 1 ≤ result }
     ensures front { IsFront (drop at.skip (numbers_from part.now at.place)) out.old out.new result }
 {
+    if !part.is_stored() {
+        return put_first(part, at, out, index);
+    }
     if at.skip > 0 {
         return put_stretch(part, at, out, index);
     }

@@ -100,6 +100,11 @@ impl<'a, 'b> Part<'a, 'b> {
         }
     }
 
+    // Whether numbers may stand in files or in the prototype.
+    pub fn is_stored(&self) -> bool {
+        self.column.is_stored()
+    }
+
     // Whether there is an array of texts.
     pub fn has_texts(&self) -> bool
         ensures text { IsTrue result → self.now.array.kind ≡ DapKind.Text }
@@ -214,8 +219,12 @@ impl<'a, 'b> Part<'a, 'b> {
         requires index { index.now ≡ index_at self.now.sent.slabs place }
         ensures { PickRows self.now place result.1 result.0.now }
     {
+        let rows = rows_at(self.array.kind, self.extent, place);
+        if rows.most == 0 {
+            return (b"".as_slice(), rows);
+        }
         let stored = self.stored(place, index, u64::MAX);
-        (stored, rows_at(self.array.kind, self.extent, place))
+        (stored, rows)
     }
 
     // The text at a place, whose index list stands in `index`.

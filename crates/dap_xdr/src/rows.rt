@@ -1,5 +1,5 @@
 //! Numbers that stand in a file in rows, each some way behind the one before it.
-ghost use Rattle.std.specs.Prelude.{◌≡◌, ◌+◌, ◌*◌, ◌%◌, ◌<◌, ◌≤◌, ◌++◌, drop, false, length, take, IsTrue};
+ghost use Rattle.std.specs.Prelude.{◌≡◌, ℕ, ◌+◌, ◌*◌, ◌%◌, ◌<◌, ◌≤◌, ◌++◌, drop, false, length, take, IsTrue};
 ghost use Rattle.dap_xdr.specs.Front.{widened_bytes};
 ghost use Rattle.dap_xdr.specs.Rows.{ArePut, AreRowsAt, AreSentAs};
 
@@ -53,6 +53,7 @@ pub(crate) fn rows_at(kind: DapKind, extent: Extent, place: u64) -> Rows
 }
 
 // Writes bytes behind the first `at` of a buffer.
+#[inline(always)]
 fn put_at(bytes: &[u8], at: usize, out: &mut [u8])
     requires { at + length bytes.now ≤ length out.old }
     ensures { out.new ≡ take at out.old ++ (bytes.now ++ drop (at + length bytes.now) out.old) }
@@ -62,17 +63,59 @@ fn put_at(bytes: &[u8], at: usize, out: &mut [u8])
     target.copy_from_slice(bytes);
 }
 
-// Whether a row stands there whole, and fits behind the first `filled` bytes of a buffer.
-#[inline(always)]
-fn has_row(rest: &[u8], len: usize, out: &[u8], filled: usize) -> bool
-    requires { filled ≤ length out.now }
-    ensures there { IsTrue result → len ≤ length rest.now }
-    ensures fits { IsTrue result → filled + len ≤ length out.now }
+// How many rows stand whole in so many bytes, each `step` bytes behind the one before it.
+fn rows_there(there: usize, len: usize, step: usize) -> usize
+    requires { 0 < len }
+    ensures { (k : ℕ) → k < result → k * step + len ≤ there }
 {
-    len <= rest.len() && len <= out.len() - filled
+    if there < len {
+        return 0;
+    }
+    if step == 0 {
+        return 1;
+    }
+    let others = (there - len) / step;
+    others + 1
 }
 
-// The same of a row of numbers of two bytes, each in four.
+// How many rows are copied: of the most that there are, as many as stand there whole and fit in a room.
+fn count_rows(most: u64, len: usize, step: usize, there: usize, room: usize) -> usize
+    ensures few { result ≤ most }
+    ensures whole { (k : ℕ) → k < result → k * step + len ≤ there }
+    ensures fits { result * len ≤ room }
+{
+    if len == 0 {
+        return 0;
+    }
+    let stand = rows_there(there, len, step);
+    let fit = room / len;
+    let count = most.min(stand.min(fit) as u64);
+    count as usize
+}
+
+// Copies rows, as many as stand there whole and fit. The length of a row and the step are arguments of their own, so
+// that the compiler has one loop for each that is written out, and that loop may take many rows at once.
+#[inline(always)]
+fn copy_rows(stored: &[u8], len: usize, step: usize, rows: Rows, out: &mut [u8]) -> usize
+    requires row { len ≡ rows.row }
+    requires step { step ≡ rows.step }
+    ensures { AreSentAs (λ bytes. bytes) rows stored.now out.old out.new result }
+{
+    let there = stored.len();
+    let room = out.len();
+    let count = count_rows(rows.most, len, step, there, room);
+    for done in 0..count {
+        let begin = done * step;
+        let at = done * len;
+        let (_, rest) = stored.split_at(begin);
+        let (row, _) = rest.split_at(len);
+        put_at(row, at, out);
+    }
+    count * len
+}
+
+// Whether a row of numbers of two bytes stands there whole, and fits behind the first `filled` bytes of a buffer, each
+// in four.
 #[inline(always)]
 fn has_wide_row(rest: &[u8], len: usize, out: &[u8], filled: usize) -> bool
     requires { filled ≤ length out.now }
@@ -80,27 +123,6 @@ fn has_wide_row(rest: &[u8], len: usize, out: &[u8], filled: usize) -> bool
     ensures fits { IsTrue result → filled + len * 2 ≤ length out.now }
 {
     len <= rest.len() && len * 2 <= out.len() - filled
-}
-
-// Copies rows, as many as stand there whole and fit. The length of a row is an argument of its own, so that the
-// compiler has one loop for each length that is written out.
-#[inline(always)]
-fn copy_rows(stored: &[u8], len: usize, rows: Rows, out: &mut [u8]) -> usize
-    requires { len ≡ rows.row }
-    ensures { AreSentAs (λ bytes. bytes) rows stored.now out.old out.new result }
-{
-    let mut rest = stored;
-    let mut done = 0;
-    let mut filled = 0;
-    while done < rows.most && has_row(rest, len, out, filled) {
-        let (row, _) = rest.split_at(len);
-        put_at(row, filled, out);
-        let (_, next) = rest.split_at(rows.step.min(rest.len()));
-        rest = next;
-        filled += len;
-        done += 1;
-    }
-    filled
 }
 
 // Writes rows of numbers of two bytes, each in four, as many as stand there whole and fit.
@@ -143,14 +165,26 @@ fn widen_any(stored: &[u8], rows: Rows, out: &mut [u8]) -> usize
     }
 }
 
+// Copies rows of four bytes. Those of every second number are eight bytes apart.
+fn copy_fours(stored: &[u8], rows: Rows, out: &mut [u8]) -> usize
+    requires { rows.row ≡ 4 }
+    ensures { AreSentAs (λ bytes. bytes) rows stored.now out.old out.new result }
+{
+    match rows.step {
+        8 => copy_rows(stored, 4, 8, rows, out),
+        step => copy_rows(stored, 4, step, rows, out),
+    }
+}
+
 fn copy_any(stored: &[u8], rows: Rows, out: &mut [u8]) -> usize
     ensures { AreSentAs (λ bytes. bytes) rows stored.now out.old out.new result }
 {
+    let step = rows.step;
     match rows.row {
-        1 => copy_rows(stored, 1, rows, out),
-        4 => copy_rows(stored, 4, rows, out),
-        8 => copy_rows(stored, 8, rows, out),
-        len => copy_rows(stored, len, rows, out),
+        1 => copy_rows(stored, 1, step, rows, out),
+        4 => copy_fours(stored, rows, out),
+        8 => copy_rows(stored, 8, step, rows, out),
+        len => copy_rows(stored, len, step, rows, out),
     }
 }
 

@@ -4,7 +4,7 @@ ghost use Rattle.std.specs.List.{AllZip};
 ghost use Rattle.nc_model.specs.Layout.{product};
 ghost use Rattle.dap_model.specs.Box.{slab_count, HasStride};
 ghost use Rattle.dap_model.specs.ProjectionFacts.{FitsDim};
-ghost use Rattle.dap_xdr.specs.Stretch.{begins_turns, extent_before, extent_of, is_whole, stands_together};
+ghost use Rattle.dap_xdr.specs.Stretch.{begins_turns, extent_before, extent_of, goes_on, is_whole, stands_together, turns_with};
 
 use dap_model::Slab;
 use dap_slab::slab_count;
@@ -58,6 +58,29 @@ fn pitch_of(extent: Extent, size: u64, slab: Slab) -> u64
     slab.stride * extent.size
 }
 
+// Whether all that is picked behind a slab is one run of turns, which goes on with the next index of the slab.
+fn goes_on(slab: Slab, extent: Extent) -> bool
+    ensures { result ≡ goes_on slab extent }
+{
+    let units = extent.turns as u128 * extent.unit as u128;
+    let passed = extent.turns as u128 * extent.pitch as u128;
+    let next = slab.stride as u128 * extent.size as u128;
+    extent.unit > 0 && units == extent.count as u128 && passed == next
+}
+
+// How many units follow each other with a slab before them that picks `indices` indices: more where they go on with it.
+fn turns_with(extent: Extent, slab: Slab, indices: u64) -> u64
+    requires indices { indices ≡ slab_count slab }
+    requires few { indices * extent.count < 2 ^ 64 }
+    ensures { result ≡ turns_with slab extent }
+{
+    if goes_on(slab, extent) {
+        let turns = indices * extent.turns;
+        return turns;
+    }
+    extent.turns
+}
+
 // The extent with the slab of one dimension more before it.
 fn with_slab(extent: Extent, size: u64, slab: Slab) -> Extent
     requires stride { HasStride slab }
@@ -94,7 +117,7 @@ fn with_slab(extent: Extent, size: u64, slab: Slab) -> Extent
         count,
         size: elements,
         unit: extent.unit,
-        turns: extent.turns,
+        turns: turns_with(extent, slab, indices),
         pitch: extent.pitch,
         whole,
     }

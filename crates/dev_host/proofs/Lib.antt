@@ -1,2 +1,1 @@
 mod PathLemmas
-pub mod TakingLemmas

@@ -1,5 +1,7 @@
 -- How many times something is still to come.
 use Rattle.std.specs.Prelude.{◌≡◌, ◌≢◌, ℕ, ◌-◌, nat_eq, if◌then◌else◌, Option, Some, None}
+use Rattle.dev_traits.specs.declared.door.Coming.{Coming}
+use Rattle.dev_traits.specs.declared.door.Coming.TheVariants.{Came, Ready, Closed}
 use Rattle.dev_host.specs.declared.remaining.Remaining.{Remaining}
 use Rattle.dev_host.specs.declared.remaining.Remaining.TheVariants.{Endless, Times}
 
@@ -12,7 +14,13 @@ abbrev pub one_less : Remaining → Remaining
 one_less Endless = Endless
 one_less (Times count) = Times (count - 1)
 
--- None comes exactly where none is left, and each that comes is one less.
+-- Each link that comes is one less, and where none is left none comes.
 abbrev pub ComesOf : {L : Type 0} → Remaining → Remaining → Option L → Type 0
-ComesOf before now None = (before ≡ Times 0) × (now ≡ before)
+ComesOf before now None = now ≡ before
 ComesOf before now (Some link) = (before ≢ Times 0) × (now ≡ one_less before)
+
+-- The same of what comes next at a door, which closes only where none is left.
+abbrev pub CountsDown : {L : Type 0} → Remaining → Remaining → Coming L → Type 0
+CountsDown before now (Came link) = (before ≢ Times 0) × (now ≡ one_less before)
+CountsDown before now (Ready key) = now ≡ before
+CountsDown before now Closed = (before ≡ Times 0) × (now ≡ before)

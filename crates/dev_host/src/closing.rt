@@ -1,46 +1,56 @@
 //! The end of a connection.
 ghost use Rattle.std.specs.Prelude.{◌≤◌};
 
-use crate::waiting::take_within;
-use std::io::Read;
-use std::net::{OpenStream, Shutdown};
-use std::rt;
-use std::time::{Duration, Instant};
+use crate::socket::Socket;
+use dev_std::take_now;
+use dev_traits::Taken;
 
 /// How many bytes are dropped at most at the end of a connection.
 pub const DROPPED_AT_MOST: usize = 65_536;
 
-// How many seconds a peer has to close its side.
-const LINGER: u64 = 1;
+/// For how many milliseconds a peer is waited for at the end of a connection, to close its side.
+pub const LINGER: u64 = 2_000;
 
-/// Ends a connection so that what was put last reaches the peer. The write side is closed first, and what still comes
-/// is read and dropped until the peer closes its side too. Were a socket closed with bytes unread, the system would
-/// send a reset, which can destroy a reply that is on its way. Failures here are ignored.
-pub(crate) fn end<S: Read + OpenStream, C: rt::Clock>(clock: &C, stream: &mut S) {
-    let _ = stream.shutdown(Shutdown::Write);
-    if let Ok(now) = Instant::now(clock) {
-        let _dropped = drop_rest(clock, stream, now, Duration::from_secs(LINGER));
-    }
+/// A connection that has ended, of which what still comes is dropped. Were a socket closed with bytes unread, the
+/// system would send a reset, which can destroy a reply that is on its way.
+#[derive(Drop)]
+pub struct Ending<S: Socket + Drop> {
+    pub stream: S,
+    left: usize,
+    until: u64,
+    ghost most: { left ≤ 65_536 },
 }
 
-/// Reads what still comes and drops it, and returns how many bytes: until the end, or until `patience` has passed since
-/// that moment, and at most 65,536.
-pub fn drop_rest<S: Read + OpenStream, C: rt::Clock>(
-    clock: &C,
-    stream: &mut S,
-    since: Instant,
-    patience: Duration,
-) -> usize
-    ensures most { result ≤ 65_536 }
-{
-    let mut buf = [0u8; 4096];
-    let mut dropped = 0;
-    'rest: while dropped < DROPPED_AT_MOST {
-        let room = buf.len().min(DROPPED_AT_MOST - dropped);
-        match take_within(clock, stream, since, patience, &mut buf[..room]) {
-            Ok(0) | Err(_) => return dropped,
-            Ok(count) => dropped += count,
+impl<S: Socket + Drop> Ending<S> {
+    /// Ends a connection: the side that sends is closed first, so that what was put last reaches the peer.
+    pub fn new(stream: S, now: u64) -> Ending<S> {
+        let _ = stream.end_sending();
+        Ending {
+            stream,
+            left: DROPPED_AT_MOST,
+            until: now.saturating_add(LINGER),
         }
     }
-    dropped
+
+    /// When the connection is closed at the latest.
+    pub fn until(&self) -> u64 {
+        self.until
+    }
+
+    /// Drops what has come, at most 65,536 bytes in all. `true` says that the socket is to be closed: the peer has
+    /// closed its side, the connection has failed, enough was dropped, or its time is over.
+    pub fn drop_more(&mut self, now: u64) -> bool
+        ensures { self.new.left ≤ self.old.left }
+    {
+        let mut buf = [0u8; 4096];
+        'rest: while self.left > 0 {
+            let (room, _) = buf.split_at_mut(self.left.min(4096));
+            match take_now(&mut self.stream, room) {
+                Ok(Taken::Bytes(count)) => self.left -= count,
+                Ok(Taken::Later) => return self.until <= now,
+                Ok(Taken::End) | Err(_) => return true,
+            }
+        }
+        true
+    }
 }

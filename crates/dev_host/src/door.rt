@@ -1,69 +1,64 @@
 //! A door at which the machine's sockets are accepted.
 ghost use Rattle.std.specs.Prelude.{◌≡◌, None, IfOk, IfSome, OnErr};
 ghost use Rattle.dev_traits.specs.Cause.{HasCause};
-ghost use Rattle.dev_traits.specs.Door.{IsFresh};
-ghost use Rattle.dev_host.specs.Accept.{is_passing};
-ghost use Rattle.dev_host.specs.Remaining.{ComesOf, remaining_of};
+ghost use Rattle.dev_traits.specs.Door.{IfCame, IsFresh};
+ghost use Rattle.dev_host.specs.Remaining.{ComesOf, CountsDown, remaining_of};
 
-use crate::closing::end;
 use crate::link::TcpLink;
+use crate::patience::Patience;
+use crate::present::present;
+use crate::reactor::Reactor;
 use crate::remaining::Remaining;
 use dev_std::counted;
-use dev_traits::{Door, Failed, Link};
-use std::io::{self, ErrorKind};
+use dev_traits::{Coming, Door, Failed, Link};
+use std::alloc::Global;
 use std::marker::Send;
-use std::net::{OpenListener, OpenStream, SocketAddr, TcpListener, TcpStream};
-use std::rt;
-use std::time::{Duration, Instant};
+use std::net::{Net, SocketAddr, TcpListener};
+use std::{io, rt};
 
-/// A door at a socket that listens. Several doors may share one socket: each connection comes to one of them.
+/// A door at a socket that listens, through which many links come at once. Several doors may share one socket: each
+/// connection comes to one of them.
 #[derive(Drop)]
 pub struct TcpDoor<R: rt::Clock + Clone + Drop> {
     rt: R,
-    listener: TcpListener,
     remaining: Remaining,
-    patience: Duration,
+    patience: Patience,
+    reactor: Reactor,
     faults: u64,
 }
 
-impl<R: rt::Clock + Clone + Drop> TcpDoor<R> {
-    /// A door that takes `connections` connections; 0 is without end. Each peer is waited for as long as `patience`. No
-    /// call has failed.
-    pub fn new(rt: R, listener: TcpListener, connections: u32, patience: Duration) -> TcpDoor<R>
-        ensures faults { result.faults ≡ 0 }
-        ensures remaining { result.remaining ≡ remaining_of connections }
+impl<R: rt::Clock + Net + Clone + Drop> TcpDoor<R> {
+    /// A door that takes `connections` connections of a listener; 0 is without end. No call has failed.
+    pub fn new(
+        rt: R,
+        alloc: Global,
+        listener: TcpListener,
+        connections: u32,
+        patience: Patience,
+    ) -> io::Result<TcpDoor<R>>
+        ensures faults { IfOk result (λ door. door.faults ≡ 0) }
+        ensures remaining { IfOk result (λ door. door.remaining ≡ remaining_of connections) }
+        ensures patience { IfOk result (λ door. door.patience ≡ patience) }
     {
-        TcpDoor {
+        let reactor = Reactor::new(&rt, alloc, listener, present(&rt))?;
+        Ok(TcpDoor {
             rt,
-            listener,
             remaining: Remaining::of(connections),
             patience,
+            reactor,
             faults: 0,
-        }
+        })
     }
+}
 
+impl<R: rt::Clock + Clone + Drop> TcpDoor<R> {
     /// The address at which it listens.
     pub fn local_addr(&self) -> io::Result<SocketAddr> {
-        self.listener.local_addr()
+        self.reactor.local_addr()
     }
 
-    // Waits for the next connection.
-    fn next_link(&self) -> Result<TcpLink<R>, Failed>
-        ensures { IfOk result (λ link. IsFresh (⟦<TcpLink<R> as Link>⟧.shown link)) }
-    {
-        let stream = accept_next(&self.listener)?;
-        set_up(&stream, self.patience)?;
-        let Ok(rt) = self.rt.clone() else {
-            return Err(Failed);
-        };
-        let Ok(now) = Instant::now(&rt) else {
-            return Err(Failed);
-        };
-        Ok(TcpLink::new(rt, stream, now, self.patience))
-    }
-
-    // Waits for the next connection, unless none is to come any more.
-    fn next_of_some(&mut self) -> Result<Option<TcpLink<R>>, Failed>
+    // The next link, where one comes without waiting.
+    fn next_link(&mut self, key: usize) -> Result<Option<TcpLink<R>>, Failed>
         ensures faults { self.new.faults ≡ self.old.faults }
         ensures fresh { IfOk result (λ found. IfSome found (λ link. IsFresh (⟦<TcpLink<R> as Link>⟧.shown link))) }
         ensures remaining { IfOk result (ComesOf self.old.remaining self.new.remaining) }
@@ -72,9 +67,40 @@ impl<R: rt::Clock + Clone + Drop> TcpDoor<R> {
         if self.remaining.is_over() {
             return Ok(None);
         }
-        let link = self.next_link()?;
+        let Ok(rt) = self.rt.clone() else {
+            return Err(Failed);
+        };
+        let now = present(&rt);
+        let Some(stream) = self.reactor.next_stream(key, now)? else {
+            return Ok(None);
+        };
         self.remaining = self.remaining.one_less();
-        Ok(Some(link))
+        Ok(Some(TcpLink::new(rt, stream, now, self.patience)))
+    }
+
+    // Waits for what comes next.
+    fn next_coming(&mut self, key: usize) -> Result<Coming<TcpLink<R>>, Failed>
+        ensures faults { self.new.faults ≡ self.old.faults }
+        ensures fresh { IfOk result (IfCame (λ link. IsFresh (⟦<TcpLink<R> as Link>⟧.shown link))) }
+        ensures remaining { IfOk result (CountsDown self.old.remaining self.new.remaining) }
+        ensures err { OnErr result (self.new.remaining ≡ self.old.remaining) }
+    {
+        'waits: for _ in 0..u64::MAX {
+            if let Some(ready) = self.reactor.next_ready() {
+                return Ok(Coming::Ready(ready));
+            }
+            if let Some(link) = self.next_link(key)? {
+                return Ok(Coming::Came(link));
+            }
+            if self.remaining.is_over() && self.reactor.is_empty() {
+                return Ok(Coming::Closed);
+            }
+            if self.reactor.has_failed() {
+                return Err(Failed);
+            }
+            self.reactor.wait(&self.rt, !self.remaining.is_over())?;
+        }
+        Err(Failed)
     }
 }
 
@@ -87,54 +113,25 @@ impl<R: rt::Clock + Clone + Drop + Send> Door for TcpDoor<R> {
         self.faults
     }
 
-    fn accept(&mut self) -> Result<Option<TcpLink<R>>, Failed>
-        ensures fresh { IfOk result (λ found. IfSome found (λ link. IsFresh (⟦<TcpLink<R> as Link>⟧.shown link))) }
+    fn next(&mut self, key: usize) -> Result<Coming<TcpLink<R>>, Failed>
+        ensures fresh { IfOk result (IfCame (λ link. IsFresh (⟦<TcpLink<R> as Link>⟧.shown link))) }
         ensures cause { HasCause self.old.faults self.new.faults result }
 
-        // No link comes exactly where none is left, and each that comes is one less.
-        ensures remaining { IfOk result (ComesOf self.old.remaining self.new.remaining) }
+        // Each link that comes is one less, and the door closes only where none is left.
+        ensures remaining { IfOk result (CountsDown self.old.remaining self.new.remaining) }
         ensures err { OnErr result (self.new.remaining ≡ self.old.remaining) }
     {
-        let accepted = self.next_of_some();
-        counted(&mut self.faults, accepted)
+        let coming = self.next_coming(key);
+        counted(&mut self.faults, coming)
     }
 
-    fn done(&mut self, link: TcpLink<R>) {
-        let mut link = link;
-        end(&link.rt, &mut link.stream);
+    fn rest(&mut self, key: usize, link: &mut TcpLink<R>) {
+        let waits = link.waits();
+        let due = link.due();
+        self.reactor.rest(key, &mut link.stream, waits, due);
     }
-}
 
-/// Waits for the next connection. An accept that fails since the peer is gone already, or since a signal came, is made
-/// again.
-pub fn accept_next<L: OpenListener>(listener: &L) -> Result<L::Stream, Failed> {
-    for _ in 0..u64::MAX {
-        match listener.accept() {
-            Ok((stream, _address)) => return Ok(stream),
-            Err(error) => {
-                if !is_passing(error.kind()) {
-                    return Err(Failed);
-                }
-            }
-        }
+    fn done(&mut self, _key: usize, link: TcpLink<R>) {
+        self.reactor.end(link.into_stream(), present(&self.rt));
     }
-    Err(Failed)
-}
-
-// Whether an accept that failed so says nothing of the next one.
-fn is_passing(kind: ErrorKind) -> bool
-    ensures { result ≡ is_passing kind }
-{
-    matches!(
-        kind,
-        ErrorKind::ConnectionAborted | ErrorKind::ConnectionReset | ErrorKind::Interrupted
-    )
-}
-
-// Sends what is put at once, and waits only so long for the peer to take it.
-fn set_up<S: OpenStream>(stream: &S, patience: Duration) -> Result<(), Failed> {
-    if stream.set_nodelay(true).is_err() || stream.set_write_timeout(Some(patience)).is_err() {
-        return Err(Failed);
-    }
-    Ok(())
 }

@@ -1,9 +1,12 @@
-//! The machine's doors, inboxes and clock, as the traits of `fm_doors`, and the world of a process.
+//! The machine's doors, inboxes and clock, as the traits of `dev_traits`, and the world of a process.
 #![tactic(auto)]
 
+mod accepting;
 mod clock;
 mod closing;
 mod door;
+mod endings;
+mod entry;
 mod failing;
 mod inbox;
 mod link;
@@ -12,17 +15,27 @@ mod moving;
 mod names;
 mod opener;
 mod paths;
+mod patience;
+mod present;
+mod reactor;
 mod remaining;
-mod waiting;
+mod socket;
+mod watching;
+mod wheel;
 mod world;
 
+pub use accepting::{Accepting, accepting_of};
 pub use clock::RealClock;
-pub use closing::{DROPPED_AT_MOST, drop_rest};
-pub use door::{TcpDoor, accept_next};
+pub use closing::{DROPPED_AT_MOST, Ending, LINGER};
+pub use door::TcpDoor;
+pub use entry::Entry;
 pub use inbox::FolderInbox;
-pub use link::{TcpLink, TimedLink};
+pub use link::{PolledLink, TcpLink};
 pub use names::{Shelf, is_offered, shelf_of};
 pub use opener::RealOpener;
+pub use patience::{Pace, Patience, Sending};
 pub use remaining::Remaining;
-pub use waiting::{take_within, time_left};
+pub use socket::{Listener, Socket};
+pub use watching::Watched;
+pub use wheel::{Wheel, second_after, second_of};
 pub use world::{HostWorld, host_world};

@@ -1,87 +1,120 @@
-//! A stream as a link whose peer is waited for only so long.
-ghost use Rattle.std.specs.Prelude.{◌≡◌, ◌<◌, ◌≤◌, length, None, IfOk};
-ghost use Rattle.std.specs.Io.KnownBytes.{WriteAppends};
+//! A socket as a link that doesn't wait.
+ghost use Rattle.std.specs.Prelude.{◌≡◌, ◌<◌, length, None, IfOk};
+ghost use Rattle.dev_host.specs.Taking.{TakesInTime};
+ghost use Rattle.dev_std.specs.Moving.{Sends};
 ghost use Rattle.dev_traits.specs.Cause.{HasCause};
-ghost use Rattle.dev_host.specs.Taking.{ReadsFront};
+ghost use Rattle.dev_traits.specs.Link.{SendsWithin, TakesWithin};
 
-use crate::waiting::take_within;
-use dev_std::{counted, write_some};
-use dev_traits::{Failed, Link};
-use std::io::{Read, Write};
-use std::net::{OpenStream, TcpStream};
+use crate::patience::{Pace, Patience};
+use crate::present::present;
+use crate::socket::Socket;
+use dev_std::{put_now, take_now};
+use dev_traits::{Failed, Link, Sent, Taken, count_fault};
+use mio::net::TcpStream;
 use std::rt;
-use std::time::{Duration, Instant};
 
-/// A link whose peer is at the other end of a stream. A take gives no bytes once `patience` has passed since the last
-/// put, or since the link was made: so a peer that is silent ends, and one that sends a byte now and then.
+/// A link over a socket, whose peer is waited for only so long. A take that would wait says the end of input once no
+/// byte was put for that long, so a peer that is silent ends, and one that sends a byte now and then. A put that would
+/// wait fails once the peer took nothing for that long, or too little.
 #[derive(Drop)]
-pub struct TimedLink<S: Read + Write + OpenStream + Drop, R: rt::Clock + Drop> {
-    pub(crate) rt: R,
-    pub(crate) stream: S,
-    since: Instant,
-    patience: Duration,
+pub struct PolledLink<S: Socket + Drop, R: rt::Clock + Drop> {
+    pub stream: S,
+    rt: R,
+    patience: Patience,
+    pace: Pace,
+    waits: bool,
     faults: u64,
 }
 
-/// A link over a socket.
-pub type TcpLink<R> = TimedLink<TcpStream, R>;
+/// A link over a socket of the machine.
+pub type TcpLink<R> = PolledLink<TcpStream, R>;
 
-impl<S: Read + Write + OpenStream + Drop, R: rt::Clock + Drop> TimedLink<S, R> {
-    /// A link over a stream whose patience begins at this moment. No call has failed.
-    pub fn new(rt: R, stream: S, since: Instant, patience: Duration) -> TimedLink<S, R>
+impl<S: Socket + Drop, R: rt::Clock + Drop> PolledLink<S, R> {
+    /// A link that comes at this moment, in milliseconds of the clock. No call has failed.
+    pub fn new(rt: R, stream: S, now: u64, patience: Patience) -> PolledLink<S, R>
         ensures stream { result.stream ≡ stream }
-        ensures shown { ⟦<TimedLink<S, R> as Link>⟧.shown result ≡ record { held = None; faults = 0 } }
+        ensures shown { ⟦<PolledLink<S, R> as Link>⟧.shown result ≡ record { held = None; faults = 0 } }
     {
-        TimedLink {
-            rt,
+        PolledLink {
             stream,
-            since,
+            rt,
             patience,
+            pace: Pace::new(now),
+            waits: false,
             faults: 0,
         }
     }
 
-    // Begins the patience again. Where the clock can't be read it goes on.
-    fn renew(&mut self)
-        ensures stream { self.new.stream ≡ self.old.stream }
-        ensures faults { self.new.faults ≡ self.old.faults }
-    {
-        if let Ok(now) = Instant::now(&self.rt) {
-            self.since = now;
-        }
+    /// Whether the last call would have waited.
+    pub fn waits(&self) -> bool {
+        self.waits
+    }
+
+    /// The moment at which its time is over, if nothing moves until then.
+    pub fn due(&self) -> u64 {
+        self.patience.due(self.pace)
+    }
+
+    // Whether its time is over.
+    fn is_over(&self) -> bool {
+        self.due() <= present(&self.rt)
+    }
+
+    // The stream, of a link that has ended.
+    pub(crate) fn into_stream(self) -> S {
+        let PolledLink { stream, .. } = self;
+        stream
     }
 }
 
-impl<S: Read + Write + OpenStream + Drop, R: rt::Clock + Drop> Link for TimedLink<S, R> {
+impl<S: Socket + Drop, R: rt::Clock + Drop> Link for PolledLink<S, R> {
     ghost shown = { λ link. record { held = None; faults = link.faults } };
 
     fn faults(&self) -> u64 {
         self.faults
     }
 
-    fn take(&mut self, buf: &mut [u8]) -> Result<usize, Failed>
-        ensures within { IfOk result (λ count. count ≤ length buf.old) }
+    fn take(&mut self, buf: &mut [u8]) -> Result<Taken, Failed>
+        requires { 0 < length buf.old }
+        ensures within { IfOk result (TakesWithin (length buf.old)) }
         ensures cause { HasCause self.old.faults self.new.faults result }
 
         // Where the stream's bytes are known, the next ones were taken.
-        ensures bytes { ReadsFront (S.remaining self.old.stream) (S.remaining self.new.stream)
-            result buf.new }
+        ensures bytes { TakesInTime (S.remaining self.old.stream) (S.remaining self.new.stream) buf.new result }
     {
-        let taken = take_within(&self.rt, &mut self.stream, self.since, self.patience, buf);
-        counted(&mut self.faults, taken)
+        self.pace = self.pace.taking();
+        self.waits = false;
+        match take_now(&mut self.stream, buf) {
+            Ok(Taken::Bytes(count)) => Ok(Taken::Bytes(count)),
+            Ok(Taken::Later) if !self.is_over() => {
+                self.waits = true;
+                Ok(Taken::Later)
+            }
+            Ok(Taken::End | Taken::Later) => Ok(Taken::End),
+            Err(Failed) => Err(count_fault(&mut self.faults)),
+        }
     }
 
-    fn put(&mut self, bytes: &[u8]) -> Result<usize, Failed>
-        ensures some { IfOk result (λ count. 0 < count) }
-        ensures within { IfOk result (λ count. count ≤ length bytes.now) }
+    fn put(&mut self, bytes: &[u8]) -> Result<Sent, Failed>
+        ensures within { IfOk result (SendsWithin (length bytes.now)) }
         ensures cause { HasCause self.old.faults self.new.faults result }
 
         // Where the stream's bytes are known, just these were appended to them.
-        ensures bytes { WriteAppends (S.contents self.old.stream) (S.contents self.new.stream)
-            result bytes.now }
+        ensures bytes { Sends (S.contents self.old.stream) (S.contents self.new.stream) bytes.now result }
     {
-        let put = write_some(&mut self.stream, bytes);
-        self.renew();
-        counted(&mut self.faults, put)
+        let now = present(&self.rt);
+        self.pace = self.pace.putting(now);
+        self.waits = false;
+        match put_now(&mut self.stream, bytes) {
+            Ok(Sent::Bytes(count)) => {
+                self.pace = self.pace.put(now, count as u64);
+                Ok(Sent::Bytes(count))
+            }
+            Ok(Sent::Later) if now < self.due() => {
+                self.waits = true;
+                Ok(Sent::Later)
+            }
+            Ok(Sent::Later) | Err(Failed) => Err(count_fault(&mut self.faults)),
+        }
     }
 }

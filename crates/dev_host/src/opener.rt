@@ -1,20 +1,20 @@
 //! What opens the doors, inboxes and clocks of the machine.
+ghost use Rattle.std.specs.Option.{option_copied};
 ghost use Rattle.std.specs.Prelude.{◌≡◌, None, IfOk};
+ghost use Rattle.dev_host.specs.Bound.{listener_at};
 
 use crate::clock::RealClock;
 use crate::door::TcpDoor;
 use crate::failing::{counted_fault, fail_of};
 use crate::inbox::FolderInbox;
+use crate::patience::Patience;
 use dev_traits::{Door, Failed, Inbox, Opener};
 use fm_base::{Bytes, Fail, List};
 use std::alloc::Global;
 use std::marker::Send;
-use std::net::{Net, TcpListener, TcpStream};
+use std::net::{Net, TcpListener, ToSocketAddrs};
 use std::time::Duration;
 use std::{rt, str};
-
-// For how many seconds a peer is waited for.
-const PATIENCE: u64 = 30;
 
 // How many seconds it is from one tick of a clock to the next.
 const INTERVAL: u64 = 60;
@@ -37,12 +37,7 @@ pub struct RealOpener<R: Drop> {
 
 impl<R> RealOpener<R>
 where
-    R: rt::Files
-        + rt::Clock
-        + Net<Listener = TcpListener, Stream = TcpStream>
-        + AllocGlobal
-        + Clone
-        + Drop,
+    R: rt::Files + rt::Clock + Net + AllocGlobal + Clone + Drop,
 {
     /// What opens by this runtime. Nothing is open, and no call has failed.
     pub fn new(rt: R) -> RealOpener<R>
@@ -65,10 +60,14 @@ where
     ) -> Result<TcpDoor<R>, Fail<Failed>>
         ensures faults { self.new.faults ≡ self.old.faults }
         ensures fresh { IfOk result (λ door. door.faults ≡ 0) }
+        ensures patience { IfOk result (λ door. door.patience ≡ record { idle = 30_000; grace = 60_000 }) }
     {
         let listener = self.listener_at(alloc, address)?;
         let rt = self.rt.clone()?;
-        Ok(TcpDoor::new(rt, listener, connections, Duration::from_secs(PATIENCE)))
+        match TcpDoor::new(rt, alloc, listener, connections, Patience::of_server()) {
+            Ok(door) => Ok(door),
+            Err(error) => Err(fail_of(&error)),
+        }
     }
 
     // The socket that listens at an address, which is opened where it wasn't before.
@@ -96,13 +95,7 @@ where
 
 impl<R> Opener for RealOpener<R>
 where
-    R: rt::Files
-        + rt::Clock
-        + Net<Listener = TcpListener, Stream = TcpStream>
-        + AllocGlobal
-        + Clone
-        + Drop
-        + Send,
+    R: rt::Files + rt::Clock + Net + AllocGlobal + Clone + Drop + Send,
 {
     type D = TcpDoor<R>;
 
@@ -136,8 +129,10 @@ where
     }
 }
 
-// The socket that was opened at an address.
-fn bound_at<'a>(bound: &'a [Bound], address: &[u8]) -> Option<&'a TcpListener> {
+// The socket that was opened at this very address.
+fn bound_at<'a>(bound: &'a [Bound], address: &[u8]) -> Option<&'a TcpListener>
+    ensures { option_copied result ≡ listener_at bound.now address.now }
+{
     for one in bound {
         if one.address.as_slice() == address {
             return Some(&one.listener);
@@ -146,18 +141,23 @@ fn bound_at<'a>(bound: &'a [Bound], address: &[u8]) -> Option<&'a TcpListener> {
     None
 }
 
-// Opens a socket that listens at an address, which is text.
-fn bind<R: Net<Listener = TcpListener, Stream = TcpStream>>(
-    rt: &R,
-    address: &[u8],
-) -> Result<TcpListener, Fail<Failed>> {
+// Opens a socket that listens at an address, which is text, with the longest queue that the system allows.
+fn bind<R: Net>(rt: &R, address: &[u8]) -> Result<TcpListener, Fail<Failed>> {
     let Ok(address) = str::from_utf8(address) else {
         return Err(Fail::Fault(Failed));
     };
-    match TcpListener::bind(rt, address) {
-        Ok(listener) => Ok(listener),
-        Err(error) => Err(fail_of(&error)),
+    let addresses = match address.to_socket_addrs(rt) {
+        Ok(addresses) => addresses,
+        Err(error) => return Err(fail_of(&error)),
+    };
+    let mut fail = Fail::Fault(Failed);
+    for address in addresses {
+        match mio::net::TcpListener::bind(rt, address) {
+            Ok(listener) => return Ok(TcpListener::from(listener)),
+            Err(error) => fail = fail_of(&error),
+        }
     }
+    Err(fail)
 }
 
 // The same socket for one more door.

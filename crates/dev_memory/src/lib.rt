@@ -10,13 +10,17 @@ mod mem_inbox;
 mod mem_link;
 mod mem_opener;
 mod mem_sink;
+mod paused_link;
+mod pauses;
 mod room;
 
 pub use calls::Calls;
 pub use mem_clock::MemClock;
-pub use mem_door::MemDoor;
+pub use mem_door::{DoorEvent, MemDoor};
 pub use mem_files::{Entry, MemFiles, look_up};
 pub use mem_inbox::MemInbox;
 pub use mem_link::{Hold, MemLink};
 pub use mem_opener::MemOpener;
 pub use mem_sink::MemSink;
+pub use paused_link::PausedLink;
+pub use pauses::Pauses;

@@ -1,42 +1,73 @@
 //! A door in memory.
-ghost use Rattle.std.specs.Prelude.{◌≡◌, ◌+◌, ◌≤◌, All, IfOk, IfSome, None, Some, length, vec_capacity, vec_len};
+ghost use Rattle.std.specs.Prelude.{◌≡◌, ◌+◌, ◌<◌, ◌≤◌, All, IfOk, IfSome, None, Some, length, vec_capacity, vec_len};
 ghost use Rattle.dev_traits.specs.Door.{IsFresh, fresh_doorway};
 ghost use Rattle.dev_traits.specs.Opener.{door_asked};
 
 use crate::calls::Calls;
-use crate::mem_link::MemLink;
-use dev_traits::{Door, DoorAsked, Failed, Link};
+use crate::paused_link::PausedLink;
+use dev_traits::{Coming, Door, DoorAsked, Failed, Link};
 use fm_base::{List, NoMemory};
 use std::alloc::Global;
 
-/// A door in memory, with the links that are to come and room for those that are given back.
+/// What a door in memory says next.
+#[derive(Clone, Copy, Debug, PartialEq, Eq)]
+pub enum DoorEvent {
+    /// The next link comes.
+    Comes,
+    /// The link of this key may go on, whether there is one or not.
+    Ready(usize),
+}
+
+/// A door in memory, with the links that are to come and room for those that are given back. It says what its script
+/// says. Without one, or where that can't be, the link goes on that came first of those that are out, and where none is
+/// out the next one comes.
 #[derive(Drop)]
 pub struct MemDoor {
     asked: Option<DoorAsked>,
-    left: List<MemLink>,
-    out: usize,
-    given: Vec<MemLink>,
+    left: List<PausedLink>,
+    // of the links that are out, in the order in which they came
+    keys: Vec<usize>,
+    given: Vec<PausedLink>,
+    events: List<DoorEvent>,
+    event: usize,
     calls: Calls,
-    ghost room: { length left + out + vec_len given ≤ vec_capacity given },
-    ghost fresh: { All (λ link. IsFresh (⟦<MemLink as Link>⟧.shown link)) left },
+    ghost places: { length left + vec_len keys ≤ vec_capacity keys },
+    ghost room: { length left + vec_len keys + vec_len given ≤ vec_capacity given },
+    ghost fresh: { All (λ link. IsFresh (⟦<PausedLink as Link>⟧.shown link)) left },
 }
 
 impl MemDoor {
-    /// A door with these links to come, which weren't used before. The accepts with these numbers, counted from 1,
-    /// fail.
-    pub fn new(alloc: Global, links: List<MemLink>, failing: List<u64>) -> Result<MemDoor, NoMemory>
-        requires fresh { All (λ link. IsFresh (⟦<MemLink as Link>⟧.shown link)) links }
+    /// A door with these links to come, which weren't used before, and no script. The calls of `next` with these
+    /// numbers, counted from 1, fail.
+    pub fn new(
+        alloc: Global,
+        links: List<PausedLink>,
+        failing: List<u64>,
+    ) -> Result<MemDoor, NoMemory>
+        requires fresh { All (λ link. IsFresh (⟦<PausedLink as Link>⟧.shown link)) links }
         ensures shown { IfOk result (λ door.
             ⟦<MemDoor as Door>⟧.shown door ≡ record { held = Some (fresh_doorway links); faults = 0 }) }
     {
+        let keys = Vec::with_capacity(alloc, links.len())?;
         let given = Vec::with_capacity(alloc, links.len())?;
         Ok(MemDoor {
             asked: None,
             left: links,
-            out: 0,
+            keys,
             given,
+            events: List::new(alloc),
+            event: 0,
             calls: Calls::new(failing),
         })
+    }
+
+    /// The same door, with a script of what it says.
+    pub fn with_events(self, events: List<DoorEvent>) -> MemDoor
+        ensures { ⟦<MemDoor as Door>⟧.shown result ≡ ⟦<MemDoor as Door>⟧.shown self }
+    {
+        let mut door = self;
+        door.events = events;
+        door
     }
 
     // The same door, opened with this.
@@ -49,7 +80,7 @@ impl MemDoor {
     }
 
     /// The links that were given back.
-    pub fn given(&self) -> &[MemLink]
+    pub fn given(&self) -> &[PausedLink]
         ensures { IfSome (⟦<MemDoor as Door>⟧.shown self.now).held (λ doorway. result.now ≡ doorway.given) }
     {
         self.given.as_slice()
@@ -57,10 +88,15 @@ impl MemDoor {
 }
 
 impl Door for MemDoor {
-    type L = MemLink;
+    type L = PausedLink;
 
     ghost shown = { λ door. record {
-      held = Some (record { asked = door.asked; left = door.left; out = door.out; given = door.given.items });
+      held = Some (record {
+        asked = door.asked;
+        left = door.left;
+        out = vec_len door.keys;
+        given = door.given.items;
+      });
       faults = door.calls.faults;
     } };
 
@@ -68,20 +104,47 @@ impl Door for MemDoor {
         self.calls.faults
     }
 
-    fn accept(&mut self) -> Result<Option<MemLink>, Failed> {
+    fn next(&mut self, key: usize) -> Result<Coming<PausedLink>, Failed> {
         if self.calls.due() {
             return Err(self.calls.fail());
         }
+        let event = self.events.as_slice().get(self.event).copied();
+        self.event = self.event.saturating_add(1);
+        let comes = event == Some(DoorEvent::Comes) && !self.left.is_empty();
+        if let Some(oldest) = self.keys.as_slice().first()
+            && !comes
+        {
+            return Ok(Coming::Ready(key_said(event, *oldest)));
+        }
         if self.left.is_empty() {
-            return Ok(None);
+            return Ok(Coming::Closed);
         }
         let link = self.left.items.remove(0);
-        self.out += 1;
-        Ok(Some(link))
+        self.keys.push_reserved(key);
+        Ok(Coming::Came(link))
     }
 
-    fn done(&mut self, link: MemLink) {
-        self.out -= 1;
+    fn rest(&mut self, _key: usize, _link: &mut PausedLink) {}
+
+    fn done(&mut self, key: usize, link: PausedLink) {
+        let index = index_of(self.keys.as_slice(), key);
+        self.keys.remove(index);
         self.given.push_reserved(link);
     }
+}
+
+// The key in an event, or else that of the link that came first.
+fn key_said(event: Option<DoorEvent>, oldest: usize) -> usize {
+    match event {
+        Some(DoorEvent::Ready(key)) => key,
+        Some(DoorEvent::Comes) | None => oldest,
+    }
+}
+
+// Where a key stands. One that is not there counts as the first.
+fn index_of(keys: &[usize], key: usize) -> usize
+    requires { 0 < length keys.now }
+    ensures { result < length keys.now }
+{
+    keys.iter().position(|one| *one == key).unwrap_or(0)
 }

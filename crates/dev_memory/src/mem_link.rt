@@ -1,10 +1,10 @@
 //! A link in memory.
-ghost use Rattle.std.specs.Prelude.{◌≡◌, ◌+◌, ◌^◌, ◌<◌, ◌≤◌, min, length, take, drop, Some, IfSome, IfOk};
+ghost use Rattle.std.specs.Prelude.{⊤, ◌≡◌, ◌+◌, ◌^◌, ◌<◌, ◌≤◌, min, length, take, drop, Some, IfSome, IfOk};
 ghost use Rattle.dev_traits.specs.Link.{fresh_wire, wire_at};
 
 use crate::calls::Calls;
 use crate::room::Room;
-use dev_traits::{Failed, Link};
+use dev_traits::{Failed, Link, Sent, Taken};
 use fm_base::{Bytes, List, NoMemory};
 use std::alloc::Global;
 
@@ -15,8 +15,8 @@ pub struct Hold {
     pub put: usize,
 }
 
-/// A link in memory: input that is given, and output with room that was made beforehand. A put with no room left
-/// fails, and a put for which there is some room takes what fits.
+/// A link in memory that blocks: input that is given, and output with room that was made beforehand. A put with no room
+/// left fails, and a put for which there is some room takes what fits.
 #[derive(Drop)]
 pub struct MemLink {
     /// How many bytes one take gives at most; 0 stands for 1.
@@ -95,6 +95,11 @@ impl MemLink {
         self.rest()
     }
 
+    // How many bytes were taken.
+    pub(crate) fn taken(&self) -> usize {
+        self.taken
+    }
+
     fn rest(&self) -> &[u8]
         ensures bytes { result.now ≡ drop self.now.taken self.now.input }
         ensures fits { self.now.taken + length result.now < 2 ^ 64 }
@@ -121,11 +126,13 @@ impl Link for MemLink {
       faults = link.calls.faults;
     } };
 
+    ghost blocks = { ⊤ };
+
     fn faults(&self) -> u64 {
         self.calls.faults
     }
 
-    fn take(&mut self, buf: &mut [u8]) -> Result<usize, Failed> {
+    fn take(&mut self, buf: &mut [u8]) -> Result<Taken, Failed> {
         if self.calls.due() {
             return Err(self.calls.fail());
         }
@@ -134,11 +141,14 @@ impl Link for MemLink {
             return Err(self.calls.fail());
         }
         let count = copy_front(self.rest(), most, buf);
+        if count == 0 {
+            return Ok(Taken::End);
+        }
         self.taken += count;
-        Ok(count)
+        Ok(Taken::Bytes(count))
     }
 
-    fn put(&mut self, bytes: &[u8]) -> Result<usize, Failed> {
+    fn put(&mut self, bytes: &[u8]) -> Result<Sent, Failed> {
         if self.calls.due() {
             return Err(self.calls.fail());
         }
@@ -147,7 +157,7 @@ impl Link for MemLink {
         if count == 0 {
             return Err(self.calls.fail());
         }
-        Ok(count)
+        Ok(Sent::Bytes(count))
     }
 }
 

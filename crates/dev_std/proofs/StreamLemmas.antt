@@ -24,7 +24,13 @@ Keeps-none None b bytes written = tt
 Keeps-none (Some x) None bytes written = absurd written
 Keeps-none (Some x) (Some y) bytes written = written ∙ append-nil x
 
-pub ruleset known = (Consumes-after, Appends-after, Keeps-none, Keeps-refl, Keeps-trans)
+-- a read of no bytes keeps them
+pub Keeps-unread : (a b : Option (List ℕ)) (bytes : List ℕ) → Consumes a b (take 0 bytes) → Keeps a b
+Keeps-unread None b bytes read = tt
+Keeps-unread (Some x) None bytes read = absurd read
+Keeps-unread (Some x) (Some y) bytes read = sym read
+
+pub ruleset known = (Consumes-after, Appends-after, Keeps-none, Keeps-unread, Keeps-refl, Keeps-trans)
 
 -- the first i bytes were written, and then n more
 pub Appends-more : (a b c : Option (List ℕ)) (i n : ℕ) (bytes : List ℕ)

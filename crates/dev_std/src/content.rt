@@ -28,15 +28,16 @@ fn found_in(items: Vec<u8>, limit: u64, most: u64) -> Result<Found, Fail<Failed>
 
 /// All that a reader has left, where it is at most `limit` bytes. They are read in place, into room for `len` bytes,
 /// which grows where there are more. A reader that fails is a fault, and never an end; a read that a signal
-/// interrupts is made again. Of a reader without end at most `limit` bytes and one are read.
-pub fn read_to_end<R: Read>(
+/// interrupts is made again. Of a reader without end at most `limit` bytes and one are read. The reader is taken, since
+/// nothing is known of what it has left where it fails.
+pub fn read_to_end<R: Read + Drop>(
     alloc: Global,
-    reader: &mut R,
+    reader: R,
     len: u64,
     limit: u64,
 ) -> Result<Found, Fail<Failed>>
     ensures limit { IfOk result (KeepsLimit limit) }
-    ensures content { IfSome (R.remaining reader.old) (λ bytes. IfOk result (IsAllOf bytes limit)) }
+    ensures content { IfSome (R.remaining reader) (λ bytes. IfOk result (IsAllOf bytes limit)) }
 {
     let room = (len as usize).saturating_add(1);
     let mut items = Vec::with_capacity(alloc, room)?;

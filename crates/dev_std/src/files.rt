@@ -56,7 +56,7 @@ pub fn read_file<R: rt::Files>(
         return Err(Fail::Fault(Failed));
     };
     match File::open(rt, path) {
-        Ok(mut file) => read_open(alloc, &mut file, limit),
+        Ok(file) => read_open(alloc, file, limit),
         Err(error) => match unopened(&error) {
             Ok(found) => Ok(found),
             Err(failed) => Err(Fail::Fault(failed)),
@@ -78,13 +78,13 @@ fn unopened(error: &Error) -> Result<Found, Failed>
 }
 
 // The file that is open, where its length, as the system says it, keeps the limit.
-fn read_open<F: Read + OpenFile>(
+fn read_open<F: Read + OpenFile + Drop>(
     alloc: Global,
-    file: &mut F,
+    file: F,
     limit: u64,
 ) -> Result<Found, Fail<Failed>>
     ensures limit { IfOk result (KeepsLimit limit) }
-    ensures content { IfSome (F.remaining file.old) (λ bytes. IfOk result (IsFoundIn bytes)) }
+    ensures content { IfSome (F.remaining file) (λ bytes. IfOk result (IsFoundIn bytes)) }
 {
     let Ok(metadata) = file.metadata() else {
         return Err(Fail::Fault(Failed));

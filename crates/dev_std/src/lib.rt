@@ -16,4 +16,4 @@ pub use files::{RealFiles, read_file};
 pub use link::{StdLink, StreamLink};
 pub use process::unread;
 pub use sink::{StdSink, StdStream, StreamSink};
-pub use stream::{counted, read_some, write_some, write_whole};
+pub use stream::{counted, put_now, take_now, write_whole};

@@ -1,55 +1,57 @@
 //! Bytes that are read from a reader and written to a writer, as a link and a sink do it.
 ghost use Rattle.std.specs.Prelude.{◌≡◌, ◌<◌, ◌≤◌, ℕ, length, take, IfOk, OnOk, OnErr};
-ghost use Rattle.std.specs.Io.{ReadsAtMost, WritesAtMost};
-ghost use Rattle.std.specs.Io.KnownBytes.{Appends, ReadConsumes, WriteAppends};
+ghost use Rattle.std.specs.Io.KnownBytes.{Appends};
+ghost use Rattle.dev_std.specs.Moving.{Sends, Takes};
 ghost use Rattle.dev_traits.specs.Cause.{HasCause};
+ghost use Rattle.dev_traits.specs.Link.{SendsWithin, TakesWithin};
 
-use dev_traits::{Failed, count_fault};
+use dev_traits::{Failed, Sent, Taken, count_fault};
 use std::io::{ErrorKind, Read, Write};
 
-/// Reads the next bytes into the front of `buf`, and returns how many; 0 is the end, where `buf` has room. A read that
-/// a signal interrupts is made again.
+/// Reads the next bytes into the front of `buf`, unless that would wait. A read that a signal interrupts is made again.
 #[tactic(auto, using(crate::proofs::StreamLemmas::known))]
-pub fn read_some<R: Read>(reader: &mut R, buf: &mut [u8]) -> Result<usize, Failed>
-    ensures within { ReadsAtMost result buf.new }
-    ensures bytes { ReadConsumes (R.remaining reader.old) (R.remaining reader.new) result buf.new }
+pub fn take_now<R: Read>(reader: &mut R, buf: &mut [u8]) -> Result<Taken, Failed>
+    requires { 0 < length buf.old }
+    ensures within { IfOk result (TakesWithin (length buf.old)) }
+    ensures bytes { Takes (R.remaining reader.old) (R.remaining reader.new) buf.new result }
 {
     'tries: for _ in 0..u64::MAX {
         match reader.read(buf) {
-            Ok(count) => return Ok(count),
-            Err(error) => {
-                if error.kind() != ErrorKind::Interrupted {
-                    return Err(Failed);
-                }
-            }
+            Ok(0) => return Ok(Taken::End),
+            Ok(count) => return Ok(Taken::Bytes(count)),
+            Err(error) => match error.kind() {
+                ErrorKind::Interrupted => {}
+                ErrorKind::WouldBlock => return Ok(Taken::Later),
+                _ => return Err(Failed),
+            },
         }
     }
     Err(Failed)
 }
 
-/// Writes the first bytes of `bytes`, in order and once, and returns how many. A writer that takes none has failed. A
+/// Writes the first bytes of `bytes`, in order and once, unless that would wait. A writer that takes none has failed. A
 /// write that a signal interrupts is made again.
 #[tactic(auto, using(crate::proofs::StreamLemmas::known))]
-pub fn write_some<W: Write>(writer: &mut W, bytes: &[u8]) -> Result<usize, Failed>
-    ensures some { IfOk result (λ count. 0 < count) }
-    ensures within { WritesAtMost result bytes.now }
-    ensures bytes { WriteAppends (W.contents writer.old) (W.contents writer.new) result bytes.now }
+pub fn put_now<W: Write>(writer: &mut W, bytes: &[u8]) -> Result<Sent, Failed>
+    ensures within { IfOk result (SendsWithin (length bytes.now)) }
+    ensures bytes { Sends (W.contents writer.old) (W.contents writer.new) bytes.now result }
 {
     'tries: for _ in 0..u64::MAX {
         match writer.write(bytes) {
             Ok(0) => return Err(Failed),
-            Ok(count) => return Ok(count),
-            Err(error) => {
-                if error.kind() != ErrorKind::Interrupted {
-                    return Err(Failed);
-                }
-            }
+            Ok(count) => return Ok(Sent::Bytes(count)),
+            Err(error) => match error.kind() {
+                ErrorKind::Interrupted => {}
+                ErrorKind::WouldBlock => return Ok(Sent::Later),
+                _ => return Err(Failed),
+            },
         }
     }
     Err(Failed)
 }
 
-/// Writes all the bytes, in order and once, or the first n of them where the writer fails.
+/// Writes all the bytes, in order and once, or the first n of them where the writer fails. One that would wait has
+/// failed.
 #[tactic(auto, using(crate::proofs::StreamLemmas::whole))]
 pub fn write_whole<W: Write>(writer: &mut W, bytes: &[u8]) -> Result<(), Failed>
     ensures ok { OnOk result (Appends (W.contents writer.old) (W.contents writer.new) bytes.now) }
@@ -59,7 +61,10 @@ pub fn write_whole<W: Write>(writer: &mut W, bytes: &[u8]) -> Result<(), Failed>
     let mut written = 0;
     'whole: while written < bytes.len() {
         let (_, rest) = bytes.split_at(written);
-        written += write_some(writer, rest)?;
+        match put_now(writer, rest)? {
+            Sent::Bytes(count) => written += count,
+            Sent::Later => return Err(Failed),
+        }
     }
     Ok(())
 }

@@ -1,8 +1,20 @@
 -- Bytes that are taken or sent in two steps.
-use Rattle.std.proofs.Common.{◌≡◌, ℕ, ◌+◌, List, ◌++◌, take, drop, Option, Some, None, refl, sym, ap, ◌∙◌, append_assoc}
+use Rattle.std.proofs.Common.{◌≡◌, ℕ, ◌+◌, List, ◌++◌, take, drop, Option, Some, None, refl, sym, ap, ◌∙◌, append_assoc, append-nil}
 use Rattle.std.proofs.Math.Seq.{take-add}
 use Rattle.std.proofs.lemmas.List.{drop-drop}
 use Rattle.dev_traits.specs.Link.{Wire, wire_at, after_take, after_put}
+
+-- a link of which nothing was taken
+pub after_take_nothing : (t : Option Wire) → t ≡ after_take 0 t
+after_take_nothing None = refl
+after_take_nothing (Some w) =
+    ap (λ (bytes : List ℕ). Some (record { taken = bytes; left = w.left; put = w.put })) (sym (append-nil w.taken))
+
+-- a link over which nothing was sent
+pub after_put_nothing : (bytes : List ℕ) (t : Option Wire) → t ≡ after_put (take 0 bytes) t
+after_put_nothing bytes None = refl
+after_put_nothing bytes (Some w) =
+    ap (λ (put : List ℕ). Some (record { taken = w.taken; left = w.left; put = put })) (sym (append-nil w.put))
 
 -- first these bytes, and then those
 pub after_put-append : (xs ys : List ℕ) (t : Option Wire) → after_put ys (after_put xs t) ≡ after_put (xs ++ ys) t

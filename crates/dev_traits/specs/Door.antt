@@ -1,6 +1,8 @@
 -- What a door holds.
-use Rattle.std.specs.Prelude.{◌≡◌, ℕ, ◌+◌, ◌-◌, List, [], ◌∷◌, ◌++◌, drop, Option, Some, None, IfSome}
+use Rattle.std.specs.Prelude.{⊤, ◌≡◌, ℕ, ◌<◌, ◌+◌, ◌-◌, List, [], ◌∷◌, ◌++◌, drop, Option, Some, None, IfSome}
 use Rattle.dev_traits.specs.Shown.{LinkShown, Shown}
+use Rattle.dev_traits.specs.declared.door.Coming.{Coming}
+use Rattle.dev_traits.specs.declared.door.Coming.TheVariants.{Came, Ready, Closed}
 use Rattle.dev_traits.specs.declared.door.DoorAsked.{DoorAsked}
 
 -- what a door in memory holds
@@ -27,12 +29,25 @@ abbrev pub first_of : {A : Type 0} → List A → Option A
 first_of [] = None
 first_of (first ∷ more) = Some first
 
--- the door after it gave this link, or none
-abbrev pub after_accept : {L : Type 0} → Option L → Option (Doorway L) → Option (Doorway L)
-after_accept link None = None
-after_accept None (Some doorway) = Some doorway
-after_accept (Some link) (Some doorway) =
+-- what may come next: the first of the links left, a link that is out may go on, or the end where none is left or out
+abbrev pub MayCome : {L : Type 0} → Doorway L → Coming L → Type 0
+MayCome doorway (Came link) = first_of doorway.left ≡ Some link
+MayCome doorway (Ready key) = 0 < doorway.out
+MayCome doorway Closed = (doorway.left ≡ []) × (doorway.out ≡ 0)
+
+-- The link that came, if one did, has this.
+abbrev pub IfCame : {L : Type 0} → (L → Type 0) → Coming L → Type 0
+IfCame P (Came link) = P link
+IfCame P (Ready key) = ⊤
+IfCame P Closed = ⊤
+
+-- the door after it said what comes next
+abbrev pub after_coming : {L : Type 0} → Coming L → Option (Doorway L) → Option (Doorway L)
+after_coming coming None = None
+after_coming (Came link) (Some doorway) =
     Some (record doorway { left = drop 1 doorway.left; out = doorway.out + 1 })
+after_coming (Ready key) (Some doorway) = Some doorway
+after_coming Closed (Some doorway) = Some doorway
 
 -- the door after this link was given back
 abbrev pub after_done : {L : Type 0} → L → Option (Doorway L) → Option (Doorway L)

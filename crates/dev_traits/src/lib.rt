@@ -15,12 +15,12 @@ mod whole;
 mod world;
 
 pub use clock::{Clock, Expiry};
-pub use door::{Door, DoorAsked};
+pub use door::{Coming, Door, DoorAsked};
 pub use faults::{Failed, count_fault};
 pub use files::{Files, Found};
 pub use gate::{Gate, OpenGate, Place};
 pub use inbox::{Arrival, Inbox, Verdict};
-pub use link::Link;
+pub use link::{Link, Sent, Taken};
 pub use opener::Opener;
 pub use sink::Sink;
 pub use whole::put_all;

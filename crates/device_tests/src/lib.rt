@@ -1,5 +1,5 @@
-//! Devices of the machine, in `dev_std` and `dev_host`. Here stands what no clause says: that what is to come comes,
-//! where files go, and what the machine gives.
+//! Devices of the machine in `dev_std` and `dev_host`: what no clause and no row says, which calls fail, and what the
+//! machine gives. The forms in memory are shown by the rows of `rows/commands`.
 #![tactic(auto)]
 
 #[cfg(test)]

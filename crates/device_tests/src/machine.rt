@@ -1,17 +1,13 @@
-//! Devices of the machine, at its loopback device and its folders, and over streams, listings and clocks in memory.
+//! Devices of the machine, at its loopback device, its files and streams, and over readers and writers in memory.
 
 mod calls;
 mod clocks;
 mod doors;
+mod echoing;
+mod ends;
+mod farewells;
 mod files;
-mod folder;
-mod folders;
-mod listings;
 mod openers;
 mod own_path;
 mod plans;
-mod steps;
-mod timed;
-mod turns;
-mod verdicts;
 mod wanted;

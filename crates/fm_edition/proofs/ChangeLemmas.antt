@@ -1,5 +1,5 @@
 -- What is left of a selection of some files after an operation.
-use Rattle.std.proofs.Common.{◌≡◌, Bool, true, false, List, [], ◌∷◌, ◌++◌, ℤ, refl, sym, ap, subst, ◌∙◌, inl, inr}
+use Rattle.std.proofs.Common.{◌≡◌, Bool, true, false, List, [], ◌∷◌, ◌++◌, ℤ, map, refl, sym, ap, subst, ◌∙◌, inl, inr}
 use Rattle.std.specs.Prelude.{filter, not}
 use Rattle.std.specs.Cmp.{signed_Decides}
 use Rattle.std.proofs.lemmas.List.{append-nil}
@@ -11,12 +11,14 @@ use Rattle.fm_model.specs.Cell.{has_time, runs_of, times_of}
 use Rattle.fm_model.specs.Collection.{after_op, kept_from, without}
 use Rattle.fm_model.proofs.CellLemmas.{has-in, in-has}
 use Rattle.fm_model.proofs.InstantLemmas.{In-runs_of, In-times_of}
-use Rattle.fm_model.proofs.Members.{In}
+use Rattle.fm_model.proofs.Members.{In, In-map}
+use Rattle.fm_model.proofs.RisingLemmas.{In-rising}
 use Rattle.fm_list.specs.declared.by.By.{By}
-use Rattle.fm_list.specs.declared.by.By.TheVariants.{Run, Time}
+use Rattle.fm_list.specs.declared.by.By.TheVariants.{Run, Time, Name}
 use Rattle.fm_list.specs.Change.{added, changed, gone, keeps}
+use Rattle.fm_list.specs.Code.{code_of}
 use Rattle.fm_list.specs.Selected.{part, part_after, selects}
-use Rattle.fm_edition.specs.Indexes.{instants, is_among}
+use Rattle.fm_edition.specs.Indexes.{codes_of, instants, is_among}
 
 -- two selections in either order
 pub filter-filter : {A : Type 0} (p q : A → Bool) (xs : List A) → filter p (filter q xs) ≡ filter q (filter p xs)
@@ -94,6 +96,12 @@ passes_not : (b : Bool) → (b ≡ true → false ≡ true) → b ≡ false
 passes_not true h = sym (h refl)
 passes_not false h = refl
 
+-- the code of a file's name is among those of all
+In-codes_of : (files : List Loaded) (file : Loaded) → In file files → In (code_of file.name) (codes_of files)
+unfolding codes_of
+In-codes_of files file held = In-rising (code_of file.name) (map (λ (f : Loaded). code_of f.name) files)
+    (In-map (λ (f : Loaded). code_of f.name) file files held)
+
 -- what selects a file is one of its instants
 pub one_of : (by : By) (files : List Loaded) (key : ℤ) (file : Loaded) → In file files → selects by key file ≡ true
     → is_among (instants by files) key ≡ true
@@ -102,6 +110,9 @@ one_of Run files key file held same = in-has key (runs_of files)
     (subst (λ r. In r (runs_of files)) ((signed_Decides file.run key).0 same) (In-runs_of files file held))
 one_of Time files key file held has = in-has key (times_of files)
     (In-times_of files file key held (has-in key file.times has))
+one_of Name files key file held same = in-has key (codes_of files)
+    (subst (λ code. In code (codes_of files)) ((signed_Decides (code_of file.name) key).0 same)
+    (In-codes_of files file held))
 
 -- the files by an instant that an operation doesn't touch
 pub part-untouched : (by : By) (files : List Loaded) (op : Op) (key : ℤ)

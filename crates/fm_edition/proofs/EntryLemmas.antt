@@ -16,9 +16,10 @@ use Rattle.fm_model.proofs.InstantLemmas.{in_times_of}
 use Rattle.fm_model.proofs.Members.{In, Each, Contains-from_in, in_from_Contains, Each-from_in, Each-in, each_from_All, In-filter, in_filter, In-flat_map, in_flat_map, In-map, in_map}
 use Rattle.fm_model.proofs.RisingLemmas.{in_rising}
 use Rattle.fm_list.specs.declared.by.By.{By}
-use Rattle.fm_list.specs.declared.by.By.TheVariants.{Run, Time}
+use Rattle.fm_list.specs.declared.by.By.TheVariants.{Run, Time, Name}
+use Rattle.fm_list.specs.Code.{code_of}
 use Rattle.fm_list.specs.Selected.{part, selects}
-use Rattle.fm_edition.specs.Indexes.{entries_of, in_page, instants, page_of, shown_in, some_of, AreParts, Pages}
+use Rattle.fm_edition.specs.Indexes.{codes_of, entries_of, in_page, instants, page_of, shown_in, some_of, AreParts, Pages}
 use Rattle.fm_edition.proofs.ChangeLemmas.{one_of}
 
 -- an entry of a map in order is what is found there
@@ -81,13 +82,16 @@ entry_files by files pages are = Each-from_in (λ (entry : ℤ × List Loaded). 
 -- an instant of the files is that of a file that it selects
 of_file : (by : By) (files : List Loaded) (key : ℤ) → In key (instants by files)
     → (file : Loaded) × In file files × (selects by key file ≡ true)
-unfolding instants selects runs_of has_time
+unfolding instants selects runs_of codes_of has_time
 of_file Run files key held =
     let found = in_map (λ (f : Loaded). f.run) key files (in_rising key _ held) in
     (found.0, found.1, (signed_Decides found.0.run key).1 found.2)
 of_file Time files key held =
     let found = in_times_of files key held in
     (found.0, found.1, in-has key found.0.times found.2)
+of_file Name files key held =
+    let found = in_map (λ (f : Loaded). code_of f.name) key files (in_rising key _ held) in
+    (found.0, found.1, (signed_Decides (code_of found.0.name) key).1 found.2)
 
 -- an instant of the files is a key
 pub key_there : (by : By) (files : List Loaded) (pages : Pages) → AreParts by files pages → (key : ℤ)

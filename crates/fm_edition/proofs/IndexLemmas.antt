@@ -11,11 +11,12 @@ use Rattle.fm_model.specs.declared.proto.Proto.{Proto}
 use Rattle.fm_model.specs.Collection.{after_op, tally}
 use Rattle.fm_model.specs.Site.{IsPrototype}
 use Rattle.fm_list.specs.declared.by.By.{By}
-use Rattle.fm_list.specs.declared.by.By.TheVariants.{Run, Time}
+use Rattle.fm_list.specs.declared.by.By.TheVariants.{Run, Time, Name}
 use Rattle.fm_list.specs.Change.{changed}
+use Rattle.fm_edition.specs.declared.maps.index.Index.{Index}
 use Rattle.fm_edition.specs.Held.{Held, held_after, IsEdition}
 use Rattle.fm_list.specs.Selected.{part}
-use Rattle.fm_edition.specs.Indexes.{entries_of, in_page, instants, page_of, page_set, rows_at, shown_in, AreBest, AreOrdered, AreParts, IsIndexed, IsTimed, Pages, RowPages}
+use Rattle.fm_edition.specs.Indexes.{entries_of, in_page, instants, page_of, page_set, rows_at, shown_in, AreBest, AreMaps, AreOrdered, AreParts, IsIndexed, IsTimed, Pages}
 use Rattle.fm_edition.specs.Log.{CanFollow}
 use Rattle.fm_edition.proofs.EditionLemmas.{times_are_sound, IsEdition-after, IsEdition-none}
 use Rattle.fm_edition.proofs.PageLemmas.{AreParts-after}
@@ -37,17 +38,27 @@ AreParts-none by pages none ordered = record {
     nothing false = refl
 
 -- the maps of no files
-pub IsIndexed-none : (proto : Proto) (count : Tally) (by_run by_time : Pages) (best : RowPages) → IsPrototype proto
-    → count ≡ record { files = 0; rows = 0; size = 0 } → by_run.entries ≡ [] → IsOrdered int_cmp by_run
-    → by_time.entries ≡ [] → IsOrdered int_cmp by_time → best.entries ≡ [] → IsOrdered int_cmp best
-    → IsIndexed (record { proto = proto; files = [] }) count by_run by_time best
-unfolding tally rows_at
-IsIndexed-none proto count by_run by_time best is none no_run run_order no_time time_order no_rows row_order = record {
+pub AreMaps-none : (index : Index) → index.by_run.entries ≡ [] → IsOrdered int_cmp index.by_run
+    → index.by_time.entries ≡ [] → IsOrdered int_cmp index.by_time
+    → index.by_name.entries ≡ [] → IsOrdered int_cmp index.by_name
+    → index.best.entries ≡ [] → IsOrdered int_cmp index.best → AreMaps [] index
+unfolding rows_at
+AreMaps-none index no_run run_order no_time time_order no_name name_order no_rows row_order = record {
+  of_runs = AreParts-none Run index.by_run no_run run_order;
+  of_times = AreParts-none Time index.by_time no_time time_order;
+  of_names = AreParts-none Name index.by_name no_name name_order;
+  of_best = record { ordered = row_order; shown = λ number. rw (no_rows, no_time) refl };
+}
+
+-- what an edition without files keeps
+pub IsIndexed-none : (proto : Proto) (count : Tally) (index : Index) → IsPrototype proto
+    → count ≡ record { files = 0; rows = 0; size = 0 } → AreMaps [] index
+    → IsIndexed (record { proto = proto; files = [] }) count index
+unfolding tally
+IsIndexed-none proto count index is none maps = record {
   sound = IsEdition-none proto is;
   counted = none;
-  of_runs = AreParts-none Run by_run no_run run_order;
-  of_times = AreParts-none Time by_time no_time time_order;
-  of_best = record { ordered = row_order; shown = λ number. rw (no_rows, no_time) refl };
+  maps = maps;
 }
 
 -- pages that an operation was done to
@@ -65,16 +76,23 @@ entries_timed-after held op by_time next sound can are done = entries_timed (aft
     (times_are_sound held.proto (after_op held.files op) (IsEdition-after held op sound can).fit)
 
 -- the maps after an operation
-pub IsIndexed-after : (held : Held) (op : Op) (before count : Tally) (by_run by_time next_run next_time : Pages)
-    → (best next_best : RowPages) → IsIndexed held before by_run by_time best → CanFollow held.proto held.files op
-    → count ≡ tally (after_op held.files op) → IsDone Run held.files op by_run next_run
-    → IsDone Time held.files op by_time next_time → AreBest next_time next_best
-    → IsIndexed (held_after held op) count next_run next_time next_best
-IsIndexed-after held op before count by_run by_time next_run next_time best next_best is can counted runs times rows =
-    record {
-      sound = IsEdition-after held op is.sound can;
-      counted = counted;
-      of_runs = AreParts-after Run held.files op by_run next_run is.of_runs runs.ordered runs.set;
-      of_times = AreParts-after Time held.files op by_time next_time is.of_times times.ordered times.set;
-      of_best = rows;
-    }
+pub AreMaps-after : (files : List Loaded) (op : Op) (index next : Index) → AreMaps files index
+    → IsDone Run files op index.by_run next.by_run → IsDone Time files op index.by_time next.by_time
+    → IsDone Name files op index.by_name next.by_name → AreBest next.by_time next.best
+    → AreMaps (after_op files op) next
+AreMaps-after files op index next maps runs times names best = record {
+  of_runs = AreParts-after Run files op index.by_run next.by_run maps.of_runs runs.ordered runs.set;
+  of_times = AreParts-after Time files op index.by_time next.by_time maps.of_times times.ordered times.set;
+  of_names = AreParts-after Name files op index.by_name next.by_name maps.of_names names.ordered names.set;
+  of_best = best;
+}
+
+-- what an edition keeps after an operation
+pub IsIndexed-after : (held : Held) (op : Op) (before count : Tally) (index next : Index) → IsIndexed held before index
+    → CanFollow held.proto held.files op → count ≡ tally (after_op held.files op)
+    → AreMaps (after_op held.files op) next → IsIndexed (held_after held op) count next
+IsIndexed-after held op before count index next is can counted maps = record {
+  sound = IsEdition-after held op is.sound can;
+  counted = counted;
+  maps = maps;
+}

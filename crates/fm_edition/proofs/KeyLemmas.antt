@@ -9,10 +9,10 @@ use Rattle.std.proofs.lemmas.Int.{ints}
 use Rattle.fm_model.specs.declared.loaded.Loaded.{Loaded}
 use Rattle.fm_model.proofs.InstantLemmas.{rises_runs_of, rises_times_of}
 use Rattle.fm_model.proofs.Members.{In, Each, EachPair, AllPairs-from_each, each_from_AllPairs, Contains-from_in, in_from_Contains, Each-from_in, Each-in, each_from_All, in_flat_map, In-map, in_map}
-use Rattle.fm_model.proofs.RisingLemmas.{Above, Rises-members}
+use Rattle.fm_model.proofs.RisingLemmas.{Above, rises_rising, Rises-members}
 use Rattle.fm_list.specs.declared.by.By.{By}
-use Rattle.fm_list.specs.declared.by.By.TheVariants.{Run, Time}
-use Rattle.fm_edition.specs.Indexes.{entries_of, instants, page_of, AreParts, Pages}
+use Rattle.fm_list.specs.declared.by.By.TheVariants.{Run, Time, Name}
+use Rattle.fm_edition.specs.Indexes.{codes_of, entries_of, instants, page_of, AreParts, Pages}
 use Rattle.fm_edition.proofs.EntryLemmas.{key_held, key_there, shown_entry}
 use Rattle.fm_edition.proofs.OrderLemmas.{Rises-from_sorted}
 
@@ -92,9 +92,10 @@ are_rising by files pages are = record {
 }
 
 rises_instants : (by : By) (files : List Loaded) → EachPair Above (instants by files)
-unfolding instants
+unfolding instants codes_of
 rises_instants Run files = rises_runs_of files
 rises_instants Time files = rises_times_of files
+rises_instants Name files = rises_rising _
 
 -- the keys of all pages are the instants of the files
 pub keys_are : (by : By) (files : List Loaded) (pages : Pages) → AreParts by files pages

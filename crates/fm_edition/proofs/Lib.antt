@@ -8,8 +8,10 @@ pub mod IndexLemmas
 pub mod KeyLemmas
 pub mod LeastLemmas
 pub mod LeastSteps
+pub mod NameLemmas
 pub mod OrderLemmas
 pub mod PartLemmas
+pub mod PieceLemmas
 pub mod RowLemmas
 pub mod RunLemmas
 pub mod TallyLemmas

@@ -1,5 +1,5 @@
 -- What the maps of an edition hold, each as a function of its list of files.
-use Rattle.std.specs.Prelude.{◌≡◌, ◌+ℤ◌, All, ◌&&◌, Bool, List, [], ◌∷◌, Option, None, Some, option_and_then, ℤ, pos, if◌then◌else◌}
+use Rattle.std.specs.Prelude.{◌≡◌, ◌+ℤ◌, All, ◌&&◌, Bool, List, [], ◌∷◌, Option, None, Some, option_and_then, ℤ, pos, if◌then◌else◌, map}
 use Rattle.std.specs.BTreeMap.{BTreeMap, get, values, IsOrdered}
 use Rattle.std.specs.Int.{int_div_euclid}
 use Rattle.std.specs.List.{filter_map, flat_map, list_any}
@@ -11,10 +11,13 @@ use Rattle.fm_model.specs.declared.op.Op.{Op}
 use Rattle.fm_model.specs.declared.row.Row.{Row}
 use Rattle.fm_model.specs.Cell.{runs_of, times_of}
 use Rattle.fm_model.specs.Collection.{tally}
+use Rattle.fm_model.specs.Rising.{rising}
 use Rattle.fm_model.specs.Rows.{best_row, row_at}
 use Rattle.fm_list.specs.declared.by.By.{By}
-use Rattle.fm_list.specs.declared.by.By.TheVariants.{Run, Time}
+use Rattle.fm_list.specs.declared.by.By.TheVariants.{Run, Time, Name}
+use Rattle.fm_list.specs.Code.{code_of}
 use Rattle.fm_list.specs.Selected.{part, part_after, AreSound, HaveTime}
+use Rattle.fm_edition.specs.declared.maps.index.Index.{Index}
 use Rattle.fm_edition.specs.declared.maps.wanted.Wanted.{Wanted}
 use Rattle.fm_edition.specs.declared.maps.wanted.Wanted.TheVariants.{Best, After, At}
 use Rattle.fm_edition.specs.Held.{Held, IsEdition}
@@ -37,10 +40,15 @@ is_among instants instant = list_any (λ other. int_eq other instant) instants
 abbrev pub updated : {A : Type 0} → ℤ → Option A → (ℤ → Option A) → ℤ → Option A
 updated key value held other = if int_eq key other then value else held other
 
--- the runs of some files, or their valid times
+-- the codes of the names of some files, each once, rising
+unfoldable pub codes_of : List Loaded → List ℤ
+codes_of files = rising (map (λ (file : Loaded). code_of file.name) files)
+
+-- the runs of some files, their valid times, or the codes of their names
 unfoldable pub instants : By → List Loaded → List ℤ
 instants Run files = runs_of files
 instants Time files = times_of files
+instants Name files = codes_of files
 
 -- the number of the page of an instant
 unfoldable pub page_of : ℤ → ℤ
@@ -129,10 +137,15 @@ IsReady (Best least) entry = IsTimed entry
 IsReady (After seconds) entry = AreSound entry.1
 IsReady (At valid) entry = AreSound entry.1
 
+-- the maps have the files by each run, valid time and code of a name, and the rows of the best time series
+pub record AreMaps (files : List Loaded) (index : Index) : Type 0 where
+  pub of_runs : AreParts Run files index.by_run
+  pub of_times : AreParts Time files index.by_time
+  pub of_names : AreParts Name files index.by_name
+  pub of_best : AreBest index.by_time index.best
+
 -- what every edition keeps, also of its tally and its maps
-pub record IsIndexed (held : Held) (count : Tally) (by_run by_time : Pages) (best : RowPages) : Type 0 where
+pub record IsIndexed (held : Held) (count : Tally) (index : Index) : Type 0 where
   pub sound : IsEdition held
   pub counted : count ≡ tally held.files
-  pub of_runs : AreParts Run held.files by_run
-  pub of_times : AreParts Time held.files by_time
-  pub of_best : AreBest by_time best
+  pub maps : AreMaps held.files index

@@ -1,7 +1,9 @@
+pub mod Amounts
 pub mod Held
 pub mod Indexes
 pub mod Least
 pub mod Log
+pub mod Pieces
 pub use Rattle.fm_model.specs.Collection
 pub use Rattle.fm_model.specs.Cell
 pub use Rattle.fm_model.specs.Rising

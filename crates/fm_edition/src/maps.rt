@@ -1,63 +1,44 @@
 //! An edition over ordered maps.
-ghost use Rattle.std.specs.Prelude.{◌≡◌, [], ℤ, IfOk, IfSome, IsNone, None, Some, false, length};
-ghost use Rattle.std.specs.BTreeMap as tree;
+ghost use Rattle.std.specs.Prelude.{◌≡◌, [], IfOk, IfSome, IsNone, None, Some, length};
 ghost use Rattle.std.specs.List.{filter_map};
-ghost use Rattle.std.specs.Ordering.{int_cmp};
 ghost use Rattle.fm_base.specs.Answer.{Answers};
 ghost use Rattle.fm_model.specs.Cell.{best, cell, runs_of, times_of, times_of_run};
 ghost use Rattle.fm_model.specs.Collection.{full_at, holds, holds_older, tally};
 ghost use Rattle.fm_model.specs.Rows.{best_row};
 ghost use Rattle.fm_model.specs.Site.{IsPrototype};
+ghost use Rattle.fm_list.specs.Change as taken;
 ghost use Rattle.fm_edition.specs.Held.{next_or_full, IsEdition, OpFits};
-ghost use Rattle.fm_edition.specs.Indexes as spec;
 
 mod best;
 mod by_run;
 mod entry;
+mod index;
+mod named;
 mod page_rows;
 mod pages;
+mod roll;
 mod shared;
 mod walk;
 mod wanted;
 
-use crate::plain_list::{changing, counting, instants};
-use best::{RowPages, best_after};
+use crate::plain_list::{counting, instants};
 use fm_base::{Arc, Fail, List, NoMemory};
-use fm_list::{By, Placed, change, finding, part};
+use fm_list::{Placed, change, finding, part};
 use fm_model::{Full, Loaded, Op, Proto, Tally};
 use fm_rows::Rows;
-use pages::{Change, Pages};
+use index::{Index, no_maps};
+use named::{files_named, gone_of, near};
+use roll::Roll;
 use std::alloc::Global;
-use std::collections::BTreeMap;
 use std::marker::Model;
 
 /// The files that a collection holds at one moment, over its prototype. It never changes.
 #[derive(Drop)]
 pub struct Edition {
     proto: Arc<Proto>,
-    files: List<Placed>,
+    files: Roll,
     tally: Tally,
-    by_run: Pages,
-    by_time: Pages,
-    best: RowPages,
-}
-
-// The pages after an operation that touches some instants.
-fn after_change(
-    alloc: Global,
-    pages: &Pages,
-    by: By,
-    touched: &[i64],
-    op: &Op,
-) -> Result<Pages, NoMemory>
-    requires { spec.AreOrdered pages.now }
-    ensures ordered { IfOk result spec.AreOrdered }
-    ensures set { IfOk result (λ next. (number key : ℤ) → spec.in_page next number key
-        ≡ spec.page_set by touched.now op.now (spec.in_page pages.now) number key) }
-    ensures same { IfOk result (λ next. (number : ℤ) → spec.touches touched.now number ≡ false
-        → tree.get int_cmp next number ≡ tree.get int_cmp pages.now number) }
-{
-    pages::pages_after(alloc, pages, &Change { by, op, touched })
+    index: Index,
 }
 
 impl Model for Edition {
@@ -69,7 +50,7 @@ impl Model for Edition {
     ghost view = { λ edition. record { proto = edition.proto; files = edition.files } };
 
     ghost invariant = { λ edition. IsIndexed (record { proto = edition.proto; files = edition.files })
-        edition.tally edition.by_run edition.by_time edition.best };
+        edition.tally edition.index };
 }
 
 impl Edition {
@@ -80,15 +61,13 @@ impl Edition {
     {
         Ok(Edition {
             proto,
-            files: List::new(alloc),
+            files: Roll::new(alloc),
             tally: Tally {
                 files: 0,
                 rows: 0,
                 size: 0,
             },
-            by_run: BTreeMap::new(alloc),
-            by_time: BTreeMap::new(alloc),
-            best: BTreeMap::new(alloc),
+            index: no_maps(alloc),
         })
     }
 
@@ -101,31 +80,36 @@ impl Edition {
         if let Some(full) = self.full_at(op) {
             return Err(Fail::Fault(full));
         }
-        let old = self.files.as_slice();
-        let changed = change::changed(alloc, old, op)?;
-        let files = changing::files_after(alloc, old, op)?;
-        let tally = counting::tally_of(files.as_slice());
+        let gone = self.gone(alloc, op)?;
+        let files = self.files.after(alloc, gone.as_slice(), op)?;
+        let tally = counting::tally_after(self.tally, gone.as_slice(), op);
         let proto = self.proto.share()?;
-        let runs = instants::instants_in(alloc, By::Run, changed.as_slice())?;
-        let times = instants::instants_in(alloc, By::Time, changed.as_slice())?;
-        let by_run = after_change(alloc, &self.by_run, By::Run, runs.as_slice(), op)?;
-        let by_time = after_change(alloc, &self.by_time, By::Time, times.as_slice(), op)?;
-        let best = best_after(alloc, &self.best, &by_time, times.as_slice())?;
+        let changed = change::changed(gone, op)?;
+        let index = self.index_after(alloc, changed.as_slice(), op)?;
         Ok(Edition {
             proto,
             files,
             tally,
-            by_run,
-            by_time,
-            best,
+            index,
         })
+    }
+
+    // The files that an operation takes out.
+    fn gone(&self, alloc: Global, op: &Op) -> Result<List<Placed>, NoMemory>
+        ensures { IfOk result (λ gone. gone ≡ taken.gone self.now.files op.now) }
+    {
+        match op {
+            Op::Put(_) => gone_of(alloc, near(&self.index.by_name, op), op),
+            Op::Expire(_) => self.files.gone(alloc, op),
+            Op::Retract(_) => gone_of(alloc, near(&self.index.by_name, op), op),
+        }
     }
 
     /// What there would be too many of after an operation, the first of files, times and bytes.
     pub fn full_at(&self, op: &Op) -> Option<Full>
         ensures { result ≡ full_at self.now.files op.now }
     {
-        counting::full_after(self.files.as_slice(), op)
+        counting::full_after(self.tally, near(&self.index.by_name, op), op)
     }
 
     /// How much is held.
@@ -139,28 +123,28 @@ impl Edition {
     pub fn older_than(&self, cutoff: i64) -> bool
         ensures { result ≡ holds_older self.now.files cutoff }
     {
-        finding::has_older(self.files.as_slice(), cutoff)
+        self.files.has_older(cutoff)
     }
 
     /// Whether a held file has this name.
     pub fn holds(&self, name: &[u8]) -> bool
         ensures { result ≡ holds self.now.files name.now }
     {
-        finding::has_name(self.files.as_slice(), name)
+        finding::has_name(files_named(&self.index.by_name, name), name)
     }
 
     /// The held runs, each once, rising, in seconds from the collection's epoch.
     pub fn runs(&self, alloc: Global) -> Result<List<i64>, NoMemory>
         ensures { IfOk result (λ runs. runs ≡ runs_of self.now.files) }
     {
-        walk::keys_of(alloc, &self.by_run)
+        walk::keys_of(alloc, &self.index.by_run)
     }
 
     /// The valid times of a run's held files, each once, rising, in seconds from the collection's epoch.
     pub fn times_of(&self, alloc: Global, run: i64) -> Result<List<i64>, NoMemory>
         ensures { IfOk result (λ times. times ≡ times_of_run self.now.files run) }
     {
-        instants::times_in(alloc, pages::files_at(&self.by_run, run), run)
+        instants::times_in(alloc, pages::files_at(&self.index.by_run, run), run)
     }
 
     /// The last held file of a run with a valid time, and the time's index in it. `None` where there is no such file.
@@ -168,7 +152,7 @@ impl Edition {
         ensures found { IfSome result (λ found. cell self.now.files run valid ≡ Some (found.0.now, found.1)) }
         ensures none { IsNone result → cell self.now.files run valid ≡ None }
     {
-        finding::cell_of(pages::files_at(&self.by_time, valid), run, valid)
+        finding::cell_of(pages::files_at(&self.index.by_time, valid), run, valid)
     }
 
     /// The greatest run that has a valid time and, where a least offset is given, lies at least that many seconds
@@ -176,7 +160,7 @@ impl Edition {
     pub fn best_run(&self, valid: i64, least: Option<i64>) -> Option<i64>
         ensures { result ≡ best self.now.files valid least }
     {
-        part::best_among(pages::files_at(&self.by_time, valid), valid, least)
+        part::best_among(pages::files_at(&self.index.by_time, valid), valid, least)
     }
 
     /// One row for each valid time that has a best run, from that run.
@@ -185,14 +169,14 @@ impl Edition {
         ensures { IfOk result (λ rows.
             rows ≡ filter_map (best_row self.now.files least) (times_of self.now.files)) }
     {
-        best::best_rows(alloc, &self.by_time, &self.best, least)
+        best::best_rows(alloc, &self.index.by_time, &self.index.best, least)
     }
 
     /// How many valid times have a best run.
     pub fn best_count(&self, least: Option<i64>) -> usize
         ensures { result ≡ length (filter_map (best_row self.now.files least) (times_of self.now.files)) }
     {
-        best::best_count(&self.by_time, &self.best, least)
+        best::best_count(&self.index.by_time, &self.index.best, least)
     }
 
     /// The prototype, and what every edition keeps.

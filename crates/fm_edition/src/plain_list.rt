@@ -67,7 +67,7 @@ impl Edition {
     pub fn full_at(&self, op: &Op) -> Option<Full>
         ensures { result ≡ full_at self.now.files op.now }
     {
-        counting::full_after(self.files.as_slice(), op)
+        counting::full_after(self.tally(), self.files.as_slice(), op)
     }
 
     /// How much is held.

@@ -30,8 +30,8 @@ fn byte_at(bytes: &[u8], offset: usize) -> u8
     }
 }
 
-/// The elements of the coordinate variable of a name are those of the prototype, or differ first at an offset, which the
-/// fault tells with both bytes.
+/// The elements of the coordinate variable of a name are those of the prototype, or differ first at an offset.
+/// The fault tells the offset and both bytes.
 #[tactic(auto, unfolding(fm_model::specs::LoadVars::same_bytes))]
 pub fn same_bytes(
     alloc: Global,

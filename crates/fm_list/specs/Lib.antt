@@ -1,4 +1,5 @@
 pub mod Change
+pub mod Code
 pub mod Found
 pub mod Selected
 pub use Rattle.fm_model.specs.Cell

@@ -1,4 +1,5 @@
--- The files of a run, or of a valid time, and what is asked of files before a valid time is looked for in them.
+-- The files of a run, of a valid time, or of a name's code,
+-- and what is asked of files before a valid time is looked for in them.
 use Rattle.std.specs.Prelude.{◌≡◌, ◌≢◌, ◌≤◌, ◌++◌, All, AllPairs, Bool, List, filter, length, ℤ, true}
 use Rattle.std.specs.Ordering.{int_eq}
 use Rattle.fm_model.specs.declared.limit.TheConstants.{MAX_TIMES}
@@ -7,15 +8,17 @@ use Rattle.fm_model.specs.declared.op.Op.{Op}
 use Rattle.fm_model.specs.Cell.{has_time}
 use Rattle.fm_model.specs.LoadTimes.{IsInstant}
 use Rattle.fm_list.specs.declared.by.By.{By}
-use Rattle.fm_list.specs.declared.by.By.TheVariants.{Run, Time}
+use Rattle.fm_list.specs.declared.by.By.TheVariants.{Run, Time, Name}
 use Rattle.fm_list.specs.Change.{added, keeps}
+use Rattle.fm_list.specs.Code.{code_of}
 
--- whether a file is of a run, or has a valid time
+-- whether a file is of a run, has a valid time, or has a name of a code
 unfoldable pub selects : By → ℤ → Loaded → Bool
 selects Run run file = int_eq file.run run
 selects Time valid file = has_time valid file
+selects Name code file = int_eq (code_of file.name) code
 
--- the files of a run, or those that have a valid time, in the list's order
+-- the files of a run, those that have a valid time, or those of a name's code, in the list's order
 unfoldable pub part : By → List Loaded → ℤ → List Loaded
 part by files key = filter (selects by key) files
 

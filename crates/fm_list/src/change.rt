@@ -7,9 +7,9 @@ use fm_base::{List, NoMemory};
 use fm_model::{Loaded, Op};
 use std::alloc::Global;
 
-// Whether an operation leaves a held file.
+/// Whether an operation leaves a held file.
 #[tactic(auto, unfolding(crate::specs::Change::keeps))]
-fn keeps(op: &Op, held: &Loaded) -> bool
+pub fn keeps(op: &Op, held: &Loaded) -> bool
     ensures { result ≡ spec.keeps op.now held.now }
 {
     match op {
@@ -19,8 +19,8 @@ fn keeps(op: &Op, held: &Loaded) -> bool
     }
 }
 
-// The files that an operation leaves.
-pub(crate) fn kept(alloc: Global, files: &[Placed], op: &Op) -> Result<List<Placed>, NoMemory>
+/// The files that an operation leaves.
+pub fn kept(alloc: Global, files: &[Placed], op: &Op) -> Result<List<Placed>, NoMemory>
     ensures { IfOk result (λ kept. kept ≡ filter (spec.keeps op.now) files.now) }
 {
     let mut kept = List::new(alloc);
@@ -32,27 +32,24 @@ pub(crate) fn kept(alloc: Global, files: &[Placed], op: &Op) -> Result<List<Plac
     Ok(kept)
 }
 
-// The files that an operation takes out.
-fn taken_out(alloc: Global, files: &[Placed], op: &Op) -> Result<List<Placed>, NoMemory>
-    ensures { IfOk result (λ gone. gone ≡ spec.gone files.now op.now) }
+/// Adds the files that an operation takes out of some.
+pub fn push_gone(gone: &mut List<Placed>, files: &[Placed], op: &Op) -> Result<(), NoMemory>
+    ensures { OnOk result (gone.new ≡ gone.old ++ spec.gone files.now op.now) }
 {
-    let mut gone = List::new(alloc);
     for file in files {
         if !keeps(op, file.get()) {
             gone.push(file.share()?)?;
         }
     }
-    Ok(gone)
+    Ok(())
 }
 
 /// The files that an operation takes out, and the one that it adds.
-#[tactic(auto, unfolding(crate::specs::Change::changed))]
-pub fn changed(alloc: Global, files: &[Placed], op: &Op) -> Result<List<Placed>, NoMemory>
-    ensures { IfOk result (λ changed. changed ≡ spec.changed files.now op.now) }
+pub fn changed(mut gone: List<Placed>, op: &Op) -> Result<List<Placed>, NoMemory>
+    ensures { IfOk result (λ changed. changed ≡ gone ++ spec.added op.now) }
 {
-    let mut changed = taken_out(alloc, files, op)?;
     if let Op::Put(file) = op {
-        changed.push(Placed::new(file.share()?, 0))?;
+        gone.push(Placed::new(file.share()?, 0))?;
     }
-    Ok(changed)
+    Ok(gone)
 }

@@ -1,5 +1,6 @@
 //! Which files have a name, a run or a valid time.
 ghost use Rattle.std.specs.Prelude.{◌≡◌, ◌≢◌, [], ◌∷◌, ◌++◌, AllPairs, IfSome, IsNone, List, None, Some, is_some, position, slice_get, true};
+ghost use Rattle.std.specs.List.{list_any};
 ghost use Rattle.std.specs.Ordering.{int_eq};
 ghost use Rattle.fm_model.specs.declared.loaded.Loaded.{Loaded as File};
 ghost use Rattle.fm_model.specs.Cell.{best, cell, has_time};
@@ -25,7 +26,22 @@ pub fn has_name(files: &[Placed], name: &[u8]) -> bool
 pub fn has_older(files: &[Placed], cutoff: i64) -> bool
     ensures { result ≡ holds_older files.now cutoff }
 {
-    files.iter().any(|file| file.get().run < cutoff)
+    files.iter().any(|file| file.run() < cutoff)
+}
+
+// Whether a file is of a run.
+fn has_run(files: &[Placed], run: i64) -> bool
+    ensures { result ≡ list_any (λ (file : File). int_eq file.run run) files.now }
+{
+    files.iter().any(|file| file.run() == run)
+}
+
+/// Whether a file is of the run of one of the others.
+pub fn shares_run(files: &[Placed], others: &[Placed]) -> bool
+    ensures { result ≡ list_any (λ (other : File). list_any (λ (file : File). int_eq file.run other.run) files.now)
+        others.now }
+{
+    others.iter().any(|other| has_run(files, other.run()))
 }
 
 // An index of a valid time among some times: the place where it may stand, or what a search finds. Where the times

@@ -3,11 +3,13 @@
 
 mod by;
 pub mod change;
+mod code;
 pub mod finding;
 mod offset;
 pub mod part;
 mod placed;
 
 pub use by::By;
+pub use code::code_of;
 pub use offset::keeps_least_offset;
 pub use placed::Placed;

@@ -1,17 +1,18 @@
-//! The files by an instant: those of a run, or those that have a valid time.
+//! The files by an instant: those of a run, or those that have a valid time. A name's code serves as an instant, too.
 ghost use Rattle.std.specs.Prelude.{◌≡◌, [], ◌∷◌, ◌++◌, IfOk, filter, is_some};
 ghost use Rattle.fm_model.specs.Cell.{best};
 ghost use Rattle.fm_list.specs.Selected as spec;
 
 use crate::by::By;
 use crate::change::kept;
+use crate::code::code_of;
 use crate::finding::{place_in, raised_by};
 use crate::placed::Placed;
 use fm_base::{Arc, List, NoMemory};
 use fm_model::{Loaded, Op};
 use std::alloc::Global;
 
-// An index among a file's times, if it is of a run, or that of a valid time, if it has it.
+// An index among a file's times, if it is of a run or a name's code, or that of a valid time, if it has it.
 #[tactic(auto, unfolding(crate::specs::Selected::selects))]
 fn selected(by: By, key: i64, file: &Loaded) -> Option<usize>
     ensures { is_some result ≡ spec.selects by key file.now }
@@ -19,6 +20,13 @@ fn selected(by: By, key: i64, file: &Loaded) -> Option<usize>
     match by {
         By::Run => { if file.run == key { Some(0) } else { None } }
         By::Time => place_in(file, 0, key),
+        By::Name => {
+            if code_of(file.name.as_slice()) == key {
+                Some(0)
+            } else {
+                None
+            }
+        }
     }
 }
 

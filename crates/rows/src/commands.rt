@@ -1,6 +1,7 @@
 //! Rows of commands, each run over a world in memory.
 
 mod arriving;
+mod doored;
 mod given;
 mod linked;
 mod output;

@@ -4,12 +4,7 @@ use Rattle.std.specs.Prelude.{slice_get}
 use Rattle.std.proofs.lemmas.Option.{none-some, same_Some}
 use Rattle.web_frame.specs.Items.{Item}
 use Rattle.dap_reply.specs.declared.served.Mark.{Mark}
-
--- the fact holds of each reply, of which the first has this number
-abbrev pub Each : (ℕ → Mark → Item → Type 0) → List Mark → List Item → ℕ → Type 0
-Each P [] items number = Unit {0}
-Each P (mark ∷ marks) [] number = Unit {0}
-Each P (mark ∷ marks) (item ∷ items) number = P number mark item × Each P marks items (number + 1)
+use Rattle.srv_conn.specs.SoFar.{Each}
 
 pub Each-at : (P : ℕ → Mark → Item → Type 0) (marks : List Mark) (items : List Item) (number index : ℕ) (mark : Mark)
     (item : Item) → Each P marks items number → slice_get marks index ≡ Some mark → slice_get items index ≡ Some item

@@ -70,6 +70,10 @@ pub tell-short : (s : State) (asked : Asked) → s.phase ≡ Asking asked
 unfolding after_event
 tell-short s asked is = ap (λ (p : Phase). (after_in p s NoAnswer).phase) is
 
+pub tell-before : (s : State) (asked : Asked) → s.phase ≡ Asking asked → (after_event s NoAnswer).before ≡ s.before
+unfolding after_event
+tell-before s asked is = ap (λ (p : Phase). (after_in p s NoAnswer).before) is
+
 -- the end that a session says after a whole reply
 said-next : (next : Next) (held : Held) → end_said (action_at (phase_after next) held) ≡ None
 said-next next.Need held = refl
@@ -102,10 +106,3 @@ tells-cut s told after asked len action phase some is then due =
     let cut : after.phase ≡ Ended ends.LinkFault =
     ap (λ (x : State). x.phase) (then ∙ ap (λ (x : State). after_event x Fault) is) ∙ tell-cut s asked len phase some in
     (cut, ap end_said (due ∙ ends-so after ends.LinkFault cut))
-
-pub tells-short : (s after : State) (asked : Asked) (action : Action) → s.phase ≡ Asking asked
-    → after ≡ after_event s NoAnswer → action ≡ action_of after
-    → (after.phase ≡ Ended ends.NoMemory) × (end_said action ≡ Some ends.NoMemory)
-tells-short s after asked action phase is due =
-    let short : after.phase ≡ Ended ends.NoMemory = ap (λ (x : State). x.phase) is ∙ tell-short s asked phase in
-    (short, ap end_said (due ∙ ends-so after ends.NoMemory short))

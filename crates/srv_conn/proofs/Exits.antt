@@ -17,11 +17,12 @@ use Rattle.dap_reply.specs.Served.{held_bytes, items_of, number_at, AnswersAll, 
 use Rattle.srv_conn.specs.Moved.{IsOver}
 use Rattle.srv_conn.specs.Serves.{call_of, Moment, Serves}
 use Rattle.srv_conn.specs.Turn.{FindsNone}
-use Rattle.srv_conn.proofs.EachLemmas.{Each, Each-item, Each-map}
+use Rattle.srv_conn.proofs.EachLemmas.{Each-item, Each-map}
 use Rattle.srv_conn.proofs.HeadLemmas.{none-left, rest_of}
 use Rattle.srv_conn.proofs.Ran.{moves_of, no-farewell, serves-so, Ran-begun}
 use Rattle.srv_conn.proofs.ServedParts.{ended-of, ends-input, failed, front-at, Answered}
-use Rattle.srv_conn.proofs.Serving.{reads-more, with_taken, Begun, Begun-takes, GoesOn, Serving}
+use Rattle.srv_conn.specs.SoFar.{Begun, Each, GoesOn, Serving}
+use Rattle.srv_conn.proofs.Serving.{reads-more, with_taken, Begun-takes}
 use Rattle.srv_conn.proofs.SessionLemmas.{rests-at, waiting-cut}
 
 -- no reply that goes on is a connection's last

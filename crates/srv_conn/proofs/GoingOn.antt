@@ -17,10 +17,11 @@ use Rattle.dap_reply.specs.Served.{asked_of, held_bytes}
 use Rattle.dap_reply.proofs.ServedLemmas.{last-ends}
 use Rattle.srv_conn.specs.Serves.{Moment}
 use Rattle.srv_conn.specs.Turn.{item_of_turn, IsWhole}
-use Rattle.srv_conn.proofs.EachLemmas.{Each, Each-append}
+use Rattle.srv_conn.proofs.EachLemmas.{Each-append}
 use Rattle.srv_conn.proofs.HeadLemmas.{asked-first, leaves-passed, passes}
-use Rattle.srv_conn.proofs.ScriptLemmas.{last-append, last_revision}
-use Rattle.srv_conn.proofs.Serving.{each-later, Begun-replies, GoesOn, Serving}
+use Rattle.srv_conn.proofs.ScriptLemmas.{last-append}
+use Rattle.srv_conn.specs.SoFar.{last_revision, Each, GoesOn, Serving}
+use Rattle.srv_conn.proofs.Serving.{each-later, Begun-replies}
 use Rattle.srv_conn.proofs.SessionLemmas.{held-at}
 
 -- the question of an item is the session's question
@@ -60,7 +61,7 @@ left_with says.BadHead text left n before none l asking = absurd (cc)
 left_with says.HeadTooLong text left n before none l asking = absurd (cc)
 
 -- where a reply leads on
-leads-on : (s : State) (asked : Asked) → end_after asked s.before ≡ None
+pub leads-on : (s : State) (asked : Asked) → end_after asked s.before ≡ None
     → replied s asked ≡ resting s.held.rest (s.before + 1)
 unfolding replied looked
 leads-on s asked none = ap (λ (end : Option End). replied_by end s) none

@@ -17,12 +17,13 @@ use Rattle.dap_reply.specs.declared.served.Stop.TheVariants as stops
 use Rattle.dap_reply.specs.Served.{items_of, EndsBy, LinkCall, StopsBy}
 use Rattle.srv_conn.specs.Serves.{call_of, IsCalm, Moment, Serves}
 use Rattle.srv_conn.specs.Turn.{item_of_turn, reply_of_turn, IsCut, IsWhole, IsBegun}
-use Rattle.srv_conn.proofs.EachLemmas.{Each, Each-append}
+use Rattle.srv_conn.proofs.EachLemmas.{Each-append}
 use Rattle.srv_conn.proofs.GoingOn.{asked-back, asked-now}
 use Rattle.srv_conn.proofs.HeadLemmas.{rest_of}
 use Rattle.srv_conn.proofs.Ran.{moves_of, no-farewell, serves-so, Ran-begun}
 use Rattle.srv_conn.proofs.ServedParts.{ended-of, ends-reply, failed, Ended, WholeOrCut}
-use Rattle.srv_conn.proofs.Serving.{each-later, Begun, Begun-replies, Serving}
+use Rattle.srv_conn.specs.SoFar.{Begun, Each, Serving}
+use Rattle.srv_conn.proofs.Serving.{each-later, Begun-replies}
 
 -- the item at the seam
 seam : (done : List Item) (item : Item) (others : List Item) (index : ℕ) → index ≡ length done

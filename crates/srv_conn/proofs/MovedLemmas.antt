@@ -3,7 +3,9 @@ use Rattle.std.proofs.Common.{◌≡◌, ◌≤◌, ℕ, ◌+◌, List, [], ◌+
 use Rattle.std.specs.Prelude.{IfSome}
 use Rattle.std.proofs.Math.Seq.{take-add}
 use Rattle.std.proofs.lemmas.List.{drop-drop, length-take}
+use Rattle.dev_traits.specs.declared.link.Taken.TheVariants as takes
 use Rattle.dev_traits.specs.Link.{Wire, after_put, after_take, GivesNext}
+use Rattle.dev_traits.proofs.LinkLemmas.{after_take_nothing}
 use Rattle.srv_conn.specs.Moved.{moved, AreNext, IsOver}
 
 -- a wire of these bytes
@@ -55,29 +57,31 @@ next-more taken more written (Some w) first then =
     ∙ ap (λ (l : List ℕ). taken ++ l) then
 
 -- the bytes that a call of a link gave
-pub next-given : (held : Option Wire) (buf : List ℕ) (count : ℕ) → IfSome held (λ wire. GivesNext wire buf count)
-    → count ≤ length buf → AreNext (take count buf) held
+pub next-given : (held : Option Wire) (buf : List ℕ) (count : ℕ)
+    → IfSome held (λ wire. GivesNext wire buf (takes.Bytes count)) → count ≤ length buf → AreNext (take count buf) held
 next-given None buf count given within = tt
 next-given (Some w) buf count given within =
     let len : length (take count buf) ≡ count = omega (arith, length-take count buf) in
-    ap (λ (n : ℕ). take n w.left) len ∙ sym given.bytes
+    ap (λ (n : ℕ). take n w.left) len ∙ sym given.1
 
-pub moved-given : (held : Option Wire) (buf : List ℕ) (count : ℕ) → IfSome held (λ wire. GivesNext wire buf count)
-    → count ≤ length buf → after_take count held ≡ moved (take count buf) [] held
+pub moved-given : (held : Option Wire) (buf : List ℕ) (count : ℕ)
+    → IfSome held (λ wire. GivesNext wire buf (takes.Bytes count)) → count ≤ length buf
+    → after_take count held ≡ moved (take count buf) [] held
 unfolding wire_of
 moved-given None buf count given within = refl
 moved-given (Some w) buf count given within =
     let len : count ≡ length (take count buf) = omega (arith, length-take count buf) in
-    ap (λ (l : List ℕ). wire_of (w.taken ++ l) (drop count w.left) w.put) (sym given.bytes)
+    ap (λ (l : List ℕ). wire_of (w.taken ++ l) (drop count w.left) w.put) (sym given.1)
     ∙ ap (λ (n : ℕ). wire_of (w.taken ++ take count buf) (drop n w.left) w.put) len
     ∙ ap (λ (l : List ℕ). wire_of (w.taken ++ take count buf) (drop (length (take count buf)) w.left) l)
     (sym (append-nil w.put))
 
--- where nothing came, nothing is left
-pub over-given : (held now : Option Wire) (buf : List ℕ) (count : ℕ) → count ≡ 0
-    → IfSome held (λ wire. GivesNext wire buf count) → now ≡ after_take count held → IsOver now
-over-given None now buf count none given is = subst IsOver (sym is) tt
-over-given (Some w) now buf count none given is =
-    let left : w.left ≡ [] = given.ended.0 none in
-    let dropped : drop count w.left ≡ [] = ap (λ (n : ℕ). drop n w.left) none ∙ left in
-    subst IsOver (sym is) dropped
+-- at the end of input nothing is left
+pub over-given : (held now : Option Wire) (buf : List ℕ) → IfSome held (λ wire. GivesNext wire buf takes.End)
+    → now ≡ after_take 0 held → IsOver now
+over-given None now buf given is = subst IsOver (sym is) tt
+over-given (Some w) now buf given is = subst IsOver (sym is) given
+
+-- a call that took nothing
+pub same-given : (held now : Option Wire) → now ≡ after_take 0 held → now ≡ held
+same-given held now is = is ∙ sym (after_take_nothing held)

@@ -12,7 +12,7 @@ use Rattle.srv_conn.specs.Moved.{moved, AreNext, IsOver}
 use Rattle.srv_conn.specs.Serves.{call_of, IsCalm, Moment, Moves, Serves}
 use Rattle.srv_conn.proofs.ScriptLemmas.{repeats-front, sent-front, wanted-front}
 use Rattle.srv_conn.proofs.ServedParts.{answers-part, whole-part, Answered}
-use Rattle.srv_conn.proofs.Serving.{Begun}
+use Rattle.srv_conn.specs.SoFar.{Begun}
 
 -- the replies that were begun to some items, then the text that says that memory ran out, and a look for nothing
 pub record Ran (proto : Proto) (still : Bool) (start after : Moment) (taken written farewell more : List ℕ)

@@ -2,6 +2,7 @@
 use Rattle.std.proofs.Common.{◌≡◌, ◌≤◌, ℕ, ◌-◌, Bor, List, ◌++◌, length, take, sym, ap, subst, ◌∙◌, arith}
 use Rattle.std.specs.Prelude.{IfSome}
 use Rattle.std.proofs.lemmas.List.{length-take, take-append-le}
+use Rattle.dev_traits.specs.declared.link.Taken.TheVariants as takes
 use Rattle.dev_traits.specs.Link.{after_take, GivesNext}
 use Rattle.dev_traits.specs.Shown.{LinkShown}
 use Rattle.web_frame.specs.Limit.{MAX_HEAD}
@@ -20,7 +21,7 @@ use Rattle.srv_conn.proofs.SessionLemmas.{ends-so, reads-waiting}
 -- bytes came
 pub takes-given : (link now : LinkShown) (s after : State) (buf rest : List ℕ) (count read : ℕ) (piece : Bor (List ℕ))
     → IsAtRest s → action_of s ≡ Read count → read ≤ count → read ≤ length buf → piece.now ≡ take read buf
-    → IfSome link.held (λ wire. GivesNext wire buf read) → now.held ≡ after_take read link.held
+    → IfSome link.held (λ wire. GivesNext wire buf (takes.Bytes read)) → now.held ≡ after_take read link.held
     → now.faults ≡ link.faults → after ≡ after_event s (Bytes piece)
     → Takes link now s after (take read (buf ++ rest))
 takes-given link now s after buf rest count read piece rests reads within fits cut given took faults is =

@@ -9,12 +9,7 @@ use Rattle.web_frame.specs.Items.{Item}
 use Rattle.dap_reply.specs.declared.served.Mark.{Mark}
 use Rattle.dap_reply.specs.Reply.{target_wanted, reply_of}
 use Rattle.dap_reply.specs.Served.{marked_reply, sent_by, wanted_revisions, RepeatsUnwanted, Rises}
-use Rattle.srv_conn.proofs.EachLemmas.{Each}
-
--- the revision of the last reply, or the one before the first
-abbrev pub last_revision : ℕ → List Mark → ℕ
-last_revision before [] = before
-last_revision before (mark ∷ marks) = last_revision mark.revision marks
+use Rattle.srv_conn.specs.SoFar.{last_revision, Each}
 
 pub last-append : (before : ℕ) (marks : List Mark) (mark : Mark)
     → last_revision before (marks ++ mark ∷ []) ≡ mark.revision

@@ -13,8 +13,8 @@ use Rattle.dap_reply.specs.declared.served.Mark.{Mark}
 use Rattle.dap_reply.specs.declared.served.Stop.TheVariants as stops
 use Rattle.dap_reply.specs.Reply.{is_last}
 use Rattle.dap_reply.specs.Served.{items_of, marked_reply, number_at, AnswersInOrder, EndsAfterReply, EndsBy, HasFailed, InputEnds, IsWholeOrCut, LinkCall}
-use Rattle.srv_conn.proofs.EachLemmas.{Each, Each-at, Each-item, Each-map}
-use Rattle.srv_conn.proofs.Serving.{GoesOn}
+use Rattle.srv_conn.proofs.EachLemmas.{Each-at, Each-item, Each-map}
+use Rattle.srv_conn.specs.SoFar.{Each, GoesOn}
 
 -- an item at an index within a front
 pub front-at : (done others : List Item) (index : ℕ) (item : Item) → index < length done

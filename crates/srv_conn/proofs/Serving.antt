@@ -1,5 +1,5 @@
--- How far a served link came, from turn to turn.
-use Rattle.std.proofs.Common.{◌≡◌, ◌≤◌, ℕ, ◌+◌, List, [], ◌∷◌, ◌++◌, length, take, Bool, true, false, refl, sym, ap, ap₂, subst, ◌∙◌, append_assoc, append-nil, arith, length-append}
+-- How far a served link came, from reply to reply.
+use Rattle.std.proofs.Common.{◌≡◌, ◌≤◌, ℕ, ◌+◌, List, [], ◌∷◌, ◌++◌, length, take, Bool, refl, sym, ap, ap₂, subst, ◌∙◌, append_assoc, append-nil, arith, length-append}
 use Rattle.std.specs.Prelude.{is_ok, if◌then◌else◌}
 use Rattle.fm_model.specs.declared.op.Op.{Op}
 use Rattle.fm_model.specs.declared.proto.Proto.{Proto}
@@ -13,47 +13,16 @@ use Rattle.web_frame.proofs.LeftLemmas.{Leaves, Leaves-feed, Leaves-start}
 use Rattle.web_session.specs.declared.action.Asked.{Asked}
 use Rattle.web_session.specs.State.{resting, State}
 use Rattle.dap_reply.specs.declared.served.Mark.{Mark}
-use Rattle.dap_reply.specs.Reply.{target_wanted, is_last}
+use Rattle.dap_reply.specs.Reply.{target_wanted}
 use Rattle.dap_reply.specs.Served.{held_bytes, marked_reply, sent_by, wanted_revisions, IsAtRest, RepeatsUnwanted, Rises}
 use Rattle.srv_conn.specs.Moved.{moved, AreNext}
 use Rattle.srv_conn.specs.Serves.{Moment}
+use Rattle.srv_conn.specs.SoFar.{last_revision, Begun, Each, GoesOn, Serving}
 use Rattle.srv_conn.specs.Turn.{item_of_turn, reply_of_turn, IsBegun, Takes}
-use Rattle.srv_conn.proofs.EachLemmas.{Each, Each-map}
+use Rattle.srv_conn.proofs.EachLemmas.{Each-map}
 use Rattle.srv_conn.proofs.MovedLemmas.{moved-more, moved-none, moved-put, next-more, next-none}
-use Rattle.srv_conn.proofs.ScriptLemmas.{last_revision, marked-later, repeats-append, repeats-none, repeats-one, rises-append, rises-none, rises-one, sent-append, sent-later, sent-none, sent-one, wanted-append, wanted-none, wanted-one}
+use Rattle.srv_conn.proofs.ScriptLemmas.{marked-later, repeats-append, repeats-none, repeats-one, rises-append, rises-none, rises-one, sent-append, sent-later, sent-none, sent-one, wanted-append, wanted-none, wanted-one}
 use Rattle.srv_conn.proofs.SessionLemmas.{held-at}
-
--- a reply is whole, and isn't a connection's last
-abbrev pub GoesOn : Proto → List Op → ℕ → Mark → Item → Type 0
-GoesOn proto seen number mark item =
-    (mark.revision ≤ length seen) × (mark.sent ≡ length (marked_reply proto seen mark item number))
-    × (is_last item number ≡ false)
-
--- the replies that were begun to some items, with the bytes that were taken and written so far
-pub record Begun (proto : Proto) (still : Bool) (start now : Moment) (taken written : List ℕ) (done : List Item)
-    : Type 0 where
-  pub moved_is : now.link.held ≡ moved taken written start.link.held
-  pub next : AreNext taken start.link.held
-  pub grows : Continues start.seen now.seen
-  pub stays : still ≡ true → now.seen ≡ start.seen
-  pub count : length now.trail ≡ length done
-  pub rises : Rises (length start.seen) now.trail (length now.seen)
-  pub repeats : RepeatsUnwanted proto (length start.seen) now.trail done
-  pub looks_are : now.looks ≡ start.looks ++ wanted_revisions proto now.trail done
-  pub written_is : written ≡ sent_by proto now.seen now.trail done start.session.before
-
--- a served link between two turns: the replies to some items are whole, and the session rests with what follows them
-pub record Serving (proto : Proto) (still : Bool) (start now : Moment) : Type 0 where
-  pub taken : List ℕ
-  pub written : List ℕ
-  pub done : List Item
-  pub begun : Begun proto still start now taken written done
-  pub last : last_revision (length start.seen) now.trail ≡ length now.seen
-  pub each : Each (GoesOn proto now.seen) now.trail done (start.session.before + 1)
-  pub faults_are : now.link.faults ≡ start.link.faults
-  pub reads : ReadsTo (held_bytes start.session ++ taken) done (held_bytes now.session)
-  pub leaves : Leaves (held_bytes start.session ++ taken) (length done) (held_bytes now.session)
-  pub session_is : now.session ≡ resting (held_bytes now.session) (start.session.before + length done)
 
 -- ---- the start
 

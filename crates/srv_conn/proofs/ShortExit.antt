@@ -18,7 +18,6 @@ use Rattle.dap_reply.specs.Head.{no_memory_reply}
 use Rattle.dap_reply.specs.Served.{items_of, sent_by, wanted_revisions, EndsBy, LinkCall, RepeatsUnwanted, Rises, StopsBy}
 use Rattle.srv_conn.specs.Serves.{call_of, Moment, Serves}
 use Rattle.srv_conn.specs.Turn.{item_of_turn, IsShort}
-use Rattle.srv_conn.proofs.EachLemmas.{Each}
 use Rattle.srv_conn.proofs.Exits.{goes-on-at}
 use Rattle.srv_conn.proofs.GoingOn.{asked-now}
 use Rattle.srv_conn.proofs.HeadLemmas.{rest_of}
@@ -26,7 +25,8 @@ use Rattle.srv_conn.proofs.MovedLemmas.{moved-put}
 use Rattle.srv_conn.proofs.Ran.{moves_of, serves-so}
 use Rattle.srv_conn.proofs.ScriptLemmas.{rises-append, rises-none}
 use Rattle.srv_conn.proofs.ServedParts.{ended-of, failed}
-use Rattle.srv_conn.proofs.Serving.{each-later, same-sent, GoesOn, Serving}
+use Rattle.srv_conn.proofs.Serving.{each-later, same-sent}
+use Rattle.srv_conn.specs.SoFar.{Each, GoesOn, Serving}
 
 serves-said : (proto : Proto) (still : Bool) (start now after : Moment) (asked : Asked) (most : ℕ)
     (end : Option End) (more : List ℕ) → Serving proto still start now → length now.trail < most

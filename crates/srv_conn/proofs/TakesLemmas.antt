@@ -2,18 +2,14 @@
 use Rattle.std.proofs.Common.{◌≡◌, ◌<◌, ℕ, ◌+◌, ◌-◌, List, [], ◌++◌, length, sym, ap, ap₂, subst, ◌∙◌, append_assoc, append-nil, refl, arith, length-append}
 use Rattle.dev_traits.specs.Shown.{LinkShown}
 use Rattle.web_frame.specs.Limit.{MAX_HEAD}
-use Rattle.web_session.specs.declared.action.Action.TheVariants.{Read}
 use Rattle.web_session.specs.declared.action.End.{End}
-use Rattle.web_session.specs.declared.phase.Phase.TheVariants.{Ended}
-use Rattle.web_session.specs.declared.event.Event.TheVariants.{Start}
-use Rattle.web_session.specs.Event.{after_event}
-use Rattle.web_session.specs.State.{action_of, resting, State}
-use Rattle.web_session.proofs.StartLemmas.{start-same}
+use Rattle.web_session.specs.State.{resting, State}
 use Rattle.dap_reply.specs.Served.{held_bytes, IsAtRest}
+use Rattle.srv_conn.specs.Acts.{EndsWaiting}
 use Rattle.srv_conn.specs.Moved.{moved, AreNext}
-use Rattle.srv_conn.specs.Turn.{EndsReading, FindsNone, Takes}
+use Rattle.srv_conn.specs.Turn.{EndsReading, FindsNone, Takes, TakesSome}
 use Rattle.srv_conn.proofs.MovedLemmas.{moved-more, moved-none, next-more, next-none}
-use Rattle.srv_conn.proofs.SessionLemmas.{held-at, reads-waiting, rests-at}
+use Rattle.srv_conn.proofs.SessionLemmas.{held-at, rests-at}
 
 -- what a session holds after bytes were taken
 takes-held : {link now : LinkShown} {s after : State} {taken : List ℕ} → Takes link now s after taken
@@ -47,36 +43,33 @@ takes-then {first = first} {s = s} {taken = taken} {more = more} one two = recor
       (ap (λ (x : State). x.before) one.session_is);
 }
 
--- the action that is due is asked for
-pub takes-start : {link now : LinkShown} {s mid after : State} {taken : List ℕ} → Takes link now s mid taken
-    → after ≡ after_event mid Start → Takes link now s after taken
-takes-start {link = link} {now = now} {s = s} {mid = mid} {taken = taken} takes is =
-    subst (λ (x : State). Takes link now s x taken) (sym (is ∙ start-same mid)) takes
-
 -- the room for a head gets smaller
-pub takes-less : {link now : LinkShown} {s after : State} {taken : List ℕ} (count : ℕ) → Takes link now s after taken
-    → action_of s ≡ Read count → 0 < count → 0 < length taken
+pub takes-less : {link now : LinkShown} {s after : State} → TakesSome link now s after
     → MAX_HEAD - length (held_bytes after) < MAX_HEAD - length (held_bytes s)
-takes-less {s = s} {after = after} {taken = taken} count takes reads room some =
-    let longer : length (held_bytes after) ≡ length (held_bytes s) + length taken =
-    ap length (takes-held takes) ∙ length-append (held_bytes s) taken in
-    omega (arith, longer, room, some, (reads-waiting s count reads).1, length-append s.held.head s.held.rest)
+takes-less {s = s} {after = after} some =
+    let longer : length (held_bytes after) ≡ length (held_bytes s) + length some.taken =
+    ap length (takes-held some.takes) ∙ length-append (held_bytes s) some.taken in
+    omega (arith, longer, some.room, some.some)
 
 -- a session that waits ends where a call fails or input is over
-pub takes-ends : {first second : LinkShown} {s mid : State} {taken : List ℕ} {end : End} (third : LinkShown)
-    (after : State) (count : ℕ) → Takes first second s mid taken → action_of mid ≡ Read count → after.phase ≡ Ended end
-    → third.held ≡ second.held → EndsReading second third (held_bytes mid) end
-    → FindsNone first third s after end
-takes-ends {second = second} {s = s} {mid = mid} {taken = taken} {end = end} third after count takes reads ended same
-    why = record {
-      taken = taken;
-      moved_is = same ∙ takes.moved_is;
-      next = takes.next;
-      waiting = sym (ap (λ (x : State). x.phase) takes.session_is) ∙ (reads-waiting mid count reads).0;
-      ended = ended;
-      why = subst (λ (n : ℕ). EndsReadingFrom n (held_bytes s ++ taken)) takes.faults_are
-          (subst (EndsReadingFrom second.faults) (takes-held takes) why);
-    }
+pub takes-ends : {first second third : LinkShown} {s mid after : State} {taken : List ℕ} {end : End}
+    → Takes first second s mid taken → EndsWaiting second third mid after end → FindsNone first third s after end
+takes-ends {second = second} {third = third} {s = s} {taken = taken} {end = end} takes w = record {
+  taken = taken;
+  moved_is = w.held_is ∙ takes.moved_is;
+  next = takes.next;
+  waiting = sym (ap (λ (x : State). x.phase) takes.session_is) ∙ w.waiting;
+  ended = w.ended;
+  why = subst (λ (n : ℕ). EndsReadingFrom n (held_bytes s ++ taken)) takes.faults_are
+      (subst (EndsReadingFrom second.faults) (takes-held takes) w.why);
+}
   where
     EndsReadingFrom : ℕ → List ℕ → Type 0
     EndsReadingFrom faults left = EndsReading (record { held = second.held; faults = faults }) third left end
+
+-- nothing was taken before it
+pub none-taken : {before after : LinkShown} {session session' : State} {end : End} {count : ℕ}
+    → session ≡ resting (held_bytes session) count → EndsWaiting before after session session' end
+    → FindsNone before after session session' end
+none-taken {before = before} {session = session} {count = count} rests w =
+    takes-ends (Takes-nothing before session (rests-at session (held_bytes session) count rests)) w

@@ -1,7 +1,15 @@
+pub mod Acts
 pub mod Answered
+pub mod AtDoor
+pub mod Begins
 pub mod DoorTurns
+pub mod Follows
+pub mod Kept
 pub mod Moved
+pub mod Out
 pub mod Serves
+pub mod Sight
+pub mod SoFar
 pub mod Turn
 pub mod WrittenAt
 pub use Rattle.dap_reply.specs.Served

@@ -1,4 +1,4 @@
--- The turns of a served link: reading until a session asks for a reply, and replying.
+-- What is taken from a served link, and what becomes of a reply to it.
 use Rattle.std.specs.Prelude.{◌≡◌, ◌⊎◌, ℕ, ◌+◌, ◌<◌, ◌≤◌, List, [], ◌∷◌, ◌++◌, length, take, Bool, true, false, if◌then◌else◌, Option, Some, None}
 use Rattle.fm_model.specs.declared.proto.Proto.{Proto}
 use Rattle.dev_traits.specs.Cause.{one_more}
@@ -6,6 +6,7 @@ use Rattle.dev_traits.specs.Link.{after_put}
 use Rattle.dev_traits.specs.Shown.{LinkShown}
 use Rattle.pub_look.specs.History.{Continues, MayHaveLooked}
 use Rattle.web_frame.specs.Items.{Item}
+use Rattle.web_frame.specs.Limit.{MAX_HEAD}
 use Rattle.web_frame.specs.Stream.{next_of}
 use Rattle.web_session.specs.declared.action.Action.{Action}
 use Rattle.web_session.specs.declared.action.Action.TheVariants.{Read, Ask, Send, Close}
@@ -36,10 +37,11 @@ pub record Takes (before after : LinkShown) (session session_after : State) (tak
   pub faults_are : after.faults ≡ before.faults
   pub session_is : session_after ≡ resting (held_bytes session ++ taken) session.before
 
--- some bytes were taken
+-- some bytes were taken for a session that had room for them
 pub record TakesSome (before after : LinkShown) (session session_after : State) : Type 0 where
   pub taken : List ℕ
   pub some : 0 < length taken
+  pub room : length (held_bytes session) < MAX_HEAD
   pub takes : Takes before after session session_after taken
 
 -- a link that was read from ends a session: a call failed, or input is over and these bytes are left
@@ -121,9 +123,3 @@ pub record IsShort (still : Bool) (before after : Moment) (end : Option End) : T
       ⊎ (after.link.faults ≡ one_more before.link.faults)
   pub ended : after.session.phase ≡ Ended ends.NoMemory
   pub end_is : end ≡ Some ends.NoMemory
-
--- a session's question got its reply, in one of these ways
-pub data Turn (proto : Proto) (still : Bool) (before after : Moment) (asked : Asked) (end : Option End) : Type 0 where
-  whole : IsWhole proto still before after asked end → Turn proto still before after asked end
-  cut : IsCut proto still before after asked end → Turn proto still before after asked end
-  short : IsShort still before after end → Turn proto still before after asked end

@@ -1,27 +1,49 @@
 //! Serving a door.
 ghost use Rattle.std.specs.Prelude.{◌≡◌};
+ghost use Rattle.srv_conn.specs.AtDoor.{end_of, failed_by};
 ghost use Rattle.srv_conn.specs.DoorTurns.{EndsDoor, ServesEach};
 
+use crate::door_next::{Next, Station, serve_next};
 use crate::door_report::{DoorEnd, DoorReport};
-use crate::door_turn::{Next, count_short, serve_next};
+use crate::hall::Hall;
+use crate::serve::ROOM;
 use dev_traits::{Door, Gate};
 use fm_model::Site;
 use pub_look::Look;
 use std::alloc::Global;
 use std::sync::Wait;
 
-// The report at the end.
-fn report_of(served: u64, short: u64, end: DoorEnd) -> DoorReport
-    ensures { result ≡ record { served = served; short = short; end = end } }
+// Whether a call of a door has failed, after this came next.
+fn failed_by(has_failed: bool, next: Next) -> bool
+    ensures { result ≡ failed_by has_failed next }
 {
-    DoorReport { served, short, end }
+    match next {
+        Next::Failed => true,
+        Next::Turn | Next::Closed => has_failed,
+    }
 }
 
-/// Serves the links of a door, one after the other, until it closes or fails. `serve_link` serves each from a fresh
-/// session, for at most 10,000 replies, and the door gets it back. The operations seen for one link are seen for the
-/// next. A link for which memory ran out is counted, and the next one is served. The gate is passed, with the door's
-/// number, before and after each link.
-#[tactic(auto, using(crate::proofs::DoorTurnLemmas::turns))]
+// Why serving a door stops, if it does, after this came next.
+fn end_of(has_failed: bool, next: Next, is_empty: bool) -> Option<DoorEnd>
+    ensures { result ≡ end_of has_failed next is_empty }
+{
+    if !is_empty {
+        return None;
+    }
+    if has_failed {
+        return Some(DoorEnd::DoorFault);
+    }
+    match next {
+        Next::Closed => Some(DoorEnd::Closed),
+        Next::Turn => None,
+        Next::Failed => None,
+    }
+}
+
+/// Serves the links of a door, many at once, until it closes, or has failed and none is out. Each is served from a
+/// fresh session, for at most 10,000 replies, over what was seen when it came and what is seen from then on, and the
+/// door gets it back. A link for which memory ran out is counted, and the others are served. The gate is passed, with
+/// the door's number, as each link comes and once it was given back.
 pub fn serve_door<R: Wait, D: Door, K: Look, G: Gate>(
     rt: &R,
     alloc: Global,
@@ -41,16 +63,15 @@ pub fn serve_door<R: Wait, D: Door, K: Look, G: Gate>(
     ensures same_proto { K.proto look.new ≡ K.proto look.old }
     ensures same_still { K.still look.new ≡ K.still look.old }
 {
-    let mut served = 0u64;
-    let mut short = 0u64;
+    let station = Station { site, gate, number };
+    let mut hall = Hall::new(alloc);
+    let mut room = [0; ROOM];
+    let mut has_failed = false;
     for _ in rt.forever() {
-        match serve_next(alloc, look, door, number, gate, site) {
-            Ok(Next::Turn(stop)) => {
-                served = served.saturating_add(1);
-                short = count_short(short, stop);
-            }
-            Ok(Next::Closed) => return report_of(served, short, DoorEnd::Closed),
-            Err(_) => return report_of(served, short, DoorEnd::DoorFault),
+        let next = serve_next(alloc, look, door, &mut hall, &station, &mut room);
+        has_failed = failed_by(has_failed, next);
+        if let Some(end) = end_of(has_failed, next, hall.links.is_empty()) {
+            return hall.report(end);
         }
     }
     unreachable!()

@@ -1,51 +1,114 @@
-//! One reply: a request is answered, or memory runs out.
-ghost use Rattle.std.specs.Prelude.{◌≡◌, ◌<◌, ◌≤◌, Some, length};
-ghost use Rattle.web_session.specs.declared.action.Asked.{Asked as What};
-ghost use Rattle.web_session.specs.declared.action.End.TheVariants.{LinkFault};
-ghost use Rattle.web_session.specs.declared.phase.Phase.TheVariants.{Asking, Ended};
-ghost use Rattle.web_session.specs.State.{end_after, replied};
-ghost use Rattle.srv_conn.specs.Serves.{moment_of};
-ghost use Rattle.srv_conn.specs.Turn.{end_said, Turn};
+//! One reply over a link that blocks: a request is answered, or memory runs out.
+ghost use Rattle.std.specs.Prelude.{◌≡◌, ◌≢◌, ◌∷◌, ◌++◌, ◌+◌, ◌<◌, ℕ, [], Bool, IfOk, List, None, OnErr, length};
+ghost use Rattle.fm_model.specs.declared.op.Op.{Op};
+ghost use Rattle.fm_model.specs.declared.proto.Proto.{Proto};
+ghost use Rattle.web_session.specs.declared.phase.Phase.TheVariants.{Asking};
+ghost use Rattle.dap_reply.specs.declared.served.Mark.{Mark as Noted};
+ghost use Rattle.srv_conn.specs.Acts.{stand, Acts, IsLeaving, IsOneMore, IsReading, IsReady, Notes};
+ghost use Rattle.srv_conn.specs.Begins.{Begins};
+ghost use Rattle.srv_conn.specs.Serves.{moment_of, Moment};
+ghost use Rattle.srv_conn.specs.SoFar.{Asks, SoFar};
+ghost use Rattle.srv_conn.specs.Follows.{Follows};
 
+use crate::acting::{Acted, act};
 use crate::answer::{Request, begin};
-use crate::delivery::deliver;
-use crate::farewell::say_farewell;
+use crate::doing::Doing;
+use crate::farewell::leave;
 use crate::trail::{Trail, note};
+use dap_reply::Mark;
 use dev_traits::Link;
 use fm_base::NoMemory;
 use pub_look::Look;
 use std::alloc::Global;
-use web_session::{Action, End, Event, Session};
+use web_session::{End, Session};
 
-// The end in an action.
-fn end_said(action: Action) -> Option<End>
-    ensures { result ≡ end_said action }
+// Begins the reply to what a session asks, and marks it, unless memory runs out. Room for the mark is made first, so
+// that no memory is taken between a plan and its sending.
+fn begin_marked<K: Look>(
+    alloc: Global,
+    look: &mut K,
+    session: &mut Session,
+    doing: &mut Doing,
+    request: &Request<'_>,
+    trail: &mut Trail,
+) -> Result<u64, NoMemory>
+    requires site { request.now.site.now ≡ (K.proto look.old).site }
+    requires asking { session.old.phase ≡ Asking request.now.asked }
+    ensures begins { Begins (K.proto look.old) (K.still look.old) request.now.asked request.now.revision
+        session.old session.new doing.new
+        (record { seen = K.log look.old; looks = K.looks look.old })
+        (record { seen = K.log look.new; looks = K.looks look.new }) result }
+    ensures marked { IfOk result (λ revision. trail.new ≡ trail.old ++ record { revision = revision; sent = 0 } ∷ []) }
+    ensures unmarked { OnErr result (trail.new ≡ trail.old) }
+    ensures same_proto { K.proto look.new ≡ K.proto look.old }
+    ensures same_still { K.still look.new ≡ K.still look.old }
 {
-    match action {
-        Action::Close(end) => Some(end),
-        Action::Read(_) | Action::Ask(_) | Action::Send { .. } => None,
+    if trail.items.reserve(1).is_err() {
+        leave(session, doing);
+        return Err(NoMemory);
+    }
+    match begin(alloc, look, session, doing, request) {
+        Ok(revision) => {
+            trail.items.push_reserved(Mark { revision, sent: 0 });
+            Ok(revision)
+        }
+        Err(memory) => Err(memory),
     }
 }
 
-// Reports to a session the number of bytes of a reply that were sent. Fewer than all mean that the link failed. Returns
-// the end of the session, if it ends.
-fn tell(session: &mut Session, len: u64, sent: u64) -> Option<End>
-    requires { sent ≤ len }
-    ensures whole { (asked : What) → session.old.phase ≡ Asking asked → sent ≡ len
-        → (session.new ≡ replied session.old asked) × (result ≡ end_after asked session.old.before) }
-    ensures cut { (asked : What) → session.old.phase ≡ Asking asked → sent < len
-        → (session.new.phase ≡ Ended LinkFault) × (result ≡ Some LinkFault) }
+// Does the next action, and notes how far a reply has gone.
+fn act_noted<L: Link>(
+    link: &mut L,
+    session: &mut Session,
+    doing: &mut Doing,
+    room: &mut [u8],
+    trail: &mut Trail,
+) -> Acted
+    requires ready { IsReady doing.old session.old }
+    requires room { 0 < length room.old }
+    ensures acts { Acts (stand (L.shown link.old) session.old doing.old)
+        (stand (L.shown link.new) session.new doing.new) result }
+    ensures notes { Notes result trail.old trail.new }
+    ensures at_once { L.blocks → result ≢ Acted.Later }
 {
-    session.on(Event::Answer { len });
-    let action = if sent < len {
-        session.on(Event::Fault)
-    } else {
-        session.on(Event::Sent(len))
-    };
-    end_said(action)
+    match act(link, session, doing, room, usize::MAX) {
+        Acted::Sent { count, total } => {
+            note(trail, total);
+            Acted::Sent { count, total }
+        }
+        acted => acted,
+    }
 }
 
-/// Replies to a session's request, or says that memory ran out. Returns the end of the session, if it ends.
+// Sends what is being sent, and notes how far it came. Returns the end of the session, if it ends.
+fn finish<L: Link>(
+    link: &mut L,
+    session: &mut Session,
+    doing: &mut Doing,
+    room: &mut [u8],
+    trail: &mut Trail,
+) -> Option<End>
+    requires ready { IsReady doing.old session.old }
+    requires sends { IsReading doing.old → ⊥ }
+    requires room { 0 < length room.old }
+    requires blocks { L.blocks }
+    ensures follows { (proto : Proto) (still : Bool) (start : Moment) (seen : List Op) (looks : List ℕ) (most : ℕ)
+        → SoFar proto still start (moment_of (L.shown link.old) seen looks session.old trail.old) most doing.old
+        → Follows proto still start most (moment_of (L.shown link.new) seen looks session.new trail.new) result }
+    ensures marks { (front : List Noted) → IsOneMore front trail.old → IsOneMore front trail.new }
+    ensures replied { IsLeaving doing.old → result ≡ None → ⊥ }
+{
+    'sends: loop {
+        match act_noted(link, session, doing, room, trail) {
+            Acted::Finished => return None,
+            Acted::Ended(end) => return Some(end),
+            _ => {}
+        }
+    }
+}
+
+/// Replies to a session's request over a link that blocks, or says that memory ran out. Returns the end of the session,
+/// if it ends.
 pub(crate) fn reply<L: Link, K: Look>(
     alloc: Global,
     look: &mut K,
@@ -57,24 +120,19 @@ pub(crate) fn reply<L: Link, K: Look>(
 ) -> Option<End>
     requires site { request.now.site.now ≡ (K.proto look.old).site }
     requires asking { session.old.phase ≡ Asking request.now.asked }
+    requires revision { request.now.revision ≡ length (K.log look.old) }
     requires room { 0 < length room.old }
-    ensures turn { Turn (K.proto look.old) (K.still look.old)
-        (moment_of (L.shown link.old) (K.log look.old) (K.looks look.old) session.old trail.old)
-        (moment_of (L.shown link.new) (K.log look.new) (K.looks look.new) session.new trail.new)
-        request.now.asked result }
+    requires blocks { L.blocks }
+    ensures follows { (start : Moment) (most : ℕ)
+        → Asks (K.proto look.old) (K.still look.old) start
+        (moment_of (L.shown link.old) (K.log look.old) (K.looks look.old) session.old trail.old) most request.now.asked
+        → Follows (K.proto look.old) (K.still look.old) start most
+        (moment_of (L.shown link.new) (K.log look.new) (K.looks look.new) session.new trail.new) result }
+    ensures longer { result ≡ None → length trail.new ≡ length trail.old + 1 }
     ensures same_proto { K.proto look.new ≡ K.proto look.old }
     ensures same_still { K.still look.new ≡ K.still look.old }
 {
-    match begin(alloc, look, session, request, trail) {
-        Ok(plan) => {
-            let sent = deliver(link, &plan, room);
-            note(trail, sent);
-            tell(session, plan.len(), sent)
-        }
-        Err(NoMemory) => {
-            // A link that fails now is left as one whose memory ran out.
-            let _said = say_farewell(link);
-            end_said(session.on(Event::NoAnswer))
-        }
-    }
+    let mut doing = Doing::Reading;
+    let _begun = begin_marked(alloc, look, session, &mut doing, request, trail);
+    finish(link, session, &mut doing, room, trail)
 }

@@ -1,4 +1,4 @@
-//! Serving a link.
+//! Serving a link that blocks.
 ghost use Rattle.std.specs.Prelude.{◌≡◌, []};
 ghost use Rattle.dap_reply.specs.Served.{IsAtRest};
 ghost use Rattle.srv_conn.specs.Serves.{moment_of, Serves};
@@ -14,11 +14,11 @@ use pub_look::Look;
 use std::alloc::Global;
 use web_session::Session;
 
-// The bytes that a served link has for its own use.
-const ROOM: usize = 65_536;
+// The bytes that whoever serves a link has for its own use.
+pub(crate) const ROOM: usize = 65_536;
 
-/// Serves a link until `most` replies were written in this call, or the link has ended: the requests that come are
-/// answered in order, each whole, over collections that never get older. It waits for nobody but the link.
+/// Serves a link that blocks until `most` replies were written in this call, or the link has ended: the requests that
+/// come are answered in order, each whole, over collections that never get older. It waits for nobody but the link.
 pub fn serve_link<L: Link, K: Look>(
     alloc: Global,
     look: &mut K,
@@ -29,6 +29,7 @@ pub fn serve_link<L: Link, K: Look>(
 ) -> (Stop, Trail)
     requires site { site.now ≡ (K.proto look.old).site }
     requires rests { IsAtRest session.old }
+    requires blocks { L.blocks }
     ensures serves { Serves (K.proto look.old) (K.still look.old)
         (moment_of (L.shown link.old) (K.log look.old) (K.looks look.old) session.old [])
         (moment_of (L.shown link.new) (K.log look.new) (K.looks look.new) session.new result.1)
@@ -50,7 +51,12 @@ pub fn serve_link<L: Link, K: Look>(
             Ok(asked) => asked,
             Err(end) => return (Stop::Ended(end), trail),
         };
-        let request = Request { asked, site };
+        let revision = look.seen();
+        let request = Request {
+            asked,
+            site,
+            revision,
+        };
         if let Some(end) = reply(alloc, look, link, session, &request, &mut room, &mut trail) {
             return (Stop::Ended(end), trail);
         }

@@ -72,8 +72,7 @@ left-where {X} {R} Is Q Z before after reports n are so has =
 -- a door at which serving ended by a fault has failed
 door-has-failed : {L : Type 0} (came left : DoorShown L) (end : DoorEnd) → EndsDoor came left end
     → end ≡ door_ends.DoorFault → 0 < left.faults
-door-has-failed came left door_ends.DoorFault ends is =
-    subst (λ (n : ℕ). 0 < n) (sym ends) (one_more-positive came.faults)
+door-has-failed came left door_ends.DoorFault ends is = omega (arith, ends, one_more-positive came.faults)
 door-has-failed came left door_ends.Closed ends is = absurd cc
 
 inbox-has-failed : (came left : InboxShown) (end : IngestEnd) → EndsIngest came left end

@@ -5,11 +5,12 @@ use Rattle.fm_base.specs.declared.fail.Fail.TheVariants.{NoMemory, Fault}
 use Rattle.dev_traits.specs.Cause.{count_after}
 use Rattle.dev_traits.specs.Opener.{Stock}
 use Rattle.srv_words.specs.declared.job.Serving.{Serving}
+use Rattle.srv_workers.specs.declared.outcome.Devices.{Devices}
 use Rattle.srv_run.specs.declared.end.End.TheVariants.{DoorFault, InboxFault}
 use Rattle.srv_run.specs.Devices.{door_request, OpensDevices, StopsAt}
 use Rattle.srv_run.specs.Opening.{end_of, OpensClock, OpensDoors, OpensInboxes}
 use Rattle.srv_run.specs.Stage.{Shows}
-use Rattle.srv_run.proofs.OpeningLemmas.{OpensInboxes-none}
+use Rattle.srv_run.proofs.OpeningLemmas.{OpensDoors-none, OpensInboxes-none}
 
 -- only doors were opened
 pub OpensDevices-doors : {D I C L : Type 0} (show : Shows D I C L) (serving : Serving)
@@ -37,6 +38,15 @@ OpensDevices-inboxes {C = C} show serving before now after doors inboxes clocks 
   inboxes = opens';
   clock = subst (λ (l : List C). OpensClock show.clock serving.ticks after after l) (sym no_clocks) refl;
 }
+
+-- nothing was opened
+pub OpensDevices-none : {D I C L : Type 0} (show : Shows D I C L) (serving : Serving) (opener : Option (Stock D I C))
+    (devices : Devices D I C) → devices ≡ record { doors = []; inboxes = []; clocks = [] }
+    → OpensDevices show serving opener opener devices
+OpensDevices-none {D} {I} {C} show serving opener devices none =
+    subst (λ (d : Devices D I C). OpensDevices show serving opener opener d) (sym none)
+    (OpensDevices-doors show serving opener opener [] [] []
+    (OpensDoors-none show.door (door_request serving) opener [] refl) refl refl)
 
 -- a door wasn't opened
 pub StopsAt-door : {D I C E : Type 0} (serving : Serving) (doors : List D) (inboxes : List I) (clocks : List C)

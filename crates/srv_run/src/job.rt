@@ -58,6 +58,7 @@ fn do_alone<O: Opener, F: Files, L: Link, S: Sink, G: Gate>(
     job: Job,
     world: &mut World<O, F, L, S, G>,
 ) -> End
+    requires blocks { L.blocks }
     requires job { IsJob job }
     requires alone { spec.IsAlone job }
     ensures { let stage = stage_of O.shown F.shown L.shown S.shown in
@@ -86,7 +87,8 @@ where
     O::I: Send,
     O::C: Send,
     <O::D as Door>::L: Send,
-    requires { IsJob job }
+    requires blocks { L.blocks }
+    requires job { IsJob job }
     ensures { let stage = stage_of O.shown F.shown L.shown S.shown in
         spec.DoesJob (shows O.D.shown O.D.L.shown O.I.shown O.C.shown) (Some job) result
         (stage world.old) (stage world.new) }
@@ -147,6 +149,7 @@ pub(crate) fn do_found_alone<O: Opener, F: Files, L: Link, S: Sink, G: Gate>(
     found: Result<Job, End>,
     world: &mut World<O, F, L, S, G>,
 ) -> u8
+    requires blocks { L.blocks }
     requires job { IfOk found IsJob }
     requires alone { IfOk found spec.IsAlone }
     ensures { let stage = stage_of O.shown F.shown L.shown S.shown in
@@ -175,7 +178,8 @@ where
     O::I: Send,
     O::C: Send,
     <O::D as Door>::L: Send,
-    requires { IfOk found IsJob }
+    requires blocks { L.blocks }
+    requires job { IfOk found IsJob }
     ensures { let stage = stage_of O.shown F.shown L.shown S.shown in
         (job : Option Work) → spec.IsJobOrEnd job found
         → spec.Runs (shows O.D.shown O.D.L.shown O.I.shown O.C.shown) job result

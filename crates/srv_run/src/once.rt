@@ -74,7 +74,8 @@ fn do_steps<'a, F: Files, L: Link>(
     files: &mut F,
     link: &mut L,
 ) -> (End, &'a [u8])
-    requires { RestsUnlessEnded service.old.session }
+    requires blocks { L.blocks }
+    requires rests { RestsUnlessEnded service.old.session }
     ensures { DoesSteps steps.entry.now
         (progress (F.shown files.old) service.old.plain service.old.session (L.shown link.old))
         (progress (F.shown files.new) service.new.plain service.new.session (L.shown link.new))
@@ -98,7 +99,8 @@ fn run_steps<'a, F: Files, L: Link>(
     files: &mut F,
     link: &mut L,
 ) -> (End, &'a [u8])
-    requires { IsSite site }
+    requires blocks { L.blocks }
+    requires site { IsSite site }
     ensures { spec.RunsSteps site path.entry.now steps.entry.now (F.shown files.old) (F.shown files.new)
         (L.shown link.old) (L.shown link.new) result.0 result.1.now
         ⊎ spec.EndsAtPrototype site path.entry.now (F.shown files.old) (F.shown files.new)
@@ -122,7 +124,8 @@ pub(crate) fn once<O: Opener, F: Files, L: Link, S: Sink, G: Gate>(
     steps: &[Step],
     world: &mut World<O, F, L, S, G>,
 ) -> End
-    requires { IsSite site }
+    requires blocks { L.blocks }
+    requires site { IsSite site }
     ensures runs { let shown = world_shown F.shown L.shown S.shown in
         spec.RunsOnce site path.now steps.now result (shown world.old) (shown world.new) }
     ensures leaves { let stage = stage_of O.shown F.shown L.shown S.shown in

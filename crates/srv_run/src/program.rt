@@ -24,7 +24,8 @@ fn run_alone<O: Opener, F: Files, L: Link, S: Sink, G: Gate>(
     command: Command,
     world: &mut World<O, F, L, S, G>,
 ) -> u8
-    requires { command ≡ commands.Serve → ⊥ }
+    requires blocks { L.blocks }
+    requires alone { command ≡ commands.Serve → ⊥ }
     ensures { let stage = stage_of O.shown F.shown L.shown S.shown in
         spec.Ends (shows O.D.shown O.D.L.shown O.I.shown O.C.shown)
         (spec.only command (job_of words.now)) result (stage world.old) (stage world.new) }
@@ -61,6 +62,7 @@ pub fn run_once<O: Opener, F: Files, L: Link, S: Sink, G: Gate>(
     words: &List<Bytes>,
     world: &mut World<O, F, L, S, G>,
 ) -> u8
+    requires blocks { L.blocks }
     ensures { let stage = stage_of O.shown F.shown L.shown S.shown in
         spec.Ends (shows O.D.shown O.D.L.shown O.I.shown O.C.shown)
         (spec.only commands.Once (job_of words.now)) result (stage world.old) (stage world.new) }
@@ -87,6 +89,7 @@ pub fn run_check<O: Opener, F: Files, L: Link, S: Sink, G: Gate>(
     words: &List<Bytes>,
     world: &mut World<O, F, L, S, G>,
 ) -> u8
+    requires blocks { L.blocks }
     ensures { let stage = stage_of O.shown F.shown L.shown S.shown in
         spec.Ends (shows O.D.shown O.D.L.shown O.I.shown O.C.shown)
         (spec.only commands.Check (job_of words.now)) result (stage world.old) (stage world.new) }
@@ -113,6 +116,7 @@ pub fn run_load<O: Opener, F: Files, L: Link, S: Sink, G: Gate>(
     words: &List<Bytes>,
     world: &mut World<O, F, L, S, G>,
 ) -> u8
+    requires blocks { L.blocks }
     ensures { let stage = stage_of O.shown F.shown L.shown S.shown in
         spec.Ends (shows O.D.shown O.D.L.shown O.I.shown O.C.shown)
         (spec.only commands.Load (job_of words.now)) result (stage world.old) (stage world.new) }
@@ -154,6 +158,7 @@ where
     O::I: Send,
     O::C: Send,
     <O::D as Door>::L: Send,
+    requires blocks { L.blocks }
     ensures { let stage = stage_of O.shown F.shown L.shown S.shown in
         spec.Ends (shows O.D.shown O.D.L.shown O.I.shown O.C.shown)
         (spec.only commands.Serve (job_of words.now)) result (stage world.old) (stage world.new) }
@@ -175,6 +180,7 @@ where
     O::I: Send,
     O::C: Send,
     <O::D as Door>::L: Send,
+    requires blocks { L.blocks }
     ensures { let stage = stage_of O.shown F.shown L.shown S.shown in
         spec.Ends (shows O.D.shown O.D.L.shown O.I.shown O.C.shown)
         (job_of words.now) result (stage world.old) (stage world.new) }
@@ -206,6 +212,7 @@ where
     O::I: Send,
     O::C: Send,
     <O::D as Door>::L: Send,
+    requires blocks { L.blocks }
     ensures { let stage = stage_of O.shown F.shown L.shown S.shown in
         spec.Ends (shows O.D.shown O.D.L.shown O.I.shown O.C.shown)
         (job_of words.now) (exit_status result.0) (stage world.old) (stage world.new) }

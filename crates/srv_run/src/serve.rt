@@ -15,7 +15,7 @@ use dev_traits::{Door, Files, Gate, Link, Opener, Sink, World};
 use fm_base::{Arc, Bytes, List, NoMemory};
 use fm_model::{Proto, Site};
 use srv_words::Serving;
-use srv_workers::{Devices, Outcome, run_workers};
+use srv_workers::{Devices, Outcome, can_start, run_workers};
 use std::alloc::Global;
 use std::marker::{Send, Sync};
 use std::sync::Wait;
@@ -75,6 +75,46 @@ where
     Ok(outcome)
 }
 
+// How many threads a run needs beside its own: it has a worker for each device.
+fn threads_for(serving: &Serving) -> usize {
+    let doors = serving.workers as usize;
+    let clocks = usize::from(serving.keep.is_some());
+    let workers = doors
+        .saturating_add(serving.inboxes.len())
+        .saturating_add(clocks);
+    workers.saturating_sub(1)
+}
+
+// Opens all devices and has workers run over them, each in a thread of its own. Where one can't be started, nothing is
+// opened: a worker that waits for another one would leave its links waiting.
+fn run_in_threads<R: Threads + Wait + Sync, O: Opener, G: Gate + Sync>(
+    rt: &R,
+    alloc: Global,
+    serving: &Serving,
+    proto: &Arc<Proto>,
+    opener: &mut O,
+    gate: &G,
+    devices: &mut Devices<O::D, O::I, O::C>,
+) -> Result<Outcome, End>
+where
+    O::D: Send,
+    O::I: Send,
+    O::C: Send,
+    <O::D as Door>::L: Send,
+    requires serving { IsServing serving.now }
+    requires proto { IsPrototype proto.now }
+    requires none { devices.old ≡ record { doors = []; inboxes = []; clocks = [] } }
+    ensures run { IfOk result (spec.HasRun (shows O.D.shown O.D.L.shown O.I.shown O.C.shown) serving.now proto.now
+        (O.shown opener.old) (O.shown opener.new) devices.new) }
+    ensures stopped { IfErr result (spec.HasStopped (shows O.D.shown O.D.L.shown O.I.shown O.C.shown) serving.now
+        (O.shown opener.old) (O.shown opener.new) devices.new) }
+{
+    if !can_start(rt, threads_for(serving)) {
+        return Err(End::NoMemory);
+    }
+    open_and_run(rt, alloc, serving, proto, opener, gate, devices)
+}
+
 // The devices of a run before any is opened.
 fn no_devices<D, I, C>(alloc: Global) -> Devices<D, I, C>
     ensures { result ≡ record { doors = []; inboxes = []; clocks = [] } }
@@ -110,7 +150,7 @@ where
 {
     let mut devices = no_devices(alloc);
     let opener = &mut world.opener;
-    let ran = open_and_run(rt, alloc, serving, proto, opener, &world.gate, &mut devices);
+    let ran = run_in_threads(rt, alloc, serving, proto, opener, &world.gate, &mut devices);
     world.doors = devices.doors;
     world.inboxes = devices.inboxes;
     world.clocks = devices.clocks;

@@ -92,6 +92,7 @@ fn ask<L: Link>(
     link: &mut L,
     count: u32,
 ) -> Result<(), End>
+    requires blocks { L.blocks }
     requires proto { plain.old.proto ≡ proto.now }
     requires stands { spec.RestsUnlessEnded session.old }
     ensures done { OnOk result (spec.AnswersAsk count
@@ -119,7 +120,8 @@ impl Service {
         files: &mut F,
         link: &mut L,
     ) -> Result<(), End>
-        requires { spec.RestsUnlessEnded self.old.session }
+        requires blocks { L.blocks }
+        requires rests { spec.RestsUnlessEnded self.old.session }
         ensures done { OnOk result (spec.IsDone step.now
             (spec.progress (F.shown files.old) self.old.plain self.old.session (L.shown link.old))
             (spec.progress (F.shown files.new) self.new.plain self.new.session (L.shown link.new))) }

@@ -7,7 +7,8 @@ use Rattle.dev_traits.specs.Door.{DoorShown}
 use Rattle.dev_traits.specs.Inbox.{InboxShown}
 use Rattle.pub_look.specs.History.{History}
 use Rattle.srv_conn.specs.declared.door_report.DoorReport.{DoorReport}
-use Rattle.srv_conn.specs.DoorTurns.{EndsDoor, ServesEach, Sight}
+use Rattle.srv_conn.specs.DoorTurns.{EndsDoor, ServesEach}
+use Rattle.srv_conn.specs.Sight.{Sight}
 use Rattle.srv_ingest.specs.declared.report.ExpireReport.{ExpireReport}
 use Rattle.srv_ingest.specs.declared.report.IngestReport.{IngestReport}
 use Rattle.srv_ingest.specs.Expires.{AllSettledWith}

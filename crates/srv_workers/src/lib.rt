@@ -13,8 +13,10 @@ mod slots;
 mod staff;
 mod task;
 mod tasks;
+mod threads;
 mod work;
 mod workers;
 
 pub use outcome::{Devices, Outcome};
+pub use threads::can_start;
 pub use workers::run_workers;

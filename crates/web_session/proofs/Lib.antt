@@ -1,3 +1,4 @@
+pub mod IdleLemmas
 pub mod LookLemmas
 pub mod ReplyLemmas
 pub mod RunLaws

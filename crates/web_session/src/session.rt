@@ -11,7 +11,7 @@ use crate::phase::{MAX_REPLIES, Phase};
 use fm_base::NoMemory;
 use std::alloc::Global;
 use std::marker::Model;
-use web_frame::{Frame, Next};
+use web_frame::{Frame, MAX_HEAD, Next};
 
 /// A connection: what was read of it and not yet answered, and where it stands.
 #[derive(Debug, Drop)]
@@ -61,15 +61,38 @@ fn look(frame: &mut Frame) -> Phase
 }
 
 impl Session {
-    #[tactic(auto, unfolding(crate::specs::State::is_sound))]
     pub fn new(alloc: Global) -> Result<Session, NoMemory>
         ensures { IfOk result (λ session. session ≡ spec.fresh) }
+    {
+        Session::resumed(alloc, 0)
+    }
+
+    /// A session that waits for bytes and holds none, after this number of replies.
+    #[tactic(auto, unfolding(crate::specs::State::is_sound))]
+    pub fn resumed(alloc: Global, before: u32) -> Result<Session, NoMemory>
+        requires { before < MAX_REPLIES }
+        ensures { IfOk result (λ session. session ≡ spec.idle_after before) }
     {
         Ok(Session {
             frame: Frame::new(alloc)?,
             phase: Phase::Waiting,
-            before: 0,
+            before,
         })
+    }
+
+    /// How many replies were sent, where the session waits for bytes and holds none: then it may be dropped, and
+    /// `resumed` makes the same one.
+    #[tactic(auto, unfolding(crate::specs::State::idle_of), using(crate::proofs::IdleLemmas::idles))]
+    pub fn idle(&self) -> Option<u32>
+        ensures { result ≡ spec.idle_of self.now }
+    {
+        if self.frame.room() < MAX_HEAD {
+            return None;
+        }
+        match self.phase {
+            Phase::Waiting => Some(self.before),
+            Phase::Asking(_) | Phase::Sending { .. } | Phase::Ended(_) => None,
+        }
     }
 
     // The reply that was asked for is whole.

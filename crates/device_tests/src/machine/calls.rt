@@ -1,6 +1,6 @@
 //! Calls of a link, and what they are to give.
 
-use dev_traits::Link;
+use dev_traits::{Link, Sent, Taken};
 
 // A call of a link, and what it is to give, or `None` where it is to fail.
 #[derive(Clone, Copy)]
@@ -15,7 +15,8 @@ pub(crate) enum Call<'a> {
 fn takes(link: &mut impl Link, bytes: Option<&[u8]>) -> bool {
     let mut buf = [0u8; 4];
     match (link.take(&mut buf), bytes) {
-        (Ok(count), Some(bytes)) => count == bytes.len() && buf.starts_with(bytes),
+        (Ok(Taken::Bytes(count)), Some(bytes)) => count == bytes.len() && buf.starts_with(bytes),
+        (Ok(Taken::End), Some(bytes)) => bytes.is_empty(),
         (Err(_), None) => true,
         _ => false,
     }
@@ -26,7 +27,11 @@ fn puts(link: &mut impl Link, bytes: &[u8], count: Option<usize>) -> bool {
     if bytes.is_empty() {
         return false;
     }
-    link.put(bytes).ok() == count
+    match (link.put(bytes), count) {
+        (Ok(Sent::Bytes(sent)), Some(count)) => sent == count,
+        (Err(_), None) => true,
+        _ => false,
+    }
 }
 
 // Whether a call gives what it is to give.

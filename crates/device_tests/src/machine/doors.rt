@@ -1,7 +1,8 @@
 //! Doors at sockets of the loopback device.
 
-use dev_host::{TcpDoor, TcpLink};
-use dev_traits::{Door, Failed, Link};
+use super::echoing::serve;
+use dev_host::{Patience, TcpDoor, TcpLink};
+use dev_traits::{Coming, Door, Failed};
 use std::alloc::Global;
 use std::io::{Read, Write};
 use std::net::{Shutdown, SocketAddr, TcpListener, TcpStream};
@@ -10,97 +11,84 @@ use std::time::Duration;
 use std::{rt, thread};
 
 // For how many milliseconds peers are waited for where they are not to be given up.
-const LONG: u64 = 20_000;
+pub(crate) const LONG: u64 = 20_000;
 
 // For how many milliseconds peers are waited for that are to be given up.
-const SHORT: u64 = 300;
+pub(crate) const SHORT: u64 = 300;
+
+// A door of the machine, and a link that comes through it.
+pub(crate) type HostDoor = TcpDoor<HostRuntime>;
+
+pub(crate) type HostLink = TcpLink<HostRuntime>;
 
 // A door at a port of its own, and its address.
-fn own_door(
-    rt: HostRuntime,
-    connections: u32,
-    patience: u64,
-) -> Option<(TcpDoor<HostRuntime>, SocketAddr)> {
+fn own_door(rt: HostRuntime, connections: u32, idle: u64) -> Option<(HostDoor, SocketAddr)> {
     let listener = TcpListener::bind(&rt, "127.0.0.1:0").ok()?;
     let address = listener.local_addr().ok()?;
-    let patience = Duration::from_millis(patience);
-    Some((TcpDoor::new(rt, listener, connections, patience), address))
-}
-
-// Two clients that are connected to an address.
-pub(crate) fn two_clients(rt: &HostRuntime, address: SocketAddr) -> Option<(TcpStream, TcpStream)> {
-    let one = TcpStream::connect(rt, address).ok()?;
-    let other = TcpStream::connect(rt, address).ok()?;
-    Some((one, other))
-}
-
-// Whether the next accept gives a link, or shows that the door is closed.
-pub(crate) fn gives_link(door: &mut TcpDoor<HostRuntime>, some: bool) -> bool {
-    match door.accept() {
-        Ok(found) => found.is_some() == some,
-        Err(Failed) => false,
-    }
-}
-
-// Whether a door gives two links, and is then closed.
-fn gives_two(door: &mut TcpDoor<HostRuntime>) -> bool {
-    gives_link(door, true)
-        && gives_link(door, true)
-        && gives_link(door, false)
-        && gives_link(door, false)
-        && door.faults() == 0
-}
-
-// Whether a door for two connections gives two links to two clients.
-fn closes_after_two(rt: HostRuntime) -> bool {
-    let Some((mut door, address)) = own_door(rt, 2, LONG) else {
-        return false;
+    let patience = Patience {
+        idle,
+        grace: 2 * LONG,
     };
-    match two_clients(&rt, address) {
-        Some(_clients) => gives_two(&mut door),
+    let door = TcpDoor::new(rt, rt.alloc(), listener, connections, patience).ok()?;
+    Some((door, address))
+}
+
+// Whether this holds of a door for `connections` connections, and its address.
+fn holds_of_door<F>(rt: HostRuntime, connections: u32, idle: u64, fact: F) -> bool
+where
+    F: FnOnce(&mut HostDoor, SocketAddr) -> bool,
+    requires { F.IsAlwaysCallable fact }
+{
+    match own_door(rt, connections, idle) {
+        Some((door, address)) => {
+            let mut door = door;
+            fact(&mut door, address)
+        }
         None => false,
     }
 }
 
-#[test]
-fn a_door_closes_after_its_connections(rt: HostRuntime) {
-    assert!(rt; closes_after_two(rt));
-}
-
-// Whether this holds of a door for one connection, the link that it gives, and its client.
-fn holds_of_ends<F>(rt: HostRuntime, patience: u64, fact: F) -> bool
+// Whether this holds of a door for `connections` connections, and a client of it.
+pub(crate) fn holds_of_client<F>(rt: HostRuntime, connections: u32, idle: u64, fact: F) -> bool
 where
-    F: FnOnce(HostRuntime, &mut TcpDoor<HostRuntime>, TcpLink<HostRuntime>, TcpStream) -> bool,
+    F: FnOnce(&mut HostDoor, TcpStream) -> bool,
     requires { F.IsAlwaysCallable fact }
 {
-    let Some((mut door, address)) = own_door(rt, 1, patience) else {
+    let Some((mut door, address)) = own_door(rt, connections, idle) else {
         return false;
     };
     match TcpStream::connect(&rt, address) {
-        Ok(client) => holds_of_link(rt, &mut door, client, fact),
+        Ok(client) => fact(&mut door, client),
         Err(_) => false,
     }
 }
 
-// Whether this holds of a door, its next link and a client.
-fn holds_of_link<F>(
-    rt: HostRuntime,
-    door: &mut TcpDoor<HostRuntime>,
-    client: TcpStream,
-    fact: F,
-) -> bool
-where
-    F: FnOnce(HostRuntime, &mut TcpDoor<HostRuntime>, TcpLink<HostRuntime>, TcpStream) -> bool,
-    requires { F.IsAlwaysCallable fact }
-{
-    match door.accept() {
-        Ok(Some(link)) => fact(rt, door, link, client),
-        _ => false,
+// The next link of a door, which is to give one.
+pub(crate) fn next_link(door: &mut HostDoor, key: usize) -> Option<HostLink> {
+    for _ in 0..10_000 {
+        match door.next(key) {
+            Ok(Coming::Came(link)) => return Some(link),
+            Ok(_) => {}
+            Err(Failed) => return None,
+        }
     }
+    None
+}
+
+// Whether a door closes, once the connections that were given back have ended, and no call of it has failed.
+pub(crate) fn closes(door: &mut HostDoor) -> bool {
+    for _ in 0..10_000 {
+        match door.next(1_000) {
+            Ok(Coming::Ready(_)) => {}
+            Ok(Coming::Closed) => return door.faults() == 0,
+            Ok(Coming::Came(_)) | Err(Failed) => return false,
+        }
+    }
+    false
 }
 
 // Whether these bytes come, and no more.
-fn hears(alloc: Global, client: &mut TcpStream, wanted: &[u8]) -> bool {
+pub(crate) fn hears(alloc: Global, client: &mut TcpStream, wanted: &[u8]) -> bool {
     let mut bytes = Vec::new(alloc);
     client.read_to_end(&mut bytes).is_ok() && bytes.as_slice() == wanted
 }
@@ -113,134 +101,128 @@ fn talk(alloc: Global, client: TcpStream) -> bool {
         && hears(alloc, &mut client, b"ping")
 }
 
-// Sends back all that comes.
-fn echo<L: Link>(link: &mut L) -> Result<(), Failed> {
-    let mut buf = [0u8; 3];
-    for _ in 0..10_000 {
-        let count = link.take(&mut buf)?;
-        if count == 0 {
-            return Ok(());
-        }
-        dev_traits::put_all(link, &buf[..count])?;
-    }
-    Ok(())
-}
-
-// Sends back all that comes, and ends the connection. Returns whether all was sent.
-fn echo_and_end(door: &mut TcpDoor<HostRuntime>, link: TcpLink<HostRuntime>) -> bool {
-    let mut link = link;
-    let echoed = echo(&mut link).is_ok();
-    door.done(link);
-    echoed
-}
-
+// Whether a client's bytes come back over a door, which then is closed.
 fn is_echoed<R: Threads>(
     threads: &R,
     alloc: Global,
-    door: &mut TcpDoor<HostRuntime>,
-    link: TcpLink<HostRuntime>,
+    door: &mut HostDoor,
     client: TcpStream,
 ) -> bool {
-    let (heard, echoed) = join(threads, || talk(alloc, client), || echo_and_end(door, link));
-    heard && echoed && door.faults() == 0
+    let (heard, seen) = join(threads, || talk(alloc, client), || serve(alloc, door, true));
+    heard && seen.bytes == 4 && door.faults() == 0
 }
 
 #[test]
-fn bytes_go_both_ways(rt: HostRuntime) {
-    let holds = holds_of_ends(rt, LONG, |_clock, door, link, client| {
-        is_echoed(&rt, rt.alloc(), door, link, client)
+fn bytes_go_both_ways_and_a_door_closes_after_its_connections(rt: HostRuntime) {
+    let holds = holds_of_client(rt, 1, LONG, |door, client| {
+        is_echoed(&rt, rt.alloc(), door, client)
     });
     assert!(rt; holds);
 }
 
-// Whether a take gives no byte, and no call has failed.
-fn gives_nothing<L: Link>(link: &mut L) -> bool {
-    link.take(&mut [0u8; 8]) == Ok(0) && link.faults() == 0
+// `count` clients of an address.
+fn clients_of(rt: &HostRuntime, address: SocketAddr, count: usize) -> Option<Vec<TcpStream>> {
+    let mut clients = Vec::new(rt.alloc());
+    for _ in 0..count {
+        let client = TcpStream::connect(rt, address).ok()?;
+        clients.push(client).ok()?;
+    }
+    Some(clients)
 }
 
-fn is_given_up(
-    _rt: HostRuntime,
-    door: &mut TcpDoor<HostRuntime>,
-    link: TcpLink<HostRuntime>,
-    client: TcpStream,
+// Whether a client that talks over each connection in turn, the last one first, is answered over each.
+fn talk_over_each(alloc: Global, clients: &mut Vec<TcpStream>, count: usize) -> bool {
+    for _ in 0..count {
+        match clients.pop() {
+            Some(client) => {
+                if !talk(alloc, client) {
+                    return false;
+                }
+            }
+            None => return false,
+        }
+    }
+    true
+}
+
+// Whether that holds of `count` connections that are open at once.
+fn talk_over_many(rt: &HostRuntime, address: SocketAddr, count: usize) -> bool {
+    match clients_of(rt, address, count) {
+        Some(clients) => {
+            let mut clients = clients;
+            talk_over_each(rt.alloc(), &mut clients, count)
+        }
+        None => false,
+    }
+}
+
+// Whether `count` links go through a door at once.
+fn are_echoed<R: Threads>(
+    threads: &R,
+    rt: &HostRuntime,
+    door: &mut HostDoor,
+    address: SocketAddr,
+    count: usize,
 ) -> bool {
-    let mut link = link;
-    let silent = gives_nothing(&mut link);
+    let alloc = rt.alloc();
+    let (answered, seen) = join(
+        threads,
+        || talk_over_many(rt, address, count),
+        || serve(alloc, door, true),
+    );
+    answered && seen.most == count && door.faults() == 0
+}
+
+#[test]
+fn three_hundred_links_go_through_one_door_at_once(rt: HostRuntime) {
+    let holds = holds_of_door(rt, 300, LONG, |door, address| {
+        are_echoed(&rt, &rt, door, address, 300)
+    });
+    assert!(rt; holds);
+}
+
+// Whether a client that says nothing is given up, without a fault.
+fn is_given_up(alloc: Global, door: &mut HostDoor, client: TcpStream) -> bool {
+    let seen = serve(alloc, door, false);
     drop(client);
-    door.done(link);
-    silent
+    seen.most == 1 && door.faults() == 0
 }
 
 #[test]
 fn a_client_that_stays_silent_is_given_up(rt: HostRuntime) {
-    assert!(rt; holds_of_ends(rt, SHORT, is_given_up));
+    let holds = holds_of_client(rt, 1, SHORT, |door, client| {
+        is_given_up(rt.alloc(), door, client)
+    });
+    assert!(rt; holds);
 }
 
 // Sends a byte each 50 milliseconds, 40 in all where the peer takes them.
-fn drip<R: rt::Clock>(rt: &R, client: TcpStream) {
+fn drip<C: rt::Clock>(clock: &C, client: TcpStream) {
     let mut client = client;
     for _ in 0..40 {
         if client.write_all(b"x").is_err() {
             return;
         }
-        thread::sleep(rt, Duration::from_millis(50));
+        thread::sleep(clock, Duration::from_millis(50));
     }
 }
 
-// Whether fewer bytes than this come, one by one, before the link ends.
-fn ends_before<L: Link>(link: &mut L, limit: u64) -> bool {
-    for _ in 0..limit {
-        match link.take(&mut [0u8; 1]) {
-            Ok(0) => return link.faults() == 0,
-            Ok(_) => {}
-            Err(Failed) => return false,
-        }
-    }
-    false
-}
-
+// Whether a client that drips is given up before its last byte.
 fn is_given_up_at_drips<R: Threads>(
     threads: &R,
-    clock: HostRuntime,
-    link: TcpLink<HostRuntime>,
+    rt: &HostRuntime,
+    door: &mut HostDoor,
     client: TcpStream,
 ) -> bool {
-    let mut link = link;
-    let ((), ended) = join(
-        threads,
-        || drip(&clock, client),
-        || ends_before(&mut link, 40),
-    );
-    ended
+    let alloc = rt.alloc();
+    let ((), seen) = join(threads, || drip(rt, client), || serve(alloc, door, false));
+    seen.bytes < 40
 }
 
 #[test]
 fn a_client_that_drips_is_given_up(rt: HostRuntime) {
-    let holds = holds_of_ends(rt, SHORT, |clock, _door, link, client| {
-        is_given_up_at_drips(&rt, clock, link, client)
+    let holds = holds_of_client(rt, 1, SHORT, |door, client| {
+        is_given_up_at_drips(&rt, &rt, door, client)
     });
     assert!(rt; holds);
-}
-
-// Sends 30,000 bytes, and nothing after them. Returns whether all were sent.
-fn send_much(client: &mut TcpStream) -> bool {
-    client.write_all(&[b'x'; 30_000]).is_ok() && client.shutdown(Shutdown::Write).is_ok()
-}
-
-fn is_refused(
-    rt: HostRuntime,
-    door: &mut TcpDoor<HostRuntime>,
-    link: TcpLink<HostRuntime>,
-    client: TcpStream,
-) -> bool {
-    let mut link = link;
-    let mut client = client;
-    let refused = send_much(&mut client) && link.put(b"no") == Ok(2);
-    door.done(link);
-    refused && hears(rt.alloc(), &mut client, b"no") && door.faults() == 0
-}
-
-#[test]
-fn a_refusal_reaches_a_client_whose_bytes_are_not_read(rt: HostRuntime) {
-    assert!(rt; holds_of_ends(rt, LONG, is_refused));
 }

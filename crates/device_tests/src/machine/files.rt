@@ -3,7 +3,7 @@
 use super::own_path::{path_for, put_at, remove_at};
 use super::wanted::Content;
 use dev_std::{RealFiles, StdLink, StdSink, StdStream};
-use dev_traits::{Files, Link, Sink};
+use dev_traits::{Files, Link, Sent, Sink};
 use std::alloc::Global;
 
 // Whether this is read at a path with a limit.
@@ -78,7 +78,7 @@ fn takes_line(stream: StdStream) -> bool {
 
 // Whether a line is put to a link.
 fn puts_line<L: Link>(link: &mut L) -> bool {
-    link.put(b"\n") == Ok(1) && link.faults() == 0
+    link.put(b"\n") == Ok(Sent::Bytes(1)) && link.faults() == 0
 }
 
 #[test]

@@ -1,35 +1,44 @@
 //! What the machine opens.
 
-use super::doors::{gives_link, two_clients};
-use dev_host::{RealOpener, TcpDoor, host_world};
-use dev_traits::{Clock, Inbox, Opener};
+use super::doors::{HostDoor, next_link};
+use dev_host::{RealOpener, host_world};
+use dev_traits::{Clock, Door, Inbox, Opener};
 use fm_base::List;
 use std::alloc::Global;
-use std::net::{SocketAddr, TcpListener};
+use std::net::{SocketAddr, TcpListener, TcpStream};
 
-// Whether each of two doors at an address gives one link, and the first of them is then closed.
-fn give_one_each(
-    rt: &HostRuntime,
-    address: SocketAddr,
-    one: &mut TcpDoor<HostRuntime>,
-    other: &mut TcpDoor<HostRuntime>,
-) -> bool {
-    match two_clients(rt, address) {
-        Some(_clients) => {
-            gives_link(one, true) && gives_link(other, true) && gives_link(one, false)
+// Whether each of two doors gives one link, which is given back.
+fn give_one_each(one: &mut HostDoor, other: &mut HostDoor) -> bool {
+    match (next_link(one, 0), next_link(other, 0)) {
+        (Some(link), Some(further)) => {
+            one.done(0, link);
+            other.done(0, further);
+            true
         }
-        None => false,
+        _ => false,
     }
 }
 
-// Whether two doors are at one address, and each gives one link.
-fn are_at_one(
+// Whether that holds of two doors at an address.
+fn give_two(
     rt: &HostRuntime,
-    one: &mut TcpDoor<HostRuntime>,
-    other: &mut TcpDoor<HostRuntime>,
+    address: SocketAddr,
+    one: &mut HostDoor,
+    other: &mut HostDoor,
 ) -> bool {
+    let clients = (
+        TcpStream::connect(rt, address),
+        TcpStream::connect(rt, address),
+    );
+    let given = give_one_each(one, other);
+    drop(clients);
+    given
+}
+
+// Whether two doors are at one address, and each gives one link.
+fn are_at_one(rt: &HostRuntime, one: &mut HostDoor, other: &mut HostDoor) -> bool {
     match (one.local_addr(), other.local_addr()) {
-        (Ok(address), Ok(same)) => same == address && give_one_each(rt, address, one, other),
+        (Ok(address), Ok(same)) => same == address && give_two(rt, address, one, other),
         _ => false,
     }
 }
@@ -38,7 +47,7 @@ fn are_at_one(
 fn is_first_of_two(
     rt: &HostRuntime,
     opener: &mut RealOpener<HostRuntime>,
-    one: &mut TcpDoor<HostRuntime>,
+    one: &mut HostDoor,
 ) -> bool {
     match opener.door(rt.alloc(), b"127.0.0.1:0", 1) {
         Ok(other) => {
@@ -64,6 +73,27 @@ fn share_a_socket(rt: &HostRuntime, opener: &mut RealOpener<HostRuntime>) -> boo
 fn doors_at_one_address_share_a_socket(rt: HostRuntime) {
     let mut opener = RealOpener::new(rt);
     assert!(rt; share_a_socket(&rt, &mut opener) && opener.faults() == 0);
+}
+
+// A part of an address at which a socket is open, and one with more behind it.
+const OTHERS: [&[u8]; 3] = [b"127.0.0.1:", b"127.0.0.1", b"127.0.0.1:0 "];
+
+// Whether a door is opened beside one at this address only where the address is spelt whole.
+fn shares_only_the_same(alloc: Global, opener: &mut RealOpener<HostRuntime>) -> bool {
+    opens_none(alloc, opener, &OTHERS, true, 3) && opens(alloc, opener, b"127.0.0.1:00", true)
+}
+
+// Whether that holds where a door is open.
+fn shares_beside_one(alloc: Global, opener: &mut RealOpener<HostRuntime>) -> bool {
+    match opener.door(alloc, b"127.0.0.1:0", 1) {
+        Ok(_open) => shares_only_the_same(alloc, opener),
+        Err(_) => false,
+    }
+}
+
+#[test]
+fn a_socket_is_shared_only_at_the_very_same_address(rt: HostRuntime) {
+    assert!(rt; shares_beside_one(rt.alloc(), &mut RealOpener::new(rt)));
 }
 
 // Addresses at which no door can be opened: a port out of range, another machine's, and no text.

@@ -9,20 +9,12 @@ pub(crate) fn path_for(rt: &HostRuntime, name: &str) -> Option<String> {
     format!(in rt.alloc(); "{}/fmrcd-{}-{}", parent.as_str(), id, name).ok()
 }
 
-// Puts a file there, or an empty folder where the path ends in a slash. Returns whether it was put.
+// Puts a file there. Returns whether it was put.
 pub(crate) fn put_at(rt: &HostRuntime, path: &str, content: &[u8]) -> bool {
-    if path.ends_with('/') {
-        fs::create_dir(rt, path).is_ok()
-    } else {
-        fs::write(rt, path, content).is_ok()
-    }
+    fs::write(rt, path, content).is_ok()
 }
 
-// Removes a file, or an empty folder where the path ends in a slash. Returns whether it was removed.
+// Removes a file. Returns whether it was removed.
 pub(crate) fn remove_at(rt: &HostRuntime, path: &str) -> bool {
-    if path.ends_with('/') {
-        fs::remove_dir(rt, path).is_ok()
-    } else {
-        fs::remove_file(rt, path).is_ok()
-    }
+    fs::remove_file(rt, path).is_ok()
 }

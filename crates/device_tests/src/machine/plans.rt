@@ -71,6 +71,39 @@ impl Write for Writer<'_> {
     }
 }
 
+// Streams that would wait.
+#[derive(Drop)]
+struct Waiting;
+
+impl Read for Waiting {
+    fn read(&mut self, _buf: &mut [u8]) -> io::Result<usize> {
+        Err(Error::from(ErrorKind::WouldBlock))
+    }
+}
+
+impl Write for Waiting {
+    fn write(&mut self, _buf: &[u8]) -> io::Result<usize> {
+        Err(Error::from(ErrorKind::WouldBlock))
+    }
+
+    fn flush(&mut self) -> io::Result<()> {
+        Ok(())
+    }
+}
+
+const FAILING: &[Call<'static>] = &[Call::Take(None), Call::Put(b"x", None)];
+
+// Whether a link over streams that would wait fails at each call.
+fn fails_where_it_would_wait() -> bool {
+    let mut link = StreamLink::new(Waiting, Waiting);
+    gives_all(&mut link, FAILING) && link.faults() == 2
+}
+
+#[test]
+fn a_link_that_blocks_has_failed_where_its_streams_would_wait(rt: HostRuntime) {
+    assert!(rt; fails_where_it_would_wait());
+}
+
 // A link whose first two reads are interrupted, whose fourth fails, and whose third write fails after one that is
 // interrupted.
 fn link(alloc: Global) -> StreamLink<Reader<'static>, Writer<'static>> {
@@ -157,11 +190,11 @@ fn a_writer_that_takes_nothing_has_failed(rt: HostRuntime) {
 
 // What is read from these bytes, a thousand at a time.
 fn found(alloc: Global, bytes: &[u8], failing: &[u64], limit: u64) -> Result<Found, Fail<Failed>> {
-    let mut reader = Reader {
+    let reader = Reader {
         left: bytes,
         plan: Plan::new(1000, &[2, 3], failing),
     };
-    read_to_end(alloc, &mut reader, 0, limit)
+    read_to_end(alloc, reader, 0, limit)
 }
 
 // 70,001 bytes.

@@ -1,30 +1,7 @@
-//! What an inbox is to give, and what is to be read.
+//! What is to be read of a file.
 
-use dev_traits::{Arrival, Failed, Found};
+use dev_traits::{Failed, Found};
 use fm_base::Fail;
-
-// What is to arrive next.
-#[derive(Clone, Copy)]
-pub(crate) enum Next<'a> {
-    Name(&'a [u8]),
-    Idle,
-    Done,
-    Fault,
-}
-
-impl Next<'_> {
-    // Whether it arrived.
-    pub(crate) fn is(self, arrived: Result<Arrival, Fail<Failed>>) -> bool {
-        match arrived {
-            Ok(Arrival::Name(found)) => {
-                matches!(self, Next::Name(name) if found.as_slice() == name)
-            }
-            Ok(Arrival::Idle) => matches!(self, Next::Idle),
-            Ok(Arrival::Done) => matches!(self, Next::Done),
-            Err(_) => matches!(self, Next::Fault),
-        }
-    }
-}
 
 // What is to be read of a file.
 #[derive(Clone, Copy)]

@@ -18,7 +18,10 @@ impl Edition {
         ensures { IfOk result (λ rows.
             rows ≡ filter_map (λ run. row_at self.now.files run (run +ℤ seconds)) (runs_of self.now.files)) }
     {
-        Rows::of_page(alloc, rows_in(alloc, &self.by_run, Wanted::After(seconds))?)
+        Rows::of_page(
+            alloc,
+            rows_in(alloc, &self.index.by_run, Wanted::After(seconds))?,
+        )
     }
 
     /// How many runs have the valid time that many seconds after them.
@@ -26,7 +29,7 @@ impl Edition {
         ensures { result
             ≡ length (filter_map (λ run. row_at self.now.files run (run +ℤ seconds)) (runs_of self.now.files)) }
     {
-        count_in(&self.by_run, Wanted::After(seconds))
+        count_in(&self.index.by_run, Wanted::After(seconds))
     }
 
     /// One row for each run that has the valid time.
@@ -34,13 +37,16 @@ impl Edition {
         ensures { IfOk result (λ rows.
             rows ≡ filter_map (λ run. row_at self.now.files run valid) (runs_of self.now.files)) }
     {
-        Rows::of_page(alloc, rows_in(alloc, &self.by_run, Wanted::At(valid))?)
+        Rows::of_page(
+            alloc,
+            rows_in(alloc, &self.index.by_run, Wanted::At(valid))?,
+        )
     }
 
     /// How many runs have the valid time.
     pub fn forecast_count(&self, valid: i64) -> usize
         ensures { result ≡ length (filter_map (λ run. row_at self.now.files run valid) (runs_of self.now.files)) }
     {
-        count_in(&self.by_run, Wanted::At(valid))
+        count_in(&self.index.by_run, Wanted::At(valid))
     }
 }

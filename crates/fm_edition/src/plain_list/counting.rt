@@ -1,9 +1,12 @@
 //! How much some files are, and which limit they would pass.
-ghost use Rattle.std.specs.Prelude.{◌≡◌, ◌<◌, ◌^◌, length, sum_by};
+ghost use Rattle.std.specs.Prelude.{◌≡◌, ◌+◌, ◌<◌, ◌≤◌, ◌^◌, length, sum_by};
 ghost use Rattle.fm_model.specs.declared.loaded.Loaded.{Loaded as File};
-ghost use Rattle.fm_model.specs.Collection.{full_at, full_of, tally, without, IsWithin};
+ghost use Rattle.fm_model.specs.Collection.{full_of, tally, IsWithin};
+ghost use Rattle.fm_list.specs.Change.{gone};
+ghost use Rattle.fm_edition.specs.Amounts as spec;
 
 use fm_list::Placed;
+use fm_list::change::keeps;
 use fm_model::{Full, Loaded, MAX_BYTES, MAX_FILES, MAX_ROWS, Op, Tally, Which};
 
 // The number of bytes of a file.
@@ -50,41 +53,97 @@ pub(crate) fn tally_of(files: &[Placed]) -> Tally
     }
 }
 
-// How many files have another name.
-#[tactic(auto, unfolding(fm_model::specs::Collection::without))]
-fn count_without(files: &[Placed], name: &[u8]) -> u64
-    ensures { result ≡ length (without name.now files.now) }
+// How many files an operation takes out of some.
+#[tactic(auto, unfolding(fm_list::specs::Change::gone))]
+fn count_gone(files: &[Placed], op: &Op) -> u64
+    ensures { result ≡ length (gone files.now op.now) }
 {
-    files
-        .iter()
-        .filter(|file| file.get().name.as_slice() != name)
-        .count() as u64
+    files.iter().filter(|file| !keeps(op, file.get())).count() as u64
 }
 
-// How many times the files of another name have.
-#[tactic(auto, unfolding(fm_model::specs::Collection::without))]
-fn rows_without(files: &[Placed], name: &[u8]) -> u64
-    requires { sum_by (λ (file : File). length file.times) (without name.now files.now) < 2 ^ 32 }
-    ensures { result ≡ sum_by (λ (file : File). length file.times) (without name.now files.now) }
+// How many times they have.
+#[tactic(auto, unfolding(fm_list::specs::Change::gone))]
+fn rows_gone(files: &[Placed], op: &Op) -> u64
+    requires { sum_by (λ (file : File). length file.times) (gone files.now op.now) < 2 ^ 32 }
+    ensures { result ≡ sum_by (λ (file : File). length file.times) (gone files.now op.now) }
 {
     files
         .iter()
-        .filter(|file| file.get().name.as_slice() != name)
+        .filter(|file| !keeps(op, file.get()))
         .map(|file| rows_of(file.get()))
         .sum()
 }
 
-// How many bytes the files of another name have.
-#[tactic(auto, unfolding(fm_model::specs::Collection::without))]
-fn size_without(files: &[Placed], name: &[u8]) -> u64
-    requires { sum_by (λ (file : File). length file.content) (without name.now files.now) < 2 ^ 32 }
-    ensures { result ≡ sum_by (λ (file : File). length file.content) (without name.now files.now) }
+// How many bytes they have.
+#[tactic(auto, unfolding(fm_list::specs::Change::gone))]
+fn size_gone(files: &[Placed], op: &Op) -> u64
+    requires { sum_by (λ (file : File). length file.content) (gone files.now op.now) < 2 ^ 32 }
+    ensures { result ≡ sum_by (λ (file : File). length file.content) (gone files.now op.now) }
 {
     files
         .iter()
-        .filter(|file| file.get().name.as_slice() != name)
+        .filter(|file| !keeps(op, file.get()))
         .map(|file| size_of(file.get()))
         .sum()
+}
+
+// How much an operation takes out of some files.
+fn tally_gone(files: &[Placed], op: &Op) -> Tally
+    requires { IsWithin (tally (gone files.now op.now)) }
+    ensures { result ≡ tally (gone files.now op.now) }
+{
+    Tally {
+        files: count_gone(files, op) as u32,
+        rows: rows_gone(files, op) as u32,
+        size: size_gone(files, op),
+    }
+}
+
+// What is left of what is held.
+fn less(held: Tally, part: Tally) -> Tally
+    requires files { part.files ≤ held.files }
+    requires rows { part.rows ≤ held.rows }
+    requires size { part.size ≤ held.size }
+    ensures { result ≡ spec.less held part }
+{
+    Tally {
+        files: held.files - part.files,
+        rows: held.rows - part.rows,
+        size: held.size - part.size,
+    }
+}
+
+// How much there is where a file is added.
+fn with_file(left: Tally, file: &Loaded) -> Tally
+    requires files { left.files < MAX_FILES }
+    requires rows { left.rows + length file.now.times ≤ MAX_ROWS }
+    requires size { left.size + length file.now.content ≤ MAX_BYTES }
+    ensures { result ≡ record {
+      files = left.files + 1;
+      rows = left.rows + length file.now.times;
+      size = left.size + length file.now.content;
+    } }
+{
+    Tally {
+        files: left.files + 1,
+        rows: left.rows + rows_of(file) as u32,
+        size: left.size + size_of(file),
+    }
+}
+
+// How much there is after an operation, where `held` is how much there was, and `went` what it takes out.
+pub(crate) fn tally_after(held: Tally, went: &[Placed], op: &Op) -> Tally
+    requires part { spec.IsPartOf held (tally went.now) }
+    requires held { IsWithin held }
+    requires within { IsWithin (spec.with_added op.now (spec.less held (tally went.now))) }
+    ensures { result ≡ spec.with_added op.now (spec.less held (tally went.now)) }
+{
+    let left = less(held, tally_of(went));
+    match op {
+        Op::Put(file) => with_file(left, file.get()),
+        Op::Expire(_) => left,
+        Op::Retract(_) => left,
+    }
 }
 
 // The first limit that is passed: of the number of files, of their times, of their bytes.
@@ -104,21 +163,32 @@ fn first_passed(files: u64, rows: u64, size: u64) -> Option<Full>
     Some(Full { which, held, limit })
 }
 
-// Which limit the files would pass after an operation, if any. Only a put adds to them.
-pub(crate) fn full_after(files: &[Placed], op: &Op) -> Option<Full>
-    requires { IsWithin (tally files.now) }
-    ensures { result ≡ full_at files.now op.now }
+// Which limit would be passed where a file is added to what is held, if any.
+fn full_with(left: Tally, file: &Loaded) -> Option<Full>
+    requires { left.size ≤ MAX_BYTES }
+    ensures { result ≡ full_of (record {
+      files = left.files + 1;
+      rows = left.rows + length file.now.times;
+      size = left.size + length file.now.content;
+    }) }
 {
+    first_passed(
+        u64::from(left.files) + 1,
+        u64::from(left.rows) + rows_of(file),
+        left.size + size_of(file),
+    )
+}
+
+// Which limit would be passed after an operation, if any, where `held` is how much there is, and `near` has what the
+// operation takes out. Only a put adds to it.
+pub(crate) fn full_after(held: Tally, near: &[Placed], op: &Op) -> Option<Full>
+    requires held { IsWithin held }
+    requires part { spec.IsPartOf held (tally (gone near.now op.now)) }
+    ensures { result ≡ full_of (spec.with_added op.now (spec.less held (tally (gone near.now op.now)))) }
+{
+    let left = less(held, tally_gone(near, op));
     match op {
-        Op::Put(file) => {
-            let file = file.get();
-            let name = file.name.as_slice();
-            first_passed(
-                count_without(files, name) + 1,
-                rows_without(files, name) + rows_of(file),
-                size_without(files, name) + size_of(file),
-            )
-        }
+        Op::Put(file) => full_with(left, file.get()),
         Op::Expire(_) => None,
         Op::Retract(_) => None,
     }

@@ -1,6 +1,7 @@
 //! What a row gives.
 
 use super::arriving::Arriving;
+use super::doored::Doored;
 use super::linked::Linked;
 use super::values::{append, entry, numbers, put_numbers};
 use dev_memory::Entry;
@@ -9,7 +10,7 @@ use row_text::{Field, File, Row};
 use std::alloc::Global;
 
 // The keys of a row beside `name` and `want`.
-const KEYS: [&str; 21] = [
+const KEYS: [&str; 25] = [
     "words",
     "word",
     "file",
@@ -23,8 +24,12 @@ const KEYS: [&str; 21] = [
     "take",
     "put",
     "hold",
+    "pause",
+    "pause puts",
+    "pause each",
     "door",
     "door fails",
+    "door says",
     "link",
     "inbox",
     "inbox fails",
@@ -43,8 +48,7 @@ pub struct Given {
     pub failing_opener: List<u64>,
     /// The link of the run itself, and then those of the doors.
     pub links: Vec<Linked>,
-    /// For each door the accepts that fail.
-    pub doors: Vec<List<u64>>,
+    pub doors: Vec<Doored>,
     pub inboxes: Vec<Arriving>,
     pub clocks: Vec<List<u64>>,
 }
@@ -130,7 +134,7 @@ impl Given {
         field: &Field<'_>,
     ) -> Result<bool, NoMemory> {
         match (field.key, field.value.as_str()) {
-            ("door", "") => self.doors.push(List::new(alloc))?,
+            ("door", "") => self.doors.push(Doored::new(alloc))?,
             ("link", "") if !self.doors.is_empty() => {
                 self.links.push(Linked::new(alloc, self.doors.len()))?
             }
@@ -149,7 +153,7 @@ impl Given {
     ) -> Result<bool, NoMemory> {
         let value = field.value.as_str();
         match (field.key, self.doors.last_mut(), self.inboxes.last_mut()) {
-            ("door fails", Some(door), _) => put_numbers(alloc, value, door),
+            ("door fails" | "door says", Some(door), _) => door.add(alloc, field),
             ("arrives" | "inbox fails", _, Some(inbox)) => inbox.add(alloc, bases, field),
             ("moments", _, _) => match self.clocks.last_mut() {
                 Some(clock) => put_numbers(alloc, value, clock),

@@ -6,8 +6,8 @@ use fm_base::{Bytes, List, NoMemory};
 use row_text::Field;
 use std::alloc::Global;
 
-/// The input of a link, the calls that fail, in which pieces bytes come and go, and the number of its door; 0 stands
-/// for none.
+/// The input of a link, the calls that fail, in which pieces bytes come and go, where calls would wait, and the number
+/// of its door; 0 stands for none.
 #[derive(Drop)]
 pub struct Linked {
     pub door: usize,
@@ -16,6 +16,11 @@ pub struct Linked {
     pub most_taken: usize,
     pub most_put: usize,
     pub hold: Option<Hold>,
+    /// How many bytes were taken or put before a take or a put would wait.
+    pub pauses: List<usize>,
+    pub put_pauses: List<usize>,
+    /// Whether each second call would wait.
+    pub is_halting: bool,
 }
 
 impl Linked {
@@ -28,6 +33,9 @@ impl Linked {
             most_taken: usize::MAX,
             most_put: usize::MAX,
             hold: None,
+            pauses: List::new(alloc),
+            put_pauses: List::new(alloc),
+            is_halting: false,
         }
     }
 
@@ -39,6 +47,9 @@ impl Linked {
             "input" => append(alloc, value, &mut self.input),
             "fill" => self.add_filling(alloc, value),
             "link fails" => put_numbers(alloc, value, &mut self.failing),
+            "pause" | "pause puts" | "pause each" if self.door > 0 => {
+                self.add_pause(alloc, field.key, value)
+            }
             _ => self.add_pieces(alloc, field.key, value),
         }
     }
@@ -65,6 +76,26 @@ impl Linked {
             if !append(alloc, text, &mut self.input)? {
                 return Ok(false);
             }
+        }
+        Ok(true)
+    }
+
+    // Takes where calls would wait: a take that comes to the end of the input so far, puts after so many bytes, or each
+    // second call.
+    fn add_pause(&mut self, alloc: Global, key: &str, value: &str) -> Result<bool, NoMemory> {
+        match (key, value) {
+            ("pause", "") => self.pauses.push(self.input.len())?,
+            ("pause each", "") => self.is_halting = true,
+            ("pause puts", _) => {
+                for number in numbers(alloc, value)?
+                    .unwrap_or(List::new(alloc))
+                    .as_slice()
+                {
+                    self.put_pauses.push(*number as usize)?;
+                }
+                return Ok(!self.put_pauses.is_empty());
+            }
+            _ => return Ok(false),
         }
         Ok(true)
     }

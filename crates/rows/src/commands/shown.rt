@@ -2,7 +2,7 @@
 
 use super::output::put_output;
 use super::world::MemWorld;
-use dev_memory::MemLink;
+use dev_memory::PausedLink;
 use fm_base::NoMemory;
 use std::alloc::{AllocError, Global};
 
@@ -41,10 +41,10 @@ fn put_doors(world: &MemWorld, out: &mut String) -> Result<(), AllocError> {
     Ok(())
 }
 
-fn put_links(links: &[MemLink], out: &mut String) -> Result<(), AllocError> {
+fn put_links(links: &[PausedLink], out: &mut String) -> Result<(), AllocError> {
     for (number, link) in links.iter().enumerate() {
         write!(out, "-- link {number}\n")?;
-        put_output(link.output(), out)?;
+        put_output(link.link.output(), out)?;
     }
     Ok(())
 }

@@ -5,7 +5,9 @@ ghost use Rattle.dev_traits.specs.Door.{IsFresh};
 use super::arriving::Arriving;
 use super::given::Given;
 use super::linked::Linked;
-use dev_memory::{Entry, MemClock, MemDoor, MemFiles, MemInbox, MemLink, MemOpener, MemSink};
+use dev_memory::{
+    Entry, MemClock, MemDoor, MemFiles, MemInbox, MemLink, MemOpener, MemSink, PausedLink, Pauses,
+};
 use dev_traits::{Door, Inbox, Link, OpenGate, World};
 use fm_base::{Bytes, List, NoMemory};
 use std::alloc::Global;
@@ -16,19 +18,19 @@ pub type MemWorld = World<MemOpener, MemFiles, MemLink, MemSink, OpenGate>;
 // Links to come, none of which was used.
 #[derive(Drop)]
 struct Links {
-    list: List<MemLink>,
-    ghost fresh: { All (λ link. IsFresh (⟦<MemLink as Link>⟧.shown link)) list },
+    list: List<PausedLink>,
+    ghost fresh: { All (λ link. IsFresh (⟦<PausedLink as Link>⟧.shown link)) list },
 }
 
 impl Links {
-    fn push(&mut self, link: MemLink) -> Result<(), NoMemory>
-        requires { IsFresh (⟦<MemLink as Link>⟧.shown link) }
+    fn push(&mut self, link: PausedLink) -> Result<(), NoMemory>
+        requires { IsFresh (⟦<PausedLink as Link>⟧.shown link) }
     {
         self.list.push(link)
     }
 
-    fn into_list(self) -> List<MemLink>
-        ensures { All (λ link. IsFresh (⟦<MemLink as Link>⟧.shown link)) result }
+    fn into_list(self) -> List<PausedLink>
+        ensures { All (λ link. IsFresh (⟦<PausedLink as Link>⟧.shown link)) result }
     {
         self.list
     }
@@ -79,10 +81,10 @@ impl Inboxes {
 // The bytes that a link or the sink takes before it fails.
 const ROOM: usize = 65_536;
 
-fn copy_of(alloc: Global, numbers: &List<u64>) -> Result<List<u64>, NoMemory> {
+fn copy_of<T: Copy + Drop>(alloc: Global, items: &List<T>) -> Result<List<T>, NoMemory> {
     let mut copy = List::new(alloc);
-    for number in numbers.as_slice() {
-        copy.push(*number)?;
+    for item in items.as_slice() {
+        copy.push(*item)?;
     }
     Ok(copy)
 }
@@ -118,16 +120,29 @@ fn link_of(alloc: Global, linked: &Linked) -> Result<MemLink, NoMemory>
     })
 }
 
+// A link of a door, with its pauses.
+fn paused_of(alloc: Global, linked: &Linked) -> Result<PausedLink, NoMemory>
+    ensures { IfOk result (λ link. IsFresh (⟦<PausedLink as Link>⟧.shown link)) }
+{
+    let link = link_of(alloc, linked)?;
+    if linked.is_halting {
+        return Ok(PausedLink::new(link, Pauses::each(alloc), Pauses::each(alloc)));
+    }
+    let takes = Pauses::at(copy_of(alloc, &linked.pauses)?);
+    let puts = Pauses::at(copy_of(alloc, &linked.put_pauses)?);
+    Ok(PausedLink::new(link, takes, puts))
+}
+
 // The links of the door with this number, from 1.
-fn links_of(alloc: Global, given: &Given, door: usize) -> Result<List<MemLink>, NoMemory>
-    ensures { IfOk result (All (λ link. IsFresh (⟦<MemLink as Link>⟧.shown link))) }
+fn links_of(alloc: Global, given: &Given, door: usize) -> Result<List<PausedLink>, NoMemory>
+    ensures { IfOk result (All (λ link. IsFresh (⟦<PausedLink as Link>⟧.shown link))) }
 {
     let mut links = Links {
         list: List::new(alloc),
     };
     for linked in &given.links {
         if linked.door == door {
-            links.push(link_of(alloc, linked)?)?;
+            links.push(paused_of(alloc, linked)?)?;
         }
     }
     Ok(links.into_list())
@@ -139,9 +154,10 @@ fn doors_of(alloc: Global, given: &Given) -> Result<List<MemDoor>, NoMemory>
     let mut doors = Doors {
         list: List::new(alloc),
     };
-    for (index, failing) in given.doors.iter().enumerate() {
+    for (index, doored) in given.doors.iter().enumerate() {
         let links = links_of(alloc, given, index.saturating_add(1))?;
-        doors.push(MemDoor::new(alloc, links, copy_of(alloc, failing)?)?)?;
+        let door = MemDoor::new(alloc, links, copy_of(alloc, &doored.failing)?)?;
+        doors.push(door.with_events(copy_of(alloc, &doored.events)?))?;
     }
     Ok(doors.into_list())
 }

@@ -12,6 +12,6 @@ joined depth name members out x y first second = rw (second, first) (simp append
 
 pub returns : goal.returns
 returns c =
-    let e = joined c.args.depth c.args.name.now c.args.members.now _ _ _ c.in_ok-put_line.ensures
+    let e = joined c.args.depth c.args.name.now c.args.members.now _ _ _ c.in_ok-put_line.ensures.ok
     c.in_ok-put_arrays.ensures in
     subst (λ (v : List ℕ). OnOk c.put_close.result (c.put_close.new.out ≡ v)) e c.put_close.ensures

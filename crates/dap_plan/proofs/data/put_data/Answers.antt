@@ -1,15 +1,18 @@
 -- Each turn writes one part.
 use Rattle.dap_xdr.specs.Datasets.{content_of}
 use Rattle.dap_plan.proofs.DataLemmas.{data-done, data-full, data-next, part-small}
-use Rattle.dap_plan.proofs.LaidLemmas.{data-from, laid-at, stands-from}
+use Rattle.dap_plan.proofs.LaidLemmas.{data-from, laid-at, laid-rise, stands-from}
 use Rattle.dap_plan.proofs.data.put_data.Goals as goal
+
+pub part_at-at-requires : goal.part_at-at-requires
+part_at-at-requires c = laid-rise c.args.source.now c.args.sent.now c.args.laid.now c.requires.laid
 
 pub loop-place-init : goal.loop-place-init
 loop-place-init c =
     data-from (content_of c.args.source.now) c.args.sent.now c.args.from c.part_at-at.result.place
     c.part_at-at.result.left c.args.out.now
     (stands-from c.args.source.now c.args.sent.now c.args.laid.now c.args.from c.part_at-at.result
-    c.requires.laid c.part_at-at.ensures)
+    c.requires.laid c.part_at-at.ensures.stands)
 
 pub put_part-filled-requires-clause-len : goal.put_part-filled-requires-clause-len
 put_part-filled-requires-clause-len c =

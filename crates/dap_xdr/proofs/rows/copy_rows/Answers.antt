@@ -1,39 +1,60 @@
 -- Each turn copies one row.
-use Rattle.std.proofs.Common.{◌≡◌, ◌+◌, ℕ, List, length, refl, subst, arith}
-use Rattle.dap_xdr.proofs.RowLemmas.{rows-next, rows-none, rows-written, RowsSoFar}
+use Rattle.std.proofs.Common.{List, ℕ, length, arith}
+use Rattle.dap_xdr.proofs.CopyLemmas.{all-copied, none-copied, one-copied, row-fits}
+use Rattle.dap_xdr.proofs.RowLemmas.{rows-long}
 use Rattle.dap_xdr.proofs.rows.copy_rows.Goals as goal
 
 pub loop-done-init : goal.loop-done-init
-loop-done-init c = rows-none (λ (bytes : List ℕ). bytes) c.args.rows c.args.stored.now c.args.out.now refl
+loop-done-init c =
+    none-copied c.args.rows c.args.stored.now c.args.out.now
+
+pub overflow_mul-begin : goal.overflow_mul-begin
+overflow_mul-begin c =
+    omega (arith, c.count_rows-count.ensures.whole c.loop-done.done c.loop-done-test.true)
+
+pub overflow_mul-at : goal.overflow_mul-at
+overflow_mul-at c =
+    let fits = row-fits c.count_rows-count.result c.args.len (length c.args.out.now) c.loop-done.done
+    c.count_rows-count.ensures.fits c.loop-done-test.true in
+    omega (arith, fits)
 
 pub split_at-requires : goal.split_at-requires
-split_at-requires c = c.has_row.ensures.there c.if-has_row.true
+split_at-requires c =
+    omega (arith, c.count_rows-count.ensures.whole c.loop-done.done c.loop-done-test.true)
+
+pub split_at-requires-in-loop-done : goal.split_at-requires-in-loop-done
+split_at-requires-in-loop-done c =
+    let stands = c.count_rows-count.ensures.whole c.loop-done.done c.loop-done-test.true in
+    omega (arith, stands, c.split_at.ensures.back_len)
 
 pub put_at-requires : goal.put_at-requires
-put_at-requires c = omega (arith, c.has_row.ensures.fits c.if-has_row.true, c.split_at.ensures.front_len)
-
-pub overflow_add-filled : goal.overflow_add-filled
-overflow_add-filled c = omega (arith, c.has_row.ensures.fits c.if-has_row.true)
+put_at-requires c =
+    let fits = row-fits c.count_rows-count.result c.args.len (length c.args.out.now) c.loop-done.done
+    c.count_rows-count.ensures.fits c.loop-done-test.true in
+    let long = rows-long (λ (bytes : List ℕ). bytes) c.args.rows c.args.stored.now c.args.out.now c.loop-done.done _ _
+    c.loop-done.out c.loop-done.invariant in
+    omega (arith, fits, long, c.split_at-in-loop-done.ensures.front_len)
 
 pub loop-done-preserved : goal.loop-done-preserved
 loop-done-preserved c =
-    let row = c.split_at.result.0.now in
-    let long : length row ≡ c.args.len = c.split_at.ensures.front_len in
-    subst (λ (n : ℕ). RowsSoFar (λ (bytes : List ℕ). bytes) c.args.rows c.args.stored.now c.args.out.now
-    (c.loop-done.done + 1) (c.loop-done.filled + n) c.split_at-in-loop-done.result.1.now c.put_at.new.out) long
-    (rows-next (λ (bytes : List ℕ). bytes) c.args.rows c.args.stored.now c.args.out.now c.loop-done.done
-    c.loop-done.filled c.args.len c.min.result c.loop-done.rest.now c.loop-done.out row row c.put_at.new.out
-    c.split_at-in-loop-done.result.1.now c.loop-done.invariant c.loop-done-test.true c.requires
-    (c.has_row.ensures.there c.if-has_row.true) c.split_at.ensures.front
-    (omega (arith, long, c.has_row.ensures.fits c.if-has_row.true)) refl c.put_at.ensures c.min.ensures
-    c.split_at-in-loop-done.ensures.back)
+    let stands = c.count_rows-count.ensures.whole c.loop-done.done c.loop-done-test.true in
+    let fits = row-fits c.count_rows-count.result c.args.len (length c.args.out.now) c.loop-done.done
+    c.count_rows-count.ensures.fits c.loop-done-test.true in
+    let long = rows-long (λ (bytes : List ℕ). bytes) c.args.rows c.args.stored.now c.args.out.now c.loop-done.done _ _
+    c.loop-done.out c.loop-done.invariant in
+    one-copied c.args.rows c.args.stored.now c.args.out.now c.loop-done.done c.args.len c.args.step
+    c.split_at.result.1.now c.loop-done.out c.split_at-in-loop-done.result.0.now c.put_at.new.out c.loop-done.invariant
+    (omega (arith, c.loop-done-test.true, c.count_rows-count.ensures.few)) c.requires.row c.requires.step
+    c.split_at.ensures.back
+    (omega (arith, stands, c.split_at.ensures.back_len)) c.split_at-in-loop-done.ensures.front
+    (omega (arith, fits, long, c.split_at-in-loop-done.ensures.front_len)) c.put_at.ensures
 
-pub returns-else-has_row : goal.returns-else-has_row
-returns-else-has_row c =
-    rows-written (λ (bytes : List ℕ). bytes) c.args.rows c.args.stored.now c.args.out.now c.loop-done.done
-    c.loop-done.filled c.loop-done.rest.now c.loop-done.out c.loop-done.invariant
+pub overflow_mul-result : goal.overflow_mul-result
+overflow_mul-result c =
+    omega (arith, c.count_rows-count.ensures.fits)
 
-pub returns-after-loop-done : goal.returns-after-loop-done
-returns-after-loop-done c =
-    rows-written (λ (bytes : List ℕ). bytes) c.args.rows c.args.stored.now c.args.out.now c.loop-done.done
-    c.loop-done.filled c.loop-done.rest.now c.loop-done.out c.loop-done.invariant
+pub returns : goal.returns
+returns c =
+    all-copied c.args.rows c.args.stored.now c.args.out.now c.loop-done.done c.count_rows-count.result c.args.len
+    c.loop-done.out c.loop-done.invariant (omega (arith, c.loop-done-test.false, c.loop-done.auto.done-end))
+    c.requires.row

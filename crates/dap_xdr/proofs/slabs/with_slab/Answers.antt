@@ -18,3 +18,10 @@ overflow_mul-count c =
 pub begins_turns-requires-clause-few : goal.begins_turns-requires-clause-few
 begins_turns-requires-clause-few c =
     omega (arith, count_within c.args.size c.args.slab c.requires.stride c.requires.within)
+
+pub turns_with-requires-clause-few : goal.turns_with-requires-clause-few
+turns_with-requires-clause-few c =
+    let within = count_within c.args.size c.args.slab c.requires.stride c.requires.within in
+    let most : c.slab_count-indices.result ≤ c.args.size = omega (arith, c.slab_count-indices.ensures, within) in
+    let product = mul-le-mul_right c.args.extent.count most in
+    omega (arith, product, c.requires.few)

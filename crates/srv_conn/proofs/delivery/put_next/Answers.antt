@@ -2,15 +2,24 @@
 use Rattle.std.proofs.Common.{drop, arith}
 use Rattle.std.proofs.lemmas.List.{length-drop}
 use Rattle.dap_reply.specs.Parts.{bytes_of}
-use Rattle.srv_conn.proofs.DeliveryLemmas.{put-piece, room-front}
+use Rattle.srv_conn.proofs.DeliveryLemmas.{put-piece, room-front, within-piece}
 use Rattle.srv_conn.proofs.delivery.put_next.Goals as goal
+
+pub returns-clause-within : goal.returns-clause-within
+returns-clause-within g c =
+    let bytes = drop c.args.from (bytes_of c.args.plan.now) in
+    within-piece c.put_front-2.result bytes c.split_at.result.0.now
+    (room-front bytes c.args.room.now c.piece-count.new.out c.split_at.result.0.now c.piece-count.result
+    (omega (arith, c.piece-count.ensures.count, length-drop c.args.from (bytes_of c.args.plan.now)))
+    c.piece-count.ensures.bytes c.split_at.ensures.front)
+    c.put_front-2.ensures.within
 
 pub returns-clause-put : goal.returns-clause-put
 returns-clause-put g c =
     let bytes = drop c.args.from (bytes_of c.args.plan.now) in
-    put-piece c.put-2.result bytes c.split_at.result.0.now (g.L.Link.shown c.args.link.now).held
-    (g.L.Link.shown c.put-2.new.self).held
+    put-piece c.put_front-2.result bytes c.split_at.result.0.now (g.L.Link.shown c.args.link.now).held
+    (g.L.Link.shown c.put_front-2.new.link).held
     (room-front bytes c.args.room.now c.piece-count.new.out c.split_at.result.0.now c.piece-count.result
     (omega (arith, c.piece-count.ensures.count, length-drop c.args.from (bytes_of c.args.plan.now)))
     c.piece-count.ensures.bytes c.split_at.ensures.front)
-    c.put-2.ensures.within c.put-2.ensures.put
+    c.put_front-2.ensures.within c.put_front-2.ensures.put

@@ -1,15 +1,16 @@
--- The links that the door gave so far were served and given back, and no call of the door failed.
+-- Of the links that the door gave so far some had their turns, and each other one is held. The door has failed where
+-- that is kept.
 use Rattle.std.proofs.Common.{◌≡◌}
-use Rattle.srv_conn.specs.DoorTurns.{ServesEach}
+use Rattle.srv_conn.specs.AtDoor.{AtDoor, FaultsSo}
 use Rattle.srv_conn.proofs.door.serve_door.Given as goal
 
 abbrev pub invariant-loop : goal.invariant-loop
 invariant-loop g l =
     (goal.iterator-loop g).can_next l.iterator' × (goal.iterator-loop g).is_finite l.iterator'
-    × ServesEach g.D.L.Link.shown (g.K.Look.proto l.fn.look) (g.K.Look.still l.fn.look)
+    × AtDoor g.D.L.Link.shown (g.K.Look.proto l.fn.look) (g.K.Look.still l.fn.look)
     (g.D.Door.shown l.fn.door).held (g.D.Door.shown l.door).held
     (record { seen = g.K.Look.log l.fn.look; looks = g.K.Look.looks l.fn.look })
-    (record { seen = g.K.Look.log l.look; looks = g.K.Look.looks l.look }) l.served l.short
-    × ((g.D.Door.shown l.door).faults ≡ (g.D.Door.shown l.fn.door).faults)
+    (record { seen = g.K.Look.log l.look; looks = g.K.Look.looks l.look }) l.hall
+    × FaultsSo l.has_failed (g.D.Door.shown l.fn.door).faults (g.D.Door.shown l.door).faults
     × (g.K.Look.proto l.look ≡ g.K.Look.proto l.fn.look)
     × (g.K.Look.still l.look ≡ g.K.Look.still l.fn.look)

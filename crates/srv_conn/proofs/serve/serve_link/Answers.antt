@@ -1,25 +1,28 @@
--- The start, each turn and each exit.
-use Rattle.std.proofs.Common.{◌≡◌, Bool, List, [], Option, length, refl, sym, ap, subst, ◌∙◌, arith}
+-- The start, each reply and each exit.
+use Rattle.std.proofs.Common.{◌≡◌, ℕ, Bool, List, [], Option, Some, None, length, refl, sym, ap, subst, ◌∙◌, arith}
 use Rattle.std.proofs.lemmas.List.{nil_from_length}
 use Rattle.fm_model.specs.declared.proto.Proto.{Proto}
 use Rattle.web_session.specs.declared.action.Asked.{Asked}
 use Rattle.web_session.specs.declared.action.End.{End}
 use Rattle.dap_reply.specs.declared.served.Mark.{Mark}
 use Rattle.dap_reply.specs.declared.served.Stop.TheVariants as stops
-use Rattle.srv_conn.specs.Serves.{Moment, moment_of}
-use Rattle.srv_conn.specs.Turn.{Turn}
+use Rattle.srv_conn.specs.Follows.{Follows}
+use Rattle.srv_conn.specs.Serves.{moment_of, Moment}
+use Rattle.srv_conn.specs.SoFar.{Asks, Serving}
 use Rattle.srv_conn.proofs.Exits.{serves-enough, serves-none}
-use Rattle.srv_conn.proofs.Serving.{Serving, Serving-start, Serving-takes}
+use Rattle.srv_conn.proofs.HallLemmas.{over}
+use Rattle.srv_conn.proofs.Serving.{Serving-start, Serving-takes}
 use Rattle.srv_conn.proofs.SessionLemmas.{rests-at}
-use Rattle.srv_conn.proofs.TurnExits.{turn-ends, turn-goes, turn-longer}
 use Rattle.srv_conn.proofs.serve.serve_link.Goals as goal
 
--- a turn over the prototype of the call's start
-turn-at : {proto first : Proto} {still stood : Bool} {before after : Moment} {asked : Asked} {end : Option End}
-    → proto ≡ first → still ≡ stood → Turn proto still before after asked end → Turn first stood before after asked end
-turn-at {proto} {first} {still} {stood} {before} {after} {asked} {end} same as_still turn =
-    subst (λ (s : Bool). Turn first s before after asked end) as_still
-    (subst (λ (p : Proto). Turn p still before after asked end) same turn)
+-- a reply over the prototype of the call's start
+follows-at : {proto first : Proto} {still stood : Bool} {start now : Moment} {most : ℕ} {asked : Asked}
+    (after : Moment) (end : Option End) → proto ≡ first → still ≡ stood
+    → (Asks proto still start now most asked → Follows proto still start most after end)
+    → Asks first stood start now most asked → Follows first stood start most after end
+follows-at {start = start} {now = now} {most = most} {asked = asked} after end same as_still follows asks =
+    over (λ (p : Proto) (s : Bool). Follows p s start most after end) same as_still
+    (follows (over (λ (p : Proto) (s : Bool). Asks p s start now most asked) (sym same) (sym as_still) asks))
 
 pub loop-alloc-init : goal.loop-alloc-init
 loop-alloc-init g c =
@@ -41,28 +44,41 @@ returns-in-Err-clause-serves g c =
     serves-none _ _ _ _ (g.L.Link.shown c.next_asked.new.link) c.next_asked.new.session c.args.most c.in-Err.end
     c.loop-alloc.invariant.serving (omega (arith, c.len.ensures, c.loop-alloc-test.true)) c.in-Err.ensures.none
 
+pub reply-requires-clause-asking : goal.reply-requires-clause-asking
+reply-requires-clause-asking g c = c.in-Ok.ensures.found.asking
+
 pub returns-in-Some-clause-serves : goal.returns-in-Some-clause-serves
 returns-in-Some-clause-serves g c =
-    turn-ends c.in-Ok.asked c.args.most c.in-Some.end
-    (Serving-takes _ _ _ _ (g.L.Link.shown c.next_asked.new.link) c.next_asked.new.session c.in-Ok.ensures.found.taken
-    c.loop-alloc.invariant.serving c.in-Ok.ensures.found.takes)
-    (omega (arith, c.len.ensures, c.loop-alloc-test.true)) c.in-Ok.ensures.found.asking
-    (turn-at c.loop-alloc.invariant.proto c.loop-alloc.invariant.still c.in-Some.ensures.turn)
+    follows-at _ (Some c.in-Some.end) c.loop-alloc.invariant.proto c.loop-alloc.invariant.still
+    (c.in-Some.ensures.follows (moment_of (g.L.Link.shown c.args.link.now) (g.K.Look.log c.args.look.now)
+    (g.K.Look.looks c.args.look.now) c.args.session.now []) c.args.most) (record {
+      serving = Serving-takes _ _ _ _ (g.L.Link.shown c.next_asked.new.link) c.next_asked.new.session
+          c.in-Ok.ensures.found.taken c.loop-alloc.invariant.serving c.in-Ok.ensures.found.takes;
+      few = omega (arith, c.len.ensures, c.loop-alloc-test.true);
+      asking = c.in-Ok.ensures.found.asking;
+    })
 
 pub loop-alloc-preserved : goal.loop-alloc-preserved
 loop-alloc-preserved g c =
-    let turn = turn-at c.loop-alloc.invariant.proto c.loop-alloc.invariant.still c.in_default.ensures.turn in
-    let longer = turn-longer turn in
+    let goes = follows-at _ None c.loop-alloc.invariant.proto c.loop-alloc.invariant.still
+    (c.in_default.ensures.follows (moment_of (g.L.Link.shown c.args.link.now) (g.K.Look.log c.args.look.now)
+    (g.K.Look.looks c.args.look.now) c.args.session.now []) c.args.most) (record {
+      serving = Serving-takes _ _ _ _ (g.L.Link.shown c.next_asked.new.link) c.next_asked.new.session
+          c.in-Ok.ensures.found.taken c.loop-alloc.invariant.serving c.in-Ok.ensures.found.takes;
+      few = omega (arith, c.len.ensures, c.loop-alloc-test.true);
+      asking = c.in-Ok.ensures.found.asking;
+    }) in
     record {
-      serving = turn-goes c.in-Ok.asked
-          (Serving-takes _ _ _ _ (g.L.Link.shown c.next_asked.new.link) c.next_asked.new.session
-          c.in-Ok.ensures.found.taken c.loop-alloc.invariant.serving c.in-Ok.ensures.found.takes)
-          c.in-Ok.ensures.found.asking turn;
-      few = omega (arith, longer, c.len.ensures, c.loop-alloc-test.true);
+      serving = goes.0;
+      few = goes.1;
       proto = c.in_default.ensures.same_proto ∙ c.loop-alloc.invariant.proto;
       untouched = λ none. absurd (omega (arith, none, c.len.ensures, c.loop-alloc-test.true));
       still = c.in_default.ensures.same_still ∙ c.loop-alloc.invariant.still;
     }
+
+pub loop-alloc-smaller : goal.loop-alloc-smaller
+loop-alloc-smaller g c =
+    let more = c.in_default.ensures.longer refl in omega (arith, more, c.len.ensures, c.loop-alloc-test.true)
 
 pub returns-clause-serves : goal.returns-clause-serves
 returns-clause-serves g c =

@@ -2,7 +2,7 @@
 -- reply is asked for.
 use Rattle.std.proofs.Common.{◌≡◌, ◌≤◌, ◌-◌, [], length}
 use Rattle.srv_conn.specs.Serves.{moment_of}
-use Rattle.srv_conn.proofs.Serving.{Serving}
+use Rattle.srv_conn.specs.SoFar.{Serving}
 use Rattle.srv_conn.proofs.serve.serve_link.Given as goal
 
 abbrev pub invariant-loop-alloc : goal.invariant-loop-alloc

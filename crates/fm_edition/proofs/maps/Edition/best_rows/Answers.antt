@@ -4,11 +4,12 @@ use Rattle.fm_edition.proofs.RowLemmas.{entries_timed, rows-from_pages}
 use Rattle.fm_edition.proofs.maps.Edition.best_rows.Goals as goal
 
 pub best_rows-requires-clause-timed : goal.best_rows-requires-clause-timed
-best_rows-requires-clause-timed c = entries_timed c.self.inside.files c.self.inside.by_time c.self.invariant.of_times
+best_rows-requires-clause-timed c = entries_timed c.self.inside.files
+    c.self.inside.index.by_time c.self.invariant.maps.of_times
     (times_are_sound c.self.inside.proto c.self.inside.files c.self.invariant.sound.fit)
 
 pub returns : goal.returns
 returns c = rw (
   ← c.self.view_is,
-  ← rows-from_pages c.self.inside.files c.args.least c.self.inside.by_time c.self.invariant.of_times,
+  ← rows-from_pages c.self.inside.files c.args.least c.self.inside.index.by_time c.self.invariant.maps.of_times,
 ) c.best_rows.ensures

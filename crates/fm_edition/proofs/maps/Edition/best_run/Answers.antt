@@ -11,7 +11,7 @@ pub best_among-requires : goal.best_among-requires
 best_among-requires c =
     let a : SFits w64 c.args.valid = search rules in
     let found = simp to_z-of_z at c.files_at.ensures in
-    let at = part_at Time c.self.inside.files c.self.inside.by_time c.args.valid c.self.invariant.of_times in
+    let at = part_at Time c.self.inside.files c.self.inside.index.by_time c.args.valid c.self.invariant.maps.of_times in
     simp to_z-of_z (subst (HaveTime c.args.valid) (sym (found ∙ at)) (have-part c.self.inside.files c.args.valid))
 
 pub returns : goal.returns
@@ -19,7 +19,7 @@ returns c =
     let a : SFits w64 c.args.valid = search rules in
     let found = simp to_z-of_z at c.files_at.ensures in
     let got = simp to_z-of_z at c.best_among.ensures in
-    let at = part_at Time c.self.inside.files c.self.inside.by_time c.args.valid c.self.invariant.of_times in
+    let at = part_at Time c.self.inside.files c.self.inside.index.by_time c.args.valid c.self.invariant.maps.of_times in
     rw (← c.self.view_is)
     (got ∙ ap (λ files. best files c.args.valid c.args.least) (found ∙ at)
     ∙ best-part c.self.inside.files c.args.valid c.args.least)

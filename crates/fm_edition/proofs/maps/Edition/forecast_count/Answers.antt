@@ -6,15 +6,18 @@ use Rattle.fm_edition.proofs.RunLemmas.{entries_sound, rows-at_valid, runs_are_f
 use Rattle.fm_edition.proofs.maps.Edition.forecast_count.Goals as goal
 
 pub count_in-requires-clause-count : goal.count_in-requires-clause-count
-count_in-requires-clause-count c = runs_are_few c.self.inside.files c.self.inside.by_run c.self.invariant.of_runs
+count_in-requires-clause-count c = runs_are_few c.self.inside.files
+    c.self.inside.index.by_run c.self.invariant.maps.of_runs
     c.self.invariant.sound.within
 
 pub count_in-requires-clause-ready : goal.count_in-requires-clause-ready
-count_in-requires-clause-ready c = entries_sound c.self.inside.files c.self.inside.by_run c.self.invariant.of_runs
+count_in-requires-clause-ready c = entries_sound c.self.inside.files
+    c.self.inside.index.by_run c.self.invariant.maps.of_runs
     (times_are_sound c.self.inside.proto c.self.inside.files c.self.invariant.sound.fit)
 
 pub returns : goal.returns
 returns c =
     let a : SFits w64 c.args.valid = search rules in
     rw (← c.self.view_is) (simp to_z-of_z at c.count_in.ensures
-    ∙ ap length (rows-at_valid c.self.inside.files c.args.valid c.self.inside.by_run c.self.invariant.of_runs))
+    ∙ ap length (rows-at_valid c.self.inside.files c.args.valid
+    c.self.inside.index.by_run c.self.invariant.maps.of_runs))

@@ -6,7 +6,7 @@ use Rattle.fm_edition.proofs.RunLemmas.{entries_sound, rows-at_offset}
 use Rattle.fm_edition.proofs.maps.Edition.offset_rows.Goals as goal
 
 pub rows_in-requires : goal.rows_in-requires
-rows_in-requires c = entries_sound c.self.inside.files c.self.inside.by_run c.self.invariant.of_runs
+rows_in-requires c = entries_sound c.self.inside.files c.self.inside.index.by_run c.self.invariant.maps.of_runs
     (times_are_sound c.self.inside.proto c.self.inside.files c.self.invariant.sound.fit)
 
 pub returns : goal.returns
@@ -15,6 +15,6 @@ returns c =
     let made = simp to_z-of_z at c.in_ok-rows_in.ensures in
     rw (
       ← c.self.view_is,
-      ← rows-at_offset c.self.inside.files c.args.seconds c.self.inside.by_run c.self.invariant.of_runs,
+      ← rows-at_offset c.self.inside.files c.args.seconds c.self.inside.index.by_run c.self.invariant.maps.of_runs,
       ← made,
     ) c.of_page.ensures

@@ -15,7 +15,8 @@ loop-row-preserved c =
     let b : SFits w64 row.run = search rules in
     let before : LieAfter c.loop-row.least (take c.loop-row.row-index c.args.rows.now) = λ k d lt.
     let so = c.loop-row.invariant k d lt in grind (arith, ints, to_z-of_z, so) in
-    let first : c.lesser-least.result ≤ℤ c.loop-row.least = grind (arith, ints, to_z-of_z, c.lesser-least.ensures.first) in
+    let first : c.lesser-least.result ≤ℤ c.loop-row.least = grind
+    (arith, ints, to_z-of_z, c.lesser-least.ensures.first) in
     let second : c.lesser-least.result ≤ℤ (row.valid -ℤ row.run) = grind
     (arith, ints, to_z-of_z, c.lesser-least.ensures.second) in
     let after = least_more c.args.rows.now c.loop-row.row-index row c.loop-row.least c.lesser-least.result

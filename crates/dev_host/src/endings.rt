@@ -1,0 +1,77 @@
+//! The connections of a door that have ended.
+
+use crate::closing::Ending;
+use crate::watching::{Watch, Watched};
+use crate::wheel::{Wheel, second_after, second_of};
+use mio::net::TcpStream;
+use slab::Slab;
+use std::alloc::{AllocError, Global};
+
+// Connections that have ended, of which what still comes is dropped, and when each is closed at the latest.
+#[derive(Drop)]
+pub(crate) struct Endings {
+    table: Slab<Ending<TcpStream>>,
+    times: Wheel,
+}
+
+impl Endings {
+    pub fn new(alloc: Global, now: u64) -> Endings {
+        Endings {
+            table: Slab::new(alloc),
+            times: Wheel::new(alloc, second_of(now)),
+        }
+    }
+
+    pub fn is_empty(&self) -> bool {
+        self.table.is_empty()
+    }
+
+    // Makes room for so many more.
+    pub fn make_room(&mut self, count: usize) -> Result<(), AllocError> {
+        self.table.reserve(count)?;
+        self.times.make_room(self.table.capacity())
+    }
+
+    // Ends a connection. What still comes is dropped without waiting for it.
+    pub fn end(&mut self, watch: &Watch, stream: TcpStream, now: u64) {
+        let mut ending = Ending::new(stream, now);
+        if ending.drop_more(now) {
+            return;
+        }
+        let watched = Watched::Ending(self.table.vacant_key());
+        let until = ending.until();
+        if watch.renew(&mut ending.stream, watched).is_ok()
+            && let Ok(place) = self.table.insert(ending)
+        {
+            self.times.put(place, second_after(until));
+        }
+    }
+
+    // Drops what has come of the connection at a place, and closes it where that was the last.
+    pub fn go_on(&mut self, place: usize, now: u64) {
+        let Some(ending) = self.table.get_mut(place) else {
+            return;
+        };
+        if ending.drop_more(now) {
+            self.table.try_remove(place);
+            return;
+        }
+        let until = ending.until();
+        self.times.put(place, second_after(until));
+    }
+
+    // Closes the connections whose time is over.
+    pub fn close_due(&mut self, now: u64) {
+        for _ in 0..u64::MAX {
+            match self.times.pop(second_of(now)) {
+                Some(place) => self.go_on(place, now),
+                None => return,
+            }
+        }
+    }
+
+    // The first second at which one is closed.
+    pub fn next_due(&self) -> Option<u64> {
+        self.times.next_due()
+    }
+}

@@ -1,0 +1,102 @@
+//! What a door watches.
+
+use mio::event::Source;
+use mio::{Events, Interest, Poll, Token};
+use std::alloc::Global;
+use std::io;
+use std::net::Net;
+use std::time::Duration;
+
+// The most events of one wait. A small batch lets accepts come between.
+const MOST_EVENTS: usize = 64;
+
+/// What a door watches.
+#[derive(Clone, Copy, Debug, PartialEq, Eq)]
+pub enum Watched {
+    Listener,
+    /// the link of a key
+    Link(usize),
+    /// the connection at a place of those that have ended
+    Ending(usize),
+}
+
+impl Watched {
+    /// The token under which it is watched.
+    pub fn token(self) -> Token {
+        match self {
+            Watched::Listener => Token(0),
+            Watched::Link(key) => Token(key.saturating_mul(2).saturating_add(1)),
+            Watched::Ending(place) => Token(place.saturating_mul(2).saturating_add(2)),
+        }
+    }
+
+    /// What is watched under a token.
+    pub fn of(token: Token) -> Watched {
+        let Token(number) = token;
+        if number == 0 {
+            Watched::Listener
+        } else if number % 2 == 1 {
+            Watched::Link(number / 2)
+        } else {
+            Watched::Ending(number / 2 - 1)
+        }
+    }
+
+    /// What it is watched for. A link goes on where it can take or put something, so it isn't watched anew for each.
+    pub fn interest(self) -> Interest {
+        match self {
+            Watched::Link(_) => Interest::READABLE | Interest::WRITABLE,
+            Watched::Listener | Watched::Ending(_) => Interest::READABLE,
+        }
+    }
+}
+
+// What is watched, and the events of the last wait that were not told yet.
+#[derive(Drop)]
+pub(crate) struct Watch {
+    poll: Poll,
+    events: Events,
+    told: usize,
+}
+
+impl Watch {
+    pub fn new(net: &impl Net, alloc: Global) -> io::Result<Watch> {
+        Ok(Watch {
+            poll: Poll::new(net)?,
+            events: Events::with_capacity(alloc, MOST_EVENTS)?,
+            told: 0,
+        })
+    }
+
+    // Watches a source from now on.
+    pub fn begin<S: Source>(&self, source: &mut S, watched: Watched) -> io::Result<()>
+        ensures { S.keeps source.old source.new }
+    {
+        self.poll
+            .registry()
+            .register(source, watched.token(), watched.interest())
+    }
+
+    // Watches a source anew, so that what is ready is told again.
+    pub fn renew<S: Source>(&self, source: &mut S, watched: Watched) -> io::Result<()>
+        ensures { S.keeps source.old source.new }
+    {
+        self.poll
+            .registry()
+            .reregister(source, watched.token(), watched.interest())
+    }
+
+    // The next event of the last wait. Each is told once.
+    pub fn next(&mut self) -> Option<Watched> {
+        let token = self.events.iter().nth(self.told)?.token();
+        self.told = self.told.saturating_add(1);
+        Some(Watched::of(token))
+    }
+
+    // Waits for events, so many milliseconds at most.
+    pub fn wait(&mut self, limit: u64) -> io::Result<()> {
+        self.told = 0;
+        self.poll
+            .poll(&mut self.events, Some(Duration::from_millis(limit)))
+    }
+}

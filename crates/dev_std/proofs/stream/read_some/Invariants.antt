@@ -1,6 +1,0 @@
--- Reads that were interrupted consumed nothing.
-use Rattle.std.specs.Io.KnownBytes.{Keeps}
-use Rattle.dev_std.proofs.stream.read_some.Given as goal
-
-abbrev pub invariant-tries : goal.invariant-tries
-invariant-tries g l = Keeps (g.R.Read.remaining l.fn.reader) (g.R.Read.remaining l.reader)

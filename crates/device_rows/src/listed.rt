@@ -1,0 +1,183 @@
+//! Folders in memory, whose listings have names that aren't text, and fail.
+
+use crate::arriving::put_step;
+use dev_host::FolderInbox;
+use fm_base::NoMemory;
+use row_text::{Row, bytes};
+use std::alloc::{Allocator, Global};
+use std::fs::{File, Metadata, OpenOptions};
+use std::io::{self, Error, ErrorKind, Read};
+use std::rt;
+use std::time::Duration;
+
+// How many bytes the names of a row have at most, each with its end.
+const ROOM: usize = 64;
+
+// A machine on which each folder has these names, and each name is a file that can't be read; only `loop.nc` can't even
+// be looked at.
+#[derive(Clone, Copy)]
+struct Machine {
+    rt: HostRuntime,
+    names: Names,
+}
+
+// The names of a listing, each ended by a NUL, and how far they were read. They own their bytes, since the machine of an
+// inbox borrows nothing.
+#[derive(Clone, Copy)]
+struct Names {
+    bytes: [u8; ROOM],
+    at: usize,
+    len: usize,
+    // whether an error comes after the last name
+    fails: bool,
+}
+
+impl Read for Names {
+    fn read(&mut self, buf: &mut [u8]) -> io::Result<usize> {
+        let front = self.bytes.get(..self.len).unwrap_or(b"");
+        let mut left = front.get(self.at..).unwrap_or(b"");
+        if left.is_empty() && self.fails {
+            return Err(refused());
+        }
+        let count = left.read(buf)?;
+        self.at = self.at.saturating_add(count);
+        Ok(count)
+    }
+}
+
+fn refused() -> Error {
+    Error::from(ErrorKind::PermissionDenied)
+}
+
+impl rt::Files for Machine {
+    type File = File;
+
+    type Dir = Names;
+
+    fn open_file(&self, _how: &OpenOptions, _path: &str) -> io::Result<File> {
+        Err(refused())
+    }
+
+    fn open_dir(&self, _path: &str) -> io::Result<Names> {
+        Ok(self.names)
+    }
+
+    fn metadata(&self, path: &str) -> io::Result<Metadata> {
+        if path.ends_with("STOP") {
+            return Err(Error::from(ErrorKind::NotFound));
+        }
+        if path.ends_with("loop.nc") {
+            return Err(refused());
+        }
+        self.rt.metadata("/proc/self/exe")
+    }
+
+    fn symlink_metadata(&self, _path: &str) -> io::Result<Metadata> {
+        Err(refused())
+    }
+
+    fn copy(&self, _from: &str, _to: &str) -> io::Result<u64> {
+        Err(refused())
+    }
+
+    fn rename(&self, _from: &str, _to: &str) -> io::Result<()> {
+        Err(refused())
+    }
+
+    fn remove_file(&self, _path: &str) -> io::Result<()> {
+        Err(refused())
+    }
+
+    fn create_dir(&self, _path: &str) -> io::Result<()> {
+        Ok(())
+    }
+
+    fn remove_dir(&self, _path: &str) -> io::Result<()> {
+        Err(refused())
+    }
+
+    fn remove_dir_all<B: Allocator>(&self, _alloc: B, _path: &str) -> io::Result<()> {
+        Err(refused())
+    }
+}
+
+impl rt::Clock for Machine {
+    fn monotonic(&self) -> io::Result<Duration> {
+        Err(refused())
+    }
+
+    fn since_1970(&self) -> io::Result<Duration> {
+        Err(refused())
+    }
+}
+
+impl Alloc for Machine {
+    type A = Global;
+
+    fn alloc(&self) -> Global {
+        self.rt.alloc()
+    }
+}
+
+// The names between blanks, where there is room for them.
+fn names_of(alloc: Global, words: &str, fails: bool) -> Result<Option<Names>, NoMemory> {
+    let Some(mut names) = bytes(alloc, words)? else {
+        return Ok(None);
+    };
+    end_each(&mut names)?;
+    let mut room = [0; ROOM];
+    let mut left = names.as_slice();
+    let Ok(len) = left.read(&mut room) else {
+        return Ok(None);
+    };
+    if !left.is_empty() {
+        return Ok(None);
+    }
+    Ok(Some(Names {
+        bytes: room,
+        at: 0,
+        len,
+        fails,
+    }))
+}
+
+/// What the inbox of a folder in memory does, whose listings have these names between blanks; with the key
+/// `fails` they fail after the last name.
+pub fn names_row(
+    rt: HostRuntime,
+    alloc: Global,
+    row: &Row<'_>,
+) -> Result<Option<String>, NoMemory> {
+    let (true, Some(words), Some(steps)) = (
+        row.has_only(&["names", "fails", "steps"]),
+        row.value("names"),
+        row.value("steps"),
+    ) else {
+        return Ok(None);
+    };
+    let Some(names) = names_of(alloc, words, row.value("fails").is_some())? else {
+        return Ok(None);
+    };
+    let Ok(mut inbox) = FolderInbox::open(Machine { rt, names }, alloc, b"in") else {
+        return Ok(None);
+    };
+    let mut out = String::new(alloc);
+    for line in steps.lines() {
+        if !put_step(alloc, &mut inbox, line, &mut out)? {
+            return Ok(None);
+        }
+    }
+    out.pop();
+    Ok(Some(out))
+}
+
+// Ends each name by a NUL.
+fn end_each(names: &mut Vec<u8>) -> Result<(), NoMemory> {
+    for byte in names.as_mut_slice() {
+        if *byte == b' ' {
+            *byte = 0;
+        }
+    }
+    names.push(0)?;
+    Ok(())
+}

@@ -1,0 +1,66 @@
+//! Runs the rows that its words name: devices of the machine, over streams, listings and clocks in memory, and over
+//! folders. `docs/ROWS.md` describes their form.
+#![tactic(auto)]
+
+mod accepted;
+mod arriving;
+mod clocked;
+mod foldered;
+mod keyed;
+mod linked;
+mod listed;
+mod turns;
+
+use fm_base::NoMemory;
+use row_text::{Answers, Count, Row, end, read_inputs, run};
+use std::alloc::{AllocError, Global};
+use std::io;
+use std::process::ExitCode;
+
+#[derive(Drop)]
+struct Devices {
+    rt: HostRuntime,
+}
+
+impl Answers for Devices {
+    fn answer(&self, alloc: Global, row: &Row<'_>, out: &mut String) -> Result<bool, AllocError> {
+        match answer(self.rt, alloc, row) {
+            Ok(Some(text)) => {
+                out.push_str(text.as_str())?;
+                Ok(true)
+            }
+            Ok(None) => Ok(false),
+            Err(NoMemory) => Err(AllocError),
+        }
+    }
+}
+
+// What comes out of a row's steps, by the device that its first key names.
+fn answer(rt: HostRuntime, alloc: Global, row: &Row<'_>) -> Result<Option<String>, NoMemory> {
+    for field in &row.fields {
+        return match field.key {
+            "link" => linked::link(alloc, row),
+            "ending" => linked::ending(alloc, row),
+            "sending" => linked::sending(alloc, row),
+            "accepts" => accepted::accepts(alloc, row),
+            "wheel" => keyed::wheel(alloc, row),
+            "ticks unread" => clocked::unread(alloc, row),
+            "names" => listed::names_row(rt, alloc, row),
+            "folder" => foldered::folder_row(rt, alloc, row),
+            _ => continue,
+        };
+    }
+    Ok(None)
+}
+
+fn main(rt: HostRuntime) -> io::Result<ExitCode> {
+    let alloc = rt.alloc();
+    let inputs = read_inputs(&rt)?;
+    let devices = Devices { rt };
+    let mut count = Count::default();
+    for text in &inputs.texts {
+        let (path, rows) = (text.path.as_str(), text.text.as_str());
+        run(&rt, alloc, path, rows, &devices, &mut count)?;
+    }
+    end(&rt, count)
+}

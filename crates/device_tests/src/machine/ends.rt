@@ -1,0 +1,159 @@
+//! Connections that reset, that take nothing, and that rest.
+
+use super::doors::{HostDoor, HostLink, LONG, SHORT, closes, holds_of_client, next_link};
+use dev_traits::{Coming, Door, Failed, Link, Sent, Taken};
+use std::io::Write;
+use std::net::TcpStream;
+
+// Whether this holds of a door for `connections` connections, the link that it gives under the key 0, and its client.
+pub(crate) fn holds_of_ends<F>(rt: HostRuntime, connections: u32, idle: u64, fact: F) -> bool
+where
+    F: FnOnce(&mut HostDoor, HostLink, TcpStream) -> bool,
+    requires { F.IsAlwaysCallable fact }
+{
+    holds_of_client(rt, connections, idle, |door, client| {
+        match next_link(door, 0) {
+            Some(link) => fact(door, link, client),
+            None => false,
+        }
+    })
+}
+
+// Whether a door gives a link back and closes then.
+fn ends(door: &mut HostDoor, link: HostLink) -> bool {
+    door.done(0, link);
+    closes(door)
+}
+
+// Whether the next that a door says is that this link may go on.
+fn says_ready(door: &mut HostDoor, key: usize) -> bool {
+    matches!(door.next(1_000), Ok(Coming::Ready(found)) if found == key)
+}
+
+// Puts bytes until that would wait. Returns whether it came to that.
+fn fills(link: &mut HostLink) -> bool {
+    for _ in 0..10_000 {
+        match link.put(&[b'x'; 4096]) {
+            Ok(Sent::Later) => return true,
+            Ok(Sent::Bytes(_)) => {}
+            Err(Failed) => return false,
+        }
+    }
+    false
+}
+
+// Whether a take of a link fails, once it may go on.
+fn fails_to_take(door: &mut HostDoor, link: &mut HostLink) -> bool {
+    for _ in 0..20 {
+        match link.take(&mut [0u8; 8]) {
+            Ok(Taken::Later) => {
+                door.rest(0, link);
+                if !says_ready(door, 0) {
+                    return false;
+                }
+            }
+            Ok(_) => return false,
+            Err(Failed) => return link.faults() == 1,
+        }
+    }
+    false
+}
+
+// Whether a put of a link fails, once it may go on. The system may take some bytes more after it took none.
+fn fails_to_put(door: &mut HostDoor, link: &mut HostLink) -> bool {
+    for _ in 0..20 {
+        if !fills(link) {
+            return link.faults() == 1;
+        }
+        door.rest(0, link);
+        if !says_ready(door, 0) {
+            return false;
+        }
+    }
+    false
+}
+
+// Whether a link whose client takes nothing any more fails to put once that is gone, and the door closes then.
+fn is_lost_while_it_sends(door: &mut HostDoor, link: HostLink, client: TcpStream) -> bool {
+    let mut link = link;
+    let filled = fills(&mut link);
+    drop(client);
+    filled && fails_to_put(door, &mut link) && ends(door, link)
+}
+
+// Whether a link that waits for bytes fails to take once its client is gone, and the door closes then.
+fn is_lost_while_it_waits(door: &mut HostDoor, link: HostLink, client: TcpStream) -> bool {
+    let mut link = link;
+    let put = link.put(b"x").is_ok();
+    drop(client);
+    put && fails_to_take(door, &mut link) && ends(door, link)
+}
+
+// A socket that is closed with bytes unread makes the system send a reset.
+#[test]
+fn a_reset_while_a_link_waits_for_bytes_is_a_fault(rt: HostRuntime) {
+    assert!(rt; holds_of_ends(rt, 1, LONG, is_lost_while_it_waits));
+}
+
+#[test]
+fn a_reset_while_a_link_sends_is_a_fault(rt: HostRuntime) {
+    assert!(rt; holds_of_ends(rt, 1, LONG, is_lost_while_it_sends));
+}
+
+// Whether a door closes after a link whose client is gone without having read.
+fn is_lost_at_its_end(door: &mut HostDoor, link: HostLink, client: TcpStream) -> bool {
+    let mut link = link;
+    let put = link.put(b"x").is_ok();
+    door.done(0, link);
+    drop(client);
+    put && closes(door)
+}
+
+#[test]
+fn a_reset_at_the_end_of_a_link_harms_nobody(rt: HostRuntime) {
+    assert!(rt; holds_of_ends(rt, 1, LONG, is_lost_at_its_end));
+}
+
+// Whether a link whose client reads nothing fails.
+fn is_given_up(door: &mut HostDoor, link: HostLink, client: TcpStream) -> bool {
+    let mut link = link;
+    let fails = fills(&mut link) && fails_to_put(door, &mut link);
+    drop(client);
+    fails
+}
+
+#[test]
+fn a_client_that_reads_nothing_is_given_up(rt: HostRuntime) {
+    assert!(rt; holds_of_ends(rt, 1, SHORT, is_given_up));
+}
+
+// Whether a take with room for one byte gives one.
+fn takes_one(link: &mut HostLink) -> bool {
+    link.take(&mut [0u8; 1]) == Ok(Taken::Bytes(1))
+}
+
+// Whether a link that rests with a byte left untaken may go on.
+fn goes_on_after_a_rest(door: &mut HostDoor, link: HostLink, client: TcpStream) -> bool {
+    let mut link = link;
+    let mut client = client;
+    let first = client.write_all(b"ab").is_ok() && says_ready(door, 0) && takes_one(&mut link);
+    door.rest(0, &mut link);
+    first && says_ready(door, 0) && takes_one(&mut link)
+}
+
+#[test]
+fn a_link_that_rests_before_it_had_to_wait_goes_on(rt: HostRuntime) {
+    assert!(rt; holds_of_ends(rt, 1, LONG, goes_on_after_a_rest));
+}
+
+// Whether a link sends what is put at once.
+fn sends_at_once(_door: &mut HostDoor, link: HostLink, client: TcpStream) -> bool {
+    let at_once = matches!(link.stream.nodelay(), Ok(true));
+    drop(client);
+    at_once
+}
+
+#[test]
+fn what_is_put_is_sent_at_once(rt: HostRuntime) {
+    assert!(rt; holds_of_ends(rt, 1, LONG, sends_at_once));
+}

@@ -1,0 +1,101 @@
+//! The maps of an edition.
+ghost use Rattle.std.specs.Prelude.{◌≡◌, [], ℤ, IfOk, false};
+ghost use Rattle.std.specs.BTreeMap as tree;
+ghost use Rattle.std.specs.Ordering.{int_cmp};
+ghost use Rattle.fm_edition.specs.Indexes as spec;
+
+use crate::maps::Edition;
+use crate::maps::best::{RowPages, best_after};
+use crate::maps::pages::{Change, Pages, pages_after};
+use crate::plain_list::instants::instants_in;
+use fm_base::NoMemory;
+use fm_list::{By, Placed};
+use fm_model::Op;
+use std::alloc::Global;
+use std::collections::BTreeMap;
+
+/// The files by run, by valid time and by the code of their name, and the rows of the best time series.
+#[derive(Drop)]
+pub(crate) struct Index {
+    pub by_run: Pages,
+    pub by_time: Pages,
+    pub by_name: Pages,
+    pub best: RowPages,
+}
+
+// The maps of no files.
+pub(crate) fn no_maps(alloc: Global) -> Index
+    ensures { spec.AreMaps [] result }
+{
+    Index {
+        by_run: BTreeMap::new(alloc),
+        by_time: BTreeMap::new(alloc),
+        by_name: BTreeMap::new(alloc),
+        best: BTreeMap::new(alloc),
+    }
+}
+
+// The pages after an operation that touches some instants.
+fn after_change(
+    alloc: Global,
+    pages: &Pages,
+    by: By,
+    touched: &[i64],
+    op: &Op,
+) -> Result<Pages, NoMemory>
+    requires { spec.AreOrdered pages.now }
+    ensures ordered { IfOk result spec.AreOrdered }
+    ensures set { IfOk result (λ next. (number key : ℤ) → spec.in_page next number key
+        ≡ spec.page_set by touched.now op.now (spec.in_page pages.now) number key) }
+    ensures same { IfOk result (λ next. (number : ℤ) → spec.touches touched.now number ≡ false
+        → tree.get int_cmp next number ≡ tree.get int_cmp pages.now number) }
+{
+    pages_after(alloc, pages, &Change { by, op, touched })
+}
+
+// The pages after an operation that takes out and adds some files.
+fn map_after(
+    alloc: Global,
+    pages: &Pages,
+    by: By,
+    changed: &[Placed],
+    op: &Op,
+) -> Result<Pages, NoMemory>
+    requires { spec.AreOrdered pages.now }
+    ensures ordered { IfOk result spec.AreOrdered }
+    ensures set { IfOk result (λ next. (number key : ℤ) → spec.in_page next number key
+        ≡ spec.page_set by (spec.instants by changed.now) op.now (spec.in_page pages.now) number key) }
+{
+    let touched = instants_in(alloc, by, changed)?;
+    after_change(alloc, pages, by, touched.as_slice(), op)
+}
+
+impl Edition {
+    ghost use Rattle.fm_model.specs.Collection.{after_op};
+    ghost use Rattle.fm_list.specs.Change as change;
+    ghost use Rattle.fm_edition.specs.Log.{CanFollow};
+
+    // The maps after an operation that takes out and adds some files.
+    pub(crate) fn index_after(
+        &self,
+        alloc: Global,
+        changed: &[Placed],
+        op: &Op,
+    ) -> Result<Index, NoMemory>
+        requires changed { changed.now ≡ change.changed self.now.files op.now }
+        requires can { CanFollow self.now.proto self.now.files op.now }
+        ensures { IfOk result (λ index. spec.AreMaps (after_op self.now.files op.now) index) }
+    {
+        let times = instants_in(alloc, By::Time, changed)?;
+        let by_run = map_after(alloc, &self.index.by_run, By::Run, changed, op)?;
+        let by_time = after_change(alloc, &self.index.by_time, By::Time, times.as_slice(), op)?;
+        let by_name = map_after(alloc, &self.index.by_name, By::Name, changed, op)?;
+        let best = best_after(alloc, &self.index.best, &by_time, times.as_slice())?;
+        Ok(Index {
+            by_run,
+            by_time,
+            by_name,
+            best,
+        })
+    }
+}

@@ -1,7 +1,0 @@
--- The files so far that are taken out.
-use Rattle.std.proofs.Common.{◌≡◌, take}
-use Rattle.fm_list.specs.Change.{gone}
-use Rattle.fm_list.proofs.change.taken_out.Given as goal
-
-abbrev pub invariant-loop-file : goal.invariant-loop-file
-invariant-loop-file l = l.gone ≡ gone (take l.file-index l.files) l.op

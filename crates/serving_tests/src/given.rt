@@ -1,0 +1,164 @@
+//! The words and the world of a run.
+ghost use Rattle.std.specs.Prelude.{◌≡◌, All};
+ghost use Rattle.dev_traits.specs.Door.{IsFresh};
+
+use super::arriving::{copy_of, two_files};
+use super::texts::STRUCTURE;
+use dev_memory::{
+    MemClock, MemDoor, MemFiles, MemInbox, MemLink, MemOpener, MemSink, PausedLink, Pauses,
+};
+use dev_traits::{Door, Gate, Inbox, Link, OpenGate, Opener, World};
+use fm_base::{Bytes, List};
+use srv_run::run;
+use std::alloc::Global;
+use std::marker::{Send, Sync};
+use std::process::Abort;
+use std::sync::Wait;
+use std::thread::Threads;
+
+// The words of a run that puts the first file and asks for two replies.
+pub(crate) const ONCE: &str =
+    "once --name gfs --proto gfs_20240101_0000.nc put:gfs_20240101_0000.nc ask:2";
+
+// The words between blanks.
+pub(crate) fn words_of(rt: &impl Abort, alloc: Global, text: &str) -> List<Bytes> {
+    let mut words = List::new(alloc);
+    for word in text.split_whitespace() {
+        words
+            .push(copy_of(rt, alloc, word.as_bytes()))
+            .expect(rt, "memory");
+    }
+    words
+}
+
+// A link with this input and room for `room` bytes of output, whose call number `failing` fails; 0 stands for none.
+pub(crate) fn link_of(
+    rt: &impl Abort,
+    alloc: Global,
+    input: &[u8],
+    room: usize,
+    failing: u64,
+) -> MemLink
+    ensures { IsFresh (⟦<MemLink as Link>⟧.shown result) }
+{
+    let mut calls = List::new(alloc);
+    calls.push(failing).expect(rt, "memory");
+    MemLink::new(alloc, copy_of(rt, alloc, input), room, calls).expect(rt, "memory")
+}
+
+// A link that asks for the structure of the best view, no call of which would wait.
+fn asking_link(rt: &impl Abort, alloc: Global) -> PausedLink
+    ensures { IsFresh (⟦<PausedLink as Link>⟧.shown result) }
+{
+    let link = link_of(rt, alloc, STRUCTURE, 4_096, 0);
+    PausedLink::new(link, Pauses::none(alloc), Pauses::none(alloc))
+}
+
+// A door to which one link comes that asks for the structure of the best view, and then another.
+pub(crate) fn asking_door(rt: &impl Abort, alloc: Global) -> MemDoor
+    ensures { (⟦<MemDoor as Door>⟧.shown result).faults ≡ 0 }
+{
+    let mut links = List::new(alloc);
+    links.push(asking_link(rt, alloc)).expect(rt, "memory");
+    links.push(asking_link(rt, alloc)).expect(rt, "memory");
+    MemDoor::new(alloc, links, List::new(alloc)).expect(rt, "memory")
+}
+
+// An inbox to which these names come.
+fn inbox_of(rt: &impl Abort, alloc: Global, names: &str) -> MemInbox
+    ensures { (⟦<MemInbox as Inbox>⟧.shown result).faults ≡ 0 }
+{
+    let names = words_of(rt, alloc, names);
+    MemInbox::new(alloc, names, two_files(rt, alloc), List::new(alloc)).expect(rt, "memory")
+}
+
+// What opens these doors, an inbox to which these names come, and these clocks.
+pub(crate) fn opener_of(
+    rt: &impl Abort,
+    alloc: Global,
+    doors: List<MemDoor>,
+    names: &str,
+    clocks: List<MemClock>,
+) -> MemOpener
+    requires { All (λ door. (⟦<MemDoor as Door>⟧.shown door).faults ≡ 0) doors }
+{
+    let mut inboxes = List::new(alloc);
+    inboxes
+        .push(inbox_of(rt, alloc, names))
+        .expect(rt, "memory");
+    MemOpener::new(alloc, doors, inboxes, clocks, List::new(alloc))
+}
+
+// What a run left: its status, what was put on its link, its line, how many doors it gave back, and what was put on the
+// links that these gave back.
+#[derive(Drop)]
+pub(crate) struct Left {
+    pub(crate) status: u8,
+    pub(crate) output: Bytes,
+    pub(crate) line: Bytes,
+    pub(crate) doors: usize,
+    pub(crate) replies: List<Bytes>,
+}
+
+// What was put on the links that some doors gave back.
+fn replies_of(rt: &impl Abort, alloc: Global, doors: &[MemDoor]) -> List<Bytes> {
+    let mut replies = List::new(alloc);
+    for door in doors {
+        for link in door.given() {
+            replies
+                .push(copy_of(rt, alloc, link.link.output()))
+                .expect(rt, "memory");
+        }
+    }
+    replies
+}
+
+// A sink with room for some lines.
+fn sink(rt: &impl Abort, alloc: Global) -> MemSink {
+    MemSink::new(alloc, 4_096, List::new(alloc)).expect(rt, "memory")
+}
+
+// Runs the words over devices, and says what is left.
+pub(crate) fn ran<R: Threads + Wait + Abort + Sync, O: Opener<D = MemDoor> + Drop, G: Gate + Drop>(
+    rt: &R,
+    alloc: Global,
+    words: &str,
+    opener: O,
+    link: MemLink,
+    gate: G,
+) -> Left
+where
+    O::I: Send + Drop,
+    O::C: Send + Drop,
+{
+    let words = words_of(rt, alloc, words);
+    let mut world = World {
+        opener,
+        doors: List::new(alloc),
+        inboxes: List::new(alloc),
+        clocks: List::new(alloc),
+        files: MemFiles::new(two_files(rt, alloc), List::new(alloc)),
+        link,
+        sink: sink(rt, alloc),
+        gate,
+    };
+    let status = run(rt, alloc, &words, &mut world);
+    Left {
+        status,
+        output: copy_of(rt, alloc, world.link.output()),
+        line: copy_of(rt, alloc, world.sink.bytes()),
+        doors: world.doors.len(),
+        replies: replies_of(rt, alloc, world.doors.as_slice()),
+    }
+}
+
+// Runs the words over a link.
+pub(crate) fn asked<R: Threads + Wait + Abort + Sync>(
+    rt: &R,
+    alloc: Global,
+    words: &str,
+    link: MemLink,
+) -> Left {
+    let opener = opener_of(rt, alloc, List::new(alloc), "", List::new(alloc));
+    ran(rt, alloc, words, opener, link, OpenGate)
+}

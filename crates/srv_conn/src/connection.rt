@@ -1,0 +1,14 @@
+//! A link of a door that is out.
+
+use crate::doing::Doing;
+use web_session::Session;
+
+/// A link of a door that is out: its session, what is being done, and the revision of its last reply, or of what was
+/// seen when it came.
+#[derive(Drop)]
+pub(crate) struct Connection<L> {
+    pub link: L,
+    pub session: Session,
+    pub doing: Doing,
+    pub revision: u64,
+}
