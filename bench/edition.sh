@@ -11,7 +11,7 @@ trap 'rm -r "$folder"' EXIT
 "$top/bench/made_files.sh" "$folder" edition_bench
 
 cat > "$folder/crates/edition_bench/src/apart.rt" << 'PROGRAM'
-//! Files of one shape, whose runs are so many seconds apart.
+//! Files of one shape, whose runs are evenly apart.
 
 use crate::made::{Made, Shape};
 use fm_base::{Bytes, NoMemory};

@@ -41,7 +41,7 @@ pub struct Shape {
 }
 
 impl Shape {
-    /// Times an hour apart, the first at the run, where runs are so many seconds apart.
+    /// Times an hour apart, the first at the run, where runs are this number of seconds apart.
     pub fn hourly(gap: i64, k: u32) -> Shape {
         let run = i64::from(k).wrapping_mul(gap);
         Shape {

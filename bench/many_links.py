@@ -97,7 +97,7 @@ def compare(title, server, nginx, target, measure, links, turns):
     for _ in range(turns):
         one = load(server.port, target, links, 2)[measure]
         both.append((one, load(nginx.port, "/" + file_name(title), links, 2)[measure]))
-    ratios = sorted(one / other for one, other in both)
+    ratios = sorted(one / max(1, other) for one, other in both)
     one, other = (statistics.median(column) for column in zip(*both))
     scale, unit = (1, "/s") if measure == "requests" else (1e6, " MB/s")
     shown = "%-20s %4d connections: %8.0f%s, nginx %8.0f%s, ratio %.2f (%.2f to %.2f), aim %.1f"

@@ -2,8 +2,9 @@
 # Measures the server while 10,000 connections are open and idle and 1,000 readers take a variable of 12 MB at 20 KB a
 # second, beside nginx, which sends files of the same bytes and has none of them: requests a second of the best view's
 # structure text and bytes a second of the variable, over 64 connections and over 1,000, as bench/beside_nginx.sh does
-# it. It also shows the memory of an idle connection and of a slow reader, how long it takes from a file's rename until
-# a reply has it, and whether memory and descriptors are as before once all have gone.
+# it. It also shows the memory of an idle connection and of a slow reader, whether all of these are kept and readers get
+# their bytes, how long it takes from a file's rename until a reply has it, and whether memory and descriptors are as
+# before once all have gone.
 # Use: bench/many_links.sh [PROGRAM] [TURNS]; by default the proved program, and 3 turns, which take three minutes. More
 # than 5 would outlast the patience with an idle connection. The status is 1 where something isn't reached. nginx and
 # wrk are installed where they are missing.

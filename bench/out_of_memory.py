@@ -45,3 +45,17 @@ def replies_of(output):
         replies.append(front + found + rest[:length[0]])
         output = rest[length[0]:]
     return replies, output
+
+
+def port_of(process):
+    """The port at which a process listens."""
+    try:
+        inodes = {os.readlink("/proc/%d/fd/%s" % (process, fd)) for fd in os.listdir("/proc/%d/fd" % process)}
+    except OSError:
+        return None
+    with open("/proc/net/tcp") as table:
+        for line in table.readlines()[1:]:
+            fields = line.split()
+            if fields[3] == "0A" and "socket:[%s]" % fields[9] in inodes:
+                return int(fields[1].split(":")[1], 16)
+    return None

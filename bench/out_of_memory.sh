@@ -5,7 +5,7 @@
 # 4. On a connection whole replies are sent, and then nothing or the reply that says so. Each file lies where its
 # verdict says. Once memory is back the server answers.
 # Use: bench/out_of_memory.sh [PROGRAM]; by default the proved program, which 'make build' leaves. It shows its figures,
-# and ends with status 0 where all is as it has to be. It takes about two minutes.
+# and ends with status 0 where all is as it has to be. It takes some four minutes.
 set -eu
 top=$(cd "$(dirname "$0")/.." && pwd)
 program=${1:-$top/crates/fmrcd/out/fmrcd}

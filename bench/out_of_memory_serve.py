@@ -2,6 +2,7 @@
 import os
 import resource
 import shutil
+import signal
 import socket
 import struct
 import subprocess
@@ -9,7 +10,7 @@ import time
 
 from folder_server import Ended, FolderServer, bring, wait_until
 from out_of_memory import (BEST, ENOUGH, FIRST, FOLDER, LATER, LIBRARY, PROGRAM, SORRY, STEP, data, end, fail, head,
-                           replies_of)
+                           port_of, replies_of)
 
 ONE = ["--workers", "1", "--connections", "1"]
 TWO = ["--workers", "2", "--connections", "1"]
@@ -59,9 +60,10 @@ def requests_made():
         return struct.unpack("l", file.read(8))[0]
 
 
-def end_of(child, visit):
-    """The status and the line of a server that is visited once it listens, until that says that it was done."""
-    until = time.monotonic() + 20
+def end_of(child, visit, seconds=20):
+    """The status and the line of a server that is visited once it listens, until that says that it was done. One that
+    goes on is killed after these seconds."""
+    until = time.monotonic() + seconds
     port = None
     while child.poll() is None and time.monotonic() < until:
         port = port or port_of(child.pid)
@@ -72,7 +74,7 @@ def end_of(child, visit):
             port = None
         time.sleep(0.005)
     try:
-        said = child.communicate(timeout=20)[0]
+        said = child.communicate(timeout=seconds)[0]
     except subprocess.TimeoutExpired:
         child.kill()
         said = child.communicate()[0]
@@ -126,21 +128,24 @@ def server_requests_are_refused():
 
 def server_has_less_and_less_space():
     """Makes the address space of such a server smaller, whose first file has 16 MB, until the program can't be loaded
-    any more, or the system can't let its stack grow."""
-    space, statuses = ENOUGH << 2, {}
-    while True:
+    any more. It may have no memory to take the connection: then it waits for some. Where the system can't let its stack
+    grow, that ends it."""
+    space, statuses = ENOUGH << 2, {0: 0, 4: 0}
+    while space > 2 << 20:
         inbox = inbox_of(arrivals())
         os.truncate(os.path.join(inbox, FIRST), 16 << 20)
         child = begin(0, inbox, ONE, lambda: resource.setrlimit(resource.RLIMIT_AS, (space, space)))
-        status, said = end_of(child, come_and_go)
-        if status not in (0, 4) and space < ENOUGH:
+        status, said = end_of(child, come_and_go, 4)
+        if status == 127:
             break
-        check_turn("%d KiB" % (space >> 10), status, said, shelves(inbox))
+        waits = status == -signal.SIGKILL and set(shelves(inbox)) == set(RIGHT)
+        if not waits and status != -signal.SIGSEGV:
+            check_turn("%d KiB" % (space >> 10), status, said, shelves(inbox))
         statuses[status] = statuses.get(status, 0) + 1
         space -= max(STEP, space >> 6)
-    if set(statuses) != {0, 4} or status != 127 and status >= 0:
-        fail("a server: statuses %r, and with %d KiB %d" % (statuses, space >> 10, status))
-    print("a server: in less and less space: statuses %r, then the system's %d" % (statuses, status), flush=True)
+    if 0 in (statuses[0], statuses[4]):
+        fail("a server in less and less space: statuses %r" % statuses)
+    print("a server in less and less space: statuses %r, down to %d KiB" % (statuses, space >> 10), flush=True)
 
 
 def ask_both(port, inbox, outputs):
@@ -200,20 +205,6 @@ def links_requests_are_refused():
     print("of these connections %d were told so, and %d ended without a byte" % (sorry, silent), flush=True)
 
 
-def port_of(process):
-    """The port at which a process listens."""
-    try:
-        inodes = {os.readlink("/proc/%d/fd/%s" % (process, fd)) for fd in os.listdir("/proc/%d/fd" % process)}
-    except OSError:
-        return None
-    with open("/proc/net/tcp") as table:
-        for line in table.readlines()[1:]:
-            fields = line.split()
-            if fields[3] == "0A" and "socket:[%s]" % fields[9] in inodes:
-                return int(fields[1].split(":")[1], 16)
-    return None
-
-
 def check_turn(what, status, said, verdicts):
     if status == 0 and (said != WHOLE or list(verdicts.values()).count("later")):
         fail("server, %s: status 0, '%s', %r" % (what, said.strip(), verdicts))
@@ -225,7 +216,7 @@ def check_turn(what, status, said, verdicts):
 
 
 def memory_comes_back():
-    """All memory is refused to a server for a while, three times."""
+    """All memory is refused to a server for a while, twice."""
     flag = os.path.join(FOLDER, "flag")
     given = {"REFUSE_FILE": flag}
     turn(flag, b"\0")
@@ -234,19 +225,25 @@ def memory_comes_back():
     content = content_of(FIRST)
     bring(os.path.join(inbox, FIRST), content)
     wait_until("the first file is done", lambda: shelves(inbox).get(FIRST) == "done")
-    sorry = silent = 0
-    for _ in range(3):
-        link = server.connect()
-        if link.ask(b"GET", BEST + b".dds")[0] != 200:
+    counts = {SORRY: 0, b"": 0, None: 0}
+    for _ in range(2):
+        links = [server.connect()]
+        if links[0].ask(b"GET", BEST + b".dds")[0] != 200:
             fail("a server with memory doesn't answer")
         turn(flag, b"\1")
-        kept = ask_without_memory(link)
-        fresh = [ask_without_memory(server.connect()) for _ in range(40)]
-        sorry += ([kept] + fresh).count(SORRY)
-        silent += ([kept] + fresh).count(b"")
-        if any(output not in (SORRY, b"") for output in [kept] + fresh):
-            fail("without memory a connection got %r" % ([kept] + fresh))
+        links += [server.connect() for _ in range(40)]
+        for link in links:
+            link.send(ASKED[1])
+        time.sleep(1)
+        outputs = [come_over(link) for link in links]
         turn(flag, b"\0")
+        for link, output in zip(links, outputs):
+            counts[output] = counts.get(output, 0) + 1
+            if output not in (SORRY, b"", None):
+                fail("without memory a connection got %r" % output)
+            if output is None and link.reply()[0] != 200:
+                fail("once memory is back a connection that waited gets no reply")
+            link.close()
         link = server.connect()
         if link.ask(b"GET", BEST + b".dds")[0] != 200:
             fail("once memory is back the server doesn't answer")
@@ -261,7 +258,8 @@ def memory_comes_back():
         print("once memory is back the folder takes files: %r" % shelves(inbox))
     except Ended:
         print("once memory is back the folder takes no file: a name that can't be asked for ends it")
-    print("without memory %d connections were told so, and %d ended without a byte" % (sorry, silent), flush=True)
+    print("without memory %d connections were told so, %d ended without a byte, and %d waited and got their replies" % (
+        counts[SORRY], counts[b""], counts[None]), flush=True)
     server.kill()
 
 
@@ -271,15 +269,21 @@ def turn(path, byte):
         file.write(byte)
 
 
-def ask_without_memory(link):
-    """What a connection gets until it ends."""
+def come_over(link):
+    """What has come over a connection that has ended; None where it hasn't, and nothing has come."""
+    parts = []
+    link.sock.settimeout(0)
     try:
-        link.send(head(b".dds"))
-        return link.stream.read()
+        while not parts or parts[-1]:
+            parts.append(link.sock.recv(1 << 16))
+    except BlockingIOError:
+        return b"".join(parts) or None
     except OSError:
-        return b""
+        pass
     finally:
-        link.close()
+        # One whose request came while there was no memory goes on once its time is over, which is 30 seconds.
+        link.sock.settimeout(40)
+    return b"".join(parts)
 
 
 server_requests_are_refused()

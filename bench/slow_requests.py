@@ -162,8 +162,8 @@ def search(collection, paths, names, rank, sizes, plain):
         method, word = ("HEAD", "dods") if service == "HEAD" else ("GET", service)
         cost, status, count = collection.ask(method, "%s.%s?%s" % (paths[view], word, constraint))
         price = max(prices.values()) if service == "dods" else prices["text"]
-        shown = "%s, %s, %s, %s: %d, %d bytes" % (collection.name, view, service, kind, status, count)
-        found.append((cost - count * price, cost, shown, constraint))
+        shown = "%s: %d, %d bytes: %s" % (", ".join((service, kind)), status, count, constraint[:60])
+        found.append((cost - count * price, cost, "%s, %s" % (collection.name, view), shown))
     return found
 
 
@@ -219,10 +219,14 @@ def main():
         found += more
         collection.close()
     found.sort(reverse=True)
-    print("%d requests; the dearest beyond their bytes:" % len(found))
-    for beyond, cost, shown, constraint in found[:10]:
-        print("%.2f ms of %.2f ms: %s: %s" % (1e3 * beyond, 1e3 * cost, shown, constraint[:60]))
-    sys.exit(1 if found[0][0] > LIMIT else 0)
+    seen, over = set(), sum(one[0] > LIMIT for one in found)
+    print("%d requests, %d of them over %.0f ms beyond their bytes; the ten dearest, and the dearest of each view:"
+          % (len(found), over, 1e3 * LIMIT))
+    for place, (beyond, cost, where, shown) in enumerate(found):
+        if place < 10 or where not in seen:
+            print("%.2f ms of %.2f ms: %s, %s" % (1e3 * beyond, 1e3 * cost, where, shown))
+        seen.add(where)
+    sys.exit(1 if over else 0)
 
 
 if __name__ == "__main__":

@@ -372,7 +372,7 @@ fn say_among<R: Print>(rt: &R, name: &str, count: u32, nanos: u64) {
     let _ = println!(rt; "{name}_among_{count} {nanos}");
 }
 
-// The edition of so many files an hour apart, and what a name costs in it.
+// The edition of this number of files an hour apart, and what a name costs in it.
 fn hourly<R: Print + Clock>(rt: &R, alloc: Global, made: Made<'_>, count: u32) -> Result<Edition, Untaken> {
     let last = put_of(made, Lie::Hourly, count.wrapping_sub(1));
     let before = files(alloc, made, Lie::Hourly, count.wrapping_sub(1))?;

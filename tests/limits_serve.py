@@ -133,7 +133,7 @@ def files_that_eight_folders_put_and_take_back_at_once(folder):
     inboxes = inboxes_in(folder, 8)
     source = path_in(folder, "source.nc")
     FORM.write(source, [EPOCH])
-    count = 500
+    count = 1500
     for number in range(count):
         for path in inboxes:
             name = os.path.join(path, "gfs_20200101_0000_%04d.nc" % number)

@@ -5,7 +5,7 @@ use Rattle.dev_host.specs.declared.patience.Patience.{Patience}
 use Rattle.dev_host.specs.declared.patience.Pace.{Pace}
 use Rattle.dev_host.specs.declared.patience.Sending.{Sending}
 
--- the moment at which so many bytes have taken too long: the grace has passed, and they are fewer than 16 a millisecond
+-- the moment at which what is sent has taken too long: the grace has passed, and it is less than 16 bytes a millisecond
 abbrev pub slow_at : Patience → Sending → ℕ
 slow_at patience sending = capped (sending.began + max patience.grace (sending.sent / 16 + 1))
 
@@ -18,7 +18,7 @@ due_in patience since (Some sending) = min (capped (since + patience.idle)) (slo
 abbrev pub due_at : Patience → Pace → ℕ
 due_at patience pace = due_in patience pace.since pace.sending
 
--- what is sent, after so many bytes more
+-- what is sent, after `count` bytes more
 abbrev pub more_sent : Option Sending → ℕ → Option Sending
 more_sent None count = None
 more_sent (Some sending) count = Some (record sending { sent = capped (sending.sent + count) })
@@ -31,6 +31,6 @@ begun_in pace now (Some sending) = pace
 abbrev pub begun_at : Pace → ℕ → Pace
 begun_at pace now = begun_in pace now pace.sending
 
--- the moments of a link after a put of so many bytes
+-- the moments of a link after a put of `count` bytes
 abbrev pub put_at : Pace → ℕ → ℕ → Pace
 put_at pace now count = record { since = now; sending = more_sent pace.sending count }

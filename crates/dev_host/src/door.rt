@@ -128,6 +128,7 @@ impl<R: rt::Clock + Clone + Drop + Send> Door for TcpDoor<R> {
     fn rest(&mut self, key: usize, link: &mut TcpLink<R>) {
         let waits = link.waits();
         let due = link.due();
+        link.rested();
         self.reactor.rest(key, &mut link.stream, waits, due);
     }
 

@@ -26,7 +26,7 @@ impl Endings {
         self.table.is_empty()
     }
 
-    // Makes room for so many more.
+    // Makes room for `count` more.
     pub fn make_room(&mut self, count: usize) -> Result<(), AllocError> {
         self.table.reserve(count)?;
         self.times.make_room(self.table.capacity())

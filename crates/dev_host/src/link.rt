@@ -50,6 +50,14 @@ impl<S: Socket + Drop, R: rt::Clock + Drop> PolledLink<S, R> {
         self.waits
     }
 
+    /// The link rests, and its events count from now on. One that rests again before its next call missed one of them,
+    /// so it is as one that doesn't wait.
+    pub(crate) fn rested(&mut self)
+        ensures { ⟦<PolledLink<S, R> as Link>⟧.shown self.new ≡ ⟦<PolledLink<S, R> as Link>⟧.shown self.old }
+    {
+        self.waits = false;
+    }
+
     /// The moment at which its time is over, if nothing moves until then.
     pub fn due(&self) -> u64 {
         self.patience.due(self.pace)

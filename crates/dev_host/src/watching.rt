@@ -93,7 +93,7 @@ impl Watch {
         Some(Watched::of(token))
     }
 
-    // Waits for events, so many milliseconds at most.
+    // Waits for events, at most `limit` milliseconds.
     pub fn wait(&mut self, limit: u64) -> io::Result<()> {
         self.told = 0;
         self.poll

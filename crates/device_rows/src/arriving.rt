@@ -22,8 +22,8 @@ fn verdict_of(word: &str) -> Option<Verdict> {
     }
 }
 
-/// Appends what a step of an inbox over a folder does: `next`, `fetch LIMIT NAME`, `settle VERDICT NAME`, `faults`. It is
-/// false where a line says none.
+/// Appends what a step of an inbox over a folder does: `next`, `fetch LIMIT NAME`, `settle VERDICT NAME`, `faults`.
+/// It is false where a line says none.
 pub fn put_step<R: rt::Files + Alloc + rt::Clock + Clone + Drop + Send>(
     alloc: Global,
     inbox: &mut FolderInbox<R>,

@@ -8,7 +8,7 @@ use row_text::Row;
 use std::alloc::Global;
 use std::time::Duration;
 
-/// The first moment of a clock of so many ticks that can't be read.
+/// The first moment that can't be read of a clock, whose ticks the row counts.
 pub fn unread(alloc: Global, row: &Row<'_>) -> Result<Option<String>, NoMemory> {
     let (true, Some(ticks)) = (row.has_each(&["ticks unread"]), row.value("ticks unread")) else {
         return Ok(None);

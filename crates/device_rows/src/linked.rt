@@ -113,8 +113,8 @@ pub fn ending(alloc: Global, row: &Row<'_>) -> Result<Option<String>, NoMemory> 
     Ok(Some(out))
 }
 
-/// The moment at which the time of a link is over that began to send at the moment 1,000 and sent so many bytes, the
-/// last at 59,000.
+/// The moment at which the time of a link is over that began to send at the moment 1,000, and sent the row's number of
+/// bytes, the last at 59,000.
 pub fn sending(alloc: Global, row: &Row<'_>) -> Result<Option<String>, NoMemory> {
     let (true, Some(words)) = (row.has_each(&["sending"]), row.value("sending")) else {
         return Ok(None);

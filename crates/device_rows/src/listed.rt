@@ -21,8 +21,8 @@ struct Machine {
     names: Names,
 }
 
-// The names of a listing, each ended by a NUL, and how far they were read. They own their bytes, since the machine of an
-// inbox borrows nothing.
+// The names of a listing, each ended by a NUL, and how far they were read. They own their bytes, since the machine of
+// an inbox borrows nothing.
 #[derive(Clone, Copy)]
 struct Names {
     bytes: [u8; ROOM],

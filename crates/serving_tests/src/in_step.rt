@@ -31,7 +31,8 @@ fn clocks(rt: &impl Abort, alloc: Global) -> List<MemClock> {
     clocks
 }
 
-// What opens a door to which two links come and an inbox to which two files come, in turn, and a clock that comes later.
+// What opens a door to which two links come and an inbox to which two files come, in turn, and a clock that comes
+// later.
 fn opener_in_step<'a>(rt: &impl Abort, alloc: Global, course: &'a Course) -> CountedOpener<'a> {
     let mut doors = List::new(alloc);
     doors.push(asking_door(rt, alloc)).expect(rt, "memory");

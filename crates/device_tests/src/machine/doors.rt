@@ -7,7 +7,7 @@ use std::alloc::Global;
 use std::io::{Read, Write};
 use std::net::{Shutdown, SocketAddr, TcpListener, TcpStream};
 use std::thread::{Threads, join};
-use std::time::Duration;
+use std::time::{Duration, Instant};
 use std::{rt, thread};
 
 // For how many milliseconds peers are waited for where they are not to be given up.
@@ -85,6 +85,14 @@ pub(crate) fn closes(door: &mut HostDoor) -> bool {
         }
     }
     false
+}
+
+// Whether the time since a moment lies between these, in milliseconds.
+pub(crate) fn has_lasted(rt: &HostRuntime, began: Instant, at_least: u128, at_most: u128) -> bool {
+    match began.elapsed(rt) {
+        Ok(passed) => at_least <= passed.as_millis() && passed.as_millis() <= at_most,
+        Err(_) => false,
+    }
 }
 
 // Whether these bytes come, and no more.

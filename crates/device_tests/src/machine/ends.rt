@@ -1,9 +1,12 @@
 //! Connections that reset, that take nothing, and that rest.
 
-use super::doors::{HostDoor, HostLink, LONG, SHORT, closes, holds_of_client, next_link};
+use super::doors::{
+    HostDoor, HostLink, LONG, SHORT, closes, has_lasted, holds_of_client, next_link,
+};
 use dev_traits::{Coming, Door, Failed, Link, Sent, Taken};
 use std::io::Write;
 use std::net::TcpStream;
+use std::time::Instant;
 
 // Whether this holds of a door for `connections` connections, the link that it gives under the key 0, and its client.
 pub(crate) fn holds_of_ends<F>(rt: HostRuntime, connections: u32, idle: u64, fact: F) -> bool
@@ -132,18 +135,32 @@ fn takes_one(link: &mut HostLink) -> bool {
     link.take(&mut [0u8; 1]) == Ok(Taken::Bytes(1))
 }
 
-// Whether a link that rests with a byte left untaken may go on.
-fn goes_on_after_a_rest(door: &mut HostDoor, link: HostLink, client: TcpStream) -> bool {
+// Whether a link that rests with a byte left untaken may go on long before its time is over.
+fn goes_on_after_a_rest(
+    rt: &HostRuntime,
+    door: &mut HostDoor,
+    link: HostLink,
+    client: TcpStream,
+) -> bool {
+    let Ok(began) = Instant::now(rt) else {
+        return false;
+    };
     let mut link = link;
     let mut client = client;
     let first = client.write_all(b"ab").is_ok() && says_ready(door, 0) && takes_one(&mut link);
     door.rest(0, &mut link);
-    first && says_ready(door, 0) && takes_one(&mut link)
+    first
+        && says_ready(door, 0)
+        && takes_one(&mut link)
+        && has_lasted(rt, began, 0, LONG as u128 / 2)
 }
 
 #[test]
 fn a_link_that_rests_before_it_had_to_wait_goes_on(rt: HostRuntime) {
-    assert!(rt; holds_of_ends(rt, 1, LONG, goes_on_after_a_rest));
+    let holds = holds_of_ends(rt, 1, LONG, |door, link, client| {
+        goes_on_after_a_rest(&rt, door, link, client)
+    });
+    assert!(rt; holds);
 }
 
 // Whether a link sends what is put at once.

@@ -1,6 +1,6 @@
 //! The end of a connection: the side that sends is closed first, and then what still comes is dropped.
 
-use super::doors::{HostDoor, HostLink, LONG, closes, hears, next_link};
+use super::doors::{HostDoor, HostLink, LONG, closes, has_lasted, hears, next_link};
 use super::ends::holds_of_ends;
 use dev_traits::{Door, Link, Sent};
 use std::alloc::Global;
@@ -55,14 +55,6 @@ fn a_refusal_reaches_a_client_that_still_sends(rt: HostRuntime) {
         is_refused(&rt, &rt, door, link, client)
     });
     assert!(rt; holds);
-}
-
-// Whether the time since a moment lies between these, in milliseconds.
-fn has_lasted(rt: &HostRuntime, began: Instant, at_least: u128, at_most: u128) -> bool {
-    match began.elapsed(rt) {
-        Ok(passed) => at_least <= passed.as_millis() && passed.as_millis() <= at_most,
-        Err(_) => false,
-    }
 }
 
 // Whether a door gives the link of a further client at once, and closes only after two seconds.
