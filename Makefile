@@ -1,5 +1,4 @@
-.PHONY: serve test demo build quick plants package installs exits clients recipes proxy page restart faults beside many \
-    first limits memory fuzz day safety
+.PHONY: serve test demo build quick plants safety
 
 # The program's crate, and the sample files in its folder data/.
 SERVER = crates/fmrcd
@@ -50,77 +49,65 @@ quick:
 plants:
 	bench/plants.sh
 
-# Makes the Debian package package/out/fmrcd_VERSION_amd64.deb.
-package: $(if $(PROGRAM),,build)
-	package/build.sh $(PROGRAM)
-
-# Installs the package in a fresh system, serves there, and removes it.
-installs: $(if $(PROGRAM),,build)
-	tests/package.sh $(PROGRAM)
-
-# Runs the program as a person would, and compares exit statuses and lines; and serves more clients than descriptors.
-exits: $(if $(PROGRAM),,build)
-	tests/exits.sh $(PROGRAM)
-	bench/few_descriptors.sh $(PROGRAM)
-
-# Reads from the program by the clients that users have, which it installs from the machine's Debian registry.
-clients: $(if $(PROGRAM),,build)
-	clients/clients.sh $(PROGRAM)
-
-# Runs the recipes of docs/USING.md by tools that it installs from there, and serves what comes out.
-recipes: $(if $(PROGRAM),,build)
-	clients/recipes.sh $(PROGRAM)
-
-# Runs two servers behind nginx, with docs/nginx.conf, and compares their replies.
-proxy: $(if $(PROGRAM),,build)
-	bench/proxy.sh $(PROGRAM)
-
-# Opens the page web/index.html in headless Chromium, and compares what it shows with the files of a server.
-page: $(if $(PROGRAM),,build)
-	tests/page.sh $(PROGRAM)
-
-# Kills the program and starts it again, with fmrcd-bring-back: what it held comes back.
-restart: $(if $(PROGRAM),,build)
-	tests/bring_back.sh $(PROGRAM)
-
-# Fails each system call that the worker of a folder makes, and sees whether the folder mends itself.
-faults: $(if $(PROGRAM),,build)
-	tests/faults.sh $(PROGRAM)
-
-# Runs the program at each of its limits.
-limits: $(if $(PROGRAM),,build)
-	tests/limits.sh $(PROGRAM)
-
 # Compares the page on safety with the public calls of each crate.
 safety:
 	tests/safety_page.sh
 
+# Each target below runs the program by the line of its name. The program is built first where PROGRAM names none.
+LINES = package installs exits clients recipes proxy page restart faults limits memory fuzz day beside many first
+BUILT = $(or $(PROGRAM),$(SERVER)/out/fmrcd)
+
+.PHONY: $(LINES)
+$(LINES): $(if $(PROGRAM),,build)
+	$($@)
+
+# Makes the Debian package package/out/fmrcd_VERSION_amd64.deb.
+package = package/build.sh $(BUILT)
+
+# Installs the package in a fresh system, serves there, and removes it.
+installs = tests/package.sh $(BUILT)
+
+# Runs the program as a person would, and compares exit statuses and lines; and serves more clients than descriptors.
+exits = tests/exits.sh $(BUILT) && bench/few_descriptors.sh $(BUILT)
+
+# Reads from the program by the clients that users have, which it installs from the machine's Debian registry.
+clients = clients/clients.sh $(BUILT)
+
+# Runs the recipes of docs/USING.md by tools that it installs from there, and serves what comes out.
+recipes = clients/recipes.sh $(BUILT)
+
+# Runs two servers behind nginx, with docs/nginx.conf, and compares their replies.
+proxy = bench/proxy.sh $(BUILT)
+
+# Opens the page web/index.html in headless Chromium, and compares what it shows with the files of a server.
+page = tests/page.sh $(BUILT)
+
+# Kills the program and starts it again, with fmrcd-bring-back: what it held comes back.
+restart = tests/bring_back.sh $(BUILT)
+
+# Fails each system call that the worker of a folder makes, and sees whether the folder mends itself.
+faults = tests/faults.sh $(BUILT)
+
+# Runs the program at each of its limits.
+limits = tests/limits.sh $(BUILT)
+
 # Lets memory run out under the program, and under a publisher with threads, at each request for it in turn.
-memory: $(if $(PROGRAM),,build)
-	bench/out_of_memory.sh $(PROGRAM)
-	bench/refused_publisher.sh
+memory = bench/out_of_memory.sh $(BUILT) && bench/refused_publisher.sh
 
-# How long `make fuzz` tries each of four ways, and how many minutes the day of `make day` takes.
+# Fuzzes the program by files and by streams of requests, in each of four ways for some time.
 SECONDS = 3600
+fuzz = bench/fuzz.sh $(BUILT) $(SECONDS)
+
+# Runs four servers through a day of some minutes, with clients and faults.
 MINUTES = 60
-
-# Fuzzes the program by files and by streams of requests.
-fuzz: $(if $(PROGRAM),,build)
-	bench/fuzz.sh $(or $(PROGRAM),$(SERVER)/out/fmrcd) $(SECONDS)
-
-# Runs four servers through a day, with clients and faults.
-day: $(if $(PROGRAM),,build)
-	bench/day.sh $(or $(PROGRAM),$(SERVER)/out/fmrcd) $(MINUTES)
+day = bench/day.sh $(BUILT) $(MINUTES)
 
 # Measures the program beside nginx, which sends files of the same bytes.
-beside: $(if $(PROGRAM),,build)
-	bench/beside_nginx.sh $(PROGRAM)
+beside = bench/beside_nginx.sh $(BUILT)
 
 # The same while 10,000 connections are idle and 1,000 readers are slow. With `WORKERS=1` the targets `clients`, `proxy`
 # and `restart` have one worker a server, so that it holds all their connections.
-many: $(if $(PROGRAM),,build)
-	bench/many_links.sh $(PROGRAM)
+many = bench/many_links.sh $(BUILT)
 
 # Does `make serve` in a fresh clone, and opens what it says.
-first: $(if $(PROGRAM),,build)
-	tests/first_command.sh $(or $(PROGRAM),$(SERVER)/out/fmrcd)
+first = tests/first_command.sh $(BUILT)

@@ -2,15 +2,14 @@
 import http.client
 import os
 import random
-import re
 import signal
 import statistics
-import subprocess
 import sys
 import threading
 import time
 
 import large_files
+from figures import load
 from local_server import Nginx, Server, free_port
 from serve_replies import APART, FILES, file_of, name_of
 
@@ -20,21 +19,9 @@ FEW = BEST + ".dods?t%5B400:403%5D%5B0:15%5D%5B0:15%5D"
 FIELDS = RUN + ".dods?t%5B4:7%5D%5B0:479%5D%5B0:479%5D"
 AREA = RUN + ".dods?t%5B0:12%5D%5B100:299%5D%5B100:299%5D"
 TIMES, SIDE, LARGE = 13, 480, 4
-UNITS = {"": 1.0, "K": 1024.0, "M": 1024.0**2, "G": 1024.0**3}
 
 # What is to be reached of nginx. Rows of an area are gathered, which bench/slabs.sh measures beside a program in C.
 AIM, AREA_AIM = 0.85, 0.6
-
-
-def load(port, target, links):
-    """The requests and the bytes of a second."""
-    line = ["wrk", "-t", str(min(links, 2)), "-c", str(links), "-d", "1s", "http://127.0.0.1:%d%s" % (port, target)]
-    said = subprocess.run(line, check=True, capture_output=True, text=True).stdout
-    if "Non-2xx" in said or "Socket errors" in said:
-        sys.exit("%s: %s" % (target, said))
-    requests = float(re.search(r"Requests/sec: +([0-9.]+)", said)[1])
-    count, unit = re.search(r"Transfer/sec: +([0-9.]+)([KMG]?)B", said).groups()
-    return {"requests": requests, "bytes": float(count) * UNITS[unit]}
 
 
 def body_of(port, target):

@@ -8,11 +8,8 @@
 # Use: bench/beside_nginx.sh [PROGRAM] [TURNS]; by default the proved program, and 5 turns, which take four minutes.
 # nginx and wrk are installed where they are missing.
 set -eu
-top=$(cd "$(dirname "$0")/.." && pwd)
-program=${1:-$top/crates/fmrcd/out/fmrcd}
-[ -x "$program" ] || { echo "no program $program: 'make build' makes one" >&2; exit 2; }
+. "$(dirname "$0")/common.sh"
+use_program "$@"
 "$top/bench/packages.sh" nginx=nginx wrk=wrk
-folder=$(mktemp -d)
-trap 'rm -r "$folder"' EXIT
-trap 'exit 1' HUP INT TERM
+make_folder
 python3 -B "$top/bench/beside_nginx.py" "$program" "$folder" "${2:-5}"

@@ -3,10 +3,9 @@
 # reads the same file whole into memory.
 # Use: bench/check.sh [PROGRAM]. PROGRAM answers `PROGRAM check FILE`; by default it is the proved program.
 set -eu
-top=$(cd "$(dirname "$0")/.." && pwd)
-program=${1:-$top/crates/fmrcd/out/fmrcd}
-folder=$(mktemp -d)
-trap 'rm -r "$folder"' EXIT
+. "$(dirname "$0")/common.sh"
+use_program "$@"
+make_folder
 
 # A file of exactly 512 MiB: one fixed variable of Floats, and records of a Double.
 python3 - "$folder/large.nc" << 'PYTHON'
@@ -35,51 +34,21 @@ with open(sys.argv[1], "wb") as file:
     file.truncate(SIZE)
 PYTHON
 
-cat > "$folder/whole.c" << 'C'
-#include <stdio.h>
-#include <stdlib.h>
-
-int main(int count, char **words) {
-    FILE *file = fopen(words[1], "rb");
-    char *content = malloc(536870912);
-    size_t len = count == 2 && file != NULL && content != NULL ? fread(content, 1, 536870912, file) : 0;
-    printf("read %zu %d\n", len, len == 0 ? 0 : content[len - 1]);
-    return len == 536870912 ? 0 : 1;
-}
-C
-cc -O2 -o "$folder/whole" "$folder/whole.c"
-
-python3 - "$program" "$folder" << 'PYTHON'
+cc -O2 -o "$folder/whole" "$top/bench/read_whole.c"
+PYTHONPATH=$top/bench python3 -B - "$program" "$folder" << 'PYTHON'
 import os
-import resource
-import subprocess
 import sys
-import time
+
+from figures import fastest
 
 program, folder = sys.argv[1:]
 path = os.path.join(folder, "large.nc")
-
-
-def run(words):
-    """The seconds and the most memory, in MiB, of the fastest of five runs, and what the last printed."""
-    best = None
-    for _ in range(5):
-        start = time.monotonic()
-        child = subprocess.Popen(words, stdout=subprocess.PIPE)
-        said = child.stdout.read().decode().strip()
-        _, status, usage = os.wait4(child.pid, 0)
-        took = time.monotonic() - start
-        if status != 0:
-            sys.exit("%s ended with %d: %s" % (words[0], status, said))
-        if best is None or took < best[0]:
-            best = (took, usage.ru_maxrss / 1024)
-    return best[0], best[1], said
-
-
-reading = run([os.path.join(folder, "whole"), path])
-check = run([program, "check", path])
+reading = fastest([os.path.join(folder, "whole"), path])
+check = fastest([program, "check", path])
+if not reading[2].startswith("read 536870912 "):
+    sys.exit("the program in C " + reading[2])
 print("reading in C: %.3f s, %.0f MiB" % reading[:2])
-print("check:        %.3f s, %.0f MiB (%s)" % check)
+print("check:        %.3f s, %.0f MiB (%s)" % (check[0], check[1], check[2].strip()))
 if check[1] > 512 + 16:
     sys.exit("check takes more memory than the file and 16 MiB")
 PYTHON

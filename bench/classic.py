@@ -94,3 +94,16 @@ class Classic:
 def axis(*more):
     """The axis `time`, whose dimension has the number 0."""
     return Variable("time", INT, [0], [UNITS, *more])
+
+
+# The axis whose times count from 2020, so that those of 30 years fit four bytes.
+SINCE_2020 = ("units", b"seconds since 2020-01-01 00:00:00")
+TIME = Variable("time", INT, [0], [SINCE_2020])
+
+
+def of_600_variables(records):
+    """The names of 597 variables over records and a grid of one place, and the form of a file of them and three axes."""
+    names = ["v%d" % number for number in range(597)]
+    variables = [TIME, Variable("y", FLOAT, [1]), Variable("x", FLOAT, [2])]
+    variables += [Variable(name, FLOAT, [0, 1, 2]) for name in names]
+    return names, Classic([("time", 0), ("y", 1), ("x", 1)], variables, records=records)

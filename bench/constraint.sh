@@ -5,9 +5,8 @@
 # Use: bench/constraint.sh [BYTES].
 set -eu
 size=${1:-16384}
-top=$(cd "$(dirname "$0")/.." && pwd)
-folder=$(mktemp -d)
-trap 'rm -r "$folder"' EXIT
+. "$(dirname "$0")/common.sh"
+make_folder
 "$top/bench/crates.sh" "$folder" read_constraints dap_ce
 cat > "$folder/crates/read_constraints/src/main.rt" << 'PROGRAM'
 //! Reads the constraint in each file, and says how many clauses it has and the fewest nanoseconds that it took.
@@ -49,11 +48,7 @@ fn main(rt: HostRuntime) -> io::Result<()> {
     Ok(())
 }
 PROGRAM
-program=$folder/crates/read_constraints/out/read_constraints
-(cd "$folder/crates/read_constraints" && rt run -- read > "$folder/build.log" 2>&1) || {
-    cat "$folder/build.log" >&2
-    exit 1
-}
+run_crate read_constraints -- read
 cd "$folder"
 python3 - "$size" << 'PYTHON'
 import sys

@@ -3,9 +3,8 @@
 # rows, and to build the dataset of these rows, which may take a millisecond.
 # Use: bench/dataset.sh.
 set -eu
-top=$(cd "$(dirname "$0")/.." && pwd)
-folder=$(mktemp -d)
-trap 'rm -r "$folder"' EXIT
+. "$(dirname "$0")/common.sh"
+make_folder
 "$top/bench/crates.sh" "$folder" build_dataset fm_dataset fm_views fm_views fm_sample
 cat > "$folder/crates/build_dataset/src/main.rt" << 'PROGRAM'
 //! `PROGRAM PROTO FILE..` makes an edition of files over a prototype, and says how many rows and declarations its best time
@@ -66,10 +65,7 @@ fn main(rt: HostRuntime) -> io::Result<()> {
     }
 }
 PROGRAM
-(cd "$folder/crates/build_dataset" && rt run > "$folder/build.log" 2>&1) || {
-    cat "$folder/build.log" >&2
-    exit 1
-}
+run_crate build_dataset
 
 # 64 files of 4,096 hours each, one behind the other: a time and a number for each hour. Their names say their runs.
 mkdir "$folder/files"
@@ -103,7 +99,7 @@ PYTHON
 
 cd "$folder/files"
 first=$(ls | head -n 1)
-"$folder/crates/build_dataset/out/build_dataset" "$first" * > "$folder/figures"
+"$program" "$first" * > "$folder/figures"
 python3 - "$folder/figures" << 'PYTHON'
 import sys
 

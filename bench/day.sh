@@ -7,15 +7,13 @@
 # Use: bench/day.sh [PROGRAM] [MINUTES] [WORD..]; by default the proved program and 60 minutes. With words, only these
 # of `unreadable`, `full`, `descriptors` and `killed` are done. It wants root, and runs servers as nobody.
 set -eu
-top=$(cd "$(dirname "$0")/.." && pwd)
-program=${1:-$top/crates/fmrcd/out/fmrcd}
-[ -x "$program" ] || { echo "no program $program: 'make build' makes one" >&2; exit 2; }
+. "$(dirname "$0")/common.sh"
+use_program "$@"
 [ "$(id -u)" = 0 ] || { echo "only root may mount a small disk, and run servers as another user" >&2; exit 2; }
 minutes=${2:-60}
 if [ $# -lt 2 ]; then shift $#; else shift 2; fi
-folder=$(mktemp -d)
+make_folder
 chmod 755 "$folder"
 mount -t tmpfs -o size=64m,mode=755 tmpfs "$folder"
 trap 'umount -l "$folder"; rmdir "$folder"' EXIT
-trap 'exit 1' HUP INT TERM
 python3 -B "$top/bench/day.py" "$program" "$folder" "$top/package/fmrcd-bring-back" "$minutes" "$@"

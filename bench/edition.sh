@@ -4,9 +4,8 @@
 # gate proved on this machine (bench/build.sh).
 # Use: bench/edition.sh.
 set -eu
-top=$(cd "$(dirname "$0")/.." && pwd)
-folder=$(mktemp -d)
-trap 'rm -r "$folder"' EXIT
+. "$(dirname "$0")/common.sh"
+make_folder
 "$top/bench/crates.sh" "$folder" edition_bench fm_views fm_load fm_sample
 "$top/bench/made_files.sh" "$folder" edition_bench
 
@@ -152,9 +151,26 @@ pub fn best_rows<R: Clock>(rt: &R, alloc: Global, edition: &Edition, turns: u8) 
     }
     Ok((least, count))
 }
+
+/// Shows what the steps take from an edition of one file less than a count, and returns it.
+pub fn steps<R: Print + Clock>(rt: &R, alloc: Global, none: Edition, made: &Apart<'_>, count: u32) -> Result<Edition, Untaken> {
+    let less = count.wrapping_sub(1);
+    let edition = built(rt, alloc, none, made, less)?;
+    let added = new_name(rt, alloc, &edition, made, less)?;
+    let expired = expiry(rt, alloc, &edition, made.run(1))?;
+    let best = best_run(rt, &edition, FORM_TIMES)?;
+    let found = cell(rt, &edition, made, less)?;
+    let _ = println!(rt; "FORM_NAME: put {} us, expire one run {} us, best_run {} ns, cell {} ns", added, expired, best, found);
+    Ok(edition)
+}
 PROGRAM
-sed 's/^FORM_IMPORT/use fm_edition::Edition;/' "$folder/form.rt" > "$folder/crates/edition_bench/src/maps.rt"
-sed 's/^FORM_IMPORT/use fm_edition::plain_list::Edition;/' "$folder/form.rt" > "$folder/crates/edition_bench/src/list.rt"
+# form NAME EDITION TIMES: one form as a module, over whose edition this number of best runs is looked up.
+form() {
+    sed "s/^FORM_IMPORT/use $2;/; s/FORM_NAME/$1/; s/FORM_TIMES/$3/" "$folder/form.rt" \
+        > "$folder/crates/edition_bench/src/$1.rt"
+}
+form maps fm_edition::Edition 2_000
+form list fm_edition::plain_list::Edition 200
 
 cat > "$folder/crates/edition_bench/src/main.rt" << 'PROGRAM'
 //! `PROGRAM FILE` shows the times of both forms of an edition.
@@ -211,22 +227,12 @@ fn views<R: Print + Clock>(rt: &R, alloc: Global, edition: &Edition, made: &Apar
 }
 
 fn over_maps<R: Print + Clock>(rt: &R, alloc: Global, none: Edition, made: &Apart<'_>, count: u32) -> Result<(), Untaken> {
-    let edition = maps::built(rt, alloc, none, made, count.wrapping_sub(1))?;
-    let put = maps::new_name(rt, alloc, &edition, made, count.wrapping_sub(1))?;
-    let expire = maps::expiry(rt, alloc, &edition, made.run(1))?;
-    let best = maps::best_run(rt, &edition, 2_000)?;
-    let cell = maps::cell(rt, &edition, made, count.wrapping_sub(1))?;
-    let _ = println!(rt; "maps: put {} us, expire one run {} us, best_run {} ns, cell {} ns", put, expire, best, cell);
+    let edition = maps::steps(rt, alloc, none, made, count)?;
     views(rt, alloc, &edition, made, count)
 }
 
 fn as_list<R: Print + Clock>(rt: &R, alloc: Global, none: plain_list::Edition, made: &Apart<'_>, count: u32) -> Result<(), Untaken> {
-    let edition = list::built(rt, alloc, none, made, count.wrapping_sub(1))?;
-    let put = list::new_name(rt, alloc, &edition, made, count.wrapping_sub(1))?;
-    let expire = list::expiry(rt, alloc, &edition, made.run(1))?;
-    let best = list::best_run(rt, &edition, 200)?;
-    let cell = list::cell(rt, &edition, made, count.wrapping_sub(1))?;
-    let _ = println!(rt; "list: put {} us, expire one run {} us, best_run {} ns, cell {} ns", put, expire, best, cell);
+    let edition = list::steps(rt, alloc, none, made, count)?;
     if count > 400 {
         return Ok(());
     }

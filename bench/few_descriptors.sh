@@ -4,10 +4,7 @@
 # Use: bench/few_descriptors.sh [PROGRAM]; by default the proved program, which 'make build' leaves. It ends within a
 # minute, with status 0 where all is as it must be.
 set -eu
-top=$(cd "$(dirname "$0")/.." && pwd)
-program=${1:-$top/crates/fmrcd/out/fmrcd}
-[ -x "$program" ] || { echo "no program $program: 'make build' makes one" >&2; exit 2; }
-folder=$(mktemp -d)
-trap 'rm -r "$folder"' EXIT
-trap 'exit 1' HUP INT TERM
+. "$(dirname "$0")/common.sh"
+use_program "$@"
+make_folder
 python3 -B "$top/bench/few_descriptors.py" "$program" "$folder"

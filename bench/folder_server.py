@@ -5,15 +5,11 @@ import socket
 import subprocess
 import time
 
+from local_server import free_port
+
 
 class Ended(Exception):
     """The server ended, or didn't do what it was waited for."""
-
-
-def free_port():
-    with socket.socket() as free:
-        free.bind(("127.0.0.1", 0))
-        return free.getsockname()[1]
 
 
 class FolderServer:

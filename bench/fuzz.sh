@@ -7,19 +7,18 @@
 # Use: bench/fuzz.sh [PROGRAM] [SECONDS] [check|proto|load|stream ..]; by default the proved program, an hour for each
 # of the four ways. Its package is installed where it is missing, which wants root.
 set -eu
-top=$(cd "$(dirname "$0")/.." && pwd)
-program=${1:-$top/crates/fmrcd/out/fmrcd}
-[ -x "$program" ] || { echo "no program $program: 'make build' makes one" >&2; exit 2; }
+. "$(dirname "$0")/common.sh"
+use_program "$@"
 seconds=${2:-3600}
 if [ $# -lt 2 ]; then shift $#; else shift 2; fi
 [ $# -gt 0 ] || set -- check proto load stream
 "$top/bench/packages.sh" afl-fuzz=afl++
-folder=$(mktemp -d)
+make_folder
 wrong=0
+# What was found stays.
 trap '[ $wrong != 0 ] || rm -r "$folder"' EXIT
-trap 'exit 1' HUP INT TERM
 sample=$folder/gfs_20240101_0600.nc
-cp "$top/crates/fmrcd/data/gfs_20240101_0600.nc" "$sample"
+cp "$data/gfs_20240101_0600.nc" "$sample"
 best=/thredds/dodsC/gfs/gfs_best.ncd
 printf 'GET %s.das HTTP/1.1\r\n\r\nGET %s.dods HTTP/1.1\r\n\r\n' "$best" "$best" > "$folder/requests"
 python3 -B "$top/bench/fuzz_seeds.py" "$top" "$folder/seeds"

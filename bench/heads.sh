@@ -3,9 +3,8 @@
 # takes 2 microseconds or more. It builds a small program in a folder of its own.
 # Use: bench/heads.sh.
 set -eu
-folder=$(mktemp -d)
-trap 'rm -r "$folder"' EXIT
-top=$(cd "$(dirname "$0")/.." && pwd)
+. "$(dirname "$0")/common.sh"
+make_folder
 "$top/bench/crates.sh" "$folder" frame_heads web_frame
 cat > "$folder/crates/frame_heads/src/main.rt" << 'PROGRAM'
 //! Frames and reads a head many times, in pieces of two sizes, and prints the time of each in nanoseconds.
@@ -48,11 +47,8 @@ fn main(rt: HostRuntime) -> io::Result<()> {
     Ok(())
 }
 PROGRAM
-(cd "$folder/crates/frame_heads" && rt run > "$folder/build.log" 2>&1) || {
-    cat "$folder/build.log" >&2
-    exit 1
-}
-"$folder/crates/frame_heads/out/frame_heads" | while read -r len size count took; do
+run_crate frame_heads
+"$program" | while read -r len size count took; do
     echo "$count heads of $len bytes in pieces of $size: $took ns each"
     if [ "$took" -ge 2000 ]; then
         echo "a head takes 2 microseconds or more" >&2

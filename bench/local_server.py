@@ -28,6 +28,12 @@ def wait_for(port, process, what):
     sys.exit("%s doesn't listen" % what)
 
 
+def resident(process):
+    """The memory of a process that is resident, in bytes."""
+    with open("/proc/%d/status" % process.pid) as file:
+        return next(int(line.split()[1]) for line in file if line.startswith("VmRSS:")) << 10
+
+
 def stop(process):
     """Ends a process, which has some seconds to end well."""
     if process.poll() is None:
@@ -73,9 +79,7 @@ class Server:
         sys.exit("%s wasn't moved to done" % name)
 
     def resident(self):
-        """The memory that is resident, in bytes."""
-        with open("/proc/%d/status" % self.process.pid) as file:
-            return next(int(line.split()[1]) for line in file if line.startswith("VmRSS:")) << 10
+        return resident(self.process)
 
 
 MAIN = """%(user)sdaemon off; pid %(folder)s/pid; error_log %(folder)s/error.log; worker_processes %(processes)d;

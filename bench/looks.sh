@@ -3,9 +3,8 @@
 # of a desk, and each through one Mutex round the same edition. It builds a small program in a folder of its own.
 # Use: bench/looks.sh.
 set -eu
-folder=$(mktemp -d)
-trap 'rm -r "$folder"' EXIT
-top=$(cd "$(dirname "$0")/.." && pwd)
+. "$(dirname "$0")/common.sh"
+make_folder
 "$top/bench/crates.sh" "$folder" looks fm_load fm_sample pub_snap
 cp "$top/HANDLES" "$folder/HANDLES"
 cp "$top/crates/publishing_tests/src/sampled.rt" "$top/crates/publishing_tests/src/threads/files.rt" "$folder/crates/looks/src/"
@@ -296,10 +295,7 @@ fn main(rt: HostRuntime) -> Result<(), Fail> {
     Ok(())
 }
 PROGRAM
-(cd "$folder/crates/looks" && rt run > "$folder/build.log" 2>&1) || {
-    cat "$folder/build.log" >&2
-    exit 1
-}
-"$folder/crates/looks/out/looks" | while read -r readers writing passes locked; do
+run_crate looks
+"$program" | while read -r readers writing passes locked; do
     echo "$readers readers, a writer: $writing: $passes thousand looks a second by passes, $locked by one Mutex"
 done

@@ -3,14 +3,13 @@ time stand. Use: bench/made_files.py FOLDER."""
 import os
 import sys
 
-from classic import FLOAT, INT, Classic, Variable
+from classic import FLOAT, INT, SINCE_2020, TIME, Classic, Variable
 
-UNITS = ("units", b"seconds since 2020-01-01 00:00:00")
 RUN = ("standard_name", b"forecast_reference_time")
 
 
 def form(records):
-    variables = [Variable("time", INT, [0], [UNITS]), Variable("run", INT, [], [RUN, UNITS])]
+    variables = [TIME, Variable("run", INT, [], [RUN, SINCE_2020])]
     variables.append(Variable("v", FLOAT, [0, 1, 2]))
     return Classic([("time", 0), ("y", 1), ("x", 1)], variables, records=records)
 

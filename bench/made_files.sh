@@ -3,7 +3,7 @@
 # the module `made` of a crate, which makes files of these with other runs and times.
 # Use: bench/made_files.sh FOLDER NAME.
 set -eu
-top=$(cd "$(dirname "$0")/.." && pwd)
+. "$(dirname "$0")/common.sh"
 folder=$1 name=$2
 places=$(python3 -B "$top/bench/made_files.py" "$folder")
 cat > "$folder/crates/$name/src/made.rt" << 'PROGRAM'

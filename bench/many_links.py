@@ -1,6 +1,5 @@
 """Loads a server that many connections are open to, and nginx, in turns; bench/many_links.sh says how."""
 import os
-import re
 import resource
 import signal
 import statistics
@@ -9,7 +8,8 @@ import sys
 import time
 
 import large_files
-from beside_nginx import BEST, LARGE, RUN, SIDE, TIMES, UNITS, body_of, delays, file_name
+from beside_nginx import BEST, LARGE, RUN, SIDE, TIMES, body_of, delays, file_name
+from figures import load
 from local_server import TOP, Nginx, Server, free_port
 from serve_replies import APART, FILES, file_of, name_of
 
@@ -77,18 +77,6 @@ class Crowd:
             aim(False, "of %d idle connections and %d readers %d and %d were left" % (*self.count, idle, readers))
         if readers and read < READ:
             aim(False, "a slow reader took %d bytes a second, aim %d" % (read, READ))
-
-
-def load(port, target, links, seconds):
-    """The requests and the bytes of a second."""
-    line = ["wrk", "-t", "2", "-c", str(links), "-d", "%ds" % seconds, "--timeout", "60s"]
-    line.append("http://127.0.0.1:%d%s" % (port, target))
-    said = subprocess.run(line, check=True, capture_output=True, text=True).stdout
-    if "Non-2xx" in said or "Socket errors" in said:
-        sys.exit("%s: %s" % (target, said))
-    requests = float(re.search(r"Requests/sec: +([0-9.]+)", said)[1])
-    count, unit = re.search(r"Transfer/sec: +([0-9.]+)([KMG]?)B", said).groups()
-    return {"requests": requests, "bytes": float(count) * UNITS[unit]}
 
 
 def compare(title, server, nginx, target, measure, links, turns):

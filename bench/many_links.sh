@@ -9,11 +9,8 @@
 # than 5 would outlast the patience with an idle connection. The status is 1 where something isn't reached. nginx and
 # wrk are installed where they are missing.
 set -eu
-top=$(cd "$(dirname "$0")/.." && pwd)
-program=${1:-$top/crates/fmrcd/out/fmrcd}
-[ -x "$program" ] || { echo "no program $program: 'make build' makes one" >&2; exit 2; }
+. "$(dirname "$0")/common.sh"
+use_program "$@"
 "$top/bench/packages.sh" nginx=nginx wrk=wrk
-folder=$(mktemp -d)
-trap 'rm -r "$folder"' EXIT
-trap 'exit 1' HUP INT TERM
+make_folder
 python3 -B "$top/bench/many_links.py" "$program" "$folder" "${2:-3}"

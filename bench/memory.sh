@@ -5,9 +5,9 @@
 # the header reader.
 set -eu
 limit=65536
-folder=$(mktemp -d)
-trap 'rm -r "$folder"' EXIT
-program=${1:-$("$(dirname "$0")/reader.sh" "$folder")}
+. "$(dirname "$0")/common.sh"
+make_folder
+program=${1:-$("$top/bench/reader.sh" "$folder")}
 
 # A library that stands before the C library, and tells at the end how many bytes were asked for, in all and at most.
 cat > "$folder/count.c" <<'C'

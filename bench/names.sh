@@ -3,9 +3,9 @@
 # Use: bench/names.sh [PROGRAM]. PROGRAM answers `PROGRAM check FILE`; by default one is built from
 # the header reader.
 set -eu
-folder=$(mktemp -d)
-trap 'rm -r "$folder"' EXIT
-program=${1:-$("$(dirname "$0")/reader.sh" "$folder")}
+. "$(dirname "$0")/common.sh"
+make_folder
+program=${1:-$("$top/bench/reader.sh" "$folder")}
 
 # make LIST COUNT FILE: a CDF-1 header with COUNT names in the list of dimensions, attributes or variables.
 make() {

@@ -3,12 +3,10 @@
 # of 100 MB: files of fields of 250,000 numbers at 100 times, which are put and asked for whole.
 # Use: bench/once.sh [PROGRAM]; by default the proved program, which 'make build' leaves.
 set -eu
-top=$(cd "$(dirname "$0")/.." && pwd)
-program=${1:-$top/crates/fmrcd/out/fmrcd}
-[ -x "$program" ] || { echo "no program $program: 'make build' makes one" >&2; exit 2; }
-folder=$(mktemp -d)
-trap 'rm -r "$folder"' EXIT
-sample=$top/crates/fmrcd/data/gfs_20240101_0000.nc
+. "$(dirname "$0")/common.sh"
+use_program "$@"
+make_folder
+sample=$data/gfs_20240101_0000.nc
 
 # Runs the words, and says the time, the most memory and the bytes of the output.
 measure() {

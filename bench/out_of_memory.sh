@@ -7,14 +7,11 @@
 # Use: bench/out_of_memory.sh [PROGRAM]; by default the proved program, which 'make build' leaves. It shows its figures,
 # and ends with status 0 where all is as it has to be. It takes some four minutes.
 set -eu
-top=$(cd "$(dirname "$0")/.." && pwd)
-program=${1:-$top/crates/fmrcd/out/fmrcd}
-[ -x "$program" ] || { echo "no program $program: 'make build' makes one" >&2; exit 2; }
-folder=$(mktemp -d)
-trap 'rm -r "$folder"' EXIT
-trap 'exit 1' HUP INT TERM
+. "$(dirname "$0")/common.sh"
+use_program "$@"
+make_folder
 cc -shared -fPIC -O2 -Wall -o "$folder/refused.so" "$top/bench/refused_memory.c"
 status=0
-python3 -B "$top/bench/out_of_memory_once.py" "$program" "$folder" "$top/crates/fmrcd/data" || status=1
-python3 -B "$top/bench/out_of_memory_serve.py" "$program" "$folder" "$top/crates/fmrcd/data" || status=1
+python3 -B "$top/bench/out_of_memory_once.py" "$program" "$folder" "$data" || status=1
+python3 -B "$top/bench/out_of_memory_serve.py" "$program" "$folder" "$data" || status=1
 exit $status

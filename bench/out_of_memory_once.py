@@ -6,7 +6,7 @@ import struct
 import subprocess
 import sys
 
-from out_of_memory import (DATA, ENOUGH, FIRST, FOLDER, LATER, LIBRARY, PROGRAM, SORRY, STEP, data, end, fail, head,
+from out_of_memory import (ENOUGH, FIRST, FOLDER, LATER, LIBRARY, PROGRAM, SORRY, STEP, data, end, fail, head,
                            replies_of)
 
 

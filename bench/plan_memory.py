@@ -5,14 +5,13 @@ import struct
 import sys
 import time
 
-from classic import CHAR, FLOAT, INT, Classic, Variable
+from classic import CHAR, FLOAT, TIME, Classic, Variable, of_600_variables
 from folder_server import FolderServer, wait_until
 
 PROGRAM, FOLDER = sys.argv[1:3]
 BEST = b"/thredds/dodsC/gfs/gfs_best.ncd"
 # For each array of texts, while its marks are made; for each part, page of rows, and variable.
 TEXTS, PART, PAGE, VARIABLE = 98304, 128, 64, 16
-TIME = Variable("time", INT, [0], [("units", b"seconds since 2020-01-01 00:00:00")])
 
 
 class Counted:
@@ -86,11 +85,7 @@ def rows():
 
 def parts():
     """600 variables, and 5,300 clauses over one of them."""
-    names = ["v%d" % number for number in range(597)]
-    variables = [TIME, Variable("y", FLOAT, [1]), Variable("x", FLOAT, [2])]
-    form = Classic([("time", 0), ("y", 1), ("x", 1)], variables + [Variable(name, FLOAT, [0, 1, 2]) for name in names],
-                   records=1)
-    counted = Counted("parts", form, 1, lambda number: [0])
+    counted = Counted("parts", of_600_variables(1)[1], 1, lambda number: [0])
     good = check(counted, "600 variables, all sent", b"", parts=4 * 597 + 5, variables=600)
     good &= check(counted, "5,300 clauses over one of 600 variables", b",".join([b"v0"] * 5300), parts=4, variables=600)
     counted.close()

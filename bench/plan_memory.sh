@@ -6,11 +6,8 @@
 # figures, and ends with 1 where one is larger.
 # Use: bench/plan_memory.sh [PROGRAM]; by default the proved program, which 'make build' leaves.
 set -eu
-top=$(cd "$(dirname "$0")/.." && pwd)
-program=${1:-$top/crates/fmrcd/out/fmrcd}
-[ -x "$program" ] || { echo "no program $program: 'make build' makes one" >&2; exit 2; }
-folder=$(mktemp -d)
-trap 'rm -r "$folder"' EXIT
-trap 'exit 1' HUP INT TERM
+. "$(dirname "$0")/common.sh"
+use_program "$@"
+make_folder
 cc -shared -fPIC -O2 -Wall -o "$folder/held.so" "$top/bench/held_memory.c"
 python3 -B "$top/bench/plan_memory.py" "$program" "$folder"

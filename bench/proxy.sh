@@ -8,11 +8,8 @@
 # server. It ends within a minute, with status 0 where all is as it must be. nginx and openssl are installed where they
 # are missing.
 set -eu
-top=$(cd "$(dirname "$0")/.." && pwd)
-program=${1:-$top/crates/fmrcd/out/fmrcd}
-[ -x "$program" ] || { echo "no program $program: 'make build' makes one" >&2; exit 2; }
+. "$(dirname "$0")/common.sh"
+use_program "$@"
 "$top/bench/packages.sh" nginx=nginx openssl=openssl
-folder=$(mktemp -d)
-trap 'rm -r "$folder"' EXIT
-trap 'exit 1' HUP INT TERM
+make_folder
 python3 -B "$top/bench/proxy_checks.py" "$program" "$folder"

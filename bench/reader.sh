@@ -4,7 +4,7 @@
 # Use: bench/reader.sh FOLDER.
 set -eu
 folder=$1
-top=$(cd "$(dirname "$0")/.." && pwd)
+. "$(dirname "$0")/common.sh"
 "$top/bench/crates.sh" "$folder" read_headers nc_header
 cat > "$folder/crates/read_headers/src/main.rt" << 'PROGRAM'
 //! Reads the header of a file, and says how long its lists are.
@@ -28,8 +28,5 @@ fn main(rt: HostRuntime) -> io::Result<()> {
     Ok(())
 }
 PROGRAM
-(cd "$folder/crates/read_headers" && rt run -- check > "$folder/build.log" 2>&1) || {
-    cat "$folder/build.log" >&2
-    exit 1
-}
-echo "$folder/crates/read_headers/out/read_headers"
+run_crate read_headers -- check
+echo "$program"

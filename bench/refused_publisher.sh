@@ -5,10 +5,8 @@
 # otherwise is shown, and the status is then not 0. It wants rt, and takes some minutes; it proves nothing.
 # Use: bench/refused_publisher.sh
 set -eu
-folder=$(mktemp -d)
-trap 'rm -r "$folder"' EXIT
-trap 'exit 1' HUP INT TERM
-top=$(cd "$(dirname "$0")/.." && pwd)
+. "$(dirname "$0")/common.sh"
+make_folder
 "$top/bench/crates.sh" "$folder" refused_publisher fm_base fm_model fm_edition fm_load fm_sample pub_look pub_snap
 cp "$top/HANDLES" "$folder/HANDLES"
 cat > "$folder/crates/refused_publisher/src/main.rt" << 'PROGRAM'

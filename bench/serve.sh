@@ -7,9 +7,7 @@
 # Use: [WORKERS=1] bench/serve.sh [PROGRAM]; by default the proved program, which 'make build' leaves, with 4 workers.
 # It ends within two minutes.
 set -eu
-top=$(cd "$(dirname "$0")/.." && pwd)
-program=${1:-$top/crates/fmrcd/out/fmrcd}
-folder=$(mktemp -d)
-trap 'rm -r "$folder"' EXIT
-trap 'exit 1' HUP INT TERM
+. "$(dirname "$0")/common.sh"
+use_program "$@"
+make_folder
 python3 -B "$top/bench/serve_clients.py" "$program" "$folder"

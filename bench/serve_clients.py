@@ -8,6 +8,7 @@ import sys
 import threading
 import time
 
+from local_server import free_port, resident
 from serve_replies import APART, EPOCH, FILES, HOUR, OFFSETS, file_of, name_of, reply_of, target_of
 
 # How many files come at once, and how many seconds later the next ones do.
@@ -53,9 +54,7 @@ class Server:
         proto = os.path.join(folder, "proto.nc")
         with open(proto, "wb") as file:
             file.write(file_of(0))
-        with socket.socket() as free:
-            free.bind(("127.0.0.1", 0))
-            self.port = free.getsockname()[1]
+        self.port = free_port()
         self.links = workers * connections
         self.opened = 0
         self.lock = threading.Lock()
@@ -105,11 +104,6 @@ class Server:
                 return came, gone
             time.sleep(0.005)
         raise OSError("%s wasn't moved to done" % min(set(names) - set(gone)))
-
-    def resident(self):
-        """The memory that is resident, in bytes."""
-        with open("/proc/%d/status" % self.process.pid) as file:
-            return next(int(line.split()[1]) for line in file if line.startswith("VmRSS:")) << 10
 
     def finish(self, line):
         """Stops the inbox, opens the connections that are left, and checks the last line and the status."""
@@ -254,7 +248,7 @@ def serve_arrivals(program, folder):
         client.join()
     if failures:
         return
-    resident = server.resident()
+    held_memory = resident(server.process)
     names = published_in_order(server, arrived)
     line = "published %d retracted 0 expired 0 held %d rows %d revision %d\n"
     server.finish(line % (FILES, FILES, FILES * len(OFFSETS), FILES))
@@ -266,8 +260,8 @@ def serve_arrivals(program, folder):
     print("%d requests over %d connections, %d bytes" % (readings.count, server.opened, readings.bytes))
     print("%d of %d revisions seen, %d different replies" % (len(readings.first), FILES + 1, len(readings.replies)))
     print("from a file's rename to its verdict: %.0f ms, %.0f ms at most" % (sum(took) / FILES, max(took)))
-    print("%d KiB resident, %d KiB of files" % (resident >> 10, held >> 10))
-    if resident > held + ROOM:
+    print("%d KiB resident, %d KiB of files" % (held_memory >> 10, held >> 10))
+    if held_memory > held + ROOM:
         fail("more than the files and %d KiB are resident" % (ROOM >> 10))
     if FILES not in readings.first:
         fail("no reply was over the whole collection")

@@ -2,23 +2,15 @@
 import datetime
 import struct
 
+from large_files import HOUR, head_of, words
+
 FILES = 400
-HOUR = 3600
 APART = 6 * HOUR
 OFFSETS = [3 * HOUR * k for k in range(13)]
 SIDE = 16
 EPOCH = datetime.datetime(2020, 1, 1, tzinfo=datetime.timezone.utc)
-UNITS = b"seconds since 1970-01-01 00:00:00"
 
 # The files. Times and runs are seconds from the epoch.
-
-
-def words(*numbers):
-    return struct.pack(">%di" % len(numbers), *numbers)
-
-
-def text(value):
-    return words(len(value)) + value + b"\0" * (-len(value) % 4)
 
 
 def coordinates(first):
@@ -40,17 +32,7 @@ def floats(values):
 
 def file_of(run):
     """The file of a run: `time` over records, `lat`, `lon`, and `t` over all three."""
-    begin = 0
-    for _ in range(2):
-        head = b"CDF\1" + words(len(OFFSETS), 10, 3)
-        head += text(b"time") + words(0) + text(b"lat") + words(SIDE) + text(b"lon") + words(SIDE)
-        head += words(0, 0, 11, 4)
-        head += text(b"time") + words(1, 0, 12, 1) + text(b"units") + words(2) + text(UNITS)
-        head += words(4, 4, begin + 8 * SIDE)
-        head += text(b"lat") + words(1, 1, 0, 0, 5, 4 * SIDE, begin)
-        head += text(b"lon") + words(1, 2, 0, 0, 5, 4 * SIDE, begin + 4 * SIDE)
-        head += text(b"t") + words(3, 0, 1, 2, 0, 0, 5, 4 * SIDE * SIDE, begin + 8 * SIDE + 4)
-        begin = len(head)
+    head = head_of(len(OFFSETS), SIDE, len(head_of(len(OFFSETS), SIDE, 0)))
     content = [head, floats(LAT), floats(LON)]
     for offset in OFFSETS:
         content.append(words(int(EPOCH.timestamp()) + run + offset))

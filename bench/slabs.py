@@ -10,7 +10,8 @@ import sys
 import time
 
 import large_files
-from beside_nginx import BEST, RUN, body_of, load
+from beside_nginx import BEST, RUN, body_of
+from figures import load
 from local_server import Nginx, Server, free_port, stop, wait_for
 from serve_replies import name_of
 

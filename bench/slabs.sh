@@ -6,13 +6,10 @@
 # Use: bench/slabs.sh [PROGRAM] [TURNS]; by default the proved program, and 5 turns, which take two minutes.
 # nginx, wrk and gcc are installed where they are missing.
 set -eu
-top=$(cd "$(dirname "$0")/.." && pwd)
-program=${1:-$top/crates/fmrcd/out/fmrcd}
-[ -x "$program" ] || { echo "no program $program: 'make build' makes one" >&2; exit 2; }
+. "$(dirname "$0")/common.sh"
+use_program "$@"
 "$top/bench/packages.sh" nginx=nginx wrk=wrk gcc=gcc
-folder=$(mktemp -d)
-trap 'rm -r "$folder"' EXIT
-trap 'exit 1' HUP INT TERM
+make_folder
 cat > "$folder/gather.c" << 'PROGRAM'
 /* `gather FILE PORT PIECE FIELDS FIELD BEGIN ROWS STEP ROW` answers each request with rows of a file: of each of FIELDS
    fields, FIELD bytes apart, ROWS rows of ROW bytes, STEP bytes apart, the first BEGIN bytes into the field. They are

@@ -4,15 +4,12 @@ import random
 import sys
 import time as clock
 
-from classic import CHAR, EPOCH, FLOAT, INT, Classic, Variable
+from classic import CHAR, EPOCH, FLOAT, TIME, Classic, Variable, of_600_variables
 from folder_server import FolderServer, wait_until
 
 PROGRAM, FOLDER, COUNT = sys.argv[1], sys.argv[2], int(sys.argv[3])
 HOUR, MOST, LIMIT = 3600, 16000, 0.005
 PATH = "/thredds/dodsC/gfs/"
-
-# Times count from 2020, so that those of 30 years fit four bytes.
-TIME = Variable("time", INT, [0], [("units", b"seconds since 2020-01-01 00:00:00")])
 
 
 def moment(seconds):
@@ -169,10 +166,7 @@ def search(collection, paths, names, rank, sizes, plain):
 
 def wide():
     """4,096 files of 600 variables and 64 times, an hour apart, whose runs are 64 hours apart."""
-    names = ["v%d" % number for number in range(597)]
-    variables = [TIME, Variable("y", FLOAT, [1]), Variable("x", FLOAT, [2])]
-    form = Classic([("time", 0), ("y", 1), ("x", 1)], variables + [Variable(name, FLOAT, [0, 1, 2]) for name in names],
-                   records=64)
+    names, form = of_600_variables(64)
     collection = Collection("wide", form, [64 * HOUR * number for number in range(4096)],
                             lambda number: [HOUR * record for record in range(64)])
     paths = views(64 * HOUR * 2048, 6 * HOUR, 64 * HOUR * 2048 + 6 * HOUR)

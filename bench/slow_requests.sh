@@ -8,10 +8,7 @@
 # Use: bench/slow_requests.sh [PROGRAM] [COUNT]; by default the proved program, and 400 mixtures for each collection. It
 # takes some minutes, a gigabyte of memory and one of the disk, and wants a quiet machine.
 set -eu
-top=$(cd "$(dirname "$0")/.." && pwd)
-program=${1:-$top/crates/fmrcd/out/fmrcd}
-[ -x "$program" ] || { echo "no program $program: 'make build' makes one" >&2; exit 2; }
-folder=$(mktemp -d)
-trap 'rm -r "$folder"' EXIT
-trap 'exit 1' HUP INT TERM
+. "$(dirname "$0")/common.sh"
+use_program "$@"
+make_folder
 python3 -B "$top/bench/slow_requests.py" "$program" "$folder" "${2:-400}"

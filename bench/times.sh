@@ -7,9 +7,8 @@
 # It wants a quiet machine, and uses what the gate proved there (bench/build.sh).
 # Use: bench/times.sh.
 set -eu
-top=$(cd "$(dirname "$0")/.." && pwd)
-folder=$(mktemp -d)
-trap 'rm -r "$folder"' EXIT
+. "$(dirname "$0")/common.sh"
+make_folder
 "$top/bench/crates.sh" "$folder" times_bench fm_views fm_load fm_sample dap_ce dap_project dap_dds
 "$top/bench/made_files.sh" "$folder" times_bench
 

@@ -7,9 +7,8 @@
 set -eu
 size=${1:-256}
 limit=65536
-top=$(cd "$(dirname "$0")/.." && pwd)
-folder=$(mktemp -d)
-trap 'rm -r "$folder"' EXIT
+. "$(dirname "$0")/common.sh"
+make_folder
 "$top/bench/crates.sh" "$folder" copy_elements nc_header nc_array
 cat > "$folder/crates/copy_elements/src/main.rt" << 'PROGRAM'
 //! `PROGRAM copy FILE` copies the elements of the last variable of a file, and as many bytes from the file's front, and
@@ -99,11 +98,7 @@ fn main(rt: HostRuntime) -> io::Result<()> {
     Ok(())
 }
 PROGRAM
-(cd "$folder/crates/copy_elements" && rt run -- check > "$folder/build.log" 2>&1) || {
-    cat "$folder/build.log" >&2
-    exit 1
-}
-program=$folder/crates/copy_elements/out/copy_elements
+run_crate copy_elements -- check
 
 # word NUMBER: four bytes as hexadecimal digits.
 word() {

@@ -4,9 +4,8 @@
 # widened, and may fall to 0.4. Then it shows what one piece costs at places from the front of a part to its end.
 # Use: bench/xdr.sh.
 set -eu
-top=$(cd "$(dirname "$0")/.." && pwd)
-folder=$(mktemp -d)
-trap 'rm -r "$folder"' EXIT
+. "$(dirname "$0")/common.sh"
+make_folder
 "$top/bench/crates.sh" "$folder" send_parts dap_xdr fm_views fm_sample
 cat > "$folder/crates/send_parts/src/main.rt" << 'PROGRAM'
 //! `PROGRAM PROTO FILE` makes the best time series of a file over a prototype. Of each declaration after the axis, but for
@@ -151,47 +150,20 @@ fn main(rt: HostRuntime) -> io::Result<()> {
     }
 }
 PROGRAM
-(cd "$folder/crates/send_parts" && rt run > "$folder/build.log" 2>&1) || {
-    cat "$folder/build.log" >&2
-    exit 1
-}
+run_crate send_parts
 
 # A file of 100 records of a time and four variables, each of which is sent as 1 MiB, and one of one record that is the
 # prototype. The variables are holes of the file.
-python3 - "$folder" << 'PYTHON'
-import struct
+PYTHONPATH=$top/bench python3 -B - "$folder" << 'PYTHON'
 import sys
 
-VARS = ((b"f\0\0\0", 5, 256, 4), (b"i\0\0\0", 4, 256, 4), (b"d\0\0\0", 6, 128, 8), (b"s\0\0\0", 3, 256, 2))
+from classic import DOUBLE, FLOAT, INT, SHORT, TIME, Classic, Variable
 
-
-def words(*numbers):
-    return struct.pack(">%dI" % len(numbers), *numbers)
-
-
-def write(path, records):
-    begin = 0
-    for _ in range(2):
-        dims = words(10, 4, 4) + b"time" + words(0, 1) + b"y\0\0\0" + words(256, 1) + b"h\0\0\0" + words(128)
-        dims += words(1) + b"x\0\0\0" + words(1024)
-        units = words(12, 1, 5) + b"units\0\0\0" + words(2, 33) + b"seconds since 2020-01-01 00:00:00\0\0\0"
-        head = b"CDF\1" + words(records) + dims + words(0, 0, 11, 5)
-        head += words(4) + b"time" + words(1, 0) + units + words(4, 4, begin)
-        at = begin + 4
-        for name, kind, height, size in VARS:
-            head += words(1) + name + words(3, 0, 1 if height == 256 else 2, 3, 0, 0, kind, height * 1024 * size, at)
-            at += height * 1024 * size
-        begin = len(head)
-    with open(path, "wb") as file:
-        file.write(head)
-        for record in range(records):
-            file.write(words(3600 * record))
-            file.seek(sum(height * 1024 * size for _, _, height, size in VARS), 1)
-        file.truncate(file.tell())
-
-
-write(sys.argv[1] + "/proto.nc", 1)
-write(sys.argv[1] + "/large.nc", 100)
+variables = [TIME, Variable("f", FLOAT, [0, 1, 3]), Variable("i", INT, [0, 1, 3])]
+variables += [Variable("d", DOUBLE, [0, 2, 3]), Variable("s", SHORT, [0, 1, 3])]
+for name, records in (("/proto.nc", 1), ("/large.nc", 100)):
+    form = Classic([("time", 0), ("y", 256), ("h", 128), ("x", 1024)], variables, records=records)
+    form.write(sys.argv[1] + name, [3600 * record for record in range(records)])
 PYTHON
 cat > "$folder/copy.c" << 'C'
 #include <stdio.h>
@@ -222,7 +194,7 @@ int main(int count, char **words) {
 C
 cc -O2 -o "$folder/copy" "$folder/copy.c"
 
-"$folder/crates/send_parts/out/send_parts" "$folder/proto.nc" "$folder/large.nc" > "$folder/figures"
+"$program" "$folder/proto.nc" "$folder/large.nc" > "$folder/figures"
 "$folder/copy" "$folder/large.nc" >> "$folder/figures"
 python3 - "$folder" << 'PYTHON'
 import sys

@@ -9,8 +9,8 @@
 # Use: [WORKERS=1] clients/clients.sh [PROGRAM]; by default the proved program, which 'make build' leaves, with 4
 # workers.
 set -eu
-top=$(cd "$(dirname "$0")/.." && pwd)
-program=${1:-$top/crates/fmrcd/out/fmrcd}
+. "$(dirname "$0")/../bench/common.sh"
+use_program "$@"
 python=/usr/bin/python3
 
 has_all() {
@@ -29,10 +29,7 @@ install() {
         --no-install-recommends netcdf-bin libdap-bin nco cdo python3-netcdf4 python3-xarray > "$folder/apt" 2>&1
 }
 
-[ -x "$program" ] || { echo "no program $program: 'make build' makes one" >&2; exit 2; }
-folder=$(mktemp -d)
-trap 'rm -r "$folder"' EXIT
-trap 'exit 1' HUP INT TERM
+make_folder
 has_all || install || { as_root apt-get -qq update && install; } || { cat "$folder/apt" >&2; exit 2; }
 has_all || { echo "a client is missing" >&2; exit 2; }
 dpkg-query -W -f '${Package} ${Version}\n' netcdf-bin libnetcdf19 libdap-bin nco cdo python3-netcdf4 python3-xarray \

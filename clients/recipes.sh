@@ -6,15 +6,10 @@
 # apt-get, which asks for root.
 # Use: clients/recipes.sh [PROGRAM]; by default the proved program, which 'make build' leaves.
 set -eu
-top=$(cd "$(dirname "$0")/.." && pwd)
-program=${1:-$top/crates/fmrcd/out/fmrcd}
-[ -x "$program" ] || { echo "no program $program: 'make build' makes one" >&2; exit 2; }
-program=$(cd "$(dirname "$program")" && pwd)/$(basename "$program")
+. "$(dirname "$0")/../bench/common.sh"
+use_program "$@"
 "$top/bench/packages.sh" ncgen=netcdf-bin ncatted=nco cdo=cdo curl=curl
-folder=$(mktemp -d)
-server=
-trap '[ -z "$server" ] || kill "$server"; rm -r "$folder"' EXIT
-trap 'exit 1' HUP INT TERM
+make_folder
 cd "$folder"
 export LC_ALL=C.UTF-8 HOME="$folder" no_proxy=127.0.0.1
 failures=0
@@ -109,25 +104,14 @@ start() {
     servers=$((servers + 1))
     port=$((20000 + $$ % 20000 + servers))
     "$program" serve --name gfs --proto "$2" --listen "127.0.0.1:$port" --workers 2 "served/$name" > none 2>&1 &
-    server=$!
+    process=$!
 }
 
 # Brings it a file, and sees that the file comes to a folder within ten seconds.
 brought() {
     cp "$1" "served/$name/part"
     mv "served/$name/part" "served/$name/$(basename "$1")"
-    tries=0
-    until [ -e "served/$name/$2/$(basename "$1")" ]; do
-        tries=$((tries + 1))
-        [ "$tries" -lt 100 ] || { wrong "$name" "$1 doesn't come to $2"; return; }
-        sleep 0.1
-    done
-}
-
-stop() {
-    kill "$server"
-    wait "$server" 2> told || true
-    server=
+    wait_for "served/$name/$2/$(basename "$1")" 2> told || wrong "$name" "$1 doesn't come to $2"
 }
 
 # The values of a variable as text, and the dates of the times.
@@ -155,7 +139,7 @@ served() {
         fi
         shown=$((shown + 1))
     done
-    stop
+    end_process
 }
 
 proto=$folder/proto.nc
@@ -188,7 +172,7 @@ refused "packing" "packed/$(named 0)" "packed/$(named 4)" 57
 start "another packing" "packed/$(named 0)"
 brought "packed/$(named 0)" "done"
 brought "packed/$(named 4)" refused
-stop
+end_process
 served unpacked "unpacked/$(named 0)" t "unpacked/$(named 0)" "unpacked/$(named 4)"
 
 echo "attributes"
@@ -278,7 +262,7 @@ for words in 'ncdump -h "$URL"' 'ncdump -v t "$URL?t[0:1:0][0:1:1][0:1:1]"' 'ncc
     'curl -gf "$URL.dds?t[0:1:3][0:1:1][0:1:1]"'; do
     run "$words" "$words"
 done
-stop
+end_process
 
 echo "served"
 served all "$proto" t out/gfs_*.nc

@@ -3,10 +3,9 @@
 # heading of CHANGELOG.md with a number.
 # Use: package/build.sh [PROGRAM] [FOLDER]; by default the program that 'make build' leaves, and the folder package/out.
 set -eu
-top=$(cd "$(dirname "$0")/.." && pwd)
-program=${1:-$top/crates/fmrcd/out/fmrcd}
+. "$(dirname "$0")/../bench/common.sh"
+use_program "$@"
 folder=${2:-$top/package/out}
-[ -x "$program" ] || { echo "no program $program: 'make build' makes one" >&2; exit 2; }
 "$top/bench/packages.sh" dpkg-deb=dpkg objdump=binutils
 umask 022
 tree=$(mktemp -d)
@@ -42,6 +41,7 @@ put 644 "$top/package/copyright" usr/share/doc/fmrcd/copyright
 SOURCE_DATE_EPOCH=$(git -C "$top" log -1 --format=%ct 2> /dev/null || echo 0)
 export SOURCE_DATE_EPOCH
 version=$(sed -n 's/^## \([0-9][0-9.]*\).*/\1/p' "$top/CHANGELOG.md" | head -n 1)
+[ "$("$program" --version)" = "fmrcd $version" ] || { echo "the program says another version than $version" >&2; exit 1; }
 maintainer=$(sed -n 's/^Maintainer: //p' "$top/package/control")
 
 # The changes of this version in Debian's form.

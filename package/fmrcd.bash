@@ -2,10 +2,10 @@
 
 _fmrcd() {
     local word=${COMP_WORDS[COMP_CWORD]} before=${COMP_WORDS[COMP_CWORD - 1]}
-    local site="--name --proto --epoch --mark" serve="--listen --workers --connections --keep --ticks"
+    local site="--name --proto --epoch --mark" serve="--listen --workers --connections --keep --ticks" help=
     COMPREPLY=()
     if [ "$COMP_CWORD" = 1 ]; then
-        mapfile -t COMPREPLY < <(compgen -W "serve once check load" -- "$word")
+        mapfile -t COMPREPLY < <(compgen -W "serve once check load --help --version" -- "$word")
         return
     fi
     case $before in
@@ -17,9 +17,12 @@ _fmrcd() {
             ;;
         --name | --epoch | --mark | --listen | --workers | --connections | --keep | --ticks) return ;;
     esac
+    # Behind a command it stands alone.
+    [ "$COMP_CWORD" = 2 ] && help=--help
     case ${COMP_WORDS[1]}$word in
-        serve-*) mapfile -t COMPREPLY < <(compgen -W "$site $serve" -- "$word") ;;
-        once-*) mapfile -t COMPREPLY < <(compgen -W "$site" -- "$word") ;;
+        serve-*) mapfile -t COMPREPLY < <(compgen -W "$site $serve $help" -- "$word") ;;
+        once-*) mapfile -t COMPREPLY < <(compgen -W "$site $help" -- "$word") ;;
+        check-* | load-*) mapfile -t COMPREPLY < <(compgen -W "$help" -- "$word") ;;
         once:*)
             compopt -o filenames
             mapfile -t COMPREPLY < <(compgen -f -- "${word#:}")

@@ -4,39 +4,19 @@
 # Use: [WORKERS=1] tests/bring_back.sh [PROGRAM] [PORT]; by default the proved program, which 'make build' leaves, with
 # 4 workers.
 set -eu
-top=$(cd "$(dirname "$0")/.." && pwd)
-program=${1:-$top/crates/fmrcd/out/fmrcd}
-[ -x "$program" ] || { echo "no program $program: 'make build' makes one" >&2; exit 2; }
+. "$(dirname "$0")/../bench/common.sh"
+use_program "$@"
 port=${2:-18089}
-data=$top/crates/fmrcd/data
-folder=$(mktemp -d)
-process=
-trap '[ -z "$process" ] || kill "$process"; rm -r "$folder"' EXIT
-trap 'exit 1' HUP INT TERM
-inbox=$folder/inbox
-mkdir "$inbox"
-
-# Waits until a file is there.
-wait_for() {
-    tries=0
-    while [ ! -e "$1" ]; do
-        tries=$((tries + 1))
-        [ $tries -lt 200 ] || { echo "$1 didn't come"; exit 1; }
-        sleep 0.05
-    done
-}
+make_folder
 
 start() {
-    "$program" serve --name gfs --proto "$data/gfs_20240101_0000.nc" --listen "127.0.0.1:$port" \
-        --workers "${WORKERS:-4}" "$inbox" &
-    process=$!
+    start_server "$port" --workers "${WORKERS:-4}"
     wait_for "$inbox/done"
 }
 
 # Brings a file under a name, and waits for its verdict.
-bring() {
-    cp "$1" "$inbox/part"
-    mv "$inbox/part" "$inbox/$2"
+arrive() {
+    bring "$1" "$2"
     wait_for "$inbox/done/$2"
 }
 
@@ -55,17 +35,16 @@ compare() {
 }
 
 start
-bring "$data/gfs_20240101_0000.nc" gfs_20240101_0000_first.nc
-bring "$data/gfs_20240101_0600.nc" gfs_20240101_0600_second.nc
-bring "$data/gfs_20240101_0600.nc" gfs_20240101_0600_third.nc
-bring /dev/null gfs_20240101_0600_third.nc.retract
-bring "$data/gfs_20240101_0600.nc" gfs_20240101_0600_fourth.nc
-bring /dev/null gfs_20240101_0600_fourth.nc.retract
+arrive "$data/gfs_20240101_0000.nc" gfs_20240101_0000_first.nc
+arrive "$data/gfs_20240101_0600.nc" gfs_20240101_0600_second.nc
+arrive "$data/gfs_20240101_0600.nc" gfs_20240101_0600_third.nc
+arrive /dev/null gfs_20240101_0600_third.nc.retract
+arrive "$data/gfs_20240101_0600.nc" gfs_20240101_0600_fourth.nc
+arrive /dev/null gfs_20240101_0600_fourth.nc.retract
 rm "$inbox/done/gfs_20240101_0600_fourth.nc"
-bring "$data/gfs_20240101_0600.nc" gfs_20240101_0600_fourth.nc
+arrive "$data/gfs_20240101_0600.nc" gfs_20240101_0600_fourth.nc
 read_reply > "$folder/before"
-kill "$process"
-wait "$process" 2> /dev/null || true
+end_process
 touch "$inbox/STOP"
 compare "brought back 3, stay: older 0, taken back 1, without room 0" \
     "gfs_20240101_0000_first.nc gfs_20240101_0600_fourth.nc gfs_20240101_0600_second.nc " "$inbox"
@@ -73,9 +52,7 @@ start
 wait_for "$inbox/done/gfs_20240101_0600_second.nc"
 read_reply > "$folder/after"
 cmp "$folder/before" "$folder/after"
-kill "$process"
-wait "$process" 2> /dev/null || true
-process=
+end_process
 
 # Makes an empty folder of a server.
 afresh() {

@@ -2,16 +2,14 @@
 # Runs the built program as a person would, and compares its exit statuses and which stream each line goes to.
 # Use: tests/exits.sh [PROGRAM]; by default the proved program. Ends with status 0 where all runs are as they must be.
 set -u
-top=$(cd "$(dirname "$0")/.." && pwd)
-program=${1:-$top/crates/fmrcd/out/fmrcd}
-[ -x "$program" ] || { echo "no program $program: 'make build' makes one" >&2; exit 2; }
-folder=$(mktemp -d)
-trap 'rm -r "$folder"' EXIT
+. "$(dirname "$0")/../bench/common.sh"
+use_program "$@"
+make_folder
 failures=0
 runs=0
 
 sample=$folder/gfs_20240101_0000.nc
-cp "$top/crates/fmrcd/data/gfs_20240101_0000.nc" "$sample"
+cp "$data/gfs_20240101_0000.nc" "$sample"
 head -c 351 "$sample" > "$folder/cut.nc"
 : > "$folder/none"
 printf 'GET /thredds/dodsC/gfs/gfs_best.ncd.dds HTTP/1.1\r\n\r\n' > "$folder/request"
@@ -43,27 +41,50 @@ run() {
     compare "$name" $? "$wanted" "$out" "$err"
 }
 
-# Sees that a run on a terminal, with these words behind a name and a text, says the text after the line.
+# Sees that a run on a terminal, with these words behind a name and a line, says why they are bad in that line alone,
+# after its own.
 tells() {
-    name=$1 text=$2
+    name=$1 line=$2
     shift 2
     runs=$((runs + 1))
-    script -qec "'$program' $*" /dev/null < "$folder/none" > "$folder/screen" 2>&1
-    grep -qF "bad words" "$folder/screen" && grep -qF "$text" "$folder/screen" || {
-        echo "$name: a person isn't told '$text'"
+    script -qec "'$program' $*" /dev/null < "$folder/none" 2>&1 | tr -d '\r' > "$folder/screen"
+    [ "$(cat "$folder/screen")" = "bad words
+$line" ] || {
+        echo "$name: a person isn't told '$line', but '$(head -c 400 "$folder/screen")'"
+        failures=$((failures + 1))
+    }
+}
+
+# Sees that a run with these words behind a name and a text writes a text to standard output that has this one.
+shows() {
+    name=$1 text=$2
+    shift 2
+    run "$name" 0 "*" "" "$folder/none" "$@"
+    grep -qF -e "$text" "$folder/out" || {
+        echo "$name: no '$text'"
         failures=$((failures + 1))
     }
 }
 
 once="once --name gfs --proto $sample put:$sample ask:1"
 
-# `check` reports to standard output.
+# Texts that are asked for.
+shows "the help" "Usage: fmrcd <COMMAND>" --help
+for command in serve once check load; do
+    shows "the help of $command" "Usage: fmrcd $command" "$command" --help
+done
+version=$(sed -n 's/^## \([0-9][0-9.]*\).*/\1/p' "$top/CHANGELOG.md" | head -n 1)
+run "the version" 0 "fmrcd $version" "" "$folder/none" --version
+"$program" --help > /dev/full 2> "$folder/err"; status=$?; : > "$folder/out"
+compare "a full device for the help" $status 7 "" ""
+
+# `check` reports to standard output. Where words are bad, standard error says why.
+no_file="fmrcd: the following required arguments were not provided: <FILE>; see 'fmrcd check --help'"
 run "a sound file" 0 "ok CDF-1 dims 3 vars 4 records 3" "" "$folder/none" check "$sample"
 run "a file cut short" 3 "refused $folder/cut.nc code 14" "" "$folder/none" check "$folder/cut.nc"
-run "check without a file" 2 "bad words" "" "$folder/none" check
-tells "check without a file on a terminal" 'Usage: fmrcd check <FILE>' check
-run "no words" 2 "bad words" "" "$folder/none"
-tells "no words on a terminal" 'Usage: fmrcd <COMMAND>'
+run "check without a file" 2 "bad words" "$no_file" "$folder/none" check
+tells "check without a file on a terminal" "$no_file" check
+run "no words" 2 "bad words" "fmrcd: a command is missing: serve, once, check or load; see 'fmrcd --help'" "$folder/none"
 run "a file that isn't there" 10 "no file $folder/absent" "" "$folder/none" check "$folder/absent"
 run "a file of 512 MiB" 3 "refused $folder/most.nc code 1" "" "$folder/none" check "$folder/most.nc"
 run "a file over 512 MiB" 10 "too long $folder/long.nc 536870913" "" "$folder/none" check "$folder/long.nc"
@@ -75,8 +96,10 @@ run "one made file" 0 "files 1 rows 65 best 65 run 65 offset 1 forecast 1 sum 44
 run "40 made files" 0 "files 40 rows 2600 best 299 run 65 offset 40 forecast 11 sum 13936700" "" "$folder/none" load 1 40
 run "400 made files" 0 "files 400 rows 26000 best 2459 run 65 offset 400 forecast 11 sum 98319914" "" "$folder/none" \
     load 7 400
-run "no made file" 2 "bad words" "" "$folder/none" load 1 0
-tells "no made file on a terminal" 'Usage: fmrcd load <SEED> <FILES>' load 1 0
+no_made="fmrcd: invalid value '0' for '<FILES>': it must be a number from 1 to 400, without leading zeros; \
+see 'fmrcd load --help'"
+run "no made file" 2 "bad words" "$no_made" "$folder/none" load 1 0
+tells "no made file on a terminal" "$no_made" load 1 0
 
 # `once` replies to standard output and reports to standard error.
 # shellcheck disable=SC2086
@@ -84,7 +107,9 @@ tells "no made file on a terminal" 'Usage: fmrcd load <SEED> <FILES>' load 1 0
 run "a request" 0 "*" "" "$folder/request" $once
 [ "$(wc -c < "$folder/out")" -eq 540 ] || { echo "a request: the reply isn't 540 bytes"; failures=$((failures + 1)); }
 run "once without a step" 2 "" "bad words" "$folder/none" once --name gfs
-tells "once without a step on a terminal" 'Usage: fmrcd once' once --name gfs
+tells "once without a step on a terminal" \
+    "fmrcd: the following required arguments were not provided: --proto <PATH> <STEP>...; see 'fmrcd once --help'" \
+    once --name gfs
 run "input that ends" 11 "" "input ended" "$folder/begun" $once
 run "no input" 11 "" "input ended" "$folder/none" $once
 run "a head that is none" 0 "*" "" "$folder/other" $once
@@ -96,14 +121,17 @@ run "a prototype that isn't there" 10 "" "no file $folder/absent" "$folder/none"
     once --name gfs --proto "$folder/absent" "put:$sample" ask:1
 run "a folder as the file" 5 "" "file fault $folder" "$folder/none" once --name gfs --proto "$sample" "put:$folder" ask:1
 run "a word of once that isn't text" 2 "" "bad words" "$folder/none" once "$(printf '\377')"
-run "a word that isn't text" 2 "bad words" "" "$folder/none" check "$(printf '\377')"
-run "a first word that isn't text" 2 "bad words" "" "$folder/none" "$(printf 'once\377')"
-tells "a word that isn't text on a terminal" 'Usage: fmrcd <COMMAND>' check "$(printf '\377')"
-run "a word of 100,000 bytes" 2 "bad words" "" "$folder/none" "$(head -c 100000 /dev/zero | tr '\0' a)"
+no_text="fmrcd: word 2 isn't UTF-8 text; see 'fmrcd check --help'"
+run "a word that isn't text" 2 "bad words" "$no_text" "$folder/none" check "$(printf '\377')"
+run "a first word that isn't text" 2 "bad words" "fmrcd: word 1 isn't UTF-8 text; see 'fmrcd --help'" "$folder/none" \
+    "$(printf 'once\377')"
+tells "a word that isn't text on a terminal" "$no_text" check "$(printf '\377')"
+run "a word of 100,000 bytes" 2 "bad words" "*" "$folder/none" "$(head -c 100000 /dev/zero | tr '\0' a)"
+[ "$(wc -c < "$folder/err")" -lt 300 ] || { echo "a word of 100,000 bytes: a long line"; failures=$((failures + 1)); }
 
 # `serve` reports to standard output. Its inbox stops at once, and its one worker ends after one connection.
 serve="serve --name gfs --proto $sample --listen"
-port=$(python3 -c 'import socket; s = socket.socket(); s.bind(("127.0.0.1", 0)); print(s.getsockname()[1])')
+port=$(free_port)
 whole="$serve 127.0.0.1:$port --workers 1 --connections 1 $folder/inbox"
 mkdir "$folder/inbox"
 : > "$folder/inbox/STOP"
@@ -136,8 +164,9 @@ run "a server whose prototype is cut short" 3 "refused $folder/cut.nc code 14" "
     serve --name gfs --proto "$folder/cut.nc" --listen nowhere "$folder/inbox"
 run "a server whose prototype isn't there" 10 "no file $folder/absent" "" "$folder/none" \
     serve --name gfs --proto "$folder/absent" --listen nowhere "$folder/inbox"
-run "serve without a folder" 2 "bad words" "" "$folder/none" $serve nowhere
-tells "serve without a folder on a terminal" 'Usage: fmrcd serve' $serve nowhere
+no_folder="fmrcd: the following required arguments were not provided: <INBOX>...; see 'fmrcd serve --help'"
+run "serve without a folder" 2 "bad words" "$no_folder" "$folder/none" $serve nowhere
+tells "serve without a folder on a terminal" "$no_folder" $serve nowhere
 
 # A stream that is closed or full.
 "$program" check "$sample" > /dev/full 2> "$folder/err"; status=$?; : > "$folder/out"

@@ -7,14 +7,11 @@
 # cases in whose names one of them stands are run. It takes some four minutes, and ends with status 0 where all is as it
 # should be. It wants root, and runs servers as nobody. strace is installed where it is missing.
 set -eu
-top=$(cd "$(dirname "$0")/.." && pwd)
-program=${1:-$top/crates/fmrcd/out/fmrcd}
-[ -x "$program" ] || { echo "no program $program: 'make build' makes one" >&2; exit 2; }
+. "$(dirname "$0")/../bench/common.sh"
+use_program "$@"
 [ "$(id -u)" = 0 ] || { echo "only root may fail the calls of a server that runs as another user" >&2; exit 2; }
 [ $# = 0 ] || shift
 "$top/bench/packages.sh" strace=strace
-folder=$(mktemp -d)
+make_folder
 chmod 755 "$folder"
-trap 'rm -r "$folder"' EXIT
-trap 'exit 1' HUP INT TERM
 PYTHONPATH=$top/bench python3 -B "$top/tests/faults.py" "$program" "$folder" "$@"

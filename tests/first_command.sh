@@ -3,17 +3,14 @@
 # which a client can open, and to end with its server where it is told to.
 # Use: tests/first_command.sh [PROGRAM]; by default the clone proves its own, which takes as long as 'make build'.
 set -eu
-top=$(cd "$(dirname "$0")/.." && pwd)
-folder=$(mktemp -d)
-process=
-trap '[ -z "$process" ] || kill "$process"; rm -rf "$folder"' EXIT
-trap 'exit 1' HUP INT TERM
+. "$(dirname "$0")/../bench/common.sh"
+make_folder
 git clone -q "$top" "$folder/clone"
 if [ $# -gt 0 ]; then
     mkdir "$folder/clone/crates/fmrcd/out"
     cp "$1" "$folder/clone/crates/fmrcd/out/fmrcd"
 fi
-port=$(python3 -c 'import socket; s = socket.socket(); s.bind(("127.0.0.1", 0)); print(s.getsockname()[1])')
+port=$(free_port)
 make -s -C "$folder/clone" serve "PORT=$port" > "$folder/said" 2>&1 &
 process=$!
 while ! grep -q "Ctrl-C" "$folder/said"; do
@@ -30,9 +27,7 @@ done
 # The lines to type, but for those that need more than this machine may have.
 eval "$(grep "^  curl " "$folder/said")" > "$folder/typed" 2> "$folder/none"
 grep -q "gfs_best.ncd" "$folder/typed"
-kill "$process"
-wait "$process" 2> /dev/null || true
-process=
+end_process
 for _ in 1 2 3 4 5 6 7 8 9 10; do
     curl -s "http://127.0.0.1:$port/" > "$folder/none" || { echo "5 datasets opened, and the server ended"; exit 0; }
     sleep 0.2

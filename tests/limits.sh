@@ -7,13 +7,10 @@
 # cases in whose names one of them stands are run. All take about two minutes and 2.5 GB of memory. The word `sum`
 # alone runs the one case that else is left out: 3 GiB of held files, which take 5 GB of memory.
 set -eu
-top=$(cd "$(dirname "$0")/.." && pwd)
-program=${1:-$top/crates/fmrcd/out/fmrcd}
-[ -x "$program" ] || { echo "no program $program: 'make build' makes one" >&2; exit 2; }
+. "$(dirname "$0")/../bench/common.sh"
+use_program "$@"
 [ $# = 0 ] || shift
-folder=$(mktemp -d)
-trap 'rm -r "$folder"' EXIT
-trap 'exit 1' HUP INT TERM
+make_folder
 export PYTHONPATH="$top/bench:$top/tests"
 status=0
 python3 -B "$top/tests/limits_once.py" "$program" "$folder" "$@" || status=1

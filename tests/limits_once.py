@@ -1,5 +1,4 @@
 """Limits of files, collections and requests, by `once`; tests/limits.sh says how."""
-import os
 import subprocess
 import sys
 

@@ -5,12 +5,11 @@
 # Use: tests/package.sh [PROGRAM]; by default the proved program, which 'make build' leaves. It wants root and Debian's
 # registry, and takes two minutes. debootstrap is installed where it is missing.
 set -eu
-top=$(cd "$(dirname "$0")/.." && pwd)
-program=${1:-$top/crates/fmrcd/out/fmrcd}
+. "$(dirname "$0")/../bench/common.sh"
+use_program "$@"
 "$top/bench/packages.sh" debootstrap=debootstrap
-folder=$(mktemp -d)
+make_folder
 root=$folder/root
-process=
 end() {
     [ -z "$process" ] || kill "$process"
     # Whatever debootstrap mounted goes before the files do.
@@ -18,7 +17,6 @@ end() {
     rm -r --one-file-system "$folder"
 }
 trap end EXIT
-trap 'exit 1' HUP INT TERM
 fail() {
     echo "$1" >&2
     exit 1
@@ -48,7 +46,6 @@ bash -n "$root/usr/share/bash-completion/completions/fmrcd"
 echo "$package is installed: $(wc -l < "$folder/files") files and folders"
 
 # As docs/OPERATING.md says it, with the sample files.
-data=$top/crates/fmrcd/data
 home=/var/lib/fmrcd/gfs
 inside install -d -o fmrcd -g fmrcd -m 755 "$home"
 inside install -d -o fmrcd -g fmrcd -m 2775 "$home/inbox"
@@ -64,7 +61,7 @@ inside fmrcd once --name gfs --proto "$home/proto.nc" put:/tmp/gfs_20240101_0000
 head -n 1 "$folder/reply" | grep -q '^HTTP/1.1 200 OK' || fail "once replies $(head -n 1 "$folder/reply")"
 echo "check and once run"
 
-port=$(python3 -c 'import socket; s = socket.socket(); s.bind(("127.0.0.1", 0)); print(s.getsockname()[1])')
+port=$(free_port)
 view="http://127.0.0.1:$port/thredds/dodsC/gfs/gfs_best.ncd.dods?time,time_run"
 
 # Serves as the unit's user, in its folder.
@@ -74,33 +71,21 @@ serve() {
     process=$!
 }
 
-# Waits until a file has its verdict.
-wait_for() {
-    for _ in $(seq 200); do
-        [ ! -e "$root$home/inbox/done/$1" ] || return 0
-        sleep 0.05
-    done
-    fail "$1 has no verdict"
-}
-
 serve
 for name in gfs_20240101_0000.nc gfs_20240101_0600.nc; do
     install -m 644 "$data/$name" "$root$home/inbox/part"
     mv "$root$home/inbox/part" "$root$home/inbox/$name"
-    wait_for "$name"
+    wait_for "$root$home/inbox/done/$name"
 done
 curl -sSgf "$view" > "$folder/first"
 grep -aq "Int32 time_run\[time = 4\];" "$folder/first" || fail "the best time series is $(cat "$folder/first")"
-kill "$process"
-wait "$process" 2> /dev/null || true
+end_process
 chroot --userspec=fmrcd:fmrcd "$root" fmrcd-bring-back "$home/inbox" | grep "^brought back 2," ||
     fail "not all was brought back"
 serve
-wait_for gfs_20240101_0600.nc
+wait_for "$root$home/inbox/done/gfs_20240101_0600.nc"
 curl -sSgf "$view" | cmp - "$folder/first"
-kill "$process"
-wait "$process" 2> /dev/null || true
-process=
+end_process
 echo "it serves, and what it held comes back"
 
 inside apt-get -qq purge -y fmrcd > "$folder/log" 2>&1 || { tail "$folder/log" >&2; exit 1; }

@@ -6,11 +6,8 @@
 # page is written to PICTURE, where that is given. It ends within a minute, with status 0 where all is as it must be.
 # Chromium and nginx are installed where they are missing.
 set -eu
-top=$(cd "$(dirname "$0")/.." && pwd)
-program=${1:-$top/crates/fmrcd/out/fmrcd}
-[ -x "$program" ] || { echo "no program $program: 'make build' makes one" >&2; exit 2; }
+. "$(dirname "$0")/../bench/common.sh"
+use_program "$@"
 "$top/bench/packages.sh" nginx=nginx openssl=openssl chromium=chromium
-folder=$(mktemp -d)
-trap 'rm -r "$folder"' EXIT
-trap 'exit 1' HUP INT TERM
+make_folder
 PYTHONPATH=$top/bench python3 -B "$top/tests/page.py" "$program" "$folder" "${2-}"

@@ -2,24 +2,15 @@
 # Serves the two sample runs as the collection `gfs`, says what can be opened and how, and waits until it is ended.
 # Use: tests/serve.sh [PROGRAM] [PORT]; by default the proved program, which 'make build' leaves, and port 8080.
 set -eu
-top=$(cd "$(dirname "$0")/.." && pwd)
-program=${1:-$top/crates/fmrcd/out/fmrcd}
+. "$(dirname "$0")/../bench/common.sh"
+use_program "$@"
 port=${2:-8080}
-[ -x "$program" ] || { echo "no program $program: 'make build' makes one" >&2; exit 2; }
-data=$top/crates/fmrcd/data
-folder=$(mktemp -d)
-process=
-trap '[ -z "$process" ] || kill "$process" 2> /dev/null; rm -r "$folder"' EXIT
-trap 'exit 1' HUP INT TERM
-inbox=$folder/inbox
-mkdir "$inbox"
-"$program" serve --name gfs --proto "$data/gfs_20240101_0000.nc" --listen "127.0.0.1:$port" "$inbox" > "$folder/end" &
-process=$!
+make_folder
+start_server "$port" > "$folder/end"
 
-# Brings a file by a rename, and waits for its verdict.
-bring() {
-    cp "$data/$1" "$inbox/part"
-    mv "$inbox/part" "$inbox/$1"
+# Brings a sample file, and waits for its verdict.
+arrive() {
+    bring "$data/$1" "$1"
     while [ ! -e "$inbox/done/$1" ]; do
         kill -0 "$process" 2> /dev/null || {
             process=
@@ -30,8 +21,8 @@ bring() {
     done
 }
 
-bring gfs_20240101_0000.nc
-bring gfs_20240101_0600.nc
+arrive gfs_20240101_0000.nc
+arrive gfs_20240101_0600.nc
 base=http://127.0.0.1:$port/thredds/dodsC/gfs
 cat << END
 

@@ -4,7 +4,7 @@ use fm_base::{Bytes, List};
 use nc_model::Dim;
 
 /// What a value of a DAP array is. `Text` is DAP's `String`.
-#[derive(Clone, Copy, Debug, PartialEq, Eq)]
+#[derive(Clone, Copy)]
 pub enum DapKind {
     Byte,
     Int16,
@@ -15,7 +15,7 @@ pub enum DapKind {
 }
 
 /// An array, or a single value where it has no dimension.
-#[derive(Debug, Drop)]
+#[derive(Drop)]
 pub struct Array {
     pub name: Bytes,
     pub kind: DapKind,
@@ -23,7 +23,7 @@ pub struct Array {
 }
 
 /// A declaration: an array, a Grid of an array and one map for each of its dimensions, or a Structure of arrays.
-#[derive(Debug, Drop)]
+#[derive(Drop)]
 pub enum Decl {
     Plain(Array),
     Grid {

@@ -5,7 +5,7 @@ ghost use Rattle.dap_model.specs.Code.{ce_code, project_code};
 use fm_base::Bytes;
 
 /// What is wrong with the text of a constraint, with a place in it counted from 0.
-#[derive(Clone, Copy, Debug, PartialEq, Eq)]
+#[derive(Clone, Copy)]
 pub enum CeFault {
     /// Up to this place some constraint begins so, and not up to any later place.
     BadConstraint(u64),
@@ -26,7 +26,7 @@ impl CeFault {
 }
 
 /// What is wrong with a constraint for the dataset that it is asked of.
-#[derive(Debug, Drop)]
+#[derive(Drop)]
 pub enum ProjectFault {
     /// The path, its names joined by dots, names nothing in the dataset.
     NoSuchVariable(Bytes),

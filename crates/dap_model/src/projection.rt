@@ -4,7 +4,7 @@ use crate::declaration::Decl;
 use fm_base::{Bytes, List};
 
 /// Some of the places along one dimension: `start`, `start + stride` and so on, up to `stop`.
-#[derive(Clone, Copy, Debug, PartialEq, Eq)]
+#[derive(Clone, Copy, PartialEq, Eq)]
 pub struct Slab {
     pub start: u64,
     pub stride: u64,
@@ -12,21 +12,21 @@ pub struct Slab {
 }
 
 /// One item of a projection: the names of a path, and a slab for each dimension, or none for the whole.
-#[derive(Debug, Drop)]
+#[derive(Drop)]
 pub struct Clause {
     pub path: List<Bytes>,
     pub slabs: List<Slab>,
 }
 
 /// What a constraint asks for, in the order in which it is written. No clause asks for everything.
-#[derive(Debug, Drop)]
+#[derive(Drop)]
 pub struct Projection {
     pub clauses: List<Clause>,
 }
 
 /// A part of a declaration that is sent, with a slab for each of its dimensions. The declaration is named by its place
 /// in the dataset; part 0 is its array, and part `i` the `i`-th map from 1.
-#[derive(Debug, Drop)]
+#[derive(Drop)]
 pub struct Sent {
     pub decl: u32,
     pub part: u32,
@@ -35,7 +35,7 @@ pub struct Sent {
 
 /// What is sent for a projection: the declarations with the lengths that their slabs leave, and the parts whose values
 /// follow, in the dataset's order.
-#[derive(Debug, Drop)]
+#[derive(Drop)]
 pub struct Projected {
     pub decls: List<Decl>,
     pub sent: List<Sent>,

@@ -69,12 +69,6 @@ part-past bytes old from past =
       new_is = ap (λ (l : List ℕ). l ++ old) (sym (take_all (length old) [] (omega arith)));
     })
 
--- before the first part nothing is written
-pub data-first : (content : Content) (sent : List Sent) (from : ℕ) (old : List ℕ)
-    → DataSoFar content sent from 0 0 from old old
-unfolding data_of
-data-first content sent from old = record { put_is = part-past [] old from (omega arith); left_is = omega arith }
-
 -- the next part
 pub data-next : (content : Content) (sent : List Sent) (from filled place left count len next_left : ℕ) (part : Sent)
     (old now front back rest : List ℕ)

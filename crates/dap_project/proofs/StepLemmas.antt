@@ -1,6 +1,6 @@
 -- One item further in a list of slots, notes or parts.
 use Rattle.std.proofs.Common.{◌||◌, ◌≡◌, ℕ, zero, suc, ◌+◌, ◌<◌, ◌≤◌, Bool, true, false, List, [], ◌∷◌, ◌++◌, length, map, take, drop, get_or, set, slice_get, Option, Some, None, refl, sym, ap, ap₂, ◌∙◌, append_assoc, append-nil, arith}
-use Rattle.std.proofs.lemmas.List.{drop_all, drop_more, drop-set-lt, take_all, take_more_set, take-append-drop}
+use Rattle.std.proofs.lemmas.List.{drop_all, drop_more, drop-set-lt, take_all, take_more_set}
 use Rattle.std.specs.List.{zip}
 use Rattle.nc_model.specs.declared.header.Dim.{Dim}
 use Rattle.dap_model.specs.Projection.{cut_dim}
@@ -200,11 +200,3 @@ unfolding slots_after
 slots_end given slots whole at past is =
     sym (take_all at slots past)
     ∙ all_of (take at slots) _ whole is (ap (slots_after given at) (drop_all at slots past))
-
-pub notes_end : (clause : Clause) (decls : List Decl) (notes whole : List Note) (at : ℕ) → length decls ≤ at
-    → take at notes ++ notes_after clause (drop at decls) (drop at notes) ≡ whole → notes ≡ whole
-unfolding notes_after
-notes_end clause decls notes whole at past is =
-    sym (take-append-drop at notes)
-    ∙ ap (λ (l : List Decl). take at notes ++ notes_after clause l (drop at notes)) (sym (drop_all at decls past))
-    ∙ is

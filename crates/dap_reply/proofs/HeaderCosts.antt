@@ -11,7 +11,6 @@ use Rattle.nc_model.specs.declared.header.Attr.{Attr}
 use Rattle.nc_model.specs.declared.header.Dim.{Dim}
 use Rattle.nc_model.specs.declared.header.Header.{Header}
 use Rattle.nc_model.specs.declared.header.NcVar.{NcVar}
-use Rattle.nc_model.specs.declared.kind.Kind.{Kind}
 use Rattle.nc_model.specs.Format.{ATTRIBUTE_TAG, DIMENSION_TAG, VARIABLE_TAG, has_record_dim}
 use Rattle.nc_model.specs.Kind.{size_of}
 use Rattle.nc_model.specs.Reading.{HeaderParser, attr_at, begin_at, count, dim_at, dim_id_at, dim_size, field, header_at, header_or_fault, items_from, kind_at, list_at, list_count, name_at, numrecs_at, padded, rank_at, tag_at, var_at, version_at, word}
@@ -103,93 +102,91 @@ dim-takes found i x e =
     (λ name. then-takes (dim_size found) _ 0 0 (dim_size-takes found) (λ size. pure-takes _)) i x e in
     omega (arith, all)
 
--- what a variable costs
+-- ---- a variable and the header
+
+-- reading gives what costs no more than the bytes that it takes and a credit
+abbrev pub Costs : {A : Type 0} → ℕ → (A → ℕ) → HeaderParser A → Type 0
+Costs {A} credit cost p =
+    (i : Input) (x : A × Input) → p i ≡ Ok x → length x.1.rest + cost x.0 ≤ length i.rest + credit
+
+pure-costs : {A : Type 0} (cost : A → ℕ) (value : A) → Costs (cost value) cost (pure value)
+pure-costs cost value i x e = omega (arith, pure_rest value i x e, ap cost (pure_ok value i x e))
+
+-- what was read first is credit for what follows
+then-costs : {A B : Type 0} (p : HeaderParser A) (q : A → HeaderParser B) (credit : ℕ) (first : A → ℕ) (cost : B → ℕ)
+    → Costs credit first p → ((a : A) → Costs (first a) cost (q a)) → Costs credit cost (p >>= q)
+then-costs p q credit first cost one more i y e =
+    let x = then_ok (p i) q y e in
+    omega (arith, one i x.0 x.1, more x.0.0 x.0.1 y x.2)
+
+-- what was read first counts for nothing
+skip-costs : {A B : Type 0} (p : HeaderParser A) (q : A → HeaderParser B) (takes credit : ℕ) (cost : B → ℕ)
+    → Takes takes p → ((a : A) → Costs credit cost (q a)) → Costs credit cost (p >>= q)
+skip-costs p q takes credit cost first more i y e =
+    let x = then_ok (p i) q y e in
+    omega (arith, first i x.0 x.1, more x.0.0 x.0.1 y x.2)
+
+-- what a variable costs, and a header
 abbrev pub var_cost : NcVar → ℕ
 var_cost var = 4 * (1 + length var.dims)
 
-var-cost : (version : ℕ) (dims : List Dim) (found : List NcVar) (i : Input) (x : NcVar × Input)
-    → var_at version dims found i ≡ Ok x → length x.1.rest + var_cost x.0 ≤ length i.rest
-unfolding var_at
-var-cost version dims found i x e =
-    let made : List ℕ → List ℕ → List Attr → Kind → ℕ → HeaderParser NcVar =
-    λ name ids attrs kind begin. pure
-    (record { name = name; dims = ids; attrs = attrs; kind = kind; begin = begin }) in
-    let from_kind : List ℕ → List ℕ → List Attr → Kind → HeaderParser NcVar =
-    λ name ids attrs kind. field 4 >>= λ size. begin_at version >>= made name ids attrs kind in
-    let from_ids : List ℕ → List ℕ → HeaderParser NcVar =
-    λ name ids. list_at ATTRIBUTE_TAG attr_at >>= λ attrs. kind_at >>= from_kind name ids attrs in
-    let name = then_ok (name_at (map (λ (v : NcVar). v.name) found) i)
-    (λ n. rank_at >>= λ rank. items_from (dim_id_at dims) rank [] >>= from_ids n) x e in
-    let rank = then_ok (rank_at name.0.1) (λ r. items_from (dim_id_at dims) r [] >>= from_ids name.0.0) x name.2 in
-    let ids = then_ok (items_from (dim_id_at dims) rank.0.0 [] rank.0.1) (from_ids name.0.0) x rank.2 in
-    let attrs = then_ok (list_at ATTRIBUTE_TAG attr_at ids.0.1)
-    (λ a. kind_at >>= from_kind name.0.0 ids.0.0 a) x ids.2 in
-    let kind = then_ok (kind_at attrs.0.1) (from_kind name.0.0 ids.0.0 attrs.0.0) x attrs.2 in
-    let size = then_ok (field 4 kind.0.1)
-    (λ s. begin_at version >>= made name.0.0 ids.0.0 attrs.0.0 kind.0.0) x kind.2 in
-    let begin = then_ok (begin_at version size.0.1) (made name.0.0 ids.0.0 attrs.0.0 kind.0.0) x size.2 in
-    let one : NcVar = record {
-      name = name.0.0;
-      dims = ids.0.0;
-      attrs = attrs.0.0;
-      kind = kind.0.0;
-      begin = begin.0.0;
-    } in
-    let is = pure_ok one begin.0.1 x begin.2 in
-    let before : length ids.0.1.rest + (4 + 4 * length ids.0.0) ≤ length i.rest = omega (
-      arith,
-      name-takes (map (λ (v : NcVar). v.name) found) i name.0 name.1,
-      rank-takes name.0.1 rank.0 rank.1,
-      items-cost (λ (id : ℕ). 4) (dim_id_at dims) (dim_id-takes dims) rank.0.0 [] rank.0.1 ids.0 ids.1,
-      all-four ids.0.0,
-    ) in
+abbrev header_cost : Header → ℕ
+header_cost header = sum_by var_cost header.vars
+
+name-costs : (found : List (List ℕ)) → Costs 0 (λ name. 4) (name_at found)
+name-costs found i x e = omega (arith, name-takes found i x e)
+
+ids-costs : (dims : List Dim) (rank : ℕ) → Costs 4 (λ ids. 4 * (1 + length ids)) (items_from (dim_id_at dims) rank [])
+ids-costs dims rank i x e =
     omega (
       arith,
-      before,
-      list-takes ATTRIBUTE_TAG attr_at attr-takes ids.0.1 attrs.0 attrs.1,
-      kind-takes attrs.0.1 kind.0 kind.1,
-      field-takes 4 kind.0.1 size.0 size.1,
-      begin-takes version size.0.1 begin.0 begin.1,
-      pure_rest one begin.0.1 x begin.2,
-      ap (λ (v : NcVar). length v.dims) is,
+      items-cost (λ (id : ℕ). 4) (dim_id_at dims) (dim_id-takes dims) rank [] i x e,
+      all-four x.0,
     )
 
-header-cost : (i : Input) (h : Header × Input) → header_at i ≡ Ok h → sum_by var_cost h.0.vars ≤ length i.rest
-unfolding header_at
-header-cost i h e =
-    let made : ℕ → ℕ → List Dim → List Attr → List NcVar → HeaderParser Header =
-    λ version numrecs dims attrs vars. pure
-    (record { version = version; numrecs = numrecs; dims = dims; attrs = attrs; vars = vars }) in
-    let from_dims : ℕ → ℕ → List Dim → HeaderParser Header =
-    λ version numrecs dims. list_at ATTRIBUTE_TAG attr_at >>= λ attrs. list_at VARIABLE_TAG
-    (var_at version dims) >>= made version numrecs dims attrs in
-    let version = then_ok (version_at i)
-    (λ v. numrecs_at >>= λ n. list_at DIMENSION_TAG dim_at >>= from_dims v n) h e in
-    let numrecs = then_ok (numrecs_at version.0.1)
-    (λ n. list_at DIMENSION_TAG dim_at >>= from_dims version.0.0 n) h version.2 in
-    let dims = then_ok (list_at DIMENSION_TAG dim_at numrecs.0.1) (from_dims version.0.0 numrecs.0.0) h numrecs.2 in
-    let attrs = then_ok (list_at ATTRIBUTE_TAG attr_at dims.0.1)
-    (λ a. list_at VARIABLE_TAG (var_at version.0.0 dims.0.0) >>= made version.0.0 numrecs.0.0 dims.0.0 a) h dims.2 in
-    let vars = then_ok (list_at VARIABLE_TAG (var_at version.0.0 dims.0.0) attrs.0.1)
-    (made version.0.0 numrecs.0.0 dims.0.0 attrs.0.0) h attrs.2 in
-    let is = pure_ok
-    (record {
-      version = version.0.0;
-      numrecs = numrecs.0.0;
-      dims = dims.0.0;
-      attrs = attrs.0.0;
-      vars = vars.0.0;
-    }) vars.0.1 h vars.2 in
+var-costs : (version : ℕ) (dims : List Dim) (found : List NcVar) → Costs 0 var_cost (var_at version dims found)
+unfolding var_at
+var-costs version dims found =
+    then-costs (name_at (map (λ (v : NcVar). v.name) found)) _ 0 (λ name. 4) var_cost (name-costs _)
+    (λ name. skip-costs rank_at _ 4 4 var_cost rank-takes
+    (λ rank. then-costs (items_from (dim_id_at dims) rank []) _ 4 (λ ids. 4 * (1 + length ids)) var_cost
+    (ids-costs dims rank)
+    (λ ids. skip-costs (list_at ATTRIBUTE_TAG attr_at) _ 0 (4 * (1 + length ids)) var_cost
+    (list-takes ATTRIBUTE_TAG attr_at attr-takes)
+    (λ attrs. skip-costs kind_at _ 4 (4 * (1 + length ids)) var_cost kind-takes
+    (λ kind. skip-costs (field 4) _ 4 (4 * (1 + length ids)) var_cost (field-takes 4)
+    (λ size. skip-costs (begin_at version) _ 0 (4 * (1 + length ids)) var_cost (begin-takes version)
+    (λ begin. pure-costs var_cost
+    (record { name = name; dims = ids; attrs = attrs; kind = kind; begin = begin }))))))))
+
+var-cost : (version : ℕ) (dims : List Dim) (found : List NcVar) (i : Input) (x : NcVar × Input)
+    → var_at version dims found i ≡ Ok x → length x.1.rest + var_cost x.0 ≤ length i.rest
+var-cost version dims found i x e = omega (arith, var-costs version dims found i x e)
+
+all_vars-costs : (version : ℕ) (dims : List Dim)
+    → Costs 0 (sum_by var_cost) (list_at VARIABLE_TAG (var_at version dims))
+all_vars-costs version dims i x e =
     omega (
       arith,
-      version-takes i version.0 version.1,
-      numrecs-takes version.0.1 numrecs.0 numrecs.1,
-      list-takes DIMENSION_TAG dim_at dim-takes numrecs.0.1 dims.0 dims.1,
-      list-takes ATTRIBUTE_TAG attr_at attr-takes dims.0.1 attrs.0 attrs.1,
-      list-cost var_cost VARIABLE_TAG (var_at version.0.0 dims.0.0) (var-cost version.0.0 dims.0.0) attrs.0.1 vars.0
-          vars.1,
-      ap (λ (x : Header). sum_by var_cost x.vars) is,
+      list-cost var_cost VARIABLE_TAG (var_at version dims) (var-cost version dims) i x e,
     )
+
+header-costs : Costs 0 header_cost header_at
+unfolding header_at
+header-costs =
+    skip-costs version_at _ 0 0 header_cost version-takes
+    (λ version. skip-costs numrecs_at _ 4 0 header_cost numrecs-takes
+    (λ numrecs. skip-costs (list_at DIMENSION_TAG dim_at) _ 0 0 header_cost
+    (list-takes DIMENSION_TAG dim_at dim-takes)
+    (λ dims. skip-costs (list_at ATTRIBUTE_TAG attr_at) _ 0 0 header_cost
+    (list-takes ATTRIBUTE_TAG attr_at attr-takes)
+    (λ attrs. then-costs (list_at VARIABLE_TAG (var_at version dims)) _ 0 (sum_by var_cost) header_cost
+    (all_vars-costs version dims)
+    (λ vars. pure-costs header_cost
+    (record { version = version; numrecs = numrecs; dims = dims; attrs = attrs; vars = vars }))))))
+
+header-cost : (i : Input) (h : Header × Input) → header_at i ≡ Ok h → sum_by var_cost h.0.vars ≤ length i.rest
+header-cost i h e = omega (arith, header-costs i h e)
 
 -- the variables of a header cost no more than the bytes that it was read from
 pub vars-cost : (bytes : List ℕ) (header : Header) → header_or_fault bytes ≡ Ok header

@@ -10,11 +10,11 @@ use Rattle.web_frame.specs.Items.{request, Item}
 use Rattle.dap_reply.specs.declared.body.Answer.{Answer}
 use Rattle.dap_reply.specs.Head.{head_text}
 use Rattle.dap_plan.specs.Parts.{bytes_of, data_behind}
-use Rattle.dap_reply.specs.Reply.{answer_to, has_head_alone, answer_head, is_last, reply_of, reply_parts, reply_text}
+use Rattle.dap_reply.specs.Reply.{answer_to, has_head_alone, answer_head, headed, is_last, reply_of, reply_parts, reply_text}
 
 pub parts-bytes : (answer : Answer) (revision : ℕ) (head_alone last : Bool)
     → bytes_of (reply_parts answer revision head_alone last) ≡ reply_text answer revision head_alone last
-unfolding reply_parts reply_text bytes_of data_behind
+unfolding reply_parts headed reply_text bytes_of data_behind
 parts-bytes answer revision true last = refl
 parts-bytes answer revision false last =
     append_assoc (head_text (answer_head answer revision last)) answer.body.bytes.front

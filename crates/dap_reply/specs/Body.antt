@@ -8,6 +8,7 @@ use Rattle.fm_views.specs.declared.view.NoRows.{NoRows as HasNoRows}
 use Rattle.dap_ce.specs.Asked.{asked_by}
 use Rattle.dap_model.specs.declared.declaration.Decl.{Decl}
 use Rattle.dap_model.specs.declared.projection.Projected.{Projected}
+use Rattle.dap_model.specs.declared.projection.Sent.{Sent}
 use Rattle.dap_model.specs.Projection.{projection_of}
 use Rattle.dap_model.specs.StructureText.{dds_of}
 use Rattle.dap_das.specs.AttributeText.{das_of}
@@ -59,12 +60,15 @@ structure_of target projected = dds_of target.label projected.decls
 abbrev pub before_data : Target → Projected → List ℕ
 before_data target projected = structure_of target projected ++ codes "Data:\n"
 
--- a body that is data
-abbrev pub data_body : Shown → Target → Projected → Body
-data_body shown target projected = record {
+-- a body that is data: a text, and behind it what is sent of a dataset
+abbrev pub data_behind_text : List ℕ → Shown → List Sent → Body
+data_behind_text front shown sent = record {
   kind = Data;
-  bytes = record { front = before_data target projected; source = Some shown; sent = projected.sent };
+  bytes = record { front = front; source = Some shown; sent = sent };
 }
+
+abbrev pub data_body : Shown → Target → Projected → Body
+data_body shown target projected = data_behind_text (before_data target projected) shown projected.sent
 
 -- a body within the limit
 unfoldable pub within_limit : Body → Result Body DapFault
@@ -85,11 +89,16 @@ attributes_asked proto files target = do
   count ← some_rows (length (rows files target.view))
   within_limit (text_body Attributes (das_of proto target.view))
 
+-- the data that a target asks for of a dataset
+abbrev pub dataset_sent : Shown → Target → Result Body DapFault
+dataset_sent shown target = do
+  projected ← projected_of (decls_of shown.proto (length shown.rows)) target.constraint
+  within_limit (data_body shown target projected)
+
 unfoldable pub data_asked : Proto → List Loaded → Target → Result Body DapFault
 data_asked proto files target = do
   shown ← some_shown proto files target
-  projected ← projected_of (decls_of shown.proto (length shown.rows)) target.constraint
-  within_limit (data_body shown target projected)
+  dataset_sent shown target
 
 -- the body that a target asks for over a collection, or the first fault
 unfoldable pub body_of : Proto → List Loaded → Target → Result Body DapFault

@@ -94,14 +94,15 @@ unfoldable pub reply_text : Answer → ℕ → Bool → Bool → List ℕ
 reply_text answer revision head_alone last =
     head_text (answer_head answer revision last) ++ (if head_alone then [] else bytes_of answer.body.bytes)
 
--- the same with the data left in its dataset
+-- a head, and a body in parts behind it but to HEAD
+unfoldable pub headed : List ℕ → Parts → Bool → Parts
+headed text body true = ready text
+headed text body false = record { front = text ++ body.front; source = body.source; sent = body.sent }
+
+-- a reply with the data left in its dataset
 unfoldable pub reply_parts : Answer → ℕ → Bool → Bool → Parts
-reply_parts answer revision true last = ready (head_text (answer_head answer revision last))
-reply_parts answer revision false last = record {
-  front = head_text (answer_head answer revision last) ++ answer.body.bytes.front;
-  source = answer.body.bytes.source;
-  sent = answer.body.bytes.sent;
-}
+reply_parts answer revision head_alone last =
+    headed (head_text (answer_head answer revision last)) answer.body.bytes head_alone
 
 -- the reply to an item, by its number in its connection from 1, over the collection that `revision` operations left
 unfoldable pub reply_of : Proto → List Loaded → ℕ → Item → ℕ → List ℕ

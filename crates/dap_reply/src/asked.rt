@@ -1,12 +1,12 @@
 //! The body that a target asks for.
-ghost use Rattle.std.specs.Prelude.{◌≡◌, ◌<◌, ◌^◌, ◌++◌, All, IfOk, Some, codes, length};
-ghost use Rattle.fm_base.specs.Answer.{Answers};
+ghost use Rattle.std.specs.Prelude.{◌≡◌, ◌<◌, ◌^◌, ◌++◌, All, IfOk, codes, length};
+ghost use Rattle.fm_base.specs.Answer.{Answers, AnswersAs};
 ghost use Rattle.fm_model.specs.Rows as views;
 ghost use Rattle.fm_dataset.specs.Declarations.{decls_of};
-ghost use Rattle.dap_reply.specs.declared.body.BodyKind.{BodyKind as Kind};
-ghost use Rattle.dap_reply.specs.Body.{attributes_asked, body_of, data_asked, projected_of, some_rows, some_shown, structure_asked};
-ghost use Rattle.dap_reply.specs.Body.{structure_of, text_body, within_limit};
-ghost use Rattle.dap_plan.specs.Parts.{IsSentOf};
+ghost use Rattle.dap_reply.specs.Body.{attributes_asked, body_of, data_asked, data_behind_text, data_body, dataset_sent};
+ghost use Rattle.dap_reply.specs.Body.{projected_of, some_rows, some_shown, structure_asked, structure_of, text_body, within_limit};
+ghost use Rattle.dap_plan.specs.Laid.{AreLaid};
+ghost use Rattle.dap_plan.specs.Parts.{bytes_of, IsSentOf};
 
 use crate::body::{Body, BodyKind};
 use crate::fault::DapFault;
@@ -14,7 +14,7 @@ use dap_ce::read_constraint;
 use dap_das::das_text_of;
 use dap_dds::dds_text;
 use dap_model::{Decl, Projected, Sent};
-use dap_plan::{Plan, lay_out};
+use dap_plan::{Laid, Plan, lay_out};
 use dap_project::project;
 use fm_base::{Bytes, Fail, List, NoMemory, fault_as};
 use fm_dataset::{Dataset, decls};
@@ -124,6 +124,34 @@ fn attributes_asked(
     text_body(alloc, BodyKind::Attributes, text)
 }
 
+// Where the data of a body lies behind its text, and how long the body is, within the limit.
+fn laid_within(
+    alloc: Global,
+    front: &Bytes,
+    source: &Dataset,
+    sent: &List<Sent>,
+) -> Result<(List<Laid>, u64), Fail<DapFault>>
+    requires sent { All (IsSentOf source.now) sent.now }
+    requires few { length sent.now < 2 ^ 28 }
+    ensures within { AnswersAs (λ _. data_behind_text front.now source.now sent.now)
+        (within_limit (data_behind_text front.now source.now sent.now)) result }
+    ensures laid { IfOk result (λ made. AreLaid source.now sent.now made.0) }
+    ensures len { IfOk result (λ made. made.1
+        ≡ length (bytes_of (data_behind_text front.now source.now sent.now).bytes)) }
+    ensures few { IfOk result (λ made. made.1 < 2 ^ 63) }
+{
+    let layout = lay_out(alloc, source, sent.as_slice())?;
+    let begin = front.len() as u128;
+    let len = layout.len + begin;
+    if len > MAX_BODY as u128 {
+        return Err(Fail::Fault(DapFault::TooLarge {
+            len,
+            limit: MAX_BODY,
+        }));
+    }
+    Ok((layout.parts, len as u64))
+}
+
 // A body that is data, within the limit.
 fn data_body(
     alloc: Global,
@@ -133,24 +161,12 @@ fn data_body(
 ) -> Result<Body, Fail<DapFault>>
     requires sent { All (IsSentOf source) sent }
     requires few { length sent < 2 ^ 28 }
-    ensures { Answers (within_limit (record {
-      kind = Kind.Data;
-      bytes = record { front = front; source = Some source; sent = sent };
-    })) result }
+    ensures { Answers (within_limit (data_behind_text front source sent)) result }
 {
-    let layout = lay_out(alloc, &source, sent.as_slice())?;
-    let begin = front.len() as u128;
-    let len = layout.len + begin;
-    if len > MAX_BODY as u128 {
-        return Err(Fail::Fault(DapFault::TooLarge {
-            len,
-            limit: MAX_BODY,
-        }));
-    }
-    let bytes = Plan::with_data(front, source, sent, layout.parts, len as u64);
+    let (laid, len) = laid_within(alloc, &front, &source, &sent)?;
     Ok(Body {
         kind: BodyKind::Data,
-        bytes,
+        bytes: Plan::with_data(front, source, sent, laid, len),
     })
 }
 
@@ -163,17 +179,39 @@ fn front_of(alloc: Global, target: &Target, projected: &Projected) -> Result<Byt
     Ok(text)
 }
 
+// The data of what is sent, behind its structure text.
+fn projected_sent(
+    alloc: Global,
+    target: &Target,
+    source: Dataset,
+    projected: Projected,
+) -> Result<Body, Fail<DapFault>>
+    requires sent { All (IsSentOf source) projected.sent }
+    requires few { length projected.sent < 2 ^ 28 }
+    ensures { Answers (within_limit (data_body source target.now projected)) result }
+{
+    let front = front_of(alloc, target, &projected)?;
+    data_body(alloc, front, source, projected.sent)
+}
+
+// The data that a target asks for of a dataset.
+#[tactic(auto, using(crate::proofs::SentLemmas::sent))]
+fn dataset_sent(alloc: Global, target: &Target, source: Dataset) -> Result<Body, Fail<DapFault>>
+    ensures { Answers (dataset_sent source target.now) result }
+{
+    // Few parts are sent, and each is one of the dataset, since the prototype is that of a file.
+    let _proto = source.proto();
+    let projected = projected_of(alloc, source.decls().as_slice(), target)?;
+    projected_sent(alloc, target, source, projected)
+}
+
 // The data that a target asks for.
-#[tactic(auto, unfolding(crate::specs::Body::data_asked), using(crate::proofs::SentLemmas::sent))]
+#[tactic(auto, unfolding(crate::specs::Body::data_asked))]
 fn data_asked(alloc: Global, edition: &Edition, target: &Target) -> Result<Body, Fail<DapFault>>
     ensures { Answers (data_asked edition.now.proto edition.now.files target.now) result }
 {
     let source = dataset_asked(alloc, edition, target)?;
-    // Few parts are sent, and each is one of the dataset, since the prototype is that of a file.
-    let _proto = source.proto();
-    let projected = projected_of(alloc, source.decls().as_slice(), target)?;
-    let front = front_of(alloc, target, &projected)?;
-    data_body(alloc, front, source, projected.sent)
+    dataset_sent(alloc, target, source)
 }
 
 // The body that a target asks for over an edition.

@@ -6,7 +6,7 @@ use crate::status::Status;
 use dap_plan::Plan;
 
 /// What a body is: a structure text, an attribute text, data behind a structure text, or an Error (ESE-RFC-004).
-#[derive(Clone, Copy, PartialEq, Eq)]
+#[derive(Clone, Copy)]
 pub enum BodyKind {
     Structure,
     Attributes,

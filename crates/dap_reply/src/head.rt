@@ -11,7 +11,7 @@ use std::alloc::Global;
 
 /// What a head says: the status, what the body is, how many bytes it has, how many operations left the collection, and
 /// whether the connection ends.
-#[derive(Clone, Copy, PartialEq, Eq)]
+#[derive(Clone, Copy)]
 pub struct Head {
     pub status: Status,
     pub kind: BodyKind,

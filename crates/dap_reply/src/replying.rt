@@ -2,7 +2,7 @@
 ghost use Rattle.std.specs.Prelude.{◌≡◌, IfOk};
 ghost use Rattle.dap_plan.specs.Parts.{bytes_of};
 ghost use Rattle.dap_reply.specs.Planned.{answer_over, planned, refused};
-ghost use Rattle.dap_reply.specs.Reply.{answer_head, refusal_of, reply_parts, reply_text};
+ghost use Rattle.dap_reply.specs.Reply.{answer_head, headed, refusal_of, reply_parts, reply_text};
 ghost use Rattle.dap_reply.specs.Head.{head_text};
 
 use crate::asked::body_of;
@@ -63,6 +63,17 @@ fn answer_head(alloc: Global, answer: &Answer, revision: u64, last: bool) -> Res
     Ok(text)
 }
 
+// A head, and the body behind it but to HEAD.
+#[tactic(auto, unfolding(crate::specs::Reply::headed))]
+fn headed(alloc: Global, text: Bytes, body: Plan, head: bool) -> Result<Plan, NoMemory>
+    ensures { IfOk result (λ plan. plan ≡ headed text body head) }
+{
+    if head {
+        return Ok(Plan::ready(alloc, text));
+    }
+    body.behind(text)
+}
+
 // The reply with an answer.
 #[tactic(auto, unfolding(crate::specs::Reply::reply_parts))]
 fn reply(
@@ -75,10 +86,7 @@ fn reply(
     ensures { IfOk result (λ plan. plan ≡ reply_parts answer revision head last) }
 {
     let text = answer_head(alloc, &answer, revision, last)?;
-    if head {
-        return Ok(Plan::ready(alloc, text));
-    }
-    answer.body.bytes.behind(text)
+    headed(alloc, text, answer.body.bytes, head)
 }
 
 /// The reply to a request over an edition that `revision` operations left (ESE-RFC-004; RFC 9112): the head, and the

@@ -3,7 +3,7 @@ ghost use Rattle.std.specs.Prelude.{◌≡◌};
 ghost use Rattle.dap_reply.specs.Kind.{status_text};
 
 /// What the first line of a reply says (RFC 9110, status codes).
-#[derive(Clone, Copy, PartialEq, Eq)]
+#[derive(Clone, Copy)]
 pub enum Status {
     Fine,
     BadRequest,

@@ -7,7 +7,7 @@ use Rattle.dap_xdr.specs.declared.rows.Rows.{Rows}
 use Rattle.dap_xdr.specs.Rows.{rows_in, AreSentAs}
 use Rattle.dap_xdr.proofs.RowLemmas.{rows-next, rows-none, rows-written, RowsSoFar}
 
--- a row stands whole in so many bytes, where no more stand before it than fit behind the first
+-- a row stands whole in `there` bytes, where no more stand before it than fit behind the first
 pub row-there : (there len step k : ℕ) → len ≤ there → k ≤ (there - len) / step → k * step + len ≤ there
 row-there there len step k first few =
     let split = div-add-mod' (there - len) step in

@@ -61,8 +61,6 @@ marks-from shown sent marks n are portion shown_is sent_is = λ array is text ma
 pub none-of : (shown : Shown) (sent : Sent) → AreMarksOf shown sent []
 none-of shown sent = λ array is text many. no-marks (record { shown = shown; sent = sent; array = array })
 
-pub ruleset marked = (marks-of, marks-from, none-of)
-
 -- where nothing is passed over but the count
 pub before-first : (n : Portion) → length (texts_before n 0) ≡ 4
 unfolding texts_before

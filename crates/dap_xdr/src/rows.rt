@@ -63,7 +63,7 @@ fn put_at(bytes: &[u8], at: usize, out: &mut [u8])
     target.copy_from_slice(bytes);
 }
 
-// How many rows stand whole in so many bytes, each `step` bytes behind the one before it.
+// How many rows stand whole in `there` bytes, each `step` bytes behind the one before it.
 fn rows_there(there: usize, len: usize, step: usize) -> usize
     requires { 0 < len }
     ensures { (k : ℕ) → k < result → k * step + len ≤ there }

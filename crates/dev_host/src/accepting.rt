@@ -6,7 +6,7 @@ ghost use Rattle.dev_host.specs.Accept.{accepting_at, accepting_of};
 use std::io::{Error, ErrorKind};
 
 /// What becomes of accepts after one that gave no connection.
-#[derive(Clone, Copy, Debug, PartialEq, Eq)]
+#[derive(Clone, Copy)]
 pub enum Accepting {
     /// None waits: one is made again once one comes.
     Later,

@@ -9,7 +9,7 @@ use dev_traits::Failed;
 const PAUSE: u64 = 100;
 
 // When the next accept is made.
-#[derive(Clone, Copy, Debug, PartialEq, Eq)]
+#[derive(Clone, Copy, PartialEq, Eq)]
 enum Next {
     Now,
     // once a connection comes

@@ -5,7 +5,7 @@ ghost use Rattle.dev_host.specs.Names.{is_offered, shelf_name, shelf_of};
 use dev_traits::Verdict;
 
 /// A folder inside that of an inbox, to which files go that got their verdicts.
-#[derive(Clone, Copy, Debug, PartialEq, Eq)]
+#[derive(Clone, Copy)]
 pub enum Shelf {
     Done,
     Refused,

@@ -3,7 +3,7 @@ ghost use Rattle.std.specs.Prelude.{◌≡◌, None, Some};
 ghost use Rattle.dev_host.specs.Patience.{begun_at, due_at, put_at};
 
 /// How long a peer is waited for, in milliseconds.
-#[derive(Clone, Copy, Debug, PartialEq, Eq)]
+#[derive(Clone, Copy)]
 pub struct Patience {
     /// For its next byte, since the last put or since the link came; and for the peer to take a byte of what is sent.
     pub idle: u64,
@@ -42,14 +42,14 @@ impl Patience {
 const LEAST_RATE: u64 = 16;
 
 /// Replies that are sent without a take between them: when that began, and how many bytes have gone.
-#[derive(Clone, Copy, Debug, PartialEq, Eq)]
+#[derive(Clone, Copy)]
 pub struct Sending {
     pub began: u64,
     pub sent: u64,
 }
 
 /// The moments of a link, in milliseconds of one clock.
-#[derive(Clone, Copy, Debug, PartialEq, Eq)]
+#[derive(Clone, Copy)]
 pub struct Pace {
     /// When a put sent something last, or what is sent was begun, or the link came.
     pub since: u64,

@@ -11,7 +11,7 @@ use std::time::Duration;
 const MOST_EVENTS: usize = 64;
 
 /// What a door watches.
-#[derive(Clone, Copy, Debug, PartialEq, Eq)]
+#[derive(Clone, Copy)]
 pub enum Watched {
     Listener,
     /// the link of a key

@@ -1,6 +1,7 @@
 //! A door in memory.
-ghost use Rattle.std.specs.Prelude.{◌≡◌, ◌+◌, ◌<◌, ◌≤◌, All, IfOk, IfSome, None, Some, length, vec_capacity, vec_len};
-ghost use Rattle.dev_traits.specs.Door.{IsFresh, fresh_doorway};
+ghost use Rattle.std.specs.Prelude.{◌≡◌, ◌+◌, ◌<◌, ◌≤◌, [], All, IfNone, IfOk, IfSome, None, Some, false, length};
+ghost use Rattle.std.specs.Prelude.{vec_capacity, vec_len};
+ghost use Rattle.dev_traits.specs.Door.{IfCame, IsFresh, MayCome, after_coming, fresh_doorway};
 ghost use Rattle.dev_traits.specs.Opener.{door_asked};
 
 use crate::calls::Calls;
@@ -10,7 +11,7 @@ use fm_base::{List, NoMemory};
 use std::alloc::Global;
 
 /// What a door in memory says next.
-#[derive(Clone, Copy, Debug, PartialEq, Eq)]
+#[derive(Clone, Copy, PartialEq, Eq)]
 pub enum DoorEvent {
     /// The next link comes.
     Comes,
@@ -79,6 +80,38 @@ impl MemDoor {
         door
     }
 
+    // What comes next, where the call isn't to fail.
+    fn coming(&mut self, key: usize) -> Coming<PausedLink>
+        ensures next { IfSome (⟦<MemDoor as Door>⟧.shown self.old).held (λ doorway. MayCome doorway result) }
+        ensures came { (⟦<MemDoor as Door>⟧.shown self.new).held
+            ≡ after_coming result (⟦<MemDoor as Door>⟧.shown self.old).held }
+        ensures fresh { IfCame (λ link. IsFresh (⟦<PausedLink as Link>⟧.shown link)) result }
+        ensures faults { self.new.calls.faults ≡ self.old.calls.faults }
+    {
+        let event = next_event(self.events.as_slice(), &mut self.event);
+        match key_ready(self.keys.as_slice(), event, !self.left.is_empty()) {
+            Some(ready) => Coming::Ready(ready),
+            None => self.next_link(key),
+        }
+    }
+
+    // The next link, or the end, where none is out.
+    fn next_link(&mut self, key: usize) -> Coming<PausedLink>
+        requires { self.old.left ≡ [] → vec_len self.old.keys ≡ 0 }
+        ensures next { IfSome (⟦<MemDoor as Door>⟧.shown self.old).held (λ doorway. MayCome doorway result) }
+        ensures came { (⟦<MemDoor as Door>⟧.shown self.new).held
+            ≡ after_coming result (⟦<MemDoor as Door>⟧.shown self.old).held }
+        ensures fresh { IfCame (λ link. IsFresh (⟦<PausedLink as Link>⟧.shown link)) result }
+        ensures faults { self.new.calls.faults ≡ self.old.calls.faults }
+    {
+        if self.left.is_empty() {
+            return Coming::Closed;
+        }
+        let link = self.left.items.remove(0);
+        self.keys.push_reserved(key);
+        Coming::Came(link)
+    }
+
     /// The links that were given back.
     pub fn given(&self) -> &[PausedLink]
         ensures { IfSome (⟦<MemDoor as Door>⟧.shown self.now).held (λ doorway. result.now ≡ doorway.given) }
@@ -108,20 +141,7 @@ impl Door for MemDoor {
         if self.calls.due() {
             return Err(self.calls.fail());
         }
-        let event = self.events.as_slice().get(self.event).copied();
-        self.event = self.event.saturating_add(1);
-        let comes = event == Some(DoorEvent::Comes) && !self.left.is_empty();
-        if let Some(oldest) = self.keys.as_slice().first()
-            && !comes
-        {
-            return Ok(Coming::Ready(key_said(event, *oldest)));
-        }
-        if self.left.is_empty() {
-            return Ok(Coming::Closed);
-        }
-        let link = self.left.items.remove(0);
-        self.keys.push_reserved(key);
-        Ok(Coming::Came(link))
+        Ok(self.coming(key))
     }
 
     fn rest(&mut self, _key: usize, _link: &mut PausedLink) {}
@@ -133,11 +153,24 @@ impl Door for MemDoor {
     }
 }
 
-// The key in an event, or else that of the link that came first.
-fn key_said(event: Option<DoorEvent>, oldest: usize) -> usize {
+// The event at an index, which goes on by one.
+fn next_event(events: &[DoorEvent], index: &mut usize) -> Option<DoorEvent> {
+    let event = events.get(*index).copied();
+    *index = index.saturating_add(1);
+    event
+}
+
+// The key of the link that may go on: that in an event, or else that of the link that came first. There is none where
+// no link is out, or the event says that the next one comes and one is left.
+fn key_ready(keys: &[usize], event: Option<DoorEvent>, left: bool) -> Option<usize>
+    ensures some { IfSome result (λ _. 0 < length keys.now) }
+    ensures none { left ≡ false → IfNone result (length keys.now ≡ 0) }
+{
+    let oldest = *keys.first()?;
     match event {
-        Some(DoorEvent::Ready(key)) => key,
-        Some(DoorEvent::Comes) | None => oldest,
+        Some(DoorEvent::Comes) if left => None,
+        Some(DoorEvent::Ready(key)) => Some(key),
+        _ => Some(oldest),
     }
 }
 

@@ -10,7 +10,7 @@ use fm_base::{Bytes, Fail, List, NoMemory};
 use std::alloc::Global;
 
 /// A file in memory.
-#[derive(Debug, Drop)]
+#[derive(Drop)]
 pub struct Entry {
     pub path: Bytes,
     pub content: Bytes,

@@ -87,8 +87,7 @@ impl Inbox for MemInbox {
         let Some(name) = self.names.as_slice().get(self.given) else {
             return Ok(Arrival::Done);
         };
-        let last = List::copy_of(alloc, name.as_slice())?;
-        let name = List::copy_of(alloc, name.as_slice())?;
+        let (name, last) = two_copies(alloc, name.as_slice())?;
         self.given += 1;
         self.last = Some(last);
         Ok(Arrival::Name(name))
@@ -108,4 +107,13 @@ impl Inbox for MemInbox {
         self.verdicts.push_reserved(verdict);
         Ok(())
     }
+}
+
+// The same bytes twice.
+fn two_copies(alloc: Global, bytes: &[u8]) -> Result<(Bytes, Bytes), NoMemory>
+    ensures { IfOk result (λ made. (made.0 ≡ bytes.now) × (made.1 ≡ bytes.now)) }
+{
+    let first = List::copy_of(alloc, bytes)?;
+    let second = List::copy_of(alloc, bytes)?;
+    Ok((first, second))
 }

@@ -1,6 +1,7 @@
 //! An opener in memory.
-ghost use Rattle.std.specs.Prelude.{◌≡◌, All, Some};
-ghost use Rattle.dev_traits.specs.Opener.{Stock};
+ghost use Rattle.std.specs.Prelude.{◌≡◌, All, IfOk, OnErr, OnOk, Some};
+ghost use Rattle.dev_traits.specs.Cause.{HasReadCause};
+ghost use Rattle.dev_traits.specs.Opener.{IsNextDoor, IsNextInbox, Stock, after_door, after_inbox};
 
 use crate::calls::Calls;
 use crate::first::take_first;
@@ -8,7 +9,7 @@ use crate::mem_clock::MemClock;
 use crate::mem_door::MemDoor;
 use crate::mem_inbox::MemInbox;
 use dev_traits::{Clock, Door, DoorAsked, Failed, Inbox, Opener};
-use fm_base::{Fail, List};
+use fm_base::{Bytes, Fail, List};
 use std::alloc::Global;
 
 /// An opener in memory, with the doors, inboxes and clocks that it gives. Without a further door or inbox it fails;
@@ -52,6 +53,40 @@ impl MemOpener {
 }
 
 #[tactic(auto, using(crate::proofs::FirstLemmas::firsts))]
+impl MemOpener {
+    // The next door, opened with this, where the call isn't to fail.
+    fn next_door(&mut self, asked: DoorAsked) -> Result<MemDoor, Fail<Failed>>
+        ensures next { IfOk result (IsNextDoor ⟦<MemDoor as Door>⟧.shown self.old.doors asked) }
+        ensures opened { OnOk result ((⟦<MemOpener as Opener>⟧.shown self.new).held
+            ≡ after_door (⟦<MemOpener as Opener>⟧.shown self.old).held) }
+        ensures fresh { IfOk result (λ door. (⟦<MemDoor as Door>⟧.shown door).faults ≡ 0) }
+        ensures err { OnErr result ((⟦<MemOpener as Opener>⟧.shown self.new).held
+            ≡ (⟦<MemOpener as Opener>⟧.shown self.old).held) }
+        ensures cause { HasReadCause self.old.calls.faults self.new.calls.faults result }
+    {
+        match take_first(&mut self.doors) {
+            Some(door) => Ok(door.asked_with(asked)),
+            None => Err(Fail::Fault(self.calls.fail())),
+        }
+    }
+
+    // The next inbox, opened with this folder, where the call isn't to fail.
+    fn next_inbox(&mut self, folder: Bytes) -> Result<MemInbox, Fail<Failed>>
+        ensures next { IfOk result (IsNextInbox ⟦<MemInbox as Inbox>⟧.shown self.old.inboxes folder) }
+        ensures opened { OnOk result ((⟦<MemOpener as Opener>⟧.shown self.new).held
+            ≡ after_inbox (⟦<MemOpener as Opener>⟧.shown self.old).held) }
+        ensures fresh { IfOk result (λ inbox. (⟦<MemInbox as Inbox>⟧.shown inbox).faults ≡ 0) }
+        ensures err { OnErr result ((⟦<MemOpener as Opener>⟧.shown self.new).held
+            ≡ (⟦<MemOpener as Opener>⟧.shown self.old).held) }
+        ensures cause { HasReadCause self.old.calls.faults self.new.calls.faults result }
+    {
+        match take_first(&mut self.inboxes) {
+            Some(inbox) => Ok(inbox.asked_with(folder)),
+            None => Err(Fail::Fault(self.calls.fail())),
+        }
+    }
+}
+
 impl Opener for MemOpener {
     type D = MemDoor;
 
@@ -78,13 +113,10 @@ impl Opener for MemOpener {
             return Err(Fail::Fault(self.calls.fail()));
         }
         let address = List::copy_of(alloc, address)?;
-        let Some(door) = take_first(&mut self.doors) else {
-            return Err(Fail::Fault(self.calls.fail()));
-        };
-        Ok(door.asked_with(DoorAsked {
+        self.next_door(DoorAsked {
             address,
             connections,
-        }))
+        })
     }
 
     fn inbox(&mut self, alloc: Global, folder: &[u8]) -> Result<MemInbox, Fail<Failed>> {
@@ -92,10 +124,7 @@ impl Opener for MemOpener {
             return Err(Fail::Fault(self.calls.fail()));
         }
         let folder = List::copy_of(alloc, folder)?;
-        let Some(inbox) = take_first(&mut self.inboxes) else {
-            return Err(Fail::Fault(self.calls.fail()));
-        };
-        Ok(inbox.asked_with(folder))
+        self.next_inbox(folder)
     }
 
     fn clock(&mut self, ticks: u32) -> MemClock {

@@ -9,7 +9,7 @@ use fm_base::Bytes;
 use std::marker::Send;
 
 /// What a door was opened with.
-#[derive(Debug, Drop)]
+#[derive(Drop)]
 pub struct DoorAsked {
     pub address: Bytes,
     /// How many links come before the door closes; 0 is without end.

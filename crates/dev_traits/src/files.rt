@@ -9,7 +9,7 @@ use fm_base::{Bytes, Fail};
 use std::alloc::Global;
 
 /// What a read found at a path.
-#[derive(Debug, Drop)]
+#[derive(Drop)]
 pub enum Found {
     /// All the bytes of the file.
     Content(Bytes),

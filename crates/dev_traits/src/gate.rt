@@ -3,7 +3,7 @@
 use std::marker::Sync;
 
 /// Where a door is, by the door's number.
-#[derive(Clone, Copy, Debug, PartialEq, Eq)]
+#[derive(Clone, Copy)]
 pub enum Place {
     /// A link was accepted, and isn't served yet.
     Accepted(u32),
@@ -17,7 +17,7 @@ pub trait Gate: Sync {
 }
 
 /// The gate that does nothing.
-#[derive(Clone, Copy, Debug, PartialEq, Eq)]
+#[derive(Clone, Copy)]
 pub struct OpenGate;
 
 impl Gate for OpenGate {

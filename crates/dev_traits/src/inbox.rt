@@ -11,7 +11,7 @@ use std::alloc::Global;
 use std::marker::Send;
 
 /// What an inbox has next.
-#[derive(Debug, Drop)]
+#[derive(Drop)]
 pub enum Arrival {
     /// The name of a file that arrived.
     Name(Bytes),
@@ -22,7 +22,7 @@ pub enum Arrival {
 }
 
 /// What was found of a name that arrived.
-#[derive(Clone, Copy, Debug, PartialEq, Eq)]
+#[derive(Clone, Copy, Debug)]
 pub enum Verdict {
     /// The number, from 1, of the operation that it became.
     Published(u64),

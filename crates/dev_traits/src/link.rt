@@ -17,7 +17,7 @@ ghost use Rattle.dev_traits.specs.Shown.{LinkShown};
 use crate::faults::Failed;
 
 /// What a take gave.
-#[derive(Clone, Copy, Debug, PartialEq, Eq)]
+#[derive(Clone, Copy, PartialEq, Eq)]
 pub enum Taken {
     /// This number of bytes, at least one, at the front of the buffer.
     Bytes(usize),
@@ -28,7 +28,7 @@ pub enum Taken {
 }
 
 /// What a put sent.
-#[derive(Clone, Copy, Debug, PartialEq, Eq)]
+#[derive(Clone, Copy, PartialEq, Eq)]
 pub enum Sent {
     /// This number of the first bytes, at least one.
     Bytes(usize),

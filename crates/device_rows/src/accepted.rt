@@ -1,35 +1,31 @@
 //! Accepts over listeners in memory: when they are made, and which is the last.
 
 use crate::linked::word_and_number;
-use crate::turns::{Listener, turns_of};
+use crate::turns::{Listener, Turn};
 use dev_host::Entry;
 use dev_traits::Failed;
 use fm_base::NoMemory;
-use row_text::Row;
-use std::alloc::Global;
 use std::fmt::Write;
 
-/// What accepts do: `accept` at a moment, `wake` where a connection may have come, `due` for when the next is made.
-pub fn accepts(alloc: Global, row: &Row<'_>) -> Result<Option<String>, NoMemory> {
-    let (true, Some(words), Some(steps)) = (
-        row.has_each(&["accepts", "steps"]),
-        row.value("accepts"),
-        row.value("steps"),
-    ) else {
-        return Ok(None);
-    };
-    let Some(turns) = turns_of(alloc, words)? else {
-        return Ok(None);
-    };
-    let mut entry = Entry::new(Listener::new(turns.as_slice()));
-    let mut out = String::new(alloc);
+/// Appends what accepts do: `accept` at a moment, `wake` where a connection may have come, `due` for when the next is
+/// made. It is false where a line says none.
+pub fn put_accepts(turns: &[Turn], steps: &str, out: &mut String) -> Result<bool, NoMemory> {
+    let mut entry = Entry::new(Listener::new(turns));
+    put_steps(&mut entry, steps, out)
+}
+
+fn put_steps(
+    entry: &mut Entry<Listener<'_>>,
+    steps: &str,
+    out: &mut String,
+) -> Result<bool, NoMemory> {
     for line in steps.lines() {
-        if !put_step(&mut entry, line, &mut out)? {
-            return Ok(None);
+        if !put_step(entry, line, out)? {
+            return Ok(false);
         }
     }
     out.pop();
-    Ok(Some(out))
+    Ok(true)
 }
 
 // Appends what a step does. It is false where a line says none.
@@ -40,17 +36,28 @@ fn put_step(
 ) -> Result<bool, NoMemory> {
     match (line, word_and_number(line)) {
         ("wake", _) => entry.wake(),
-        ("due", _) => match entry.due() {
-            Some(moment) => writeln!(out, "due at {moment}")?,
-            None if entry.has_failed() => writeln!(out, "never")?,
-            None => writeln!(out, "once one comes")?,
-        },
-        (_, Some(("accept", now))) => match entry.next_stream(now) {
-            Ok(Some(_stream)) => writeln!(out, "a connection")?,
-            Ok(None) => writeln!(out, "none")?,
-            Err(Failed) => writeln!(out, "fault")?,
-        },
+        ("due", _) => put_due(entry.due(), entry.has_failed(), out)?,
+        (_, Some(("accept", now))) => put_next(entry.next_stream(now), out)?,
         _ => return Ok(false),
     }
     Ok(true)
+}
+
+fn put_due(due: Option<u64>, failed: bool, out: &mut String) -> Result<(), NoMemory> {
+    match due {
+        Some(moment) => writeln!(out, "due at {moment}")?,
+        None if failed => out.push_str("never\n")?,
+        None => out.push_str("once one comes\n")?,
+    }
+    Ok(())
+}
+
+fn put_next(next: Result<Option<u8>, Failed>, out: &mut String) -> Result<(), NoMemory> {
+    let word = match next {
+        Ok(Some(_stream)) => "a connection\n",
+        Ok(None) => "none\n",
+        Err(Failed) => "fault\n",
+    };
+    out.push_str(word)?;
+    Ok(())
 }

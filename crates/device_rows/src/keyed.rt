@@ -1,6 +1,7 @@
 //! Keys in a wheel of seconds.
 
 use crate::linked::word_and_number;
+use crate::turned::text_and_steps;
 use dev_host::Wheel;
 use fm_base::NoMemory;
 use row_text::Row;
@@ -10,35 +11,37 @@ use std::fmt::Write;
 /// What a wheel with room for the keys up to 9 does, from a second on: `put KEY SECOND` puts a key in, `pop SECOND`
 /// takes one out, `due` is the first second at which one is due.
 pub fn wheel(alloc: Global, row: &Row<'_>) -> Result<Option<String>, NoMemory> {
-    let (true, Some(second), Some(steps)) = (
-        row.has_each(&["wheel", "steps"]),
-        row.value("wheel"),
-        row.value("steps"),
-    ) else {
+    let Some((second, steps)) = text_and_steps(row, "wheel") else {
         return Ok(None);
     };
     let Ok(second) = second.parse::<u64>() else {
         return Ok(None);
     };
-    let mut wheel = Wheel::new(alloc, second);
-    wheel.make_room(9)?;
     let mut out = String::new(alloc);
+    let known = put_wheel(alloc, second, steps, &mut out)?;
+    Ok(if known { Some(out) } else { None })
+}
+
+fn put_wheel(alloc: Global, second: u64, steps: &str, out: &mut String) -> Result<bool, NoMemory> {
+    let mut wheel = Wheel::new(alloc, second);
+    put_steps(&mut wheel, steps, out)
+}
+
+fn put_steps(wheel: &mut Wheel, steps: &str, out: &mut String) -> Result<bool, NoMemory> {
+    wheel.make_room(9)?;
     for line in steps.lines() {
-        if !put_step(&mut wheel, line, &mut out)? {
-            return Ok(None);
+        if !put_step(wheel, line, out)? {
+            return Ok(false);
         }
     }
     out.pop();
-    Ok(Some(out))
+    Ok(true)
 }
 
 // Appends what a step does. It is false where a line says none.
 fn put_step(wheel: &mut Wheel, line: &str, out: &mut String) -> Result<bool, NoMemory> {
     if line == "due" {
-        match wheel.next_due() {
-            Some(second) => writeln!(out, "due at {second}")?,
-            None => writeln!(out, "none is due")?,
-        }
+        put_due(wheel.next_due(), out)?;
         return Ok(true);
     }
     match line.split_once(' ') {
@@ -46,6 +49,14 @@ fn put_step(wheel: &mut Wheel, line: &str, out: &mut String) -> Result<bool, NoM
         Some(("put", words)) => Ok(put_key(wheel, words)),
         _ => Ok(false),
     }
+}
+
+fn put_due(due: Option<u64>, out: &mut String) -> Result<(), NoMemory> {
+    match due {
+        Some(second) => writeln!(out, "due at {second}")?,
+        None => out.push_str("none is due\n")?,
+    }
+    Ok(())
 }
 
 fn put_popped(wheel: &mut Wheel, now: Option<u64>, out: &mut String) -> Result<bool, NoMemory> {

@@ -1,6 +1,6 @@
 //! Links over streams in memory: when their time is over, and how they end.
 
-use crate::turns::{Stream, Ticking, turns_of};
+use crate::turns::{Stream, Ticking, Turn};
 use dev_host::{Ending, Pace, Patience, PolledLink, Sending};
 use dev_traits::{Failed, Link, Sent, Taken};
 use fm_base::NoMemory;
@@ -16,30 +16,27 @@ pub(crate) fn word_and_number(line: &str) -> Option<(&str, u64)> {
     Some((word, number.parse::<u64>().ok()?))
 }
 
-/// What calls of a link do at some moments, in milliseconds after it came, a line for each: `take` and `put` are of
-/// four bytes. The last line has the number of calls that failed.
-pub fn link(alloc: Global, row: &Row<'_>) -> Result<Option<String>, NoMemory> {
-    let (true, Some(words), Some(steps)) = (
-        row.has_each(&["link", "steps"]),
-        row.value("link"),
-        row.value("steps"),
-    ) else {
-        return Ok(None);
-    };
-    let Some(turns) = turns_of(alloc, words)? else {
-        return Ok(None);
-    };
+/// Appends what calls of a link do at some moments, in milliseconds after it came, a line for each: `take` and `put`
+/// are of four bytes. The last line has the number of calls that failed. It is false where a line says none.
+pub fn put_link(turns: &[Turn], steps: &str, out: &mut String) -> Result<bool, NoMemory> {
     let clock = Ticking::new(0);
-    let stream = Stream::new(turns.as_slice());
-    let mut link = PolledLink::new(&clock, stream, 0, Patience::of_server());
-    let mut out = String::new(alloc);
+    let mut link = PolledLink::new(&clock, Stream::new(turns), 0, Patience::of_server());
+    put_calls(&clock, &mut link, steps, out)
+}
+
+fn put_calls(
+    clock: &Ticking,
+    link: &mut Timed<'_>,
+    steps: &str,
+    out: &mut String,
+) -> Result<bool, NoMemory> {
     for line in steps.lines() {
-        if !put_call(&clock, &mut link, line, &mut out)? {
-            return Ok(None);
+        if !put_call(clock, link, line, out)? {
+            return Ok(false);
         }
     }
     write!(out, "{} faults", link.faults())?;
-    Ok(Some(out))
+    Ok(true)
 }
 
 // Appends what a call does. It is false where a line says none.
@@ -80,37 +77,39 @@ fn put_sent(sent: Result<Sent, Failed>, out: &mut String) -> Result<(), NoMemory
     Ok(())
 }
 
-/// What the end of a connection does: after how many calls the side that sends was closed, and then whether it is over
-/// at some moments.
-pub fn ending(alloc: Global, row: &Row<'_>) -> Result<Option<String>, NoMemory> {
-    let (true, Some(words), Some(steps)) = (
-        row.has_each(&["ending", "steps"]),
-        row.value("ending"),
-        row.value("steps"),
-    ) else {
-        return Ok(None);
-    };
-    let Some(turns) = turns_of(alloc, words)? else {
-        return Ok(None);
-    };
-    let mut ending = Ending::new(Stream::new(turns.as_slice()), 0);
-    let mut out = String::new(alloc);
-    match ending.stream.ended() {
+/// Appends what the end of a connection does: after how many calls the side that sends was closed, and then whether it
+/// is over at some moments. It is false where a line says none.
+pub fn put_end(turns: &[Turn], steps: &str, out: &mut String) -> Result<bool, NoMemory> {
+    let mut ending = Ending::new(Stream::new(turns), 0);
+    put_drops(&mut ending, steps, out)
+}
+
+fn put_closed(calls: Option<usize>, out: &mut String) -> Result<(), NoMemory> {
+    match calls {
         Some(calls) => write!(out, "closed after {calls} calls")?,
-        None => write!(out, "not closed")?,
+        None => out.push_str("not closed")?,
     }
+    Ok(())
+}
+
+fn put_drops(
+    ending: &mut Ending<Stream<'_>>,
+    steps: &str,
+    out: &mut String,
+) -> Result<bool, NoMemory> {
+    put_closed(ending.stream.ended(), out)?;
     for line in steps.lines() {
         let Some(("drop", now)) = word_and_number(line) else {
-            return Ok(None);
+            return Ok(false);
         };
         let over = if ending.drop_more(now) {
-            "over"
+            "\nover"
         } else {
-            "goes on"
+            "\ngoes on"
         };
-        write!(out, "\n{over}")?;
+        out.push_str(over)?;
     }
-    Ok(Some(out))
+    Ok(true)
 }
 
 /// The moment at which the time of a link is over that began to send at the moment 1,000, and sent the row's number of

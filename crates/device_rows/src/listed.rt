@@ -155,20 +155,44 @@ pub fn names_row(
     ) else {
         return Ok(None);
     };
-    let Some(names) = names_of(alloc, words, row.value("fails").is_some())? else {
-        return Ok(None);
-    };
-    let Ok(mut inbox) = FolderInbox::open(Machine { rt, names }, alloc, b"in") else {
-        return Ok(None);
-    };
+    match names_of(alloc, words, row.value("fails").is_some())? {
+        Some(names) => over_names(Machine { rt, names }, alloc, steps),
+        None => Ok(None),
+    }
+}
+
+fn over_names(machine: Machine, alloc: Global, steps: &str) -> Result<Option<String>, NoMemory> {
     let mut out = String::new(alloc);
+    let known = put_names(machine, alloc, steps, &mut out)?;
+    Ok(if known { Some(out) } else { None })
+}
+
+// Appends what the steps of an inbox do. It is false where one is unknown, or the folder can't be opened.
+fn put_names(
+    machine: Machine,
+    alloc: Global,
+    steps: &str,
+    out: &mut String,
+) -> Result<bool, NoMemory> {
+    match FolderInbox::open(machine, alloc, b"in") {
+        Ok(mut inbox) => put_steps(alloc, &mut inbox, steps, out),
+        Err(_) => Ok(false),
+    }
+}
+
+fn put_steps(
+    alloc: Global,
+    inbox: &mut FolderInbox<Machine>,
+    steps: &str,
+    out: &mut String,
+) -> Result<bool, NoMemory> {
     for line in steps.lines() {
-        if !put_step(alloc, &mut inbox, line, &mut out)? {
-            return Ok(None);
+        if !put_step(alloc, inbox, line, out)? {
+            return Ok(false);
         }
     }
     out.pop();
-    Ok(Some(out))
+    Ok(true)
 }
 
 // Ends each name by a NUL.

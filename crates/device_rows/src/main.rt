@@ -9,6 +9,7 @@ mod foldered;
 mod keyed;
 mod linked;
 mod listed;
+mod turned;
 mod turns;
 
 use fm_base::NoMemory;
@@ -16,6 +17,7 @@ use row_text::{Answers, Count, Row, end, read_inputs, run};
 use std::alloc::{AllocError, Global};
 use std::io;
 use std::process::ExitCode;
+use turned::{Device, over_turns};
 
 #[derive(Drop)]
 struct Devices {
@@ -39,10 +41,10 @@ impl Answers for Devices {
 fn answer(rt: HostRuntime, alloc: Global, row: &Row<'_>) -> Result<Option<String>, NoMemory> {
     for field in &row.fields {
         return match field.key {
-            "link" => linked::link(alloc, row),
-            "ending" => linked::ending(alloc, row),
+            "link" => over_turns(alloc, row, Device::Link),
+            "ending" => over_turns(alloc, row, Device::Ending),
+            "accepts" => over_turns(alloc, row, Device::Accepts),
             "sending" => linked::sending(alloc, row),
-            "accepts" => accepted::accepts(alloc, row),
             "wheel" => keyed::wheel(alloc, row),
             "ticks unread" => clocked::unread(alloc, row),
             "names" => listed::names_row(rt, alloc, row),

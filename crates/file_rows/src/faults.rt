@@ -90,6 +90,10 @@ pub fn put_load_fault(fault: &LoadFault, out: &mut String) -> Result<(), NoMemor
 // Appends the fault of what a file holds.
 fn put_content_fault(fault: &LoadFault, out: &mut String) -> Result<(), NoMemory> {
     write!(out, "fault {}: ", fault.code())?;
+    put_content(fault, out)
+}
+
+fn put_content(fault: &LoadFault, out: &mut String) -> Result<(), NoMemory> {
     match fault {
         LoadFault::MissingVariable(name) => put_named("no variable ", name.as_slice(), out),
         LoadFault::VariableDiffers(name) => put_named("other form of ", name.as_slice(), out),
@@ -103,14 +107,19 @@ fn put_content_fault(fault: &LoadFault, out: &mut String) -> Result<(), NoMemory
             proto,
             file,
         } => {
-            write!(
-                out,
-                "byte {byte} is {file:02x}, in the prototype {proto:02x}, of "
-            )?;
+            put_byte(*byte, *file, *proto, out)?;
             Ok(put_shown(name.as_slice(), out)?)
         }
         _ => put_moment_fault(fault, out),
     }
+}
+
+// Appends that a byte is another one in the prototype.
+fn put_byte(byte: u64, file: u8, proto: u8, out: &mut String) -> Result<(), NoMemory> {
+    Ok(write!(
+        out,
+        "byte {byte} is {file:02x}, in the prototype {proto:02x}, of "
+    )?)
 }
 
 fn put_named(what: &str, name: &[u8], out: &mut String) -> Result<(), NoMemory> {

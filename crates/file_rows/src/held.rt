@@ -2,6 +2,7 @@
 ghost use Rattle.std.specs.Prelude.{IfOk, IfSome};
 ghost use Rattle.fm_edition.specs.Held.{OpFits};
 
+use super::unknown;
 use fm_base::{Arc, Bytes, Fail, NoMemory};
 use fm_edition::Edition;
 use fm_load::load;
@@ -36,8 +37,7 @@ fn put_over(
 ) -> Result<bool, NoMemory> {
     match edition_of(alloc, prototype) {
         Ok(mut edition) => put_after(alloc, &mut edition, files, row, out),
-        Err(Fail::NoMemory) => Err(NoMemory),
-        Err(Fail::Fault(_)) => Ok(false),
+        Err(fail) => unknown(fail),
     }
 }
 
@@ -125,13 +125,22 @@ fn put(
 ) -> Result<Option<Op>, NoMemory>
     ensures { IfOk result (λ op. IfSome op (OpFits edition.now.proto)) }
 {
-    let Some((name, words)) = words.split_once(' ') else {
-        return Ok(None);
-    };
-    let Some(items) = content(alloc, files, words)? else {
-        return Ok(None);
-    };
-    let bytes = Bytes { items };
+    let (name, words) = words.split_once(' ').unwrap_or((words, ""));
+    match content(alloc, files, words)? {
+        Some(items) => put_bytes(alloc, edition, name, Bytes { items }),
+        None => Ok(None),
+    }
+}
+
+// The put of a file of a name that some bytes are, if it is taken.
+fn put_bytes(
+    alloc: Global,
+    edition: &Edition,
+    name: &str,
+    bytes: Bytes,
+) -> Result<Option<Op>, NoMemory>
+    ensures { IfOk result (λ op. IfSome op (OpFits edition.now.proto)) }
+{
     if bytes.len() as u64 > MAX_FILE_BYTES {
         return Ok(None);
     }

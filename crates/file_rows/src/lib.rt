@@ -11,10 +11,31 @@ mod prototypes;
 mod question;
 mod words;
 
-use fm_base::NoMemory;
+use fm_base::{Fail, NoMemory};
 use question::Question;
 use row_text::{Answers, File, Row, content};
 use std::alloc::{AllocError, Global};
+
+// The keys that name a call.
+const CALLS: [&str; 7] = [
+    "load",
+    "collection",
+    "made",
+    "header",
+    "layout",
+    "elements",
+    "prototype",
+];
+
+// The key by which a row names its call.
+fn call_of(row: &Row<'_>) -> Option<&'static str> {
+    for call in &CALLS {
+        if row.value(call).is_some() {
+            return Some(*call);
+        }
+    }
+    None
+}
 
 /// The files that rows begin from.
 #[derive(Clone, Copy)]
@@ -34,43 +55,47 @@ impl Answers for Files<'_> {
 impl Files<'_> {
     // Puts what comes out of a row.
     fn put_answer(&self, alloc: Global, row: &Row<'_>, out: &mut String) -> Result<bool, NoMemory> {
-        if row.value("load").is_some() {
-            return loading::put_load(alloc, self.files, row, out);
+        match call_of(row) {
+            Some("load") => loading::put_load(alloc, self.files, row, out),
+            Some("collection") => held::put_held(alloc, self.files, row, out),
+            Some("made") => made::put_made(alloc, row, out),
+            Some(key) => self.put_asked(alloc, row, key, out),
+            None => Ok(false),
         }
-        if row.value("collection").is_some() {
-            return held::put_held(alloc, self.files, row, out);
-        }
-        if row.value("made").is_some() {
-            return made::put_made(alloc, row, out);
-        }
-        for (key, question) in [
-            ("header", Question::Header),
-            ("layout", Question::Layout),
-            ("elements", Question::Elements),
-            ("prototype", Question::Prototype),
-        ] {
-            if row.value(key).is_some() {
-                return self.put_asked(alloc, row, key, &question, out);
-            }
-        }
-        Ok(false)
     }
 
-    // Puts what a question says about the file that the value of a key describes.
+    // Puts what the question of a key says about the file that its value describes.
     fn put_asked(
         &self,
         alloc: Global,
         row: &Row<'_>,
         key: &str,
-        question: &Question<'_>,
         out: &mut String,
     ) -> Result<bool, NoMemory> {
         if !row.has_only(&[key, "cuts"]) {
             return Ok(false);
         }
         match content(alloc, self.files, row.value(key).unwrap_or(""))? {
-            Some(bytes) => question.put(alloc, bytes.as_slice(), row.value("cuts"), out),
+            Some(bytes) => question_of(key).put(alloc, bytes.as_slice(), row.value("cuts"), out),
             None => Ok(false),
         }
+    }
+}
+
+// The question of a key.
+fn question_of<'a>(key: &str) -> Question<'a> {
+    match key {
+        "header" => Question::Header,
+        "layout" => Question::Layout,
+        "elements" => Question::Elements,
+        _ => Question::Prototype,
+    }
+}
+
+// That a row isn't known, where there is a fault.
+fn unknown<E: Drop>(fail: Fail<E>) -> Result<bool, NoMemory> {
+    match fail {
+        Fail::NoMemory => Err(NoMemory),
+        Fail::Fault(_) => Ok(false),
     }
 }

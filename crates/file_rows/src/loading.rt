@@ -5,9 +5,10 @@ ghost use Rattle.fm_model.specs.declared.limit.TheConstants.{MAX_FILE_BYTES};
 use super::faults::put_load_fault;
 use super::prototypes::{EPOCH, prototype};
 use super::question::Question;
+use super::unknown;
 use fm_base::{Bytes, Fail, NoMemory};
 use fm_load::load;
-use fm_model::{Loaded, Proto};
+use fm_model::{Loaded, Proto, Slot};
 use row_text::{File, Row, content};
 use std::alloc::Global;
 
@@ -42,8 +43,7 @@ fn put_over(
 ) -> Result<bool, NoMemory> {
     match prototype(alloc, over, epoch) {
         Ok(proto) => put_called(alloc, files, &proto, row, out),
-        Err(Fail::NoMemory) => Err(NoMemory),
-        Err(Fail::Fault(_)) => Ok(false),
+        Err(fail) => unknown(fail),
     }
 }
 
@@ -87,20 +87,31 @@ pub fn put_loaded(
     }
 }
 
-// More than eight times are shown as the first and the last, with their number.
 fn put_taken(file: &Loaded, out: &mut String) -> Result<(), NoMemory> {
     write!(out, "run {}, times", file.run)?;
-    match file.times.as_slice() {
-        [first, .., last] if file.times.len() > 8 => {
-            write!(out, " {first} to {last}, {} in all", file.times.len())?;
+    put_times(file.times.as_slice(), out)?;
+    put_slots(file.slots.as_slice(), out)
+}
+
+// More than eight times are shown as the first and the last, with their number.
+fn put_times(times: &[i64], out: &mut String) -> Result<(), NoMemory> {
+    match times {
+        [first, .., last] if times.len() > 8 => {
+            Ok(write!(out, " {first} to {last}, {} in all", times.len())?)
         }
-        times => {
-            for time in times {
-                write!(out, " {time}")?;
-            }
-        }
+        _ => put_each_time(times, out),
     }
-    for slot in file.slots.as_slice() {
+}
+
+fn put_each_time(times: &[i64], out: &mut String) -> Result<(), NoMemory> {
+    for time in times {
+        write!(out, " {time}")?;
+    }
+    Ok(())
+}
+
+fn put_slots(slots: &[Slot], out: &mut String) -> Result<(), NoMemory> {
+    for slot in slots {
         write!(out, "\ndata from {} each {}", slot.begin, slot.step)?;
     }
     Ok(())

@@ -50,15 +50,20 @@ pub fn put_dims(dims: &[Dim], out: &mut String) -> Result<(), NoMemory> {
 /// digits.
 pub fn put_attrs(attrs: &[Attr], out: &mut String) -> Result<(), NoMemory> {
     for attr in attrs {
-        out.push_str("\nattribute ")?;
-        put_shown(attr.name.as_slice(), out)?;
-        write!(out, " {} ", kind_name(attr.kind))?;
-        match attr.kind {
-            Kind::Char => put_shown(attr.values.as_slice(), out)?,
-            _ => put_hex(attr.values.as_slice(), out)?,
-        }
+        put_attr(attr, out)?;
     }
     Ok(())
+}
+
+fn put_attr(attr: &Attr, out: &mut String) -> Result<(), NoMemory> {
+    out.push_str("\nattribute ")?;
+    put_shown(attr.name.as_slice(), out)?;
+    write!(out, " {} ", kind_name(attr.kind))?;
+    let put = match attr.kind {
+        Kind::Char => put_shown(attr.values.as_slice(), out),
+        _ => put_hex(attr.values.as_slice(), out),
+    };
+    Ok(put?)
 }
 
 /// Appends the front of a variable's line: its name, its kind and the numbers of its dimensions.
@@ -66,13 +71,16 @@ pub fn put_front(name: &[u8], kind: Kind, dims: &[u32], out: &mut String) -> Res
     out.push_str("\nvariable ")?;
     put_shown(name, out)?;
     write!(out, " {} (", kind_name(kind))?;
-    for (number, dim) in dims.iter().enumerate() {
-        if number > 0 {
-            out.push_str(", ")?;
-        }
-        write!(out, "{dim}")?;
-    }
+    put_numbers(dims, out)?;
     Ok(out.push(')')?)
+}
+
+fn put_numbers(numbers: &[u32], out: &mut String) -> Result<(), NoMemory> {
+    for (index, number) in numbers.iter().enumerate() {
+        out.push_str(if index == 0 { "" } else { ", " })?;
+        write!(out, "{number}")?;
+    }
+    Ok(())
 }
 
 fn kind_name(kind: Kind) -> &'static str {

@@ -4,7 +4,7 @@ ghost use Rattle.fm_base.specs.Answer.{ForFault, Renames};
 use std::alloc::{AllocError, AllocFailed};
 
 /// Memory ran out.
-#[derive(Clone, Copy, Debug, PartialEq, Eq)]
+#[derive(Clone, Copy, Debug)]
 pub struct NoMemory;
 
 impl From<AllocError> for NoMemory {
@@ -20,7 +20,7 @@ impl<T: Drop> From<AllocFailed<T>> for NoMemory {
 }
 
 /// Memory ran out, or the input has a fault.
-#[derive(Clone, Copy, Debug, Drop, PartialEq, Eq)]
+#[derive(Clone, Copy, Debug, Drop)]
 pub enum Fail<E> {
     NoMemory,
     Fault(E),

@@ -9,7 +9,7 @@ pub struct Tally {
 }
 
 /// What there may be too many of.
-#[derive(Clone, Copy, Debug, PartialEq, Eq)]
+#[derive(Clone, Copy, Debug)]
 pub enum Which {
     Files,
     Rows,
@@ -17,7 +17,7 @@ pub enum Which {
 }
 
 /// What a collection would hold too much of: how much it would hold, and the limit.
-#[derive(Clone, Copy, Debug, PartialEq, Eq)]
+#[derive(Clone, Copy, Debug)]
 pub struct Full {
     pub which: Which,
     pub held: u64,

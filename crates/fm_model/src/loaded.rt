@@ -6,7 +6,7 @@ use fm_base::{Bytes, List};
 use nc_model::{HeaderFault, LayoutFault, UnitsFault};
 
 /// Where a variable's data lies in a file: its data at the k-th time begins at `begin + k * step`.
-#[derive(Clone, Copy, Debug, PartialEq, Eq)]
+#[derive(Clone, Copy)]
 pub struct Slot {
     pub begin: u64,
     pub step: u64,
@@ -15,7 +15,7 @@ pub struct Slot {
 /// A file that was taken: its name, its run, its valid times in the file's order, its bytes, and a slot for each
 /// variable of the prototype that lies along the axis, but for the axis itself. Instants are seconds from the
 /// collection's epoch.
-#[derive(Debug, Drop)]
+#[derive(Drop)]
 pub struct Loaded {
     pub name: Bytes,
     pub run: i64,
@@ -26,7 +26,7 @@ pub struct Loaded {
 
 /// Why a file isn't taken. Names are those of the prototype's variables, `k` is the index of a time in the file, and
 /// seconds are from the collection's epoch.
-#[derive(Debug, Drop)]
+#[derive(Drop)]
 pub enum LoadFault {
     Header(HeaderFault),
     Layout(LayoutFault),

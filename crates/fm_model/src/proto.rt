@@ -8,7 +8,7 @@ use nc_model::{Attr, Dim, HeaderFault, Kind, LayoutFault};
 
 /// A variable that the views show. A variable is `timed` where it lies along the axis; the elements of one that isn't
 /// are `fixed`, in row-major order.
-#[derive(Debug, Drop)]
+#[derive(Drop)]
 pub struct ProtoVar {
     pub name: Bytes,
     pub kind: Kind,
@@ -20,7 +20,7 @@ pub struct ProtoVar {
 
 /// A prototype: its site, the name of its time axis, its dimensions with their lengths, its global attributes, and the
 /// variables that the views show. The record dimension has the number of records as its length here.
-#[derive(Debug, Drop)]
+#[derive(Drop)]
 pub struct Proto {
     pub site: Site,
     pub axis: Bytes,
@@ -30,7 +30,7 @@ pub struct Proto {
 }
 
 /// Why a file is no prototype. A name is that of a variable or a dimension of the file.
-#[derive(Debug, Drop)]
+#[derive(Drop)]
 pub enum ProtoFault {
     Header(HeaderFault),
     Layout(LayoutFault),

@@ -15,7 +15,7 @@ pub struct Row {
 
 /// The best time series, the best time series with a least offset in seconds, or the dataset of a run, of a constant
 /// offset in seconds, or of a constant forecast time.
-#[derive(Clone, Copy, Debug, PartialEq, Eq)]
+#[derive(Clone, Copy)]
 pub enum ViewName {
     Best,
     BestFrom(i64),

@@ -6,6 +6,7 @@ use crate::untaken::Untaken;
 use fm_base::Fail;
 use fm_edition::Edition;
 use std::alloc::Global;
+use std::mem::replace;
 
 /// The edition over a prototype after some files are put, each under its name.
 pub fn collection(
@@ -14,10 +15,32 @@ pub fn collection(
     files: &[(&[u8], File)],
 ) -> Result<Edition, Fail<Untaken>> {
     let mut edition = edition_of(alloc, proto.bytes(alloc)?)?;
-    for (name, file) in files {
-        edition = edition_with(alloc, &edition, name, file.bytes(alloc)?)?;
+    match put_all(alloc, &mut edition, files) {
+        Ok(()) => Ok(edition),
+        Err(fail) => {
+            drop(edition);
+            Err(fail)
+        }
     }
-    Ok(edition)
+}
+
+// Puts some files, each under its name.
+fn put_all(
+    alloc: Global,
+    edition: &mut Edition,
+    files: &[(&[u8], File)],
+) -> Result<(), Fail<Untaken>> {
+    for (name, file) in files {
+        put(alloc, edition, name, *file)?;
+    }
+    Ok(())
+}
+
+// Puts one more file.
+fn put(alloc: Global, edition: &mut Edition, name: &[u8], file: File) -> Result<(), Fail<Untaken>> {
+    let next = edition_with(alloc, edition, name, file.bytes(alloc)?)?;
+    drop(replace(edition, next));
+    Ok(())
 }
 
 /// The first collection: the runs of 2024-01-01T00:00:00Z and 06:00 of the file of `nc_sample`.

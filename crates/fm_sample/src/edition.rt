@@ -83,7 +83,9 @@ pub fn edition_with(
 {
     let file = taken_file(alloc, edition.proto().get(), name, bytes)?;
     let op = Op::Put(Arc::new(alloc, file)?);
-    match edition.after(alloc, &op) {
+    let after = edition.after(alloc, &op);
+    drop(op);
+    match after {
         Ok(next) => Ok(next),
         Err(Fail::NoMemory) => Err(Fail::NoMemory),
         Err(Fail::Fault(full)) => Err(Fail::Fault(Untaken::TooMany(full))),

@@ -6,7 +6,7 @@ use nc_sample::{SAMPLE, bytes_of};
 use std::alloc::Global;
 
 /// A file.
-#[derive(Clone, Copy, Debug, PartialEq, Eq)]
+#[derive(Clone, Copy)]
 pub enum File {
     /// The run of 2024-01-01T00:00:00Z of the first collection: the file of `nc_sample`.
     Sample,

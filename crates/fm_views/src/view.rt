@@ -11,7 +11,7 @@ use fm_rows::Rows;
 use std::alloc::Global;
 
 /// A view has no rows.
-#[derive(Clone, Copy, Debug, PartialEq, Eq)]
+#[derive(Clone, Copy)]
 pub struct NoRows;
 
 /// The rows of a view, or that it has none. Those of the best time series are the edition's own pages, shared; those of

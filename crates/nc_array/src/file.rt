@@ -11,7 +11,7 @@ use nc_model::{Header, NcVar};
 use std::marker::Model;
 
 /// The bytes of a file and their layout, which is over as many bytes. Clauses see both.
-#[derive(Debug, Drop)]
+#[derive(Drop)]
 pub struct FileView<'a> {
     pub(crate) layout: Layout,
     pub(crate) bytes: &'a [u8],

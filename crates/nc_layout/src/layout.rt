@@ -11,7 +11,7 @@ use std::marker::Model;
 
 /// A header, and where the elements of its variables lie in a file of a known length. No element that a variable has
 /// lies past the file's end.
-#[derive(Debug, Drop)]
+#[derive(Drop)]
 pub struct Layout {
     pub(crate) header: Header,
     pub(crate) len: u64,

@@ -4,7 +4,7 @@ ghost use Rattle.nc_model.specs.Code.{header_fault_code, layout_fault_code};
 ghost use Rattle.nc_model.specs.Sound.{format_fault_code};
 
 /// The first fault of a header, with the offset of the first byte of the field at fault, counted from 0.
-#[derive(Clone, Copy, Debug, PartialEq, Eq)]
+#[derive(Clone, Copy)]
 pub enum HeaderFault {
     /// The file doesn't begin with `CDF` and a fourth byte.
     BadMagic,
@@ -55,7 +55,7 @@ impl HeaderFault {
 }
 
 /// What is wrong with where the data of a sound header lies. A variable is named by its number from 0.
-#[derive(Clone, Copy, Debug, PartialEq, Eq)]
+#[derive(Clone, Copy)]
 pub enum LayoutFault {
     /// One record of the variable, or all of it where it has no records, takes more than 2^40 bytes.
     TooLarge(u64),
@@ -76,7 +76,7 @@ impl LayoutFault {
 }
 
 /// What is wrong with a file: its header, or where its data lies.
-#[derive(Clone, Copy, Debug, PartialEq, Eq)]
+#[derive(Clone, Copy)]
 pub enum FormatFault {
     OfHeader(HeaderFault),
     OfLayout(LayoutFault),

@@ -4,14 +4,14 @@ use crate::kind::Kind;
 use fm_base::{Bytes, List};
 
 /// A dimension. The record dimension has the size 0.
-#[derive(Debug, Drop)]
+#[derive(Drop)]
 pub struct Dim {
     pub name: Bytes,
     pub size: u64,
 }
 
 /// An attribute. Its values are the bytes as they stand in the file, without padding.
-#[derive(Debug, Drop)]
+#[derive(Drop)]
 pub struct Attr {
     pub name: Bytes,
     pub kind: Kind,
@@ -19,7 +19,7 @@ pub struct Attr {
 }
 
 /// A variable: the numbers of its dimensions, slowest first, and the offset of its first byte in the file.
-#[derive(Debug, Drop)]
+#[derive(Drop)]
 pub struct NcVar {
     pub name: Bytes,
     pub dims: List<u32>,
@@ -29,7 +29,7 @@ pub struct NcVar {
 }
 
 /// A header: the version is 1 or 2, and there are `numrecs` records.
-#[derive(Debug, Drop)]
+#[derive(Drop)]
 pub struct Header {
     pub version: u8,
     pub numrecs: u32,

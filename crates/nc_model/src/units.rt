@@ -3,14 +3,14 @@ ghost use Rattle.std.specs.Prelude.{◌≡◌};
 ghost use Rattle.nc_model.specs.Code.{units_fault_code};
 
 /// A number `x` in these units stands for the moment `origin + per * x`, in Unix seconds.
-#[derive(Clone, Copy, Debug, PartialEq, Eq)]
+#[derive(Clone, Copy)]
 pub struct Units {
     pub per: u32,
     pub origin: i64,
 }
 
 /// The fault of a `units` attribute with the `calendar` attribute beside it, if there is one.
-#[derive(Clone, Copy, Debug, PartialEq, Eq)]
+#[derive(Clone, Copy)]
 pub enum UnitsFault {
     /// The text isn't `UNIT since DATE TIME ZONE`. The offset is that of the first byte at fault, counted from 0.
     BadUnits(u64),

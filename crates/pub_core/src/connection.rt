@@ -73,7 +73,7 @@ impl Connection {
         ensures seen { self.new.seen ≡ self.old.seen }
     {
         self.session.on(Step::Answer { len: plan.len() });
-        self.plan = Some(plan);
+        drop(self.plan.replace(plan));
     }
 
     // What is to be done for the present request.

@@ -18,6 +18,7 @@ use fm_base::{Arc, Bytes, Fail, List, NoMemory};
 use fm_edition::Edition;
 use fm_model::{Op, Proto};
 use std::alloc::Global;
+use std::mem::replace;
 
 // The operations that were published, what they leave, and the sessions.
 #[derive(Drop)]
@@ -58,6 +59,24 @@ fn seen_by(alloc: Global, connections: &[Connection]) -> Result<List<u64>, NoMem
         seen.push(connection.seen)?;
     }
     Ok(seen)
+}
+
+// What the sessions were sent, and what they have seen.
+#[derive(Drop)]
+struct Told {
+    outputs: List<Bytes>,
+    seen: List<u64>,
+}
+
+// The same of each session.
+fn told_by(alloc: Global, connections: &[Connection]) -> Result<Told, NoMemory>
+    ensures outputs { IfOk result (λ told. told.outputs ≡ map (λ (c : Speaker). c.output) connections.now) }
+    ensures seen { IfOk result (λ told. told.seen ≡ map (λ (c : Speaker). c.seen) connections.now) }
+{
+    Ok(Told {
+        outputs: outputs_of(alloc, connections)?,
+        seen: seen_by(alloc, connections)?,
+    })
 }
 
 // An event of the session of a number, if there is one.
@@ -107,10 +126,12 @@ impl Machine {
         requires { IsPrototype proto }
         ensures { IfOk result (λ made. IsMachine proto made (start sessions)) }
     {
+        let connections = untouched(alloc, sessions)?;
+        let edition = Edition::empty(alloc, proto)?;
         Ok(Machine {
-            edition: Edition::empty(alloc, proto)?,
+            edition,
             log: List::new(alloc),
-            connections: untouched(alloc, sessions)?,
+            connections,
         })
     }
 
@@ -122,8 +143,8 @@ impl Machine {
     {
         match self.edition.after(alloc, op) {
             Ok(next) => {
+                drop(replace(&mut self.edition, next));
                 self.log.push(op.copy(alloc)?)?;
-                self.edition = next;
                 Ok(())
             }
             Err(Fail::Fault(_)) => Ok(()),
@@ -170,12 +191,17 @@ impl Machine {
         ensures { IfOk result (λ outcome. (world : World) → IsMachine self.edition.proto self world
             → outcome ≡ outcome_of self.edition.proto world) }
     {
-        let outputs = outputs_of(alloc, self.connections.as_slice())?;
-        let seen = seen_by(alloc, self.connections.as_slice())?;
+        let Machine {
+            edition,
+            log,
+            connections,
+        } = self;
+        drop(edition);
+        let told = told_by(alloc, connections.as_slice())?;
         Ok(Outcome {
-            log: self.log,
-            outputs,
-            seen,
+            log,
+            outputs: told.outputs,
+            seen: told.seen,
         })
     }
 }

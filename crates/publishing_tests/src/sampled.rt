@@ -18,7 +18,10 @@ pub fn bytes_of(rt: &impl Abort, alloc: Global, file: File) -> Bytes {
 
 /// The collection over the sample, without files.
 pub fn empty(rt: &impl Abort, alloc: Global) -> Edition {
-    edition_of(alloc, bytes_of(rt, alloc, File::Sample)).expect(rt, "a prototype")
+    let Ok(edition) = edition_of(alloc, bytes_of(rt, alloc, File::Sample)) else {
+        panic!(rt; "the sample is a prototype");
+    };
+    edition
 }
 
 /// One more owner of a value.
@@ -47,6 +50,8 @@ pub fn loaded(
     ensures { Fits result proto.now }
 {
     assert!(rt; bytes.len() <= 352);
-    let file = load(alloc, name, bytes, proto).expect(rt, "a file of the collection");
+    let Ok(file) = load(alloc, name, bytes, proto) else {
+        panic!(rt; "a file of the collection");
+    };
     Arc::new(alloc, file).expect(rt, "memory")
 }

@@ -126,21 +126,45 @@ fn agrees(plan: &Plan, bytes: &[u8], step: usize, room: &mut [u8]) -> bool {
 /// other offsets. Of a plan over 32,768 bytes the pieces of 7 are those of its front and its end.
 pub fn all_of(alloc: Global, plan: &Plan) -> Result<Bytes, Fail<Wrong>> {
     let mut room = [0; 8_192];
-    let mut large = [0; 65_536];
-    let mut few = [0; 64];
     let bytes = in_pieces(alloc, plan, &mut room)?;
-    let all = bytes.as_slice();
-    let step = step_of(all.len());
-    let same = bytes.len() as u64 == plan.len()
-        && is_in_sevens(plan, all)
-        && in_pieces(alloc, plan, &mut large)?.as_slice() == all
-        && as_lent(alloc, plan)?.as_slice() == all
-        && agrees(plan, all, step, &mut few)
-        && agrees(plan, all, step.max(61), &mut room);
-    if !same {
+    if !is_taken_alike(alloc, plan, bytes.as_slice(), &mut room)? {
         return Err(Fail::Fault(Wrong::Taken));
     }
     Ok(bytes)
+}
+
+// Whether a plan has these bytes, however they are taken.
+fn is_taken_alike(
+    alloc: Global,
+    plan: &Plan,
+    bytes: &[u8],
+    room: &mut [u8],
+) -> Result<bool, NoMemory> {
+    if !is_each_alike(plan, bytes, room) || !is_in_large(alloc, plan, bytes)? {
+        return Ok(false);
+    }
+    is_lent(alloc, plan, bytes)
+}
+
+// Whether a plan has these bytes in pieces of 65,536.
+fn is_in_large(alloc: Global, plan: &Plan, bytes: &[u8]) -> Result<bool, NoMemory> {
+    let mut large = [0; 65_536];
+    Ok(in_pieces(alloc, plan, &mut large)?.as_slice() == bytes)
+}
+
+// Whether a plan has these bytes as they are lent.
+fn is_lent(alloc: Global, plan: &Plan, bytes: &[u8]) -> Result<bool, NoMemory> {
+    Ok(as_lent(alloc, plan)?.as_slice() == bytes)
+}
+
+// Whether a plan has these bytes in pieces of 7, and from other offsets.
+fn is_each_alike(plan: &Plan, bytes: &[u8], room: &mut [u8]) -> bool {
+    let mut few = [0; 64];
+    let step = step_of(bytes.len());
+    bytes.len() as u64 == plan.len()
+        && is_in_sevens(plan, bytes)
+        && agrees(plan, bytes, step, &mut few)
+        && agrees(plan, bytes, step.max(61), room)
 }
 
 /// Adds bytes as lines of eight words of eight hexadecimal digits.

@@ -6,7 +6,7 @@ use dap_model::Decl;
 use fm_base::{Bytes, Fail, List};
 use row_text::Row;
 use std::alloc::Global;
-use text_rows::{Wrong, read_decl};
+use text_rows::{Wrong, put_decl};
 
 /// Puts the structure text of a row's `declare` lines under its `label`, which has as many bytes as are counted.
 pub fn put_declared(alloc: Global, row: &Row<'_>, out: &mut String) -> Result<(), Fail<Wrong>> {
@@ -21,12 +21,17 @@ pub fn put_declared(alloc: Global, row: &Row<'_>, out: &mut String) -> Result<()
 // The declarations of a row.
 fn declared(alloc: Global, row: &Row<'_>) -> Result<List<Decl>, Fail<Wrong>> {
     let mut decls = List::new(alloc);
+    put_decls(alloc, row, &mut decls)?;
+    Ok(decls)
+}
+
+fn put_decls(alloc: Global, row: &Row<'_>, decls: &mut List<Decl>) -> Result<(), Fail<Wrong>> {
     for field in &row.fields {
         if field.key == "declare" {
-            decls.push(read_decl(alloc, field.value.as_str())?)?;
+            put_decl(alloc, field.value.as_str(), decls)?;
         }
     }
-    Ok(decls)
+    Ok(())
 }
 
 // Puts the structure text, which has as many bytes as are counted.

@@ -1,17 +1,18 @@
 //! Events of sessions over one collection, in the order of a row's lines.
 ghost use Rattle.std.specs.Prelude.{◌≡◌, All, IfOk};
+ghost use Rattle.fm_model.specs.Site.{IsPrototype};
 ghost use Rattle.pub_core.specs.Outcome.{EventFits};
 
 use super::bytes::{end, put_text};
 use super::collection::{described, epoch_of, prototype};
 use super::moments::read_moment;
-use fm_base::{Arc, Bytes, Fail, List};
+use fm_base::{Arc, Bytes, Fail, List, NoMemory};
 use fm_load::load;
 use fm_model::{Op, Proto};
 use pub_core::{Event, Outcome, run_all};
 use row_text::{File, Row, bytes};
 use std::alloc::Global;
-use text_rows::Wrong;
+use text_rows::{Wrong, wrong_form};
 
 /// Puts the outcome of a row's events: the number of operations, and for each session its revision and its bytes.
 pub fn put_events(
@@ -24,24 +25,55 @@ pub fn put_events(
         return Err(Fail::Fault(Wrong::Form));
     }
     epoch_of(row)?;
+    let words = words_of(alloc, row)?;
+    put_run(alloc, files, row, words.as_slice(), out)
+}
+
+// Puts the outcome of the events of some words each.
+fn put_run(
+    alloc: Global,
+    files: &[File],
+    row: &Row<'_>,
+    words: &[&str],
+    out: &mut String,
+) -> Result<(), Fail<Wrong>> {
     let sessions = session_number(row.value("sessions").unwrap_or(""))?;
     let proto = prototype(alloc, files, row.value("prototype").unwrap_or(""))?;
-    let words = words_of(alloc, row)?;
-    let events = events_of(alloc, files, proto.get(), words.as_slice())?;
-    let outcome = run_all(alloc, proto, sessions, &events)?;
-    put_outcome(&outcome, out)
+    let outcome = outcome_of(alloc, files, proto, sessions, words)?;
+    let put = put_outcome(&outcome, out);
+    drop(outcome);
+    put
+}
+
+// The outcome of the events of some words each.
+fn outcome_of(
+    alloc: Global,
+    files: &[File],
+    proto: Arc<Proto>,
+    sessions: u32,
+    words: &[&str],
+) -> Result<Outcome, Fail<Wrong>>
+    requires { IsPrototype proto }
+{
+    let events = events_of(alloc, files, proto.get(), words)?;
+    Ok(run_all(alloc, proto, sessions, &events)?)
 }
 
 // The words of a row's events; the only one of `none` is none.
-fn words_of<'a>(alloc: Global, row: &'a Row<'_>) -> Result<Vec<&'a str>, Fail<Wrong>> {
+fn words_of<'a>(alloc: Global, row: &'a Row<'_>) -> Result<Vec<&'a str>, NoMemory> {
     let mut all = Vec::new(alloc);
+    put_words(row, &mut all)?;
+    Ok(all)
+}
+
+fn put_words<'a>(row: &'a Row<'_>, all: &mut Vec<&'a str>) -> Result<(), NoMemory> {
     for field in &row.fields {
         let words = field.value.as_str();
         if field.key == "event" && words != "none" {
             all.push(words)?;
         }
     }
-    Ok(all)
+    Ok(())
 }
 
 // The events of some words each.
@@ -85,14 +117,19 @@ fn put(alloc: Global, files: &[File], proto: &Proto, words: &str) -> Result<Even
     ensures { IfOk result (EventFits proto.now) }
 {
     let (name, words) = words.split_once(' ').unwrap_or((words, ""));
-    let content = described(alloc, files, words)?;
-    if content.len() > 536_870_912 {
+    put_bytes(alloc, name, described(alloc, files, words)?, proto)
+}
+
+// The put of a file of a name that some bytes are.
+fn put_bytes(alloc: Global, name: &str, bytes: Bytes, proto: &Proto) -> Result<Event, Fail<Wrong>>
+    ensures { IfOk result (EventFits proto.now) }
+{
+    if bytes.len() > 536_870_912 {
         return Err(Fail::Fault(Wrong::Form));
     }
-    match load(alloc, name.as_bytes(), content, proto) {
+    match load(alloc, name.as_bytes(), bytes, proto) {
         Ok(file) => Ok(Event::Publish(Op::Put(Arc::new(alloc, file)?))),
-        Err(Fail::Fault(_)) => Err(Fail::Fault(Wrong::Form)),
-        Err(Fail::NoMemory) => Err(Fail::NoMemory),
+        Err(fail) => Err(wrong_form(fail)),
     }
 }
 
@@ -133,13 +170,17 @@ fn put_outcome(outcome: &Outcome, out: &mut String) -> Result<(), Fail<Wrong>> {
     write!(out, "operations {}", outcome.log.len())?;
     for (session, output) in outcome.outputs.as_slice().iter().enumerate() {
         let seen = outcome.seen.as_slice().get(session).copied().unwrap_or(0);
-        write!(
-            out,
-            "\nsession {session} has seen {seen}, and was sent {} bytes\n",
-            output.len()
-        )?;
-        put_text(output.as_slice(), out)?;
-        end(out)?;
+        put_session(session, seen, output.as_slice(), out)?;
     }
     Ok(())
+}
+
+fn put_session(session: usize, seen: u64, output: &[u8], out: &mut String) -> Result<(), NoMemory> {
+    write!(
+        out,
+        "\nsession {session} has seen {seen}, and was sent {} bytes\n",
+        output.len()
+    )?;
+    put_text(output, out)?;
+    end(out)
 }

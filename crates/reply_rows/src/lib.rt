@@ -5,8 +5,11 @@ mod bytes;
 mod collection;
 mod declared;
 mod events;
+mod keys;
 mod moments;
+mod operations;
 mod questions;
+mod replies;
 mod requests;
 mod steps;
 
@@ -91,12 +94,17 @@ fn put_unwanted(text: &str, out: &mut String) -> Result<bool, AllocError> {
 // The rows of all texts in the folder `replies`.
 fn all_rows(alloc: Global, texts: &[Text]) -> Result<Vec<Row<'_>>, AllocError> {
     let mut all = Vec::new(alloc);
+    put_all(alloc, texts, &mut all)?;
+    Ok(all)
+}
+
+fn put_all<'a>(alloc: Global, texts: &'a [Text], all: &mut Vec<Row<'a>>) -> Result<(), AllocError> {
     for text in texts {
         if text.folder() == "replies" {
-            put_rows(rows(alloc, text.text.as_str())?, &mut all)?;
+            put_rows(rows(alloc, text.text.as_str())?, all)?;
         }
     }
-    Ok(all)
+    Ok(())
 }
 
 fn put_rows<'a>(rows: Vec<Row<'a>>, all: &mut Vec<Row<'a>>) -> Result<(), AllocError> {

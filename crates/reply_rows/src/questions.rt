@@ -1,9 +1,9 @@
 //! Questions about what a collection holds.
 
 use super::moments::{put_moment, read_moment, read_number};
-use fm_base::{Fail, NoMemory};
+use fm_base::{Arc, Fail, NoMemory};
 use fm_edition::Edition;
-use fm_model::{Row, Tally, ViewName};
+use fm_model::{Loaded, Row, Tally, ViewName};
 use fm_rows::Rows;
 use fm_views::{row_count, rows};
 use pub_look::Query;
@@ -48,10 +48,24 @@ fn put_answer(
     let (what, rest) = words.split_once(' ').unwrap_or((words, ""));
     match what {
         "tally" => put_tally(edition.tally(), out),
-        "runs" => put_runs(alloc, edition, epoch, out),
-        "times" => put_times(alloc, edition, epoch, read_moment(epoch, rest)?, out),
         "holds" => put_yes_or_no(edition.holds(rest.as_bytes()), out),
-        "older" => put_yes_or_no(edition.older_than(read_moment(epoch, rest)?), out),
+        "older" => put_older(edition, epoch, rest, out),
+        "runs" => put_runs(alloc, edition, epoch, out),
+        _ => put_answer_at(alloc, edition, epoch, what, rest, out),
+    }
+}
+
+// Puts the answer to a question about times.
+fn put_answer_at(
+    alloc: Global,
+    edition: &Edition,
+    epoch: i64,
+    what: &str,
+    rest: &str,
+    out: &mut String,
+) -> Result<(), Fail<Wrong>> {
+    match what {
+        "times" => put_times(alloc, edition, epoch, rest, out),
         "cell" => put_cell(edition, epoch, rest, out),
         "best" => put_best(alloc, edition, epoch, rest, out),
         "rows" => put_view(alloc, edition, epoch, rest, out),
@@ -71,6 +85,16 @@ fn put_yes_or_no(yes: bool, out: &mut String) -> Result<(), Fail<Wrong>> {
     Ok(out.push_str(if yes { "yes" } else { "no" })?)
 }
 
+fn put_older(
+    edition: &Edition,
+    epoch: i64,
+    words: &str,
+    out: &mut String,
+) -> Result<(), Fail<Wrong>> {
+    let cutoff = read_moment(epoch, words)?;
+    put_yes_or_no(edition.older_than(cutoff), out)
+}
+
 fn put_runs(
     alloc: Global,
     edition: &Edition,
@@ -85,10 +109,10 @@ fn put_times(
     alloc: Global,
     edition: &Edition,
     epoch: i64,
-    run: i64,
+    words: &str,
     out: &mut String,
 ) -> Result<(), Fail<Wrong>> {
-    let times = edition.times_of(alloc, run)?;
+    let times = edition.times_of(alloc, read_moment(epoch, words)?)?;
     Ok(put_moments(alloc, epoch, times.as_slice(), out)?)
 }
 
@@ -113,10 +137,19 @@ fn put_cell(
 ) -> Result<(), Fail<Wrong>> {
     let (run, valid) = words.split_once(' ').unwrap_or((words, ""));
     let (run, valid) = (read_moment(epoch, run)?, read_moment(epoch, valid)?);
-    let Some((file, index)) = edition.cell(run, valid) else {
-        return Ok(out.push_str("none")?);
-    };
-    put_shown(file.get().name.as_slice(), out)?;
+    put_found(edition.cell(run, valid), out)
+}
+
+fn put_found(found: Option<(&Arc<Loaded>, u32)>, out: &mut String) -> Result<(), Fail<Wrong>> {
+    match found {
+        Some((file, index)) => Ok(put_place(file.get(), index, out)?),
+        None => Ok(out.push_str("none")?),
+    }
+}
+
+// Puts the name of a file and the index of a time in it.
+fn put_place(file: &Loaded, index: u32, out: &mut String) -> Result<(), NoMemory> {
+    put_shown(file.name.as_slice(), out)?;
     Ok(write!(out, " {index}")?)
 }
 
@@ -128,17 +161,18 @@ fn put_best(
     words: &str,
     out: &mut String,
 ) -> Result<(), Fail<Wrong>> {
-    let run = match words.split_once(' ') {
-        Some((valid, least)) => {
-            let least = read_number(least)?;
-            edition.best_run(read_moment(epoch, valid)?, Some(least))
-        }
-        None => edition.best_run(read_moment(epoch, words)?, None),
-    };
-    match run {
+    match best_of(edition, epoch, words)? {
         Some(run) => Ok(put_moment(alloc, epoch, run, out)?),
         None => Ok(out.push_str("none")?),
     }
+}
+
+fn best_of(edition: &Edition, epoch: i64, words: &str) -> Result<Option<i64>, Fail<Wrong>> {
+    let (valid, least) = match words.split_once(' ') {
+        Some((valid, least)) => (valid, Some(read_number(least)?)),
+        None => (words, None),
+    };
+    Ok(edition.best_run(read_moment(epoch, valid)?, least))
 }
 
 // The view of some words.
@@ -164,7 +198,17 @@ fn put_view(
 ) -> Result<(), Fail<Wrong>> {
     let view = view_of(epoch, words)?;
     write!(out, "rows {}", row_count(alloc, edition, &view)?)?;
-    match rows(alloc, edition, &view) {
+    put_rows_of(alloc, edition, epoch, &view, out)
+}
+
+fn put_rows_of(
+    alloc: Global,
+    edition: &Edition,
+    epoch: i64,
+    view: &ViewName,
+    out: &mut String,
+) -> Result<(), Fail<Wrong>> {
+    match rows(alloc, edition, view) {
         Ok(found) => Ok(put_rows(alloc, epoch, &found, out)?),
         Err(Fail::Fault(_)) => Ok(()),
         Err(Fail::NoMemory) => Err(Fail::NoMemory),
@@ -186,6 +230,5 @@ fn put_row(alloc: Global, epoch: i64, row: &Row, out: &mut String) -> Result<(),
     out.push(' ')?;
     put_moment(alloc, epoch, row.run, out)?;
     out.push(' ')?;
-    put_shown(row.file.get().name.as_slice(), out)?;
-    Ok(write!(out, " {}", row.place)?)
+    put_place(row.file.get(), row.place, out)
 }

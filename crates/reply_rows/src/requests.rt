@@ -1,7 +1,8 @@
 //! The reply to a request.
 
-use dap_reply::{Order, Plan, order, refusal};
+use dap_reply::{Dap, Order, Plan, order, refusal};
 use fm_base::{Bytes, Fail, NoMemory};
+use fm_model::Site;
 use fm_sample::ItsProto;
 use pub_look::{Look, Plain};
 use std::alloc::Global;
@@ -32,6 +33,13 @@ pub fn get(alloc: Global, target: &[u8]) -> Result<Wanted, NoMemory> {
 pub fn first_of(alloc: Global, bytes: &[u8]) -> Result<Wanted, Fail<Wrong>> {
     let mut frame = Frame::new(alloc)?;
     frame.feed(bytes);
+    let wanted = next_of(alloc, &mut frame);
+    drop(frame);
+    wanted
+}
+
+// The next request of a frame.
+fn next_of(alloc: Global, frame: &mut Frame) -> Result<Wanted, Fail<Wrong>> {
     let asked = match frame.next() {
         Next::Need => return Err(Fail::Fault(Wrong::Form)),
         Next::Head(request) => Asked::Head(request),
@@ -45,13 +53,39 @@ pub fn first_of(alloc: Global, bytes: &[u8]) -> Result<Wanted, Fail<Wrong>> {
 /// The plan of the reply to a request, which ends its connection where the request says so, or isn't one.
 pub fn plan_for(alloc: Global, plain: &mut Plain, wanted: &Wanted) -> Result<Plan, NoMemory> {
     let (proto, _) = plain.ask(alloc, &ItsProto)?;
-    let last = match wanted.asked {
+    plan_over(alloc, plain, &proto.get().site, wanted)
+}
+
+// The plan of the reply to a request at a site.
+fn plan_over(
+    alloc: Global,
+    plain: &mut Plain,
+    site: &Site,
+    wanted: &Wanted,
+) -> Result<Plan, NoMemory> {
+    let last = is_last(wanted.asked);
+    let ordered = order(alloc, wanted.asked, wanted.target.as_slice(), last, site)?;
+    let plan = plan_of(alloc, plain, &ordered);
+    drop(ordered);
+    plan
+}
+
+// Whether a request ends its connection.
+fn is_last(asked: Asked) -> bool {
+    match asked {
         Asked::Head(request) => request.close || request.has_body,
         _ => true,
-    };
-    let target = wanted.target.as_slice();
-    match order(alloc, wanted.asked, target, last, &proto.get().site)? {
-        Order::Wanted(dap) => Ok(plain.ask(alloc, &dap)?.0),
-        Order::Refused { fault, head, last } => { refusal(alloc, &fault, plain.seen(), head, last) }
     }
+}
+
+fn plan_of(alloc: Global, plain: &mut Plain, ordered: &Order) -> Result<Plan, NoMemory> {
+    match ordered {
+        Order::Wanted(dap) => plan_wanted(alloc, plain, dap),
+        Order::Refused { fault, head, last } => refusal(alloc, fault, plain.seen(), *head, *last),
+    }
+}
+
+fn plan_wanted(alloc: Global, plain: &mut Plain, dap: &Dap) -> Result<Plan, NoMemory> {
+    let (plan, _) = plain.ask(alloc, dap)?;
+    Ok(plan)
 }

@@ -1,37 +1,17 @@
 //! The steps of a row over a collection: operations, questions and a request, in the order of its lines.
 
-use super::bytes::{all_of, end, put_lines, put_text};
-use super::collection::{described, epoch_of, prototype, put_file, put_revised};
+use super::collection::{described, epoch_of, prototype, put_revised};
+use super::keys::{goes_on, opens};
 use super::moments::read_moment;
-use super::questions::Question;
-use super::requests::{first_of, get, plan_for};
+use super::operations::{put_expired, put_many, put_one, put_said};
+use super::replies::put_planned;
+use super::requests::{Wanted, first_of, get, plan_for};
 use dap_reply::Plan;
-use fm_base::{Bytes, Fail};
-use pub_look::{Look, Plain};
+use fm_base::Fail;
+use pub_look::Plain;
 use row_text::{File, Row, bytes};
 use std::alloc::Global;
 use text_rows::Wrong;
-
-// The keys of a row that opens a collection, and of one that goes on from another.
-const OPENS: [&str; 12] = [
-    "prototype",
-    "epoch",
-    "put",
-    "puts",
-    "expire",
-    "retract",
-    "ask",
-    "target",
-    "request",
-    "stream",
-    "data",
-    "lent",
-];
-
-const GOES_ON: [&str; 11] = [
-    "given", "put", "puts", "expire", "retract", "ask", "target", "request", "stream", "data",
-    "lent",
-];
 
 // A collection with its epoch, and the plan of a reply from where it was asked for.
 #[derive(Drop)]
@@ -49,11 +29,24 @@ pub fn put_steps(
     next: Option<&Row<'_>>,
     out: &mut String,
 ) -> Result<(), Fail<Wrong>> {
-    if !first.has_only(&OPENS) {
+    if !opens(first) {
         return Err(Fail::Fault(Wrong::Form));
     }
+    put_opened(alloc, files, first, next, out)
+}
+
+// Opens a collection, and puts what is said of the steps.
+fn put_opened(
+    alloc: Global,
+    files: &[File],
+    first: &Row<'_>,
+    next: Option<&Row<'_>>,
+    out: &mut String,
+) -> Result<(), Fail<Wrong>> {
     let mut steps = opened(alloc, files, first)?;
-    steps.put(alloc, files, first, next, out)
+    let put = steps.put(alloc, files, first, next, out);
+    drop(steps);
+    put
 }
 
 fn opened(alloc: Global, files: &[File], row: &Row<'_>) -> Result<Steps, Fail<Wrong>> {
@@ -78,10 +71,21 @@ impl Steps {
         out: &mut String,
     ) -> Result<(), Fail<Wrong>> {
         self.put_run(alloc, files, first, out)?;
-        let Some(next) = next else {
-            return self.put_end(alloc, files, first, out);
-        };
-        if !next.has_only(&GOES_ON) || self.plan.is_some() {
+        match next {
+            Some(next) => self.put_next(alloc, files, next, out),
+            None => self.put_end(alloc, files, first, out),
+        }
+    }
+
+    // Does the steps of a row that goes on from one that asks for no reply.
+    fn put_next(
+        &mut self,
+        alloc: Global,
+        files: &[File],
+        next: &Row<'_>,
+        out: &mut String,
+    ) -> Result<(), Fail<Wrong>> {
+        if !goes_on(next) || self.plan.is_some() {
             return Err(Fail::Fault(Wrong::Form));
         }
         out.clear();
@@ -117,16 +121,42 @@ impl Steps {
                 out.push_str(if out.is_empty() { "" } else { "\n" })?;
                 self.put_line(alloc, files, key, value, out)
             }
+            _ => self.request_by(alloc, files, key, value),
+        }
+    }
+
+    // Asks for the reply that a line asks for.
+    fn request_by(
+        &mut self,
+        alloc: Global,
+        files: &[File],
+        key: &str,
+        value: &str,
+    ) -> Result<(), Fail<Wrong>> {
+        match key {
             "target" => self.request(alloc, value.as_bytes(), false),
-            "request" => match bytes(alloc, value)? {
-                Some(head) => self.request(alloc, head.as_slice(), true),
-                None => Err(Fail::Fault(Wrong::Form)),
-            },
-            "stream" => {
-                let head = described(alloc, files, value)?;
-                self.request(alloc, head.as_slice(), true)
-            }
+            "request" => self.request_head(alloc, value),
+            "stream" => self.request_described(alloc, files, value),
             _ => Ok(()),
+        }
+    }
+
+    // Asks for the reply to the head that some words describe.
+    fn request_described(
+        &mut self,
+        alloc: Global,
+        files: &[File],
+        words: &str,
+    ) -> Result<(), Fail<Wrong>> {
+        let head = described(alloc, files, words)?;
+        self.request(alloc, head.as_slice(), true)
+    }
+
+    // Asks for the reply to the head that a value stands for.
+    fn request_head(&mut self, alloc: Global, value: &str) -> Result<(), Fail<Wrong>> {
+        match bytes(alloc, value)? {
+            Some(head) => self.request(alloc, head.as_slice(), true),
+            None => Err(Fail::Fault(Wrong::Form)),
         }
     }
 
@@ -139,14 +169,24 @@ impl Steps {
         value: &str,
         out: &mut String,
     ) -> Result<(), Fail<Wrong>> {
+        match key {
+            "put" => put_one(alloc, files, &mut self.plain, value, out),
+            "puts" => put_many(alloc, files, &mut self.plain, value, out),
+            _ => self.put_line_of_held(alloc, key, value, out),
+        }
+    }
+
+    // Puts what an operation on the files that are held says, or a question about them.
+    fn put_line_of_held(
+        &mut self,
+        alloc: Global,
+        key: &str,
+        value: &str,
+        out: &mut String,
+    ) -> Result<(), Fail<Wrong>> {
         let plain = &mut self.plain;
         match key {
-            "put" => put_one(alloc, files, plain, value, out),
-            "puts" => put_many(alloc, files, plain, value, out),
-            "expire" => {
-                let cutoff = read_moment(self.epoch, value)?;
-                put_revised(plain.expire(alloc, cutoff)?, out)
-            }
+            "expire" => put_expired(alloc, plain, read_moment(self.epoch, value)?, out),
             "retract" => put_revised(plain.retract(alloc, value.as_bytes())?, out),
             _ => put_said(alloc, plain, self.epoch, value, out),
         }
@@ -157,12 +197,14 @@ impl Steps {
         if self.plan.is_some() {
             return Err(Fail::Fault(Wrong::Form));
         }
-        let wanted = if whole {
-            first_of(alloc, text)?
-        } else {
-            get(alloc, text)?
-        };
-        self.plan = Some(plan_for(alloc, &mut self.plain, &wanted)?);
+        let wanted = wanted_of(alloc, text, whole)?;
+        self.ask(alloc, &wanted)
+    }
+
+    // Asks for the reply to a request.
+    fn ask(&mut self, alloc: Global, wanted: &Wanted) -> Result<(), Fail<Wrong>> {
+        let plan = plan_for(alloc, &mut self.plain, wanted)?;
+        drop(self.plan.replace(plan));
         Ok(())
     }
 
@@ -175,11 +217,7 @@ impl Steps {
         out: &mut String,
     ) -> Result<(), Fail<Wrong>> {
         match &self.plan {
-            Some(plan) => {
-                out.push_str(if out.is_empty() { "" } else { "\n" })?;
-                put_reply(alloc, files, row, plan, out)?;
-                Ok(end(out)?)
-            }
+            Some(plan) => put_planned(alloc, files, row, plan, out),
             None if row.value("data").is_some() || row.value("lent").is_some() => {
                 Err(Fail::Fault(Wrong::Form))
             }
@@ -188,103 +226,11 @@ impl Steps {
     }
 }
 
-// Puts the answer to a question in words.
-fn put_said(
-    alloc: Global,
-    plain: &mut Plain,
-    epoch: i64,
-    words: &str,
-    out: &mut String,
-) -> Result<(), Fail<Wrong>> {
-    match plain.ask(alloc, &Question { epoch, words })? {
-        (Some(text), _) => Ok(out.push_str(text.as_str())?),
-        (None, _) => Err(Fail::Fault(Wrong::Form)),
+// The request of a target or of a whole head.
+fn wanted_of(alloc: Global, text: &[u8], whole: bool) -> Result<Wanted, Fail<Wrong>> {
+    if whole {
+        first_of(alloc, text)
+    } else {
+        Ok(get(alloc, text)?)
     }
-}
-
-// Publishes the file that words describe under the name of the first.
-fn put_one(
-    alloc: Global,
-    files: &[File],
-    plain: &mut Plain,
-    words: &str,
-    out: &mut String,
-) -> Result<(), Fail<Wrong>> {
-    let (name, words) = words.split_once(' ').unwrap_or((words, ""));
-    let content = described(alloc, files, words)?;
-    put_file(alloc, plain, name.as_bytes(), content, out)
-}
-
-// Publishes a file so often, under the names that begin so and end in four digits, from 0000 on, and puts the last
-// answer.
-fn put_many(
-    alloc: Global,
-    files: &[File],
-    plain: &mut Plain,
-    words: &str,
-    out: &mut String,
-) -> Result<(), Fail<Wrong>> {
-    let (count, words) = words.split_once(' ').unwrap_or((words, ""));
-    let (front, words) = words.split_once(' ').unwrap_or((words, ""));
-    let count = count.parse::<u16>().ok().ok_or(Fail::Fault(Wrong::Form))?;
-    let content = described(alloc, files, words)?;
-    let mut said = String::new(alloc);
-    for number in 0..count {
-        said.clear();
-        put_numbered(alloc, plain, front, number, &content, &mut said)?;
-    }
-    Ok(out.push_str(said.as_str())?)
-}
-
-fn put_numbered(
-    alloc: Global,
-    plain: &mut Plain,
-    front: &str,
-    number: u16,
-    content: &Bytes,
-    out: &mut String,
-) -> Result<(), Fail<Wrong>> {
-    let name = format!(in alloc; "{front}{number:04}")?;
-    let bytes = Bytes::copy_of(alloc, content.as_slice())?;
-    put_file(alloc, plain, name.as_str().as_bytes(), bytes, out)
-}
-
-// Adds the bytes of a reply: the head and a text as text, data in hexadecimal digits or as the row describes it, and
-// how many bytes are lent from the offsets among the data that the row names.
-fn put_reply(
-    alloc: Global,
-    files: &[File],
-    row: &Row<'_>,
-    plan: &Plan,
-    out: &mut String,
-) -> Result<(), Fail<Wrong>> {
-    let all = all_of(alloc, plan)?;
-    let ready = plan.front.len().min(all.len());
-    let (front, data) = all.as_slice().split_at(ready);
-    put_text(front, out)?;
-    match row.value("data") {
-        Some(words) => {
-            if described(alloc, files, words)?.as_slice() != data {
-                return Err(Fail::Fault(Wrong::Data));
-            }
-            out.push_str("as described\n")?;
-        }
-        None => put_lines(data, out)?,
-    }
-    if let Some(offsets) = row.value("lent") {
-        put_lent(plan, offsets, out)?;
-    }
-    Ok(())
-}
-
-// Adds how many bytes are lent from each of some offsets among the data.
-fn put_lent(plan: &Plan, offsets: &str, out: &mut String) -> Result<(), Fail<Wrong>> {
-    out.push_str("lent")?;
-    for offset in offsets.split_whitespace() {
-        let offset = offset.parse::<u64>().ok().ok_or(Fail::Fault(Wrong::Form))?;
-        let from = offset.saturating_add(plan.front.len() as u64);
-        let count = plan.lent(from).len();
-        write!(out, " {count}")?;
-    }
-    Ok(out.push('\n')?)
 }

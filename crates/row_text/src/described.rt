@@ -33,21 +33,33 @@ fn put_content(
         name => put_named(files, name, out)?,
     };
     while known && let Some(word) = words.next() {
-        known = match word {
-            "at" => {
-                let offset = number(words.next());
-                replace(alloc, out, offset, words.next())?
-            }
-            "cut" => cut(out, number(words.next())),
-            "add" => fill(alloc, out, Some(1), words.next())?,
-            "fill" => {
-                let count = number(words.next());
-                fill(alloc, out, count, words.next())?
-            }
-            _ => false,
-        };
+        let first = words.next();
+        let second = if has_two(word) { words.next() } else { None };
+        known = change(alloc, word, first, second, out)?;
     }
     Ok(known)
+}
+
+// Whether two words stand behind the word for a change.
+fn has_two(word: &str) -> bool {
+    word == "at" || word == "fill"
+}
+
+// Makes the change that a word and those behind it describe. It is false where they describe none.
+fn change(
+    alloc: Global,
+    word: &str,
+    first: Option<&str>,
+    second: Option<&str>,
+    out: &mut Vec<u8>,
+) -> Result<bool, AllocError> {
+    match word {
+        "at" => replace(alloc, out, number(first), second),
+        "cut" => Ok(cut(out, number(first))),
+        "add" => fill(alloc, out, Some(1), first),
+        "fill" => fill(alloc, out, number(first), second),
+        _ => Ok(false),
+    }
 }
 
 // Appends the content of the file of a name. It is false where there is none.
@@ -71,9 +83,12 @@ fn replace(
     offset: Option<usize>,
     digits: Option<&str>,
 ) -> Result<bool, AllocError> {
-    match (offset, hex(alloc, digits.unwrap_or(""))?) {
-        (Some(offset), Some(bytes)) => Ok(put_at(content, offset, bytes.as_slice())),
-        _ => Ok(false),
+    let Some(offset) = offset else {
+        return Ok(false);
+    };
+    match hex(alloc, digits.unwrap_or(""))? {
+        Some(bytes) => Ok(put_at(content, offset, bytes.as_slice())),
+        None => Ok(false),
     }
 }
 
@@ -104,9 +119,12 @@ fn fill(
     count: Option<usize>,
     digits: Option<&str>,
 ) -> Result<bool, AllocError> {
-    match (count, hex(alloc, digits.unwrap_or(""))?) {
-        (Some(count), Some(bytes)) => repeat(content, count, bytes.as_slice()),
-        _ => Ok(false),
+    let Some(count) = count else {
+        return Ok(false);
+    };
+    match hex(alloc, digits.unwrap_or(""))? {
+        Some(bytes) => repeat(content, count, bytes.as_slice()),
+        None => Ok(false),
     }
 }
 

@@ -45,12 +45,20 @@ impl Inputs {
     // Reads one more file.
     fn read<R: Files + Alloc<A = Global>>(&mut self, rt: &R, path: String) -> io::Result<()> {
         if path.ends_with(".rows") {
-            let text = fs::read_to_string(rt, path.as_str())?;
-            Ok(self.texts.push(Text { path, text })?)
+            self.read_text(rt, path)
         } else {
-            let content = fs::read(rt, path.as_str())?;
-            Ok(self.add_file(rt.alloc(), path.as_str(), content)?)
+            self.read_file(rt, path.as_str())
         }
+    }
+
+    fn read_text<R: Files + Alloc<A = Global>>(&mut self, rt: &R, path: String) -> io::Result<()> {
+        let text = fs::read_to_string(rt, path.as_str())?;
+        Ok(self.texts.push(Text { path, text })?)
+    }
+
+    fn read_file<R: Files + Alloc<A = Global>>(&mut self, rt: &R, path: &str) -> io::Result<()> {
+        let content = fs::read(rt, path)?;
+        Ok(self.add_file(rt.alloc(), path, content)?)
     }
 
     // Adds a file that rows begin from, under its name without the folders in front.

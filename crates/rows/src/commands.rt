@@ -16,7 +16,7 @@ use std::alloc::{AllocError, Global};
 use std::marker::Sync;
 use std::sync::Wait;
 use std::thread::Threads;
-use world::world_of;
+use world::{MemWorld, world_of};
 
 // What the run of a row left, or `None` where the row isn't one, by the number of the row's first line.
 #[derive(Drop)]
@@ -66,8 +66,18 @@ fn ran_in<R: Threads + Wait + Sync>(
     given: &Given,
 ) -> Result<String, NoMemory> {
     let mut world = world_of(alloc, given)?;
-    let status = srv_run::run(rt, alloc, &given.words, &mut world);
-    shown::left(alloc, status, &world)
+    ran_over(rt, alloc, given, &mut world)
+}
+
+// What the run of a row's words left of a world.
+fn ran_over<R: Threads + Wait + Sync>(
+    rt: &R,
+    alloc: Global,
+    given: &Given,
+    world: &mut MemWorld,
+) -> Result<String, NoMemory> {
+    let status = srv_run::run(rt, alloc, &given.words, world);
+    shown::left(alloc, status, world)
 }
 
 /// Runs the rows of a text.

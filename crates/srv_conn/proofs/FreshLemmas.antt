@@ -8,5 +8,3 @@ use Rattle.dap_reply.specs.Served.{IsAtRest}
 pub fresh-rests : IsAtRest fresh
 unfolding next_of held_after cut_of head_len
 fresh-rests = record { session_is = refl }
-
-pub ruleset at_start = (fresh-rests)

@@ -15,7 +15,7 @@ use dap_reply::Plan;
 use dev_traits::{Failed, Link, Sent};
 use web_session::{Action, End, Event, Session};
 
-// From so many bytes on, what stands in a file is sent from where it lies.
+// From this number of bytes on, what stands in a file is sent from where it lies.
 const LONG: usize = 8_192;
 
 /// The end in an action.

@@ -24,7 +24,7 @@ const MOST_ACTIONS: u32 = 256;
 // What one action of a connection did.
 #[derive(Clone, Copy)]
 pub(crate) enum Stepped {
-    // Something, and so many bytes of a reply were sent.
+    // Something, and this number of bytes of a reply was sent.
     Went(usize),
     // Nothing: the call would wait.
     Waits,

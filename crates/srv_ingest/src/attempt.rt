@@ -12,7 +12,7 @@ use std::alloc::Global;
 use std::sync::{MutexGuard, Wait};
 
 /// The outcome of an attempt to publish an operation.
-#[derive(Clone, Copy, Debug, PartialEq, Eq)]
+#[derive(Clone, Copy)]
 pub(crate) enum Attempt {
     /// The operation was published, and has this number.
     Done(u64),

@@ -9,7 +9,7 @@ use dev_traits::Verdict;
 use pub_snap::{Name, Share};
 
 /// Why taking in stopped.
-#[derive(Clone, Copy, Debug, PartialEq, Eq)]
+#[derive(Clone, Copy)]
 pub enum IngestEnd {
     /// Nothing will arrive any more.
     Done,
@@ -21,7 +21,7 @@ pub enum IngestEnd {
 
 /// The numbers of names that became files of the collection, that took files back, that were refused or found no room,
 /// and for which memory ran out. The last two counts stand still at their greatest number.
-#[derive(Clone, Copy, Debug, PartialEq, Eq)]
+#[derive(Clone, Copy)]
 pub struct IngestReport {
     pub published: u64,
     pub retracted: u64,

@@ -16,8 +16,8 @@ use Rattle.dap_reply.specs.declared.served.Stop.TheVariants as stops
 use Rattle.dap_reply.specs.Reply.{is_last}
 use Rattle.dap_reply.specs.Served.{held_bytes, input_of, items_of, EndsAfterReply, EndsBy, HasEnough, IsAtRest, LinkCall, Served, StopsBy}
 use Rattle.dap_reply.proofs.ServedLemmas.{last-ends}
-use Rattle.srv_run.specs.declared.end.End.TheVariants.{InputEnded}
-use Rattle.srv_run.specs.Steps.{end_of_stop, HasEnded}
+use Rattle.srv_alone.specs.declared.end.End.TheVariants.{InputEnded}
+use Rattle.srv_alone.specs.Steps.{end_of_stop, HasEnded}
 use Rattle.srv_laws.specs.WellFormed.{GoesOnAfter, HasRequests}
 use Rattle.srv_laws.proofs.RequestLemmas.{Reads, Reads-all, Reads-there}
 

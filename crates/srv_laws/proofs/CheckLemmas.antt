@@ -4,13 +4,13 @@ use Rattle.std.specs.Prelude.{⊤, IfSome}
 use Rattle.nc_model.specs.declared.header.Header.{Header}
 use Rattle.dev_traits.specs.Shown.{SinkShown}
 use Rattle.srv_words.specs.declared.job.Job.TheVariants.{Check}
-use Rattle.srv_run.specs.declared.end.End.{End}
-use Rattle.srv_run.specs.declared.end.End.TheVariants.{Done, NoMemory, FileFault, SinkFault}
-use Rattle.srv_run.specs.Check.{checked_or_end, EndsCheck}
-use Rattle.srv_run.specs.Reading.{Gives, IsEndOf}
-use Rattle.srv_run.specs.Report.{status_of}
+use Rattle.srv_alone.specs.declared.end.End.{End}
+use Rattle.srv_alone.specs.declared.end.End.TheVariants.{Done, NoMemory, FileFault, SinkFault}
+use Rattle.srv_alone.specs.Check.{checked_or_end, EndsCheck}
+use Rattle.srv_alone.specs.Reading.{Gives, IsEndOf}
+use Rattle.srv_alone.specs.Report.{status_of}
 use Rattle.srv_run.specs.Run.{Runs}
-use Rattle.srv_run.specs.Stage.{Shows, Stage}
+use Rattle.srv_serve.specs.Stage.{Shows, Stage}
 use Rattle.srv_laws.proofs.UsedLemmas.{told}
 
 -- an end is no value

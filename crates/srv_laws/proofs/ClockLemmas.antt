@@ -11,10 +11,10 @@ use Rattle.srv_words.specs.declared.job.Serving.{Serving}
 use Rattle.srv_workers.specs.declared.outcome.Devices.{Devices}
 use Rattle.srv_workers.specs.declared.outcome.Outcome.{Outcome}
 use Rattle.srv_workers.specs.Runs.{IsClockRun, Run}
-use Rattle.srv_run.specs.Devices.{kept_for, OpensDevices}
-use Rattle.srv_run.specs.Opening.{after_doors, after_inboxes, OpensClock}
-use Rattle.srv_run.specs.Serve.{HasRun}
-use Rattle.srv_run.specs.Stage.{Shows}
+use Rattle.srv_serve.specs.Devices.{kept_for, OpensDevices}
+use Rattle.srv_serve.specs.Opening.{after_doors, after_inboxes, OpensClock}
+use Rattle.srv_serve.specs.Serve.{HasRun}
+use Rattle.srv_serve.specs.Stage.{Shows}
 use Rattle.srv_laws.specs.WellServed.{ShowsClocks}
 
 -- a clock shows its moments

@@ -11,10 +11,10 @@ use Rattle.pub_look.specs.History.{Continues, History, with_op}
 use Rattle.pub_look.proofs.HistoryLemmas.{continues_itself, continues_on}
 use Rattle.srv_words.specs.declared.job.Step.{Step}
 use Rattle.srv_words.specs.declared.job.Step.TheVariants.{Put, Expire, Retract, Ask}
-use Rattle.srv_run.specs.declared.end.End.{End}
-use Rattle.srv_run.specs.Publishing.{expired, published_or_end, put_or_end, retracted}
-use Rattle.srv_run.specs.Reading.{loaded_or_end, unless_no_room}
-use Rattle.srv_run.specs.Steps.{Connection, EndsAt, IsDone, Progress}
+use Rattle.srv_alone.specs.declared.end.End.{End}
+use Rattle.srv_alone.specs.Publishing.{expired, published_or_end, put_or_end, retracted}
+use Rattle.srv_alone.specs.Reading.{loaded_or_end, unless_no_room}
+use Rattle.srv_alone.specs.Steps.{Connection, EndsAt, IsDone, Progress}
 
 -- the same prototype, and the same operations or more
 pub record IsLater (before after : History) : Type 0 where

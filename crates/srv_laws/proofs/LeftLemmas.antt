@@ -4,10 +4,10 @@ use Rattle.std.specs.Prelude.{replicate}
 use Rattle.pub_look.specs.History.{History}
 use Rattle.srv_words.specs.declared.job.Step.{Step}
 use Rattle.srv_words.specs.declared.job.Step.TheVariants.{Put, Expire, Retract, Ask}
-use Rattle.srv_run.specs.declared.end.End.{End}
-use Rattle.srv_run.specs.declared.end.End.TheVariants.{Done, InputEnded}
+use Rattle.srv_alone.specs.declared.end.End.{End}
+use Rattle.srv_alone.specs.declared.end.End.TheVariants.{Done, InputEnded}
 use Rattle.srv_laws.specs.Output.{history_after, replies_of, revisions_of}
-use Rattle.srv_run.specs.Steps.{Connection, DoesSteps, EndsAt, HasEnded, IsDone, LeavesLink, Progress}
+use Rattle.srv_alone.specs.Steps.{Connection, DoesSteps, EndsAt, HasEnded, IsDone, LeavesLink, Progress}
 use Rattle.srv_laws.proofs.AskedLemmas.{rests-goes_on}
 use Rattle.srv_laws.proofs.LaterLemmas.{end-later, IsLater, later-on, same-later, step-later}
 use Rattle.srv_laws.proofs.QuietLemmas.{quiet-done, quiet-ends}

@@ -13,9 +13,9 @@ use Rattle.dap_reply.specs.declared.served.Stop.TheVariants as stops
 use Rattle.dap_reply.specs.Served.{held_bytes, items_of, HasEnough, LinkCall}
 use Rattle.srv_conn.specs.Moved.{moved, AreNext, IsOver}
 use Rattle.srv_conn.specs.Serves.{call_of, Moment, Moves, Serves}
-use Rattle.srv_run.specs.declared.end.End.{End}
-use Rattle.srv_run.specs.declared.end.End.TheVariants.{InputEnded}
-use Rattle.srv_run.specs.Steps.{AnswersAsk, Connection, end_of_stop, EndsAsk}
+use Rattle.srv_alone.specs.declared.end.End.{End}
+use Rattle.srv_alone.specs.declared.end.End.TheVariants.{InputEnded}
+use Rattle.srv_alone.specs.Steps.{AnswersAsk, Connection, end_of_stop, EndsAsk}
 use Rattle.srv_laws.specs.WellFormed.{HasRequests}
 use Rattle.srv_laws.proofs.AskedLemmas.{no-last, rests-goes_on, short-lacks, whole-goes, Finds, HasLast, IsOpen}
 use Rattle.srv_laws.proofs.RequestLemmas.{items-next, ReadsTo-then}

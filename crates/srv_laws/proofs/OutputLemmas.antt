@@ -15,8 +15,8 @@ use Rattle.dap_reply.specs.Reply.{reply_of}
 use Rattle.dap_reply.specs.Script.{script_of}
 use Rattle.dap_reply.proofs.ScriptLemmas.{script-append}
 use Rattle.srv_conn.proofs.HeadLemmas.{rest_of}
-use Rattle.srv_run.specs.declared.end.End.{End}
-use Rattle.srv_run.specs.declared.end.End.TheVariants.{Done}
+use Rattle.srv_alone.specs.declared.end.End.{End}
+use Rattle.srv_alone.specs.declared.end.End.TheVariants.{Done}
 use Rattle.srv_laws.specs.Output.{IsOneScript, WritesScript}
 use Rattle.srv_laws.proofs.RequestLemmas.{Reads}
 

@@ -6,12 +6,12 @@ use Rattle.dev_traits.specs.Shown.{FilesShown}
 use Rattle.pub_look.specs.History.{History}
 use Rattle.srv_words.specs.declared.job.Step.{Step}
 use Rattle.srv_words.specs.declared.job.Step.TheVariants.{Put, Expire, Retract, Ask}
-use Rattle.srv_run.specs.declared.end.End.{End}
-use Rattle.srv_run.specs.declared.end.End.TheVariants.{Done, NoMemory}
+use Rattle.srv_alone.specs.declared.end.End.{End}
+use Rattle.srv_alone.specs.declared.end.End.TheVariants.{Done, NoMemory}
 use Rattle.srv_laws.specs.Output.{history_after, left_by}
-use Rattle.srv_run.specs.Publishing.{expired, put_or_end, Puts, retracted}
-use Rattle.srv_run.specs.Reading.{file_or_end, IsEndAtFile}
-use Rattle.srv_run.specs.Steps.{EndsAt, IsDone, LeavesLink, Progress}
+use Rattle.srv_alone.specs.Publishing.{expired, put_or_end, Puts, retracted}
+use Rattle.srv_alone.specs.Reading.{file_or_end, IsEndAtFile}
+use Rattle.srv_alone.specs.Steps.{EndsAt, IsDone, LeavesLink, Progress}
 use Rattle.srv_laws.proofs.TakenLemmas.{content-alike, expired-alike, IsAlike, retracted-alike}
 use Rattle.srv_laws.proofs.UsedLemmas.{told}
 

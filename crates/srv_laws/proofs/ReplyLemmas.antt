@@ -18,15 +18,15 @@ use Rattle.dap_reply.proofs.ScriptLemmas.{script-later}
 use Rattle.dap_reply.proofs.ServedLemmas.{served-script}
 use Rattle.srv_conn.specs.Moved.{moved}
 use Rattle.srv_conn.specs.Serves.{Moment, Serves}
-use Rattle.srv_run.specs.declared.end.End.{End}
-use Rattle.srv_run.specs.declared.end.End.TheVariants.{Done}
+use Rattle.srv_alone.specs.declared.end.End.{End}
+use Rattle.srv_alone.specs.declared.end.End.TheVariants.{Done}
 use Rattle.srv_laws.specs.Output.{WritesScript}
-use Rattle.srv_run.specs.Steps.{AnswersAsk, Connection, end_of_stop, EndsAsk, HasEnded, seen_as}
+use Rattle.srv_alone.specs.Steps.{AnswersAsk, Connection, end_of_stop, EndsAsk, HasEnded, seen_as}
 use Rattle.srv_laws.proofs.AskedLemmas.{Finds, IsOpen, rests-goes_on}
 use Rattle.srv_laws.proofs.CutLemmas.{level, revisions, sent-front}
 use Rattle.srv_laws.proofs.OpenLemmas.{call_by, finds-Serves, left-after, open-next, open-next-wire, wire_after}
 use Rattle.srv_laws.proofs.OutputLemmas.{next-items, script-front}
-use Rattle.srv_run.proofs.StepBlameLemmas.{calm_stop}
+use Rattle.srv_alone.proofs.StepBlameLemmas.{calm_stop}
 
 -- the items of an input that come after the first ones
 abbrev pub items_from : List ℕ → ℕ → List Item

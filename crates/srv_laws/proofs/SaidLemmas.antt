@@ -8,15 +8,15 @@ use Rattle.srv_words.specs.declared.job.Job.TheVariants.{Once, Check, Load, Serv
 use Rattle.srv_words.specs.declared.job.Serving.{Serving}
 use Rattle.srv_words.specs.declared.job.Step.{Step}
 use Rattle.srv_workers.specs.declared.outcome.Outcome.{Outcome}
-use Rattle.srv_run.specs.declared.end.End.{End}
-use Rattle.srv_run.specs.declared.end.End.TheVariants.{Done, BadWords, NoMemory, SinkFault}
-use Rattle.srv_run.specs.Check.{EndsCheck}
-use Rattle.srv_run.specs.Closing.{EndsServing, first_end}
-use Rattle.srv_run.specs.Load.{EndsLoad}
-use Rattle.srv_run.specs.Report.{Reports, Said, status_of}
+use Rattle.srv_alone.specs.declared.end.End.{End}
+use Rattle.srv_alone.specs.declared.end.End.TheVariants.{Done, BadWords, NoMemory, SinkFault}
+use Rattle.srv_alone.specs.Check.{EndsCheck}
+use Rattle.srv_serve.specs.Closing.{EndsServing, first_end}
+use Rattle.srv_alone.specs.Load.{EndsLoad}
+use Rattle.srv_alone.specs.Report.{Reports, Said, status_of}
 use Rattle.srv_run.specs.Run.{DoesJob, LacksMemory, Runs, UsesFiles, UsesLink}
-use Rattle.srv_run.specs.Serve.{EndsUnopened, GoesOn, ServesDevices}
-use Rattle.srv_run.specs.Stage.{Shows, Stage}
+use Rattle.srv_serve.specs.Serve.{EndsUnopened, GoesOn, ServesDevices}
+use Rattle.srv_serve.specs.Stage.{Shows, Stage}
 
 -- a line of what was done is no line of another status
 not_done : {A : Type 0} (end : End) (status : ℕ) → status ≡ status_of end → end ≡ Done → status ≢ 0 → A

@@ -9,10 +9,10 @@ use Rattle.fm_model.specs.declared.op.Op.TheVariants.{Put, Expire, Retract}
 use Rattle.fm_model.specs.declared.proto.Proto.{Proto}
 use Rattle.fm_model.specs.Collection.{coll, full_at, holds, holds_older}
 use Rattle.pub_look.specs.History.{History, with_op}
-use Rattle.srv_run.specs.declared.end.End.{End}
-use Rattle.srv_run.specs.declared.end.End.TheVariants.{Done, NoMemory, FileFault, LinkFault}
-use Rattle.srv_run.specs.Publishing.{expired, published_or_end, put_or_end, retracted}
-use Rattle.srv_run.specs.Reading.{IsEndOf, loaded_or_end, unless_no_room}
+use Rattle.srv_alone.specs.declared.end.End.{End}
+use Rattle.srv_alone.specs.declared.end.End.TheVariants.{Done, NoMemory, FileFault, LinkFault}
+use Rattle.srv_alone.specs.Publishing.{expired, published_or_end, put_or_end, retracted}
+use Rattle.srv_alone.specs.Reading.{IsEndOf, loaded_or_end, unless_no_room}
 use Rattle.std.specs.Prelude.{⊤, ℤ}
 
 -- every step was done, or memory ran out or a device failed

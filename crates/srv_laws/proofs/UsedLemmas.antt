@@ -8,10 +8,10 @@ use Rattle.pub_look.specs.History.{History}
 use Rattle.web_session.specs.State.{State}
 use Rattle.srv_words.specs.declared.job.Step.{Step}
 use Rattle.srv_words.specs.declared.job.Step.TheVariants.{Put, Expire, Retract, Ask}
-use Rattle.srv_run.specs.declared.end.End.{End}
-use Rattle.srv_run.specs.Publishing.{expired, put_or_end, retracted, EndsPut, Puts}
-use Rattle.srv_run.specs.Reading.{file_or_end}
-use Rattle.srv_run.specs.Steps.{with_history, Connection, DoesSteps, Progress}
+use Rattle.srv_alone.specs.declared.end.End.{End}
+use Rattle.srv_alone.specs.Publishing.{expired, put_or_end, retracted, EndsPut, Puts}
+use Rattle.srv_alone.specs.Reading.{file_or_end}
+use Rattle.srv_alone.specs.Steps.{with_history, Connection, DoesSteps, Progress}
 use Rattle.srv_laws.specs.WellFormed.{AreTaken, AreThere}
 use Rattle.srv_laws.proofs.AskedLemmas.{IsOpen}
 use Rattle.srv_laws.proofs.OpenLemmas.{excused-ask, stands-ask, Stands}

@@ -19,16 +19,16 @@ use Rattle.srv_words.specs.declared.job.Serving.{Serving}
 use Rattle.srv_workers.specs.declared.outcome.Devices.{Devices}
 use Rattle.srv_workers.specs.declared.outcome.Outcome.{Outcome}
 use Rattle.srv_workers.specs.Runs.{AreRuns, IsDoorRun, IsInboxRun, Run}
-use Rattle.srv_run.specs.declared.end.End.{End}
-use Rattle.srv_run.specs.declared.end.End.TheVariants.{Done, SinkFault}
-use Rattle.srv_run.specs.Closing.{clock_end, door_end, end_at_door, end_at_inbox, EndsServing, first_end, first_from, inbox_end}
-use Rattle.srv_run.specs.Devices.{StopsAt}
-use Rattle.srv_run.specs.Reading.{IsEndAtFile}
-use Rattle.srv_run.specs.Serve.{EndsUnopened, GoesOn, HasRun, RunsServe, ServesDevices}
-use Rattle.srv_run.specs.Stage.{Shows, Stage}
+use Rattle.srv_alone.specs.declared.end.End.{End}
+use Rattle.srv_alone.specs.declared.end.End.TheVariants.{Done, SinkFault}
+use Rattle.srv_serve.specs.Closing.{clock_end, door_end, end_at_door, end_at_inbox, EndsServing, first_end, first_from, inbox_end}
+use Rattle.srv_serve.specs.Devices.{StopsAt}
+use Rattle.srv_alone.specs.Reading.{IsEndAtFile}
+use Rattle.srv_serve.specs.Serve.{EndsUnopened, GoesOn, HasRun, RunsServe, ServesDevices}
+use Rattle.srv_serve.specs.Stage.{Shows, Stage}
 use Rattle.srv_laws.specs.WellServed.{EndsWell, HasNoMomentLeft, IsUsedUp, ShowsClocks}
 use Rattle.srv_laws.proofs.ClockLemmas.{clocks-used}
-use Rattle.srv_run.proofs.RunLemmas.{by_device, IsOfWorkers}
+use Rattle.srv_serve.proofs.RunLemmas.{by_device, IsOfWorkers}
 
 -- neither of two ends is there
 neither : (one other : Option End) → option_or one other ≡ None → (one ≡ None) × (other ≡ None)

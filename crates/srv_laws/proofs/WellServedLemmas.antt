@@ -5,17 +5,17 @@ use Rattle.srv_words.specs.declared.job.Job.TheVariants.{Serve}
 use Rattle.srv_words.specs.declared.job.Serving.{Serving}
 use Rattle.srv_workers.specs.declared.outcome.Outcome.{Outcome}
 use Rattle.fm_model.specs.declared.proto.Proto.{Proto}
-use Rattle.srv_run.specs.declared.end.End.{End}
-use Rattle.srv_run.specs.declared.end.End.TheVariants.{Done, NoMemory, SinkFault, DoorFault, InboxFault}
-use Rattle.srv_run.specs.Closing.{EndsServing, first_end}
-use Rattle.srv_run.specs.Devices.{StopsAt}
-use Rattle.srv_run.specs.Run.{HasFailedAt, Runs}
-use Rattle.srv_run.specs.Serve.{EndsUnopened, GoesOn, HasRun, RunsServe, ServesDevices}
-use Rattle.srv_run.specs.Stage.{Shows, Stage}
+use Rattle.srv_alone.specs.declared.end.End.{End}
+use Rattle.srv_alone.specs.declared.end.End.TheVariants.{Done, NoMemory, SinkFault, DoorFault, InboxFault}
+use Rattle.srv_serve.specs.Closing.{EndsServing, first_end}
+use Rattle.srv_serve.specs.Devices.{HasFailedAt, StopsAt}
+use Rattle.srv_run.specs.Run.{Runs}
+use Rattle.srv_serve.specs.Serve.{EndsUnopened, GoesOn, HasRun, RunsServe, ServesDevices}
+use Rattle.srv_serve.specs.Stage.{Shows, Stage}
 use Rattle.srv_laws.specs.WellServed.{IsWellServed}
 use Rattle.srv_run.proofs.BlameLemmas.{unopened_blamed}
-use Rattle.srv_run.proofs.RunLemmas.{by_device, door-failed, inbox-failed, IsOfWorkers}
-use Rattle.srv_run.proofs.StepBlameLemmas.{at_file}
+use Rattle.srv_serve.proofs.RunLemmas.{by_device, door-failed, inbox-failed, IsOfWorkers}
+use Rattle.srv_alone.proofs.StepBlameLemmas.{at_file}
 use Rattle.srv_laws.proofs.TakenLemmas.{excused-value}
 use Rattle.srv_laws.proofs.UsedLemmas.{told}
 use Rattle.srv_laws.proofs.WellUsedLemmas.{done-or-short, status-of}

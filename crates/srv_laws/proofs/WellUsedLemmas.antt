@@ -10,18 +10,18 @@ use Rattle.web_frame.proofs.ItemLemmas.{ReadsTo-start}
 use Rattle.web_session.specs.State.{fresh}
 use Rattle.srv_words.specs.declared.job.Job.TheVariants.{Once}
 use Rattle.srv_words.specs.declared.job.Step.{Step}
-use Rattle.srv_run.specs.declared.end.End.{End}
-use Rattle.srv_run.specs.declared.end.End.TheVariants.{Done, NoMemory, FileFault, LinkFault}
-use Rattle.srv_run.specs.Once.{opened, EndsAtPrototype, RunsOnce, RunsSteps}
-use Rattle.srv_run.specs.Reading.{file_or_end, proto_or_end}
-use Rattle.srv_run.specs.Report.{status_of}
+use Rattle.srv_alone.specs.declared.end.End.{End}
+use Rattle.srv_alone.specs.declared.end.End.TheVariants.{Done, NoMemory, FileFault, LinkFault}
+use Rattle.srv_alone.specs.Once.{opened, EndsAtPrototype, RunsOnce, RunsSteps}
+use Rattle.srv_alone.specs.Reading.{file_or_end, proto_or_end}
+use Rattle.srv_alone.specs.Report.{status_of}
 use Rattle.srv_run.specs.Run.{Runs}
-use Rattle.srv_run.specs.Stage.{Shows, Stage}
-use Rattle.srv_run.specs.Steps.{progress}
+use Rattle.srv_serve.specs.Stage.{Shows, Stage}
+use Rattle.srv_alone.specs.Steps.{progress}
 use Rattle.srv_laws.specs.WellFormed.{IsWellUsed}
 use Rattle.srv_laws.proofs.AskedLemmas.{IsOpen}
 use Rattle.srv_run.proofs.BlameLemmas.{once_blamed}
-use Rattle.srv_run.proofs.SessionLemmas.{IsAtRest-fresh}
+use Rattle.srv_alone.proofs.SessionLemmas.{IsAtRest-fresh}
 use Rattle.srv_laws.proofs.TakenLemmas.{excused-value, IsExcused}
 use Rattle.srv_laws.proofs.UsedLemmas.{excused-steps, told}
 

@@ -4,14 +4,14 @@ use Rattle.srv_words.specs.declared.job.Job.{Job}
 use Rattle.srv_words.specs.declared.job.Job.TheVariants.{Once, Check, Load, Serve}
 use Rattle.srv_words.specs.declared.job.Serving.{Serving}
 use Rattle.srv_workers.specs.declared.outcome.Devices.{Devices}
-use Rattle.srv_run.specs.declared.end.End.{End}
-use Rattle.srv_run.specs.declared.end.End.TheVariants.{Refused, NoMemory, FileFault, DoorFault, InboxFault, NoFile, TooLong}
-use Rattle.srv_run.specs.Devices.{StopsAt}
-use Rattle.srv_run.specs.Reading.{IsEndAtFile}
-use Rattle.srv_run.specs.Report.{status_of}
+use Rattle.srv_alone.specs.declared.end.End.{End}
+use Rattle.srv_alone.specs.declared.end.End.TheVariants.{Refused, NoMemory, FileFault, DoorFault, InboxFault, NoFile, TooLong}
+use Rattle.srv_serve.specs.Devices.{StopsAt}
+use Rattle.srv_alone.specs.Reading.{IsEndAtFile}
+use Rattle.srv_alone.specs.Report.{status_of}
 use Rattle.srv_run.specs.Run.{DoesJob, IsAlone, LacksMemory, Runs}
-use Rattle.srv_run.specs.Serve.{EndsUnopened, GoesOn, HasServed}
-use Rattle.srv_run.specs.Stage.{LeavesDevices, Shows, Stage}
+use Rattle.srv_serve.specs.Serve.{EndsUnopened, GoesOn, HasServed}
+use Rattle.srv_serve.specs.Stage.{LeavesDevices, Shows, Stage}
 use Rattle.srv_laws.specs.Worked.{HasNotOpened, HasNotWorked, HasWorked}
 
 -- words that are no job

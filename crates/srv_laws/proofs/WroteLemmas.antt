@@ -14,11 +14,11 @@ use Rattle.dap_reply.specs.Script.{script_of}
 use Rattle.dap_reply.specs.Served.{held_bytes, IsAtRest}
 use Rattle.srv_words.specs.declared.job.Step.{Step}
 use Rattle.srv_words.specs.declared.job.Step.TheVariants.{Put, Expire, Retract, Ask}
-use Rattle.srv_run.specs.declared.end.End.{End}
-use Rattle.srv_run.specs.declared.end.End.TheVariants.{Done, NoMemory, LinkFault}
-use Rattle.srv_run.specs.Once.{opened, RunsSteps}
+use Rattle.srv_alone.specs.declared.end.End.{End}
+use Rattle.srv_alone.specs.declared.end.End.TheVariants.{Done, NoMemory, LinkFault}
+use Rattle.srv_alone.specs.Once.{opened, RunsSteps}
 use Rattle.srv_laws.specs.Output.{history_after, replies_of, revisions_of, WritesScript}
-use Rattle.srv_run.specs.Steps.{Connection, DoesSteps, EndsAt, IsDone, LeavesLink, progress, Progress}
+use Rattle.srv_alone.specs.Steps.{Connection, DoesSteps, EndsAt, IsDone, LeavesLink, progress, Progress}
 use Rattle.srv_laws.proofs.AskedLemmas.{IsOpen}
 use Rattle.srv_laws.proofs.LaterLemmas.{end-later, IsLater, later-on, same-later, step-later}
 use Rattle.srv_laws.proofs.LeftLemmas.{left-steps}

@@ -11,10 +11,10 @@ use Rattle.dap_reply.specs.Head.{no_memory_reply}
 use Rattle.dap_reply.specs.Script.{script_of}
 use Rattle.srv_words.specs.declared.job.Step.{Step}
 use Rattle.srv_words.specs.declared.job.Step.TheVariants.{Put, Expire, Retract, Ask}
-use Rattle.srv_run.specs.declared.end.End.{End}
-use Rattle.srv_run.specs.declared.end.End.TheVariants.{Done, NoMemory, LinkFault}
-use Rattle.srv_run.specs.Publishing.{expired, put_or_end, retracted}
-use Rattle.srv_run.specs.Reading.{file_or_end}
+use Rattle.srv_alone.specs.declared.end.End.{End}
+use Rattle.srv_alone.specs.declared.end.End.TheVariants.{Done, NoMemory, LinkFault}
+use Rattle.srv_alone.specs.Publishing.{expired, put_or_end, retracted}
+use Rattle.srv_alone.specs.Reading.{file_or_end}
 
 -- what was published after a put, which adds nothing where it ends the run
 abbrev pub left_by : History → Result History End → History

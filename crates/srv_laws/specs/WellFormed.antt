@@ -12,9 +12,9 @@ use Rattle.web_frame.specs.Items.{heads_of, Item}
 use Rattle.dap_reply.specs.Reply.{is_last}
 use Rattle.srv_words.specs.declared.job.Step.{Step}
 use Rattle.srv_words.specs.declared.job.Step.TheVariants.{Put, Expire, Retract, Ask}
-use Rattle.srv_run.specs.Once.{opened}
-use Rattle.srv_run.specs.Publishing.{expired, put_or_end, retracted}
-use Rattle.srv_run.specs.Reading.{file_or_end, proto_or_end}
+use Rattle.srv_alone.specs.Once.{opened}
+use Rattle.srv_alone.specs.Publishing.{expired, put_or_end, retracted}
+use Rattle.srv_alone.specs.Reading.{file_or_end, proto_or_end}
 
 -- each file that steps put is there, and comes to the collection that the steps before it left
 unfoldable pub AreTaken : (List ℕ → Option (List ℕ)) → History → List Step → Type 0

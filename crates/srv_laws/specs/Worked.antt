@@ -3,10 +3,10 @@ use Rattle.std.specs.Prelude.{◌≡◌, ◌⊎◌, ℕ}
 use Rattle.fm_model.specs.declared.proto.Proto.{Proto}
 use Rattle.srv_words.specs.declared.job.Serving.{Serving}
 use Rattle.srv_workers.specs.declared.outcome.Outcome.{Outcome}
-use Rattle.srv_run.specs.Devices.{OpensDevices}
-use Rattle.srv_run.specs.Once.{Opens}
-use Rattle.srv_run.specs.Serve.{HasRun}
-use Rattle.srv_run.specs.Stage.{LeavesDevices, Shows, Stage}
+use Rattle.srv_serve.specs.Devices.{OpensDevices}
+use Rattle.srv_alone.specs.Once.{Opens}
+use Rattle.srv_serve.specs.Serve.{HasRun}
+use Rattle.srv_serve.specs.Stage.{LeavesDevices, Shows, Stage}
 
 -- Nothing was opened: memory ran out, or the prototype wasn't there, or it was refused.
 pub record HasNotOpened {D I C : Type 0} (status : ℕ) (stage stage' : Stage D I C) : Type 0 where

@@ -72,7 +72,9 @@ fn head_len(
         ≡ length (reply_text (spec.answer_for edition.now target.now) revision true false)) }
 {
     let head = reply_to(alloc, edition, revision, target, true)?;
-    Ok(head.len())
+    let count = head.len();
+    drop(head);
+    Ok(count)
 }
 
 // The sum of the body of the reply to a target: what is left of the reply behind its head.
@@ -86,7 +88,9 @@ fn body_sum(
 {
     let head = head_len(alloc, edition, revision, target)?;
     let whole = reply_to(alloc, edition, revision, target, false)?;
-    Ok(sum_from(&whole, head))
+    let sum = sum_from(&whole, head);
+    drop(whole);
+    Ok(sum)
 }
 
 #[tactic(auto, unfolding(crate::specs::Asked::counted))]
@@ -113,12 +117,16 @@ pub(crate) fn ask(
         ≡ spec.counted (held_of plain.old.proto plain.old.seen) (spec.all_of view label.now)) }
     ensures same { OnOk result (held_of plain.new.proto plain.new.seen ≡ held_of plain.old.proto plain.old.seen) }
 {
+    let label = Bytes::copy_of(alloc, label)?;
     let target = Target {
         view,
         service: Service::Dods,
         constraint: Bytes::new(alloc),
-        label: Bytes::copy_of(alloc, label)?,
+        label,
     };
-    let (counted, _revision) = plain.ask(alloc, &Counting { target })?;
+    let counting = Counting { target };
+    let asked = plain.ask(alloc, &counting);
+    drop(counting);
+    let (counted, _revision) = asked?;
     Ok(counted)
 }

@@ -1,5 +1,5 @@
 //! The collection of made files.
-ghost use Rattle.std.specs.Prelude.{◌≡◌, ◌+◌, ◌<◌, ◌≤◌, IfOk, OnOk};
+ghost use Rattle.std.specs.Prelude.{◌≡◌, ◌+◌, ◌<◌, ◌≤◌, [], IfOk, OnOk};
 ghost use Rattle.srv_load.specs.Made as spec;
 
 use crate::taking::{held_file, made_proto};
@@ -32,8 +32,29 @@ fn put_file(
     }
 }
 
-// The collection of the first files.
+// The first files come to the empty collection.
 #[tactic(auto, unfolding(crate::specs::Made::puts_of))]
+fn put_files(
+    alloc: Global,
+    plain: &mut Plain,
+    proto: &Proto,
+    seed: u32,
+    count: u32,
+) -> Result<(), NoMemory>
+    requires few { count ≤ 400 }
+    requires proto { proto.now ≡ spec.load_proto }
+    requires same { plain.old.proto ≡ spec.load_proto }
+    requires empty { plain.old.seen ≡ [] }
+    ensures put { OnOk result (plain.new.seen ≡ spec.puts_of seed count) }
+    ensures same { OnOk result (plain.new.proto ≡ spec.load_proto) }
+{
+    for k in 0..count {
+        put_file(alloc, plain, proto, seed, k)?;
+    }
+    Ok(())
+}
+
+// The collection of the first files.
 pub(crate) fn made_collection(alloc: Global, seed: u32, count: u32) -> Result<Plain, NoMemory>
     requires { count ≤ 400 }
     ensures proto { IfOk result (λ plain. plain.proto ≡ spec.load_proto) }
@@ -41,8 +62,11 @@ pub(crate) fn made_collection(alloc: Global, seed: u32, count: u32) -> Result<Pl
 {
     let proto = Arc::new(alloc, made_proto(alloc, seed)?)?;
     let mut plain = Plain::open(alloc, proto.share()?)?;
-    for k in 0..count {
-        put_file(alloc, &mut plain, proto.get(), seed, k)?;
+    match put_files(alloc, &mut plain, proto.get(), seed, count) {
+        Ok(()) => Ok(plain),
+        Err(NoMemory) => {
+            drop(plain);
+            Err(NoMemory)
+        }
     }
-    Ok(plain)
 }

@@ -16,7 +16,7 @@ use std::alloc::Global;
 
 /// How many files and times a collection holds, how many rows the best time series, the dataset of the first run, of
 /// the offset 0 and of the forecast at the last run have, and the sum of the bytes of their data modulo 2^32.
-#[derive(Clone, Copy, Debug, PartialEq, Eq)]
+#[derive(Clone, Copy)]
 pub struct Summary {
     pub files: u32,
     pub rows: u32,
@@ -110,5 +110,7 @@ pub fn summarize(alloc: Global, seed: u32, files: u32) -> Result<Summary, NoMemo
     ensures { IfOk result (λ summary. summary ≡ spec.summary_of seed files) }
 {
     let mut plain = made_collection(alloc, seed, files)?;
-    summary_over(alloc, &mut plain, files - 1)
+    let summary = summary_over(alloc, &mut plain, files - 1);
+    drop(plain);
+    summary
 }

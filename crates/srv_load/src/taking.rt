@@ -46,7 +46,9 @@ pub(crate) fn held_file(alloc: Global, proto: &Proto, seed: u32, k: u32) -> Resu
     ensures fits { IfOk result (λ file. Fits file proto.now) }
 {
     let name = made_name(alloc, k)?;
-    match load(alloc, name.as_slice(), make_file(alloc, seed, k)?, proto) {
+    let taken = load(alloc, name.as_slice(), make_file(alloc, seed, k)?, proto);
+    drop(name);
+    match taken {
         Ok(file) => Ok(file),
         Err(Fail::NoMemory) => Err(NoMemory),
         Err(Fail::Fault(_)) => unreachable!(),

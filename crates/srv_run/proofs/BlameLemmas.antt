@@ -10,20 +10,20 @@ use Rattle.srv_words.specs.declared.job.Job.TheVariants.{Once, Check, Load, Serv
 use Rattle.srv_words.specs.declared.job.Serving.{Serving}
 use Rattle.srv_words.specs.declared.job.Step.{Step}
 use Rattle.srv_workers.specs.declared.outcome.Outcome.{Outcome}
-use Rattle.srv_run.specs.declared.end.End.{End}
-use Rattle.srv_run.specs.declared.end.End.TheVariants.{Done, BadWords, NoMemory, FileFault, SinkFault, LinkFault, DoorFault, InboxFault}
-use Rattle.srv_run.specs.Check.{EndsCheck}
-use Rattle.srv_run.specs.Load.{EndsLoad}
-use Rattle.srv_run.specs.Once.{RunsSteps, EndsAtPrototype}
-use Rattle.srv_run.specs.Reading.{file_faults_after, IsEndAtFile}
-use Rattle.srv_run.specs.Closing.{EndsServing, first_end}
-use Rattle.srv_run.specs.Devices.{StopsAt}
-use Rattle.srv_run.specs.Report.{Reports, status_of}
+use Rattle.srv_alone.specs.declared.end.End.{End}
+use Rattle.srv_alone.specs.declared.end.End.TheVariants.{Done, BadWords, NoMemory, FileFault, SinkFault, LinkFault, DoorFault, InboxFault}
+use Rattle.srv_alone.specs.Check.{EndsCheck}
+use Rattle.srv_alone.specs.Load.{EndsLoad}
+use Rattle.srv_alone.specs.Once.{RunsSteps, EndsAtPrototype}
+use Rattle.srv_alone.specs.Reading.{file_faults_after, IsEndAtFile}
+use Rattle.srv_serve.specs.Closing.{EndsServing, first_end}
+use Rattle.srv_serve.specs.Devices.{StopsAt}
+use Rattle.srv_alone.specs.Report.{Reports, status_of}
 use Rattle.srv_run.specs.Run.{Blames, BlamesDoor, BlamesInbox, DoesJob, Ends, LacksMemory, Runs}
-use Rattle.srv_run.specs.Serve.{EndsUnopened, GoesOn, HasRun, ServesDevices}
-use Rattle.srv_run.specs.Stage.{Shows, Stage}
-use Rattle.srv_run.proofs.RunLemmas.{door-failed, end-is-device, inbox-failed}
-use Rattle.srv_run.proofs.StepBlameLemmas.{at_file, IsAtDevice, steps_blamed}
+use Rattle.srv_serve.specs.Serve.{EndsUnopened, GoesOn, HasRun, ServesDevices}
+use Rattle.srv_serve.specs.Stage.{Shows, Stage}
+use Rattle.srv_serve.proofs.RunLemmas.{door-failed, end-is-device, inbox-failed}
+use Rattle.srv_alone.proofs.StepBlameLemmas.{at_file, IsAtDevice, steps_blamed}
 
 -- each of these ends is the only one with its status
 is_bad_words : (end : End) → status_of end ≡ 2 → end ≡ BadWords

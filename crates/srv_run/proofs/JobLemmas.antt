@@ -5,8 +5,8 @@ use Rattle.srv_words.specs.declared.job.Command.TheVariants as commands
 use Rattle.srv_words.specs.declared.job.Job.{Job}
 use Rattle.srv_words.specs.declared.job.Job.TheVariants.{Once, Check, Load, Serve}
 use Rattle.srv_words.specs.Jobs.{command_of}
-use Rattle.srv_run.specs.declared.end.End.{End}
-use Rattle.srv_run.specs.declared.end.End.TheVariants.{BadWords, NoMemory}
+use Rattle.srv_alone.specs.declared.end.End.{End}
+use Rattle.srv_alone.specs.declared.end.End.TheVariants.{BadWords, NoMemory}
 use Rattle.srv_run.specs.Run.{IsAlone, IsJobOrEnd, is_same, only}
 
 -- a job of the command

@@ -1,15 +1,2 @@
-pub mod AskLemmas
 pub mod BlameLemmas
-pub mod ClosingLemmas
-pub mod EndLemmas
 pub mod JobLemmas
-pub mod OnceLemmas
-pub mod OpeningLemmas
-pub mod PieceLemmas
-pub mod ReadingLemmas
-pub mod ReportLemmas
-pub mod RunLemmas
-pub mod SessionLemmas
-pub mod StageLemmas
-pub mod StepBlameLemmas
-pub mod StepLemmas

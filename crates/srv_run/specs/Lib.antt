@@ -1,13 +1,1 @@
-pub mod Check
-pub mod Closing
-pub mod Devices
-pub mod Load
-pub mod Once
-pub mod Opening
-pub mod Publishing
-pub mod Reading
-pub mod Report
 pub mod Run
-pub mod Serve
-pub mod Stage
-pub mod Steps

@@ -7,15 +7,15 @@ use Rattle.srv_words.specs.declared.job.Command.TheVariants as commands
 use Rattle.srv_words.specs.declared.job.Job.{Job}
 use Rattle.srv_words.specs.declared.job.Job.TheVariants.{Once, Check, Load, Serve}
 use Rattle.srv_words.specs.Jobs.{command_of}
-use Rattle.srv_run.specs.declared.end.End.{End}
-use Rattle.srv_run.specs.declared.end.End.TheVariants.{BadWords, NoMemory, DoorFault, InboxFault}
-use Rattle.srv_run.specs.Check.{ChecksFile}
-use Rattle.srv_run.specs.Devices.{StopsAtDoor, StopsAtInbox}
-use Rattle.srv_run.specs.Load.{EndsLoad}
-use Rattle.srv_run.specs.Once.{RunsOnce}
-use Rattle.srv_run.specs.Report.{Reports, Says, status_of}
-use Rattle.srv_run.specs.Serve.{RunsServe}
-use Rattle.srv_run.specs.Stage.{LeavesDevices, Shows, Stage}
+use Rattle.srv_alone.specs.declared.end.End.{End}
+use Rattle.srv_alone.specs.declared.end.End.TheVariants.{BadWords, NoMemory, DoorFault, InboxFault}
+use Rattle.srv_alone.specs.Check.{ChecksFile}
+use Rattle.srv_serve.specs.Devices.{HasFailedAt, StopsAtDoor, StopsAtInbox}
+use Rattle.srv_alone.specs.Load.{EndsLoad}
+use Rattle.srv_alone.specs.Once.{RunsOnce}
+use Rattle.srv_alone.specs.Report.{Reports, status_of}
+use Rattle.srv_serve.specs.Serve.{RunsServe}
+use Rattle.srv_serve.specs.Stage.{LeavesDevices, Shows, Stage}
 
 -- A run of `check` ended so; the link wasn't used.
 pub record RunsCheck (path : List ℕ) (end : End) (world world' : WorldShown) : Type 0 where
@@ -27,6 +27,13 @@ pub record RunsLoad (seed files : ℕ) (end : End) (world world' : WorldShown) :
   pub ends : EndsLoad seed files end world.sink world'.sink
   pub unread : world'.files ≡ world.files
   pub unused : world'.link ≡ world.link
+
+-- Only the sink was used, for the line of an end at no file.
+pub record Says {D I C : Type 0} (end : End) (stage stage' : Stage D I C) : Type 0 where
+  pub unread : stage'.outside.files ≡ stage.outside.files
+  pub unused : stage'.outside.link ≡ stage.outside.link
+  pub leaves : LeavesDevices stage stage'
+  pub reports : Reports end [] stage.outside.sink stage'.outside.sink
 
 -- A run for a job ended so. Without a job only the line that says so was written. No job but `serve` touches the opener
 -- and the devices.
@@ -86,10 +93,6 @@ IsJobOrEnd job (Ok found) = job ≡ Some found
 IsJobOrEnd job (Err BadWords) = job ≡ None
 IsJobOrEnd job (Err NoMemory) = ⊤
 IsJobOrEnd job (Err end) = ⊥
-
--- One of these devices has failed.
-abbrev pub HasFailedAt : {X : Type 0} → (X → ℕ) → List X → ℕ → Type 0
-HasFailedAt faults devices number = IsSomeAnd (slice_get devices number) (λ device. 0 < faults device)
 
 -- The door of this number wasn't opened, since a call of the opener failed. No job but `serve` opens one.
 abbrev pub LacksDoor : {D I C : Type 0} → Option Job → Stage D I C → Stage D I C → ℕ → Type 0

@@ -1,25 +1,48 @@
 //! Jobs: the work that the words ask for.
 ghost use Rattle.std.specs.Prelude.{◌≡◌, ◌<◌, ◌≤◌, [], IfOk, Option, Some};
+ghost use Rattle.fm_model.specs.Site.{IsSite};
 ghost use Rattle.dev_traits.specs.World.{world_shown};
 ghost use Rattle.srv_words.specs.declared.job.Command.TheVariants as commands;
 ghost use Rattle.srv_words.specs.declared.job.Job.{Job as Work};
 ghost use Rattle.srv_words.specs.Jobs.{IsJob, command_of, job_of};
+ghost use Rattle.srv_alone.specs.Once.{RunsOnce};
 ghost use Rattle.srv_run.specs.Run as spec;
-ghost use Rattle.srv_run.specs.Stage.{LeavesDevices, shows, stage_of};
+ghost use Rattle.srv_serve.specs.Stage.{LeavesDevices, shows, stage_of};
 
-use crate::check::check;
-use crate::end::End;
-use crate::load::load;
-use crate::once::once;
-use crate::report::say;
-use crate::serve::serve;
 use dev_traits::{Door, Files, Gate, Link, Opener, Sink, World};
 use fm_base::{Bytes, Fail, List};
-use srv_words::{Command, Job, read_job};
+use fm_model::Site;
+use srv_alone::{End, check, load, once, report};
+use srv_serve::serve;
+use srv_words::{Command, Job, Step, read_job};
 use std::alloc::Global;
 use std::marker::{Send, Sync};
 use std::sync::Wait;
 use std::thread::Threads;
+
+// Runs `once`.
+fn do_steps<O: Opener, F: Files, L: Link, S: Sink, G: Gate>(
+    alloc: Global,
+    site: Site,
+    path: &[u8],
+    steps: &[Step],
+    world: &mut World<O, F, L, S, G>,
+) -> End
+    requires blocks { L.blocks }
+    requires site { IsSite site }
+    ensures runs { let shown = world_shown F.shown L.shown S.shown in
+        RunsOnce site path.now steps.now result (shown world.old) (shown world.new) }
+    ensures leaves { let stage = stage_of O.shown F.shown L.shown S.shown in
+        LeavesDevices (stage world.old) (stage world.new) }
+{
+    let World {
+        files,
+        link,
+        sink,
+        ..
+    } = world;
+    once(alloc, site, path, steps, files, link, sink)
+}
 
 // Runs `check`.
 fn check_path<O: Opener, F: Files, L: Link, S: Sink, G: Gate>(
@@ -67,7 +90,7 @@ fn do_alone<O: Opener, F: Files, L: Link, S: Sink, G: Gate>(
 {
     match job {
         Job::Once { site, proto, steps } => {
-            once(alloc, site, proto.as_slice(), steps.as_slice(), world)
+            do_steps(alloc, site, proto.as_slice(), steps.as_slice(), world)
         }
         Job::Check { path } => check_path(alloc, path.as_slice(), world),
         Job::Load { seed, files } => load_files(alloc, seed, files, world),
@@ -141,6 +164,19 @@ pub(crate) fn command_or_end(
     } else {
         Err(End::BadWords)
     }
+}
+
+// Reports an end at which no file is named, and returns it.
+fn say<O: Opener, F: Files, L: Link, S: Sink, G: Gate>(
+    world: &mut World<O, F, L, S, G>,
+    end: End,
+) -> End
+    ensures end { result ≡ end }
+    ensures says { let stage = stage_of O.shown F.shown L.shown S.shown in
+        spec.Says end (stage world.old) (stage world.new) }
+{
+    report(&mut world.sink, end, b"");
+    end
 }
 
 // Does the job that was found, which waits for nobody, or says why there is none. Returns the status of the program.

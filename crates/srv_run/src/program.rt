@@ -4,13 +4,13 @@ ghost use Rattle.std.specs.Process.{exit_status};
 ghost use Rattle.srv_words.specs.declared.job.Command.TheVariants as commands;
 ghost use Rattle.srv_words.specs.Jobs.{job_of};
 ghost use Rattle.srv_run.specs.Run as spec;
-ghost use Rattle.srv_run.specs.Stage.{shows, stage_of};
+ghost use Rattle.srv_serve.specs.Stage.{shows, stage_of};
 
-use crate::end::End;
 use crate::job::{command_or_end, do_found, do_found_alone, job_or_end};
 use dev_traits::{Door, Files, Gate, Link, Opener, Sink, World};
 use fm_base::{Bytes, List};
-use srv_words::{Command, usage_of};
+use srv_alone::End;
+use srv_words::{Command, reason_of};
 use std::alloc::Global;
 use std::marker::{Send, Sync};
 use std::process::ExitCode;
@@ -189,18 +189,18 @@ where
     do_found(rt, alloc, found, world)
 }
 
-// What a person is told after a run with this status: what is wrong with the words, where they are bad. No clause
+// What a person is told after a run with this status: why the words are bad, where they are. No clause
 // speaks of the text.
 fn told(alloc: Global, words: &List<Bytes>, status: u8) -> Option<String> {
     if status == End::BadWords.status() {
-        usage_of(alloc, words).ok()
+        reason_of(alloc, words).ok()
     } else {
         None
     }
 }
 
-/// As [`run`], for a process that ends with the status; and what a person is told beside the line where the words are
-/// bad: what `clap` says of them, with the usage. No clause speaks of that text.
+/// As [`run`], for a process that ends with the status; and a second line for a person where the words are bad: which
+/// word is faulty, and why. No clause speaks of that text.
 pub fn run_process<R: Threads + Wait + Sync, O: Opener, F: Files, L: Link, S: Sink, G: Gate + Sync>(
     rt: &R,
     alloc: Global,

@@ -1,26 +1,49 @@
 -- The command is one of which `clap` says exactly which words it takes.
-use Rattle.std.proofs.Common.{◌≡◌, ◌==◌, ◌⊎◌, ◌∙◌, ◌||◌, Bool, inl, inr, true, false, List, [], ◌∷◌, length, Result, Ok, Err, IfOk, refl, ap, subst, arith}
+use Rattle.std.proofs.Common.{◌≡◌, ◌==◌, ◌⊎◌, ◌∙◌, ◌||◌, Bool, inl, inr, true, false, List, [], ◌∷◌, length, Result, Ok, Err, All, IfOk, OnOk, refl, sym, ap, subst, arith}
 use Rattle.std.proofs.lemmas.Bool.{and_parts, cases_Bool, eqb-true}
+use Rattle.std.proofs.lemmas.List.Elements.{All-head, All-tail}
+use Rattle.clap.specs.Built.{AddsArg, AddsInTurn}
 use Rattle.clap.specs.Kinds.{FailsBy, IsAmong, Kinds}
+use Rattle.clap.specs.declared.builder.arg.Arg.{Arg}
+use Rattle.clap.specs.declared.builder.command.Command.{Command}
+use Rattle.clap.specs.declared.builder.command.Command.TheViews.{out-Command}
 use Rattle.clap.specs.declared.error.Error.{Error}
 use Rattle.clap.specs.declared.error.kind.ErrorKind.{ErrorKind}
 use Rattle.clap.specs.declared.error.kind.ErrorKind.TheVariants as kind
 use Rattle.clap.specs.declared.parser.matches.ArgMatches.{ArgMatches}
 use Rattle.clap.specs.Faults.{fault_of, is_free_app, is_simple_and_free}
-use Rattle.clap.specs.Simple.{App, HasMatchesOf, built, is_simple, subcommand_of, subcommand_rows_of}
-use Rattle.clap.specs.Walk.{Text}
-use Rattle.srv_words.specs.Command.{check, fmrcd, load, once, serve, used, with_clock, with_door, with_site}
+use Rattle.clap.specs.Simple.{App, HasMatchesOf, app_of, built, is_simple, subcommand_of, subcommand_rows_of}
+use Rattle.clap.specs.Walk.{Rule, Text}
+use Rattle.srv_words.specs.Command.{fmrcd, rules_in, subcommand, used, with_arguments, with_clock, with_door, with_rules, with_site}
 
 -- a result whose value is seen as one thing is seen as what equals it
 pub ok_as : {A E : Type 0} {x y : App} (f : A → App) (r : Result A E) → x ≡ y → IfOk r (λ k. f k ≡ x)
     → IfOk r (λ k. f k ≡ y)
 ok_as f r is seen = subst (λ (z : App). IfOk r (λ k. f k ≡ z)) is seen
 
-pub neither : (a b c : Bool) → c ≡ (a || b) → a ≡ false → b ≡ false → c ≡ false
+-- rules that are as a call left them are as what equals that
+pub done_as : {A E : Type 0} {y z : List Rule} (r : Result A E) (x : List Rule) → y ≡ z → OnOk r (x ≡ y)
+    → OnOk r (x ≡ z)
+done_as r x is done = subst (λ (l : List Rule). OnOk r (x ≡ l)) is done
+
+neither : (a b c : Bool) → c ≡ (a || b) → a ≡ false → b ≡ false → c ≡ false
 neither a b c is first second = is ∙ ap (λ (x : Bool). x || b) first ∙ second
 
+-- a command to which arguments were added has their rules, one after the other
+pub args_in_turn : (old new : Command) (args : List Arg) → AddsInTurn AddsArg old args new
+    → All (λ (arg : Arg). arg.global ≡ false) args → (out-Command old).has_globals ≡ false
+    → (app_of new ≡ with_rules (app_of old) (rules_in args)) × ((out-Command new).has_globals ≡ false)
+args_in_turn old new [] is local plain =
+    (sym (ap app_of is), subst (λ (c : Command). (out-Command c).has_globals ≡ false) is plain)
+args_in_turn old new (arg ∷ args) adds local plain =
+    let here = All-head (λ (arg : Arg). arg.global ≡ false) arg args local in
+    let next = adds.0 in
+    let rest = args_in_turn next new args adds.2 (All-tail (λ (arg : Arg). arg.global ≡ false) arg args local)
+    (neither _ _ _ adds.1.globals plain here) in
+    (rest.0 ∙ ap (λ (app : App). with_rules app (rules_in args)) (adds.1.shape here), rest.1)
+
 pub fmrcd_is_free : is_simple_and_free fmrcd ≡ true
-unfolding fmrcd once check load serve with_site with_door with_clock
+unfolding fmrcd subcommand with_arguments with_site with_door with_clock
 fmrcd_is_free = refl
 
 pub fmrcd_is_simple : is_simple fmrcd ≡ true

@@ -1,5 +1,5 @@
 -- Each value of a job lies in its range.
-use Rattle.std.proofs.Common.{◌≡◌, ℕ, Bool, true, false, ◌&&◌, List, Option, Some, None, subst, arith, codes}
+use Rattle.std.proofs.Common.{◌≡◌, ℕ, Bool, true, false, List, Option, Some, None, subst, arith, codes}
 use Rattle.std.proofs.lemmas.Option.{same_Some}
 use Rattle.std.specs.Prelude.{if◌then◌else◌}
 use Rattle.std.specs.List.{list_all}
@@ -10,7 +10,7 @@ use Rattle.clap.specs.Walk.{Row, Text, first_of}
 use Rattle.srv_words.specs.declared.job.Job.{Job}
 use Rattle.srv_words.specs.declared.job.Job.TheVariants.{Check, Load}
 use Rattle.srv_words.specs.Command.{is_taken, used}
-use Rattle.srv_words.specs.Jobs.{IsJob, once_of, check_of, load_of, serve_of, job_in, job_of}
+use Rattle.srv_words.specs.Jobs.{IsJob, once_of, check_of, load_of, serve_of, job_in, job_of, job_of_found, job_of_texts}
 use Rattle.srv_words.specs.Reads.{◌>>=◌}
 use Rattle.srv_words.specs.Values.{number_in}
 use Rattle.srv_words.proofs.OnceLemmas.{once_of-some}
@@ -61,13 +61,21 @@ job_in-some name rows job is =
     (λ (others : last ≡ Some job). if_some is_serve (serve_of rows) None job others (serve_of-some rows job)
     (λ (never : None ≡ Some job). none_is job never))))
 
+job_of_found-some : (found : Option (Text × List Row)) (job : Job) → job_of_found found ≡ Some job → IsJob job
+unfolding job_of_found
+job_of_found-some found job is =
+    let read = then_some (λ (f : Text × List Row). job_in f.0 f.1) found job is in
+    job_in-some read.0.0 read.0.1 job read.2
+
+job_of_texts-some : (texts : List Text) (job : Job) → job_of_texts texts ≡ Some job → IsJob job
+unfolding job_of_texts
+job_of_texts-some texts job is =
+    if_some (is_taken texts) (job_of_found (used texts)) None job is (job_of_found-some (used texts) job)
+    (λ (never : None ≡ Some job). none_is job never)
+
 -- each value of a job lies in its range
 pub IsJob_of : (words : List (List ℕ)) (job : Job) → job_of words ≡ Some job → IsJob job
 unfolding job_of
 IsJob_of words job is =
-    if_some (list_all is_utf8 words && is_taken words)
-    (option_and_then (λ (found : Text × List Row). job_in found.0 found.1) (used words)) None job is
-    (λ (taken : option_and_then (λ (found : Text × List Row). job_in found.0 found.1) (used words) ≡ Some job).
-    let found = then_some (λ (found : Text × List Row). job_in found.0 found.1) (used words) job taken in
-    job_in-some found.0.0 found.0.1 job found.2)
+    if_some (list_all is_utf8 words) (job_of_texts words) None job is (job_of_texts-some words job)
     (λ (never : None ≡ Some job). none_is job never)

@@ -8,6 +8,7 @@ use Rattle.std.specs.Option.{option_and_then}
 use Rattle.nc_model.specs.Instant.{instant_of}
 use Rattle.fm_base.proofs.OptionLemmas.{mapped_some}
 use Rattle.fm_model.specs.declared.site.Site.{Site}
+use Rattle.fm_model.specs.Site.{IsSite}
 use Rattle.fm_model.specs.LoadTimes.{is_instant, IsInstant}
 use Rattle.fm_model.proofs.RunLemmas.{IsInstant-from_test}
 use Rattle.clap.specs.Walk.{Row, Text, all_of, first_of}
@@ -15,7 +16,7 @@ use Rattle.srv_words.specs.declared.job.Job.{Job}
 use Rattle.srv_words.specs.declared.job.Job.TheVariants.{Once}
 use Rattle.srv_words.specs.declared.job.Step.{Step}
 use Rattle.srv_words.specs.declared.job.Step.TheVariants.{Put, Expire, Retract, Ask}
-use Rattle.srv_words.specs.Jobs.{IsJob, site_of, step_words_of, once_of}
+use Rattle.srv_words.specs.Jobs.{IsJob, site_of, step_words_of, once_of, once_over}
 use Rattle.srv_words.specs.Reads.{◌>>=◌, if_so}
 use Rattle.srv_words.specs.Steps.{IsStep, asked_of, cutoff_of, step_of, steps_from, steps_of}
 use Rattle.srv_words.specs.Values.{from_epoch, if_instant, number_in, rest_of}
@@ -88,23 +89,24 @@ step_words_of-some rows words is =
     let there = so_some (nat_lt 0 (length read.0)) read.0 words read.2 in
     subst (λ (list : List Text). 0 < length list) there.1 (ltb-true 0 (length read.0) there.0)
 
+once_over-some : (site : Site) (proto : Text) (list : List Text) (job : Job) → once_over site proto list ≡ Some job
+    → IsSite site × (length site.mark ≤ 65) → 0 < length list → IsJob job
+unfolding once_over
+once_over-some site proto list job is sound some =
+    let steps = step_some (steps_of site.epoch list) (λ (steps : List Step). Some (Once site proto steps)) job is in
+    let each = steps_of-some site.epoch list steps.0 steps.1 in
+    subst IsJob (same_Some (Once site proto steps.0) job steps.2)
+    (sound.0, sound.1, omega (arith, some, each.1), each.0)
+
 -- the values of `once` lie in their ranges
 pub once_of-some : (rows : List Row) (job : Job) → once_of rows ≡ Some job → IsJob job
 unfolding once_of
 once_of-some rows job is =
-    let site = step_some (site_of rows) (λ (site : Site).
-    first_of (codes "proto") rows >>= λ (proto : Text).
-    step_words_of rows >>= λ (list : List Text).
-    steps_of site.epoch list >>= λ (steps : List Step). Some (Once site proto steps)) job is in
     let proto = step_some (first_of (codes "proto") rows) (λ (proto : Text).
     step_words_of rows >>= λ (list : List Text).
-    steps_of site.0.epoch list >>= λ (steps : List Step). Some (Once site.0 proto steps)) job site.2 in
+    site_of rows >>= λ (site : Site). once_over site proto list) job is in
     let list = step_some (step_words_of rows) (λ (list : List Text).
-    steps_of site.0.epoch list >>= λ (steps : List Step). Some (Once site.0 proto.0 steps)) job proto.2 in
-    let steps = step_some (steps_of site.0.epoch list.0) (λ (steps : List Step).
-    Some (Once site.0 proto.0 steps)) job list.2 in
-    let sound = site_of-some rows site.0 site.1 in
-    let some = step_words_of-some rows list.0 list.1 in
-    let each = steps_of-some site.0.epoch list.0 steps.0 steps.1 in
-    subst IsJob (same_Some (Once site.0 proto.0 steps.0) job steps.2)
-    (sound.0, sound.1, omega (arith, some, each.1), each.0)
+    site_of rows >>= λ (site : Site). once_over site proto.0 list) job proto.2 in
+    let site = step_some (site_of rows) (λ (site : Site). once_over site proto.0 list.0) job list.2 in
+    once_over-some site.0 proto.0 list.0 job site.2 (site_of-some rows site.0 site.1)
+    (step_words_of-some rows list.0 list.1)

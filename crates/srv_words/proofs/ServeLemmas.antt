@@ -77,16 +77,16 @@ inboxes_of-some rows words is =
 pub serve_of-some : (rows : List Row) (job : Job) → serve_of rows ≡ Some job → IsJob job
 unfolding serve_of
 serve_of-some rows job is =
-    let site = step_some (site_of rows) _ job is in
-    let proto = step_some (first_of (codes "proto") rows) _ job site.2 in
-    let doors = step_some (doors_of rows) _ job proto.2 in
-    let ticking = step_some (ticking_of rows) _ job doors.2 in
-    let inboxes = step_some (inboxes_of rows) _ job ticking.2 in
+    let proto = step_some (first_of (codes "proto") rows) _ job is in
+    let inboxes = step_some (inboxes_of rows) _ job proto.2 in
+    let ticking = step_some (ticking_of rows) _ job inboxes.2 in
+    let site = step_some (site_of rows) _ job ticking.2 in
+    let doors = step_some (doors_of rows) _ job site.2 in
     let sound = site_of-some rows site.0 site.1 in
     let door = doors_of-some rows doors.0 doors.1 in
     let clock = ticking_of-some rows ticking.0 ticking.1 in
     let folders = inboxes_of-some rows inboxes.0 inboxes.1 in
-    subst IsJob (same_Some (Serve (serving_of site.0 proto.0 doors.0 ticking.0 inboxes.0)) job inboxes.2) (record {
+    subst IsJob (same_Some (Serve (serving_of site.0 proto.0 doors.0 ticking.0 inboxes.0)) job doors.2) (record {
       site = sound.0;
       mark = sound.1;
       some_workers = door.0;

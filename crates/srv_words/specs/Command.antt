@@ -1,52 +1,68 @@
 -- The command, as `clap` sees it. Functions of that crate say which words it takes, and their matches.
-use Rattle.std.specs.Prelude.{Bool, true, false, List, Option, Some, ◌==◌, length, codes}
+use Rattle.std.specs.Prelude.{Bool, true, false, List, [], ◌∷◌, ◌++◌, Option, Some, ◌==◌, length, map, codes}
 use Rattle.clap.specs.Faults.{fault_of}
 use Rattle.clap.specs.Simple.{App, new_app, new_rule, with_rule, with_subcommand, on_top, subcommand_of}
-use Rattle.clap.specs.Walk.{Text, Row, Rule}
+use Rattle.clap.specs.Walk.{Text, Row, Rule, rule_of}
+use Rattle.clap.specs.declared.builder.action.ArgAction.{ArgAction}
 use Rattle.clap.specs.declared.builder.action.ArgAction.TheVariants.{Set, Append}
+use Rattle.clap.specs.declared.builder.arg.Arg.{Arg}
+use Rattle.srv_words.specs.declared.job.Command.{Command}
+use Rattle.srv_words.specs.declared.job.Command.TheVariants.{Once, Check, Load, Serve}
 
 -- a long option with one value, which stands once at most
 abbrev pub option : Text → Bool → Rule
 option id required =
     record (new_rule id) { long = Some id; action = Some Set; value_names = 1; required = required }
 
--- a word that has to stand
-abbrev pub word : Text → Rule
-word id = record (new_rule id) { action = Some Set; required = true }
+-- a word that has to stand (`Set`), or one word or more (`Append`)
+abbrev pub word : Text → ArgAction → Rule
+word id action = record (new_rule id) { action = Some action; required = true }
 
--- one word or more
-abbrev pub words : Text → Rule
-words id = record (new_rule id) { action = Some Append; required = true }
+-- the rules of arguments
+abbrev pub rules_in : List Arg → List Rule
+rules_in arguments = map rule_of arguments
+
+-- rules with one more
+abbrev pub one_more : List Rule → Rule → List Rule
+one_more rules rule = rules ++ rule ∷ []
 
 -- with the options of a collection: `--name NAME --proto PROTO [--epoch INSTANT] [--mark MARK]`
-unfoldable pub with_site : App → App
-with_site a = with_rule (with_rule (with_rule (with_rule a (option (codes "name") true)) (option (codes "proto") true))
-    (option (codes "epoch") false)) (option (codes "mark") false)
+unfoldable pub with_site : List Rule → List Rule
+with_site rules = one_more (one_more (one_more (one_more rules (option (codes "name") true))
+    (option (codes "proto") true)) (option (codes "epoch") false)) (option (codes "mark") false)
 
 -- with the options of a door: `--listen ADDRESS [--workers K] [--connections C]`
-unfoldable pub with_door : App → App
-with_door a = with_rule (with_rule (with_rule a (option (codes "listen") true)) (option (codes "workers") false))
-    (option (codes "connections") false)
+unfoldable pub with_door : List Rule → List Rule
+with_door rules = one_more (one_more (one_more rules (option (codes "listen") true))
+    (option (codes "workers") false)) (option (codes "connections") false)
 
 -- with the options of a clock: `[--keep S] [--ticks T]`
-unfoldable pub with_clock : App → App
-with_clock a = with_rule (with_rule a (option (codes "keep") false)) (option (codes "ticks") false)
+unfoldable pub with_clock : List Rule → List Rule
+with_clock rules = one_more (one_more rules (option (codes "keep") false)) (option (codes "ticks") false)
 
--- `once --name NAME --proto PROTO [--epoch INSTANT] [--mark MARK] STEP..`
-unfoldable pub once : App
-once = with_rule (with_site (new_app (codes "once"))) (words (codes "STEP"))
+-- with all that stands behind a command: `STEP..` and the options of a collection, `FILE`, `SEED FILES`, or `INBOX..`
+-- and the options of a collection, a door and a clock
+unfoldable pub with_arguments : Command → List Rule → List Rule
+with_arguments Once rules = one_more (with_site rules) (word (codes "STEP") Append)
+with_arguments Check rules = one_more rules (word (codes "FILE") Set)
+with_arguments Load rules = one_more (one_more rules (word (codes "SEED") Set)) (word (codes "FILES") Set)
+with_arguments Serve rules = one_more (with_clock (with_door (with_site rules))) (word (codes "INBOX") Append)
 
--- `check FILE`
-unfoldable pub check : App
-check = with_rule (new_app (codes "check")) (word (codes "FILE"))
+-- a command with these rules more, one after the other
+abbrev pub with_rules : App → List Rule → App
+with_rules app [] = app
+with_rules app (rule ∷ rules) = with_rules (with_rule app rule) rules
 
--- `load SEED FILES`
-unfoldable pub load : App
-load = with_rule (with_rule (new_app (codes "load")) (word (codes "SEED"))) (word (codes "FILES"))
+-- the word for a command
+abbrev pub name_of : Command → Text
+name_of Once = codes "once"
+name_of Check = codes "check"
+name_of Load = codes "load"
+name_of Serve = codes "serve"
 
--- `serve` with the options of a collection, a door and a clock, and then `INBOX..`
-unfoldable pub serve : App
-serve = with_rule (with_clock (with_door (with_site (new_app (codes "serve"))))) (words (codes "INBOX"))
+-- a command with all that stands behind it
+unfoldable pub subcommand : Command → App
+subcommand command = with_rules (new_app (name_of command)) (with_arguments command [])
 
 -- a command that wants a subcommand, and is given the words after the program's name
 abbrev pub top : App
@@ -54,7 +70,8 @@ top = on_top (λ s. record s { no_binary_name = true; subcommand_required = true
 
 -- one of these subcommands
 unfoldable pub fmrcd : App
-fmrcd = with_subcommand (with_subcommand (with_subcommand (with_subcommand top once.top) check.top) load.top) serve.top
+fmrcd = with_subcommand (with_subcommand (with_subcommand (with_subcommand top (subcommand Serve).top)
+    (subcommand Once).top) (subcommand Check).top) (subcommand Load).top
 
 -- whether the command takes the words
 unfoldable pub is_taken : List Text → Bool

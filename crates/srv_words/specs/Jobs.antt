@@ -1,5 +1,5 @@
 -- The job that words are.
-use Rattle.std.specs.Prelude.{◌<◌, ◌≤◌, ◌^◌, ℕ, ◌&&◌, nat_lt, List, length, codes, Option, Some, None, option_map, if◌then◌else◌, All}
+use Rattle.std.specs.Prelude.{◌<◌, ◌≤◌, ◌^◌, ℕ, nat_lt, List, length, codes, Option, Some, None, option_map, if◌then◌else◌, All}
 use Rattle.std.specs.List.{list_all}
 use Rattle.std.specs.Option.{option_and_then}
 use Rattle.std.specs.Str.{bytes_eq, is_utf8}
@@ -36,14 +36,19 @@ step_words_of rows = do
   list ← all_of (codes "STEP") rows
   if_so (nat_lt 0 (length list)) list
 
+-- the job of `once` on a collection of this site
+unfoldable pub once_over : Site → Text → List Text → Option Job
+once_over site proto list = do
+  steps ← steps_of site.epoch list
+  Some (Once site proto steps)
+
 -- the job of `once`
 unfoldable pub once_of : List Row → Option Job
 once_of rows = do
-  site ← site_of rows
   proto ← first_of (codes "proto") rows
   list ← step_words_of rows
-  steps ← steps_of site.epoch list
-  Some (Once site proto steps)
+  site ← site_of rows
+  once_over site proto list
 
 -- the job of `check`
 unfoldable pub check_of : List Row → Option Job
@@ -59,11 +64,11 @@ load_of rows = do
 -- the job of `serve`
 unfoldable pub serve_of : List Row → Option Job
 serve_of rows = do
-  site ← site_of rows
   proto ← first_of (codes "proto") rows
-  doors ← doors_of rows
-  ticking ← ticking_of rows
   inboxes ← inboxes_of rows
+  ticking ← ticking_of rows
+  site ← site_of rows
+  doors ← doors_of rows
   Some (Serve (serving_of site proto doors ticking inboxes))
 
 -- the job of a subcommand, by its matches
@@ -73,10 +78,17 @@ job_in name rows = if bytes_eq name (codes "once") then once_of rows
     else (if bytes_eq name (codes "load") then load_of rows
     else (if bytes_eq name (codes "serve") then serve_of rows else None)))
 
--- the job that the words are: they are UTF-8, the command takes them, and each value has its form
+-- the job of the subcommand that was found
+unfoldable pub job_of_found : Option (Text × List Row) → Option Job
+job_of_found found = option_and_then (λ (found : Text × List Row). job_in found.0 found.1) found
+
+-- the job that texts are: the command takes them, and each value has its form
+unfoldable pub job_of_texts : List Text → Option Job
+job_of_texts texts = if is_taken texts then job_of_found (used texts) else None
+
+-- the job that the words are: they are UTF-8, and these texts are the job
 unfoldable pub job_of : List (List ℕ) → Option Job
-job_of words = if list_all is_utf8 words && is_taken words
-    then option_and_then (λ (found : Text × List Row). job_in found.0 found.1) (used words) else None
+job_of words = if list_all is_utf8 words then job_of_texts words else None
 
 -- the command that does a job
 abbrev pub command_of : Job → Command

@@ -1,29 +1,37 @@
-//! What the help says of each command and each value.
+//! What the help says of the program, its commands and each value; the forms of values; and the version.
+
+/// The version of the program, as the first heading of CHANGELOG.md has it.
+pub(crate) const VERSION: &str = "fmrcd 0.1.0\n";
+
+pub(crate) const PROGRAM_HELP: &str =
+    "Serves forecast runs that overlap: OPeNDAP (DAP 2.0) over netCDF classic files";
+
+/// What stands below the list of commands. In these texts `{n}` ends a line.
+pub(crate) const MORE_HELP: &str =
+    "'fmrcd COMMAND --help' says what a command takes, 'fmrcd --version' the version.";
+
+pub(crate) const SERVE_HELP: &str = "Serves a collection over HTTP, while files arrive in folders";
 
 pub(crate) const ONCE_HELP: &str =
-    "Does the steps in order on a collection, with requests from standard input";
+    "Does steps in order on a collection, with requests from standard input";
 
-pub(crate) const CHECK_HELP: &str =
-    "Says whether a file is one that can be read, or its first fault";
+pub(crate) const CHECK_HELP: &str = "Says whether a file can be read, or its first fault";
 
 pub(crate) const LOAD_HELP: &str =
     "Makes files from a seed, reads them through four views, and sums the bytes";
 
-pub(crate) const SERVE_HELP: &str =
-    "Serves a collection, to which come the files that are put in folders";
-
-pub(crate) const NAME_HELP: &str = "The collection's name: 1 to 64 letters, digits, `_` and `-`";
+pub(crate) const NAME_HELP: &str = "The collection's name: 1 to 64 letters, digits, '_' and '-'";
 
 pub(crate) const PROTO_HELP: &str = "The path of the file that says what the views look like";
 
 pub(crate) const EPOCH_HELP: &str =
-    "YYYY-MM-DDThh:mm:ssZ, of the years 100 to 9900 [default: 2020-01-01T00:00:00Z]";
+    "From when times are counted: YYYY-MM-DDThh:mm:ssZ, of the years{n}100 to 9900 [default: 2020-01-01T00:00:00Z]";
 
 pub(crate) const MARK_HELP: &str =
-    "What stands in a file's name before its run: at most 64 bytes [default: the name and `_`]";
+    "What stands in a file's name before its run: at most 64 bytes{n}[default: the name and '_']";
 
 pub(crate) const STEP_HELP: &str =
-    "put:PATH, expire:YYYY-MM-DDThh:mm:ssZ, retract:NAME or ask:NUMBER, of 1 to 10000 requests";
+    "put:PATH, expire:INSTANT (the runs before it), retract:NAME or{n}ask:NUMBER (1 to 10000 replies)";
 
 pub(crate) const FILE_HELP: &str = "The path of a netCDF classic file";
 
@@ -38,12 +46,30 @@ pub(crate) const WORKERS_HELP: &str =
     "How many workers take connections: a number from 1 to 16 [default: 4]";
 
 pub(crate) const CONNECTIONS_HELP: &str =
-    "How many connections each worker takes: a number from 1 to 4294967295, or 0 for no end [default: 0]";
+    "After how many connections each worker ends, up to 4294967295,{n}or 0 for never [default: 0]";
 
 pub(crate) const KEEP_HELP: &str =
-    "How many seconds a run is kept: a number from 1 to 1073741823 [default: no end]";
+    "For how many seconds a run is kept, 1 to 1073741823 [default: for ever]";
 
 pub(crate) const TICKS_HELP: &str =
-    "How often old runs are looked for: a number from 1 to 4294967295, or 0 for no end [default: 0]";
+    "After how many looks for old runs the clock ends, up to 4294967295,{n}or 0 for never [default: 0]";
 
-pub(crate) const INBOX_HELP: &str = "A folder that files are put in: 1 to 8 of them";
+pub(crate) const INBOX_HELP: &str = "A folder in which files arrive: 1 to 8 of them";
+
+/// What a value must be, for a person who gave another.
+pub(crate) const NAME_FORM: &str = "it must be 1 to 64 letters, digits, '_' and '-'";
+
+pub(crate) const EPOCH_FORM: &str = "it must be YYYY-MM-DDThh:mm:ssZ, of the years 100 to 9900";
+
+pub(crate) const MARK_FORM: &str = "it must have at most 64 bytes";
+
+pub(crate) const STEP_FORM: &str =
+    "it must be put:PATH, expire:INSTANT, retract:NAME or ask:NUMBER";
+
+pub(crate) const EXPIRE_FORM: &str =
+    "it must be expire:YYYY-MM-DDThh:mm:ssZ, within 34 years of the epoch";
+
+pub(crate) const ASK_FORM: &str =
+    "it must be ask:NUMBER, a number from 1 to 10000 without leading zeros";
+
+pub(crate) const FOLDERS_FORM: &str = "there may be at most 8 folders";

@@ -1,16 +1,17 @@
 //! What the words ask for.
 ghost use Rattle.std.specs.Prelude.{◌≡◌};
+ghost use Rattle.srv_words.specs.Command.{name_of};
 ghost use Rattle.srv_words.specs.Jobs.{command_of};
 
 use fm_base::{Bytes, List};
 use fm_model::Site;
 
 /// The words are no command of this program.
-#[derive(Clone, Copy, Debug, PartialEq, Eq)]
+#[derive(Clone, Copy)]
 pub struct BadWords;
 
 /// A step of `once`.
-#[derive(Debug, Drop)]
+#[derive(Drop)]
 pub enum Step {
     /// The file at this path comes into the collection.
     Put(Bytes),
@@ -23,7 +24,7 @@ pub enum Step {
 }
 
 /// The options of `serve`. Paths, folders and the address are as they stand in the words.
-#[derive(Debug, Drop)]
+#[derive(Drop)]
 pub struct Serving {
     pub site: Site,
     /// The path of the prototype.
@@ -42,7 +43,7 @@ pub struct Serving {
 }
 
 /// A command of the program.
-#[derive(Clone, Copy, Debug, PartialEq, Eq)]
+#[derive(Clone, Copy)]
 pub enum Command {
     Once,
     Check,
@@ -50,8 +51,22 @@ pub enum Command {
     Serve,
 }
 
+impl Command {
+    // Its word.
+    pub(crate) fn name<'a>(self) -> &'a str
+        ensures { result.now ≡ name_of self }
+    {
+        match self {
+            Command::Once => "once",
+            Command::Check => "check",
+            Command::Load => "load",
+            Command::Serve => "serve",
+        }
+    }
+}
+
 /// The job that the words ask for. Paths are as they stand in the words.
-#[derive(Debug, Drop)]
+#[derive(Drop)]
 pub enum Job {
     /// The steps are done in their order, on a collection over the prototype at a path.
     Once {

@@ -11,6 +11,7 @@ use crate::site::site_of;
 use crate::steps::steps_of;
 use clap::ArgMatches;
 use fm_base::{Bytes, Fail};
+use fm_model::Site;
 use std::alloc::Global;
 
 // The words of the steps, of which there is one at least.
@@ -26,22 +27,30 @@ fn step_words_of<'m, 'a>(matches: &'m ArgMatches<'a>) -> Option<&'m [&'a str]>
     Some(words)
 }
 
-// The job of `once`, by its matches.
-#[tactic(auto, unfolding(crate::specs::Jobs::once_of))]
-pub(crate) fn once_job(alloc: Global, matches: &ArgMatches<'_>) -> Result<Job, Fail<BadWords>>
-    ensures { Reads (spec.once_of (rows_of (found_of matches.now))) result }
+// The job of `once` on a collection of this site.
+#[tactic(auto, unfolding(crate::specs::Jobs::once_over))]
+fn once_over(alloc: Global, site: Site, proto: &[u8], words: &[&str]) -> Result<Job, Fail<BadWords>>
+    ensures { Reads (spec.once_over site proto.now (map (λ word. word.now) words.now)) result }
 {
-    let site = site_of(alloc, matches)?;
-    let Some(proto) = text_of(matches, "proto") else {
-        return Err(Fail::Fault(BadWords));
-    };
-    let Some(words) = step_words_of(matches) else {
-        return Err(Fail::Fault(BadWords));
-    };
     let steps = steps_of(alloc, site.epoch, words)?;
     Ok(Job::Once {
         site,
         proto: Bytes::copy_of(alloc, proto)?,
         steps,
     })
+}
+
+// The job of `once`, by its matches.
+#[tactic(auto, unfolding(crate::specs::Jobs::once_of))]
+pub(crate) fn once_job(alloc: Global, matches: &ArgMatches<'_>) -> Result<Job, Fail<BadWords>>
+    ensures { Reads (spec.once_of (rows_of (found_of matches.now))) result }
+{
+    let Some(proto) = text_of(matches, "proto") else {
+        return Err(Fail::Fault(BadWords));
+    };
+    let Some(words) = step_words_of(matches) else {
+        return Err(Fail::Fault(BadWords));
+    };
+    let site = site_of(alloc, matches)?;
+    once_over(alloc, site, proto, words)
 }

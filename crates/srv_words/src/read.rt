@@ -3,6 +3,7 @@ ghost use Rattle.std.specs.Prelude.{◌≡◌, true, false, IfOk, OnOk, map};
 ghost use Rattle.std.specs.List.{list_all};
 ghost use Rattle.std.specs.Str.{is_utf8};
 ghost use Rattle.clap.specs.Matches.{found_of};
+ghost use Rattle.clap.specs.Simple.{subcommand_rows_of};
 ghost use Rattle.clap.specs.Walk.{rows_of};
 ghost use Rattle.fm_base.specs.Answer.{OnFault};
 ghost use Rattle.srv_words.specs.Jobs as spec;
@@ -57,20 +58,36 @@ fn job_in(alloc: Global, name: &str, matches: &ArgMatches<'_>) -> Result<Job, Fa
     }
 }
 
+// The job of the subcommand that was found in the words.
+#[tactic(auto, using(crate::proofs::FoundLemmas::found))]
+fn job_of_found(alloc: Global, matches: &ArgMatches<'_>) -> Result<Job, Fail<BadWords>>
+    ensures { Reads (spec.job_of_found (subcommand_rows_of matches.now)) result }
+{
+    match subcommand_of(matches) {
+        Some((name, matches)) => job_in(alloc, name, matches),
+        None => Err(Fail::Fault(BadWords)),
+    }
+}
+
+// The job that texts are.
+#[tactic(auto, using(crate::proofs::FoundLemmas::found))]
+fn job_of_texts(alloc: Global, texts: &[&str]) -> Result<Job, Fail<BadWords>>
+    ensures { Reads (spec.job_of_texts (map (λ text. text.now) texts.now)) result }
+{
+    match parsed(alloc, texts) {
+        Ok(matches) => job_of_found(alloc, &matches),
+        Err(Fail::Fault(_)) => Err(Fail::Fault(BadWords)),
+        Err(Fail::NoMemory) => Err(Fail::NoMemory),
+    }
+}
+
 // The job that the words are.
 #[tactic(auto, using(crate::proofs::FoundLemmas::found))]
 fn job_of(alloc: Global, words: &[Bytes]) -> Result<Job, Fail<BadWords>>
     ensures { Reads (spec.job_of words.now) result }
 {
     let texts = texts_of(alloc, words)?;
-    match parsed(alloc, texts.as_slice()) {
-        Ok(matches) => match subcommand_of(&matches) {
-            Some((name, matches)) => job_in(alloc, name, matches),
-            None => Err(Fail::Fault(BadWords)),
-        },
-        Err(Fail::Fault(_)) => Err(Fail::Fault(BadWords)),
-        Err(Fail::NoMemory) => Err(Fail::NoMemory),
-    }
+    job_of_texts(alloc, texts.as_slice())
 }
 
 /// The job that the words after the program's name are. `BadWords` comes exactly where `clap` doesn't take them, a word

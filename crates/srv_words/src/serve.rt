@@ -12,6 +12,7 @@ use crate::number::number_in;
 use crate::site::site_of;
 use clap::ArgMatches;
 use fm_base::{Bytes, Fail, List, NoMemory};
+use fm_model::Site;
 use std::alloc::Global;
 
 /// The most workers.
@@ -123,23 +124,19 @@ fn copies_of(alloc: Global, words: &[&str]) -> Result<List<Bytes>, NoMemory>
     Ok(copies)
 }
 
-// The job of `serve`, by its matches.
-#[tactic(auto, unfolding(crate::specs::Jobs::serve_of))]
-pub(crate) fn serve_job(alloc: Global, matches: &ArgMatches<'_>) -> Result<Job, Fail<BadWords>>
-    ensures { Reads (jobs.serve_of (rows_of (found_of matches.now))) result }
+// What is served, with the texts of its options in memory of their own.
+fn serving_of(
+    alloc: Global,
+    site: Site,
+    proto: &[u8],
+    doors: Doors,
+    ticking: Ticking,
+    words: &[&str],
+) -> Result<Serving, NoMemory>
+    ensures { IfOk result (λ serving.
+        serving ≡ spec.serving_of site proto.now doors ticking (map (λ word. word.now) words.now)) }
 {
-    let site = site_of(alloc, matches)?;
-    let Some(proto) = text_of(matches, "proto") else {
-        return Err(Fail::Fault(BadWords));
-    };
-    let doors = doors_of(alloc, matches)?;
-    let Some(ticking) = ticking_of(matches) else {
-        return Err(Fail::Fault(BadWords));
-    };
-    let Some(words) = inboxes_of(matches) else {
-        return Err(Fail::Fault(BadWords));
-    };
-    Ok(Job::Serve(Serving {
+    Ok(Serving {
         site,
         proto: Bytes::copy_of(alloc, proto)?,
         listen: doors.listen,
@@ -148,5 +145,24 @@ pub(crate) fn serve_job(alloc: Global, matches: &ArgMatches<'_>) -> Result<Job, 
         keep: ticking.keep,
         ticks: ticking.ticks,
         inboxes: copies_of(alloc, words)?,
-    }))
+    })
+}
+
+// The job of `serve`, by its matches.
+#[tactic(auto, unfolding(crate::specs::Jobs::serve_of))]
+pub(crate) fn serve_job(alloc: Global, matches: &ArgMatches<'_>) -> Result<Job, Fail<BadWords>>
+    ensures { Reads (jobs.serve_of (rows_of (found_of matches.now))) result }
+{
+    let Some(proto) = text_of(matches, "proto") else {
+        return Err(Fail::Fault(BadWords));
+    };
+    let Some(words) = inboxes_of(matches) else {
+        return Err(Fail::Fault(BadWords));
+    };
+    let Some(ticking) = ticking_of(matches) else {
+        return Err(Fail::Fault(BadWords));
+    };
+    let site = site_of(alloc, matches)?;
+    let doors = doors_of(alloc, matches)?;
+    Ok(Job::Serve(serving_of(alloc, site, proto, doors, ticking, words)?))
 }

@@ -16,7 +16,7 @@ use std::alloc::Global;
 
 // The name that a collection gets.
 #[tactic(auto, unfolding(crate::specs::Jobs::name_of))]
-fn name_of<'a>(matches: &ArgMatches<'a>) -> Option<&'a [u8]>
+pub(crate) fn name_of<'a>(matches: &ArgMatches<'a>) -> Option<&'a [u8]>
     ensures { option_map (λ name. name.now) result ≡ spec.name_of (rows_of (found_of matches.now)) }
 {
     let name = text_of(matches, "name")?;

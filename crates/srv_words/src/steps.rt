@@ -31,7 +31,7 @@ fn asked_of(word: &[u8]) -> Option<u32>
 
 // The step that a word is.
 #[tactic(auto, unfolding(crate::specs::Steps::step_of))]
-fn step_of(alloc: Global, epoch: i64, word: &[u8]) -> Result<Step, Fail<BadWords>>
+pub(crate) fn step_of(alloc: Global, epoch: i64, word: &[u8]) -> Result<Step, Fail<BadWords>>
     ensures { Reads (spec.step_of epoch word.now) result }
 {
     if let Some(path) = rest_of(b"put:", word) {

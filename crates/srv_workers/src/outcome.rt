@@ -15,7 +15,7 @@ pub struct Devices<D, I, C> {
 
 /// The outcome of all workers: the report of each, in the order of the devices, the tally at the end, and the number of
 /// operations published.
-#[derive(Debug, Drop)]
+#[derive(Drop)]
 pub struct Outcome {
     pub doors: List<DoorReport>,
     pub inboxes: List<IngestReport>,

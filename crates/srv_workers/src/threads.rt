@@ -8,7 +8,7 @@ fn wait_for<R: Wait>(rt: &R, lock: &Mutex<()>) {
     MutexGuard::unlock(lock.lock(rt));
 }
 
-/// Whether so many threads can be started beside that of the caller, all at once. Each ends before the call returns.
+/// Whether `count` threads can be started beside that of the caller, all at once. Each ends before the call returns.
 /// Nothing is claimed of it, since a limit may change at any time.
 pub fn can_start<R: Threads + Wait + Sync>(rt: &R, count: usize) -> bool {
     let lock = Mutex::new(());

@@ -1,6 +1,6 @@
 //! Constraints: names with dots, slabs as `start:stride:stop`, and clauses with semicolons.
 
-use super::only;
+use super::{known, only};
 use dap_ce::read_constraint;
 use dap_model::{CeFault, Clause, Slab};
 use fm_base::{Fail, NoMemory};
@@ -11,10 +11,7 @@ use std::fmt::Write;
 /// Puts the clauses of a constraint, or its fault with the offset.
 pub fn put_constraint(alloc: Global, row: &Row<'_>, out: &mut String) -> Result<bool, NoMemory> {
     match only(alloc, row, "constraint")? {
-        Some(text) => {
-            put_read(alloc, text.as_slice(), out)?;
-            Ok(true)
-        }
+        Some(text) => known(put_read(alloc, text.as_slice(), out)),
         None => Ok(false),
     }
 }

@@ -11,13 +11,18 @@ use std::alloc::Global;
 pub fn read_decls(alloc: Global, text: &str) -> Result<List<Decl>, Fail<Wrong>> {
     let mut decls = List::new(alloc);
     for line in text.lines() {
-        decls.push(read_decl(alloc, line)?)?;
+        put_decl(alloc, line, &mut decls)?;
     }
     Ok(decls)
 }
 
-/// A declaration.
-pub fn read_decl(alloc: Global, text: &str) -> Result<Decl, Fail<Wrong>> {
+/// Adds the declaration of a text.
+pub fn put_decl(alloc: Global, text: &str, decls: &mut List<Decl>) -> Result<(), Fail<Wrong>> {
+    Ok(decls.push(read_decl(alloc, text)?)?)
+}
+
+// A declaration.
+fn read_decl(alloc: Global, text: &str) -> Result<Decl, Fail<Wrong>> {
     let Some((front, arrays)) = text.split_once('(') else {
         return Ok(Decl::Plain(read_array(alloc, text)?));
     };
@@ -48,9 +53,13 @@ fn read_structure(alloc: Global, name: &str, arrays: &str) -> Result<Decl, Fail<
 fn read_arrays(alloc: Global, text: &str) -> Result<List<Array>, Fail<Wrong>> {
     let mut arrays = List::new(alloc);
     for array in text.split(", ") {
-        arrays.push(read_array(alloc, array)?)?;
+        put_array(alloc, array, &mut arrays)?;
     }
     Ok(arrays)
+}
+
+fn put_array(alloc: Global, text: &str, arrays: &mut List<Array>) -> Result<(), Fail<Wrong>> {
+    Ok(arrays.push(read_array(alloc, text)?)?)
 }
 
 fn read_array(alloc: Global, text: &str) -> Result<Array, Fail<Wrong>> {
@@ -67,9 +76,13 @@ fn read_array(alloc: Global, text: &str) -> Result<Array, Fail<Wrong>> {
 fn read_dims(alloc: Global, text: &str) -> Result<List<Dim>, Fail<Wrong>> {
     let mut dims = List::new(alloc);
     for part in text.split('[').skip(1) {
-        dims.push(read_dim(alloc, part)?)?;
+        put_dim(alloc, part, &mut dims)?;
     }
     Ok(dims)
+}
+
+fn put_dim(alloc: Global, text: &str, dims: &mut List<Dim>) -> Result<(), Fail<Wrong>> {
+    Ok(dims.push(read_dim(alloc, text)?)?)
 }
 
 fn read_dim(alloc: Global, text: &str) -> Result<Dim, Fail<Wrong>> {

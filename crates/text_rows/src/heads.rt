@@ -1,6 +1,6 @@
 //! Request heads: one, however it is cut, and those of a stream.
 
-use super::only;
+use super::{known, only};
 use fm_base::NoMemory;
 use row_text::{Field, Row, bytes, content, put_shown};
 use std::alloc::Global;
@@ -10,10 +10,7 @@ use web_frame::{Frame, Method, Next, Request};
 /// Puts the item that a head is read as. It comes whole, cut in two at each offset, and byte by byte.
 pub fn put_head(alloc: Global, row: &Row<'_>, out: &mut String) -> Result<bool, NoMemory> {
     match only(alloc, row, "head")? {
-        Some(head) => {
-            put_item(alloc, head.as_slice(), out)?;
-            Ok(true)
-        }
+        Some(head) => known(put_item(alloc, head.as_slice(), out)),
         None => Ok(false),
     }
 }

@@ -13,11 +13,11 @@ mod values;
 mod words;
 mod wrong;
 
-pub use declarations::read_decl;
-use fm_base::NoMemory;
+pub use declarations::put_decl;
+use fm_base::{Fail, NoMemory};
 use row_text::{Answers, File, Row};
 use std::alloc::{AllocError, Global};
-pub use wrong::Wrong;
+pub use wrong::{Wrong, wrong_form};
 
 /// The files that rows begin from.
 #[derive(Clone, Copy)]
@@ -34,33 +34,90 @@ impl Answers for Texts<'_> {
     }
 }
 
-// Puts what comes out of a row. The first key that names a call decides which.
+// The keys that name a call.
+const CALLS: [&str; 16] = [
+    "units",
+    "mark",
+    "instant",
+    "value",
+    "quoted",
+    "constraint",
+    "asks",
+    "words",
+    "no words",
+    "target",
+    "head",
+    "feed",
+    "feed file",
+    "input",
+    "on",
+    "on file",
+];
+
+// The key by which a row names its call.
+fn call_of(row: &Row<'_>) -> Option<&'static str> {
+    for call in &CALLS {
+        if row.value(call).is_some() {
+            return Some(*call);
+        }
+    }
+    None
+}
+
+// Puts what comes out of a row.
 fn put_answer(
     alloc: Global,
     files: &[File],
     row: &Row<'_>,
     out: &mut String,
 ) -> Result<bool, NoMemory> {
-    for field in &row.fields {
-        return match field.key {
-            "units" => times::put_units(alloc, row, out),
-            "mark" => times::put_mark(alloc, row, out),
-            "instant" => times::put_instant(alloc, row, out),
-            "value" => values::put_value(alloc, row, out),
-            "quoted" => values::put_quote(alloc, row, out),
-            "constraint" => constraints::put_constraint(alloc, row, out),
-            "asks" => projections::put_projection(alloc, files, row, out),
-            "words" => words::put_words(alloc, row, out),
-            "no words" => words::put_no_words(alloc, row, out),
-            "target" => targets::put_target(alloc, row, out),
-            "head" => heads::put_head(alloc, row, out),
-            "feed" | "feed file" => heads::put_stream(alloc, row, out),
-            "input" => sessions::put_input(alloc, row, out),
-            "on" | "on file" => sessions::put_events(alloc, row, out),
-            _ => continue,
-        };
+    match call_of(row) {
+        Some("asks") => projections::put_projection(alloc, files, row, out),
+        Some(key) => put_value(alloc, key, row, out),
+        None => Ok(false),
     }
-    Ok(false)
+}
+
+// Puts what comes out of a row about a value, a constraint or a target, by its key.
+fn put_value(alloc: Global, key: &str, row: &Row<'_>, out: &mut String) -> Result<bool, NoMemory> {
+    match key {
+        "units" => times::put_units(alloc, row, out),
+        "mark" => times::put_mark(alloc, row, out),
+        "instant" => times::put_instant(alloc, row, out),
+        "value" => values::put_value(alloc, row, out),
+        "quoted" => values::put_quote(alloc, row, out),
+        "constraint" => constraints::put_constraint(alloc, row, out),
+        "target" => targets::put_target(alloc, row, out),
+        _ => put_course(alloc, key, row, out),
+    }
+}
+
+// Puts what comes out of a row about the words of a command or the bytes of a stream, by its key.
+fn put_course(alloc: Global, key: &str, row: &Row<'_>, out: &mut String) -> Result<bool, NoMemory> {
+    match key {
+        "words" => words::put_words(alloc, row, out),
+        "no words" => words::put_no_words(alloc, row, out),
+        "head" => heads::put_head(alloc, row, out),
+        "feed" | "feed file" => heads::put_stream(alloc, row, out),
+        "input" => sessions::put_input(alloc, row, out),
+        _ => sessions::put_events(alloc, row, out),
+    }
+}
+
+// That a row is known, once its answer was put.
+fn known(put: Result<(), NoMemory>) -> Result<bool, NoMemory> {
+    match put {
+        Ok(()) => Ok(true),
+        Err(NoMemory) => Err(NoMemory),
+    }
+}
+
+// That a row isn't known, where there is a fault.
+fn unknown<E: Drop>(fail: Fail<E>) -> Result<bool, NoMemory> {
+    match fail {
+        Fail::NoMemory => Err(NoMemory),
+        Fail::Fault(_) => Ok(false),
+    }
 }
 
 // The bytes of the one key that a row has beside `name` and `want`; `None` where it is another row.

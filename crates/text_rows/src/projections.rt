@@ -2,6 +2,7 @@
 //! number of its declaration and its own, with its slabs.
 
 use super::constraints::put_slabs;
+use super::{known, unknown};
 use crate::declarations::read_decls;
 use dap_ce::read_constraint;
 use dap_model::{Array, Decl, ProjectFault, Projected, Projection, Sent};
@@ -24,8 +25,7 @@ pub fn put_projection(
     }
     match read_decls(alloc, named(files, row.value("of").unwrap_or(""))) {
         Ok(decls) => put_asked(alloc, decls.as_slice(), row, out),
-        Err(Fail::Fault(_)) => Ok(false),
-        Err(Fail::NoMemory) => Err(NoMemory),
+        Err(fail) => unknown(fail),
     }
 }
 
@@ -54,12 +54,8 @@ fn put_asked(
 // Puts what is sent for the constraint of a text. It is false where it is none.
 fn put_for(alloc: Global, decls: &[Decl], text: &[u8], out: &mut String) -> Result<bool, NoMemory> {
     match read_constraint(alloc, text) {
-        Ok(asked) => {
-            put_sent(alloc, decls, &asked, out)?;
-            Ok(true)
-        }
-        Err(Fail::Fault(_)) => Ok(false),
-        Err(Fail::NoMemory) => Err(NoMemory),
+        Ok(asked) => known(put_sent(alloc, decls, &asked, out)),
+        Err(fail) => unknown(fail),
     }
 }
 

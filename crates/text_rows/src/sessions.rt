@@ -1,7 +1,7 @@
 //! Sessions: what they do over whole input, however it is cut, and at each of some events.
 
 use super::heads::put_request;
-use super::only;
+use super::{known, only};
 use fm_base::NoMemory;
 use row_text::{Field, Row, bytes, content};
 use std::alloc::Global;
@@ -12,10 +12,7 @@ use web_session::{Action, Asked, End, Event, Session};
 /// sent at a time. Reads are left out: the input comes whole, and in pieces of at most 1 to 100 bytes.
 pub fn put_input(alloc: Global, row: &Row<'_>, out: &mut String) -> Result<bool, NoMemory> {
     match only(alloc, row, "input")? {
-        Some(input) => {
-            put_all(alloc, input.as_slice(), out)?;
-            Ok(true)
-        }
+        Some(input) => known(put_all(alloc, input.as_slice(), out)),
         None => Ok(false),
     }
 }
@@ -137,15 +134,23 @@ fn put_after(
     out: &mut String,
 ) -> Result<bool, NoMemory> {
     let (name, value) = text.split_once(' ').unwrap_or((text, ""));
-    let Some(bytes) = bytes(alloc, value)? else {
-        return Ok(false);
-    };
-    let Some(event) = event_of(name, value, bytes.as_slice()) else {
+    match bytes(alloc, value)? {
+        Some(bytes) => put_on(session, event_of(name, value, bytes.as_slice()), out),
+        None => Ok(false),
+    }
+}
+
+// Appends what a session does at an event; false where there is none.
+fn put_on(
+    session: &mut Session,
+    event: Option<Event<'_>>,
+    out: &mut String,
+) -> Result<bool, NoMemory> {
+    let Some(event) = event else {
         return Ok(false);
     };
     let action = session.on(event);
-    put_action(session, action, out)?;
-    Ok(true)
+    known(put_action(session, action, out))
 }
 
 // Appends what a session does with the bytes that a text describes; false where it describes none.
@@ -155,12 +160,10 @@ fn put_after_file(
     text: &str,
     out: &mut String,
 ) -> Result<bool, NoMemory> {
-    let Some(bytes) = content(alloc, &[], text)? else {
-        return Ok(false);
-    };
-    let action = session.on(Event::Bytes(bytes.as_slice()));
-    put_action(session, action, out)?;
-    Ok(true)
+    match content(alloc, &[], text)? {
+        Some(bytes) => put_on(session, Some(Event::Bytes(bytes.as_slice())), out),
+        None => Ok(false),
+    }
 }
 
 fn event_of<'a>(name: &str, value: &str, bytes: &'a [u8]) -> Option<Event<'a>> {

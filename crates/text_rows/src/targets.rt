@@ -1,5 +1,6 @@
 //! Targets, in a collection `gfs`.
 
+use super::known;
 use fm_base::{Bytes, Fail, NoMemory};
 use fm_model::{Site, ViewName};
 use row_text::{Row, put_shown};
@@ -9,14 +10,19 @@ use web_path::{PathFault, Service, Target, read_target};
 
 /// Puts what a target asks for in the collection of an epoch, or its fault.
 pub fn put_target(alloc: Global, row: &Row<'_>, out: &mut String) -> Result<bool, NoMemory> {
-    match (epoch_of(row), row.bytes(alloc, "target")?) {
-        (Some(epoch), Some(target)) => {
-            let site = site_of(alloc, epoch)?;
-            put_asked(alloc, target.as_slice(), &site, out)?;
-            Ok(true)
-        }
-        _ => Ok(false),
+    let Some(epoch) = epoch_of(row) else {
+        return Ok(false);
+    };
+    match row.bytes(alloc, "target")? {
+        Some(target) => known(put_in(alloc, epoch, target.as_slice(), out)),
+        None => Ok(false),
     }
+}
+
+// Puts what a target asks for in the collection of an epoch.
+fn put_in(alloc: Global, epoch: i64, target: &[u8], out: &mut String) -> Result<(), NoMemory> {
+    let site = site_of(alloc, epoch)?;
+    put_asked(alloc, target, &site, out)
 }
 
 // The epoch of a row that has one beside its target.

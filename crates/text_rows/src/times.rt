@@ -1,6 +1,6 @@
 //! Units of time, marks in the names of files, and instants.
 
-use super::only;
+use super::{known, only};
 use fm_base::{Bytes, NoMemory};
 use row_text::{Row, put_shown};
 use std::alloc::Global;
@@ -8,27 +8,49 @@ use tm_units::{Units, UnitsFault, instant_text, read_instant, read_mark, read_un
 
 /// Puts the units of a text, with a calendar or without one.
 pub fn put_units(alloc: Global, row: &Row<'_>, out: &mut String) -> Result<bool, NoMemory> {
-    match (row.bytes(alloc, "units")?, row.bytes(alloc, "calendar")?) {
-        (Some(text), Some(calendar)) if row.has_each(&["units", "calendar"]) => put_read(
-            read_units(text.as_slice(), Some(calendar.as_slice())),
-            out,
-        ),
-        (Some(text), None) if row.has_each(&["units"]) => {
-            put_read(read_units(text.as_slice(), None), out)
-        }
-        _ => Ok(false),
+    match row.bytes(alloc, "units")? {
+        Some(text) => put_by_calendar(alloc, row, text.as_slice(), out),
+        None => Ok(false),
+    }
+}
+
+// Puts the units of a text in the calendar of a row, if it has one.
+fn put_by_calendar(
+    alloc: Global,
+    row: &Row<'_>,
+    text: &[u8],
+    out: &mut String,
+) -> Result<bool, NoMemory> {
+    if row.has_each(&["units"]) {
+        return put_read(read_units(text, None), out);
+    }
+    if !row.has_each(&["units", "calendar"]) {
+        return Ok(false);
+    }
+    match row.bytes(alloc, "calendar")? {
+        Some(calendar) => put_read(read_units(text, Some(calendar.as_slice())), out),
+        None => Ok(false),
     }
 }
 
 fn put_read(units: Result<Units, UnitsFault>, out: &mut String) -> Result<bool, NoMemory> {
-    let put = match units {
-        Ok(units) => write!(out, "{} from {}", units.per, units.origin),
-        Err(UnitsFault::BadUnits(at)) => write!(out, "refused 15 at {at}"),
-        Err(UnitsFault::Calendar) => out.push_str("refused 16"),
-        Err(UnitsFault::MixedCalendar) => out.push_str("refused 17"),
+    match units {
+        Ok(units) => known(put_origin(units, out)),
+        Err(fault) => known(put_fault(fault, out)),
+    }
+}
+
+fn put_origin(units: Units, out: &mut String) -> Result<(), NoMemory> {
+    Ok(write!(out, "{} from {}", units.per, units.origin)?)
+}
+
+fn put_fault(fault: UnitsFault, out: &mut String) -> Result<(), NoMemory> {
+    let put = match fault {
+        UnitsFault::BadUnits(at) => write!(out, "refused 15 at {at}"),
+        UnitsFault::Calendar => out.push_str("refused 16"),
+        UnitsFault::MixedCalendar => out.push_str("refused 17"),
     };
-    put?;
-    Ok(true)
+    Ok(put?)
 }
 
 /// Puts the moment behind a prefix in the name of a file.
@@ -36,12 +58,22 @@ pub fn put_mark(alloc: Global, row: &Row<'_>, out: &mut String) -> Result<bool, 
     if !row.has_each(&["mark", "after"]) {
         return Ok(false);
     }
-    match (row.bytes(alloc, "mark")?, row.bytes(alloc, "after")?) {
-        (Some(name), Some(prefix)) => put_seconds(
-            read_mark(name.as_slice(), prefix.as_slice()),
-            out,
-        ),
-        _ => Ok(false),
+    match row.bytes(alloc, "mark")? {
+        Some(name) => put_mark_of(alloc, row, name.as_slice(), out),
+        None => Ok(false),
+    }
+}
+
+// Puts the moment behind a row's prefix in a name.
+fn put_mark_of(
+    alloc: Global,
+    row: &Row<'_>,
+    name: &[u8],
+    out: &mut String,
+) -> Result<bool, NoMemory> {
+    match row.bytes(alloc, "after")? {
+        Some(prefix) => put_seconds(read_mark(name, prefix.as_slice()), out),
+        None => Ok(false),
     }
 }
 

@@ -1,10 +1,11 @@
 //! Values of a file from their bits: as texts, and as seconds.
+ghost use Rattle.nc_model.specs.Pattern.{IsPattern};
 
-use super::only;
 use super::times::put_seconds;
+use super::{known, only};
 use fm_base::{Bytes, NoMemory};
 use fm_bits::{pattern_at, put_quoted, text_of, whole_seconds};
-use nc_model::Kind;
+use nc_model::{Kind, Pattern};
 use row_text::{Row, hex, put_shown};
 use std::alloc::Global;
 
@@ -13,9 +14,12 @@ use std::alloc::Global;
 pub fn put_value(alloc: Global, row: &Row<'_>, out: &mut String) -> Result<bool, NoMemory> {
     let text = row.value("value").unwrap_or("");
     let (name, digits) = text.split_once(' ').unwrap_or((text, ""));
-    match (kind_of(name), hex(alloc, digits)?) {
-        (Some(kind), Some(bits)) => put_bits(alloc, row, kind, bits.as_slice(), out),
-        _ => Ok(false),
+    let Some(kind) = kind_of(name) else {
+        return Ok(false);
+    };
+    match hex(alloc, digits)? {
+        Some(bits) => put_bits(alloc, row, kind, bits.as_slice(), out),
+        None => Ok(false),
     }
 }
 
@@ -27,19 +31,28 @@ fn put_bits(
     out: &mut String,
 ) -> Result<bool, NoMemory> {
     let Some(pattern) = pattern_at(kind, bits) else {
-        out.push_str("no pattern")?;
-        return Ok(true);
+        return known(put_none(out));
     };
     if row.has_each(&["value"]) {
-        let mut text = Bytes::new(alloc);
-        text_of(alloc, pattern, &mut text)?;
-        put_shown(text.as_slice(), out)?;
-        return Ok(true);
+        return known(put_text_of(alloc, pattern, out));
     }
     match per(row) {
         Some(per) => put_seconds(whole_seconds(pattern, per), out),
         None => Ok(false),
     }
+}
+
+fn put_none(out: &mut String) -> Result<(), NoMemory> {
+    Ok(out.push_str("no pattern")?)
+}
+
+// Puts the text of a pattern.
+fn put_text_of(alloc: Global, pattern: Pattern, out: &mut String) -> Result<(), NoMemory>
+    requires { IsPattern pattern }
+{
+    let mut text = Bytes::new(alloc);
+    text_of(alloc, pattern, &mut text)?;
+    Ok(put_shown(text.as_slice(), out)?)
 }
 
 // The seconds of the unit of a row that has one beside its value.
@@ -66,14 +79,13 @@ fn kind_of(name: &str) -> Option<Kind> {
 /// Puts a text between quotation marks.
 pub fn put_quote(alloc: Global, row: &Row<'_>, out: &mut String) -> Result<bool, NoMemory> {
     match only(alloc, row, "quoted")? {
-        Some(text) => put_between(alloc, text.as_slice(), out),
+        Some(text) => known(put_between(alloc, text.as_slice(), out)),
         None => Ok(false),
     }
 }
 
-fn put_between(alloc: Global, text: &[u8], out: &mut String) -> Result<bool, NoMemory> {
+fn put_between(alloc: Global, text: &[u8], out: &mut String) -> Result<(), NoMemory> {
     let mut quoted = Bytes::new(alloc);
     put_quoted(alloc, text, &mut quoted)?;
-    put_shown(quoted.as_slice(), out)?;
-    Ok(true)
+    Ok(put_shown(quoted.as_slice(), out)?)
 }

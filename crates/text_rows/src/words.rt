@@ -1,13 +1,14 @@
-//! Words of a command, which stand between bars: their job, and the text that a person is shown.
+//! Words of a command, which stand between bars: their job, the text that they ask for, and why they are no job.
 
+use super::known;
 use fm_base::{Bytes, Fail, List, NoMemory};
 use fm_model::Site;
 use row_text::{Row, put_shown};
-use srv_words::{Job, Serving, Step, read_job, usage_of};
+use srv_words::{Job, Serving, Step, read_job, reason_of, text_asked};
 use std::alloc::Global;
 use std::fmt::Write;
 
-/// Puts the job of words, or whether a person is shown a text.
+/// Puts the job of words, whether the text that they ask for has a part, or why they are no job.
 pub fn put_words(alloc: Global, row: &Row<'_>, out: &mut String) -> Result<bool, NoMemory> {
     match row.bytes(alloc, "words")? {
         Some(line) => put_line(alloc, line.as_slice(), row, out),
@@ -19,28 +20,48 @@ fn put_line(alloc: Global, line: &[u8], row: &Row<'_>, out: &mut String) -> Resu
     let words = words_of(alloc, line)?;
     match row.value("shows") {
         None if row.has_each(&["words"]) => put_read(alloc, &words, out),
+        None if row.has_each(&["words", "says"]) => put_reason(alloc, &words, out),
         Some(part) if row.has_each(&["words", "shows"]) => put_found(alloc, &words, part, out),
         _ => Ok(false),
     }
 }
 
-// Puts whether a person is shown a text that has this part.
+// Puts whether words ask for a text that has this part.
 fn put_found(
     alloc: Global,
     words: &List<Bytes>,
     part: &str,
     out: &mut String,
 ) -> Result<bool, NoMemory> {
-    let text = usage_of(alloc, words)?;
-    let found = text.as_str().contains(part);
-    out.push_str(if found { "yes" } else { "no" })?;
-    Ok(true)
+    let text = text_asked(alloc, words)?;
+    known(put_plain(found_in(text, part), out))
 }
 
-/// Puts the job of no words.
+// Whether a text that was asked for has a part.
+fn found_in(text: Option<String>, part: &str) -> &'static str {
+    match &text {
+        Some(text) if text.as_str().contains(part) => "yes",
+        Some(_) => "no",
+        None => "no text",
+    }
+}
+
+// Puts why words are no job: the line that a person is shown.
+fn put_reason(alloc: Global, words: &List<Bytes>, out: &mut String) -> Result<bool, NoMemory> {
+    let line = reason_of(alloc, words)?;
+    known(put_plain(line.as_str(), out))
+}
+
+fn put_plain(text: &str, out: &mut String) -> Result<(), NoMemory> {
+    Ok(out.push_str(text)?)
+}
+
+/// Puts the job of no words, or why they are none.
 pub fn put_no_words(alloc: Global, row: &Row<'_>, out: &mut String) -> Result<bool, NoMemory> {
     if row.has_each(&["no words"]) {
         put_read(alloc, &List::new(alloc), out)
+    } else if row.has_each(&["no words", "says"]) {
+        put_reason(alloc, &List::new(alloc), out)
     } else {
         Ok(false)
     }
@@ -55,8 +76,7 @@ fn words_of(alloc: Global, line: &[u8]) -> Result<List<Bytes>, NoMemory> {
 }
 
 fn put_read(alloc: Global, words: &List<Bytes>, out: &mut String) -> Result<bool, NoMemory> {
-    put_job_of(alloc, words, out)?;
-    Ok(true)
+    known(put_job_of(alloc, words, out))
 }
 
 fn put_job_of(alloc: Global, words: &List<Bytes>, out: &mut String) -> Result<(), NoMemory> {
@@ -70,21 +90,35 @@ fn put_job_of(alloc: Global, words: &List<Bytes>, out: &mut String) -> Result<()
 fn put_job(job: &Job, out: &mut String) -> Result<(), NoMemory> {
     match job {
         Job::Once { site, proto, steps } => {
-            out.push_str("once")?;
-            put_site(site, out)?;
-            put_text(" proto", proto, out)?;
-            for step in steps.as_slice() {
-                put_step(step, out)?;
-            }
-            Ok(())
+            put_command("once", site, proto, out)?;
+            put_steps(steps.as_slice(), out)
         }
         Job::Check { path } => put_text("check", path, out),
         Job::Load { seed, files } => Ok(write!(out, "load {seed} {files}")?),
         Job::Serve(serving) => {
-            out.push_str("serve")?;
+            put_command("serve", &serving.site, &serving.proto, out)?;
             put_serving(serving, out)
         }
     }
+}
+
+// A command, the site and the path of the prototype.
+fn put_command(
+    command: &str,
+    site: &Site,
+    proto: &Bytes,
+    out: &mut String,
+) -> Result<(), NoMemory> {
+    out.push_str(command)?;
+    put_site(site, out)?;
+    put_text(" proto", proto, out)
+}
+
+fn put_steps(steps: &[Step], out: &mut String) -> Result<(), NoMemory> {
+    for step in steps {
+        put_step(step, out)?;
+    }
+    Ok(())
 }
 
 // A key and a text in brackets.
@@ -111,19 +145,27 @@ fn put_step(step: &Step, out: &mut String) -> Result<(), NoMemory> {
 }
 
 fn put_serving(serving: &Serving, out: &mut String) -> Result<(), NoMemory> {
-    put_site(&serving.site, out)?;
-    put_text(" proto", &serving.proto, out)?;
     put_text(" listen", &serving.listen, out)?;
     write!(
         out,
         " workers {} connections {}",
         serving.workers, serving.connections
     )?;
-    match serving.keep {
-        Some(seconds) => write!(out, " keep {seconds} ticks {}", serving.ticks)?,
-        None => write!(out, " no clock ticks {}", serving.ticks)?,
-    }
-    for inbox in serving.inboxes.as_slice() {
+    put_clock(serving.keep, out)?;
+    write!(out, " ticks {}", serving.ticks)?;
+    put_inboxes(serving.inboxes.as_slice(), out)
+}
+
+fn put_clock(keep: Option<u32>, out: &mut String) -> Result<(), NoMemory> {
+    let put = match keep {
+        Some(seconds) => write!(out, " keep {seconds}"),
+        None => out.push_str(" no clock"),
+    };
+    Ok(put?)
+}
+
+fn put_inboxes(inboxes: &[Bytes], out: &mut String) -> Result<(), NoMemory> {
+    for inbox in inboxes {
         put_text(" from", inbox, out)?;
     }
     Ok(())

@@ -1,10 +1,20 @@
 //! Why nothing comes out of a row.
 
+use fm_base::Fail;
+
 /// The row is none that this program knows, the bytes of its reply differ by how they are taken, or its data isn't as
 /// the row describes it.
-#[derive(Drop)]
+#[derive(Clone, Copy)]
 pub enum Wrong {
     Form,
     Taken,
     Data,
+}
+
+/// A row of another form, in place of any fault.
+pub fn wrong_form<E: Drop>(fail: Fail<E>) -> Fail<Wrong> {
+    match fail {
+        Fail::NoMemory => Fail::NoMemory,
+        Fail::Fault(_) => Fail::Fault(Wrong::Form),
+    }
 }

@@ -15,7 +15,7 @@ use std::alloc::Global;
 use std::marker::Model;
 
 /// What stands at the front of a stream.
-#[derive(Clone, Copy, Debug, PartialEq, Eq)]
+#[derive(Clone, Copy, PartialEq, Eq)]
 pub enum Next {
     /// No head ends in the bytes held, and there is room for more.
     Need,
@@ -29,7 +29,7 @@ pub enum Next {
 
 /// The bytes of a stream that no head was read from yet, and the head that was given last. It holds at most 16,384
 /// bytes, and takes their memory once.
-#[derive(Debug, Drop)]
+#[derive(Drop)]
 pub struct Frame {
     // The head that was given last, and the bytes after it.
     unread: Unread,

@@ -1,7 +1,7 @@
 //! What the head of a request says.
 
 /// A method that is served, or another.
-#[derive(Clone, Copy, Debug, PartialEq, Eq)]
+#[derive(Clone, Copy, PartialEq, Eq)]
 pub enum Method {
     Get,
     Head,
@@ -9,7 +9,7 @@ pub enum Method {
 }
 
 /// What a head says that a server of plain replies needs to know.
-#[derive(Clone, Copy, Debug, PartialEq, Eq)]
+#[derive(Clone, Copy, PartialEq, Eq)]
 pub struct Request {
     pub method: Method,
     /// Whether the connection ends after the reply: the head says `close`, or is of HTTP/1.0 and doesn't say

@@ -3,7 +3,7 @@ ghost use Rattle.std.specs.Prelude.{◌≡◌, Option, Some, None, IfNone, Match
 ghost use Rattle.web_frame.specs.Scan as spec;
 
 // The state of a reader after the bytes of a head that it has read.
-#[derive(Clone, Copy, Debug, PartialEq, Eq)]
+#[derive(Clone, Copy)]
 pub(crate) enum State {
     // Before the head, at the start of a line.
     Before,

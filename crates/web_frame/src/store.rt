@@ -7,7 +7,7 @@ use std::alloc::Global;
 use std::marker::Model;
 
 // At most as many bytes as a head may have. Clauses see them as a list.
-#[derive(Debug, Drop)]
+#[derive(Drop)]
 pub(crate) struct Store {
     bytes: Vec<u8>,
     start: usize,

@@ -10,7 +10,7 @@ use std::alloc::Global;
 use std::marker::Model;
 
 // A buffer, how many of its bytes were looked at, and where that leaves a reader. Clauses see its bytes.
-#[derive(Debug, Drop)]
+#[derive(Drop)]
 pub(crate) struct Unread {
     store: Store,
     scanned: usize,

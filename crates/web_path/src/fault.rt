@@ -3,7 +3,7 @@ ghost use Rattle.std.specs.Prelude.{◌≡◌};
 ghost use Rattle.web_path.specs.Code.{path_fault_code};
 
 /// The first fault of a target.
-#[derive(Clone, Copy, Debug, PartialEq, Eq)]
+#[derive(Clone, Copy)]
 pub enum PathFault {
     /// At this offset, counted from 0, stands a `%` without two hexadecimal digits after it.
     BadEscape(u64),

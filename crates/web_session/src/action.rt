@@ -3,7 +3,7 @@
 use web_frame::Request;
 
 /// The item that a reply is asked for.
-#[derive(Clone, Copy, Debug, PartialEq, Eq)]
+#[derive(Clone, Copy)]
 pub enum Asked {
     /// A request.
     Head(Request),
@@ -14,7 +14,7 @@ pub enum Asked {
 }
 
 /// Why a session ended.
-#[derive(Clone, Copy, Debug, PartialEq, Eq)]
+#[derive(Clone, Copy)]
 pub enum End {
     /// Input ended, and nothing or only empty lines were left.
     Closed,
@@ -37,7 +37,7 @@ pub enum End {
 }
 
 /// What the caller does next.
-#[derive(Clone, Copy, Debug, PartialEq, Eq)]
+#[derive(Clone, Copy)]
 pub enum Action {
     /// Read at most this many bytes.
     Read(usize),

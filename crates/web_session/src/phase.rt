@@ -6,7 +6,7 @@ use crate::action::{Asked, End};
 pub const MAX_REPLIES: u32 = 10_000;
 
 // Where a session stands.
-#[derive(Clone, Copy, Debug)]
+#[derive(Clone, Copy)]
 pub(crate) enum Phase {
     // No head is whole.
     Waiting,

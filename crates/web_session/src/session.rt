@@ -14,7 +14,7 @@ use std::marker::Model;
 use web_frame::{Frame, MAX_HEAD, Next};
 
 /// A connection: what was read of it and not yet answered, and where it stands.
-#[derive(Debug, Drop)]
+#[derive(Drop)]
 pub struct Session {
     frame: Frame,
     phase: Phase,

@@ -38,6 +38,11 @@ const KEYS: [&str; 25] = [
     "moments",
 ];
 
+// Whether a row has the keys of a command alone.
+fn is_command(row: &Row<'_>) -> bool {
+    row.has_only(&KEYS)
+}
+
 /// The words of a run, and its world.
 #[derive(Drop)]
 pub struct Given {
@@ -72,16 +77,22 @@ impl Given {
 
     /// What a row gives, or `None` where it is of another form.
     pub fn read(alloc: Global, bases: &[File], row: &Row<'_>) -> Result<Option<Given>, NoMemory> {
-        if !row.has_only(&KEYS) {
+        if !is_command(row) {
             return Ok(None);
         }
         let mut given = Given::new(alloc)?;
+        let known = given.add_all(alloc, bases, row)?;
+        Ok(if known { Some(given) } else { None })
+    }
+
+    // Adds what all fields say. It is false where one isn't known.
+    fn add_all(&mut self, alloc: Global, bases: &[File], row: &Row<'_>) -> Result<bool, NoMemory> {
         for field in &row.fields {
-            if !given.add(alloc, bases, field)? {
-                return Ok(None);
+            if !self.add(alloc, bases, field)? {
+                return Ok(false);
             }
         }
-        Ok(Some(given))
+        Ok(true)
     }
 
     // Adds what a field says. It is false where that isn't known.

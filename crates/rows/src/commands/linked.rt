@@ -80,8 +80,8 @@ impl Linked {
         Ok(true)
     }
 
-    // Takes where calls would wait: a take that comes to the end of the input so far, puts after so many bytes, or each
-    // second call.
+    // Takes where calls would wait: a take that comes to the end of the input so far, puts after a number of bytes, or
+    // each second call.
     fn add_pause(&mut self, alloc: Global, key: &str, value: &str) -> Result<bool, NoMemory> {
         match (key, value) {
             ("pause", "") => self.pauses.push(self.input.len())?,

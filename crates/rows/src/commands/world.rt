@@ -100,12 +100,16 @@ fn names_of(alloc: Global, names: &List<Bytes>) -> Result<List<Bytes>, NoMemory>
 fn entries_of(alloc: Global, entries: &List<Entry>) -> Result<List<Entry>, NoMemory> {
     let mut copies = List::new(alloc);
     for entry in entries.as_slice() {
-        copies.push(Entry {
-            path: Bytes::copy_of(alloc, entry.path.as_slice())?,
-            content: Bytes::copy_of(alloc, entry.content.as_slice())?,
-        })?;
+        copies.push(entry_of(alloc, entry)?)?;
     }
     Ok(copies)
+}
+
+fn entry_of(alloc: Global, entry: &Entry) -> Result<Entry, NoMemory> {
+    Ok(Entry {
+        path: Bytes::copy_of(alloc, entry.path.as_slice())?,
+        content: Bytes::copy_of(alloc, entry.content.as_slice())?,
+    })
 }
 
 fn link_of(alloc: Global, linked: &Linked) -> Result<MemLink, NoMemory>
@@ -185,13 +189,17 @@ fn inboxes_of(alloc: Global, given: &Given) -> Result<List<MemInbox>, NoMemory>
 fn clocks_of(alloc: Global, given: &Given) -> Result<List<MemClock>, NoMemory> {
     let mut clocks = List::new(alloc);
     for numbers in &given.clocks {
-        let mut moments = List::new(alloc);
-        for number in numbers.as_slice() {
-            moments.push(i64::try_from(*number).unwrap_or(i64::MAX))?;
-        }
-        clocks.push(MemClock::new(alloc, moments)?)?;
+        clocks.push(clock_of(alloc, numbers)?)?;
     }
     Ok(clocks)
+}
+
+fn clock_of(alloc: Global, numbers: &List<u64>) -> Result<MemClock, NoMemory> {
+    let mut moments = List::new(alloc);
+    for number in numbers.as_slice() {
+        moments.push(i64::try_from(*number).unwrap_or(i64::MAX))?;
+    }
+    MemClock::new(alloc, moments)
 }
 
 fn own_link(alloc: Global, given: &Given) -> Result<MemLink, NoMemory> {
@@ -203,10 +211,9 @@ fn own_link(alloc: Global, given: &Given) -> Result<MemLink, NoMemory> {
 
 /// The world that a row describes.
 pub fn world_of(alloc: Global, given: &Given) -> Result<MemWorld, NoMemory> {
-    let sink = MemSink::new(alloc, ROOM, copy_of(alloc, &given.failing_sink)?)?;
-    let files = files_of(alloc, given)?;
-    let link = own_link(alloc, given)?;
-    let opener = opener_of(alloc, given)?;
+    let served = both(opener_of(alloc, given), files_of(alloc, given));
+    let own = both(own_link(alloc, given), sink_of(alloc, given));
+    let ((opener, files), (link, sink)) = both(served, own)?;
     Ok(World {
         opener,
         doors: List::new(alloc),
@@ -217,6 +224,19 @@ pub fn world_of(alloc: Global, given: &Given) -> Result<MemWorld, NoMemory> {
         sink,
         gate: OpenGate,
     })
+}
+
+// Both values, where memory sufficed for both.
+fn both<A: Drop, B: Drop>(
+    first: Result<A, NoMemory>,
+    second: Result<B, NoMemory>,
+) -> Result<(A, B), NoMemory> {
+    let first = first?;
+    Ok((first, second?))
+}
+
+fn sink_of(alloc: Global, given: &Given) -> Result<MemSink, NoMemory> {
+    MemSink::new(alloc, ROOM, copy_of(alloc, &given.failing_sink)?)
 }
 
 fn files_of(alloc: Global, given: &Given) -> Result<MemFiles, NoMemory> {

@@ -4,5 +4,5 @@ use Rattle.pub_core.proofs.machine.Machine.new.Goals as goal
 
 pub returns : goal.returns
 returns c =
-    machine-new c.args.proto c.args.sessions c.in_ok-empty.field-0 c.new.result c.in_ok-untouched.field-0
-    c.in_ok-empty.ensures c.new.ensures (c.in_ok-untouched.ensures c.args.proto)
+    machine-new c.args.proto c.args.sessions c.in_ok-edition.edition c.new.result c.in_ok-connections.connections
+    c.in_ok-edition.ensures c.new.ensures (c.in_ok-connections.ensures c.args.proto)

@@ -1,0 +1,7 @@
+pub mod Check
+pub mod Load
+pub mod Once
+pub mod Publishing
+pub mod Reading
+pub mod Report
+pub mod Steps

@@ -1,6 +1,0 @@
--- Where the session was served, it rests or has ended.
-use Rattle.srv_run.proofs.AskLemmas.{rests-Serves}
-use Rattle.srv_run.proofs.service.ask.Goals as goal
-
-pub returns-clause-stands : goal.returns-clause-stands
-returns-clause-stands g c = rests-Serves _ c.serve_link-stop.ensures.serves

@@ -1,0 +1,5 @@
+pub mod ClosingLemmas
+pub mod EndLemmas
+pub mod OpeningLemmas
+pub mod RunLemmas
+pub mod StageLemmas

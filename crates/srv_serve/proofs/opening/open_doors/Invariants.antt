@@ -1,0 +1,13 @@
+-- The first doors were opened, and there is room for the others.
+use Rattle.std.proofs.Common.{◌≡◌, ◌≤◌, ◌+◌, ◌-◌, length, vec_capacity, vec_len}
+use Rattle.srv_serve.specs.Opening.{OpensDoors}
+use Rattle.srv_serve.proofs.opening.open_doors.Given as goal
+
+abbrev pub invariant-loop-number : goal.invariant-loop-number
+invariant-loop-number g l = record {
+  opens : OpensDoors g.O.D.Door.shown (record { address = l.address; connections = l.connections })
+      (g.O.Opener.shown l.fn.opener).held (g.O.Opener.shown l.opener).held l.doors-inside.items.items;
+  count : length l.doors-inside.items.items ≡ l._number;
+  room : vec_len l.doors-inside.items + (l.count - l._number) ≤ vec_capacity l.doors-inside.items;
+  faults : (g.O.Opener.shown l.opener).faults ≡ (g.O.Opener.shown l.fn.opener).faults;
+}

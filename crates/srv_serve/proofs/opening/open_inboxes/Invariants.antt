@@ -1,0 +1,13 @@
+-- The inboxes of the first folders were opened, and there is room for the others.
+use Rattle.std.proofs.Common.{◌≡◌, ◌≤◌, ◌+◌, ◌-◌, length, vec_capacity, vec_len}
+use Rattle.srv_serve.specs.Opening.{OpensInboxes}
+use Rattle.srv_serve.proofs.opening.open_inboxes.Given as goal
+
+abbrev pub invariant-loop-folder : goal.invariant-loop-folder
+invariant-loop-folder g l = record {
+  opens : OpensInboxes g.O.I.Inbox.shown l.folders
+      (g.O.Opener.shown l.fn.opener).held (g.O.Opener.shown l.opener).held l.inboxes-inside.items.items;
+  count : length l.inboxes-inside.items.items ≡ l.folder-index;
+  room : vec_len l.inboxes-inside.items + (length l.folders - l.folder-index) ≤ vec_capacity l.inboxes-inside.items;
+  faults : (g.O.Opener.shown l.opener).faults ≡ (g.O.Opener.shown l.fn.opener).faults;
+}

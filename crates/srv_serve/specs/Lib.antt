@@ -1,0 +1,5 @@
+pub mod Closing
+pub mod Devices
+pub mod Opening
+pub mod Serve
+pub mod Stage

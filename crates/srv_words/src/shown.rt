@@ -1,0 +1,28 @@
+//! The help of the program and of its commands. It lists neither `-h` nor a command `help`, which aren't taken.
+
+use crate::command::{fmrcd, subcommand};
+use crate::help::{MORE_HELP, PROGRAM_HELP};
+use crate::job;
+use clap::Command;
+use fm_base::NoMemory;
+use std::alloc::Global;
+
+/// The help of the program.
+pub(crate) fn program_help(alloc: Global) -> Result<String, NoMemory> {
+    let command = fmrcd(alloc)?;
+    help_of(command.about(PROGRAM_HELP).after_help(MORE_HELP))
+}
+
+/// The help of a command.
+pub(crate) fn command_help(alloc: Global, command: job::Command) -> Result<String, NoMemory> {
+    let name = format!(in alloc; "fmrcd {}", command.name())?;
+    let command = subcommand(alloc, command)?;
+    help_of(command.bin_name(name.as_str())?)
+}
+
+fn help_of(command: Command<'_>) -> Result<String, NoMemory> {
+    let mut command = command
+        .disable_help_flag(true)
+        .disable_help_subcommand(true);
+    Ok(command.render_help()?)
+}
