@@ -17,8 +17,8 @@ use srv_words::Step;
 use std::alloc::Global;
 use web_session::Session;
 
-/// Reads the file at a path as the prototype of a collection, or says how the run ends at it: the file is refused with its
-/// first fault, is none or too long, a call of the files failed, or memory ran out.
+/// Reads the file at a path as the prototype of a collection, or says how the run ends at it. The file is refused with
+/// its first fault, is none or too long, a call of the files failed, or memory ran out.
 pub fn read_prototype<F: Files>(
     alloc: Global,
     files: &mut F,
@@ -115,8 +115,8 @@ fn run_steps<'a, F: Files, L: Link>(
     do_steps(alloc, &mut service, steps, files, link)
 }
 
-/// Runs `once`: reads the prototype at a path, does the steps in their order up to the first that isn't done, and reports
-/// how that ended. The clause says what each step leaves, and which end names which file.
+/// Runs `once`: reads the prototype at a path, does the steps in their order up to the first that isn't done, and
+/// reports how that ended. The clause says what each step leaves, and which end names which file.
 pub fn once<F: Files, L: Link, S: Sink>(
     alloc: Global,
     site: Site,

@@ -65,8 +65,8 @@ fn line_of_made(alloc: Global, seed: u32, files: u32) -> Result<Bytes, NoMemory>
     Ok(line)
 }
 
-/// Makes the first files of a seed, reads the collection of them, and writes its line, or reports that memory ran out. A
-/// line that is cut says that the sink failed.
+/// Makes the first files of a seed, reads the collection of them, and writes its line, or reports that memory ran out.
+/// A line that is cut says that the sink failed.
 pub fn load<S: Sink>(alloc: Global, sink: &mut S, seed: u32, files: u32) -> End
     requires some { 0 < files }
     requires few { files ≤ 400 }

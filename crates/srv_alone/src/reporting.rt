@@ -9,7 +9,8 @@ use crate::end::End;
 use dev_traits::{Failed, Sink};
 use itoa::Buffer;
 
-/// Writes the slices one after the other. Where the sink fails, the first bytes of them were written. It takes no memory.
+/// Writes the slices one after the other. Where the sink fails, the first bytes of them were written. It takes no
+/// memory.
 #[tactic(auto, using(crate::proofs::PieceLemmas::pieces))]
 pub fn put_pieces<S: Sink>(sink: &mut S, pieces: &[&[u8]]) -> Result<(), Failed>
     ensures put { Appends (flat_map (λ piece. piece.now) pieces.now)

@@ -161,8 +161,8 @@ where
     }
 }
 
-/// Runs `serve`: reads the prototype, opens all devices and has a worker run over each, all at once, and writes what they
-/// did, or reports how the run ended. It waits for all workers.
+/// Runs `serve`: reads the prototype, opens all devices and has a worker run over each, all at once, and writes what
+/// they did, or reports how the run ended. It waits for all workers.
 pub fn serve<R: Threads + Wait + Sync, O: Opener, F: Files, L: Link, S: Sink, G: Gate + Sync>(
     rt: &R,
     alloc: Global,
