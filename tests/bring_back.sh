@@ -41,12 +41,11 @@ arrive "$data/gfs_20240101_0600.nc" gfs_20240101_0600_third.nc
 arrive /dev/null gfs_20240101_0600_third.nc.retract
 arrive "$data/gfs_20240101_0600.nc" gfs_20240101_0600_fourth.nc
 arrive /dev/null gfs_20240101_0600_fourth.nc.retract
-rm "$inbox/done/gfs_20240101_0600_fourth.nc"
 arrive "$data/gfs_20240101_0600.nc" gfs_20240101_0600_fourth.nc
 read_reply > "$folder/before"
 end_process
 touch "$inbox/STOP"
-compare "brought back 3, stay: older 0, taken back 1, without room 0" \
+compare "brought back 3, stay: older 0, taken back 0, without room 0" \
     "gfs_20240101_0000_first.nc gfs_20240101_0600_fourth.nc gfs_20240101_0600_second.nc " "$inbox"
 start
 wait_for "$inbox/done/gfs_20240101_0600_second.nc"
@@ -57,7 +56,7 @@ end_process
 # Makes an empty folder of a server.
 afresh() {
     rm -r "$inbox"
-    mkdir "$inbox" "$inbox/done" "$inbox/later" "$inbox/refused"
+    mkdir "$inbox" "$inbox/done" "$inbox/later" "$inbox/refused" "$inbox/taken"
 }
 
 # The first bytes of a file with this number of records.

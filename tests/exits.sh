@@ -19,14 +19,22 @@ cp "$sample" "$folder/none.nc"
 truncate -s 536870912 "$folder/most.nc"
 truncate -s 536870913 "$folder/long.nc"
 
+# Whether a stream holds a text: "" is none, "*" any, and "~" and a text one in which that stands.
+holds() {
+    case $1 in
+        "*") ;;
+        "~"*) grep -qF -- "${1#\~}" "$2" ;;
+        *) [ "$(cat "$2")" = "$1" ] ;;
+    esac
+}
+
 # Compares the last run: its name, its status, the status that is wanted, and what each stream is to hold.
-# A stream's text is "" for none, and "*" where it isn't looked at.
 compare() {
     runs=$((runs + 1))
     wrong=
     [ "$2" = "$3" ] || wrong="status $2, not $3"
-    [ "$4" = "*" ] || [ "$(cat "$folder/out")" = "$4" ] || wrong="$wrong; standard output holds '$(head -c 200 "$folder/out")'"
-    [ "$5" = "*" ] || [ "$(cat "$folder/err")" = "$5" ] || wrong="$wrong; standard error holds '$(head -c 200 "$folder/err")'"
+    holds "$4" "$folder/out" || wrong="$wrong; standard output holds '$(head -c 200 "$folder/out")'"
+    holds "$5" "$folder/err" || wrong="$wrong; standard error holds '$(head -c 200 "$folder/err")'"
     if [ -n "$wrong" ]; then
         echo "$1: $wrong"
         failures=$((failures + 1))
@@ -149,7 +157,8 @@ connect
 "$program" $whole > /dev/full 2> "$folder/err"; status=$?; : > "$folder/out"
 compare "a full device for the line of a server" $status 7 "" ""
 wait
-run "a door that can't be opened" 6 "door fault 0" "" "$folder/none" $serve nowhere "$folder/inbox"
+run "a door that can't be opened" 6 "door fault 0" "~failing nowhere: it can't be opened: " "$folder/none" \
+    $serve nowhere "$folder/inbox"
 if [ "$(id -u)" -eq 0 ] && command -v setpriv > /dev/null; then
     # A user without rights of its own who may have one thread. The address can't be opened, and isn't asked for.
     chmod 755 "$folder"
@@ -158,8 +167,13 @@ if [ "$(id -u)" -eq 0 ] && command -v setpriv > /dev/null; then
         < "$folder/none" > "$folder/out" 2> "$folder/err"
     compare "threads that can't be started" $? 4 "no memory" ""
 fi
-run "an inbox that isn't there" 8 "inbox fault 0" "" "$folder/none" $serve 127.0.0.1:0 "$folder/absent"
-run "a second inbox that is a file" 8 "inbox fault 1" "" "$folder/none" $serve 127.0.0.1:0 "$folder/inbox" "$sample"
+run "an inbox that isn't there" 8 "inbox fault 0" "~failing $folder/absent: it can't be opened: No such file" \
+    "$folder/none" $serve 127.0.0.1:0 "$folder/absent"
+run "an inbox without a name" 8 "inbox fault 0" "~failing : it can't be opened: " "$folder/none" $serve 127.0.0.1:0 ""
+run "a second inbox that is a file" 8 "inbox fault 1" "~failing $sample: it can't be opened: Not a directory" \
+    "$folder/none" $serve 127.0.0.1:0 "$folder/inbox" "$sample"
+run "a folder twice" 8 "inbox fault 1" "~failing $folder/inbox: the folder is in use" "$folder/none" \
+    $serve 127.0.0.1:0 "$folder/inbox" "$folder/inbox"
 run "a server whose prototype is cut short" 3 "refused $folder/cut.nc code 14" "" "$folder/none" \
     serve --name gfs --proto "$folder/cut.nc" --listen nowhere "$folder/inbox"
 run "a server whose prototype isn't there" 10 "no file $folder/absent" "" "$folder/none" \

@@ -23,19 +23,20 @@ WRITE = ["ENOSPC", "EDQUOT", "EROFS", "EXDEV", "EIO", "EINTR", "EACCES", "EISDIR
 class Step:
     """A step of the worker: the calls of which it makes one, the path that they are of, and how they can fail."""
 
-    def __init__(self, name, calls, path, errors, waits=False, told=False, second=False, prepare=None):
+    def __init__(self, name, calls, path, errors, waits=False, told=False, number=1, prepare=None, meanwhile=None):
         self.name, self.calls, self.path, self.errors = name, calls, path, errors
         # Whether the file is looked at again only once it is another one, or after a minute.
         self.waits = waits
         # Whether a line has to say that it fails, and another one that it works again.
         self.told = told
-        # Whether it is the second of two such calls on the path.
-        self.second = second
-        self.prepare = prepare
+        # Which of the calls on the path that are made for a file it is.
+        self.number = number
+        # What is done to the folder before calls fail, and while they do, so that it is made at all.
+        self.prepare, self.meanwhile = prepare, meanwhile
 
     def words(self, call, error, once):
         """How strace fails the call."""
-        when = (":when=1" if once else "") if not self.second else (":when=2" if once else ":when=2+2")
+        when = ":when=%d" % self.number if once else ":when=%d+%d" % (self.number, self.number)
         return ["-e", "trace=" + call, "-e", "inject=%s:error=%s%s" % (call, error, when)]
 
 
@@ -53,6 +54,12 @@ def without_done(folder):
     shutil.move(folder.path("done"), os.path.join(folder.top, "done"))
 
 
+def name_to_tell(folder):
+    """Puts a file there whose name is told."""
+    with open(folder.path("gfs.NC"), "wb"):
+        pass
+
+
 LOOK = ["statx", "newfstatat", "stat"]
 STEPS = [
     Step("the look for STOP", LOOK, "STOP", READ + ["ENOMEM"], told=True),
@@ -62,12 +69,15 @@ STEPS = [
     Step("the listing of a folder that is gone", ["getdents64"], "", ["ENOENT"]),
     Step("the look at a listed file", LOOK, B, READ + ["ENOMEM", "ENOENT"], waits=True),
     Step("the opening of a file", ["openat"], B, OPEN, waits=True),
-    Step("the length of a file", ["statx"], B, READ, waits=True, second=True),
+    Step("the look before the opening", ["statx"], B, READ + ["ENOENT"], waits=True, number=2),
+    Step("the length of a file", ["statx"], B, READ, waits=True, number=3),
     Step("the reading of a file", ["read", "pread64"], B, ["EIO", "EINTR", "ESTALE", "EAGAIN"], waits=True),
+    Step("the look before a move", ["statx"], B, READ, told=True, number=4),
     Step("a move", ["rename", "renameat", "renameat2"], B, WRITE, told=True),
     Step("the making of done", ["mkdir", "mkdirat"], "done", ["ENOSPC", "EDQUOT", "EROFS", "EIO", "EACCES"], told=True,
          prepare=without_done),
     Step("a close", ["close"], None, ["EIO", "EINTR"]),
+    Step("a line", ["write", "writev"], None, ["EIO", "EAGAIN", "EPIPE"], meanwhile=name_to_tell),
     Step("a pause", ["clock_nanosleep", "nanosleep"], None, ["EINTR"]),
     Memory("memory for a file", ["mmap"], None, ["ENOMEM"], waits=True),
 ]
@@ -82,7 +92,7 @@ def comes_in_the_end(folder, waits):
     if os.path.exists(folder.path("later", B)):
         return folder.sees(B, MINUTE)
     if os.path.exists(folder.path(B)):
-        os.chmod(folder.path(B), 0o640)
+        os.chmod(folder.path(B), 0o664)
     return folder.sees(B)
 
 
@@ -111,13 +121,13 @@ def fail_calls(program, top, step, call, error, once):
         paths = [] if step.path is None else [folder.path(step.path)]
         tracer = Tracer(folder, thread, step.words(call, error, once), paths)
         folder.bring(B, file_of(RUNS[B]) + bytes(MORE))
-        if once:
-            wait_until(lambda: tracer.lines("INJECTED"), SOON)
-        else:
+        if step.meanwhile:
+            step.meanwhile(folder)
+        was_made = wait_until(lambda: tracer.lines("INJECTED"), SOON)
+        if not once:
             time.sleep(LASTS)
         if folder.reply() is None:
             folder.wrongs("no reply comes meanwhile")
-        was_made = bool(tracer.lines("INJECTED"))
         tracer.detach()
         check_after(folder, step)
         return folder.wrong, was_made
@@ -137,6 +147,7 @@ def calls_of_a_life(program, top):
         wait_until(lambda: os.path.exists(folder.path("refused", "none.nc.retract")), SOON)
         folder.retract(A)
         without_done(folder)
+        name_to_tell(folder)
         folder.bring(A)
         folder.sees(A)
         tracer.detach()
@@ -195,8 +206,10 @@ def main():
         results = list(pool.map(tried, cases))
     wrong = unmade = 0
     for (name, _), (wrongs, was_made) in zip(cases, results):
-        unmade += not was_made
-        if was_made and wrongs:
+        if not was_made:
+            unmade += 1
+            print("%s: the call wasn't made" % name)
+        elif wrongs:
             wrong += 1
             print("%s: %s" % (name, "; ".join(wrongs)))
     print("%d cases, %d wrong; in %d more the call wasn't made" % (len(cases) - unmade, wrong, unmade))

@@ -20,7 +20,7 @@ RUNS = {name: APART * number for number, name in enumerate((A, B, C))}
 VERDICTS = ("serving ", "published ", "retracted ", "refused ", "full ", "later ", "not held ", "expired ")
 BEST = "/thredds/dodsC/gfs/gfs_best.ncd.dods?time_run"
 # For how many seconds calls fail, and how many are waited for where something should happen at the next look.
-LASTS, SOON = 2, 3
+LASTS, SOON = 2, 20
 # After how many seconds what couldn't be read is looked at again, with some for a busy machine.
 MINUTE = 70
 

@@ -1,11 +1,15 @@
 """What people and other programs do to a folder, and what a server has to make of it."""
 import os
 import signal
+import socket
 import subprocess
 import time
 
 from faulty_folder import A, B, C, LASTS, MINUTE, SOON, Tracer, own_port, said_of, wait_until
 from serve_replies import APART, file_of
+
+# How many replies are under way: together they have more bytes than the system keeps for a peer that takes nothing.
+REPLIES = 600
 
 
 def comes(folder, name, **given):
@@ -103,17 +107,21 @@ def vanished(folder):
 
 
 def pipe(folder):
-    """A pipe takes the place of a file that was listed."""
-
-    def put_pipe():
-        os.mkfifo(folder.path("pipe"))
-        os.rename(folder.path("pipe"), folder.path(B))
-
-    held_up_at_the_opening(folder, put_pipe)
+    """A pipe takes the place of a file that was listed, while the file before it is read."""
+    words = ["-e", "trace=openat", "-e", "inject=openat:delay_enter=1000000:when=1..2"]
+    tracer = Tracer(folder, folder.thread(), words, [folder.path(""), folder.path(B)])
+    # The opening of the folder is held up for a second, so that one listing gives both, and then that of the first.
+    time.sleep(0.5)
+    folder.bring(C)
+    folder.bring(B)
+    time.sleep(1.1)
+    os.mkfifo(folder.path("pipe"))
+    os.rename(folder.path("pipe"), folder.path(C))
+    time.sleep(1)
+    tracer.detach()
+    comes(folder, B)
     folder.bring(C)
     comes(folder, C)
-    folder.bring(B)
-    comes(folder, B)
 
 
 def stop_taken_away(folder):
@@ -136,6 +144,43 @@ def stop_ends_the_server(folder):
         folder.wrongs("STOP doesn't end a server without --connections")
     elif folder.process.returncode != 0:
         folder.wrongs("STOP ends the server with %d" % folder.process.returncode)
+
+
+def link_to(folder, requests, room=None):
+    """A connection over which requests were sent; with `room` the system keeps few bytes for it that wait."""
+    link = socket.socket()
+    if room:
+        link.setsockopt(socket.SOL_SOCKET, socket.SO_RCVBUF, room)
+    link.settimeout(10)
+    link.connect(("127.0.0.1", folder.port))
+    link.sendall(requests)
+    return link
+
+
+def rest_of(link):
+    """What still comes over a connection until its end."""
+    with link:
+        return b"".join(iter(lambda: link.recv(1 << 16), b""))
+
+
+def stop_lets_replies_end(folder):
+    """What is under way when STOP comes is sent whole, and a connection between two requests is closed soon."""
+    request = b"GET /thredds/dodsC/gfs/gfs_best.ncd.dods HTTP/1.1\r\nHost: gfs\r\n\r\n"
+    with link_to(folder, request.replace(b"Host", b"Connection: close\r\nHost")) as link:
+        body = rest_of(link).split(b"\r\n\r\n", 1)[1]
+    idle, busy = link_to(folder, request), link_to(folder, request * REPLIES, room=4096)
+    time.sleep(0.5)
+    with open(folder.path("STOP"), "wb"):
+        pass
+    began = time.monotonic()
+    if not rest_of(idle).endswith(body) or time.monotonic() > began + 5:
+        folder.wrongs("a connection between two requests isn't closed within 5 s")
+    replies = rest_of(busy).split(b"HTTP/1.1 200 OK\r\n")[1:]
+    whole = sum(reply.endswith(b"\r\n\r\n" + body) for reply in replies)
+    if not whole == len(replies) == REPLIES:
+        folder.wrongs("of %d replies %d come, %d of them whole" % (REPLIES, len(replies), whole))
+    if not wait_until(lambda: folder.process.poll() is not None, 5) or folder.process.returncode != 0:
+        folder.wrongs("the server hasn't ended, or with %s" % folder.process.returncode)
 
 
 def taken_back(folder):
@@ -206,6 +251,7 @@ CASES = [
     ("a pipe takes the place of a listed file", pipe, 1, False),
     ("STOP is taken away while another folder runs", stop_taken_away, 2, False),
     ("STOP ends a server", stop_ends_the_server, 1, False),
+    ("STOP lets replies end that are under way", stop_lets_replies_end, 1, False),
     ("a file is taken back", taken_back, 1, False),
     ("a relative link", relative_link, 1, False),
     ("names that are passed over", passed_over, 1, False),

@@ -97,7 +97,10 @@ impl Plan {
         }) }
     {
         let data = self.len - self.front.len() as u64;
-        front.append(self.front.as_slice())?;
+        if let Err(fail) = front.append(self.front.as_slice()) {
+            drop(self);
+            return Err(fail);
+        }
         let len = ready_len(&front) + data;
         Ok(Plan {
             front,

@@ -163,11 +163,16 @@ fn data_body(
     requires few { length sent < 2 ^ 28 }
     ensures { Answers (within_limit (data_behind_text front source sent)) result }
 {
-    let (laid, len) = laid_within(alloc, &front, &source, &sent)?;
-    Ok(Body {
-        kind: BodyKind::Data,
-        bytes: Plan::with_data(front, source, sent, laid, len),
-    })
+    match laid_within(alloc, &front, &source, &sent) {
+        Ok((laid, len)) => Ok(Body {
+            kind: BodyKind::Data,
+            bytes: Plan::with_data(front, source, sent, laid, len),
+        }),
+        Err(fail) => {
+            drop(source);
+            Err(fail)
+        }
+    }
 }
 
 // The text before the data that a target asks for.
@@ -190,8 +195,13 @@ fn projected_sent(
     requires few { length projected.sent < 2 ^ 28 }
     ensures { Answers (within_limit (data_body source target.now projected)) result }
 {
-    let front = front_of(alloc, target, &projected)?;
-    data_body(alloc, front, source, projected.sent)
+    match front_of(alloc, target, &projected) {
+        Ok(front) => data_body(alloc, front, source, projected.sent),
+        Err(NoMemory) => {
+            drop(source);
+            Err(Fail::NoMemory)
+        }
+    }
 }
 
 // The data that a target asks for of a dataset.
@@ -201,8 +211,13 @@ fn dataset_sent(alloc: Global, target: &Target, source: Dataset) -> Result<Body,
 {
     // Few parts are sent, and each is one of the dataset, since the prototype is that of a file.
     let _proto = source.proto();
-    let projected = projected_of(alloc, source.decls().as_slice(), target)?;
-    projected_sent(alloc, target, source, projected)
+    match projected_of(alloc, source.decls().as_slice(), target) {
+        Ok(projected) => projected_sent(alloc, target, source, projected),
+        Err(fail) => {
+            drop(source);
+            Err(fail)
+        }
+    }
 }
 
 // The data that a target asks for.

@@ -69,6 +69,7 @@ fn headed(alloc: Global, text: Bytes, body: Plan, head: bool) -> Result<Plan, No
     ensures { IfOk result (λ plan. plan ≡ headed text body head) }
 {
     if head {
+        drop(body);
         return Ok(Plan::ready(alloc, text));
     }
     body.behind(text)
@@ -85,8 +86,13 @@ fn reply(
 ) -> Result<Plan, NoMemory>
     ensures { IfOk result (λ plan. plan ≡ reply_parts answer revision head last) }
 {
-    let text = answer_head(alloc, &answer, revision, last)?;
-    headed(alloc, text, answer.body.bytes, head)
+    match answer_head(alloc, &answer, revision, last) {
+        Ok(text) => headed(alloc, text, answer.body.bytes, head),
+        Err(NoMemory) => {
+            drop(answer);
+            Err(NoMemory)
+        }
+    }
 }
 
 /// The reply to a request over an edition that `revision` operations left (ESE-RFC-004; RFC 9112): the head, and the

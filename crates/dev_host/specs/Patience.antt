@@ -1,5 +1,6 @@
 -- When the time of a link is over.
-use Rattle.std.specs.Prelude.{ℕ, ◌+◌, ◌/◌, min, max, Option, Some, None}
+use Rattle.std.specs.Prelude.{ℕ, ◌+◌, ◌/◌, min, max, Bool, ◌&&◌, if◌then◌else◌, Option, Some, None}
+use Rattle.std.specs.Option.{is_none}
 use Rattle.dev_traits.specs.Cause.{capped}
 use Rattle.dev_host.specs.declared.patience.Patience.{Patience}
 use Rattle.dev_host.specs.declared.patience.Pace.{Pace}
@@ -17,6 +18,10 @@ due_in patience since (Some sending) = min (capped (since + patience.idle)) (slo
 -- the moment at which the time of a link is over, if nothing moves until then
 abbrev pub due_at : Patience → Pace → ℕ
 due_at patience pace = due_in patience pace.since pace.sending
+
+-- the same of a link that may hurry: then no further request is waited for
+abbrev pub hurried_at : Bool → Patience → Pace → ℕ
+hurried_at hurries patience pace = if hurries && is_none pace.sending then 0 else due_at patience pace
 
 -- what is sent, after `count` bytes more
 abbrev pub more_sent : Option Sending → ℕ → Option Sending

@@ -1,5 +1,5 @@
 -- How many times something is still to come.
-use Rattle.std.specs.Prelude.{◌≡◌, ◌≢◌, ℕ, ◌-◌, nat_eq, if◌then◌else◌, Option, Some, None}
+use Rattle.std.specs.Prelude.{◌≡◌, ◌≢◌, ◌⊎◌, ℕ, ◌-◌, nat_eq, if◌then◌else◌, Option, Some, None}
 use Rattle.dev_traits.specs.declared.door.Coming.{Coming}
 use Rattle.dev_traits.specs.declared.door.Coming.TheVariants.{Came, Ready, Closed}
 use Rattle.dev_host.specs.declared.remaining.Remaining.{Remaining}
@@ -19,8 +19,12 @@ abbrev pub ComesOf : {L : Type 0} → Remaining → Remaining → Option L → T
 ComesOf before now None = now ≡ before
 ComesOf before now (Some link) = (before ≢ Times 0) × (now ≡ one_less before)
 
--- The same of what comes next at a door, which closes only where none is left.
+-- A door may close: none is left to come, or they are without end, and the door was told to close.
+abbrev pub MayClose : Remaining → Type 0
+MayClose remaining = (remaining ≡ Times 0) ⊎ (remaining ≡ Endless)
+
+-- The same of what comes next at a door. One of a number of links closes only where none is left.
 abbrev pub CountsDown : {L : Type 0} → Remaining → Remaining → Coming L → Type 0
 CountsDown before now (Came link) = (before ≢ Times 0) × (now ≡ one_less before)
 CountsDown before now (Ready key) = now ≡ before
-CountsDown before now Closed = (before ≡ Times 0) × (now ≡ before)
+CountsDown before now Closed = MayClose before × (now ≡ before)

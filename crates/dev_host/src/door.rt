@@ -1,14 +1,15 @@
 //! A door at which the machine's sockets are accepted.
-ghost use Rattle.std.specs.Prelude.{◌≡◌, None, IfOk, IfSome, OnErr};
+ghost use Rattle.std.specs.Prelude.{◌≡◌, ◌≢◌, None, IfOk, IfSome, IsFalse, IsTrue, OnErr};
 ghost use Rattle.dev_traits.specs.Cause.{HasCause};
 ghost use Rattle.dev_traits.specs.Door.{IfCame, IsFresh};
-ghost use Rattle.dev_host.specs.Remaining.{ComesOf, CountsDown, remaining_of};
+ghost use Rattle.dev_host.specs.Remaining.{ComesOf, CountsDown, MayClose, remaining_of};
 
 use crate::link::TcpLink;
 use crate::patience::Patience;
 use crate::present::present;
 use crate::reactor::Reactor;
 use crate::remaining::Remaining;
+use crate::stops::Stops;
 use dev_std::counted;
 use dev_traits::{Coming, Door, Failed, Link};
 use std::alloc::Global;
@@ -17,12 +18,16 @@ use std::net::{Net, SocketAddr, TcpListener};
 use std::{io, rt};
 
 /// A door at a socket that listens, through which many links come at once. Several doors may share one socket: each
-/// connection comes to one of them.
+/// connection comes to one of them. One without end takes no more links once taking in is over, lets the replies end
+/// that are under way, and closes.
 #[derive(Drop)]
 pub struct TcpDoor<R: rt::Clock + Clone + Drop> {
     rt: R,
     remaining: Remaining,
     patience: Patience,
+    stops: Stops,
+    // whether the links that rest were stepped once more since taking in is over
+    has_hurried: bool,
     reactor: Reactor,
     faults: u64,
 }
@@ -35,6 +40,7 @@ impl<R: rt::Clock + Net + Clone + Drop> TcpDoor<R> {
         listener: TcpListener,
         connections: u32,
         patience: Patience,
+        stops: Stops,
     ) -> io::Result<TcpDoor<R>>
         ensures faults { IfOk result (λ door. door.faults ≡ 0) }
         ensures remaining { IfOk result (λ door. door.remaining ≡ remaining_of connections) }
@@ -45,6 +51,8 @@ impl<R: rt::Clock + Net + Clone + Drop> TcpDoor<R> {
             rt,
             remaining: Remaining::of(connections),
             patience,
+            stops,
+            has_hurried: false,
             reactor,
             faults: 0,
         })
@@ -57,6 +65,32 @@ impl<R: rt::Clock + Clone + Drop> TcpDoor<R> {
         self.reactor.local_addr()
     }
 
+    // Whether taking in is over, and links would come without end.
+    fn is_stopped(&self) -> bool
+        ensures { IsTrue result → self.now.remaining ≡ Remaining.Endless }
+    {
+        matches!(self.remaining, Remaining::Endless) && self.stops.is_over()
+    }
+
+    // Has each link that rests stepped once more where taking in is over, so that those between two requests end.
+    fn hurry(&mut self)
+        ensures faults { self.new.faults ≡ self.old.faults }
+        ensures remaining { self.new.remaining ≡ self.old.remaining }
+    {
+        if !self.has_hurried && self.is_stopped() {
+            self.has_hurried = true;
+            self.reactor.hurry();
+        }
+    }
+
+    // Whether no link comes any more.
+    fn is_over(&self) -> bool
+        ensures over { IsTrue result → MayClose self.now.remaining }
+        ensures open { IsFalse result → self.now.remaining ≢ Remaining.Times 0 }
+    {
+        self.remaining.is_over() || self.is_stopped()
+    }
+
     // The next link, where one comes without waiting.
     fn next_link(&mut self, key: usize) -> Result<Option<TcpLink<R>>, Failed>
         ensures faults { self.new.faults ≡ self.old.faults }
@@ -64,7 +98,7 @@ impl<R: rt::Clock + Clone + Drop> TcpDoor<R> {
         ensures remaining { IfOk result (ComesOf self.old.remaining self.new.remaining) }
         ensures err { OnErr result (self.new.remaining ≡ self.old.remaining) }
     {
-        if self.remaining.is_over() {
+        if self.is_over() {
             return Ok(None);
         }
         let Ok(rt) = self.rt.clone() else {
@@ -86,19 +120,21 @@ impl<R: rt::Clock + Clone + Drop> TcpDoor<R> {
         ensures err { OnErr result (self.new.remaining ≡ self.old.remaining) }
     {
         'waits: for _ in 0..u64::MAX {
+            self.hurry();
             if let Some(ready) = self.reactor.next_ready() {
                 return Ok(Coming::Ready(ready));
             }
             if let Some(link) = self.next_link(key)? {
                 return Ok(Coming::Came(link));
             }
-            if self.remaining.is_over() && self.reactor.is_empty() {
+            if self.is_over() && self.reactor.is_empty() {
                 return Ok(Coming::Closed);
             }
             if self.reactor.has_failed() {
                 return Err(Failed);
             }
-            self.reactor.wait(&self.rt, !self.remaining.is_over())?;
+            let accepts = !self.is_over();
+            self.reactor.wait(&self.rt, accepts)?;
         }
         Err(Failed)
     }
@@ -117,7 +153,7 @@ impl<R: rt::Clock + Clone + Drop + Send> Door for TcpDoor<R> {
         ensures fresh { IfOk result (IfCame (λ link. IsFresh (⟦<TcpLink<R> as Link>⟧.shown link))) }
         ensures cause { HasCause self.old.faults self.new.faults result }
 
-        // Each link that comes is one less, and the door closes only where none is left.
+        // Each link that comes is one less, and a door of a number of links closes only where none is left.
         ensures remaining { IfOk result (CountsDown self.old.remaining self.new.remaining) }
         ensures err { OnErr result (self.new.remaining ≡ self.old.remaining) }
     {
@@ -126,6 +162,9 @@ impl<R: rt::Clock + Clone + Drop + Send> Door for TcpDoor<R> {
     }
 
     fn rest(&mut self, key: usize, link: &mut TcpLink<R>) {
+        if self.is_stopped() {
+            link.hurry();
+        }
         let waits = link.waits();
         let due = link.due();
         link.rested();

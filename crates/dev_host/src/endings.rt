@@ -35,14 +35,13 @@ impl Endings {
     // Ends a connection. What still comes is dropped without waiting for it.
     pub fn end(&mut self, watch: &Watch, stream: TcpStream, now: u64) {
         let mut ending = Ending::new(stream, now);
-        if ending.drop_more(now) {
+        let watched = Watched::Ending(self.table.vacant_key());
+        if ending.drop_more(now) || watch.renew(&mut ending.stream, watched).is_err() {
+            drop(ending);
             return;
         }
-        let watched = Watched::Ending(self.table.vacant_key());
         let until = ending.until();
-        if watch.renew(&mut ending.stream, watched).is_ok()
-            && let Ok(place) = self.table.insert(ending)
-        {
+        if let Ok(place) = self.table.insert(ending) {
             self.times.put(place, second_after(until));
         }
     }

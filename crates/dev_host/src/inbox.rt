@@ -1,142 +1,213 @@
 //! A folder of the machine as an inbox.
-ghost use Rattle.std.specs.Prelude.{◌≡◌, IfOk, None};
+ghost use Rattle.std.specs.Prelude.{IfOk, IsOk, None};
+ghost use Rattle.dev_traits.specs.Cause.{HasCause, HasReadCause};
+ghost use Rattle.dev_traits.specs.Files.{KeepsLimit};
 
-use crate::failing::counted_fault;
-use crate::listing::{is_file, offered_in};
-use crate::moving::{move_inside, prepare, read_inside};
-use crate::names::shelf_of;
-use crate::paths::{Move, path_inside};
-use dev_std::counted;
+use crate::failing::fail_of;
+use crate::held_back::{Given, HeldBack, MINUTE, Reason};
+use crate::moving::{Mover, prepare};
+use crate::names::{Shelf, shelf_of};
+use crate::notice::{Event, tell_of};
+use crate::paths::Move;
+use crate::present::present;
+use crate::reading::read_inside;
+use crate::stops::Stops;
+use crate::telling::Tell;
+use crate::trouble::Trouble;
 use dev_traits::{Arrival, Failed, Found, Inbox, Verdict};
-use fm_base::{Bytes, Fail, List, NoMemory};
-use std::alloc::Global;
+use fm_base::{Bytes, Fail, List};
+use std::alloc::{AllocError, Global};
+use std::io::{Error, ErrorKind};
 use std::marker::Send;
-use std::time::Duration;
-use std::{rt, str, thread};
-
-// For how many milliseconds nothing is looked for where nothing arrived.
-const PAUSE: u64 = 200;
+use std::mem::replace;
+use std::{rt, str};
 
 /// The files of a folder whose names end in `.nc` or `.retract`, in byte order of one listing after another. It is done
-/// once a file `STOP` lies there and no name is left. A file goes to a folder inside it by its verdict.
+/// once a file `STOP` lies there and no name is left, and that holds of all folders of the server. A file goes to a
+/// folder inside it by its verdict. What fails is said, and made again: no call fails but for memory.
 #[derive(Drop)]
-pub struct FolderInbox<R: rt::Files + Alloc + rt::Clock + Clone + Drop> {
-    rt: R,
-    folder: String,
-    // the names of the last listing that are left, the last first
-    batch: Vec<String>,
-    // the names under which no file was found any more, and room for one
-    gone: Vec<String>,
-    // the name that was given last
-    last: Option<String>,
-    moves: Move,
-    faults: u64,
+pub struct FolderInbox<R: rt::Files + rt::Clock + Drop, T: Tell + Drop> {
+    pub(crate) mover: Mover<R>,
+    pub(crate) tell: T,
+    pub(crate) stops: Stops,
+    // whether `stops` counts it as stopped
+    pub(crate) is_stopped: bool,
+    // the files of the last listing that are left, the last first
+    pub(crate) batch: Vec<Given>,
+    // the file that was given last
+    pub(crate) given: Option<Given>,
+    // those that aren't offered again yet, and room for one
+    pub(crate) held_back: HeldBack,
+    // the names of the last listing that aren't offered, and look as if they should be, in order
+    pub(crate) mistaken: Vec<Vec<u8>>,
+    // when the files that wait in `later` are brought back
+    pub(crate) later: Option<u64>,
+    pub(crate) listing: Trouble,
+    pub(crate) moving: Trouble,
+    pub(crate) reading: Trouble,
 }
 
-impl<R: rt::Files + Alloc + rt::Clock + Clone + Drop> FolderInbox<R> {
-    /// The inbox of a folder that can be listed, with the folders inside it. No call has failed.
-    pub fn open(rt: R, alloc: Global, folder: &[u8]) -> Result<FolderInbox<R>, Fail<Failed>>
-        ensures { IfOk result (λ inbox. inbox.faults ≡ 0) }
-    {
-        let Ok(folder) = str::from_utf8(folder) else {
-            return Err(Fail::Fault(Failed));
-        };
-        prepare(&rt, alloc, folder)?;
+impl<R: rt::Files + rt::Clock + Drop, T: Tell + Drop> FolderInbox<R, T> {
+    /// The inbox of a folder that can be listed, with the folders inside it.
+    pub fn open(
+        rt: R,
+        tell: T,
+        stops: Stops,
+        alloc: Global,
+        folder: &[u8],
+    ) -> Result<FolderInbox<R, T>, Fail<Failed>> {
+        let folder = prepared(&rt, &tell, alloc, folder)?;
+        let later = Some(present(&rt).saturating_add(MINUTE));
+        stops.add();
         Ok(FolderInbox {
-            rt,
-            folder: String::from_str(alloc, folder)?,
+            mover: Mover {
+                rt,
+                folder,
+                moves: Move::new(alloc),
+            },
+            tell,
+            stops,
+            is_stopped: false,
             batch: Vec::new(alloc),
-            gone: Vec::new(alloc),
-            last: None,
-            moves: Move::new(alloc),
-            faults: 0,
+            given: None,
+            held_back: HeldBack::new(alloc),
+            mistaken: Vec::new(alloc),
+            later,
+            listing: Trouble::none(),
+            moving: Trouble::none(),
+            reading: Trouble::none(),
         })
     }
 
-    // What arrives next.
-    fn arrival(&mut self, alloc: Global) -> Result<Arrival, Fail<Failed>>
-        ensures { self.new.faults ≡ self.old.faults }
-    {
-        if let Some(name) = self.next_name(alloc)? {
-            return Ok(Arrival::Name(name));
-        }
-        // What came before the file that stops it lies in a listing that is made after that was seen.
-        let stop = path_inside(alloc, self.folder.as_str(), "STOP")?;
-        let is_stopped = is_file(&self.rt, stop.as_str())?;
-        self.batch = offered_in(&self.rt, alloc, self.folder.as_str(), &mut self.gone)?;
-        match self.next_name(alloc)? {
-            Some(name) => Ok(Arrival::Name(name)),
-            None => Ok(self.nothing(is_stopped)),
-        }
+    /// What takes its lines.
+    pub fn teller(&self) -> &T {
+        &self.tell
     }
 
-    // What arrives where nothing lies in the folder.
-    fn nothing(&self, is_stopped: bool) -> Arrival {
-        if is_stopped {
-            return Arrival::Done;
-        }
-        thread::sleep(&self.rt, Duration::from_millis(PAUSE));
-        Arrival::Idle
+    // Says what became of the folder.
+    pub(crate) fn say(&self, event: Event<'_>) {
+        tell_of(&self.tell, self.mover.folder.as_str(), event);
     }
 
     // The next name of the batch. Room is made first for all that its verdict takes.
-    fn next_name(&mut self, alloc: Global) -> Result<Option<Bytes>, NoMemory>
-        ensures { self.new.faults ≡ self.old.faults }
-    {
-        let Some(name) = self.batch.last() else {
+    pub(crate) fn next_name(&mut self, alloc: Global) -> Result<Option<Bytes>, AllocError> {
+        let Some(next) = self.batch.last() else {
             return Ok(None);
         };
-        self.moves.make_room(self.folder.as_str(), name.as_str())?;
-        self.gone.reserve(1)?;
-        let last = String::from_str(alloc, name.as_str())?;
-        self.last = Some(last);
-        match self.batch.pop() {
-            Some(name) => Ok(Some(List {
-                items: name.into_bytes(),
-            })),
-            None => Ok(None),
+        self.mover.make_room(next.name.as_str())?;
+        self.held_back.make_room()?;
+        let name = String::from_str(alloc, next.name.as_str())?;
+        drop(replace(&mut self.given, self.batch.pop()));
+        Ok(Some(List {
+            items: name.into_bytes(),
+        }))
+    }
+
+    // What was found of a file that couldn't be read: none, unless memory ran out.
+    fn unread(&mut self, name: &[u8], error: Error) -> Result<Found, Fail<Failed>>
+        ensures cause { HasReadCause 0 0 result }
+        ensures limit { (limit : _) → IfOk result (KeepsLimit limit) }
+    {
+        if error.kind() == ErrorKind::OutOfMemory {
+            return Err(Fail::NoMemory);
+        }
+        if self.reading.fails(present(&self.mover.rt)) {
+            self.say(Event::Unread(name, error));
+        }
+        Ok(Found::Absent)
+    }
+
+    // Moves a file to the folder of its verdict, or keeps it from being offered again for a while.
+    fn put_away(&mut self, given: Given, verdict: Verdict) {
+        let now = present(&self.mover.rt);
+        match shelf_of(verdict) {
+            Some(shelf) => self.put_on(shelf, given, now),
+            None => self.held_back.put(given, Reason::Unread(now)),
         }
     }
 
-    // Keeps the name that was given last from being offered again.
-    fn forget(&mut self) -> Result<(), Failed>
-        ensures { self.new.faults ≡ self.old.faults }
-    {
-        match self.last.take() {
-            Some(name) => self.gone.push(name).map_err(|_| Failed),
-            None => Ok(()),
+    // Moves a file to a folder, or keeps it from being offered again until that is done.
+    fn put_on(&mut self, shelf: Shelf, given: Given, now: u64) {
+        if matches!(shelf, Shelf::Later) && self.later.is_none() {
+            self.later = Some(now.saturating_add(MINUTE));
+        }
+        match self.mover.settle_file(&given, shelf) {
+            Ok(()) => drop(given),
+            Err(error) => {
+                self.held_back.put(given, Reason::Unmoved(shelf));
+                self.move_failed(error, now);
+            }
         }
     }
 }
 
-impl<R: rt::Files + Alloc + rt::Clock + Clone + Drop + Send> Inbox for FolderInbox<R> {
-    ghost shown = { λ inbox. record { held = None; faults = inbox.faults } };
+// The folder of an inbox, once those inside it are there. It is told where that can't be.
+fn prepared<R: rt::Files, T: Tell>(
+    rt: &R,
+    tell: &T,
+    alloc: Global,
+    folder: &[u8],
+) -> Result<String, Fail<Failed>> {
+    let Ok(folder) = str::from_utf8(folder) else {
+        return Err(Fail::Fault(Failed));
+    };
+    if let Err(error) = prepare(rt, alloc, folder) {
+        tell_of(tell, folder, Event::Unopened(error));
+        return Err(fail_of(&error));
+    }
+    Ok(String::from_str(alloc, folder)?)
+}
+
+impl<R: rt::Files + rt::Clock + Drop + Send, T: Tell + Drop + Send> Inbox for FolderInbox<R, T> {
+    ghost shown = { λ _. record { held = None; faults = 0 } };
 
     fn faults(&self) -> u64 {
-        self.faults
+        0
     }
 
-    fn next(&mut self, alloc: Global) -> Result<Arrival, Fail<Failed>> {
-        let arrival = self.arrival(alloc);
-        counted_fault(&mut self.faults, arrival)
+    /// It never fails: where it isn't known what lies in the folder, nothing has come yet.
+    fn next(&mut self, alloc: Global) -> Result<Arrival, Fail<Failed>>
+        ensures ok { IsOk result }
+        ensures cause { HasReadCause 0 0 result }
+    {
+        match self.arrival(alloc) {
+            Ok(arrival) => Ok(arrival),
+            Err(error) => Ok(self.unlisted(error)),
+        }
     }
 
-    fn fetch(&mut self, alloc: Global, name: &[u8], limit: u64) -> Result<Found, Fail<Failed>> {
-        let found = read_inside(&self.rt, alloc, self.folder.as_str(), name, limit);
-        counted_fault(&mut self.faults, found)
+    /// A file that can't be read stays where it is, as where there is none, and keeps no other from coming.
+    fn fetch(&mut self, alloc: Global, name: &[u8], limit: u64) -> Result<Found, Fail<Failed>>
+        ensures limit { IfOk result (KeepsLimit limit) }
+
+        // It fails for memory alone.
+        ensures cause { HasReadCause 0 0 result }
+    {
+        match read_inside(
+            &self.mover.rt,
+            alloc,
+            self.mover.folder.as_str(),
+            name,
+            limit,
+        ) {
+            Ok(read) => {
+                if read.is_relative {
+                    self.say(Event::Relative(name));
+                }
+                Ok(read.found)
+            }
+            Err(error) => self.unread(name, error),
+        }
     }
 
-    fn settle(&mut self, name: &[u8], verdict: Verdict) -> Result<(), Failed> {
-        let settled = match shelf_of(verdict) {
-            Some(shelf) => move_inside(
-                &self.rt,
-                &mut self.moves,
-                self.folder.as_str(),
-                name,
-                shelf,
-            ),
-            None => self.forget(),
-        };
-        counted(&mut self.faults, settled)
+    /// It never fails: a move that fails is made again later.
+    fn settle(&mut self, _name: &[u8], verdict: Verdict) -> Result<(), Failed>
+        ensures ok { IsOk result }
+        ensures cause { HasCause 0 0 result }
+    {
+        if let Some(given) = self.given.take() {
+            self.put_away(given, verdict);
+        }
+        Ok(())
     }
 }

@@ -1,5 +1,6 @@
 //! A socket as a link that doesn't wait.
-ghost use Rattle.std.specs.Prelude.{◌≡◌, ◌<◌, length, None, IfOk};
+ghost use Rattle.std.specs.Prelude.{◌≡◌, ◌<◌, length, None, IfOk, true};
+ghost use Rattle.dev_host.specs.Patience.{hurried_at};
 ghost use Rattle.dev_host.specs.Taking.{TakesInTime};
 ghost use Rattle.dev_std.specs.Moving.{Sends};
 ghost use Rattle.dev_traits.specs.Cause.{HasCause};
@@ -23,6 +24,8 @@ pub struct PolledLink<S: Socket + Drop, R: rt::Clock + Drop> {
     patience: Patience,
     pace: Pace,
     waits: bool,
+    // whether no further request is waited for
+    hurries: bool,
     faults: u64,
 }
 
@@ -41,8 +44,16 @@ impl<S: Socket + Drop, R: rt::Clock + Drop> PolledLink<S, R> {
             patience,
             pace: Pace::new(now),
             waits: false,
+            hurries: false,
             faults: 0,
         }
+    }
+
+    /// It waits for no further request: a take that would wait says the end of input from now on.
+    pub fn hurry(&mut self)
+        ensures { self.new ≡ record self.old { hurries = true } }
+    {
+        self.hurries = true;
     }
 
     /// Whether the last call would have waited.
@@ -59,7 +70,12 @@ impl<S: Socket + Drop, R: rt::Clock + Drop> PolledLink<S, R> {
     }
 
     /// The moment at which its time is over, if nothing moves until then.
-    pub fn due(&self) -> u64 {
+    pub fn due(&self) -> u64
+        ensures { result ≡ hurried_at self.now.hurries self.now.patience self.now.pace }
+    {
+        if self.hurries && self.pace.sending.is_none() {
+            return 0;
+        }
         self.patience.due(self.pace)
     }
 

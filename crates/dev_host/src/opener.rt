@@ -7,10 +7,17 @@ use crate::clock::RealClock;
 use crate::door::TcpDoor;
 use crate::failing::{counted_fault, fail_of};
 use crate::inbox::FolderInbox;
+use crate::locking::Lockable;
+use crate::notice::{Event, tell_of};
+use crate::paths::folder_path;
 use crate::patience::Patience;
+use crate::stops::Stops;
+use crate::telling::Tell;
 use dev_traits::{Door, Failed, Inbox, Opener};
-use fm_base::{Bytes, Fail, List};
+use fm_base::{Bytes, Fail, List, NoMemory};
 use std::alloc::Global;
+use std::fs::File;
+use std::io::{self, Error, ErrorKind};
 use std::marker::Send;
 use std::net::{Net, TcpListener, ToSocketAddrs};
 use std::time::Duration;
@@ -27,26 +34,37 @@ struct Bound {
 }
 
 /// Opens doors at sockets, inboxes of folders and the machine's clock. Doors that are opened at the same address share
-/// one socket.
+/// one socket, and a folder is opened by one opener of the machine at a time. It tells why what can't be opened can't.
 #[derive(Drop)]
-pub struct RealOpener<R: Drop> {
+pub struct RealOpener<R: rt::Files + Drop, T: Drop> {
     rt: R,
+    tell: T,
     bound: List<Bound>,
+    // the folders of the inboxes, which are locked
+    locked: Vec<R::File>,
+    // none before the first door or inbox
+    stops: Option<Stops>,
     faults: u64,
 }
 
-impl<R> RealOpener<R>
+impl<R, T> RealOpener<R, T>
 where
     R: rt::Files + rt::Clock + Net + AllocGlobal + Clone + Drop,
+    R::File: Lockable,
+    T: Tell + Clone + Drop,
 {
     /// What opens by this runtime. Nothing is open, and no call has failed.
-    pub fn new(rt: R) -> RealOpener<R>
+    pub fn new(rt: R, tell: T) -> RealOpener<R, T>
         ensures { result.faults ≡ 0 }
     {
         let bound = List::new(rt.alloc());
+        let locked = Vec::new(rt.alloc());
         RealOpener {
             rt,
+            tell,
             bound,
+            locked,
+            stops: None,
             faults: 0,
         }
     }
@@ -63,8 +81,9 @@ where
         ensures patience { IfOk result (λ door. door.patience ≡ record { idle = 30_000; grace = 60_000 }) }
     {
         let listener = self.listener_at(alloc, address)?;
-        let rt = self.rt.clone()?;
-        match TcpDoor::new(rt, alloc, listener, connections, Patience::of_server()) {
+        let (rt, stops) = self.own_parts(alloc)?;
+        let patience = Patience::of_server();
+        match TcpDoor::new(rt, alloc, listener, connections, patience, stops) {
             Ok(door) => Ok(door),
             Err(error) => Err(fail_of(&error)),
         }
@@ -77,29 +96,107 @@ where
         if let Some(listener) = bound_at(self.bound.as_slice(), address) {
             return shared(listener);
         }
-        let listener = bind(&self.rt, address)?;
+        let listener = bind(&self.rt, &self.tell, address)?;
+        self.share_at(alloc, address, listener)
+    }
+
+    // Keeps a socket for the next doors at its address. Returns it for this one.
+    fn share_at(
+        &mut self,
+        alloc: Global,
+        address: &[u8],
+        listener: TcpListener,
+    ) -> Result<TcpListener, Fail<Failed>>
+        ensures { self.new.faults ≡ self.old.faults }
+    {
         let door = shared(&listener)?;
         let address = List::copy_of(alloc, address)?;
         self.bound.push(Bound { address, listener })?;
         Ok(door)
     }
 
-    // The inbox of a folder.
-    fn open_inbox(&self, alloc: Global, folder: &[u8]) -> Result<FolderInbox<R>, Fail<Failed>>
-        ensures { IfOk result (λ inbox. inbox.faults ≡ 0) }
+    // Locks a folder, so that no other server takes in what comes to it. Where the system has no lock for it, that is
+    // said, and the folder is taken without one.
+    fn lock(&mut self, alloc: Global, folder: &str) -> Result<(), Fail<Failed>>
+        ensures { self.new.faults ≡ self.old.faults }
+    {
+        match open_folder(&self.rt, alloc, folder) {
+            Ok(opened) => self.lock_open(folder, opened),
+            Err(error) => Err(unopened(&self.tell, folder, error)),
+        }
+    }
+
+    // The same of a folder that is open.
+    fn lock_open(&mut self, folder: &str, opened: R::File) -> Result<(), Fail<Failed>>
+        ensures { self.new.faults ≡ self.old.faults }
+    {
+        match opened.lock_now() {
+            Ok(true) => self.locked.push(opened)?,
+            Ok(false) => {
+                tell_of(&self.tell, folder, Event::InUse);
+                return Err(Fail::Fault(Failed));
+            }
+            Err(error) => tell_of(&self.tell, folder, Event::Unlocked(error)),
+        }
+        Ok(())
+    }
+
+    // What all inboxes and doors share.
+    fn shared_stops(&mut self, alloc: Global) -> Result<Stops, NoMemory>
+        ensures { self.new.faults ≡ self.old.faults }
+    {
+        if let Some(stops) = &self.stops {
+            return Ok(stops.share()?);
+        }
+        self.first_stops(alloc)
+    }
+
+    // The same before anything is open.
+    fn first_stops(&mut self, alloc: Global) -> Result<Stops, NoMemory>
+        ensures { self.new.faults ≡ self.old.faults }
+    {
+        let stops = Stops::new(alloc)?;
+        let shared = stops.share();
+        drop(self.stops.replace(stops));
+        Ok(shared?)
+    }
+
+    // What each door and each inbox has for its own of the opener: the machine, and what all of them share.
+    fn own_parts(&mut self, alloc: Global) -> Result<(R, Stops), NoMemory>
+        ensures { self.new.faults ≡ self.old.faults }
     {
         let rt = self.rt.clone()?;
-        FolderInbox::open(rt, alloc, folder)
+        let stops = self.shared_stops(alloc)?;
+        Ok((rt, stops))
+    }
+
+    // The inbox of a folder.
+    fn open_inbox(
+        &mut self,
+        alloc: Global,
+        folder: &[u8],
+    ) -> Result<FolderInbox<R, T>, Fail<Failed>>
+        ensures { self.new.faults ≡ self.old.faults }
+    {
+        let Ok(path) = str::from_utf8(folder) else {
+            return Err(Fail::Fault(Failed));
+        };
+        self.lock(alloc, path)?;
+        let tell = self.tell.clone()?;
+        let (rt, stops) = self.own_parts(alloc)?;
+        FolderInbox::open(rt, tell, stops, alloc, folder)
     }
 }
 
-impl<R> Opener for RealOpener<R>
+impl<R, T> Opener for RealOpener<R, T>
 where
     R: rt::Files + rt::Clock + Net + AllocGlobal + Clone + Drop + Send,
+    R::File: Lockable,
+    T: Tell + Clone + Drop + Send,
 {
     type D = TcpDoor<R>;
 
-    type I = FolderInbox<R>;
+    type I = FolderInbox<R, T>;
 
     type C = RealClock<R>;
 
@@ -119,13 +216,17 @@ where
         counted_fault(&mut self.faults, door)
     }
 
-    fn inbox(&mut self, alloc: Global, folder: &[u8]) -> Result<FolderInbox<R>, Fail<Failed>> {
+    fn inbox(&mut self, alloc: Global, folder: &[u8]) -> Result<FolderInbox<R, T>, Fail<Failed>> {
         let inbox = self.open_inbox(alloc, folder);
         counted_fault(&mut self.faults, inbox)
     }
 
     fn clock(&mut self, ticks: u32) -> RealClock<R> {
-        RealClock::of(self.rt.clone().ok(), ticks, Duration::from_secs(INTERVAL))
+        let clock = RealClock::of(self.rt.clone().ok(), ticks, Duration::from_secs(INTERVAL));
+        match &self.stops {
+            Some(stops) => clock.until(stops.share().ok()),
+            None => clock,
+        }
     }
 }
 
@@ -141,23 +242,39 @@ fn bound_at<'a>(bound: &'a [Bound], address: &[u8]) -> Option<&'a TcpListener>
     None
 }
 
+// A folder that is open.
+fn open_folder<R: rt::Files>(rt: &R, alloc: Global, folder: &str) -> io::Result<R::File> {
+    let path = folder_path(alloc, folder)?;
+    File::open(rt, path.as_str())
+}
+
+// Tells why a folder or an address can't be opened, and returns why the call failed.
+fn unopened<T: Tell>(tell: &T, place: &str, error: Error) -> Fail<Failed> {
+    tell_of(tell, place, Event::Unopened(error));
+    fail_of(&error)
+}
+
 // Opens a socket that listens at an address, which is text, with the longest queue that the system allows.
-fn bind<R: Net>(rt: &R, address: &[u8]) -> Result<TcpListener, Fail<Failed>> {
+fn bind<R: Net, T: Tell>(rt: &R, tell: &T, address: &[u8]) -> Result<TcpListener, Fail<Failed>> {
     let Ok(address) = str::from_utf8(address) else {
         return Err(Fail::Fault(Failed));
     };
-    let addresses = match address.to_socket_addrs(rt) {
-        Ok(addresses) => addresses,
-        Err(error) => return Err(fail_of(&error)),
-    };
-    let mut fail = Fail::Fault(Failed);
-    for address in addresses {
+    match bind_any(rt, address) {
+        Ok(listener) => Ok(listener),
+        Err(error) => Err(unopened(tell, address, error)),
+    }
+}
+
+// The first socket that can be opened of those that an address means.
+fn bind_any<R: Net>(rt: &R, address: &str) -> io::Result<TcpListener> {
+    let mut failed = Error::from(ErrorKind::NotFound);
+    for address in address.to_socket_addrs(rt)? {
         match mio::net::TcpListener::bind(rt, address) {
             Ok(listener) => return Ok(TcpListener::from(listener)),
-            Err(error) => fail = fail_of(&error),
+            Err(error) => failed = error,
         }
     }
-    Err(fail)
+    Err(failed)
 }
 
 // The same socket for one more door.

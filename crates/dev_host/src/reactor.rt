@@ -16,8 +16,8 @@ use std::{io, rt};
 // How many links come between two waits at most, so that those that are out go on.
 const MOST_IN_A_ROW: u32 = 16;
 
-// For how many milliseconds a wait lasts at most.
-const LONGEST: u64 = 60_000;
+// For how many milliseconds a wait lasts at most, so that it is seen soon that taking in is over.
+const LONGEST: u64 = 1_000;
 
 // What the links of a door wait for, and what still comes of those that were given back.
 #[derive(Drop)]
@@ -43,8 +43,7 @@ impl Reactor {
     ) -> io::Result<Reactor> {
         listener.set_nonblocking(true)?;
         let mut listener = TcpListener::from_std(listener);
-        let watch = Watch::new(net, alloc)?;
-        watch.begin(&mut listener, Watched::Listener)?;
+        let watch = watch_of(net, alloc, &mut listener)?;
         Ok(Reactor {
             entry: Entry::new(listener),
             watch,
@@ -164,10 +163,27 @@ impl Reactor {
         self.watch.renew(stream, Watched::Link(key)).is_ok()
     }
 
+    // Has each link that rests stepped again at once.
+    pub fn hurry(&mut self) {
+        self.times.hurry();
+    }
+
     // Ends a connection.
     pub fn end(&mut self, stream: TcpStream, now: u64) {
         self.out = self.out.saturating_sub(1);
         self.endings.end(&self.watch, stream, now);
+    }
+}
+
+// A watch of a listener.
+fn watch_of(net: &impl Net, alloc: Global, listener: &mut TcpListener) -> io::Result<Watch> {
+    let watch = Watch::new(net, alloc)?;
+    match watch.begin(listener, Watched::Listener) {
+        Ok(()) => Ok(watch),
+        Err(error) => {
+            drop(watch);
+            Err(error)
+        }
     }
 }
 

@@ -99,6 +99,19 @@ impl Wheel {
         None
     }
 
+    /// Has each key that is in due at once.
+    pub fn hurry(&mut self) {
+        let mut first = NONE;
+        for (key, place) in self.places.as_mut_slice().iter_mut().enumerate() {
+            if place.is_in {
+                place.next = first;
+                first = key;
+            }
+        }
+        self.firsts = [NONE; 64];
+        self.firsts[(self.second % SECONDS) as usize] = first;
+    }
+
     /// The first second at which a key is due, if there is one.
     pub fn next_due(&self) -> Option<u64> {
         for second in self.second..self.second.saturating_add(SECONDS) {

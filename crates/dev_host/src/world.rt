@@ -3,23 +3,21 @@ ghost use Rattle.std.specs.Prelude.{◌≡◌, []};
 ghost use Rattle.dev_std.specs.Process.{is_errors, names_once};
 
 use crate::opener::RealOpener;
+use crate::telling::Teller;
 use dev_std::{RealFiles, StdLink, StdSink, StdStream};
 use dev_traits::{Files, Link, OpenGate, Opener, Sink, World};
 use fm_base::{Bytes, List};
 
+/// What opens the machine's sockets, folders and clock.
+pub type HostOpener = RealOpener<HostRuntime, Teller<HostRuntime>>;
+
 /// The world of a process: the machine's sockets, folders, clock and files, and the standard streams.
-pub type HostWorld = World<
-    RealOpener<HostRuntime>,
-    RealFiles<HostRuntime>,
-    StdLink,
-    StdSink,
-    OpenGate,
->;
+pub type HostWorld = World<HostOpener, RealFiles<HostRuntime>, StdLink, StdSink, OpenGate>;
 
 /// The world of a run with these words: what opens the machine's doors, inboxes and clocks, its files, standard input
 /// and output as the link, and the sink that `StdStream::of_words` picks. Nothing is open, and no call has failed.
 pub fn host_world(rt: HostRuntime, words: &List<Bytes>) -> HostWorld
-    ensures opener { (⟦<RealOpener<HostRuntime> as Opener>⟧.shown result.opener).faults ≡ 0 }
+    ensures opener { (⟦<HostOpener as Opener>⟧.shown result.opener).faults ≡ 0 }
     ensures doors { result.doors ≡ [] }
     ensures inboxes { result.inboxes ≡ [] }
     ensures clocks { result.clocks ≡ [] }
@@ -29,7 +27,7 @@ pub fn host_world(rt: HostRuntime, words: &List<Bytes>) -> HostWorld
     ensures stream { is_errors result.sink.output ≡ names_once words.now }
 {
     World {
-        opener: RealOpener::new(rt),
+        opener: RealOpener::new(rt, Teller::new(rt, rt.stderr(), false)),
         doors: List::new(rt.alloc()),
         inboxes: List::new(rt.alloc()),
         clocks: List::new(rt.alloc()),

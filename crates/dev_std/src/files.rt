@@ -77,8 +77,8 @@ fn unopened(error: &Error) -> Result<Found, Failed>
     }
 }
 
-// The file that is open, where its length, as the system says it, keeps the limit.
-fn read_open<F: Read + OpenFile + Drop>(
+/// The file that is open, where its length, as the system says it, keeps the limit. A folder is a fault.
+pub fn read_open<F: Read + OpenFile + Drop>(
     alloc: Global,
     file: F,
     limit: u64,

@@ -12,7 +12,7 @@ mod stream;
 
 pub use args::words;
 pub use content::read_to_end;
-pub use files::{RealFiles, read_file};
+pub use files::{RealFiles, read_file, read_open};
 pub use link::{StdLink, StreamLink};
 pub use process::unread;
 pub use sink::{StdSink, StdStream, StreamSink};

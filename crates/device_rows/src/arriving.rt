@@ -1,5 +1,6 @@
 //! What arrives in an inbox, as text.
 
+use crate::hearing::Heard;
 use dev_host::FolderInbox;
 use dev_traits::{Arrival, Failed, Found, Inbox, Verdict};
 use fm_base::{Fail, NoMemory};
@@ -22,58 +23,90 @@ fn verdict_of(word: &str) -> Option<Verdict> {
     }
 }
 
-/// Appends what a step of an inbox over a folder does: `next`, `fetch LIMIT NAME`, `settle VERDICT NAME`, `faults`.
-/// It is false where a line says none.
-pub fn put_step<R: rt::Files + Alloc + rt::Clock + Clone + Drop + Send>(
+/// Appends what a step of an inbox over a folder does: `next`, `fetch LIMIT NAME`, `settle VERDICT NAME`, `faults`, and
+/// `said` for the lines since the last one. It is false where a line says none.
+pub fn put_step<R: rt::Files + rt::Clock + Drop + Send>(
     alloc: Global,
-    inbox: &mut FolderInbox<R>,
+    inbox: &mut FolderInbox<R, Heard>,
+    folder: &str,
     line: &str,
     out: &mut String,
 ) -> Result<bool, NoMemory> {
     let (word, words) = line.split_once(' ').unwrap_or((line, ""));
     match (word, words.split_once(' ')) {
-        ("next", None) => put_next(inbox.next(alloc), out)?,
+        ("next", None) => put_next(alloc, inbox, out)?,
         ("faults", None) => writeln!(out, "{} faults", inbox.faults())?,
-        ("fetch", Some((limit, name))) => {
-            let Ok(limit) = limit.parse::<u64>() else {
-                return Ok(false);
-            };
-            put_found(inbox.fetch(alloc, name.as_bytes(), limit), out)?;
-        }
-        ("settle", Some((verdict, name))) => {
-            let Some(verdict) = verdict_of(verdict) else {
-                return Ok(false);
-            };
-            match inbox.settle(name.as_bytes(), verdict) {
-                Ok(()) => {}
-                Err(Failed) => writeln!(out, "fault")?,
-            }
-        }
+        ("said", None) => inbox.teller().put_lines(folder, out)?,
+        ("fetch", Some((limit, name))) => return put_fetched(alloc, inbox, limit, name, out),
+        ("settle", Some((verdict, name))) => return put_settled(inbox, verdict, name, out),
         _ => return Ok(false),
     }
     Ok(true)
 }
 
-fn put_next(next: Result<Arrival, Fail<Failed>>, out: &mut String) -> Result<(), NoMemory> {
+fn put_fetched<R: rt::Files + rt::Clock + Drop + Send>(
+    alloc: Global,
+    inbox: &mut FolderInbox<R, Heard>,
+    limit: &str,
+    name: &str,
+    out: &mut String,
+) -> Result<bool, NoMemory> {
+    let Ok(limit) = limit.parse::<u64>() else {
+        return Ok(false);
+    };
+    let found = inbox.fetch(alloc, name.as_bytes(), limit);
+    let put = put_found(&found, out);
+    drop(found);
+    put?;
+    Ok(true)
+}
+
+fn put_settled<R: rt::Files + rt::Clock + Drop + Send>(
+    inbox: &mut FolderInbox<R, Heard>,
+    verdict: &str,
+    name: &str,
+    out: &mut String,
+) -> Result<bool, NoMemory> {
+    let Some(verdict) = verdict_of(verdict) else {
+        return Ok(false);
+    };
+    if inbox.settle(name.as_bytes(), verdict).is_err() {
+        out.push_str("fault\n")?;
+    }
+    Ok(true)
+}
+
+fn put_next<R: rt::Files + rt::Clock + Drop + Send>(
+    alloc: Global,
+    inbox: &mut FolderInbox<R, Heard>,
+    out: &mut String,
+) -> Result<(), NoMemory> {
+    let next = inbox.next(alloc);
+    let put = put_arrival(&next, out);
+    drop(next);
+    put
+}
+
+fn put_arrival(next: &Result<Arrival, Fail<Failed>>, out: &mut String) -> Result<(), NoMemory> {
     match next {
         Ok(Arrival::Name(name)) => {
             put_shown(name.as_slice(), out)?;
-            writeln!(out)?;
+            out.push('\n')?;
         }
-        Ok(Arrival::Idle) => writeln!(out, "nothing yet")?,
-        Ok(Arrival::Done) => writeln!(out, "done")?,
-        Err(Fail::Fault(_)) => writeln!(out, "fault")?,
+        Ok(Arrival::Idle) => out.push_str("nothing yet\n")?,
+        Ok(Arrival::Done) => out.push_str("done\n")?,
+        Err(Fail::Fault(_)) => out.push_str("fault\n")?,
         Err(Fail::NoMemory) => return Err(NoMemory),
     }
     Ok(())
 }
 
-fn put_found(found: Result<Found, Fail<Failed>>, out: &mut String) -> Result<(), NoMemory> {
+fn put_found(found: &Result<Found, Fail<Failed>>, out: &mut String) -> Result<(), NoMemory> {
     match found {
         Ok(Found::Content(content)) => writeln!(out, "{} bytes", content.len())?,
-        Ok(Found::TooLong(len)) => writeln!(out, "too long: {len}")?,
-        Ok(Found::Absent) => writeln!(out, "absent")?,
-        Err(Fail::Fault(_)) => writeln!(out, "fault")?,
+        Ok(Found::TooLong(len)) => writeln!(out, "too long: {}", *len)?,
+        Ok(Found::Absent) => out.push_str("absent\n")?,
+        Err(Fail::Fault(_)) => out.push_str("fault\n")?,
         Err(Fail::NoMemory) => return Err(NoMemory),
     }
     Ok(())

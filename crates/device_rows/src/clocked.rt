@@ -21,5 +21,6 @@ pub fn unread(alloc: Global, row: &Row<'_>) -> Result<Option<String>, NoMemory> 
         Some(_moment) => "a moment",
         None => "none",
     };
+    drop(clock);
     Ok(Some(String::from_str(alloc, said)?))
 }

@@ -1,11 +1,13 @@
 //! Inboxes over folders of the machine.
 
 use crate::arriving::put_step;
-use dev_host::FolderInbox;
+use crate::hearing::Heard;
+use dev_host::{FolderInbox, Stops};
 use fm_base::{Fail, NoMemory};
 use row_text::Row;
 use std::alloc::Global;
 use std::fmt::Write;
+use std::os::unix::fs::symlink;
 use std::path::PathBuf;
 use std::{env, fs, io, process};
 
@@ -25,28 +27,49 @@ impl Folder {
         Ok(Folder { path })
     }
 
-    // Changes what lies there, or looks at it: `put NAME`, a file that has its name as its content; `remove NAME`;
-    // `mkdir NAME`; `rmdir NAME`; `has NAME`.
+    // Changes what lies there, or looks at it: `put NAME`, a file that has its name as its content; `link NAME`, a link
+    // to `source`; `remove NAME`; `mkdir NAME`; `rmdir NAME`; `has NAME`.
     fn change(&self, rt: &HostRuntime, line: &str, out: &mut String) -> io::Result<bool> {
         let (word, name) = line.split_once(' ').unwrap_or((line, ""));
         let path = self.path.join(rt.alloc(), name)?;
-        let path = path.as_str();
-        match word {
-            "put" => fs::write(rt, path, name.as_bytes())?,
-            "remove" => fs::remove_file(rt, path)?,
-            "mkdir" => fs::create_dir(rt, path)?,
-            "rmdir" => fs::remove_dir(rt, path)?,
-            "has" => {
-                let there = if fs::exists(rt, path)? {
-                    "there"
-                } else {
-                    "not there"
-                };
-                writeln!(out, "{there}")?;
-            }
-            _ => return Ok(false),
-        }
-        Ok(true)
+        let changed = change_at(rt, word, name, path.as_str(), out);
+        drop(path);
+        changed
+    }
+}
+
+// Does what a word says at the path of a name.
+fn change_at(
+    rt: &HostRuntime,
+    word: &str,
+    name: &str,
+    path: &str,
+    out: &mut String,
+) -> io::Result<bool> {
+    let done = match word {
+        "put" => fs::write(rt, path, name.as_bytes()),
+        "link" => symlink(rt, "source", path),
+        "remove" => fs::remove_file(rt, path),
+        "mkdir" => fs::create_dir(rt, path),
+        "rmdir" => fs::remove_dir(rt, path),
+        "has" => put_there(rt, path, out),
+        _ => return Ok(false),
+    };
+    done?;
+    Ok(true)
+}
+
+fn put_there(rt: &HostRuntime, path: &str, out: &mut String) -> io::Result<()> {
+    let there = there_at(rt, path)?;
+    Ok(writeln!(out, "{there}")?)
+}
+
+// Whether anything lies at a path, as a link does that leads nowhere.
+fn there_at(rt: &HostRuntime, path: &str) -> io::Result<&'static str> {
+    match fs::symlink_metadata(rt, path) {
+        Ok(_) => Ok("there"),
+        Err(error) if error.kind() == io::ErrorKind::NotFound => Ok("not there"),
+        Err(error) => Err(error),
     }
 }
 
@@ -56,7 +79,7 @@ pub fn folder_row(
     alloc: Global,
     row: &Row<'_>,
 ) -> Result<Option<String>, NoMemory> {
-    if !row.has_each(&["folder", "steps"]) {
+    if !row.has_only(&["folder", "others", "steps"]) || row.value("steps").is_none() {
         return Ok(None);
     }
     let Ok(folder) = Folder::new(&rt, row.line) else {
@@ -64,13 +87,7 @@ pub fn folder_row(
     };
     let mut out = String::new(alloc);
     let known = begin(&rt, &folder, row.value("folder").unwrap_or(""), &mut out)
-        && go_through(
-            rt,
-            alloc,
-            &folder,
-            row.value("steps").unwrap_or(""),
-            &mut out,
-        )?;
+        && go_through(rt, alloc, &folder, row, &mut out)?;
     if fs::remove_dir_all(&rt, folder.path.as_str()).is_err() || !known {
         return Ok(None);
     }
@@ -95,29 +112,67 @@ fn begin(rt: &HostRuntime, folder: &Folder, names: &str, out: &mut String) -> bo
     true
 }
 
+// What the folders of a server share, with others where a row has the key `others`.
+fn stops_of(alloc: Global, row: &Row<'_>) -> Result<Stops, NoMemory> {
+    let stops = Stops::new(alloc)?;
+    if row.value("others").is_some() {
+        stops.add();
+    }
+    Ok(stops)
+}
+
+// What another folder does: it stops, or goes on.
+fn change_others(stops: &Stops, line: &str) -> bool {
+    match line {
+        "other stops" => stops.stop(),
+        "other goes on" => stops.go_on(),
+        _ => return false,
+    }
+    true
+}
+
 // Opens the inbox, and does the steps.
 fn go_through(
     rt: HostRuntime,
     alloc: Global,
     folder: &Folder,
+    row: &Row<'_>,
+    out: &mut String,
+) -> Result<bool, NoMemory> {
+    let stops = stops_of(alloc, row)?;
+    let shared = stops.share()?;
+    let path = folder.path.as_str().as_bytes();
+    match FolderInbox::open(rt, Heard::new(alloc), shared, alloc, path) {
+        Ok(mut inbox) => {
+            let steps = row.value("steps").unwrap_or("");
+            let done = do_steps(&rt, alloc, &mut inbox, folder, &stops, steps, out);
+            drop(inbox);
+            done
+        }
+        Err(Fail::NoMemory) => Err(NoMemory),
+        Err(Fail::Fault(_)) => {
+            out.push_str("can't be opened\n")?;
+            Ok(true)
+        }
+    }
+}
+
+// Does the steps. It is false where one is unknown, or fails.
+fn do_steps(
+    rt: &HostRuntime,
+    alloc: Global,
+    inbox: &mut FolderInbox<HostRuntime, Heard>,
+    folder: &Folder,
+    stops: &Stops,
     steps: &str,
     out: &mut String,
 ) -> Result<bool, NoMemory> {
-    let mut inbox = match FolderInbox::open(rt, alloc, folder.path.as_str().as_bytes()) {
-        Ok(inbox) => inbox,
-        Err(Fail::NoMemory) => return Err(NoMemory),
-        Err(Fail::Fault(_)) => {
-            writeln!(out, "can't be opened")?;
-            return Ok(true);
-        }
-    };
     for line in steps.lines() {
-        if put_step(alloc, &mut inbox, line, out)? {
-            continue;
-        }
-        match folder.change(&rt, line, out) {
-            Ok(true) => {}
-            Ok(false) | Err(_) => return Ok(false),
+        let is_done = put_step(alloc, inbox, folder.path.as_str(), line, out)?
+            || change_others(stops, line)
+            || folder.change(rt, line, out).unwrap_or(false);
+        if !is_done {
+            return Ok(false);
         }
     }
     Ok(true)

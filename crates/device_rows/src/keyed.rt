@@ -1,7 +1,7 @@
 //! Keys in a wheel of seconds.
 
 use crate::linked::word_and_number;
-use crate::turned::text_and_steps;
+use crate::turned::{text_and_steps, text_if};
 use dev_host::Wheel;
 use fm_base::NoMemory;
 use row_text::Row;
@@ -9,7 +9,7 @@ use std::alloc::Global;
 use std::fmt::Write;
 
 /// What a wheel with room for the keys up to 9 does, from a second on: `put KEY SECOND` puts a key in, `pop SECOND`
-/// takes one out, `due` is the first second at which one is due.
+/// takes one out, `due` is the first second at which one is due, `hurry` has all due at once.
 pub fn wheel(alloc: Global, row: &Row<'_>) -> Result<Option<String>, NoMemory> {
     let Some((second, steps)) = text_and_steps(row, "wheel") else {
         return Ok(None);
@@ -18,8 +18,8 @@ pub fn wheel(alloc: Global, row: &Row<'_>) -> Result<Option<String>, NoMemory> {
         return Ok(None);
     };
     let mut out = String::new(alloc);
-    let known = put_wheel(alloc, second, steps, &mut out)?;
-    Ok(if known { Some(out) } else { None })
+    let known = put_wheel(alloc, second, steps, &mut out);
+    text_if(known, out)
 }
 
 fn put_wheel(alloc: Global, second: u64, steps: &str, out: &mut String) -> Result<bool, NoMemory> {
@@ -42,6 +42,10 @@ fn put_steps(wheel: &mut Wheel, steps: &str, out: &mut String) -> Result<bool, N
 fn put_step(wheel: &mut Wheel, line: &str, out: &mut String) -> Result<bool, NoMemory> {
     if line == "due" {
         put_due(wheel.next_due(), out)?;
+        return Ok(true);
+    }
+    if line == "hurry" {
+        wheel.hurry();
         return Ok(true);
     }
     match line.split_once(' ') {

@@ -17,7 +17,8 @@ pub(crate) fn word_and_number(line: &str) -> Option<(&str, u64)> {
 }
 
 /// Appends what calls of a link do at some moments, in milliseconds after it came, a line for each: `take` and `put`
-/// are of four bytes. The last line has the number of calls that failed. It is false where a line says none.
+/// are of four bytes. `hurry` has it wait for no further request. The last line has the number of calls that failed. It
+/// is false where a line says none.
 pub fn put_link(turns: &[Turn], steps: &str, out: &mut String) -> Result<bool, NoMemory> {
     let clock = Ticking::new(0);
     let mut link = PolledLink::new(&clock, Stream::new(turns), 0, Patience::of_server());
@@ -53,28 +54,29 @@ fn put_call(
     match word {
         "take" => put_taken(link.take(&mut [0u8; 4]), out)?,
         "put" => put_sent(link.put(b"abcd"), out)?,
+        "hurry" => link.hurry(),
         _ => return Ok(false),
     }
     Ok(true)
 }
 
 fn put_taken(taken: Result<Taken, Failed>, out: &mut String) -> Result<(), NoMemory> {
-    match taken {
-        Ok(Taken::Bytes(count)) => writeln!(out, "{count}")?,
-        Ok(Taken::End) => writeln!(out, "the end")?,
-        Ok(Taken::Later) => writeln!(out, "later")?,
-        Err(Failed) => writeln!(out, "fault")?,
-    }
-    Ok(())
+    let word = match taken {
+        Ok(Taken::Bytes(count)) => return Ok(writeln!(out, "{count}")?),
+        Ok(Taken::End) => "the end\n",
+        Ok(Taken::Later) => "later\n",
+        Err(Failed) => "fault\n",
+    };
+    Ok(out.push_str(word)?)
 }
 
 fn put_sent(sent: Result<Sent, Failed>, out: &mut String) -> Result<(), NoMemory> {
-    match sent {
-        Ok(Sent::Bytes(count)) => writeln!(out, "{count}")?,
-        Ok(Sent::Later) => writeln!(out, "later")?,
-        Err(Failed) => writeln!(out, "fault")?,
-    }
-    Ok(())
+    let word = match sent {
+        Ok(Sent::Bytes(count)) => return Ok(writeln!(out, "{count}")?),
+        Ok(Sent::Later) => "later\n",
+        Err(Failed) => "fault\n",
+    };
+    Ok(out.push_str(word)?)
 }
 
 /// Appends what the end of a connection does: after how many calls the side that sends was closed, and then whether it

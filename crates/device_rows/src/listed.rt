@@ -1,7 +1,9 @@
 //! Folders in memory, whose listings have names that aren't text, and fail.
 
 use crate::arriving::put_step;
-use dev_host::FolderInbox;
+use crate::hearing::Heard;
+use crate::turned::text_if;
+use dev_host::{FolderInbox, Stops};
 use fm_base::NoMemory;
 use row_text::{Row, bytes};
 use std::alloc::{Allocator, Global};
@@ -111,14 +113,6 @@ impl rt::Clock for Machine {
     }
 }
 
-impl Alloc for Machine {
-    type A = Global;
-
-    fn alloc(&self) -> Global {
-        self.rt.alloc()
-    }
-}
-
 // The names between blanks, where there is room for them.
 fn names_of(alloc: Global, words: &str, fails: bool) -> Result<Option<Names>, NoMemory> {
     let Some(mut names) = bytes(alloc, words)? else {
@@ -163,8 +157,8 @@ pub fn names_row(
 
 fn over_names(machine: Machine, alloc: Global, steps: &str) -> Result<Option<String>, NoMemory> {
     let mut out = String::new(alloc);
-    let known = put_names(machine, alloc, steps, &mut out)?;
-    Ok(if known { Some(out) } else { None })
+    let known = put_names(machine, alloc, steps, &mut out);
+    text_if(known, out)
 }
 
 // Appends what the steps of an inbox do. It is false where one is unknown, or the folder can't be opened.
@@ -174,20 +168,25 @@ fn put_names(
     steps: &str,
     out: &mut String,
 ) -> Result<bool, NoMemory> {
-    match FolderInbox::open(machine, alloc, b"in") {
-        Ok(mut inbox) => put_steps(alloc, &mut inbox, steps, out),
+    let (heard, stops) = (Heard::new(alloc), Stops::new(alloc)?);
+    match FolderInbox::open(machine, heard, stops, alloc, b"in") {
+        Ok(mut inbox) => {
+            let known = put_steps(alloc, &mut inbox, steps, out);
+            drop(inbox);
+            known
+        }
         Err(_) => Ok(false),
     }
 }
 
 fn put_steps(
     alloc: Global,
-    inbox: &mut FolderInbox<Machine>,
+    inbox: &mut FolderInbox<Machine, Heard>,
     steps: &str,
     out: &mut String,
 ) -> Result<bool, NoMemory> {
     for line in steps.lines() {
-        if !put_step(alloc, inbox, line, out)? {
+        if !put_step(alloc, inbox, "in", line, out)? {
             return Ok(false);
         }
     }

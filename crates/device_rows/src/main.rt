@@ -6,6 +6,7 @@ mod accepted;
 mod arriving;
 mod clocked;
 mod foldered;
+mod hearing;
 mod keyed;
 mod linked;
 mod listed;
@@ -28,7 +29,9 @@ impl Answers for Devices {
     fn answer(&self, alloc: Global, row: &Row<'_>, out: &mut String) -> Result<bool, AllocError> {
         match answer(self.rt, alloc, row) {
             Ok(Some(text)) => {
-                out.push_str(text.as_str())?;
+                let put = out.push_str(text.as_str());
+                drop(text);
+                put?;
                 Ok(true)
             }
             Ok(None) => Ok(false),

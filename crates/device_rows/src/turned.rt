@@ -37,6 +37,24 @@ pub(crate) fn text_and_steps<'a>(row: &'a Row<'_>, key: &str) -> Option<(&'a str
     Some((row.value(key)?, row.value("steps")?))
 }
 
+// The text that was put, where all that it says is known.
+pub(crate) fn text_if(
+    known: Result<bool, NoMemory>,
+    text: String,
+) -> Result<Option<String>, NoMemory> {
+    match known {
+        Ok(true) => Ok(Some(text)),
+        Ok(false) => {
+            drop(text);
+            Ok(None)
+        }
+        Err(NoMemory) => {
+            drop(text);
+            Err(NoMemory)
+        }
+    }
+}
+
 /// What the steps of a row do to a device that does its turns.
 pub fn over_turns(
     alloc: Global,
@@ -59,8 +77,8 @@ fn done_by(
     steps: &str,
 ) -> Result<Option<String>, NoMemory> {
     let mut out = String::new(alloc);
-    let known = put_done(device, turns, steps, &mut out)?;
-    Ok(if known { Some(out) } else { None })
+    let known = put_done(device, turns, steps, &mut out);
+    text_if(known, out)
 }
 
 // Appends what the steps do. It is false where one is unknown.

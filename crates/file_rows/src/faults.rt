@@ -122,7 +122,8 @@ fn put_byte(byte: u64, file: u8, proto: u8, out: &mut String) -> Result<(), NoMe
     )?)
 }
 
-fn put_named(what: &str, name: &[u8], out: &mut String) -> Result<(), NoMemory> {
+/// Appends what a name is, and the name.
+pub fn put_named(what: &str, name: &[u8], out: &mut String) -> Result<(), NoMemory> {
     out.push_str(what)?;
     Ok(put_shown(name, out)?)
 }

@@ -6,10 +6,11 @@ use super::unknown;
 use fm_base::{Arc, Bytes, Fail, NoMemory};
 use fm_edition::Edition;
 use fm_load::load;
-use fm_model::{MAX_FILE_BYTES, Op};
+use fm_model::{Loaded, MAX_FILE_BYTES, Op, Tally};
 use fm_sample::edition_of;
 use row_text::{Field, File, Row, content, put_shown};
 use std::alloc::Global;
+use std::mem::replace;
 
 /// Puts the collection after the operations of a row, in order: `put: NAME FILE`, `expire: SECONDS` and
 /// `retract: NAME`.
@@ -36,7 +37,11 @@ fn put_over(
     out: &mut String,
 ) -> Result<bool, NoMemory> {
     match edition_of(alloc, prototype) {
-        Ok(mut edition) => put_after(alloc, &mut edition, files, row, out),
+        Ok(mut edition) => {
+            let put = put_after(alloc, &mut edition, files, row, out);
+            drop(edition);
+            put
+        }
         Err(fail) => unknown(fail),
     }
 }
@@ -67,7 +72,7 @@ fn goes_on(
 ) -> Result<bool, NoMemory> {
     match after(alloc, edition, files, field)? {
         Some(next) => {
-            *edition = next;
+            drop(replace(edition, next));
             Ok(true)
         }
         None => Ok(false),
@@ -88,9 +93,12 @@ fn after(
     let Some(op) = operation(alloc, edition, files, field)? else {
         return Ok(None);
     };
-    let copy = op.copy(alloc)?;
+    let copied = op.copy(alloc);
     drop(op);
-    match edition.after(alloc, &copy) {
+    let copy = copied?;
+    let after = edition.after(alloc, &copy);
+    drop(copy);
+    match after {
         Ok(edition) => Ok(Some(edition)),
         Err(Fail::NoMemory) => Err(NoMemory),
         Err(Fail::Fault(_)) => Ok(None),
@@ -147,20 +155,37 @@ fn put_bytes(
     match load(alloc, name.as_bytes(), bytes, edition.proto().get()) {
         Ok(file) => Ok(Some(Op::Put(Arc::new(alloc, file)?))),
         Err(Fail::NoMemory) => Err(NoMemory),
-        Err(Fail::Fault(_)) => Ok(None),
+        Err(Fail::Fault(fault)) => {
+            drop(fault);
+            Ok(None)
+        }
     }
 }
 
 // Puts a collection: its counts, and for each run and valid time the file and the index of the time in it.
 fn put_collection(alloc: Global, edition: &Edition, out: &mut String) -> Result<(), NoMemory> {
-    let tally = edition.tally();
-    write!(
+    put_tally(edition.tally(), out)?;
+    let runs = edition.runs(alloc)?;
+    let put = put_runs(alloc, edition, runs.as_slice(), out);
+    drop(runs);
+    put
+}
+
+fn put_tally(tally: Tally, out: &mut String) -> Result<(), NoMemory> {
+    Ok(write!(
         out,
         "{} files, {} times, {} bytes",
         tally.files, tally.rows, tally.size
-    )?;
-    let runs = edition.runs(alloc)?;
-    for run in runs.as_slice() {
+    )?)
+}
+
+fn put_runs(
+    alloc: Global,
+    edition: &Edition,
+    runs: &[i64],
+    out: &mut String,
+) -> Result<(), NoMemory> {
+    for run in runs {
         put_run(alloc, edition, *run, out)?;
     }
     Ok(())
@@ -176,9 +201,13 @@ fn put_run(alloc: Global, edition: &Edition, run: i64, out: &mut String) -> Resu
 
 fn put_cell(edition: &Edition, run: i64, time: i64, out: &mut String) -> Result<(), NoMemory> {
     write!(out, "\nrun {run}, time {time}: ")?;
-    if let Some((file, index)) = edition.cell(run, time) {
-        put_shown(file.get().name.as_slice(), out)?;
-        write!(out, " at {index}")?;
-    }
-    Ok(())
+    put_found(edition.cell(run, time), out)
+}
+
+fn put_found(found: Option<(&Arc<Loaded>, u32)>, out: &mut String) -> Result<(), NoMemory> {
+    let Some((file, index)) = found else {
+        return Ok(());
+    };
+    put_shown(file.get().name.as_slice(), out)?;
+    Ok(write!(out, " at {index}")?)
 }

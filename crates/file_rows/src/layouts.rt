@@ -19,7 +19,11 @@ fn put_fault(fault: FormatFault, out: &mut String) -> Result<(), NoMemory> {
 /// Appends how many bytes a record takes, and where the parts of each variable lie.
 pub fn put_layout(alloc: Global, bytes: &[u8], out: &mut String) -> Result<(), NoMemory> {
     match read_sound(alloc, bytes) {
-        Ok(file) => put_places(&file, out),
+        Ok(file) => {
+            let put = put_places(&file, out);
+            drop(file);
+            put
+        }
         Err(Fail::NoMemory) => Err(NoMemory),
         Err(Fail::Fault(fault)) => put_fault(fault, out),
     }
@@ -49,7 +53,11 @@ fn put_parts(file: &FileView<'_>, number: u32, out: &mut String) -> Result<(), N
 /// Appends the elements of each variable.
 pub fn put_elements(alloc: Global, bytes: &[u8], out: &mut String) -> Result<(), NoMemory> {
     match read_sound(alloc, bytes) {
-        Ok(file) => put_all_elements(alloc, &file, out),
+        Ok(file) => {
+            let put = put_all_elements(alloc, &file, out);
+            drop(file);
+            put
+        }
         Err(Fail::NoMemory) => Err(NoMemory),
         Err(Fail::Fault(fault)) => put_fault(fault, out),
     }

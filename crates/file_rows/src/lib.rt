@@ -76,7 +76,11 @@ impl Files<'_> {
             return Ok(false);
         }
         match content(alloc, self.files, row.value(key).unwrap_or(""))? {
-            Some(bytes) => question_of(key).put(alloc, bytes.as_slice(), row.value("cuts"), out),
+            Some(bytes) => {
+                let put = question_of(key).put(alloc, bytes.as_slice(), row.value("cuts"), out);
+                drop(bytes);
+                put
+            }
             None => Ok(false),
         }
     }

@@ -42,7 +42,11 @@ fn put_over(
     out: &mut String,
 ) -> Result<bool, NoMemory> {
     match prototype(alloc, over, epoch) {
-        Ok(proto) => put_called(alloc, files, &proto, row, out),
+        Ok(proto) => {
+            let put = put_called(alloc, files, &proto, row, out);
+            drop(proto);
+            put
+        }
         Err(fail) => unknown(fail),
     }
 }
@@ -81,9 +85,17 @@ pub fn put_loaded(
 {
     let bytes = Bytes::copy_of(alloc, bytes)?;
     match load(alloc, name.as_bytes(), bytes, proto) {
-        Ok(file) => put_taken(&file, out),
+        Ok(file) => {
+            let put = put_taken(&file, out);
+            drop(file);
+            put
+        }
         Err(Fail::NoMemory) => Err(NoMemory),
-        Err(Fail::Fault(fault)) => put_load_fault(&fault, out),
+        Err(Fail::Fault(fault)) => {
+            let put = put_load_fault(&fault, out);
+            drop(fault);
+            put
+        }
     }
 }
 

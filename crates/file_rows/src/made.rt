@@ -17,7 +17,9 @@ pub fn put_made(alloc: Global, row: &Row<'_>, out: &mut String) -> Result<bool, 
         return Ok(false);
     }
     let file = make_file(alloc, seed, k)?;
-    put_sum(file.as_slice(), out)?;
+    let put = put_sum(file.as_slice(), out);
+    drop(file);
+    put?;
     Ok(true)
 }
 

@@ -24,9 +24,17 @@ pub fn prototype(alloc: Global, bytes: &[u8], epoch: i64) -> Result<Proto, Fail<
 /// Appends what some bytes are as a prototype, or why they are none.
 pub fn put_prototype(alloc: Global, bytes: &[u8], out: &mut String) -> Result<(), NoMemory> {
     match prototype(alloc, bytes, EPOCH) {
-        Ok(proto) => put_kept(&proto, out),
+        Ok(proto) => {
+            let put = put_kept(&proto, out);
+            drop(proto);
+            put
+        }
         Err(Fail::NoMemory) => Err(NoMemory),
-        Err(Fail::Fault(fault)) => put_proto_fault(&fault, out),
+        Err(Fail::Fault(fault)) => {
+            let put = put_proto_fault(&fault, out);
+            drop(fault);
+            put
+        }
     }
 }
 

@@ -1,6 +1,6 @@
 //! Headers in words.
 
-use super::faults::put_header_fault;
+use super::faults::{put_header_fault, put_named};
 use fm_base::{Fail, NoMemory};
 use nc_header::read_header;
 use nc_model::{Attr, Dim, Header, Kind, NcVar};
@@ -10,7 +10,11 @@ use std::alloc::Global;
 /// Appends the header of some bytes, or its fault.
 pub fn put_header(alloc: Global, bytes: &[u8], out: &mut String) -> Result<(), NoMemory> {
     match read_header(alloc, bytes) {
-        Ok(header) => put_fields(&header, out),
+        Ok(header) => {
+            let put = put_fields(&header, out);
+            drop(header);
+            put
+        }
         Err(Fail::NoMemory) => Err(NoMemory),
         Err(Fail::Fault(fault)) => put_header_fault(fault, out),
     }
@@ -39,8 +43,7 @@ fn put_var(var: &NcVar, out: &mut String) -> Result<(), NoMemory> {
 /// Appends a line for each dimension: its name and its length.
 pub fn put_dims(dims: &[Dim], out: &mut String) -> Result<(), NoMemory> {
     for dim in dims {
-        out.push_str("\ndimension ")?;
-        put_shown(dim.name.as_slice(), out)?;
+        put_named("\ndimension ", dim.name.as_slice(), out)?;
         write!(out, " {}", dim.size)?;
     }
     Ok(())
@@ -56,8 +59,7 @@ pub fn put_attrs(attrs: &[Attr], out: &mut String) -> Result<(), NoMemory> {
 }
 
 fn put_attr(attr: &Attr, out: &mut String) -> Result<(), NoMemory> {
-    out.push_str("\nattribute ")?;
-    put_shown(attr.name.as_slice(), out)?;
+    put_named("\nattribute ", attr.name.as_slice(), out)?;
     write!(out, " {} ", kind_name(attr.kind))?;
     let put = match attr.kind {
         Kind::Char => put_shown(attr.values.as_slice(), out),
@@ -68,8 +70,7 @@ fn put_attr(attr: &Attr, out: &mut String) -> Result<(), NoMemory> {
 
 /// Appends the front of a variable's line: its name, its kind and the numbers of its dimensions.
 pub fn put_front(name: &[u8], kind: Kind, dims: &[u32], out: &mut String) -> Result<(), NoMemory> {
-    out.push_str("\nvariable ")?;
-    put_shown(name, out)?;
+    put_named("\nvariable ", name, out)?;
     write!(out, " {} (", kind_name(kind))?;
     put_numbers(dims, out)?;
     Ok(out.push(')')?)

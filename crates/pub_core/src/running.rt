@@ -28,7 +28,10 @@ pub fn run_all(
 {
     let mut machine = Machine::new(alloc, proto, sessions)?;
     for event in events.as_slice() {
-        machine.happen(alloc, event)?;
+        if let Err(fail) = machine.happen(alloc, event) {
+            drop(machine);
+            return Err(fail);
+        }
     }
     machine.outcome(alloc)
 }

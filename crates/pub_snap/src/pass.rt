@@ -112,13 +112,7 @@ impl<N: Name> Look for Pass<N> {
         let Some(seat) = self.seat.take() else {
             return Err(NoMemory);
         };
-        let (seat, met) = meet(seat, &self.front, self.ahead);
-        if !met {
-            self.ahead = true;
-            self.seat = Some(seat);
-            return Err(NoMemory);
-        }
-        let (seat, found) = look(alloc, seat, query);
+        let (seat, found) = meet_and_look(alloc, seat, &self.front, self.ahead, query);
         self.ahead = true;
         self.seat = Some(seat);
         let Some((front, out)) = found else {
@@ -128,6 +122,34 @@ impl<N: Name> Look for Pass<N> {
         self.front = front;
         Ok((out?, self.front.len()))
     }
+}
+
+// Brings the seat up to all that is known, and makes a look. `None` where the seat couldn't do either, and then no look
+// was made.
+fn meet_and_look<N: Name, Q: Query>(
+    alloc: Global,
+    seat: Seat<N>,
+    known: &Front,
+    ahead: bool,
+    query: &Q,
+) -> (Seat<N>, Option<(Front, Result<Q::Out, NoMemory>)>)
+    requires known { known.now.seen.book ≡ N.book }
+    requires level { ahead ≡ false → (view seat.place).seen ≡ known.now.seen.log }
+    ensures answer { IfSome result.1 (λ found. IfOk found.1 (λ out.
+        Q.says query.now (held_of N.proto found.0.seen.log) (length found.0.seen.log) out)) }
+    ensures known { IfSome result.1 (λ found. IsOf N.book N.proto found.0.seen.book found.0.seen.log) }
+    ensures later { IfSome result.1 (λ found. Continues known.now.seen.log found.0.seen.log) }
+    ensures seen { IfSome result.1 (λ found. (view result.0.place).seen ≡ found.0.seen.log) }
+    ensures looked { IfSome result.1 (λ found.
+        (view result.0.place).looks ≡ (view seat.place).looks ++ length found.0.seen.log ∷ []) }
+    ensures none { IfNone result.1 ((view result.0.place).looks ≡ (view seat.place).looks) }
+{
+    let (seat, met) = meet(seat, known, ahead);
+    if !met {
+        return (seat, None);
+    }
+    let (seat, found) = look(alloc, seat, query);
+    (seat, found)
 }
 
 // Brings the seat up to all that is known: where more may have been learnt, it enters once, without a look. Returns

@@ -10,6 +10,7 @@ use fm_model::{Loaded, Op, Proto, Row};
 use fm_rows::Rows;
 use made::{HOURS, NAMES, file, hour, name, run_of};
 use std::alloc::Global;
+use std::mem::replace;
 use std::process::Abort;
 
 // The number of operations that are done.
@@ -178,8 +179,10 @@ fn both_empty(rt: &impl Abort, alloc: Global) -> Both {
 
 // Does the operation of some numbers to both forms, and compares them.
 fn go_on(rt: &impl Abort, alloc: Global, both: &mut Both, x: [u8; 3]) {
-    both.maps = maps_after(rt, alloc, &both.maps, x);
-    both.list = list_after(rt, alloc, &both.list, x);
+    let maps = maps_after(rt, alloc, &both.maps, x);
+    drop(replace(&mut both.maps, maps));
+    let list = list_after(rt, alloc, &both.list, x);
+    drop(replace(&mut both.list, list));
     compare(rt, alloc, both);
 }
 
@@ -198,5 +201,7 @@ fn compare_all(rt: &impl Abort, alloc: Global, both: &mut Both) -> u32 {
 #[test]
 fn both_forms_agree_after_each_of_1000_operations(rt: HostRuntime) {
     let mut both = both_empty(&rt, rt.alloc());
-    assert!(rt; compare_all(&rt, rt.alloc(), &mut both) > 10);
+    let most = compare_all(&rt, rt.alloc(), &mut both);
+    drop(both);
+    assert!(rt; most > 10);
 }

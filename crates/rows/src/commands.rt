@@ -54,7 +54,11 @@ fn ran<R: Threads + Wait + Sync>(
     row: &Row<'_>,
 ) -> Result<Option<String>, NoMemory> {
     match Given::read(alloc, files, row)? {
-        Some(given) => ran_in(rt, alloc, &given).map(Some),
+        Some(given) => {
+            let left = ran_in(rt, alloc, &given);
+            drop(given);
+            left.map(Some)
+        }
         None => Ok(None),
     }
 }
@@ -66,7 +70,9 @@ fn ran_in<R: Threads + Wait + Sync>(
     given: &Given,
 ) -> Result<String, NoMemory> {
     let mut world = world_of(alloc, given)?;
-    ran_over(rt, alloc, given, &mut world)
+    let left = ran_over(rt, alloc, given, &mut world);
+    drop(world);
+    left
 }
 
 // What the run of a row's words left of a world.

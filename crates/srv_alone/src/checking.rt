@@ -38,7 +38,9 @@ fn check_file<F: Files>(alloc: Global, files: &mut F, path: &[u8]) -> Result<Hea
     ensures end { IfErr result IsEndAtFile }
 {
     let bytes = content_of(alloc, files, path)?;
-    sound_header(alloc, bytes.as_slice())
+    let header = sound_header(alloc, bytes.as_slice());
+    drop(bytes);
+    header
 }
 
 // Writes the line of a file without fault, or its first bytes where the sink fails. It takes no memory.
@@ -80,7 +82,9 @@ pub fn check<F: Files, S: Sink>(alloc: Global, files: &mut F, sink: &mut S, path
             return end;
         }
     };
-    match put_sound(sink, &header) {
+    let put = put_sound(sink, &header);
+    drop(header);
+    match put {
         Ok(()) => End::Done,
         Err(_failed) => End::SinkFault,
     }

@@ -46,12 +46,17 @@ fn service_over(alloc: Global, proto: Proto) -> Result<Service, NoMemory>
 {
     let proto = Arc::new(alloc, proto)?;
     let plain = Plain::open(alloc, proto.share()?)?;
-    let session = Session::new(alloc)?;
-    Ok(Service {
-        proto,
-        plain,
-        session,
-    })
+    match Session::new(alloc) {
+        Ok(session) => Ok(Service {
+            proto,
+            plain,
+            session,
+        }),
+        Err(NoMemory) => {
+            drop(plain);
+            Err(NoMemory)
+        }
+    }
 }
 
 // The path of the file that a step reads.
@@ -112,7 +117,9 @@ fn run_steps<'a, F: Files, L: Link>(
     let Ok(mut service) = service_over(alloc, proto) else {
         return (End::NoMemory, path);
     };
-    do_steps(alloc, &mut service, steps, files, link)
+    let ended = do_steps(alloc, &mut service, steps, files, link);
+    drop(service);
+    ended
 }
 
 /// Runs `once`: reads the prototype at a path, does the steps in their order up to the first that isn't done, and

@@ -7,6 +7,7 @@ use crate::doing::Doing;
 use crate::farewell::part;
 use crate::reading::read;
 use dev_traits::Link;
+use std::mem::replace;
 use web_session::{Asked, End, Session};
 
 /// What one action of a connection did.
@@ -62,7 +63,7 @@ fn settle(doing: &mut Doing, acted: Acted)
     ensures { doing.new ≡ settled doing.old acted }
 {
     match acted {
-        Acted::Finished => *doing = Doing::Reading,
+        Acted::Finished => drop(replace(doing, Doing::Reading)),
         Acted::Moved | Acted::Asks(_) | Acted::Sent { .. } | Acted::Later | Acted::Ended(_) => {}
     }
 }

@@ -15,6 +15,7 @@ use fm_base::NoMemory;
 use fm_model::Site;
 use pub_look::Look;
 use std::alloc::Global;
+use std::mem::replace;
 use web_session::{Asked, Session};
 
 /// A session's question, the site that it goes to, and the revision of the reply before it.
@@ -56,10 +57,15 @@ fn answer<K: Look>(
     ensures same_still { K.still look.new ≡ K.still look.old }
 {
     match order(alloc, request.asked, target, last, request.site)? {
-        Order::Wanted(dap) => look.ask(alloc, &dap),
+        Order::Wanted(dap) => {
+            let found = look.ask(alloc, &dap);
+            drop(dap);
+            found
+        }
         Order::Refused { fault, head, last } => {
-            let plan = refusal(alloc, &fault, request.revision, head, last)?;
-            Ok((plan, request.revision))
+            let plan = refusal(alloc, &fault, request.revision, head, last);
+            drop(fault);
+            Ok((plan?, request.revision))
         }
     }
 }
@@ -83,7 +89,7 @@ pub(crate) fn begin<K: Look>(
 {
     match answer(alloc, look, request, session.target(), session.last()) {
         Ok((plan, revision)) => {
-            *doing = Doing::Replying { plan, sent: 0 };
+            drop(replace(doing, Doing::Replying { plan, sent: 0 }));
             Ok(revision)
         }
         Err(memory) => {

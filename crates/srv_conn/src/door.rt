@@ -71,7 +71,9 @@ pub fn serve_door<R: Wait, D: Door, K: Look, G: Gate>(
         let next = serve_next(alloc, look, door, &mut hall, &station, &mut room);
         has_failed = failed_by(has_failed, next);
         if let Some(end) = end_of(has_failed, next, hall.links.is_empty()) {
-            return hall.report(end);
+            let report = hall.report(end);
+            drop(hall);
+            return report;
         }
     }
     unreachable!()

@@ -8,6 +8,7 @@ ghost use Rattle.srv_conn.specs.Acts.{IsAsking, Parts, starts_leaving};
 use crate::acting::Acted;
 use crate::doing::Doing;
 use dev_traits::{Link, Sent};
+use std::mem::replace;
 use web_session::{End, Event, Session};
 
 // The reply, which is a connection's last.
@@ -22,7 +23,7 @@ pub(crate) fn leave(session: &mut Session, doing: &mut Doing)
     ensures before { session.new.before ≡ session.old.before }
 {
     session.on(Event::NoAnswer);
-    *doing = Doing::Leaving { sent: 0 };
+    drop(replace(doing, Doing::Leaving { sent: 0 }));
 }
 
 // The bytes of the reply from an offset.

@@ -57,7 +57,14 @@ pub(crate) fn go_on_at<D: Door, K: Look>(
             false
         }
         Some(end) => {
-            let Connection { link, .. } = connection;
+            let Connection {
+                link,
+                session,
+                doing,
+                ..
+            } = connection;
+            drop(session);
+            drop(doing);
             door.done(key, link);
             hall.count(Some(end));
             true

@@ -134,5 +134,7 @@ pub(crate) fn reply<L: Link, K: Look>(
 {
     let mut doing = Doing::Reading;
     let _begun = begin_marked(alloc, look, session, &mut doing, request, trail);
-    finish(link, session, &mut doing, room, trail)
+    let end = finish(link, session, &mut doing, room, trail);
+    drop(doing);
+    end
 }

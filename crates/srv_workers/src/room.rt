@@ -36,11 +36,17 @@ pub(crate) fn room_of<D: Drop, I: Drop, C: Drop, N: Name>(
     let count = doors + inboxes + clocks;
     let protos = copies_of(alloc, proto, count)?;
     let workers = pair_with_room(alloc, count)?;
-    let parts = room_for(alloc, doors, inboxes, clocks)?;
-    Ok(Room {
-        tasks: workers.first,
-        staff: workers.second,
-        parts,
-        protos,
-    })
+    match room_for(alloc, doors, inboxes, clocks) {
+        Ok(parts) => Ok(Room {
+            tasks: workers.first,
+            staff: workers.second,
+            parts,
+            protos,
+        }),
+        Err(NoMemory) => {
+            drop(workers);
+            drop(protos);
+            Err(NoMemory)
+        }
+    }
 }

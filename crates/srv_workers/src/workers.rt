@@ -142,10 +142,20 @@ where
     ensures ran { IfOk result (RanTogether D.shown D.L.shown I.shown C.shown proto.now keep devices.old devices.new) }
     ensures none { OnErr result (devices.new ≡ devices.old) }
 {
-    let room = room_of(alloc, devices, proto)?;
-    let opened = blank.open::<N>(alloc)?;
-    let outcome = run_open(rt, alloc, opened, room, keep, gate, devices);
-    Ok(outcome)
+    let room = match room_of(alloc, devices, proto) {
+        Ok(room) => room,
+        Err(NoMemory) => {
+            drop(blank);
+            return Err(NoMemory);
+        }
+    };
+    match blank.open::<N>(alloc) {
+        Ok(opened) => Ok(run_open(rt, alloc, opened, room, keep, gate, devices)),
+        Err(NoMemory) => {
+            drop(room);
+            Err(NoMemory)
+        }
+    }
 }
 
 /// Opens a desk over a prototype, and has a worker for each device, all at once: each door is served, what arrives in

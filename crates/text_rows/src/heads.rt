@@ -17,7 +17,9 @@ pub fn put_head(alloc: Global, row: &Row<'_>, out: &mut String) -> Result<bool, 
 
 fn put_item(alloc: Global, head: &[u8], out: &mut String) -> Result<(), NoMemory> {
     let mut frame = Frame::new(alloc)?;
-    put_read(&mut frame, head, out)
+    let put = put_read(&mut frame, head, out);
+    drop(frame);
+    put
 }
 
 // Appends the item that a frame without bytes reads a head as.
@@ -70,7 +72,9 @@ pub fn put_stream(alloc: Global, row: &Row<'_>, out: &mut String) -> Result<bool
         return Ok(false);
     }
     let mut frame = Frame::new(alloc)?;
-    put_slices(alloc, &mut frame, row, out)
+    let put = put_slices(alloc, &mut frame, row, out);
+    drop(frame);
+    put
 }
 
 fn put_slices(
@@ -103,6 +107,7 @@ fn put_slice(
         return Ok(false);
     };
     frame.feed(slice.as_slice());
+    drop(slice);
     put_heads(frame, out)?;
     Ok(true)
 }

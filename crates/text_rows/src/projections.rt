@@ -54,7 +54,11 @@ fn put_asked(
 // Puts what is sent for the constraint of a text. It is false where it is none.
 fn put_for(alloc: Global, decls: &[Decl], text: &[u8], out: &mut String) -> Result<bool, NoMemory> {
     match read_constraint(alloc, text) {
-        Ok(asked) => known(put_sent(alloc, decls, &asked, out)),
+        Ok(asked) => {
+            let put = put_sent(alloc, decls, &asked, out);
+            drop(asked);
+            known(put)
+        }
         Err(fail) => unknown(fail),
     }
 }
@@ -66,8 +70,16 @@ fn put_sent(
     out: &mut String,
 ) -> Result<(), NoMemory> {
     match project(alloc, decls, asked) {
-        Ok(projected) => put_projected(&projected, out),
-        Err(Fail::Fault(fault)) => put_fault(&fault, out),
+        Ok(projected) => {
+            let put = put_projected(&projected, out);
+            drop(projected);
+            put
+        }
+        Err(Fail::Fault(fault)) => {
+            let put = put_fault(&fault, out);
+            drop(fault);
+            put
+        }
         Err(Fail::NoMemory) => Err(NoMemory),
     }
 }

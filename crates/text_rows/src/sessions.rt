@@ -37,19 +37,31 @@ fn is_done(alloc: Global, input: &[u8], most: usize, want: &str) -> Result<bool,
 // Puts what a session does over some input, of which it reads at most `most` bytes at a time.
 fn put_actions(alloc: Global, input: &[u8], most: usize, out: &mut String) -> Result<(), NoMemory> {
     let mut session = Session::new(alloc)?;
+    let put = put_session(&mut session, input, most, out);
+    drop(session);
+    put
+}
+
+// The same of a session that has not begun.
+fn put_session(
+    session: &mut Session,
+    input: &[u8],
+    most: usize,
+    out: &mut String,
+) -> Result<(), NoMemory> {
     let mut left = input;
     let mut action = session.on(Event::Start);
     for _ in 0..1_000_000u32 {
         if let Action::Read(room) = action {
             let (piece, rest) = left.split_at(most.min(room).min(left.len()));
             left = rest;
-            action = after_read(&mut session, piece);
+            action = after_read(session, piece);
         } else {
-            put_action(&session, action, out)?;
+            put_action(session, action, out)?;
             if matches!(action, Action::Close(_)) {
                 break;
             }
-            action = after(&mut session, action);
+            action = after(session, action);
         }
     }
     Ok(())
@@ -80,7 +92,9 @@ pub fn put_events(alloc: Global, row: &Row<'_>, out: &mut String) -> Result<bool
         return Ok(false);
     }
     let mut session = Session::new(alloc)?;
-    put_fields(alloc, &mut session, row, out)
+    let put = put_fields(alloc, &mut session, row, out);
+    drop(session);
+    put
 }
 
 fn put_fields(

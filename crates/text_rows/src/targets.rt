@@ -22,7 +22,9 @@ pub fn put_target(alloc: Global, row: &Row<'_>, out: &mut String) -> Result<bool
 // Puts what a target asks for in the collection of an epoch.
 fn put_in(alloc: Global, epoch: i64, target: &[u8], out: &mut String) -> Result<(), NoMemory> {
     let site = site_of(alloc, epoch)?;
-    put_asked(alloc, target, &site, out)
+    let put = put_asked(alloc, target, &site, out);
+    drop(site);
+    put
 }
 
 // The epoch of a row that has one beside its target.
@@ -44,7 +46,11 @@ fn site_of(alloc: Global, epoch: i64) -> Result<Site, NoMemory> {
 
 fn put_asked(alloc: Global, target: &[u8], site: &Site, out: &mut String) -> Result<(), NoMemory> {
     match read_target(alloc, target, site) {
-        Ok(target) => put_read(&target, out),
+        Ok(target) => {
+            let put = put_read(&target, out);
+            drop(target);
+            put
+        }
         Err(Fail::Fault(fault)) => put_fault(fault, out),
         Err(Fail::NoMemory) => Err(NoMemory),
     }

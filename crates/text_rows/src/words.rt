@@ -81,7 +81,11 @@ fn put_read(alloc: Global, words: &List<Bytes>, out: &mut String) -> Result<bool
 
 fn put_job_of(alloc: Global, words: &List<Bytes>, out: &mut String) -> Result<(), NoMemory> {
     match read_job(alloc, words) {
-        Ok(job) => put_job(&job, out),
+        Ok(job) => {
+            let put = put_job(&job, out);
+            drop(job);
+            put
+        }
         Err(Fail::Fault(_)) => Ok(out.push_str("bad words")?),
         Err(Fail::NoMemory) => Err(NoMemory),
     }

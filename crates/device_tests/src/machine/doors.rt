@@ -1,7 +1,7 @@
 //! Doors at sockets of the loopback device.
 
 use super::echoing::serve;
-use dev_host::{Patience, TcpDoor, TcpLink};
+use dev_host::{Patience, Stops, TcpDoor, TcpLink};
 use dev_traits::{Coming, Door, Failed};
 use std::alloc::Global;
 use std::io::{Read, Write};
@@ -29,7 +29,8 @@ fn own_door(rt: HostRuntime, connections: u32, idle: u64) -> Option<(HostDoor, S
         idle,
         grace: 2 * LONG,
     };
-    let door = TcpDoor::new(rt, rt.alloc(), listener, connections, patience).ok()?;
+    let stops = Stops::new(rt.alloc()).ok()?;
+    let door = TcpDoor::new(rt, rt.alloc(), listener, connections, patience, stops).ok()?;
     Some((door, address))
 }
 
@@ -42,7 +43,9 @@ where
     match own_door(rt, connections, idle) {
         Some((door, address)) => {
             let mut door = door;
-            fact(&mut door, address)
+            let holds = fact(&mut door, address);
+            drop(door);
+            holds
         }
         None => false,
     }
@@ -57,10 +60,12 @@ where
     let Some((mut door, address)) = own_door(rt, connections, idle) else {
         return false;
     };
-    match TcpStream::connect(&rt, address) {
+    let holds = match TcpStream::connect(&rt, address) {
         Ok(client) => fact(&mut door, client),
         Err(_) => false,
-    }
+    };
+    drop(door);
+    holds
 }
 
 // The next link of a door, which is to give one.

@@ -121,7 +121,11 @@ fn link(alloc: Global) -> StreamLink<Reader<'static>, Writer<'static>> {
 // Whether that link gives what these calls are to give. One of them fails, and the link then has put these bytes.
 fn gives(alloc: Global, calls: &[Call<'_>], put: &[u8]) -> bool {
     let mut link = link(alloc);
-    gives_all(&mut link, calls) && link.output.all.as_slice() == put && link.faults() == 1
+    let gives = gives_all(&mut link, calls)
+        && link.output.all.as_slice() == put
+        && link.faults() == 1;
+    drop(link);
+    gives
 }
 
 const TAKES: &[Call<'static>] = &[
@@ -165,7 +169,11 @@ fn writes(alloc: Global, plan: Plan<'_>, lines: &[(&[u8], bool)], all: &[u8], fa
         plan,
     };
     let mut sink = StreamSink::new(output);
-    puts_all(&mut sink, lines) && sink.output.all.as_slice() == all && sink.faults() == faults
+    let writes = puts_all(&mut sink, lines)
+        && sink.output.all.as_slice() == all
+        && sink.faults() == faults;
+    drop(sink);
+    writes
 }
 
 // A plan that interrupts two writes, and lets the sixth one fail.

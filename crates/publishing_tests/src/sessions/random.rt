@@ -116,7 +116,10 @@ fn sent_in(rt: &impl Abort, alloc: Global, seed: u32) -> usize {
     let mut second = Second::new(rt, alloc, SESSIONS);
     let steps = steps_of(rt, alloc, seed, &mut second);
     let outcome = play(rt, alloc, SESSIONS, steps.as_slice());
-    sent_by_both(rt, &outcome, &second)
+    let sent = sent_by_both(rt, &outcome, &second);
+    drop(outcome);
+    drop(second);
+    sent
 }
 
 // How many bytes are sent in the lists of some seeds.

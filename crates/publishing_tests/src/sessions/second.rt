@@ -11,6 +11,7 @@ use fm_model::{Op, Proto};
 use fm_sample::{File, ItsProto};
 use pub_look::{Look, Plain};
 use std::alloc::Global;
+use std::mem::replace;
 use std::process::Abort;
 use web_frame::MAX_HEAD;
 
@@ -97,6 +98,7 @@ impl Talk {
         if !self.ended {
             let order = self.next_order(rt, alloc, proto);
             self.refuse(rt, alloc, &order);
+            drop(order);
         }
     }
 
@@ -105,6 +107,7 @@ impl Talk {
         if let Some(Order::Refused { fault, head, last }) = order {
             let plan = refusal(alloc, fault, self.seen, *head, *last).expect(rt, "memory");
             self.begin(rt, alloc, &plan);
+            drop(plan);
         }
     }
 
@@ -121,6 +124,7 @@ impl Talk {
         if self.left() == 0 && !self.ended {
             let order = self.next_order(rt, alloc, proto);
             self.answer(rt, alloc, plain, &order);
+            drop(order);
         }
     }
 
@@ -130,6 +134,7 @@ impl Talk {
             let (plan, seen) = plain.ask(alloc, dap).expect(rt, "memory");
             self.seen = seen;
             self.begin(rt, alloc, &plan);
+            drop(plan);
         }
     }
 
@@ -138,7 +143,8 @@ impl Talk {
         let room = MAX_HEAD.saturating_sub(self.requests.rest);
         if self.waits() && !piece.is_empty() && piece.len() <= room {
             self.fed.append(piece).expect(rt, "memory");
-            self.requests = requests_in(rt, alloc, self.fed.as_slice());
+            let requests = requests_in(rt, alloc, self.fed.as_slice());
+            drop(replace(&mut self.requests, requests));
         }
     }
 

@@ -126,6 +126,7 @@ pub(crate) fn answers<N: Name>(
     };
     let mut answers = List::new(alloc);
     note_all(rt, alloc, &mut plain, files, &mut answers);
+    drop(plain);
     assert!(rt;
         hold_as_many(answers.as_slice()),
         "as many files as by hand"

@@ -42,15 +42,27 @@ pub(crate) fn learn_again_and_again<N: Name, R: Wait + Abort>(
 )
     requires { proto.now ≡ N.proto }
 {
+    expire_nothing(rt, alloc, desk, share);
+    let first = put(rt, alloc, desk, share, sample(rt, alloc, NAMES[0], proto));
+    let second = put(rt, alloc, desk, share, later(rt, alloc, proto));
+    learn(rt, pass, &first, &second);
+    drop(first);
+    drop(second);
+    assert_eq!(rt; (desk.receipt().revision(), share.count()), (2, 2));
+}
+
+// Expires without need, which publishes nothing.
+fn expire_nothing<N: Name, R: Wait + Abort>(
+    rt: &R,
+    alloc: Global,
+    desk: &mut Desk<N>,
+    share: &mut Share<N>,
+) {
     assert!(rt;
         !expired(rt, alloc, desk, share, i64::MAX),
         "nothing to expire"
     );
     assert_eq!(rt; desk.revision(), 0);
-    let first = put(rt, alloc, desk, share, sample(rt, alloc, NAMES[0], proto));
-    let second = put(rt, alloc, desk, share, later(rt, alloc, proto));
-    learn(rt, pass, &first, &second);
-    assert_eq!(rt; (desk.receipt().revision(), share.count()), (2, 2));
 }
 
 // Learns the first receipt, the second, and the first again.

@@ -81,8 +81,17 @@ impl Given {
             return Ok(None);
         }
         let mut given = Given::new(alloc)?;
-        let known = given.add_all(alloc, bases, row)?;
-        Ok(if known { Some(given) } else { None })
+        match given.add_all(alloc, bases, row) {
+            Ok(true) => Ok(Some(given)),
+            Ok(false) => {
+                drop(given);
+                Ok(None)
+            }
+            Err(NoMemory) => {
+                drop(given);
+                Err(NoMemory)
+            }
+        }
     }
 
     // Adds what all fields say. It is false where one isn't known.

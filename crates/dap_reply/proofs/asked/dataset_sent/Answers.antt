@@ -7,12 +7,12 @@ use Rattle.dap_reply.proofs.asked.dataset_sent.Goals as goal
 
 pub projected_sent-requires-clause-sent : goal.projected_sent-requires-clause-sent
 projected_sent-requires-clause-sent c =
-    all-sent c.args.source c.args.target.now.constraint c.in_ok-projected.projected c.proto-proto.ensures.prototype
+    all-sent c.args.source c.args.target.now.constraint c.in-Ok.projected c.proto-proto.ensures.prototype
     (ap (λ (decls : List Decl). projected_of decls c.args.target.now.constraint)
-    (sym (c.as_slice.ensures ∙ c.decls.ensures)) ∙ c.in_ok-projected.ensures)
+    (sym (c.as_slice.ensures ∙ c.decls.ensures)) ∙ c.in-Ok.ensures)
 
 pub projected_sent-requires-clause-few : goal.projected_sent-requires-clause-few
 projected_sent-requires-clause-few c =
-    few-sent c.args.source c.args.target.now.constraint c.in_ok-projected.projected c.proto-proto.ensures.prototype
+    few-sent c.args.source c.args.target.now.constraint c.in-Ok.projected c.proto-proto.ensures.prototype
     (ap (λ (decls : List Decl). projected_of decls c.args.target.now.constraint)
-    (sym (c.as_slice.ensures ∙ c.decls.ensures)) ∙ c.in_ok-projected.ensures)
+    (sym (c.as_slice.ensures ∙ c.decls.ensures)) ∙ c.in-Ok.ensures)

@@ -28,7 +28,7 @@ pub loop-event-preserved : goal.loop-event-preserved
 loop-event-preserved c =
     machine-more c.args.proto c.loop-event.machine c.happen.new.self (start c.args.sessions)
     c.as_slice-event-items.result.now c.loop-event.event-index c.event-item.result c.loop-event.invariant
-    c.event-item.is c.loop-event-test.true c.in_ok-happen.ensures
+    c.event-item.is c.loop-event-test.true c.in_default.ensures
 
 pub returns : goal.returns
 returns c =

@@ -5,10 +5,11 @@ use Rattle.srv_conn.proofs.answer.begin.Goals as goal
 pub returns-in-Ok-clause-begins : goal.returns-in-Ok-clause-begins
 returns-in-Ok-clause-begins g c = record {
   sees = record { grows = c.in-Ok.ensures.later; stays = c.in-Ok.ensures.stays };
-  begun = reply-to (g.K.Look.proto c.args.look.now) (g.K.Look.proto c.answer.new.look) c.args.request.now.site.now
-      c.args.session.now c.args.request.now.asked c.target.result.now c.last.result c.in-Ok.plan c.in-Ok.revision
-      c.args.request.now.revision _ _ c.in-Ok.ensures.same_proto c.requires.site c.requires.asking c.target.ensures
-      c.last.ensures c.in-Ok.ensures.reply c.in-Ok.ensures.revision c.in-Ok.ensures.looked c.in-Ok.ensures.unwanted;
+  begun = rw c.replace.ensures.after (reply-to (g.K.Look.proto c.args.look.now) (g.K.Look.proto c.answer.new.look)
+      c.args.request.now.site.now c.args.session.now c.args.request.now.asked c.target.result.now c.last.result
+      c.in-Ok.plan c.in-Ok.revision c.args.request.now.revision _ _ c.in-Ok.ensures.same_proto c.requires.site
+      c.requires.asking c.target.ensures c.last.ensures c.in-Ok.ensures.reply c.in-Ok.ensures.revision
+      c.in-Ok.ensures.looked c.in-Ok.ensures.unwanted);
   leaves = tt;
 }
 

@@ -57,14 +57,15 @@ returns-in-Some-end_of-clause-serves g c =
     (c.serve_next-next.ensures.at (g.D.Door.shown c.args.door.now).held
     (record { seen = g.K.Look.log c.args.look.now; looks = g.K.Look.looks c.args.look.now })) c.loop.invariant.2)
     (eqb-true (slab_len c.serve_next-next.new.hall.links) 0 none)
-    (ap (λ (r : DoorReport). r.served) c.report.ensures) (ap (λ (r : DoorReport). r.short) c.report.ensures)
+    (ap (λ (r : DoorReport). r.served) c.report-report.ensures)
+    (ap (λ (r : DoorReport). r.short) c.report-report.ensures)
 
 pub returns-in-Some-end_of-clause-end : goal.returns-in-Some-end_of-clause-end
 returns-in-Some-end_of-clause-end g c =
     let is_empty : c.is_empty.result ≡ true =
     end-empty _ c.serve_next-next.result c.is_empty.result c.in-Some-end_of.end (sym c.in-Some-end_of.ensures) in
     subst (EndsDoor (g.D.Door.shown c.args.door.now) (g.D.Door.shown c.serve_next-next.new.door))
-    (sym (ap (λ (r : DoorReport). r.end) c.report.ensures))
+    (sym (ap (λ (r : DoorReport). r.end) c.report-report.ensures))
     (ends-so (g.D.Door.shown c.args.door.now) (g.D.Door.shown c.serve_next-next.new.door)
     (failed_by c.loop.has_failed c.serve_next-next.result) c.serve_next-next.result c.in-Some-end_of.end
     (ap₂ (λ (b e : Bool). end_of b c.serve_next-next.result e) (sym c.failed_by-has_failed.ensures) (sym is_empty)
