@@ -135,6 +135,17 @@ def check_page(nginx):
             fail("%s: status %d, %s, %r" % (target, status, fields["Content-Type"], body[:80]))
 
 
+def last_lines(folder, patterns):
+    """The last lines of the log, a line for each pattern. nginx writes one after its reply, so it may come late."""
+    until = time.monotonic() + 2
+    while True:
+        with open(log_in(folder)) as file:
+            lines = file.read().splitlines()[-len(patterns) :]
+        if all(map(re.fullmatch, patterns, lines)) or time.monotonic() > until:
+            return lines
+        time.sleep(0.05)
+
+
 def check_added(nginx, folder, revision):
     """What nginx adds: compression where it is asked for, leave for other sites, and a line in its log."""
     target, refused = BEST + ".dods?t", BEST + ".dds?none"
@@ -147,11 +158,11 @@ def check_added(nginx, folder, revision):
         shown = fields["Access-Control-Expose-Headers"] or ""
         if fields["Access-Control-Allow-Origin"] != "*" or "X-Collection-Revision" not in shown:
             fail("%s: other sites aren't let in: %r" % (asked, fields.items()))
-    with open(log_in(folder)) as file:
-        lines = file.read().splitlines()[-2:]
-    for line, asked, status in zip(lines, (target, refused), (200, 400)):
-        wanted = r'127.0.0.1 \[\S+\] "GET %s HTTP/1.1" %d [0-9]+ [0-9.]+ %d \S+'
-        if not re.fullmatch(wanted % (re.escape(asked), status, revision), line):
+    wanted = r'127.0.0.1 \[\S+\] "GET %s HTTP/1.1" %d [0-9]+ [0-9.]+ %d \S+'
+    patterns = [wanted % (re.escape(asked), status, revision) for asked, status in ((target, 200), (refused, 400))]
+    lines = last_lines(folder, patterns)
+    for line, pattern in zip(lines, patterns):
+        if not re.fullmatch(pattern, line):
             fail("the log has the line %r" % line)
     return len(packed), len(right)
 
