@@ -11,7 +11,7 @@ from folder_server import FolderServer, wait_until
 PROGRAM, FOLDER = sys.argv[1:3]
 BEST = b"/thredds/dodsC/gfs/gfs_best.ncd"
 # For each array of texts, while its marks are made; for each part, page of rows, and variable.
-TEXTS, PART, PAGE, VARIABLE = 98304, 128, 64, 16
+TEXTS, PART, PAGE, VARIABLE = 98304, 16, 64, 32
 
 
 class Counted:

@@ -60,7 +60,8 @@ class Server:
         self.lock = threading.Lock()
         line = [program, "serve", "--name", "gfs", "--proto", proto, "--listen", "127.0.0.1:%d" % self.port]
         line += ["--workers", str(workers), "--connections", str(connections), "--epoch", "2020-01-01T00:00:00Z"]
-        self.process = subprocess.Popen(line + options + [self.inbox], stdout=subprocess.PIPE, stderr=subprocess.PIPE)
+        self.process = subprocess.Popen(line + options + ["--quiet", self.inbox], stdout=subprocess.PIPE,
+                                        stderr=subprocess.PIPE)
         servers.append(self.process)
 
     def connect(self):

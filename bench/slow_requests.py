@@ -140,16 +140,26 @@ def mixed(chance, names, rank, sizes):
     return cut(clauses, most)
 
 
-def search(collection, paths, names, rank, sizes, plain):
-    """Asks all, and returns what each cost beyond its bytes; `plain` are constraints whose bytes tell their price."""
-    prices, found = {}, []
-    base = min(collection.ask("HEAD", plain["text"])[0] for _ in range(5))
-    for what, target in plain.items():
-        cost, status, count = min(collection.ask("GET", target) for _ in range(3))
+def prices_of(collection, view, path, plain):
+    """What a byte of a view costs beyond the head of its reply, by plain requests; none where the view has no rows."""
+    prices = {}
+    for what, asked in plain.items():
+        base = min(collection.ask("HEAD", path + asked)[0] for _ in range(5))
+        cost, status, count = min(collection.ask("GET", path + asked) for _ in range(3))
         if status != 200:
-            sys.exit("%s: %s: %d" % (collection.name, target, status))
+            return {}
         prices[what] = max(0, cost - base) / count
-        print("%s: %s: %d bytes, %.1f ns each" % (collection.name, what, count, 1e9 * prices[what]), flush=True)
+        print("%s, %s: %s: %d bytes, %.1f ns each"
+              % (collection.name, view, what, count, 1e9 * prices[what]), flush=True)
+    return prices
+
+
+def search(collection, paths, names, rank, sizes, plain):
+    """Asks all, and returns what each cost beyond its bytes; `plain` are requests whose bytes tell their price."""
+    found = []
+    prices = {view: prices_of(collection, view, path, plain) for view, path in paths.items()}
+    if not prices["best"]:
+        sys.exit("%s: a plain request isn't answered" % collection.name)
     asked = [(view, service, kind, constraint) for view in paths for service in ("dds", "das", "dods", "HEAD")
              for kind, constraint in fixed(names[0], rank, names).items()]
     chance = random.Random(1)
@@ -158,7 +168,8 @@ def search(collection, paths, names, rank, sizes, plain):
     for view, service, kind, constraint in asked:
         method, word = ("HEAD", "dods") if service == "HEAD" else ("GET", service)
         cost, status, count = collection.ask(method, "%s.%s?%s" % (paths[view], word, constraint))
-        price = max(prices.values()) if service == "dods" else prices["text"]
+        known = prices[view] or prices["best"]
+        price = max(known.values()) if service == "dods" else known["text"]
         shown = "%s: %d, %d bytes: %s" % (", ".join((service, kind)), status, count, constraint[:60])
         found.append((cost - count * price, cost, "%s, %s" % (collection.name, view), shown))
     return found
@@ -170,9 +181,7 @@ def wide():
     collection = Collection("wide", form, [64 * HOUR * number for number in range(4096)],
                             lambda number: [HOUR * record for record in range(64)])
     paths = views(64 * HOUR * 2048, 6 * HOUR, 64 * HOUR * 2048 + 6 * HOUR)
-    best = paths["best"]
-    plain = {"text": best + ".dds", "times": best + ".dods?time", "runs": best + ".dods?time_run",
-             "numbers": best + ".dods?v1.v1"}
+    plain = {"text": ".dds", "times": ".dods?time", "runs": ".dods?time_run", "numbers": ".dods?v1.v1"}
     return search(collection, paths, names, 3, (4096 * 64, 1, 1), plain), collection
 
 
@@ -185,9 +194,7 @@ def long():
                             lambda number: [60 * record if record < 2048 else 180 * record - 120 * 2047
                                             for record in range(4096)])
     paths = views(60 * 32, 60 * 100, 60 * 132)
-    best = paths["best"]
-    plain = {"text": best + ".das", "times": best + ".dods?time", "runs": best + ".dods?time_run",
-             "numbers": best + ".dods?v.v"}
+    plain = {"text": ".das", "times": ".dods?time", "runs": ".dods?time_run", "numbers": ".dods?v.v"}
     return search(collection, paths, ["v", "time", "y"], 3, (4096, 8, 8), plain), collection
 
 
@@ -200,9 +207,8 @@ def large():
                  Variable("deep", FLOAT, list(range(deep, deep + 10))), Variable("v", FLOAT, [0, 1, 2])]
     collection = Collection("large", Classic(dims, variables, records=2), [0], lambda number: [0, HOUR])
     paths = views(0, HOUR, HOUR)
-    best = paths["best"]
-    plain = {"text": best + ".das", "numbers": best + ".dods?v.v", "strides": best + ".dods?v.v[0:1][0:999][0:3:999]",
-             "texts": best + ".dods?names", "places": best + ".dods?deep" + "[0:3:3]" * 10}
+    plain = {"text": ".das", "numbers": ".dods?v.v", "strides": ".dods?v.v[0][0:999][0:3:999]",
+             "texts": ".dods?names", "places": ".dods?deep" + "[0:3:3]" * 10}
     return search(collection, paths, ["v", "names", "deep", "y"], 3, (2, 1000, 1000), plain), collection
 
 

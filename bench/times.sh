@@ -202,7 +202,7 @@ pub fn grids(alloc: Global, count: u32) -> Result<List<Decl>, NoMemory> {
 }
 
 /// A text again and again, up to `most` bytes, with commas between.
-pub fn again(alloc: Global, text: &[u8], most: usize) -> Result<Bytes, NoMemory> {
+pub fn repeated(alloc: Global, text: &[u8], most: usize) -> Result<Bytes, NoMemory> {
     let mut list = Bytes::copy_of(alloc, text)?;
     for _ in 0..most {
         if list.len() >= most {
@@ -254,7 +254,7 @@ mod clauses;
 mod editions;
 mod made;
 
-use clauses::{again, grids, names, project_time};
+use clauses::{grids, names, project_time, repeated};
 use editions::{Put, after, empty, names_time, put_time, rows_time, structure_time};
 use fm_edition::Edition;
 use fm_model::ViewName;
@@ -304,11 +304,18 @@ fn put_of(made: Made<'_>, lie: Lie, k: u32) -> Put<'_> {
     Put { made, k, shape }
 }
 
+// Puts one file more.
+fn add(alloc: Global, edition: &mut Edition, put: &Put<'_>) -> Result<(), Untaken> {
+    let next = after(alloc, edition, put)?;
+    *edition = next;
+    Ok(())
+}
+
 // The edition of some files.
 fn files(alloc: Global, made: Made<'_>, lie: Lie, count: u32) -> Result<Edition, Untaken> {
     let mut edition = empty(alloc, &made)?;
     for k in 0..count {
-        edition = after(alloc, &edition, &put_of(made, lie, k))?;
+        add(alloc, &mut edition, &put_of(made, lie, k))?;
     }
     Ok(edition)
 }
@@ -385,7 +392,7 @@ fn constraints<R: Print + Clock>(rt: &R, alloc: Global) -> Result<(), Untaken> {
     let decls = grids(alloc, 600)?;
     say(rt, "one_clause", project_time(rt, alloc, &decls, b"v300")?);
     for (name, text) in [("same_clauses", "a"), ("slab_clauses", "a[1][2][3]"), ("part_clauses", "a.x")] {
-        let list = again(alloc, text.as_bytes(), 16_384)?;
+        let list = repeated(alloc, text.as_bytes(), 16_384)?;
         say(rt, name, project_time(rt, alloc, &decls, list.as_slice())?);
     }
     let list = names(alloc, 600, 16_384)?;

@@ -2,7 +2,8 @@
 
 _fmrcd() {
     local word=${COMP_WORDS[COMP_CWORD]} before=${COMP_WORDS[COMP_CWORD - 1]}
-    local site="--name --proto --epoch --mark" serve="--listen --workers --connections --keep --ticks" help=
+    local site="--name --proto --epoch --mark" help=
+    local serve="--listen --workers --connections --keep --ticks --quiet"
     COMPREPLY=()
     if [ "$COMP_CWORD" = 1 ]; then
         mapfile -t COMPREPLY < <(compgen -W "serve once check load --help --version" -- "$word")

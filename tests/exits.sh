@@ -137,7 +137,8 @@ tells "a word that isn't text on a terminal" "$no_text" check "$(printf '\377')"
 run "a word of 100,000 bytes" 2 "bad words" "*" "$folder/none" "$(head -c 100000 /dev/zero | tr '\0' a)"
 [ "$(wc -c < "$folder/err")" -lt 300 ] || { echo "a word of 100,000 bytes: a long line"; failures=$((failures + 1)); }
 
-# `serve` reports to standard output. Its inbox stops at once, and its one worker ends after one connection.
+# `serve` reports to standard output, and tells what happens on standard error. Its inbox stops at once, and its one
+# worker ends after one connection.
 serve="serve --name gfs --proto $sample --listen"
 port=$(free_port)
 whole="$serve 127.0.0.1:$port --workers 1 --connections 1 $folder/inbox"
@@ -150,11 +151,46 @@ connect() {
 }
 
 connect
-run "a server that ends" 0 "published 0 retracted 0 expired 0 held 0 rows 0 revision 0" "" "$folder/none" $whole
+nothing="published 0 retracted 0 expired 0 held 0 rows 0 revision 0"
+run "a server that ends" 0 "$nothing" \
+    "~Z serving gfs at 127.0.0.1:$port, 1 workers, folders $folder/inbox, room for " "$folder/none" $whole
 wait
 grep -q 'code = 32' "$folder/reply" || { echo "a server that ends: no reply"; failures=$((failures + 1)); }
 connect
-"$program" $whole > /dev/full 2> "$folder/err"; status=$?; : > "$folder/out"
+run "a quiet server" 0 "$nothing" "" "$folder/none" $whole --quiet
+wait
+connect
+"$program" $whole > "$folder/out" 2> /dev/full; status=$?; : > "$folder/err"
+compare "a full device for the lines of a server" $status 0 "$nothing" ""
+wait
+connect
+cp "$sample" "$folder/inbox"
+cp "$folder/cut.nc" "$folder/inbox"
+: > "$folder/inbox/x.nc.retract"
+run "a server that tells verdicts" 0 "published 1 retracted 0 expired 0 held 1 rows 3 revision 1" \
+    "~Z published gfs_20240101_0000.nc revision 1 held 1 rows 3" "$folder/none" $whole
+wait
+for line in "refused cut.nc code 14 " "not held x.nc revision 1"; do
+    grep -qF "Z $line" "$folder/err" || { echo "a server that tells verdicts: no '$line'"; failures=$((failures + 1)); }
+done
+grep -qvE '^[0-9]{4}-[0-9]{2}-[0-9]{2}T[0-9]{2}:[0-9]{2}:[0-9]{2}Z ' "$folder/err" && {
+    echo "a server that tells verdicts: a line without the time"
+    failures=$((failures + 1))
+}
+# A pipe that nobody reads takes 65,536 bytes. The lines after them are lost, and hold nothing up.
+mkfifo "$folder/pipe"
+sleep 100 < "$folder/pipe" &
+reader=$!
+for number in $(seq 1 1500); do
+    : > "$folder/inbox/$number.nc"
+done
+connect
+timeout 60 "$program" $whole > "$folder/out" 2> "$folder/pipe"; status=$?; : > "$folder/err"
+compare "a pipe that nobody reads" $status 0 "$nothing" ""
+kill $reader
+wait
+connect
+"$program" $whole --quiet > /dev/full 2> "$folder/err"; status=$?; : > "$folder/out"
 compare "a full device for the line of a server" $status 7 "" ""
 wait
 run "a door that can't be opened" 6 "door fault 0" "~failing nowhere: it can't be opened: " "$folder/none" \

@@ -55,6 +55,12 @@ def sixteen_workers_with_eight_folders_and_a_clock(folder):
         expect("what is refused", os.listdir(path + "/refused"), ["none%d.nc.retract" % number])
 
 
+def lines_in(path):
+    """The lines that a server told on standard error, without their times."""
+    with open(path) as file:
+        return [line.split(" ", 1)[1] for line in file.read().splitlines()]
+
+
 def files_up_to_512_MiB_in_a_folder(folder):
     """Files of 1, 10, 100 and 512 MiB are published, and one of a byte more is refused."""
     inbox = inboxes_in(folder, 1)[0]
@@ -62,7 +68,9 @@ def files_up_to_512_MiB_in_a_folder(folder):
     for number, size in enumerate(sizes):
         FORM.write(os.path.join(inbox, name_of(3600 * number)), [EPOCH + 3600 * number], size)
     bring(os.path.join(inbox, "STOP"), b"")
-    server = FolderServer(PROGRAM, proto_in(folder), [inbox], ["--workers", "1", "--connections", "1"])
+    said = path_in(folder, "said")
+    with open(said, "wb") as error:
+        server = FolderServer(PROGRAM, proto_in(folder), [inbox], ["--workers", "1", "--connections", "1"], error=error)
     wait_until("each has a verdict", lambda: sum(verdicts_in([inbox])) == len(sizes))
     link = server.connect()
     expect("a reply", link.ask(b"HEAD", BEST)[:2], (200, 4))
@@ -70,6 +78,27 @@ def files_up_to_512_MiB_in_a_folder(folder):
     line = "published 4 retracted 0 expired 0 held 4 rows 4 revision 4\n"
     expect("the end", server.end(), (0, line))
     expect("what is refused", os.listdir(inbox + "/refused"), [name_of(3600 * 4)])
+    expect("the last line", lines_in(said)[-1], "refused %s code 62 over 536870912 bytes" % name_of(3600 * 4))
+
+
+def the_file_after_4096_is_full(folder):
+    """4,096 files are published, and the one that comes then is put off, with a line."""
+    inbox = inboxes_in(folder, 1)[0]
+    source = path_in(folder, "source.nc")
+    FORM.write(source, [EPOCH])
+    names = ["gfs_20200101_0000_%04d.nc" % number for number in range(4097)]
+    for name in names:
+        os.link(source, os.path.join(inbox, name))
+    bring(os.path.join(inbox, "STOP"), b"")
+    said = path_in(folder, "said")
+    with open(said, "wb") as error:
+        server = FolderServer(PROGRAM, proto_in(folder), [inbox], ["--workers", "1", "--connections", "1"], error=error)
+    wait_until("each has a verdict", lambda: verdicts_in([inbox]) == [4096, 0, 1], 120)
+    server.connect().close()
+    line = "published 4096 retracted 0 expired 0 held 4096 rows 4096 revision 4096\n"
+    expect("the end", server.end(), (0, line))
+    expect("the last lines", lines_in(said)[-2:], ["published %s revision 4096 held 4096 rows 4096" % names[4095],
+                                                  "full %s revision 4096" % names[4096]])
 
 
 def operations_up_to_20000(folder):
@@ -170,5 +199,6 @@ def told(case):
 
 
 cases.run([told(case) for case in (sixteen_workers_with_eight_folders_and_a_clock, files_up_to_512_MiB_in_a_folder,
-                                   operations_up_to_20000, retractions_of_the_same_files_by_eight_folders,
+                                   the_file_after_4096_is_full, operations_up_to_20000,
+                                   retractions_of_the_same_files_by_eight_folders,
                                    files_that_eight_folders_put_and_take_back_at_once)], FOLDER, sys.argv[3:])

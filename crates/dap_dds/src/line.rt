@@ -11,10 +11,9 @@ pub fn put_indent(depth: u32, out: &mut Bytes) -> Result<(), NoMemory>
     ensures ok { OnOk result (out.new ≡ out.old ++ indent depth) }
     ensures err { OnErr result (take (length out.old) out.new ≡ out.old) }
 {
-    for _space in 0..4 * depth {
-        out.push(b' ')?;
-    }
-    Ok(())
+    let spaces = [b' '; 28];
+    let (front, _) = spaces.split_at(4 * depth as usize);
+    out.append(front)
 }
 
 /// Writes a line of these words. After an `Err` a front of it may stand at the end.

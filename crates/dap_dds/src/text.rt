@@ -1,10 +1,12 @@
 //! The structure text.
 ghost use Rattle.std.specs.Prelude.{◌≡◌, ◌<◌, ◌++◌, OnOk, OnErr};
+ghost use Rattle.std.specs.Fmt.{decimal};
 ghost use Rattle.dap_model.specs.StructureText as text;
 
 use crate::line::{put_indent, put_line};
 use dap_model::{Array, DapKind, Decl};
-use fm_base::{Bytes, List, NoMemory, put_decimal};
+use fm_base::{Bytes, List, NoMemory};
+use itoa::Buffer;
 use nc_model::Dim;
 use std::alloc::Global;
 
@@ -23,32 +25,40 @@ fn put_kind(kind: DapKind, out: &mut Bytes) -> Result<(), NoMemory>
     }
 }
 
+// A number in decimal. It takes no memory but in the text.
+fn put_number(n: u64, out: &mut Bytes) -> Result<(), NoMemory>
+    ensures { OnOk result (out.new ≡ out.old ++ decimal n) }
+{
+    let mut buffer = Buffer::new();
+    out.append(buffer.format(n).as_bytes())
+}
+
 // A dimension with its length.
 #[tactic(auto, unfolding(dap_model::specs::StructureText::dim_text))]
-fn put_dim(alloc: Global, dim: &Dim, out: &mut Bytes) -> Result<(), NoMemory>
+fn put_dim(dim: &Dim, out: &mut Bytes) -> Result<(), NoMemory>
     ensures { OnOk result (out.new ≡ out.old ++ text.dim_text dim.now) }
 {
     out.append(b"[")?;
     out.append(dim.name.as_slice())?;
     out.append(b" = ")?;
-    put_decimal(alloc, i128::from(dim.size), out)?;
+    put_number(dim.size, out)?;
     out.append(b"]")
 }
 
 // Dimensions one after the other.
 #[tactic(auto, unfolding(dap_model::specs::StructureText::dims_text))]
-fn put_dims(alloc: Global, dims: &[Dim], out: &mut Bytes) -> Result<(), NoMemory>
+fn put_dims(dims: &[Dim], out: &mut Bytes) -> Result<(), NoMemory>
     ensures { OnOk result (out.new ≡ out.old ++ text.dims_text dims.now) }
 {
     for dim in dims {
-        put_dim(alloc, dim, out)?;
+        put_dim(dim, out)?;
     }
     Ok(())
 }
 
 // The line of an array.
 #[tactic(auto, unfolding(dap_model::specs::StructureText::array_text))]
-fn put_array(alloc: Global, array: &Array, depth: u32, out: &mut Bytes) -> Result<(), NoMemory>
+fn put_array(array: &Array, depth: u32, out: &mut Bytes) -> Result<(), NoMemory>
     requires { depth < 8 }
     ensures { OnOk result (out.new ≡ out.old ++ text.array_text depth array.now) }
 {
@@ -56,18 +66,18 @@ fn put_array(alloc: Global, array: &Array, depth: u32, out: &mut Bytes) -> Resul
     put_kind(array.kind, out)?;
     out.append(b" ")?;
     out.append(array.name.as_slice())?;
-    put_dims(alloc, array.dims.as_slice(), out)?;
+    put_dims(array.dims.as_slice(), out)?;
     out.append(b";\n")
 }
 
 // Arrays, each on its line.
 #[tactic(auto, unfolding(dap_model::specs::StructureText::arrays_text))]
-fn put_arrays(alloc: Global, arrays: &[Array], depth: u32, out: &mut Bytes) -> Result<(), NoMemory>
+fn put_arrays(arrays: &[Array], depth: u32, out: &mut Bytes) -> Result<(), NoMemory>
     requires { depth < 8 }
     ensures { OnOk result (out.new ≡ out.old ++ text.arrays_text depth arrays.now) }
 {
     for array in arrays {
-        put_array(alloc, array, depth, out)?;
+        put_array(array, depth, out)?;
     }
     Ok(())
 }
@@ -87,7 +97,6 @@ fn put_close(depth: u32, name: &[u8], out: &mut Bytes) -> Result<(), NoMemory>
 // A Grid: its array and its maps, each under a line of its own.
 #[tactic(auto, unfolding(dap_model::specs::StructureText::grid_text))]
 fn put_grid(
-    alloc: Global,
     name: &[u8],
     array: &Array,
     maps: &[Array],
@@ -99,16 +108,15 @@ fn put_grid(
 {
     put_line(depth, b"Grid {", out)?;
     put_line(depth + 1, b"ARRAY:", out)?;
-    put_array(alloc, array, depth + 2, out)?;
+    put_array(array, depth + 2, out)?;
     put_line(depth + 1, b"MAPS:", out)?;
-    put_arrays(alloc, maps, depth + 2, out)?;
+    put_arrays(maps, depth + 2, out)?;
     put_close(depth, name, out)
 }
 
 // A Structure and its members.
 #[tactic(auto, unfolding(dap_model::specs::StructureText::structure_text))]
 fn put_structure(
-    alloc: Global,
     name: &[u8],
     members: &[Array],
     depth: u32,
@@ -118,35 +126,35 @@ fn put_structure(
     ensures { OnOk result (out.new ≡ out.old ++ text.structure_text depth name.now members.now) }
 {
     put_line(depth, b"Structure {", out)?;
-    put_arrays(alloc, members, depth + 1, out)?;
+    put_arrays(members, depth + 1, out)?;
     put_close(depth, name, out)
 }
 
 // A declaration.
 #[tactic(auto, unfolding(dap_model::specs::StructureText::decl_text))]
-fn put_decl(alloc: Global, decl: &Decl, depth: u32, out: &mut Bytes) -> Result<(), NoMemory>
+fn put_decl(decl: &Decl, depth: u32, out: &mut Bytes) -> Result<(), NoMemory>
     requires { depth < 4 }
     ensures { OnOk result (out.new ≡ out.old ++ text.decl_text depth decl.now) }
 {
     match decl {
-        Decl::Plain(array) => put_array(alloc, array, depth, out),
+        Decl::Plain(array) => put_array(array, depth, out),
         Decl::Grid { name, array, maps } => {
-            put_grid(alloc, name.as_slice(), array, maps.as_slice(), depth, out)
+            put_grid(name.as_slice(), array, maps.as_slice(), depth, out)
         }
         Decl::Structure { name, members } => {
-            put_structure(alloc, name.as_slice(), members.as_slice(), depth, out)
+            put_structure(name.as_slice(), members.as_slice(), depth, out)
         }
     }
 }
 
 // Declarations one after the other.
 #[tactic(auto, unfolding(dap_model::specs::StructureText::decls_text))]
-fn put_decls(alloc: Global, decls: &[Decl], depth: u32, out: &mut Bytes) -> Result<(), NoMemory>
+fn put_decls(decls: &[Decl], depth: u32, out: &mut Bytes) -> Result<(), NoMemory>
     requires { depth < 4 }
     ensures { OnOk result (out.new ≡ out.old ++ text.decls_text depth decls.now) }
 {
     for decl in decls {
-        put_decl(alloc, decl, depth, out)?;
+        put_decl(decl, depth, out)?;
     }
     Ok(())
 }
@@ -165,7 +173,7 @@ pub fn dds_text(
 {
     let mut whole = Bytes::new(alloc);
     put_line(0, b"Dataset {", &mut whole)?;
-    put_decls(alloc, decls.as_slice(), 1, &mut whole)?;
+    put_decls(decls.as_slice(), 1, &mut whole)?;
     put_close(0, label, &mut whole)?;
     out.append(whole.as_slice())
 }

@@ -1,9 +1,10 @@
 -- The data of parts, one after the other, written over the front of a buffer.
-use Rattle.std.proofs.Common.{◌≡◌, ℕ, suc, ◌+◌, ◌-◌, ◌<◌, ◌≤◌, List, [], ◌∷◌, ◌++◌, length, get_or, min, take, drop, refl, sym, ap, subst, ◌∙◌, arith}
+use Rattle.std.proofs.Common.{◌≡◌, ℕ, suc, ◌+◌, ◌-◌, ◌<◌, ◌≤◌, List, [], ◌∷◌, ◌++◌, length, get_or, min, take, drop, inl, inr, refl, sym, ap, subst, ◌∙◌, arith}
 use Rattle.std.specs.List.{flat_map}
 use Rattle.std.proofs.Math.Seq.{drop-append-add, take-suc}
+use Rattle.std.proofs.lemmas.Bool.{cases_lt}
 use Rattle.std.proofs.lemmas.Grind.{flat_map-append}
-use Rattle.std.proofs.lemmas.List.{append-nil, append_assoc, drop_all, drop-append-le, length-append, length-drop, length-take, take_all, take-append-drop, take-append-le}
+use Rattle.std.proofs.lemmas.List.{append-nil, append_assoc, drop_all, drop-append-le, length-append, length-drop, length-take, take_all, take-append-drop, take-append-le, take-take}
 use Rattle.dap_model.specs.declared.projection.Sent.{Sent}
 use Rattle.dap_xdr.specs.Content.{data_of, part_data, Content}
 use Rattle.dap_xdr.specs.Overlay.{overlay, IsPut}
@@ -13,11 +14,16 @@ use Rattle.dap_xdr.proofs.FrontLemmas.{drop-both, put-behind, put-full, put-long
 abbrev pub data_before : Content → List Sent → ℕ → List ℕ
 data_before content sent place = data_of content (take place sent)
 
--- the data so far is written, as far as it fits, and `left` bytes are still to be passed over
+-- the data so far is written, as far as it fits, and `left` bytes of the next part are to be passed over
 pub record DataSoFar (content : Content) (sent : List Sent) (from filled place left : ℕ) (old now : List ℕ)
     : Type 0 where
   pub put_is : IsPut (drop from (data_before content sent place)) old now filled
-  pub left_is : left ≡ from - length (data_before content sent place)
+  pub left_is : place < length sent → left ≡ from - length (data_before content sent place)
+
+-- the part at a place ends behind an offset, unless it is the last
+abbrev pub EndsBehind : Content → List Sent → ℕ → ℕ → Type 0
+EndsBehind content sent from place =
+    place + 1 < length sent → from < length (data_before content sent (place + 1))
 
 -- one part more
 pub data-more : (content : Content) (sent : List Sent) (place : ℕ) (part : Sent) → place < length sent
@@ -45,6 +51,35 @@ pub data-whole : (content : Content) (sent : List Sent) (place : ℕ) → length
     → data_before content sent place ≡ data_of content sent
 data-whole content sent place past = ap (data_of content) (take_all place sent past)
 
+-- the data before a place is no longer than all data
+pub before-small : (content : Content) (sent : List Sent) (place bound : ℕ) → length (data_of content sent) < bound
+    → length (data_before content sent place) < bound
+before-small content sent place bound small = omega (
+  arith,
+  small,
+  ap length (data-split content sent place),
+  length-append (data_before content sent place) (data_of content (drop place sent)),
+)
+
+-- before a later part there is no less data
+pub before-rise : (content : Content) (sent : List Sent) (i j : ℕ) → i ≤ j
+    → length (data_before content sent i) ≤ length (data_before content sent j)
+before-rise content sent i j le = omega (
+  arith,
+  ap length (data-split content (take j sent) i),
+  length-append (data_before content (take j sent) i) (data_of content (drop i (take j sent))),
+  ap (λ (l : List Sent). length (data_of content l)) (take-take i j sent le),
+)
+
+-- the next part ends behind the offset, too
+pub ends-next : (content : Content) (sent : List Sent) (from place : ℕ) → EndsBehind content sent from place
+    → EndsBehind content sent from (place + 1)
+ends-next content sent from place ends = λ within. omega (
+  arith,
+  ends (omega (arith, within)),
+  before-rise content sent (place + 1) (place + 1 + 1) (omega arith),
+)
+
 -- the data of a part is no longer than that of all
 pub part-small : (content : Content) (sent : List Sent) (place bound : ℕ) (part : Sent) → place < length sent
     → part ≡ get_or sent place part → length (data_of content sent) < bound
@@ -69,15 +104,22 @@ part-past bytes old from past =
       new_is = ap (λ (l : List ℕ). l ++ old) (sym (take_all (length old) [] (omega arith)));
     })
 
--- the next part
-pub data-next : (content : Content) (sent : List Sent) (from filled place left count len next_left : ℕ) (part : Sent)
+-- some bytes are written from an offset on
+pub piece-put : (bytes old new : List ℕ) (from count : ℕ) → count ≡ min (length old) (length bytes - from)
+    → new ≡ overlay (drop from bytes) old → IsPut (drop from bytes) old new count
+piece-put bytes old new from count many written = record {
+  count_is = many ∙ ap (λ (m : ℕ). min (length old) m) (sym (length-drop from bytes));
+  new_is = written;
+}
+
+-- the next part, of which nothing is passed over
+pub data-next : (content : Content) (sent : List Sent) (from filled place left count : ℕ) (part : Sent)
     (old now front back rest : List ℕ)
-    → DataSoFar content sent from filled place left old now → place < length sent → part ≡ get_or sent place part
-    → now ≡ front ++ back → length front ≡ filled → len ≡ length (part_data content part)
-    → IsPut (drop left (part_data content part)) back rest count → next_left ≡ left - len
-    → DataSoFar content sent from (filled + count) (place + 1) next_left old (front ++ rest)
-data-next content sent from filled place left count len next_left part old now front back rest so within is split long
-    len_is put passed =
+    → DataSoFar content sent from filled place left old now → EndsBehind content sent from place → place < length sent
+    → part ≡ get_or sent place part → now ≡ front ++ back → length front ≡ filled
+    → IsPut (drop left (part_data content part)) back rest count
+    → DataSoFar content sent from (filled + count) (place + 1) 0 old (front ++ rest)
+data-next content sent from filled place left count part old now front back rest so ends within is split long put =
     let before = data_before content sent place in
     let more : before ++ part_data content part ≡ data_before content sent (place + 1) =
     sym (data-more content sent place part within is) in
@@ -86,15 +128,8 @@ data-next content sent from filled place left count len next_left part old now f
     record {
       put_is = subst (λ (l : List ℕ). IsPut (drop from l) old (front ++ rest) (filled + count)) more
           (put-behind before (part_data content part) old now front back rest from filled count left many
-          so.put_is.new_is split long so.left_is put);
-      left_is = omega (
-        arith,
-        passed,
-        len_is,
-        so.left_is,
-        ap length more,
-        length-append before (part_data content part),
-      );
+          so.put_is.new_is split long (so.left_is within) put);
+      left_is = λ next. omega (arith, ends next);
     }
 
 -- where the buffer is full
@@ -150,3 +185,24 @@ data-lent content sent place from left part lent within is passed inside front =
     let short : length lent ≤ length (drop left bytes) =
     omega (arith, ap length front, length-take (length lent) (drop left bytes)) in
     ap (take (length lent)) reached ∙ take-append-le (length lent) (drop left bytes) after short ∙ front
+
+-- nothing is lent of a part behind its end
+lent-past : (bytes rest lent : List ℕ) (left : ℕ) → length bytes ≤ left → take (length lent) (drop left bytes) ≡ lent
+    → take (length lent) rest ≡ lent
+lent-past bytes rest lent left past front =
+    let none : length (drop left bytes) ≡ 0 = ap length (drop_all left bytes past) in
+    let short : length lent ≡ 0 = omega (arith, ap length front, length-take (length lent) (drop left bytes), none) in
+    let empty : lent ≡ [] = sym (take_all 0 lent (omega (arith, short))) in
+    rw empty refl
+
+-- what is lent of a part is a front of the data from the offset on
+pub data-lent-any : (content : Content) (sent : List Sent) (place from left : ℕ) (part : Sent) (lent : List ℕ)
+    → place < length sent → part ≡ get_or sent place part → left + length (data_before content sent place) ≡ from
+    → take (length lent) (drop left (part_data content part)) ≡ lent
+    → take (length lent) (drop from (data_of content sent)) ≡ lent
+data-lent-any content sent place from left part lent within is passed front =
+    elim (cases_lt left (length (part_data content part))) [
+      | inl inside ↦ data-lent content sent place from left part lent within is passed (omega (arith, inside)) front
+      | inr past ↦
+          lent-past (part_data content part) (drop from (data_of content sent)) lent left (omega (arith, past)) front
+    ]

@@ -1,43 +1,40 @@
 -- Where the data of each part lies.
-use Rattle.std.proofs.Common.{◌≡◌, ℕ, ◌+◌, ◌<◌, ◌≤◌, List, [], ◌∷◌, ◌++◌, length, get_or, slice_get, take, drop, Option, Some, inl, inr, sym, ap, subst, ◌∙◌, arith}
+use Rattle.std.proofs.Common.{◌≡◌, ℕ, ◌+◌, ◌^◌, ◌<◌, ◌≤◌, List, [], ◌∷◌, ◌++◌, length, get_or, slice_get, Option, Some, inl, inr, sym, ap, subst, ◌∙◌, arith}
 use Rattle.std.specs.List.Sorted.{IsNonDecreasingBy}
 use Rattle.std.proofs.Math.Path.{subst₂}
 use Rattle.std.proofs.lemmas.Bool.{cases_lt, leb-false, leb-true}
-use Rattle.std.proofs.lemmas.List.{get_or_append_left, get_or_push, length-append, length_push, take-take}
-use Rattle.std.proofs.lemmas.Option.{get_or_from_slice_get, slice_get_within, slice_get-get_or}
+use Rattle.std.proofs.lemmas.List.{get_or_append_left, get_or_push, length_push}
+use Rattle.std.proofs.lemmas.List.Elements.{All-get_or, All-push}
+use Rattle.std.proofs.lemmas.Option.{get_or_from_slice_get, same_Some, slice_get_within, slice_get-get_or}
 use Rattle.dap_model.specs.declared.projection.Sent.{Sent}
 use Rattle.fm_dataset.specs.Values.{Shown}
 use Rattle.dap_xdr.specs.Content.{data_of, Content}
 use Rattle.dap_xdr.specs.Datasets.{content_of}
+use Rattle.dap_xdr.specs.Marks.{AreMarksOf}
 use Rattle.dap_plan.specs.declared.laid.Laid.{Laid}
 use Rattle.dap_plan.specs.declared.laid.Position.{Position}
-use Rattle.dap_plan.specs.Laid.{AreBegun, AreLaid, AreLaidOf, AreSomeLaid, IsLaid, IsLastBegun, StandsAt}
-use Rattle.dap_plan.proofs.DataLemmas.{data-none, data-split, data_before, part-past, DataSoFar}
+use Rattle.dap_plan.specs.declared.laid.TextMarks.{TextMarks}
+use Rattle.dap_plan.specs.Laid.{AreBegins, AreBegun, AreLaid, AreLaidOf, AreMarked, IsBegin, IsKept, IsLastBegun, IsMarkedAt, StandsAt}
+use Rattle.dap_plan.proofs.DataLemmas.{before-rise, before-small, data-none, part-past, data_before, DataSoFar, EndsBehind}
 
--- a part is laid as it is read
-pub laid-at : (shown : Shown) (sent : List Sent) (laid : List Laid) (place : ℕ) (part : Sent) (one : Laid)
-    → AreLaid shown sent laid → place < length sent → part ≡ get_or sent place part → one ≡ get_or laid place one
-    → IsLaid shown sent place part one
-laid-at shown sent laid place part one all within part_is one_is =
-    all.each place part one
-    (slice_get-get_or sent place part within ∙ ap Some (sym part_is))
-    (slice_get-get_or laid place one (omega (arith, within, all.count)) ∙ ap Some (sym one_is))
+-- where a part begins whose begin fits in 64 bits
+begin-at : (shown : Shown) (sent : List Sent) (begins : List ℕ) (place begin : ℕ) → AreBegins shown sent begins
+    → length (data_of (content_of shown) sent) < 2 ^ 64 → slice_get begins place ≡ Some begin
+    → begin ≡ length (data_before (content_of shown) sent place)
+begin-at shown sent begins place begin are small at =
+    are place begin at (before-small (content_of shown) sent place (2 ^ 64) small)
 
 -- what is before an offset, by the position of the offset
-pub stands-from : (shown : Shown) (sent : List Sent) (laid : List Laid) (from : ℕ) (at : Position)
-    → AreLaid shown sent laid → StandsAt laid from at
+pub stands-from : (shown : Shown) (sent : List Sent) (begins : List ℕ) (from : ℕ) (at : Position)
+    → AreBegins shown sent begins → length (data_of (content_of shown) sent) < 2 ^ 64 → StandsAt begins from at
     → at.left + length (data_before (content_of shown) sent at.place) ≡ from
-stands-from shown sent laid from at all stands = elim stands [
+stands-from shown sent begins from at are small stands = elim stands [
   | inl first ↦
       let none : length (data_before (content_of shown) sent at.place) ≡ 0 =
       ap (λ (n : ℕ). length (data_before (content_of shown) sent n)) first.0 ∙ data-none (content_of shown) sent in
       omega (arith, none, first.1)
   | inr later ↦
-      let within : at.place < length sent =
-      omega (arith, slice_get_within laid at.place later.0 later.1, all.count) in
-      let part = get_or sent at.place (record { decl = 0; part = 0; slabs = [] }) in
-      let is = all.each at.place part later.0 (slice_get-get_or sent at.place _ within) later.1 in
-      omega (arith, later.2, is.begin_is)
+      omega (arith, later.2, begin-at shown sent begins at.place later.0 are small later.1)
 ]
 
 -- before the part in which an offset lies nothing is written
@@ -45,87 +42,99 @@ pub data-from : (content : Content) (sent : List Sent) (from place left : ℕ) (
     → left + length (data_before content sent place) ≡ from → DataSoFar content sent from 0 place left old old
 data-from content sent from place left old is = record {
   put_is = part-past (data_before content sent place) old from (omega (arith, is));
-  left_is = omega (arith, is);
+  left_is = λ within. omega (arith, is);
 }
 
--- no part is laid
-pub laid-none : (shown : Shown) (sent : List Sent) → AreSomeLaid shown sent []
-laid-none shown sent = λ place part one at_part at_laid. absurd (omega (arith, slice_get_within [] place one at_laid))
-
--- one more part is laid
-pub laid-more : (shown : Shown) (sent : List Sent) (laid : List Laid) (count : ℕ) (part : Sent) (one : Laid)
-    → AreSomeLaid shown sent laid → length laid ≡ count → count < length sent → part ≡ get_or sent count part
-    → IsLaid shown sent count part one → AreSomeLaid shown sent (laid ++ one ∷ [])
-laid-more shown sent laid count part one some many within part_is is = λ place other found at_part at_laid.
-    (let long : length (laid ++ one ∷ []) ≡ length laid + 1 = length_push laid one in
-    let below = slice_get_within (laid ++ one ∷ []) place found at_laid in
-    elim (cases_lt place (length laid)) [
-      | inl before ↦
-          let same : slice_get laid place ≡ Some found =
-          slice_get-get_or laid place found before
-          ∙ ap Some (sym (get_or_append_left laid (one ∷ []) found place before)
-          ∙ get_or_from_slice_get (laid ++ one ∷ []) place found found at_laid) in
-          some place other found at_part same
-      | inr past ↦
-          let at : length laid ≡ place = omega (arith, past, below, long) in
-          let here : count ≡ place = sym many ∙ at in
-          let one_is : one ≡ found =
-          sym (get_or_push laid one found place at)
-          ∙ get_or_from_slice_get (laid ++ one ∷ []) place found found at_laid in
-          let other_is : part ≡ other =
-          part_is ∙ ap (λ (n : ℕ). get_or sent n part) here
-          ∙ get_or_from_slice_get sent place other part at_part in
-          subst₂ (IsLaid shown sent place) other_is one_is
-          (subst (λ (n : ℕ). IsLaid shown sent n part one) here is)
-    ])
-
--- the parts of a plan with data are laid
-pub laid-data : (source : Option Shown) (sent items : List Sent) (laid ones : List Laid) (shown : Shown)
-    → AreLaidOf source sent laid → source ≡ Some shown → items ≡ sent → ones ≡ laid → AreLaid shown items ones
-laid-data source sent items laid ones shown are some same alike =
-    subst₂ (AreLaid shown) (sym same) (sym alike) (subst (λ (o : Option Shown). AreLaidOf o sent laid) some are)
-
--- before a later part there is no less data
-before-rise : (content : Content) (sent : List Sent) (i j : ℕ) → i ≤ j
-    → length (data_before content sent i) ≤ length (data_before content sent j)
-before-rise content sent i j le = omega (
-  arith,
-  ap length (data-split content (take j sent) i),
-  length-append (data_before content (take j sent) i) (data_of content (drop i (take j sent))),
-  ap (λ (l : List Sent). length (data_of content l)) (take-take i j sent le),
-)
-
--- parts that are laid begin in their order
-pub laid-rise : (shown : Shown) (sent : List Sent) (laid : List Laid) → AreLaid shown sent laid
-    → IsNonDecreasingBy (λ (one : Laid). one.begin) laid
-laid-rise shown sent laid all = λ i j d le lt.
-    (let none : Sent = record { decl = 0; part = 0; slabs = [] } in
-    let is : (place : ℕ) → place < length laid
-    → IsLaid shown sent place (get_or sent place none) (get_or laid place d) =
-    λ place within. all.each place (get_or sent place none) (get_or laid place d)
-    (slice_get-get_or sent place none (omega (arith, within, all.count))) (slice_get-get_or laid place d within) in
+-- the part in which an offset lies ends behind it, or is the last
+pub ends-behind : (shown : Shown) (sent : List Sent) (begins : List ℕ) (from place : ℕ)
+    → AreBegins shown sent begins → length begins ≡ length sent
+    → length (data_of (content_of shown) sent) < 2 ^ 64 → IsLastBegun begins from place
+    → EndsBehind (content_of shown) sent from place
+ends-behind shown sent begins from place are count small last = λ within.
+    (let begin = get_or begins (place + 1) 0 in
+    let at = slice_get-get_or begins (place + 1) 0 (omega (arith, within, count)) in
     omega (
       arith,
-      (is i (omega (arith, le, lt))).begin_is,
-      (is j lt).begin_is,
-      before-rise (content_of shown) sent i j le,
+      last (place + 1) begin (omega arith) at,
+      begin-at shown sent begins (place + 1) begin are small at,
     ))
 
+-- no part begins
+pub begins-none : (shown : Shown) (sent : List Sent) → AreBegins shown sent []
+begins-none shown sent = λ place begin at. absurd (omega (arith, slice_get_within [] place begin at))
+
+-- one more part begins
+pub begins-more : (shown : Shown) (sent : List Sent) (begins : List ℕ) (count begin : ℕ)
+    → AreBegins shown sent begins → length begins ≡ count → IsBegin shown sent count begin
+    → AreBegins shown sent (begins ++ begin ∷ [])
+begins-more shown sent begins count begin some many is = λ place found at.
+    (let long : length (begins ++ begin ∷ []) ≡ length begins + 1 = length_push begins begin in
+    let below = slice_get_within (begins ++ begin ∷ []) place found at in
+    elim (cases_lt place (length begins)) [
+      | inl before ↦
+          some place found
+          (slice_get-get_or begins place found before
+          ∙ ap Some (sym (get_or_append_left begins (begin ∷ []) found place before)
+          ∙ get_or_from_slice_get (begins ++ begin ∷ []) place found found at))
+      | inr past ↦
+          let end : length begins ≡ place = omega (arith, past, below, long) in
+          let begin_is : begin ≡ found =
+          sym (get_or_push begins begin found place end)
+          ∙ get_or_from_slice_get (begins ++ begin ∷ []) place found found at in
+          subst₂ (IsBegin shown sent) (sym many ∙ end) begin_is is
+    ])
+
+-- the marks of one more part are kept
+pub marks-kept : (shown : Shown) (sent : List Sent) (old new : List TextMarks) (place : ℕ) (offsets : List ℕ)
+    (part : Sent) → AreMarked shown sent old → IsKept old place offsets new → slice_get sent place ≡ Some part
+    → AreMarksOf shown part offsets → AreMarked shown sent new
+marks-kept shown sent old new place offsets part marked kept at are = elim kept [
+  | inl same ↦ subst (AreMarked shown sent) (sym same) marked
+  | inr more ↦
+      let one : TextMarks = record { place = place; offsets = offsets } in
+      subst (AreMarked shown sent) (sym more)
+      (All-push (IsMarkedAt shown sent) old one marked (λ other found.
+      subst (λ (p : Sent). AreMarksOf shown p offsets) (same_Some part other (sym at ∙ found)) are))
+]
+
+-- the marks of the part at a place
+pub marks-there : (shown : Shown) (sent : List Sent) (marks : List TextMarks) (index place : ℕ) (one : TextMarks)
+    (part : Sent) → AreMarked shown sent marks → index < length marks → one ≡ get_or marks index one
+    → one.place ≡ place → slice_get sent place ≡ Some part → AreMarksOf shown part one.offsets
+marks-there shown sent marks index place one part marked within is here at =
+    let its : IsMarkedAt shown sent one =
+    subst (IsMarkedAt shown sent) (sym is) (All-get_or (IsMarkedAt shown sent) marks index one within marked) in
+    its part (ap (slice_get sent) here ∙ at)
+
+-- the parts of a plan with data are laid
+pub laid-data : (source : Option Shown) (sent items : List Sent) (laid : Laid) (shown : Shown)
+    → AreLaidOf source sent laid → source ≡ Some shown → items ≡ sent → AreLaid shown items laid
+laid-data source sent items laid shown are some same =
+    subst (λ (l : List Sent). AreLaid shown l laid) (sym same)
+    (subst (λ (o : Option Shown). AreLaidOf o sent laid) some are)
+
+-- parts begin in their order
+pub begins-rise : (shown : Shown) (sent : List Sent) (begins : List ℕ) → AreBegins shown sent begins
+    → length (data_of (content_of shown) sent) < 2 ^ 64 → IsNonDecreasingBy (λ (begin : ℕ). begin) begins
+begins-rise shown sent begins are small = λ i j d le lt.
+    (let is : (place : ℕ) → place < length begins
+    → get_or begins place d ≡ length (data_before (content_of shown) sent place) =
+    λ place within. begin-at shown sent begins place (get_or begins place d) are small
+    (slice_get-get_or begins place d within) in
+    omega (arith, is i (omega (arith, le, lt)), is j lt, before-rise (content_of shown) sent i j le))
+
 -- a part among those that begin at or before an offset
-pub begun-part : (laid : List Laid) (from begun place : ℕ) (one : Laid) → AreBegun laid from begun → place < begun
-    → one ≡ get_or laid place one → one.begin ≤ from
-begun-part laid from begun place one point within is = omega (
-  arith,
-  ap (λ (l : Laid). l.begin) is,
-  leb-true (get_or laid place one).begin from (point.0 place one (omega arith) within),
-)
+pub begun-part : (begins : List ℕ) (from begun place : ℕ) → AreBegun begins from begun → place < begun
+    → get_or begins place 0 ≤ from
+begun-part begins from begun place point within =
+    leb-true (get_or begins place 0) from (point.0 place 0 (omega arith) within)
 
 -- the parts behind the last of these
-pub last-begun : (laid : List Laid) (from begun place : ℕ) → AreBegun laid from begun → begun ≤ place + 1
-    → IsLastBegun laid from place
-last-begun laid from begun place point past = λ later one behind at. omega (
+pub last-begun : (begins : List ℕ) (from begun place : ℕ) → AreBegun begins from begun → begun ≤ place + 1
+    → IsLastBegun begins from place
+last-begun begins from begun place point past = λ later begin behind at. omega (
   arith,
-  ap (λ (l : Laid). l.begin) (get_or_from_slice_get laid later one one at),
-  leb-false (get_or laid later one).begin from
-      (point.1 later one (omega (arith, past, behind)) (slice_get_within laid later one at)),
+  get_or_from_slice_get begins later begin begin at,
+  leb-false (get_or begins later begin) from
+      (point.1 later begin (omega (arith, past, behind)) (slice_get_within begins later begin at)),
 )

@@ -1,48 +1,61 @@
 -- Where the data of each part lies among that of all parts.
-use Rattle.std.specs.Prelude.{◌≡◌, ◌⊎◌, ℕ, ◌+◌, ◌<◌, List, length, take, slice_get, nat_le, true, false, Option, Some, None}
+use Rattle.std.specs.Prelude.{◌≡◌, ◌⊎◌, ℕ, ◌+◌, ◌<◌, ◌^◌, All, List, [], ◌∷◌, ◌++◌, length, take, slice_get, nat_le, true, false, Option, Some, None}
 use Rattle.std.specs.List.Sorted.{IsPartitionPoint}
 use Rattle.dap_model.specs.declared.projection.Sent.{Sent}
 use Rattle.fm_dataset.specs.Values.{Shown}
-use Rattle.dap_xdr.specs.Content.{data_of, part_data}
+use Rattle.dap_xdr.specs.Content.{data_of}
 use Rattle.dap_xdr.specs.Datasets.{content_of}
 use Rattle.dap_xdr.specs.Marks.{AreMarksOf}
 use Rattle.dap_plan.specs.declared.laid.Laid.{Laid}
 use Rattle.dap_plan.specs.declared.laid.Position.{Position}
+use Rattle.dap_plan.specs.declared.laid.TextMarks.{TextMarks}
 
--- where the data of the part at a place begins among all data, how long it is, and marks in its texts
-pub record IsLaid (shown : Shown) (sent : List Sent) (place : ℕ) (part : Sent) (laid : Laid) : Type 0 where
-  pub begin_is : laid.begin ≡ length (data_of (content_of shown) (take place sent))
-  pub len_is : laid.len ≡ length (part_data (content_of shown) part)
-  pub marks_are : AreMarksOf shown part laid.marks
+-- the data of the part at a place begins at this offset among all data, where that fits in 64 bits
+abbrev pub IsBegin : Shown → List Sent → ℕ → ℕ → Type 0
+IsBegin shown sent place begin =
+    length (data_of (content_of shown) (take place sent)) < 2 ^ 64
+    → begin ≡ length (data_of (content_of shown) (take place sent))
 
--- this is known of some of the first parts
-abbrev pub AreSomeLaid : Shown → List Sent → List Laid → Type 0
-AreSomeLaid shown sent laid =
-    (place : ℕ) (part : Sent) (one : Laid) → slice_get sent place ≡ Some part → slice_get laid place ≡ Some one
-    → IsLaid shown sent place part one
+-- the data of some of the first parts begins at these offsets
+abbrev pub AreBegins : Shown → List Sent → List ℕ → Type 0
+AreBegins shown sent begins = (place begin : ℕ) → slice_get begins place ≡ Some begin → IsBegin shown sent place begin
 
--- and of each
-pub record AreLaid (shown : Shown) (sent : List Sent) (laid : List Laid) : Type 0 where
-  pub count : length laid ≡ length sent
-  pub each : AreSomeLaid shown sent laid
+-- the marks are in the texts of the part at their place
+abbrev pub IsMarkedAt : Shown → List Sent → TextMarks → Type 0
+IsMarkedAt shown sent one =
+    (part : Sent) → slice_get sent one.place ≡ Some part → AreMarksOf shown part one.offsets
+
+-- all of these are
+abbrev pub AreMarked : Shown → List Sent → List TextMarks → Type 0
+AreMarked shown sent marks = All (IsMarkedAt shown sent) marks
+
+-- the marks of a part are added to those of others, or it has none
+abbrev pub IsKept : List TextMarks → ℕ → List ℕ → List TextMarks → Type 0
+IsKept old place offsets new = (new ≡ old) ⊎ (new ≡ old ++ record { place = place; offsets = offsets } ∷ [])
+
+-- where the data of each part begins, and marks in some of them
+pub record AreLaid (shown : Shown) (sent : List Sent) (laid : Laid) : Type 0 where
+  pub count : length laid.begins ≡ length sent
+  pub begins_are : AreBegins shown sent laid.begins
+  pub marks_are : AreMarked shown sent laid.marks
 
 -- the parts of a plan are laid, where it has data
-abbrev pub AreLaidOf : Option Shown → List Sent → List Laid → Type 0
+abbrev pub AreLaidOf : Option Shown → List Sent → Laid → Type 0
 AreLaidOf None sent laid = Unit {0}
 AreLaidOf (Some shown) sent laid = AreLaid shown sent laid
 
 -- an offset lies `left` bytes behind the begin of the part at a place, or there is no part
-abbrev pub StandsAt : List Laid → ℕ → Position → Type 0
-StandsAt laid from at =
+abbrev pub StandsAt : List ℕ → ℕ → Position → Type 0
+StandsAt begins from at =
     ((at.place ≡ 0) × (at.left ≡ from))
-    ⊎ ((one : Laid) × (slice_get laid at.place ≡ Some one) × (at.left + one.begin ≡ from))
+    ⊎ ((begin : ℕ) × (slice_get begins at.place ≡ Some begin) × (at.left + begin ≡ from))
 
 -- the parts up to a number of them begin at or before an offset, and those behind them after it
-abbrev pub AreBegun : List Laid → ℕ → ℕ → Type 0
-AreBegun laid from begun = IsPartitionPoint (λ (one : Laid). nat_le one.begin from ≡ true)
-    (λ (one : Laid). nat_le one.begin from ≡ false) laid begun
+abbrev pub AreBegun : List ℕ → ℕ → ℕ → Type 0
+AreBegun begins from begun = IsPartitionPoint (λ (begin : ℕ). nat_le begin from ≡ true)
+    (λ (begin : ℕ). nat_le begin from ≡ false) begins begun
 
 -- all parts behind the one at a place begin after an offset
-abbrev pub IsLastBegun : List Laid → ℕ → ℕ → Type 0
-IsLastBegun laid from place =
-    (later : ℕ) (one : Laid) → place < later → slice_get laid later ≡ Some one → from < one.begin
+abbrev pub IsLastBegun : List ℕ → ℕ → ℕ → Type 0
+IsLastBegun begins from place =
+    (later begin : ℕ) → place < later → slice_get begins later ≡ Some begin → from < begin

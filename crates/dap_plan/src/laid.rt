@@ -1,10 +1,13 @@
 //! Where the data of each part lies among that of all parts.
-ghost use Rattle.std.specs.Prelude.{◌≡◌, ◌+◌, ◌^◌, ◌<◌, ◌≤◌, All, IfOk, length, nat_le};
+ghost use Rattle.std.specs.Prelude.{◌≡◌, ◌+◌, ◌^◌, ◌<◌, ◌≤◌, All, IfOk, List as Items, OnOk, Some, length, nat_le, slice_get};
 ghost use Rattle.std.specs.List.Sorted.{IsNonDecreasingBy};
+ghost use Rattle.dap_model.specs.declared.projection.Sent.{Sent as Part};
 ghost use Rattle.dap_xdr.specs.Content.{data_of};
 ghost use Rattle.dap_xdr.specs.Datasets.{content_of};
-ghost use Rattle.dap_plan.specs.Laid.{AreBegun, AreLaid, IsLastBegun, StandsAt};
+ghost use Rattle.dap_xdr.specs.Marks.{AreMarksOf};
+ghost use Rattle.dap_plan.specs.Laid.{AreBegun, AreLaid, AreMarked, IsKept, IsLastBegun, StandsAt};
 ghost use Rattle.dap_plan.specs.Parts.{IsSentOf};
+ghost use Rattle.fm_dataset.specs.Values.{Shown};
 
 use dap_model::Sent;
 use dap_xdr::xdr_marks;
@@ -12,19 +15,25 @@ use fm_base::{List, NoMemory};
 use fm_dataset::Dataset;
 use std::alloc::Global;
 
-/// Where the data of a part begins, how long it is, and marks in its texts.
+/// Marks in the texts of the part at a place.
+#[derive(Drop)]
+pub struct TextMarks {
+    pub place: usize,
+    pub offsets: List<u64>,
+}
+
+/// Where the data of each part begins, and the marks of the parts that have some, by their places.
 #[derive(Drop)]
 pub struct Laid {
-    pub begin: u128,
-    pub len: u128,
-    pub marks: List<u64>,
+    pub begins: List<u64>,
+    pub marks: List<TextMarks>,
 }
 
 /// How many bytes the data of all parts takes, and where that of each lies.
 #[derive(Drop)]
 pub struct Layout {
     pub len: u128,
-    pub parts: List<Laid>,
+    pub parts: Laid,
 }
 
 // A part, and an offset in its data.
@@ -34,8 +43,37 @@ pub(crate) struct Position {
     pub left: u64,
 }
 
+// No part is laid.
+pub(crate) fn no_parts(alloc: Global) -> Laid {
+    Laid {
+        begins: List::new(alloc),
+        marks: List::new(alloc),
+    }
+}
+
+// An offset in 64 bits; the greatest number where it doesn't fit.
+fn short(offset: u128) -> u64
+    ensures { offset < 2 ^ 64 → result ≡ offset }
+{
+    if offset > u64::MAX as u128 {
+        return u64::MAX;
+    }
+    offset as u64
+}
+
+// Keeps the marks of the part at a place, where there are any.
+fn keep_marks(marks: &mut List<TextMarks>, place: usize, offsets: List<u64>) -> Result<(), NoMemory>
+    ensures { OnOk result (IsKept marks.old place offsets marks.new) }
+{
+    if offsets.is_empty() {
+        return Ok(());
+    }
+    marks.push(TextMarks { place, offsets })?;
+    Ok(())
+}
+
 /// Lays out the data of all parts: a walk over the texts of each array of Strings, and nothing else that grows with the
-/// data.
+/// data. It takes eight bytes for each part, and its marks.
 pub fn lay_out(alloc: Global, source: &Dataset, sent: &[Sent]) -> Result<Layout, NoMemory>
     requires sent { All (IsSentOf source.now) sent.now }
     requires few { length sent.now < 2 ^ 28 }
@@ -43,51 +81,75 @@ pub fn lay_out(alloc: Global, source: &Dataset, sent: &[Sent]) -> Result<Layout,
     ensures small { IfOk result (λ laid. laid.len < 2 ^ 126) }
     ensures laid { IfOk result (λ laid. AreLaid source.now sent.now laid.parts) }
 {
-    let mut parts = List::new(alloc);
+    let mut begins = List::new(alloc);
+    let mut marks = List::new(alloc);
     let mut len: u128 = 0;
     for part in sent {
         let marked = xdr_marks(alloc, source, part)?;
         let more = marked.len;
-        parts.push(Laid {
-            begin: len,
-            len: more,
-            marks: marked.marks,
-        })?;
+        let place = begins.len();
+        keep_marks(&mut marks, place, marked.marks)?;
+        let begin = short(len);
+        begins.push(begin)?;
         len += more;
     }
-    Ok(Layout { len, parts })
+    Ok(Layout {
+        len,
+        parts: Laid { begins, marks },
+    })
+}
+
+// How many marked parts stand before a place.
+fn marked_before(marks: &[TextMarks], place: usize) -> usize {
+    marks.partition_point(|one: &TextMarks| -> bool { one.place < place })
+}
+
+// The marks of the part at a place: none where it has none.
+pub(crate) fn marks_at(marks: &[TextMarks], place: usize) -> &[u64]
+    ensures { (shown : Shown) (sent : Items Part) (part : Part) → AreMarked shown sent marks.now
+        → slice_get sent place ≡ Some part → AreMarksOf shown part result.now }
+{
+    let at = marked_before(marks, place);
+    if at >= marks.len() {
+        return &[];
+    }
+    let one = &marks[at];
+    if one.place != place {
+        return &[];
+    }
+    one.offsets.as_slice()
 }
 
 // How many parts begin at or before an offset.
-fn begun_at(laid: &[Laid], from: u64) -> usize
-    requires { IsNonDecreasingBy (λ one. one.begin) laid.now }
-    ensures bound { result ≤ length laid.now }
-    ensures begun { AreBegun laid.now from result }
+fn begun_at(begins: &[u64], from: u64) -> usize
+    requires { IsNonDecreasingBy (λ begin. begin) begins.now }
+    ensures bound { result ≤ length begins.now }
+    ensures begun { AreBegun begins.now from result }
 {
-    laid.partition_point(
-        |one: &Laid| -> bool
-            ensures { result ≡ nat_le one.now.begin from }
-        { one.begin <= u128::from(from) },
+    begins.partition_point(
+        |begin: &u64| -> bool
+            ensures { result ≡ nat_le begin.now from }
+        { *begin <= from },
     )
 }
 
 // How far an offset lies behind the begin of a part.
-fn behind(one: &Laid, from: u64) -> u64
-    requires { one.now.begin ≤ from }
-    ensures { result + one.now.begin ≡ from }
+fn behind(begin: u64, from: u64) -> u64
+    requires { begin ≤ from }
+    ensures { result + begin ≡ from }
 {
-    from - one.begin as u64
+    from - begin
 }
 
 // The last part that begins at or before an offset, and how far behind its begin that is.
-pub(crate) fn part_at(laid: &[Laid], from: u64) -> Position
-    requires { IsNonDecreasingBy (λ one. one.begin) laid.now }
-    ensures stands { StandsAt laid.now from result }
+pub(crate) fn part_at(begins: &[u64], from: u64) -> Position
+    requires { IsNonDecreasingBy (λ begin. begin) begins.now }
+    ensures stands { StandsAt begins.now from result }
 
     // So it ends behind the offset, or is the last of all.
-    ensures last { IsLastBegun laid.now from result.place }
+    ensures last { IsLastBegun begins.now from result.place }
 {
-    let begun = begun_at(laid, from);
+    let begun = begun_at(begins, from);
     if begun == 0 {
         return Position {
             place: 0,
@@ -95,6 +157,6 @@ pub(crate) fn part_at(laid: &[Laid], from: u64) -> Position
         };
     }
     let place = begun - 1;
-    let left = behind(&laid[place], from);
+    let left = behind(begins[place], from);
     Position { place, left }
 }

@@ -5,5 +5,5 @@ mod data;
 mod laid;
 mod parts;
 
-pub use laid::{Laid, Layout, lay_out};
+pub use laid::{Laid, Layout, TextMarks, lay_out};
 pub use parts::Plan;

@@ -6,7 +6,7 @@ ghost use Rattle.dap_plan.specs.Laid.{AreLaid};
 ghost use Rattle.dap_plan.specs.Parts.{bytes_of, ready, IsSentOf};
 
 use crate::data::{lent_data, put_data};
-use crate::laid::Laid;
+use crate::laid::{Laid, no_parts};
 use dap_model::Sent;
 use dap_xdr::put;
 use fm_base::{Bytes, List, NoMemory};
@@ -32,7 +32,7 @@ pub struct Plan {
     pub source: Option<Dataset>,
     /// What is sent of it; nothing where there is none.
     pub sent: List<Sent>,
-    laid: List<Laid>,
+    laid: Laid,
     len: u64,
 }
 
@@ -59,20 +59,14 @@ impl Plan {
             front,
             source: None,
             sent: List::new(alloc),
-            laid: List::new(alloc),
+            laid: no_parts(alloc),
             len,
         }
     }
 
     /// Some bytes stand ready, and behind them is the data of what is sent of a dataset, `len` bytes with them. The
     /// caller has laid out this data.
-    pub fn with_data(
-        front: Bytes,
-        source: Dataset,
-        sent: List<Sent>,
-        laid: List<Laid>,
-        len: u64,
-    ) -> Plan
+    pub fn with_data(front: Bytes, source: Dataset, sent: List<Sent>, laid: Laid, len: u64) -> Plan
         requires sent { All (IsSentOf source) sent }
         requires laid { AreLaid source sent laid }
         requires len { len ≡ length (bytes_of (record { front = front; source = Some source; sent = sent })) }
@@ -131,14 +125,7 @@ impl Plan {
             Some(source) => {
                 let from = from.saturating_sub(self.front.len() as u64);
                 let (_, rest) = out.split_at_mut(count);
-                count
-                    + put_data(
-                        source,
-                        self.sent.as_slice(),
-                        self.laid.as_slice(),
-                        from,
-                        rest,
-                    )
+                count + put_data(source, self.sent.as_slice(), &self.laid, from, rest)
             }
         }
     }
@@ -155,12 +142,7 @@ impl Plan {
         }
         match &self.source {
             None => &[],
-            Some(source) => lent_data(
-                source,
-                self.sent.as_slice(),
-                self.laid.as_slice(),
-                from - ready,
-            ),
+            Some(source) => lent_data(source, self.sent.as_slice(), &self.laid, from - ready),
         }
     }
 }

@@ -1,7 +1,7 @@
 -- One step further in a list of declarations, names or slabs.
-use Rattle.std.proofs.Common.{◌≡◌, ℕ, zero, suc, ◌+◌, ◌<◌, ◌≤◌, true, List, [], ◌∷◌, ◌++◌, length, replicate, take, drop, get_or, slice_get, All, None, refl, sym, ap, ap₂, subst, ◌∙◌, append_assoc, arith}
+use Rattle.std.proofs.Common.{◌≡◌, ℕ, zero, suc, ◌+◌, ◌<◌, ◌≤◌, true, List, [], ◌∷◌, ◌++◌, length, map, replicate, take, drop, get_or, slice_get, All, None, refl, sym, ap, ap₂, subst, ◌∙◌, append_assoc, arith}
 use Rattle.std.proofs.lemmas.Bool.{cond-true}
-use Rattle.std.proofs.lemmas.List.{drop_all, drop_more, length-take-le, take_all, take_more}
+use Rattle.std.proofs.lemmas.List.{drop_all, drop_more, length-take-le, map-append, take_all, take_more}
 use Rattle.std.proofs.lemmas.List.Elements.{All-push}
 use Rattle.nc_model.specs.declared.header.Dim.{Dim}
 use Rattle.dap_model.specs.ClauseFaults.{is_within, path_text, range_fault}
@@ -46,6 +46,12 @@ one_more (first ∷ next ∷ names) name some =
 pub up_to : {A : Type 0} (xs : List A) (at : ℕ) (x : A) → at < length xs → x ≡ get_or xs at x
     → take (at + 1) xs ≡ take at xs ++ x ∷ []
 up_to xs at x within is = take_more xs at x within ∙ ap (λ y. take at xs ++ y ∷ []) (sym is)
+
+-- what is made of the items up to that
+pub map_up_to : {A B : Type 0} (f : A → B) (xs : List A) (at : ℕ) (x : A) → at < length xs → x ≡ get_or xs at x
+    → map f (take at xs) ++ f x ∷ [] ≡ map f (take (at + 1) xs)
+map_up_to f xs at x within is =
+    sym (ap (map f) (up_to xs at x within is) ∙ map-append f (take at xs) (x ∷ []))
 
 pub dotted : (path : List (List ℕ)) (at : ℕ) (name text dot new : List ℕ) → at < length path
     → name ≡ get_or path at name → 0 < at → text ≡ path_text (take at path) → dot ≡ text ++ 46 ∷ []

@@ -160,6 +160,17 @@ item_at [] at x within is = absurd (omega (arith, within))
 item_at (y ∷ xs) zero x within is = ap Some (sym is)
 item_at (y ∷ xs) (suc at) x within is = item_at xs at x (omega (arith, within)) is
 
+-- a dimension more is cut
+pub zip_step : (cut : List Dim) (dims : List Dim) (slabs : List Slab) (at : ℕ) (dim : Dim) (d : Slab) → at < length dims
+    → at < length slabs → dim ≡ get_or dims at dim
+    → cut ++ map cut_dim (zip (drop at dims) (drop at slabs))
+    ≡ (cut ++ cut_dim (dim, get_or slabs at d) ∷ []) ++ map cut_dim (zip (drop (at + 1) dims) (drop (at + 1) slabs))
+zip_step cut dims slabs at dim d within there is =
+    let rest = map cut_dim (zip (drop (at + 1) dims) (drop (at + 1) slabs)) in
+    ap₂ (λ (ds : List Dim) (ss : List Slab). cut ++ map cut_dim (zip ds ss)) (left dims at dim within is)
+    (drop_more slabs at d there)
+    ∙ sym (append_assoc cut (cut_dim (dim, get_or slabs at d) ∷ []) rest)
+
 pub zip_no_slabs : (cut whole : List Dim) (dims : List Dim) (slabs : List Slab) (at : ℕ) → length slabs ≤ at
     → cut ++ map cut_dim (zip (drop at dims) (drop at slabs)) ≡ whole → cut ≡ whole
 zip_no_slabs cut whole dims slabs at past is = all_of cut _ whole is

@@ -56,7 +56,8 @@ impl Slot {
             ≡ spec.slot_after (slabs_for decl.now slabs.now part (spec.picked_of choice)) self.old) }
     {
         let slot = mem::replace(self, Slot::Free);
-        *self = slot_after(alloc, slot, decl, slabs, part, choice)?;
+        let next = slot_after(alloc, slot, decl, slabs, part, choice)?;
+        drop(mem::replace(self, next));
         Ok(())
     }
 }

@@ -26,9 +26,11 @@ fn whole_clause(alloc: Global, decl: &Decl) -> Result<Clause, NoMemory>
 fn whole_note(alloc: Global, decl: &Decl) -> Result<Note, NoMemory>
     ensures { IfOk result (λ note. note ≡ note_of (whole_clause decl.now ∷ []) decl.now) }
 {
-    let whole = whole_clause(alloc, decl)?;
     let mut note = Note::fresh(alloc, decl)?;
-    note.add(alloc, decl, &whole)?;
+    let whole = whole_clause(alloc, decl)?;
+    let noted = note.add(alloc, decl, &whole);
+    drop(whole);
+    noted?;
     Ok(note)
 }
 

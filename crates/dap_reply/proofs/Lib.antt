@@ -12,3 +12,4 @@ pub mod ScriptLemmas
 pub mod SentLemmas
 pub mod ServedLemmas
 pub mod WellFormedLemmas
+pub mod WholeLemmas

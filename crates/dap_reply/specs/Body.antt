@@ -77,12 +77,17 @@ within_limit body =
     then Err (TooLarge (length (bytes_of body.bytes)) MAX_BODY)
     else Ok body
 
+-- the structure text of declarations for the constraint of a target
+abbrev pub structure_by : List Decl → Target → Result Body DapFault
+structure_by decls target = do
+  projected ← projected_of decls target.constraint
+  within_limit (text_body Structure (structure_of target projected))
+
 -- the structure text that a target asks for, its attribute text, and its data, or the first fault
 unfoldable pub structure_asked : Proto → List Loaded → Target → Result Body DapFault
 structure_asked proto files target = do
   count ← some_rows (length (rows files target.view))
-  projected ← projected_of (decls_of proto count) target.constraint
-  within_limit (text_body Structure (structure_of target projected))
+  structure_by (decls_of proto count) target
 
 unfoldable pub attributes_asked : Proto → List Loaded → Target → Result Body DapFault
 attributes_asked proto files target = do

@@ -2,9 +2,12 @@
 ghost use Rattle.std.specs.Prelude.{◌≡◌, ◌<◌, ◌^◌, ◌++◌, All, IfOk, codes, length};
 ghost use Rattle.fm_base.specs.Answer.{Answers, AnswersAs};
 ghost use Rattle.fm_model.specs.Rows as views;
+ghost use Rattle.dap_model.specs.StructureText.{dds_of};
 ghost use Rattle.fm_dataset.specs.Declarations.{decls_of};
+ghost use Rattle.dap_reply.specs.declared.body.BodyKind.{BodyKind as Kind};
 ghost use Rattle.dap_reply.specs.Body.{attributes_asked, body_of, data_asked, data_behind_text, data_body, dataset_sent};
-ghost use Rattle.dap_reply.specs.Body.{projected_of, some_rows, some_shown, structure_asked, structure_of, text_body, within_limit};
+ghost use Rattle.dap_reply.specs.Body.{projected_of, some_rows, some_shown, structure_asked, structure_by, structure_of};
+ghost use Rattle.dap_reply.specs.Body.{text_body, within_limit};
 ghost use Rattle.dap_plan.specs.Laid.{AreLaid};
 ghost use Rattle.dap_plan.specs.Parts.{bytes_of, IsSentOf};
 
@@ -82,14 +85,37 @@ fn text_body(alloc: Global, kind: BodyKind, text: Bytes) -> Result<Body, Fail<Da
     })
 }
 
-// The structure text of what is sent.
-#[tactic(auto, unfolding(crate::specs::Body::structure_of))]
-fn structure_of(alloc: Global, target: &Target, projected: &Projected) -> Result<Bytes, NoMemory>
-    ensures { IfOk result (λ text. text ≡ structure_of target.now projected.now) }
+// The structure text of declarations, under the label of a target.
+fn dds_of(alloc: Global, target: &Target, decls: &List<Decl>) -> Result<Bytes, NoMemory>
+    ensures { IfOk result (λ text. text ≡ dds_of target.now.label decls.now) }
 {
     let mut text = Bytes::new(alloc);
-    dds_text(alloc, target.label.as_slice(), &projected.decls, &mut text)?;
+    dds_text(alloc, target.label.as_slice(), decls, &mut text)?;
     Ok(text)
+}
+
+// The body that is this text.
+fn structure_body(
+    alloc: Global,
+    target: &Target,
+    decls: &List<Decl>,
+) -> Result<Body, Fail<DapFault>>
+    ensures { Answers (within_limit (text_body Kind.Structure (dds_of target.now.label decls.now))) result }
+{
+    let text = dds_of(alloc, target, decls)?;
+    text_body(alloc, BodyKind::Structure, text)
+}
+
+// The structure text of declarations for the constraint of a target. Without one they are sent as they stand.
+#[tactic(auto, unfolding(crate::specs::Body::structure_of))]
+fn structure_by(alloc: Global, target: &Target, decls: &List<Decl>) -> Result<Body, Fail<DapFault>>
+    ensures { Answers (structure_by decls.now target.now) result }
+{
+    if target.constraint.is_empty() {
+        return structure_body(alloc, target, decls);
+    }
+    let projected = projected_of(alloc, decls.as_slice(), target)?;
+    structure_body(alloc, target, &projected.decls)
 }
 
 // The structure text that a target asks for.
@@ -103,9 +129,7 @@ fn structure_asked(
 {
     let count = count_rows(alloc, edition, target)?;
     let decls = decls(alloc, edition.proto().get(), count)?;
-    let projected = projected_of(alloc, decls.as_slice(), target)?;
-    let text = structure_of(alloc, target, &projected)?;
-    text_body(alloc, BodyKind::Structure, text)
+    structure_by(alloc, target, &decls)
 }
 
 // The attribute text that a target asks for.
@@ -130,7 +154,7 @@ fn laid_within(
     front: &Bytes,
     source: &Dataset,
     sent: &List<Sent>,
-) -> Result<(List<Laid>, u64), Fail<DapFault>>
+) -> Result<(Laid, u64), Fail<DapFault>>
     requires sent { All (IsSentOf source.now) sent.now }
     requires few { length sent.now < 2 ^ 28 }
     ensures within { AnswersAs (λ _. data_behind_text front.now source.now sent.now)
@@ -176,10 +200,11 @@ fn data_body(
 }
 
 // The text before the data that a target asks for.
+#[tactic(auto, unfolding(crate::specs::Body::structure_of))]
 fn front_of(alloc: Global, target: &Target, projected: &Projected) -> Result<Bytes, NoMemory>
     ensures { IfOk result (λ text. text ≡ structure_of target.now projected.now ++ codes "Data:\n") }
 {
-    let mut text = structure_of(alloc, target, projected)?;
+    let mut text = dds_of(alloc, target, &projected.decls)?;
     text.append(b"Data:\n")?;
     Ok(text)
 }

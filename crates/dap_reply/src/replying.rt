@@ -1,5 +1,5 @@
 //! The reply to a request over an edition, and the reply that refuses.
-ghost use Rattle.std.specs.Prelude.{◌≡◌, IfOk};
+ghost use Rattle.std.specs.Prelude.{◌≡◌, [], IfOk};
 ghost use Rattle.dap_plan.specs.Parts.{bytes_of};
 ghost use Rattle.dap_reply.specs.Planned.{answer_over, planned, refused};
 ghost use Rattle.dap_reply.specs.Reply.{answer_head, headed, refusal_of, reply_parts, reply_text};
@@ -47,11 +47,22 @@ fn answer_over(alloc: Global, edition: &Edition, dap: &Dap) -> Result<Answer, No
     }
 }
 
+// How many bytes a head has at most, by and large.
+const HEAD: usize = 256;
+
+// No bytes yet, and room for a head with this number of bytes behind it.
+fn with_room(alloc: Global, behind: usize) -> Result<Bytes, NoMemory>
+    ensures { IfOk result (λ text. text ≡ []) }
+{
+    let items = Vec::with_capacity(alloc, behind.saturating_add(HEAD))?;
+    Ok(Bytes { items })
+}
+
 // The head of the reply with an answer.
 fn answer_head(alloc: Global, answer: &Answer, revision: u64, last: bool) -> Result<Bytes, NoMemory>
     ensures { IfOk result (λ text. text ≡ head_text (answer_head answer.now revision last)) }
 {
-    let mut text = Bytes::new(alloc);
+    let mut text = with_room(alloc, answer.body.bytes.front.len())?;
     let head = Head {
         status: answer.status,
         kind: answer.body.kind,

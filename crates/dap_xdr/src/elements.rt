@@ -104,39 +104,22 @@ fn put_longest(part: &Part, at: Position, out: &mut [u8], index: &[u64]) -> usiz
     put_stretch(part, at, out, index)
 }
 
-// Writes numbers from a position on: at least one byte.
-fn put_some(part: &Part, at: Position, out: &mut [u8], index: &mut [u64]) -> usize
-    requires number { part.now.array.kind ≢ DapKind.Text }
-    requires place { at.place < box_len part.now.sent.slabs }
-    requires skip { at.skip < element_len part.now.array.kind }
-    requires room { 0 < length out.old }
-    requires index { length index.old ≡ length part.now.sent.slabs }
-    ensures some { 1 ≤ result }
-    ensures front { IsFront (drop at.skip (numbers_from part.now at.place)) out.old out.new
-        result }
-    ensures index { length index.new ≡ length index.old }
-{
-    part.put_index(at.place, index);
-    put_longest(part, at, out, index)
-}
-
 // The same behind the first `filled` bytes of the buffer.
-fn put_more(part: &Part, at: Position, filled: usize, out: &mut [u8], index: &mut [u64]) -> usize
+fn put_more(part: &Part, at: Position, filled: usize, out: &mut [u8], index: &[u64]) -> usize
     requires number { part.now.array.kind ≢ DapKind.Text }
     requires place { at.place < box_len part.now.sent.slabs }
     requires skip { at.skip < element_len part.now.array.kind }
     requires room { filled < length out.old }
-    requires index { length index.old ≡ length part.now.sent.slabs }
+    requires index { index.now ≡ index_at part.now.sent.slabs at.place }
     ensures some { 1 ≤ result }
     ensures fits { filled + result ≤ length out.old }
     ensures within { result ≤ length (drop at.skip (numbers_from part.now at.place)) }
     ensures bytes { out.new ≡ take filled out.old
         ++ (take result (drop at.skip (numbers_from part.now at.place)) ++ drop (filled + result)
         out.old) }
-    ensures index { length index.new ≡ length index.old }
 {
     let (_, rest) = out.split_at_mut(filled);
-    put_some(part, at, rest, index)
+    put_longest(part, at, rest, index)
 }
 
 // Writes the bytes of the numbers that are sent from an offset on, as many as fit, and returns how many that are. The
@@ -153,12 +136,15 @@ pub(crate) fn put_elements(part: &Part, from: u64, out: &mut [u8], index: &mut [
     let mut place = from / width;
     let mut skip = from % width;
     let mut filled = 0;
+    part.begin_at(place, index);
     while place < part.count() && filled < out.len() {
         let count = put_more(part, Position { place, skip }, filled, out, index);
         let passed = skip + count as u64;
-        place += passed / width;
+        let next = place + passed / width;
         skip = passed % width;
         filled += count;
+        part.move_on(place, next, index);
+        place = next;
     }
     filled
 }

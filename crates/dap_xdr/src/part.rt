@@ -163,6 +163,21 @@ impl<'a, 'b> Part<'a, 'b> {
         advance(self.sent.slabs.as_slice(), index, place);
     }
 
+    // Moves the index list of a place on to a later place, where there is one. It takes no division to the next place.
+    pub fn move_on(&self, from: u64, to: u64, index: &mut [u64])
+        requires place { from < box_len self.now.sent.slabs }
+        requires before { index.old ≡ index_at self.now.sent.slabs from }
+        requires room { length index.old ≡ length self.now.sent.slabs }
+        ensures index { to < box_len self.now.sent.slabs → index.new ≡ index_at self.now.sent.slabs to }
+        ensures room { length index.new ≡ length index.old }
+    {
+        if to > from && to - from == 1 {
+            self.go_on_to(to, index);
+            return;
+        }
+        self.begin_at(to, index);
+    }
+
     // The bits of the number at a place, whose index list stands in `index`.
     pub fn bits(&self, place: u64, index: &[u64]) -> u64
         requires number { self.now.array.kind ≢ DapKind.Text }

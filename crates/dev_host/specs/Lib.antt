@@ -1,6 +1,7 @@
 pub mod Accept
 pub mod Bound
 pub mod HeldBack
+pub mod Moment
 pub mod Names
 pub mod Paths
 pub mod Patience

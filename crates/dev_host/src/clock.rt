@@ -2,51 +2,68 @@
 ghost use Rattle.std.specs.Prelude.{◌≡◌, ◌≢◌, None, IfSome};
 ghost use Rattle.dev_host.specs.Remaining.{one_less, remaining_of};
 
+use crate::moment::{Jump, Moment};
+use crate::notice::{Event, tell_of, tell_skipped};
 use crate::remaining::Remaining;
 use crate::stops::Stops;
+use crate::telling::Tell;
 use dev_traits::{Clock, Expiry};
 use std::marker::Send;
-use std::time::{Duration, SystemTime, UNIX_EPOCH};
+use std::time::Duration;
 use std::{rt, thread};
 
 // For how many seconds a clock waits before it looks whether taking in is over.
 const STEP: u64 = 1;
 
-/// A clock that gives the present moment at once, and then after each interval. One without end ends once taking in is
-/// over. Verdicts are dropped.
+/// A clock that gives the present moment at once, and then after each interval. Where the machine's clock was set since
+/// the last one by over an hour, the moment is skipped. One without end ends once taking in is over. Its lines go to a
+/// teller; verdicts are dropped.
 #[derive(Drop)]
-pub struct RealClock<R: rt::Clock + Drop> {
+pub struct RealClock<R: rt::Clock + Drop, T: Tell + Drop> {
     // none where memory ran out as the clock was opened
     rt: Option<R>,
+    tell: Option<T>,
     interval: Duration,
     remaining: Remaining,
-    is_started: bool,
+    // the last moment that was read
+    last: Option<Moment>,
     stops: Option<Stops>,
 }
 
-impl<R: rt::Clock + Drop> RealClock<R> {
+impl<R: rt::Clock + Drop, T: Tell + Drop> RealClock<R, T> {
     /// A clock that gives at most `ticks` moments; 0 is without end.
-    pub fn new(rt: R, ticks: u32, interval: Duration) -> RealClock<R>
+    pub fn new(rt: R, tell: T, ticks: u32, interval: Duration) -> RealClock<R, T>
         ensures { result.remaining ≡ remaining_of ticks }
     {
-        RealClock::of(Some(rt), ticks, interval)
+        RealClock::of(Some(rt), Some(tell), ticks, interval)
     }
 
-    // The same. Without a machine it gives no moment.
-    pub(crate) fn of(rt: Option<R>, ticks: u32, interval: Duration) -> RealClock<R>
+    // The same. Without a machine it gives no moment, and without a teller its lines are lost.
+    pub(crate) fn of(
+        rt: Option<R>,
+        tell: Option<T>,
+        ticks: u32,
+        interval: Duration,
+    ) -> RealClock<R, T>
         ensures { result.remaining ≡ remaining_of ticks }
     {
         RealClock {
             rt,
+            tell,
             interval,
             remaining: Remaining::of(ticks),
-            is_started: false,
+            last: None,
             stops: None,
         }
     }
 
+    /// What takes its lines.
+    pub fn teller(&self) -> Option<&T> {
+        self.tell.as_ref()
+    }
+
     // The same clock, which ends with these where it is without end.
-    pub(crate) fn until(self, stops: Option<Stops>) -> RealClock<R>
+    pub(crate) fn until(self, stops: Option<Stops>) -> RealClock<R, T>
         ensures { result.remaining ≡ self.remaining }
     {
         let mut clock = self;
@@ -77,9 +94,50 @@ impl<R: rt::Clock + Drop> RealClock<R> {
             left = left.saturating_sub(step);
         }
     }
+
+    // The present moment, where it can be read. It is told where it can't.
+    fn read(&self) -> Option<Moment> {
+        match Moment::now(self.rt.as_ref()?) {
+            Ok(moment) => Some(moment),
+            Err(error) => {
+                if let Some(tell) = &self.tell {
+                    tell_of(tell, "clock", Event::Unclocked(error));
+                }
+                None
+            }
+        }
+    }
+
+    // Tells that a moment is skipped.
+    fn skip(&self, jump: Jump) {
+        if let Some(tell) = &self.tell {
+            tell_skipped(tell, jump);
+        }
+    }
+
+    // The next moment to which the machine's clock didn't jump, unless none comes any more.
+    fn next_moment(&mut self) -> Option<Moment>
+        ensures { self.new.remaining ≡ self.old.remaining }
+    {
+        'moments: for _ in 0..u64::MAX {
+            if self.last.is_some() {
+                self.wait();
+            }
+            if self.is_stopped() {
+                return None;
+            }
+            let now = self.read()?;
+            let last = self.last.replace(now).unwrap_or(now);
+            match now.jump_since(last) {
+                Some(jump) => self.skip(jump),
+                None => return Some(now),
+            }
+        }
+        None
+    }
 }
 
-impl<R: rt::Clock + Drop + Send> Clock for RealClock<R> {
+impl<R: rt::Clock + Drop + Send, T: Tell + Drop + Send> Clock for RealClock<R, T> {
     ghost shown = { λ _. None };
 
     /// `None` too where the machine's clock can't be read.
@@ -91,23 +149,16 @@ impl<R: rt::Clock + Drop + Send> Clock for RealClock<R> {
         if self.remaining.is_over() {
             return None;
         }
-        if self.is_started {
-            self.wait();
-        }
-        if self.is_stopped() {
-            return None;
-        }
-        self.is_started = true;
+        let moment = self.next_moment()?;
         self.remaining = self.remaining.one_less();
-        present(self.rt.as_ref()?)
+        moment.seconds()
     }
 
     fn settle(&mut self, _verdict: Expiry) {}
-}
 
-// The seconds from 1970 until now.
-fn present<R: rt::Clock>(rt: &R) -> Option<i64> {
-    let now = SystemTime::now(rt).ok()?;
-    let passed = now.duration_since(UNIX_EPOCH).ok()?;
-    i64::try_from(passed.as_secs()).ok()
+    fn note(&mut self, line: &[&[u8]]) {
+        if let Some(tell) = &self.tell {
+            tell.tell(line);
+        }
+    }
 }

@@ -5,15 +5,18 @@ ghost use Rattle.dev_traits.specs.Door.{IfCame, IsFresh};
 ghost use Rattle.dev_host.specs.Remaining.{ComesOf, CountsDown, MayClose, remaining_of};
 
 use crate::link::TcpLink;
+use crate::notice::Voice;
 use crate::patience::Patience;
 use crate::present::present;
 use crate::reactor::Reactor;
 use crate::remaining::Remaining;
 use crate::stops::Stops;
+use crate::telling::Tell;
 use dev_std::counted;
 use dev_traits::{Coming, Door, Failed, Link};
 use std::alloc::Global;
 use std::marker::Send;
+use std::mem::replace;
 use std::net::{Net, SocketAddr, TcpListener};
 use std::{io, rt};
 
@@ -21,7 +24,7 @@ use std::{io, rt};
 /// connection comes to one of them. One without end takes no more links once taking in is over, lets the replies end
 /// that are under way, and closes.
 #[derive(Drop)]
-pub struct TcpDoor<R: rt::Clock + Clone + Drop> {
+pub struct TcpDoor<R: rt::Clock + Clone + Drop, T: Tell + Drop> {
     rt: R,
     remaining: Remaining,
     patience: Patience,
@@ -29,10 +32,12 @@ pub struct TcpDoor<R: rt::Clock + Clone + Drop> {
     // whether the links that rest were stepped once more since taking in is over
     has_hurried: bool,
     reactor: Reactor,
+    // what tells that connections can't be taken
+    voice: Option<Voice<T>>,
     faults: u64,
 }
 
-impl<R: rt::Clock + Net + Clone + Drop> TcpDoor<R> {
+impl<R: rt::Clock + Net + Clone + Drop, T: Tell + Drop> TcpDoor<R, T> {
     /// A door that takes `connections` connections of a listener; 0 is without end. No call has failed.
     pub fn new(
         rt: R,
@@ -41,7 +46,7 @@ impl<R: rt::Clock + Net + Clone + Drop> TcpDoor<R> {
         connections: u32,
         patience: Patience,
         stops: Stops,
-    ) -> io::Result<TcpDoor<R>>
+    ) -> io::Result<TcpDoor<R, T>>
         ensures faults { IfOk result (λ door. door.faults ≡ 0) }
         ensures remaining { IfOk result (λ door. door.remaining ≡ remaining_of connections) }
         ensures patience { IfOk result (λ door. door.patience ≡ patience) }
@@ -54,12 +59,23 @@ impl<R: rt::Clock + Net + Clone + Drop> TcpDoor<R> {
             stops,
             has_hurried: false,
             reactor,
+            voice: None,
             faults: 0,
         })
     }
 }
 
-impl<R: rt::Clock + Clone + Drop> TcpDoor<R> {
+impl<R: rt::Clock + Clone + Drop, T: Tell + Drop> TcpDoor<R, T> {
+    // The same door, which tells by this that connections can't be taken.
+    pub(crate) fn telling(self, voice: Option<Voice<T>>) -> TcpDoor<R, T>
+        ensures faults { result.faults ≡ self.faults }
+        ensures patience { result.patience ≡ self.patience }
+    {
+        let mut door = self;
+        drop(replace(&mut door.voice, voice));
+        door
+    }
+
     /// The address at which it listens.
     pub fn local_addr(&self) -> io::Result<SocketAddr> {
         self.reactor.local_addr()
@@ -91,6 +107,18 @@ impl<R: rt::Clock + Clone + Drop> TcpDoor<R> {
         self.remaining.is_over() || self.is_stopped()
     }
 
+    // Tells what is to be said of the accepts.
+    fn say(&mut self)
+        ensures faults { self.new.faults ≡ self.old.faults }
+        ensures remaining { self.new.remaining ≡ self.old.remaining }
+    {
+        if let Some(event) = self.reactor.event()
+            && let Some(voice) = &self.voice
+        {
+            voice.say(event);
+        }
+    }
+
     // The next link, where one comes without waiting.
     fn next_link(&mut self, key: usize) -> Result<Option<TcpLink<R>>, Failed>
         ensures faults { self.new.faults ≡ self.old.faults }
@@ -105,7 +133,9 @@ impl<R: rt::Clock + Clone + Drop> TcpDoor<R> {
             return Err(Failed);
         };
         let now = present(&rt);
-        let Some(stream) = self.reactor.next_stream(key, now)? else {
+        let stream = self.reactor.next_stream(key, now);
+        self.say();
+        let Some(stream) = stream? else {
             return Ok(None);
         };
         self.remaining = self.remaining.one_less();
@@ -140,7 +170,7 @@ impl<R: rt::Clock + Clone + Drop> TcpDoor<R> {
     }
 }
 
-impl<R: rt::Clock + Clone + Drop + Send> Door for TcpDoor<R> {
+impl<R: rt::Clock + Clone + Drop + Send, T: Tell + Drop + Send> Door for TcpDoor<R, T> {
     type L = TcpLink<R>;
 
     ghost shown = { λ door. record { held = None; faults = door.faults } };
@@ -165,7 +195,7 @@ impl<R: rt::Clock + Clone + Drop + Send> Door for TcpDoor<R> {
         if self.is_stopped() {
             link.hurry();
         }
-        let waits = link.waits();
+        let waits = link.waits(self.reactor.is_open(key));
         let due = link.due();
         link.rested();
         self.reactor.rest(key, &mut link.stream, waits, due);

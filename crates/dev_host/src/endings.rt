@@ -32,6 +32,14 @@ impl Endings {
         self.times.make_room(self.table.capacity())
     }
 
+    // Gives back the room for connections where each is closed.
+    pub fn give_back(&mut self) {
+        if self.table.is_empty() {
+            self.table.shrink_to_fit();
+            self.times.clear();
+        }
+    }
+
     // Ends a connection. What still comes is dropped without waiting for it.
     pub fn end(&mut self, watch: &Watch, stream: TcpStream, now: u64) {
         let mut ending = Ending::new(stream, now);

@@ -2,8 +2,11 @@
 ghost use Rattle.std.specs.Prelude.{◌≡◌};
 
 use crate::accepting::{Accepting, accepting_of};
+use crate::notice::Event;
 use crate::socket::Listener;
+use crate::trouble::Trouble;
 use dev_traits::Failed;
+use std::io::Error;
 
 // For how many milliseconds no accept is made after one for which the system lacked something.
 const PAUSE: u64 = 100;
@@ -20,11 +23,23 @@ enum Next {
     Never,
 }
 
+// What is to be said of the accepts. It holds no reference, as an `Event` may, so that none is in a door.
+#[derive(Clone, Copy)]
+enum News {
+    // Connections are taken again.
+    Accepted,
+    // The system lacks something for one that waits.
+    Unaccepted(Error),
+}
+
 /// The accepts of a listener, which are made when one may give a connection.
 #[derive(Drop)]
 pub struct Entry<L: Listener + Drop> {
     pub listener: L,
     next: Next,
+    trouble: Trouble,
+    // what is to be said of it
+    news: Option<News>,
 }
 
 impl<L: Listener + Drop> Entry<L> {
@@ -35,6 +50,8 @@ impl<L: Listener + Drop> Entry<L> {
         Entry {
             listener,
             next: Next::Now,
+            trouble: Trouble::none(),
+            news: None,
         }
     }
 
@@ -68,6 +85,27 @@ impl<L: Listener + Drop> Entry<L> {
         self.next == Next::Never
     }
 
+    // The system lacked something for a connection.
+    fn lacks(&mut self, now: u64, error: Error)
+        ensures { self.new.listener ≡ self.old.listener }
+    {
+        if self.trouble.fails(now) {
+            self.news = Some(News::Unaccepted(error));
+        }
+        self.pause(now);
+    }
+
+    // What is to be said of the accepts since it was asked last.
+    pub(crate) fn event(&mut self) -> Option<Event<'static>>
+        ensures { self.new.listener ≡ self.old.listener }
+    {
+        match self.news.take() {
+            Some(News::Accepted) => Some(Event::Accepted),
+            Some(News::Unaccepted(error)) => Some(Event::Unaccepted(error)),
+            None => None,
+        }
+    }
+
     /// The next connection, where an accept is due and gives one. It fails once, where the socket is none any more.
     pub fn next_stream(&mut self, now: u64) -> Result<Option<L::Stream>, Failed>
         ensures { self.new.listener ≡ self.old.listener }
@@ -77,12 +115,18 @@ impl<L: Listener + Drop> Entry<L> {
             _ => return Ok(None),
         }
         match self.listener.next_stream() {
-            Ok(stream) => return Ok(Some(stream)),
+            Ok(stream) => {
+                if self.trouble.works() {
+                    self.news = Some(News::Accepted);
+                }
+                return Ok(Some(stream));
+            }
             Err(error) => match accepting_of(&error) {
                 Accepting::Again => {}
                 Accepting::Later => self.next = Next::Event,
-                Accepting::Short => self.pause(now),
+                Accepting::Short => self.lacks(now, error),
                 Accepting::Failed => {
+                    self.news = Some(News::Unaccepted(error));
                     self.next = Next::Never;
                     return Err(Failed);
                 }

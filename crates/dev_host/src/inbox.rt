@@ -210,4 +210,8 @@ impl<R: rt::Files + rt::Clock + Drop + Send, T: Tell + Drop + Send> Inbox for Fo
         }
         Ok(())
     }
+
+    fn note(&mut self, line: &[&[u8]]) {
+        self.tell.tell(line);
+    }
 }

@@ -14,6 +14,15 @@ use dev_traits::{Failed, Link, Sent, Taken, count_fault};
 use mio::net::TcpStream;
 use std::rt;
 
+// Whether the last call of a link would have waited.
+#[derive(Clone, Copy)]
+enum Waits {
+    No,
+    Yes,
+    // It wasn't made. The take before had room for more than there was.
+    Surely,
+}
+
 /// A link over a socket, whose peer is waited for only so long. A take that would wait says the end of input once no
 /// byte was put for that long, so a peer that is silent ends, and one that sends a byte now and then. A put that would
 /// wait fails once the peer took nothing for that long, or too little.
@@ -23,7 +32,9 @@ pub struct PolledLink<S: Socket + Drop, R: rt::Clock + Drop> {
     rt: R,
     patience: Patience,
     pace: Pace,
-    waits: bool,
+    waits: Waits,
+    // whether the last take had room for more than there was
+    is_drained: bool,
     // whether no further request is waited for
     hurries: bool,
     faults: u64,
@@ -43,7 +54,8 @@ impl<S: Socket + Drop, R: rt::Clock + Drop> PolledLink<S, R> {
             rt,
             patience,
             pace: Pace::new(now),
-            waits: false,
+            waits: Waits::No,
+            is_drained: false,
             hurries: false,
             faults: 0,
         }
@@ -56,9 +68,14 @@ impl<S: Socket + Drop, R: rt::Clock + Drop> PolledLink<S, R> {
         self.hurries = true;
     }
 
-    /// Whether the last call would have waited.
-    pub fn waits(&self) -> bool {
-        self.waits
+    /// Whether the last call would have waited. One that wasn't made would have if the peer's side was open before it:
+    /// its end is no byte, and its event may have come already.
+    pub(crate) fn waits(&self, is_open: bool) -> bool {
+        match self.waits {
+            Waits::No => false,
+            Waits::Yes => true,
+            Waits::Surely => is_open,
+        }
     }
 
     /// The link rests, and its events count from now on. One that rests again before its next call missed one of them,
@@ -66,7 +83,8 @@ impl<S: Socket + Drop, R: rt::Clock + Drop> PolledLink<S, R> {
     pub(crate) fn rested(&mut self)
         ensures { ⟦<PolledLink<S, R> as Link>⟧.shown self.new ≡ ⟦<PolledLink<S, R> as Link>⟧.shown self.old }
     {
-        self.waits = false;
+        self.waits = Waits::No;
+        self.is_drained = false;
     }
 
     /// The moment at which its time is over, if nothing moves until then.
@@ -84,6 +102,11 @@ impl<S: Socket + Drop, R: rt::Clock + Drop> PolledLink<S, R> {
         self.due() <= present(&self.rt)
     }
 
+    // Whether a take finds nothing, since the one before it had room for more than there was.
+    fn is_empty(&self) -> bool {
+        self.is_drained && !self.is_over()
+    }
+
     // The stream, of a link that has ended.
     pub(crate) fn into_stream(self) -> S {
         let PolledLink { stream, .. } = self;
@@ -91,6 +114,7 @@ impl<S: Socket + Drop, R: rt::Clock + Drop> PolledLink<S, R> {
     }
 }
 
+#[tactic(auto, using(dev_std::proofs::StreamLemmas::known))]
 impl<S: Socket + Drop, R: rt::Clock + Drop> Link for PolledLink<S, R> {
     ghost shown = { λ link. record { held = None; faults = link.faults } };
 
@@ -107,11 +131,20 @@ impl<S: Socket + Drop, R: rt::Clock + Drop> Link for PolledLink<S, R> {
         ensures bytes { TakesInTime (S.remaining self.old.stream) (S.remaining self.new.stream) buf.new result }
     {
         self.pace = self.pace.taking();
-        self.waits = false;
+        let is_empty = self.is_empty();
+        self.is_drained = false;
+        if is_empty {
+            self.waits = Waits::Surely;
+            return Ok(Taken::Later);
+        }
+        self.waits = Waits::No;
         match take_now(&mut self.stream, buf) {
-            Ok(Taken::Bytes(count)) => Ok(Taken::Bytes(count)),
+            Ok(Taken::Bytes(count)) => {
+                self.is_drained = count < buf.len();
+                Ok(Taken::Bytes(count))
+            }
             Ok(Taken::Later) if !self.is_over() => {
-                self.waits = true;
+                self.waits = Waits::Yes;
                 Ok(Taken::Later)
             }
             Ok(Taken::End | Taken::Later) => Ok(Taken::End),
@@ -128,14 +161,14 @@ impl<S: Socket + Drop, R: rt::Clock + Drop> Link for PolledLink<S, R> {
     {
         let now = present(&self.rt);
         self.pace = self.pace.putting(now);
-        self.waits = false;
+        self.waits = Waits::No;
         match put_now(&mut self.stream, bytes) {
             Ok(Sent::Bytes(count)) => {
                 self.pace = self.pace.put(now, count as u64);
                 Ok(Sent::Bytes(count))
             }
             Ok(Sent::Later) if now < self.due() => {
-                self.waits = true;
+                self.waits = Waits::Yes;
                 Ok(Sent::Later)
             }
             Ok(Sent::Later) | Err(Failed) => Err(count_fault(&mut self.faults)),

@@ -1,10 +1,11 @@
-//! What became of folders and addresses, as lines.
+//! What became of folders, addresses and clocks, as lines.
 
+use crate::moment::Jump;
 use crate::telling::{Line, Tell};
 use std::fmt::Write;
 use std::io::Error;
 
-// What became of a folder or an address. Names are those of files, and need not be text.
+// What became of a folder, an address or a clock. Names are those of files, and need not be text.
 #[derive(Clone, Copy)]
 pub(crate) enum Event<'a> {
     // It couldn't be opened.
@@ -29,13 +30,19 @@ pub(crate) enum Event<'a> {
     Relative(&'a [u8]),
     // A name isn't offered that looks as if it should be.
     Mistaken(&'a [u8]),
+    // The system lacks something for a connection that waits.
+    Unaccepted(Error),
+    // Connections are taken again.
+    Accepted,
+    // The clock can't be read, and has ended.
+    Unclocked(Error),
 }
 
 impl<'a> Event<'a> {
     // How its line begins.
     fn word(self) -> &'static str {
         match self {
-            Event::Listed | Event::Moved | Event::Read => "working",
+            Event::Listed | Event::Moved | Event::Read | Event::Accepted => "working",
             Event::Relative(_) | Event::Mistaken(_) => "passed over",
             _ => "failing",
         }
@@ -66,6 +73,9 @@ impl<'a> Event<'a> {
             Event::Read => "all files are read",
             Event::Relative(_) => " is a relative link",
             Event::Mistaken(_) => " isn't offered",
+            Event::Unaccepted(_) => "no connection can be taken",
+            Event::Accepted => "connections are taken again",
+            Event::Unclocked(_) => "it can't be read, and no run goes any more",
         }
     }
 
@@ -75,6 +85,8 @@ impl<'a> Event<'a> {
             Event::Unopened(error)
             | Event::Unlocked(error)
             | Event::Unlisted(error)
+            | Event::Unaccepted(error)
+            | Event::Unclocked(error)
             | Event::Unmoved(_, error)
             | Event::Unread(_, error) => Some(error),
             _ => None,
@@ -92,7 +104,21 @@ fn put_name(line: &mut Line, name: &[u8]) {
     }
 }
 
-// Puts what became of a folder or an address.
+// What tells what becomes of a place.
+#[derive(Drop)]
+pub(crate) struct Voice<T: Tell + Drop> {
+    pub tell: T,
+    pub place: String,
+}
+
+impl<T: Tell + Drop> Voice<T> {
+    // Tells an event.
+    pub(crate) fn say(&self, event: Event<'_>) {
+        tell_of(&self.tell, self.place.as_str(), event);
+    }
+}
+
+// Puts what became of a folder, an address or a clock.
 fn put_event(line: &mut Line, place: &str, event: Event<'_>) {
     line.put(event.word().as_bytes());
     line.put(b" ");
@@ -105,9 +131,37 @@ fn put_event(line: &mut Line, place: &str, event: Event<'_>) {
     }
 }
 
-// Tells what became of a folder or an address.
+// Tells what became of a folder, an address or a clock.
 pub(crate) fn tell_of<T: Tell>(tell: &T, place: &str, event: Event<'_>) {
     let mut line = Line::new();
     put_event(&mut line, place, event);
     tell.tell(&[line.as_slice()]);
+}
+
+// Tells that the moment is skipped to which a clock jumped.
+pub(crate) fn tell_skipped<T: Tell>(tell: &T, jump: Jump) {
+    let mut line = Line::new();
+    let (way, seconds) = match jump {
+        Jump::Ahead(seconds) => ("ahead", seconds),
+        Jump::Back(seconds) => ("back", seconds),
+    };
+    let _put = write!(
+        line,
+        "skipped a moment: the clock went {way} by {seconds} seconds"
+    );
+    tell.tell(&[line.as_slice()]);
+}
+
+/// Tells a line, and behind it how many connections there is room for, where that is known.
+pub fn tell_with_room<T: Tell>(tell: &T, line: &[&[u8]], room: Option<u64>) {
+    let Some(count) = room else {
+        tell.tell(line);
+        return;
+    };
+    let mut text = Line::new();
+    for part in line {
+        text.put(*part);
+    }
+    let _put = write!(text, ", room for {count} connections");
+    tell.tell(&[text.as_slice()]);
 }

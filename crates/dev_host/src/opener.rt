@@ -4,11 +4,12 @@ ghost use Rattle.std.specs.Prelude.{◌≡◌, None, IfOk};
 ghost use Rattle.dev_host.specs.Bound.{listener_at};
 
 use crate::clock::RealClock;
+use crate::descriptors::connections_left;
 use crate::door::TcpDoor;
 use crate::failing::{counted_fault, fail_of};
 use crate::inbox::FolderInbox;
 use crate::locking::Lockable;
-use crate::notice::{Event, tell_of};
+use crate::notice::{Event, Voice, tell_of, tell_with_room};
 use crate::paths::folder_path;
 use crate::patience::Patience;
 use crate::stops::Stops;
@@ -75,7 +76,28 @@ where
         alloc: Global,
         address: &[u8],
         connections: u32,
-    ) -> Result<TcpDoor<R>, Fail<Failed>>
+    ) -> Result<TcpDoor<R, T>, Fail<Failed>>
+        ensures faults { self.new.faults ≡ self.old.faults }
+        ensures fresh { IfOk result (λ door. door.faults ≡ 0) }
+        ensures patience { IfOk result (λ door. door.patience ≡ record { idle = 30_000; grace = 60_000 }) }
+    {
+        let voice = self.voice_at(alloc, address)?;
+        match self.silent_door(alloc, address, connections) {
+            Ok(door) => Ok(door.telling(voice)),
+            Err(fail) => {
+                drop(voice);
+                Err(fail)
+            }
+        }
+    }
+
+    // The same, which tells nothing yet.
+    fn silent_door(
+        &mut self,
+        alloc: Global,
+        address: &[u8],
+        connections: u32,
+    ) -> Result<TcpDoor<R, T>, Fail<Failed>>
         ensures faults { self.new.faults ≡ self.old.faults }
         ensures fresh { IfOk result (λ door. door.faults ≡ 0) }
         ensures patience { IfOk result (λ door. door.patience ≡ record { idle = 30_000; grace = 60_000 }) }
@@ -87,6 +109,16 @@ where
             Ok(door) => Ok(door),
             Err(error) => Err(fail_of(&error)),
         }
+    }
+
+    // What tells of the first door at an address. The system lacks what it lacks for all of them.
+    fn voice_at(&self, alloc: Global, address: &[u8]) -> Result<Option<Voice<T>>, NoMemory> {
+        if bound_at(self.bound.as_slice(), address).is_some() {
+            return Ok(None);
+        }
+        let place = String::from_str(alloc, str::from_utf8(address).unwrap_or(""))?;
+        let tell = self.tell.clone()?;
+        Ok(Some(Voice { tell, place }))
     }
 
     // The socket that listens at an address, which is opened where it wasn't before.
@@ -194,11 +226,11 @@ where
     R::File: Lockable,
     T: Tell + Clone + Drop + Send,
 {
-    type D = TcpDoor<R>;
+    type D = TcpDoor<R, T>;
 
     type I = FolderInbox<R, T>;
 
-    type C = RealClock<R>;
+    type C = RealClock<R, T>;
 
     ghost shown = { λ opener. record { held = None; faults = opener.faults } };
 
@@ -211,7 +243,7 @@ where
         alloc: Global,
         address: &[u8],
         connections: u32,
-    ) -> Result<TcpDoor<R>, Fail<Failed>> {
+    ) -> Result<TcpDoor<R, T>, Fail<Failed>> {
         let door = self.open_door(alloc, address, connections);
         counted_fault(&mut self.faults, door)
     }
@@ -221,12 +253,24 @@ where
         counted_fault(&mut self.faults, inbox)
     }
 
-    fn clock(&mut self, ticks: u32) -> RealClock<R> {
-        let clock = RealClock::of(self.rt.clone().ok(), ticks, Duration::from_secs(INTERVAL));
+    fn clock(&mut self, ticks: u32) -> RealClock<R, T> {
+        let interval = Duration::from_secs(INTERVAL);
+        let clock = RealClock::of(
+            self.rt.clone().ok(),
+            self.tell.clone().ok(),
+            ticks,
+            interval,
+        );
         match &self.stops {
             Some(stops) => clock.until(stops.share().ok()),
             None => clock,
         }
+    }
+
+    /// Behind the line stands how many connections there is room for beside what is open, where the system says it.
+    fn note(&mut self, line: &[&[u8]]) {
+        let room = connections_left(&self.rt, self.rt.alloc());
+        tell_with_room(&self.tell, line, room);
     }
 }
 

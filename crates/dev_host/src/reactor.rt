@@ -3,6 +3,7 @@ ghost use Rattle.std.specs.Prelude.{◌≡◌};
 
 use crate::endings::Endings;
 use crate::entry::Entry;
+use crate::notice::Event;
 use crate::present::present;
 use crate::socket::Socket;
 use crate::watching::{Watch, Watched};
@@ -27,6 +28,8 @@ pub(crate) struct Reactor {
     // when each link is to be stepped at the latest, since its time may be over
     times: Wheel,
     out: usize,
+    // the link that was told last, where that is by an event, and its peer's side was open then
+    open: Option<usize>,
     endings: Endings,
     // the moment of the last wait
     now: u64,
@@ -49,6 +52,7 @@ impl Reactor {
             watch,
             times: Wheel::new(alloc, second_of(now)),
             out: 0,
+            open: None,
             endings: Endings::new(alloc, now),
             now,
             in_a_row: 0,
@@ -62,15 +66,29 @@ impl Reactor {
     // The key of a link that may go on, where one is known without waiting.
     pub fn next_ready(&mut self) -> Option<usize> {
         for _ in 0..u64::MAX {
-            match self.watch.next() {
-                Some(Watched::Link(key)) => return Some(key),
-                Some(Watched::Ending(place)) => self.endings.go_on(place, self.now),
-                Some(Watched::Listener) => self.entry.wake(),
-                None => break,
+            let Some(told) = self.watch.next() else {
+                break;
+            };
+            match told.watched {
+                Watched::Link(key) => {
+                    self.open = if told.is_over { None } else { Some(key) };
+                    return Some(key);
+                }
+                Watched::Ending(place) => self.endings.go_on(place, self.now),
+                Watched::Listener => self.entry.wake(),
             }
         }
+        self.open = None;
         self.endings.close_due(self.now);
         self.times.pop(second_of(self.now))
+    }
+
+    // Whether the peer's side of the link of a key was open as the link was told.
+    pub fn is_open(&self, key: usize) -> bool {
+        match self.open {
+            Some(open) => open == key,
+            None => false,
+        }
     }
 
     // The stream of the next link, which then is out under this key, where one comes without waiting. One that can't be
@@ -91,7 +109,14 @@ impl Reactor {
             return Ok(None);
         }
         self.out = self.out.saturating_add(1);
+        // It is watched before it is read from, so that its first event says whether its peer's side is open.
+        self.open = Some(key);
         Ok(Some(stream))
+    }
+
+    // What is to be said of the accepts since it was asked last.
+    pub fn event(&mut self) -> Option<Event<'static>> {
+        self.entry.event()
     }
 
     // Makes room for one more link, and for its end.
@@ -119,6 +144,7 @@ impl Reactor {
             .due(accepts)
             .saturating_sub(present(clock))
             .min(LONGEST);
+        self.give_back();
         let waited = self.watch.wait(limit);
         self.now = present(clock);
         self.in_a_row = 0;
@@ -126,6 +152,15 @@ impl Reactor {
             return Err(Failed);
         }
         Ok(())
+    }
+
+    // Gives back the room for links where none is out, and for connections that have ended where each is closed too:
+    // a link that is out has its room there already.
+    fn give_back(&mut self) {
+        if self.out == 0 {
+            self.times.clear();
+            self.endings.give_back();
+        }
     }
 
     // The moment at which something is due that no event tells.

@@ -2,9 +2,13 @@
 ghost use Rattle.std.specs.Prelude.{◌≤◌};
 
 use jiff_core::civil::Date;
+use mio::unix::SourceFd;
+use mio::{Events, Interest, Poll, Token};
 use std::fmt::{self, Write};
-use std::io::{Print, Stderr};
+use std::io::{self, Print, Stderr};
+use std::net::Net;
 use std::rt;
+use std::time::Duration;
 
 // The greatest length of a line, with its end.
 const LONGEST: usize = 512;
@@ -82,7 +86,8 @@ pub trait Tell {
     fn tell(&self, line: &[&[u8]]);
 }
 
-/// Lines on standard error, each behind the time in UTC.
+/// Lines on standard error, each behind the time in UTC. A line is lost where standard error takes none at once, as a
+/// full pipe.
 #[derive(Clone, Drop)]
 pub struct Teller<R> {
     rt: R,
@@ -90,7 +95,7 @@ pub struct Teller<R> {
     is_quiet: bool,
 }
 
-impl<R: rt::Clock> Teller<R> {
+impl<R: rt::Clock + Net + AllocGlobal> Teller<R> {
     /// One that is quiet tells nothing.
     pub fn new(rt: R, errors: Stderr, is_quiet: bool) -> Teller<R> {
         Teller {
@@ -101,7 +106,7 @@ impl<R: rt::Clock> Teller<R> {
     }
 }
 
-impl<R: rt::Clock> Tell for Teller<R> {
+impl<R: rt::Clock + Net + AllocGlobal> Tell for Teller<R> {
     fn tell(&self, line: &[&[u8]]) {
         if self.is_quiet {
             return;
@@ -112,8 +117,30 @@ impl<R: rt::Clock> Tell for Teller<R> {
             text.put(*part);
         }
         text.end();
+        if !takes_now(&self.rt) {
+            return;
+        }
         let _written = self.errors.write_some(text.as_slice());
     }
+}
+
+// The descriptor of standard error.
+const ERRORS: i32 = 2;
+
+// Whether standard error takes a line at once. What can't be asked, as a file, is taken to.
+fn takes_now<R: Net + AllocGlobal>(rt: &R) -> bool {
+    is_writable(rt, ERRORS).unwrap_or(true)
+}
+
+// Whether a descriptor takes bytes at once.
+fn is_writable<R: Net + AllocGlobal>(rt: &R, descriptor: i32) -> io::Result<bool> {
+    let mut events = Events::with_capacity(rt.alloc(), 1)?;
+    let mut poll = Poll::new(rt)?;
+    let mut source = SourceFd(&descriptor);
+    poll.registry()
+        .register(&mut source, Token(0), Interest::WRITABLE)?;
+    poll.poll(&mut events, Some(Duration::from_secs(0)))?;
+    Ok(!events.is_empty())
 }
 
 // The seconds of a day.
@@ -131,11 +158,29 @@ fn put_time<R: rt::Clock>(rt: &R, line: &mut Line) {
     }
 }
 
+// The last decimal digit of a number.
+fn digit(number: u64) -> u8 {
+    b'0' + (number % 10) as u8
+}
+
 // Puts the date of a day, counted from 1970-01-01.
 fn put_date(day: u64, line: &mut Line) {
     match Date::from_unix_epoch_day(i64::try_from(day).unwrap_or(i64::MAX)) {
         Ok(date) => {
-            let _put = write!(line, "{:04}-{:02}-{:02}", date.year, date.month, date.day);
+            let year = u64::from(date.year.unsigned_abs());
+            let (month, day) = (u64::from(date.month), u64::from(date.day));
+            line.put(&[
+                digit(year / 1_000),
+                digit(year / 100),
+                digit(year / 10),
+                digit(year),
+                b'-',
+                digit(month / 10),
+                digit(month),
+                b'-',
+                digit(day / 10),
+                digit(day),
+            ]);
         }
         Err(_) => line.put(b"-"),
     }
@@ -144,5 +189,17 @@ fn put_date(day: u64, line: &mut Line) {
 // Puts the time of day of a second, and a blank.
 fn put_second(second: u64, line: &mut Line) {
     let (hour, minute, second) = (second / 3_600, second / 60 % 60, second % 60);
-    let _put = write!(line, "T{hour:02}:{minute:02}:{second:02}Z ");
+    line.put(&[
+        b'T',
+        digit(hour / 10),
+        digit(hour),
+        b':',
+        digit(minute / 10),
+        digit(minute),
+        b':',
+        digit(second / 10),
+        digit(second),
+        b'Z',
+        b' ',
+    ]);
 }

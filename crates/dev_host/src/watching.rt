@@ -51,6 +51,14 @@ impl Watched {
     }
 }
 
+// What an event tells.
+#[derive(Clone, Copy)]
+pub(crate) struct Told {
+    pub watched: Watched,
+    // Whether the peer has closed its side, or the connection has failed.
+    pub is_over: bool,
+}
+
 // What is watched, and the events of the last wait that were not told yet.
 #[derive(Drop)]
 pub(crate) struct Watch {
@@ -87,10 +95,13 @@ impl Watch {
     }
 
     // The next event of the last wait. Each is told once.
-    pub fn next(&mut self) -> Option<Watched> {
-        let token = self.events.iter().nth(self.told)?.token();
+    pub fn next(&mut self) -> Option<Told> {
+        let event = self.events.iter().nth(self.told)?;
         self.told = self.told.saturating_add(1);
-        Some(Watched::of(token))
+        Some(Told {
+            watched: Watched::of(event.token()),
+            is_over: event.is_read_closed() || event.is_error(),
+        })
     }
 
     // Waits for events, at most `limit` milliseconds.

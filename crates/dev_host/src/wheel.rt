@@ -64,6 +64,13 @@ impl Wheel {
         Ok(())
     }
 
+    /// Takes out all keys, and gives back the room for them.
+    pub fn clear(&mut self) {
+        self.firsts = [NONE; 64];
+        self.places.clear();
+        self.places.shrink_to_fit();
+    }
+
     /// Puts in a key, unless it is in already or there is no room for it. A second that has passed counts as the
     /// present one, and one that is too far ahead as the last one that can be.
     pub fn put(&mut self, key: usize, second: u64) {

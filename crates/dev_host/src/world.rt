@@ -27,7 +27,7 @@ pub fn host_world(rt: HostRuntime, words: &List<Bytes>) -> HostWorld
     ensures stream { is_errors result.sink.output ≡ names_once words.now }
 {
     World {
-        opener: RealOpener::new(rt, Teller::new(rt, rt.stderr(), false)),
+        opener: RealOpener::new(rt, Teller::new(rt, rt.stderr(), is_quiet(words.as_slice()))),
         doors: List::new(rt.alloc()),
         inboxes: List::new(rt.alloc()),
         clocks: List::new(rt.alloc()),
@@ -36,4 +36,18 @@ pub fn host_world(rt: HostRuntime, words: &List<Bytes>) -> HostWorld
         sink: StdSink::new(StdStream::of_words(words.as_slice(), rt.stdout(), rt.stderr())),
         gate: OpenGate,
     }
+}
+
+// Whether the words of a server ask it to leave its lines out: `--quiet` stands before any `--`. No value is such a
+// word.
+fn is_quiet(words: &[Bytes]) -> bool {
+    for word in words {
+        if word.as_slice() == b"--".as_slice() {
+            return false;
+        }
+        if word.as_slice() == b"--quiet".as_slice() {
+            return true;
+        }
+    }
+    false
 }

@@ -3,6 +3,7 @@
 
 mod calls;
 mod first;
+mod lines;
 mod mem_clock;
 mod mem_door;
 mod mem_files;

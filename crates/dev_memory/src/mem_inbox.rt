@@ -1,25 +1,28 @@
 //! An inbox in memory.
-ghost use Rattle.std.specs.Prelude.{◌≡◌, ◌≤◌, IfOk, IfSome, Some, drop, length};
+ghost use Rattle.std.specs.Prelude.{◌≡◌, ◌≤◌, IfOk, IfSome, Some, drop, length, option_map};
 ghost use Rattle.dev_memory.specs.Memory.{held};
-ghost use Rattle.dev_traits.specs.Inbox.{fresh_post};
+ghost use Rattle.dev_traits.specs.Inbox.{fresh_post, inbox_lines};
 ghost use Rattle.dev_traits.specs.Opener.{inbox_asked};
 
 use crate::calls::Calls;
+use crate::lines::Lines;
 use crate::mem_files::{Entry, look_up};
 use dev_traits::{Arrival, Failed, Found, Inbox, Verdict};
 use fm_base::{Bytes, Fail, List, NoMemory};
 use std::alloc::Global;
 
 /// An inbox in memory, with the names that are to come, the files that lie there, and room for a verdict on each name.
-/// It is never idle.
+/// It is never idle. It keeps its lines, as long as memory lasts.
 #[derive(Drop)]
 pub struct MemInbox {
+    alloc: Global,
     asked: Option<Bytes>,
     names: List<Bytes>,
     given: usize,
     last: Option<Bytes>,
     files: List<Entry>,
     verdicts: Vec<Verdict>,
+    lines: Lines,
     calls: Calls,
     ghost within: { given ≤ length names },
 }
@@ -37,12 +40,14 @@ impl MemInbox {
     {
         let verdicts = Vec::with_capacity(alloc, names.len())?;
         Ok(MemInbox {
+            alloc,
             asked: None,
             names,
             given: 0,
             last: None,
             files,
             verdicts,
+            lines: Lines::none(alloc),
             calls: Calls::new(failing),
         })
     }
@@ -62,6 +67,16 @@ impl MemInbox {
     {
         self.verdicts.as_slice()
     }
+
+    /// The lines, in order, where none was lost.
+    pub fn lines(&self) -> Option<&[Bytes]>
+        ensures { option_map (λ lines. lines.now) result ≡ inbox_lines (⟦<MemInbox as Inbox>⟧.shown self.now).held }
+    {
+        match &self.lines.told {
+            Some(lines) => Some(lines.as_slice()),
+            None => None,
+        }
+    }
 }
 
 impl Inbox for MemInbox {
@@ -72,6 +87,7 @@ impl Inbox for MemInbox {
         last = inbox.last;
         content = held inbox.files;
         verdicts = inbox.verdicts.items;
+        lines = inbox.lines.told;
       });
       faults = inbox.calls.faults;
     } };
@@ -106,6 +122,10 @@ impl Inbox for MemInbox {
         }
         self.verdicts.push_reserved(verdict);
         Ok(())
+    }
+
+    fn note(&mut self, line: &[&[u8]]) {
+        self.lines.note(self.alloc, line);
     }
 }
 

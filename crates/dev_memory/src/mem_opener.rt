@@ -1,10 +1,11 @@
 //! An opener in memory.
-ghost use Rattle.std.specs.Prelude.{◌≡◌, All, IfOk, OnErr, OnOk, Some};
+ghost use Rattle.std.specs.Prelude.{◌≡◌, [], All, IfOk, OnErr, OnOk, Some, option_map};
 ghost use Rattle.dev_traits.specs.Cause.{HasReadCause};
-ghost use Rattle.dev_traits.specs.Opener.{IsNextDoor, IsNextInbox, Stock, after_door, after_inbox};
+ghost use Rattle.dev_traits.specs.Opener.{IsNextDoor, IsNextInbox, Stock, after_door, after_inbox, opener_lines};
 
 use crate::calls::Calls;
 use crate::first::take_first;
+use crate::lines::Lines;
 use crate::mem_clock::MemClock;
 use crate::mem_door::MemDoor;
 use crate::mem_inbox::MemInbox;
@@ -13,13 +14,14 @@ use fm_base::{Bytes, Fail, List};
 use std::alloc::Global;
 
 /// An opener in memory, with the doors, inboxes and clocks that it gives. Without a further door or inbox it fails;
-/// without a further clock it gives one without moments.
+/// without a further clock it gives one without moments. It keeps its lines, as long as memory lasts.
 #[derive(Drop)]
 pub struct MemOpener {
     alloc: Global,
     doors: List<MemDoor>,
     inboxes: List<MemInbox>,
     clocks: List<MemClock>,
+    lines: Lines,
     calls: Calls,
     ghost doors_fresh: { All (λ door. (⟦<MemDoor as Door>⟧.shown door).faults ≡ 0) doors },
     ghost inboxes_fresh: { All (λ inbox. (⟦<MemInbox as Inbox>⟧.shown inbox).faults ≡ 0) inboxes },
@@ -38,7 +40,7 @@ impl MemOpener {
         requires doors { All (λ door. (⟦<MemDoor as Door>⟧.shown door).faults ≡ 0) doors }
         requires inboxes { All (λ inbox. (⟦<MemInbox as Inbox>⟧.shown inbox).faults ≡ 0) inboxes }
         ensures shown { ⟦<MemOpener as Opener>⟧.shown result ≡ record {
-          held = Some (record { doors = doors; inboxes = inboxes; clocks = clocks });
+          held = Some (record { doors = doors; inboxes = inboxes; clocks = clocks; lines = Some [] });
           faults = 0;
         } }
     {
@@ -47,7 +49,19 @@ impl MemOpener {
             doors,
             inboxes,
             clocks,
+            lines: Lines::none(alloc),
             calls: Calls::new(failing),
+        }
+    }
+
+    /// The lines, in order, where none was lost.
+    pub fn lines(&self) -> Option<&[Bytes]>
+        ensures { option_map (λ lines. lines.now) result
+            ≡ opener_lines (⟦<MemOpener as Opener>⟧.shown self.now).held }
+    {
+        match &self.lines.told {
+            Some(lines) => Some(lines.as_slice()),
+            None => None,
         }
     }
 }
@@ -95,7 +109,12 @@ impl Opener for MemOpener {
     type C = MemClock;
 
     ghost shown = { λ opener. record {
-      held = Some (record { doors = opener.doors; inboxes = opener.inboxes; clocks = opener.clocks });
+      held = Some (record {
+        doors = opener.doors;
+        inboxes = opener.inboxes;
+        clocks = opener.clocks;
+        lines = opener.lines.told;
+      });
       faults = opener.calls.faults;
     } };
 
@@ -132,5 +151,9 @@ impl Opener for MemOpener {
             Some(clock) => clock.asked_with(ticks),
             None => MemClock::without_moments(self.alloc).asked_with(ticks),
         }
+    }
+
+    fn note(&mut self, line: &[&[u8]]) {
+        self.lines.note(self.alloc, line);
     }
 }

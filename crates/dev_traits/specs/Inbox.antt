@@ -5,6 +5,7 @@ use Rattle.dev_traits.specs.declared.inbox.Arrival.{Arrival}
 use Rattle.dev_traits.specs.declared.inbox.Arrival.TheVariants.{Name, Idle, Done}
 use Rattle.dev_traits.specs.declared.inbox.Verdict.{Verdict}
 use Rattle.dev_traits.specs.Door.{first_of}
+use Rattle.dev_traits.specs.Lines.{Told}
 
 -- what an inbox in memory holds
 pub record Post : Type 0 where
@@ -18,6 +19,8 @@ pub record Post : Type 0 where
   pub content : List ℕ → Option (List ℕ)
   -- the verdicts, in order
   pub verdicts : List Verdict
+  -- the lines of the journal
+  pub lines : Told
 
 -- what an inbox shows
 abbrev pub InboxShown : Type 0
@@ -25,7 +28,14 @@ InboxShown = Shown Post
 
 -- an inbox with these names to come and these contents, before its first call
 abbrev pub fresh_post : List (List ℕ) → (List ℕ → Option (List ℕ)) → Post
-fresh_post names content = record { asked = None; left = names; last = None; content = content; verdicts = [] }
+fresh_post names content = record {
+  asked = None;
+  left = names;
+  last = None;
+  content = content;
+  verdicts = [];
+  lines = Some [];
+}
 
 -- what an inbox has next: the first of the names left, nothing yet where one is left, and its end where none is left
 abbrev pub IsNext : Post → Arrival → Type 0
@@ -44,3 +54,13 @@ after_next Done (Some post) = Some post
 abbrev pub after_settle : Verdict → Option Post → Option Post
 after_settle verdict None = None
 after_settle verdict (Some post) = Some (record post { verdicts = post.verdicts ++ verdict ∷ [] })
+
+-- the lines that an inbox was told, where they are known
+abbrev pub inbox_lines : Option Post → Told
+inbox_lines None = None
+inbox_lines (Some post) = post.lines
+
+-- an inbox with these lines
+abbrev pub with_lines : Told → Option Post → Option Post
+with_lines told None = None
+with_lines told (Some post) = Some (record post { lines = told })

@@ -3,6 +3,7 @@ pub mod Clock
 pub mod Door
 pub mod Files
 pub mod Inbox
+pub mod Lines
 pub mod Link
 pub mod Opener
 pub mod Shown

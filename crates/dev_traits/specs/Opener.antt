@@ -1,16 +1,19 @@
 -- What an opener holds.
-use Rattle.std.specs.Prelude.{◌≡◌, ℕ, List, [], ◌∷◌, drop, Option, Some, option_map, IsSomeAnd}
+use Rattle.std.specs.Prelude.{◌≡◌, ℕ, List, [], ◌∷◌, drop, Option, Some, None, option_map, IsSomeAnd}
 use Rattle.dev_traits.specs.Shown.{Shown}
 use Rattle.dev_traits.specs.declared.door.DoorAsked.{DoorAsked}
 use Rattle.dev_traits.specs.Clock.{Moments, fresh_moments}
 use Rattle.dev_traits.specs.Door.{DoorShown, Doorway, first_of}
 use Rattle.dev_traits.specs.Inbox.{InboxShown, Post}
+use Rattle.dev_traits.specs.Lines.{Told}
 
--- what an opener in memory holds: the doors, the inboxes and the clocks that it will give, in order
+-- what an opener in memory holds: the doors, the inboxes and the clocks that it will give, in order, and the lines of
+-- the journal
 pub record Stock (D I C : Type 0) : Type 0 where
   pub doors : List D
   pub inboxes : List I
   pub clocks : List C
+  pub lines : Told
 
 -- what an opener shows
 abbrev pub OpenerShown : Type 0 → Type 0 → Type 0 → Type 0
@@ -59,3 +62,12 @@ after_inbox {D} {I} {C} stock = option_map (λ (s : Stock D I C). record s { inb
 -- the opener after it gave a clock
 abbrev pub after_clock : {D I C : Type 0} → Option (Stock D I C) → Option (Stock D I C)
 after_clock {D} {I} {C} stock = option_map (λ (s : Stock D I C). record s { clocks = drop 1 s.clocks }) stock
+
+-- the lines that an opener was told, where they are known
+abbrev pub opener_lines : {D I C : Type 0} → Option (Stock D I C) → Told
+opener_lines None = None
+opener_lines (Some stock) = stock.lines
+
+-- an opener with these lines
+abbrev pub with_opener_lines : {D I C : Type 0} → Told → Option (Stock D I C) → Option (Stock D I C)
+with_opener_lines {D} {I} {C} told stock = option_map (λ (s : Stock D I C). record s { lines = told }) stock

@@ -1,8 +1,17 @@
 //! An inbox in which files arrive.
 ghost use Rattle.std.specs.Prelude.{◌≡◌, IfOk, IfSome, OnErr, OnOk, Some};
+ghost use Rattle.std.specs.List.{flat_map};
 ghost use Rattle.dev_traits.specs.Cause.{HasCause, HasReadCause};
 ghost use Rattle.dev_traits.specs.Files.{KeepsLimit, found_of};
-ghost use Rattle.dev_traits.specs.Inbox.{InboxShown, IsNext, after_next, after_settle};
+ghost use Rattle.dev_traits.specs.Inbox.{
+  InboxShown,
+  IsNext,
+  after_next,
+  after_settle,
+  inbox_lines,
+  with_lines,
+};
+ghost use Rattle.dev_traits.specs.Lines.{Notes};
 
 use crate::faults::Failed;
 use crate::files::Found;
@@ -17,7 +26,7 @@ pub enum Arrival {
     Name(Bytes),
     /// Nothing yet.
     Idle,
-    /// Nothing any more.
+    /// Nothing any more. An inbox that has said so is asked no more.
     Done,
 }
 
@@ -32,7 +41,7 @@ pub enum Verdict {
     Full(u64),
     /// The number of operations after which no file of the name to take back was held.
     NotHeld(u64),
-    /// There was no file any more.
+    /// There was no file that could be read.
     Gone,
     /// Memory ran out.
     Short,
@@ -40,8 +49,8 @@ pub enum Verdict {
 
 /// An inbox in which files arrive by their names.
 pub trait Inbox: Send {
-    /// The names left to come, the name given last, the content of each name and the verdicts, where they are
-    /// known, and how many calls have failed.
+    /// The names left to come, the name given last, the content of each name, the verdicts and the lines, where
+    /// they are known, and how many calls have failed.
     ghost shown: { Self → InboxShown };
 
     /// How many calls have failed. The count stands still at its greatest number.
@@ -66,10 +75,19 @@ pub trait Inbox: Send {
         ensures same { (shown self.new).held ≡ (shown self.old).held }
         ensures cause { HasReadCause (shown self.old).faults (shown self.new).faults result };
 
-    /// Takes the verdict on the name given last. It takes no memory.
+    /// Takes the verdict on the name given last. It takes no memory. What the verdict asks for may be done later.
     fn settle(&mut self, name: &[u8], verdict: Verdict) -> Result<(), Failed>
         requires last { IfSome (shown self.old).held (λ post. post.last ≡ Some name.now) }
         ensures ok { OnOk result ((shown self.new).held ≡ after_settle verdict (shown self.old).held) }
         ensures err { OnErr result ((shown self.new).held ≡ (shown self.old).held) }
         ensures cause { HasCause (shown self.old).faults (shown self.new).faults result };
+
+    /// Takes a line of the journal, in slices and without its end. It may lose it, and doesn't wait for it to be
+    /// written.
+    fn note(&mut self, line: &[&[u8]])
+        ensures same { (shown self.new).held
+            ≡ with_lines (inbox_lines (shown self.new).held) (shown self.old).held }
+        ensures noted { Notes (flat_map (λ part. part.now) line.now)
+            (inbox_lines (shown self.old).held) (inbox_lines (shown self.new).held) }
+        ensures faults { (shown self.new).faults ≡ (shown self.old).faults };
 }

@@ -1,6 +1,8 @@
 //! What opens doors, inboxes and clocks.
 ghost use Rattle.std.specs.Prelude.{◌≡◌, IfOk, IfSome, OnErr, OnOk};
+ghost use Rattle.std.specs.List.{flat_map};
 ghost use Rattle.dev_traits.specs.Cause.{HasReadCause};
+ghost use Rattle.dev_traits.specs.Lines.{Notes};
 ghost use Rattle.dev_traits.specs.Opener.{
   IsNextDoor,
   IsNextInbox,
@@ -9,6 +11,8 @@ ghost use Rattle.dev_traits.specs.Opener.{
   after_door,
   after_inbox,
   next_clock,
+  opener_lines,
+  with_opener_lines,
 };
 
 use crate::clock::Clock;
@@ -26,7 +30,7 @@ pub trait Opener {
 
     type C: Clock + Drop;
 
-    /// What it will give, where that is known, and how many calls have failed.
+    /// What it will give and the lines, where that is known, and how many calls have failed.
     ghost shown: { Self → OpenerShown Self.D Self.I Self.C };
 
     /// How many calls have failed. The count stands still at its greatest number.
@@ -61,5 +65,14 @@ pub trait Opener {
         ensures next { IfSome (shown self.old).held (λ stock.
             Self.C.shown result ≡ next_clock Self.C.shown stock.clocks ticks) }
         ensures opened { (shown self.new).held ≡ after_clock (shown self.old).held }
+        ensures faults { (shown self.new).faults ≡ (shown self.old).faults };
+
+    /// Takes a line of the journal, in slices and without its end. It may lose it, and doesn't wait for it to be
+    /// written.
+    fn note(&mut self, line: &[&[u8]])
+        ensures same { (shown self.new).held
+            ≡ with_opener_lines (opener_lines (shown self.new).held) (shown self.old).held }
+        ensures noted { Notes (flat_map (λ part. part.now) line.now)
+            (opener_lines (shown self.old).held) (opener_lines (shown self.new).held) }
         ensures faults { (shown self.new).faults ≡ (shown self.old).faults };
 }

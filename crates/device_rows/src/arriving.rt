@@ -33,15 +33,43 @@ pub fn put_step<R: rt::Files + rt::Clock + Drop + Send>(
     out: &mut String,
 ) -> Result<bool, NoMemory> {
     let (word, words) = line.split_once(' ').unwrap_or((line, ""));
-    match (word, words.split_once(' ')) {
-        ("next", None) => put_next(alloc, inbox, out)?,
-        ("faults", None) => writeln!(out, "{} faults", inbox.faults())?,
-        ("said", None) => inbox.teller().put_lines(folder, out)?,
-        ("fetch", Some((limit, name))) => return put_fetched(alloc, inbox, limit, name, out),
-        ("settle", Some((verdict, name))) => return put_settled(inbox, verdict, name, out),
+    match words.split_once(' ') {
+        Some((how, name)) => put_named(alloc, inbox, word, how, name, out),
+        None => put_word(alloc, inbox, folder, word, out),
+    }
+}
+
+// Appends what a step of one word does.
+fn put_word<R: rt::Files + rt::Clock + Drop + Send>(
+    alloc: Global,
+    inbox: &mut FolderInbox<R, Heard>,
+    folder: &str,
+    word: &str,
+    out: &mut String,
+) -> Result<bool, NoMemory> {
+    match word {
+        "next" => put_next(alloc, inbox, out)?,
+        "faults" => writeln!(out, "{} faults", inbox.faults())?,
+        "said" => inbox.teller().put_lines(folder, out)?,
         _ => return Ok(false),
     }
     Ok(true)
+}
+
+// Appends what a step on a name does.
+fn put_named<R: rt::Files + rt::Clock + Drop + Send>(
+    alloc: Global,
+    inbox: &mut FolderInbox<R, Heard>,
+    word: &str,
+    how: &str,
+    name: &str,
+    out: &mut String,
+) -> Result<bool, NoMemory> {
+    match word {
+        "fetch" => put_fetched(alloc, inbox, how, name, out),
+        "settle" => put_settled(inbox, how, name, out),
+        _ => Ok(false),
+    }
 }
 
 fn put_fetched<R: rt::Files + rt::Clock + Drop + Send>(

@@ -1,26 +1,127 @@
-//! The machine's clock, over a clock in memory that can't be read.
+//! The machine's clock, over clocks in memory.
 
-use crate::turns::Ticking;
+use crate::hearing::Heard;
+use crate::turned::text_if;
 use dev_host::RealClock;
 use dev_traits::Clock;
 use fm_base::NoMemory;
 use row_text::Row;
 use std::alloc::Global;
+use std::cell::Cell;
+use std::fmt::Write;
+use std::io::{self, Error, ErrorKind};
+use std::rt;
 use std::time::Duration;
 
-/// The first moment that can't be read of a clock, whose ticks the row counts.
-pub fn unread(alloc: Global, row: &Row<'_>) -> Result<Option<String>, NoMemory> {
-    let (true, Some(ticks)) = (row.has_each(&["ticks unread"]), row.value("ticks unread")) else {
+// How often a clock is asked for its next moment.
+const ROUNDS: u32 = 9;
+
+// What two clocks read, in seconds: from 1970 the one that may be set, and the one that only goes on.
+#[derive(Clone, Copy)]
+struct Reading {
+    wall: u64,
+    steady: u64,
+}
+
+// A machine whose clocks read so, one time after the other, and then can't be read.
+#[derive(Drop)]
+struct Script<'a> {
+    readings: &'a [Reading],
+    index: Cell<usize>,
+}
+
+impl Script<'_> {
+    fn reading(&self) -> io::Result<Reading> {
+        match self.readings.get(self.index.get()) {
+            Some(reading) => Ok(*reading),
+            None => Err(Error::from(ErrorKind::Unsupported)),
+        }
+    }
+}
+
+impl rt::Clock for Script<'_> {
+    fn monotonic(&self) -> io::Result<Duration> {
+        Ok(Duration::from_secs(self.reading()?.steady))
+    }
+
+    // What is read next is behind it.
+    fn since_1970(&self) -> io::Result<Duration> {
+        let reading = self.reading()?;
+        self.index.set(self.index.get().saturating_add(1));
+        Ok(Duration::from_secs(reading.wall))
+    }
+}
+
+// The reading that a word `WALL@STEADY` says.
+fn reading_of(word: &str) -> Option<Reading> {
+    let (wall, steady) = word.split_once('@')?;
+    Some(Reading {
+        wall: wall.parse::<u64>().ok()?,
+        steady: steady.parse::<u64>().ok()?,
+    })
+}
+
+// The readings that words say; `none` says that there are none.
+fn readings_of(alloc: Global, words: &str) -> Result<Option<Vec<Reading>>, NoMemory> {
+    let mut readings = Vec::new(alloc);
+    if words == "none" {
+        return Ok(Some(readings));
+    }
+    for word in words.split_whitespace() {
+        match reading_of(word) {
+            Some(reading) => readings.push(reading)?,
+            None => return Ok(None),
+        }
+    }
+    Ok(Some(readings))
+}
+
+/// The moments of a clock of so many ticks, whose machine reads as the row says, and what it tells.
+pub fn moments(alloc: Global, row: &Row<'_>) -> Result<Option<String>, NoMemory> {
+    if !row.has_each(&["ticks", "reads"]) {
+        return Ok(None);
+    }
+    let (Some(ticks), Some(words)) = (row.value("ticks"), row.value("reads")) else {
         return Ok(None);
     };
     let Ok(ticks) = ticks.parse::<u32>() else {
         return Ok(None);
     };
-    let mut clock = RealClock::new(Ticking::new(1), ticks, Duration::from_millis(250));
-    let said = match clock.next() {
-        Some(_moment) => "a moment",
-        None => "none",
+    match readings_of(alloc, words)? {
+        Some(readings) => moments_by(alloc, ticks, readings.as_slice()),
+        None => Ok(None),
+    }
+}
+
+fn moments_by(alloc: Global, ticks: u32, readings: &[Reading]) -> Result<Option<String>, NoMemory> {
+    let machine = Script {
+        readings,
+        index: Cell::new(0),
     };
+    let mut clock = RealClock::new(machine, Heard::new(alloc), ticks, Duration::from_secs(1));
+    let mut out = String::new(alloc);
+    let known = put_moments(&mut clock, &mut out);
     drop(clock);
-    Ok(Some(String::from_str(alloc, said)?))
+    text_if(known, out)
+}
+
+// Appends each moment behind the lines that were told until it came, and `none` behind the last.
+fn put_moments(
+    clock: &mut RealClock<Script<'_>, Heard>,
+    out: &mut String,
+) -> Result<bool, NoMemory> {
+    for _ in 0..ROUNDS {
+        let moment = clock.next();
+        if let Some(heard) = clock.teller() {
+            heard.put_all(out)?;
+        }
+        match moment {
+            Some(moment) => writeln!(out, "{moment}")?,
+            None => {
+                out.push_str("none")?;
+                return Ok(true);
+            }
+        }
+    }
+    Ok(true)
 }

@@ -1,4 +1,4 @@
-//! What an inbox tells of its folder.
+//! What an inbox tells of its folder, and a clock.
 
 use dev_host::Tell;
 use std::alloc::{AllocError, Global};
@@ -29,6 +29,18 @@ impl Heard {
                 put
             }
             None => out.push_str("nothing said\n"),
+        }
+    }
+
+    // Appends the lines as they are.
+    pub fn put_all(&self, out: &mut String) -> Result<(), AllocError> {
+        match self.lines.take() {
+            Some(lines) => {
+                let put = out.push_str(lines.as_str());
+                drop(lines);
+                put
+            }
+            None => Ok(()),
         }
     }
 

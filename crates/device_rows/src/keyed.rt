@@ -9,7 +9,7 @@ use std::alloc::Global;
 use std::fmt::Write;
 
 /// What a wheel with room for the keys up to 9 does, from a second on: `put KEY SECOND` puts a key in, `pop SECOND`
-/// takes one out, `due` is the first second at which one is due, `hurry` has all due at once.
+/// takes one out, `clear` takes out all, `due` is the first second at which one is due, `hurry` has all due at once.
 pub fn wheel(alloc: Global, row: &Row<'_>) -> Result<Option<String>, NoMemory> {
     let Some((second, steps)) = text_and_steps(row, "wheel") else {
         return Ok(None);
@@ -46,6 +46,10 @@ fn put_step(wheel: &mut Wheel, line: &str, out: &mut String) -> Result<bool, NoM
     }
     if line == "hurry" {
         wheel.hurry();
+        return Ok(true);
+    }
+    if line == "clear" {
+        wheel.clear();
         return Ok(true);
     }
     match line.split_once(' ') {

@@ -8,6 +8,7 @@ mod clocked;
 mod foldered;
 mod hearing;
 mod keyed;
+mod limited;
 mod linked;
 mod listed;
 mod turned;
@@ -49,7 +50,9 @@ fn answer(rt: HostRuntime, alloc: Global, row: &Row<'_>) -> Result<Option<String
             "accepts" => over_turns(alloc, row, Device::Accepts),
             "sending" => linked::sending(alloc, row),
             "wheel" => keyed::wheel(alloc, row),
-            "ticks unread" => clocked::unread(alloc, row),
+            "limits" => limited::limits(alloc, row),
+            "line" => limited::line(alloc, row),
+            "ticks" => clocked::moments(alloc, row),
             "names" => listed::names_row(rt, alloc, row),
             "folder" => foldered::folder_row(rt, alloc, row),
             _ => continue,

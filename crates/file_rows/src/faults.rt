@@ -1,12 +1,12 @@
 //! Faults in words, each with its number and all that it carries.
 
-use fm_base::NoMemory;
 use fm_model::{LoadFault, ProtoFault};
 use nc_model::{HeaderFault, LayoutFault, UnitsFault};
 use row_text::put_shown;
+use std::alloc::AllocError;
 
 /// Appends a fault of a header.
-pub fn put_header_fault(fault: HeaderFault, out: &mut String) -> Result<(), NoMemory> {
+pub fn put_header_fault(fault: HeaderFault, out: &mut String) -> Result<(), AllocError> {
     let (what, number) = header_fault(fault);
     put_fault(fault.code(), what, number, out)
 }
@@ -30,18 +30,23 @@ fn header_fault(fault: HeaderFault) -> (&'static str, Option<u64>) {
 }
 
 // Appends the number of a fault, what is wrong, and the number that it carries.
-fn put_fault(code: u16, what: &str, number: Option<u64>, out: &mut String) -> Result<(), NoMemory> {
+fn put_fault(
+    code: u16,
+    what: &str,
+    number: Option<u64>,
+    out: &mut String,
+) -> Result<(), AllocError> {
     write!(out, "fault {code}: {what}")?;
     match number {
-        Some(number) => Ok(write!(out, "{number}")?),
+        Some(number) => write!(out, "{number}"),
         None => Ok(()),
     }
 }
 
 /// Appends a fault of a layout.
-pub fn put_layout_fault(fault: LayoutFault, out: &mut String) -> Result<(), NoMemory> {
+pub fn put_layout_fault(fault: LayoutFault, out: &mut String) -> Result<(), AllocError> {
     let code = fault.code();
-    let written = match fault {
+    match fault {
         LayoutFault::TooLarge(var) => write!(out, "fault {code}: variable {var} is too large"),
         LayoutFault::DataOutside { var, end, len } => {
             write!(
@@ -49,11 +54,10 @@ pub fn put_layout_fault(fault: LayoutFault, out: &mut String) -> Result<(), NoMe
                 "fault {code}: variable {var} ends at {end}, the file at {len}"
             )
         }
-    };
-    Ok(written?)
+    }
 }
 
-fn put_units_fault(fault: UnitsFault, out: &mut String) -> Result<(), NoMemory> {
+fn put_units_fault(fault: UnitsFault, out: &mut String) -> Result<(), AllocError> {
     let (what, number) = match fault {
         UnitsFault::BadUnits(at) => ("units at ", Some(at)),
         UnitsFault::Calendar => ("another calendar", None),
@@ -63,7 +67,7 @@ fn put_units_fault(fault: UnitsFault, out: &mut String) -> Result<(), NoMemory> 
 }
 
 /// Appends why a file is no prototype.
-pub fn put_proto_fault(fault: &ProtoFault, out: &mut String) -> Result<(), NoMemory> {
+pub fn put_proto_fault(fault: &ProtoFault, out: &mut String) -> Result<(), AllocError> {
     let (what, name) = match fault {
         ProtoFault::Header(fault) => return put_header_fault(*fault, out),
         ProtoFault::Layout(fault) => return put_layout_fault(*fault, out),
@@ -74,11 +78,11 @@ pub fn put_proto_fault(fault: &ProtoFault, out: &mut String) -> Result<(), NoMem
         ProtoFault::EmptyDimension(name) => ("empty dimension ", name.as_slice()),
     };
     write!(out, "fault {}: {what}", fault.code())?;
-    Ok(put_shown(name, out)?)
+    put_shown(name, out)
 }
 
 /// Appends why a file isn't taken.
-pub fn put_load_fault(fault: &LoadFault, out: &mut String) -> Result<(), NoMemory> {
+pub fn put_load_fault(fault: &LoadFault, out: &mut String) -> Result<(), AllocError> {
     match fault {
         LoadFault::Header(fault) => put_header_fault(*fault, out),
         LoadFault::Layout(fault) => put_layout_fault(*fault, out),
@@ -88,12 +92,12 @@ pub fn put_load_fault(fault: &LoadFault, out: &mut String) -> Result<(), NoMemor
 }
 
 // Appends the fault of what a file holds.
-fn put_content_fault(fault: &LoadFault, out: &mut String) -> Result<(), NoMemory> {
+fn put_content_fault(fault: &LoadFault, out: &mut String) -> Result<(), AllocError> {
     write!(out, "fault {}: ", fault.code())?;
     put_content(fault, out)
 }
 
-fn put_content(fault: &LoadFault, out: &mut String) -> Result<(), NoMemory> {
+fn put_content(fault: &LoadFault, out: &mut String) -> Result<(), AllocError> {
     match fault {
         LoadFault::MissingVariable(name) => put_named("no variable ", name.as_slice(), out),
         LoadFault::VariableDiffers(name) => put_named("other form of ", name.as_slice(), out),
@@ -108,29 +112,29 @@ fn put_content(fault: &LoadFault, out: &mut String) -> Result<(), NoMemory> {
             file,
         } => {
             put_byte(*byte, *file, *proto, out)?;
-            Ok(put_shown(name.as_slice(), out)?)
+            put_shown(name.as_slice(), out)
         }
         _ => put_moment_fault(fault, out),
     }
 }
 
 // Appends that a byte is another one in the prototype.
-fn put_byte(byte: u64, file: u8, proto: u8, out: &mut String) -> Result<(), NoMemory> {
-    Ok(write!(
+fn put_byte(byte: u64, file: u8, proto: u8, out: &mut String) -> Result<(), AllocError> {
+    write!(
         out,
         "byte {byte} is {file:02x}, in the prototype {proto:02x}, of "
-    )?)
+    )
 }
 
 /// Appends what a name is, and the name.
-pub fn put_named(what: &str, name: &[u8], out: &mut String) -> Result<(), NoMemory> {
+pub fn put_named(what: &str, name: &[u8], out: &mut String) -> Result<(), AllocError> {
     out.push_str(what)?;
-    Ok(put_shown(name, out)?)
+    put_shown(name, out)
 }
 
 // Appends the fault of a run or a time.
-fn put_moment_fault(fault: &LoadFault, out: &mut String) -> Result<(), NoMemory> {
-    let written = match fault {
+fn put_moment_fault(fault: &LoadFault, out: &mut String) -> Result<(), AllocError> {
+    match fault {
         LoadFault::NoRunTime => out.push_str("no run"),
         LoadFault::NotWhole(k) => write!(out, "time {k} is not whole"),
         LoadFault::TimeRange(k, seconds) => write!(out, "time {k} is {seconds}"),
@@ -140,6 +144,5 @@ fn put_moment_fault(fault: &LoadFault, out: &mut String) -> Result<(), NoMemory>
         LoadFault::RunNotWhole => out.push_str("the run is not whole"),
         LoadFault::RunRange(seconds) => write!(out, "the run is {seconds}"),
         _ => out.push_str("?"),
-    };
-    Ok(written?)
+    }
 }

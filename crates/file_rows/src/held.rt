@@ -2,14 +2,14 @@
 ghost use Rattle.std.specs.Prelude.{IfOk, IfSome};
 ghost use Rattle.fm_edition.specs.Held.{OpFits};
 
-use super::unknown;
+use super::{allocated, unknown};
 use fm_base::{Arc, Bytes, Fail, NoMemory};
 use fm_edition::Edition;
 use fm_load::load;
 use fm_model::{Loaded, MAX_FILE_BYTES, Op, Tally};
 use fm_sample::edition_of;
 use row_text::{Field, File, Row, content, put_shown};
-use std::alloc::Global;
+use std::alloc::{AllocError, Global};
 use std::mem::replace;
 
 /// Puts the collection after the operations of a row, in order: `put: NAME FILE`, `expire: SECONDS` and
@@ -19,7 +19,7 @@ pub fn put_held(
     files: &[File],
     row: &Row<'_>,
     out: &mut String,
-) -> Result<bool, NoMemory> {
+) -> Result<bool, AllocError> {
     if !row.has_only(&["collection", "put", "expire", "retract"]) {
         return Ok(false);
     }
@@ -35,7 +35,7 @@ fn put_over(
     files: &[File],
     row: &Row<'_>,
     out: &mut String,
-) -> Result<bool, NoMemory> {
+) -> Result<bool, AllocError> {
     match edition_of(alloc, prototype) {
         Ok(mut edition) => {
             let put = put_after(alloc, &mut edition, files, row, out);
@@ -53,9 +53,9 @@ fn put_after(
     files: &[File],
     row: &Row<'_>,
     out: &mut String,
-) -> Result<bool, NoMemory> {
+) -> Result<bool, AllocError> {
     for field in row.fields.as_slice() {
-        if is_operation(field) && !goes_on(alloc, edition, files, field)? {
+        if is_operation(field) && !allocated(goes_on(alloc, edition, files, field))? {
             return Ok(false);
         }
     }
@@ -163,20 +163,20 @@ fn put_bytes(
 }
 
 // Puts a collection: its counts, and for each run and valid time the file and the index of the time in it.
-fn put_collection(alloc: Global, edition: &Edition, out: &mut String) -> Result<(), NoMemory> {
+fn put_collection(alloc: Global, edition: &Edition, out: &mut String) -> Result<(), AllocError> {
     put_tally(edition.tally(), out)?;
-    let runs = edition.runs(alloc)?;
+    let runs = allocated(edition.runs(alloc))?;
     let put = put_runs(alloc, edition, runs.as_slice(), out);
     drop(runs);
     put
 }
 
-fn put_tally(tally: Tally, out: &mut String) -> Result<(), NoMemory> {
-    Ok(write!(
+fn put_tally(tally: Tally, out: &mut String) -> Result<(), AllocError> {
+    write!(
         out,
         "{} files, {} times, {} bytes",
         tally.files, tally.rows, tally.size
-    )?)
+    )
 }
 
 fn put_runs(
@@ -184,30 +184,30 @@ fn put_runs(
     edition: &Edition,
     runs: &[i64],
     out: &mut String,
-) -> Result<(), NoMemory> {
+) -> Result<(), AllocError> {
     for run in runs {
         put_run(alloc, edition, *run, out)?;
     }
     Ok(())
 }
 
-fn put_run(alloc: Global, edition: &Edition, run: i64, out: &mut String) -> Result<(), NoMemory> {
-    let times = edition.times_of(alloc, run)?;
+fn put_run(alloc: Global, edition: &Edition, run: i64, out: &mut String) -> Result<(), AllocError> {
+    let times = allocated(edition.times_of(alloc, run))?;
     for time in times.as_slice() {
         put_cell(edition, run, *time, out)?;
     }
     Ok(())
 }
 
-fn put_cell(edition: &Edition, run: i64, time: i64, out: &mut String) -> Result<(), NoMemory> {
+fn put_cell(edition: &Edition, run: i64, time: i64, out: &mut String) -> Result<(), AllocError> {
     write!(out, "\nrun {run}, time {time}: ")?;
     put_found(edition.cell(run, time), out)
 }
 
-fn put_found(found: Option<(&Arc<Loaded>, u32)>, out: &mut String) -> Result<(), NoMemory> {
+fn put_found(found: Option<(&Arc<Loaded>, u32)>, out: &mut String) -> Result<(), AllocError> {
     let Some((file, index)) = found else {
         return Ok(());
     };
     put_shown(file.get().name.as_slice(), out)?;
-    Ok(write!(out, " at {index}")?)
+    write!(out, " at {index}")
 }

@@ -1,15 +1,16 @@
 //! Where the data of a file lies, and its elements.
 ghost use Rattle.std.specs.Prelude.{◌<◌, length};
 
+use super::allocated;
 use super::faults::{put_header_fault, put_layout_fault};
-use fm_base::{Bytes, Fail, NoMemory};
+use fm_base::{Bytes, Fail};
 use fm_file::read_sound;
 use nc_array::FileView;
 use nc_model::FormatFault;
 use row_text::{put_hex, put_shown};
-use std::alloc::Global;
+use std::alloc::{AllocError, Global};
 
-fn put_fault(fault: FormatFault, out: &mut String) -> Result<(), NoMemory> {
+fn put_fault(fault: FormatFault, out: &mut String) -> Result<(), AllocError> {
     match fault {
         FormatFault::OfHeader(fault) => put_header_fault(fault, out),
         FormatFault::OfLayout(fault) => put_layout_fault(fault, out),
@@ -17,19 +18,19 @@ fn put_fault(fault: FormatFault, out: &mut String) -> Result<(), NoMemory> {
 }
 
 /// Appends how many bytes a record takes, and where the parts of each variable lie.
-pub fn put_layout(alloc: Global, bytes: &[u8], out: &mut String) -> Result<(), NoMemory> {
+pub fn put_layout(alloc: Global, bytes: &[u8], out: &mut String) -> Result<(), AllocError> {
     match read_sound(alloc, bytes) {
         Ok(file) => {
             let put = put_places(&file, out);
             drop(file);
             put
         }
-        Err(Fail::NoMemory) => Err(NoMemory),
+        Err(Fail::NoMemory) => Err(AllocError),
         Err(Fail::Fault(fault)) => put_fault(fault, out),
     }
 }
 
-fn put_places(file: &FileView<'_>, out: &mut String) -> Result<(), NoMemory> {
+fn put_places(file: &FileView<'_>, out: &mut String) -> Result<(), AllocError> {
     write!(out, "{} bytes a record", file.layout().recsize())?;
     for (number, var) in file.header().vars.as_slice().iter().enumerate() {
         out.push('\n')?;
@@ -39,7 +40,7 @@ fn put_places(file: &FileView<'_>, out: &mut String) -> Result<(), NoMemory> {
     Ok(())
 }
 
-fn put_parts(file: &FileView<'_>, number: u32, out: &mut String) -> Result<(), NoMemory>
+fn put_parts(file: &FileView<'_>, number: u32, out: &mut String) -> Result<(), AllocError>
     requires { number < length file.now.layout.header.vars }
 {
     let layout = file.layout();
@@ -51,19 +52,23 @@ fn put_parts(file: &FileView<'_>, number: u32, out: &mut String) -> Result<(), N
 }
 
 /// Appends the elements of each variable.
-pub fn put_elements(alloc: Global, bytes: &[u8], out: &mut String) -> Result<(), NoMemory> {
+pub fn put_elements(alloc: Global, bytes: &[u8], out: &mut String) -> Result<(), AllocError> {
     match read_sound(alloc, bytes) {
         Ok(file) => {
             let put = put_all_elements(alloc, &file, out);
             drop(file);
             put
         }
-        Err(Fail::NoMemory) => Err(NoMemory),
+        Err(Fail::NoMemory) => Err(AllocError),
         Err(Fail::Fault(fault)) => put_fault(fault, out),
     }
 }
 
-fn put_all_elements(alloc: Global, file: &FileView<'_>, out: &mut String) -> Result<(), NoMemory> {
+fn put_all_elements(
+    alloc: Global,
+    file: &FileView<'_>,
+    out: &mut String,
+) -> Result<(), AllocError> {
     for (number, var) in file.header().vars.as_slice().iter().enumerate() {
         if number > 0 {
             out.push('\n')?;
@@ -80,10 +85,10 @@ fn put_elements_of(
     file: &FileView<'_>,
     number: u32,
     out: &mut String,
-) -> Result<(), NoMemory>
+) -> Result<(), AllocError>
     requires { number < length file.now.layout.header.vars }
 {
     let mut elements = Bytes::new(alloc);
-    file.append_elements(number, &mut elements)?;
-    Ok(put_hex(elements.as_slice(), out)?)
+    allocated(file.append_elements(number, &mut elements))?;
+    put_hex(elements.as_slice(), out)
 }

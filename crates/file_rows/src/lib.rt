@@ -45,16 +45,18 @@ pub struct Files<'a> {
 
 impl Answers for Files<'_> {
     fn answer(&self, alloc: Global, row: &Row<'_>, out: &mut String) -> Result<bool, AllocError> {
-        match self.put_answer(alloc, row, out) {
-            Ok(known) => Ok(known),
-            Err(NoMemory) => Err(AllocError),
-        }
+        self.put_answer(alloc, row, out)
     }
 }
 
 impl Files<'_> {
     // Puts what comes out of a row.
-    fn put_answer(&self, alloc: Global, row: &Row<'_>, out: &mut String) -> Result<bool, NoMemory> {
+    fn put_answer(
+        &self,
+        alloc: Global,
+        row: &Row<'_>,
+        out: &mut String,
+    ) -> Result<bool, AllocError> {
         match call_of(row) {
             Some("load") => loading::put_load(alloc, self.files, row, out),
             Some("collection") => held::put_held(alloc, self.files, row, out),
@@ -71,7 +73,7 @@ impl Files<'_> {
         row: &Row<'_>,
         key: &str,
         out: &mut String,
-    ) -> Result<bool, NoMemory> {
+    ) -> Result<bool, AllocError> {
         if !row.has_only(&[key, "cuts"]) {
             return Ok(false);
         }
@@ -96,10 +98,18 @@ fn question_of<'a>(key: &str) -> Question<'a> {
     }
 }
 
+// A value that was made, or that memory ran out.
+fn allocated<T: Drop>(value: Result<T, NoMemory>) -> Result<T, AllocError> {
+    match value {
+        Ok(value) => Ok(value),
+        Err(NoMemory) => Err(AllocError),
+    }
+}
+
 // That a row isn't known, where there is a fault.
-fn unknown<E: Drop>(fail: Fail<E>) -> Result<bool, NoMemory> {
+fn unknown<E: Drop>(fail: Fail<E>) -> Result<bool, AllocError> {
     match fail {
-        Fail::NoMemory => Err(NoMemory),
+        Fail::NoMemory => Err(AllocError),
         Fail::Fault(_) => Ok(false),
     }
 }

@@ -6,11 +6,11 @@ use super::faults::put_load_fault;
 use super::prototypes::{EPOCH, prototype};
 use super::question::Question;
 use super::unknown;
-use fm_base::{Bytes, Fail, NoMemory};
+use fm_base::{Bytes, Fail};
 use fm_load::load;
 use fm_model::{Loaded, Proto, Slot};
 use row_text::{File, Row, content};
-use std::alloc::Global;
+use std::alloc::{AllocError, Global};
 
 /// Puts what comes of a row that loads a file, as `called`, over the prototype `over`. Where it says no such thing,
 /// they are the name of the run of 2024-01-01 and `A.nc`; the epoch is the beginning of 2020.
@@ -19,7 +19,7 @@ pub fn put_load(
     files: &[File],
     row: &Row<'_>,
     out: &mut String,
-) -> Result<bool, NoMemory> {
+) -> Result<bool, AllocError> {
     if !row.has_only(&["load", "called", "over", "epoch", "cuts"]) {
         return Ok(false);
     }
@@ -40,7 +40,7 @@ fn put_over(
     epoch: i64,
     row: &Row<'_>,
     out: &mut String,
-) -> Result<bool, NoMemory> {
+) -> Result<bool, AllocError> {
     match prototype(alloc, over, epoch) {
         Ok(proto) => {
             let put = put_called(alloc, files, &proto, row, out);
@@ -57,7 +57,7 @@ fn put_called(
     proto: &Proto,
     row: &Row<'_>,
     out: &mut String,
-) -> Result<bool, NoMemory> {
+) -> Result<bool, AllocError> {
     let called = row.value("called").unwrap_or("gfs_20240101_0000.nc");
     let question = Question::Load(proto, called);
     match content(alloc, files, row.value("load").unwrap_or(""))? {
@@ -80,17 +80,19 @@ pub fn put_loaded(
     name: &str,
     bytes: &[u8],
     out: &mut String,
-) -> Result<(), NoMemory>
+) -> Result<(), AllocError>
     requires { length bytes.now ≤ MAX_FILE_BYTES }
 {
-    let bytes = Bytes::copy_of(alloc, bytes)?;
+    let Ok(bytes) = Bytes::copy_of(alloc, bytes) else {
+        return Err(AllocError);
+    };
     match load(alloc, name.as_bytes(), bytes, proto) {
         Ok(file) => {
             let put = put_taken(&file, out);
             drop(file);
             put
         }
-        Err(Fail::NoMemory) => Err(NoMemory),
+        Err(Fail::NoMemory) => Err(AllocError),
         Err(Fail::Fault(fault)) => {
             let put = put_load_fault(&fault, out);
             drop(fault);
@@ -99,30 +101,30 @@ pub fn put_loaded(
     }
 }
 
-fn put_taken(file: &Loaded, out: &mut String) -> Result<(), NoMemory> {
+fn put_taken(file: &Loaded, out: &mut String) -> Result<(), AllocError> {
     write!(out, "run {}, times", file.run)?;
     put_times(file.times.as_slice(), out)?;
     put_slots(file.slots.as_slice(), out)
 }
 
 // More than eight times are shown as the first and the last, with their number.
-fn put_times(times: &[i64], out: &mut String) -> Result<(), NoMemory> {
+fn put_times(times: &[i64], out: &mut String) -> Result<(), AllocError> {
     match times {
         [first, .., last] if times.len() > 8 => {
-            Ok(write!(out, " {first} to {last}, {} in all", times.len())?)
+            write!(out, " {first} to {last}, {} in all", times.len())
         }
         _ => put_each_time(times, out),
     }
 }
 
-fn put_each_time(times: &[i64], out: &mut String) -> Result<(), NoMemory> {
+fn put_each_time(times: &[i64], out: &mut String) -> Result<(), AllocError> {
     for time in times {
         write!(out, " {time}")?;
     }
     Ok(())
 }
 
-fn put_slots(slots: &[Slot], out: &mut String) -> Result<(), NoMemory> {
+fn put_slots(slots: &[Slot], out: &mut String) -> Result<(), AllocError> {
     for slot in slots {
         write!(out, "\ndata from {} each {}", slot.begin, slot.step)?;
     }

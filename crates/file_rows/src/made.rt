@@ -1,12 +1,12 @@
 //! Files that are made.
 
-use fm_base::NoMemory;
+use super::allocated;
 use fm_gen::make_file;
 use row_text::Row;
-use std::alloc::Global;
+use std::alloc::{AllocError, Global};
 
 /// Puts the length and the sum of the file of the seed and the number, below 400, that a row has.
-pub fn put_made(alloc: Global, row: &Row<'_>, out: &mut String) -> Result<bool, NoMemory> {
+pub fn put_made(alloc: Global, row: &Row<'_>, out: &mut String) -> Result<bool, AllocError> {
     if !row.has_only(&["made"]) {
         return Ok(false);
     }
@@ -16,7 +16,7 @@ pub fn put_made(alloc: Global, row: &Row<'_>, out: &mut String) -> Result<bool, 
     if k >= 400 {
         return Ok(false);
     }
-    let file = make_file(alloc, seed, k)?;
+    let file = allocated(make_file(alloc, seed, k))?;
     let put = put_sum(file.as_slice(), out);
     drop(file);
     put?;
@@ -28,8 +28,8 @@ fn numbers_of(words: &str) -> Option<(u32, u32)> {
     Some((seed.parse::<u32>().ok()?, k.parse::<u32>().ok()?))
 }
 
-fn put_sum(file: &[u8], out: &mut String) -> Result<(), NoMemory> {
-    Ok(write!(out, "{} bytes, sum {:08x}", file.len(), adler_of(file))?)
+fn put_sum(file: &[u8], out: &mut String) -> Result<(), AllocError> {
+    write!(out, "{} bytes, sum {:08x}", file.len(), adler_of(file))
 }
 
 // The sum of RFC 1950 (Adler-32).

@@ -2,11 +2,11 @@
 
 use super::faults::put_proto_fault;
 use super::words::{put_attrs, put_dims, put_front};
-use fm_base::{Bytes, Fail, NoMemory};
+use fm_base::{Bytes, Fail};
 use fm_model::{Proto, ProtoFault, ProtoVar, Site};
 use fm_proto::read_proto;
 use row_text::{put_hex, put_shown};
-use std::alloc::Global;
+use std::alloc::{AllocError, Global};
 
 /// The beginning of 2020, in Unix seconds.
 pub const EPOCH: i64 = 1_577_836_800;
@@ -22,14 +22,14 @@ pub fn prototype(alloc: Global, bytes: &[u8], epoch: i64) -> Result<Proto, Fail<
 }
 
 /// Appends what some bytes are as a prototype, or why they are none.
-pub fn put_prototype(alloc: Global, bytes: &[u8], out: &mut String) -> Result<(), NoMemory> {
+pub fn put_prototype(alloc: Global, bytes: &[u8], out: &mut String) -> Result<(), AllocError> {
     match prototype(alloc, bytes, EPOCH) {
         Ok(proto) => {
             let put = put_kept(&proto, out);
             drop(proto);
             put
         }
-        Err(Fail::NoMemory) => Err(NoMemory),
+        Err(Fail::NoMemory) => Err(AllocError),
         Err(Fail::Fault(fault)) => {
             let put = put_proto_fault(&fault, out);
             drop(fault);
@@ -38,7 +38,7 @@ pub fn put_prototype(alloc: Global, bytes: &[u8], out: &mut String) -> Result<()
     }
 }
 
-fn put_kept(proto: &Proto, out: &mut String) -> Result<(), NoMemory> {
+fn put_kept(proto: &Proto, out: &mut String) -> Result<(), AllocError> {
     put_shown(proto.site.name.as_slice(), out)?;
     out.push_str(" along ")?;
     put_shown(proto.axis.as_slice(), out)?;
@@ -51,7 +51,7 @@ fn put_kept(proto: &Proto, out: &mut String) -> Result<(), NoMemory> {
 }
 
 // A variable along the axis has no elements here, and says so.
-fn put_var(var: &ProtoVar, out: &mut String) -> Result<(), NoMemory> {
+fn put_var(var: &ProtoVar, out: &mut String) -> Result<(), AllocError> {
     put_front(var.name.as_slice(), var.kind, var.dims.as_slice(), out)?;
     out.push_str(if var.timed { " along the axis" } else { " " })?;
     put_hex(var.fixed.as_slice(), out)?;

@@ -4,9 +4,8 @@ use super::layouts::{put_elements, put_layout};
 use super::loading::put_loaded;
 use super::prototypes::put_prototype;
 use super::words::put_header;
-use fm_base::NoMemory;
 use fm_model::{MAX_FILE_BYTES, Proto};
-use std::alloc::Global;
+use std::alloc::{AllocError, Global};
 
 /// A question about the bytes alone, or over a prototype and under a name.
 #[derive(Clone, Copy)]
@@ -28,7 +27,7 @@ impl Question<'_> {
         bytes: &[u8],
         cuts: Option<&str>,
         out: &mut String,
-    ) -> Result<bool, NoMemory> {
+    ) -> Result<bool, AllocError> {
         let Some(cuts) = cuts else {
             return self.put_answer(alloc, bytes, out);
         };
@@ -52,7 +51,7 @@ impl Question<'_> {
         len: usize,
         last: &mut String,
         out: &mut String,
-    ) -> Result<bool, NoMemory> {
+    ) -> Result<bool, AllocError> {
         let Some(front) = bytes.get(..len) else {
             return Ok(false);
         };
@@ -67,7 +66,12 @@ impl Question<'_> {
         Ok(true)
     }
 
-    fn put_answer(&self, alloc: Global, bytes: &[u8], out: &mut String) -> Result<bool, NoMemory> {
+    fn put_answer(
+        &self,
+        alloc: Global,
+        bytes: &[u8],
+        out: &mut String,
+    ) -> Result<bool, AllocError> {
         let put = match self {
             Question::Header => put_header(alloc, bytes, out),
             Question::Layout => put_layout(alloc, bytes, out),
@@ -85,9 +89,9 @@ impl Question<'_> {
     }
 }
 
-fn put_line(len: usize, answer: &str, out: &mut String) -> Result<(), NoMemory> {
+fn put_line(len: usize, answer: &str, out: &mut String) -> Result<(), AllocError> {
     out.push_str(if out.is_empty() { "" } else { "\n" })?;
-    Ok(write!(out, "{len}: {answer}")?)
+    write!(out, "{len}: {answer}")
 }
 
 fn lengths(cuts: &str) -> Option<(usize, usize)> {

@@ -1,5 +1,6 @@
 -- The times of the rows of a collection are instants.
-use Rattle.std.proofs.Common.{List, get_or, All, subst}
+use Rattle.std.proofs.Common.{◌≡◌, ℕ, List, get_or, All, Some, subst}
+use Rattle.std.specs.Prelude.{slice_get}
 use Rattle.std.proofs.lemmas.List.Elements.{All-get_or}
 use Rattle.std.proofs.lemmas.Option.{get_or_from_slice_get, slice_get_within}
 use Rattle.fm_model.specs.declared.proto.Proto.{Proto}
@@ -22,3 +23,9 @@ row_instants proto row sound is =
 
 pub instants : (proto : Proto) (rows : List Row) → IsSound proto → AreRows proto rows → All HasInstants rows
 instants proto rows sound are = λ k d below. row_instants proto (get_or rows k d) sound (are.each k d below)
+
+-- those of the row at a place are
+pub instants_at : (rows : List Row) (n : ℕ) (row : Row) → All HasInstants rows → slice_get rows n ≡ Some row
+    → HasInstants row
+instants_at rows n row all there =
+    subst HasInstants (get_or_from_slice_get rows n row row there) (all n row (slice_get_within rows n row there))

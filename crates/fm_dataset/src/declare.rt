@@ -85,6 +85,21 @@ fn seconds_of_rows(alloc: Global, proto: &Proto, count: u64, name: Bytes) -> Res
     }))
 }
 
+// Adds whole seconds of each row, under the axis's name with some bytes after it.
+fn put_seconds(
+    alloc: Global,
+    proto: &Proto,
+    count: u64,
+    after: &[u8],
+    decls: &mut List<Decl>,
+) -> Result<(), NoMemory>
+    ensures { OnOk result (decls.new
+        ≡ decls.old ++ spec.seconds_of_rows proto.now count (proto.now.axis ++ after.now) ∷ []) }
+{
+    let name = name_with(alloc, proto.axis.as_slice(), after)?;
+    decls.push(seconds_of_rows(alloc, proto, count, name)?)
+}
+
 // The declarations of the variables.
 fn decls_of_vars(alloc: Global, proto: &Proto, count: u64) -> Result<List<Decl>, NoMemory>
     ensures { IfOk result (λ decls. decls ≡ map (spec.decl_of proto.now count) proto.now.vars) }
@@ -107,9 +122,7 @@ pub fn decls(alloc: Global, proto: &Proto, count: u64) -> Result<List<Decl>, NoM
     ensures { IfOk result (λ decls. decls ≡ spec.decls_of proto.now count) }
 {
     let mut decls = decls_of_vars(alloc, proto, count)?;
-    let run = name_with(alloc, proto.axis.as_slice(), b"_run")?;
-    decls.push(seconds_of_rows(alloc, proto, count, run)?)?;
-    let offset = name_with(alloc, proto.axis.as_slice(), b"_offset")?;
-    decls.push(seconds_of_rows(alloc, proto, count, offset)?)?;
+    put_seconds(alloc, proto, count, b"_run", &mut decls)?;
+    put_seconds(alloc, proto, count, b"_offset", &mut decls)?;
     Ok(decls)
 }

@@ -19,10 +19,7 @@ pub(crate) fn var_at(vars: &[ProtoVar], number: usize) -> Option<&ProtoVar>
 fn dim_of(ids: &[u32], place: usize) -> Option<u32>
     ensures { result ≡ slice_get ids.now place }
 {
-    match ids.get(place) {
-        None => None,
-        Some(id) => Some(*id),
-    }
+    ids.get(place).copied()
 }
 
 // The number of the variable that is a part of a declaration, or one past the last where there is none.

@@ -1,5 +1,6 @@
 //! The times of rows, as the axis, the runs and the offsets show them: whole seconds in 32 bits.
-ghost use Rattle.std.specs.Prelude.{◌≡◌, ◌^◌, ◌<◌, ◌≤ℤ◌, ◌<ℤ◌, neg_ℤ, pos, All};
+ghost use Rattle.std.specs.Prelude.{◌≡◌, ◌^◌, ◌<◌, ◌≤ℤ◌, ◌<ℤ◌, neg_ℤ, pos, slice_get, slice_index, All, IfSome, IsNone};
+ghost use Rattle.std.specs.Prelude.{None, Some};
 ghost use Rattle.std.specs.Int.{w32, cast_unsigned};
 ghost use Rattle.fm_dataset.specs.Kept.{HasInstants};
 ghost use Rattle.fm_dataset.specs.Values as spec;
@@ -16,6 +17,17 @@ fn bits_of_seconds(seconds: i64) -> u64
     ensures width { result < 2 ^ 32 }
 {
     u64::from((seconds as i32).cast_unsigned())
+}
+
+// The row that the first index picks.
+#[tactic(auto, using(crate::proofs::RowLemmas::instants_at))]
+fn row_of<'a>(rows: &'a Rows, index: &[u64]) -> Option<&'a Row>
+    requires { All HasInstants rows.now }
+    ensures found { IfSome result (λ row. slice_get rows.now (slice_index index.now 0) ≡ Some row.now) }
+    ensures none { IsNone result → slice_get rows.now (slice_index index.now 0) ≡ None }
+    ensures instants { IfSome result (λ row. HasInstants row.now) }
+{
+    rows.get(first_of(index) as usize)
 }
 
 // The time that the axis shows of a row.
@@ -38,7 +50,7 @@ pub(crate) fn axis_bits(rows: &Rows, view: &ViewName, index: &[u64]) -> u64
     ensures value { result ≡ spec.time_bits rows.now (spec.axis_time view.now) index.now }
     ensures width { result < 2 ^ 32 }
 {
-    match rows.get(first_of(index) as usize) {
+    match row_of(rows, index) {
         None => 0,
         Some(row) => bits_of_seconds(axis_time(view, row)),
     }
@@ -51,7 +63,7 @@ pub(crate) fn run_bits(rows: &Rows, index: &[u64]) -> u64
     ensures value { result ≡ spec.time_bits rows.now spec.run_time index.now }
     ensures width { result < 2 ^ 32 }
 {
-    match rows.get(first_of(index) as usize) {
+    match row_of(rows, index) {
         None => 0,
         Some(row) => bits_of_seconds(row.run),
     }
@@ -73,7 +85,7 @@ pub(crate) fn offset_bits(rows: &Rows, index: &[u64]) -> u64
     ensures value { result ≡ spec.time_bits rows.now spec.offset_time index.now }
     ensures width { result < 2 ^ 32 }
 {
-    match rows.get(first_of(index) as usize) {
+    match row_of(rows, index) {
         None => 0,
         Some(row) => bits_of_seconds(offset_time(row)),
     }

@@ -80,7 +80,7 @@ entry_files by files pages are = Each-from_in (λ (entry : ℤ × List Loaded). 
     (shown_entry by files pages are page.0.0 page.0.1 page.1 entry.0 entry.1 page.2).own)
 
 -- an instant of the files is that of a file that it selects
-of_file : (by : By) (files : List Loaded) (key : ℤ) → In key (instants by files)
+pub of_file : (by : By) (files : List Loaded) (key : ℤ) → In key (instants by files)
     → (file : Loaded) × In file files × (selects by key file ≡ true)
 unfolding instants selects runs_of codes_of has_time
 of_file Run files key held =

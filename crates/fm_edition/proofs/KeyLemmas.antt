@@ -1,19 +1,26 @@
 -- The keys of all pages rise: they are the instants of the files.
-use Rattle.std.proofs.Common.{◌≡◌, ◌∷◌, ◌++◌, [], List, ℤ, pos, negsuc, ◌<ℤ◌, refl, sym, ap, subst, inl, inr, arith}
+use Rattle.std.proofs.Common.{◌≡◌, ◌∷◌, ◌++◌, [], Bool, true, false, List, ℤ, pos, negsuc, ◌<ℤ◌, refl, sym, ap, subst, ◌∙◌, inl, inr, arith}
 use Rattle.std.specs.Prelude.{map}
 use Rattle.std.specs.BTreeMap.{BTreeMap, keys, values, IsOrdered}
 use Rattle.std.specs.List.{flat_map}
 use Rattle.std.specs.Map.{keys_of}
 use Rattle.std.specs.Ordering.{int_cmp}
+use Rattle.std.proofs.lemmas.Bool.{both_ways}
 use Rattle.std.proofs.lemmas.Int.{ints}
 use Rattle.fm_model.specs.declared.loaded.Loaded.{Loaded}
 use Rattle.fm_model.proofs.InstantLemmas.{rises_runs_of, rises_times_of}
 use Rattle.fm_model.proofs.Members.{In, Each, EachPair, AllPairs-from_each, each_from_AllPairs, Contains-from_in, in_from_Contains, Each-from_in, Each-in, each_from_All, in_flat_map, In-map, in_map}
 use Rattle.fm_model.proofs.RisingLemmas.{Above, rises_rising, Rises-members}
+use Rattle.fm_model.specs.declared.op.Op.{Op}
+use Rattle.fm_model.specs.declared.op.Op.TheVariants.{Put, Expire, Retract}
+use Rattle.fm_model.proofs.CellLemmas.{has-in}
+use Rattle.fm_list.specs.Change.{added}
+use Rattle.fm_list.specs.Selected.{selects, AreOwn}
 use Rattle.fm_list.specs.declared.by.By.{By}
 use Rattle.fm_list.specs.declared.by.By.TheVariants.{Run, Time, Name}
-use Rattle.fm_edition.specs.Indexes.{codes_of, entries_of, instants, page_of, AreParts, Pages}
-use Rattle.fm_edition.proofs.EntryLemmas.{key_held, key_there, shown_entry}
+use Rattle.fm_edition.specs.Indexes.{codes_of, entries_of, instants, is_among, page_of, AreParts, Pages}
+use Rattle.fm_edition.proofs.ChangeLemmas.{one_of}
+use Rattle.fm_edition.proofs.EntryLemmas.{key_held, key_there, of_file, shown_entry}
 use Rattle.fm_edition.proofs.OrderLemmas.{Rises-from_sorted}
 
 -- a later page has later instants
@@ -109,3 +116,31 @@ keys_are by files pages are = Rises-members (keys_of (entries_of pages)) (instan
       λ c. Contains-from_in key (keys_of (entries_of pages))
           (key_there by files pages are key (in_from_Contains key (instants by files) c)),
     ))
+
+-- an instant is among those of one file where it selects the file
+own_key : (by : By) (file : Loaded) (key : ℤ) → is_among (instants by (file ∷ [])) key ≡ selects by key file
+own_key by file key = by_test (selects by key file) refl
+  where
+    not_there : selects by key file ≡ false → (b : Bool) → is_among (instants by (file ∷ [])) key ≡ b
+        → is_among (instants by (file ∷ [])) key ≡ false
+    not_there lacks false is = is
+    not_there lacks true is =
+        let found = of_file by (file ∷ []) key (has-in key (instants by (file ∷ [])) is) in
+        elim found.1 [
+          | inl same ↦ absurd (both_ways (selects by key file) lacks
+              (subst (λ f. selects by key f ≡ true) (sym same) found.2))
+          | inr none ↦ absurd none
+        ]
+
+    by_test : (b : Bool) → selects by key file ≡ b → is_among (instants by (file ∷ [])) key ≡ selects by key file
+    by_test true has = one_of by (file ∷ []) key file (inl refl) has ∙ sym has
+    by_test false lacks = not_there lacks (is_among (instants by (file ∷ [])) key) refl ∙ sym lacks
+
+-- the instants of the file that an operation adds are those by which it is found
+pub AreOwn-instants : (by : By) (op : Op) → AreOwn by op (instants by (added op))
+AreOwn-instants by (Put file) = record {
+  rises = AllPairs-from_each Above (instants by (file ∷ [])) (rises_instants by (file ∷ []));
+  each = own_key by file;
+}
+AreOwn-instants by (Expire cutoff) = tt
+AreOwn-instants by (Retract name) = tt

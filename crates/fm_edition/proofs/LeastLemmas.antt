@@ -34,7 +34,7 @@ best_same files valid least run is keeps =
       greatest = λ other any late. found.greatest other any tt;
     })
 
-no_row : (files : List Loaded) (valid : ℤ) (least : Option ℤ) → best_row files None valid ≡ None
+pub no_row : (files : List Loaded) (valid : ℤ) (least : Option ℤ) → best_row files None valid ≡ None
     → best_row files least valid ≡ None
 unfolding best_row
 no_row files valid least none =
@@ -48,7 +48,7 @@ no_row files valid least none =
     by_best None is = is
     by_best (Some run) is = absurd (true≢false (sym (ap is_some is) ∙ lacks))
 
-same_row : (files : List Loaded) (valid : ℤ) (least : Option ℤ) (row : Row) → best_row files None valid ≡ Some row
+pub same_row : (files : List Loaded) (valid : ℤ) (least : Option ℤ) (row : Row) → best_row files None valid ≡ Some row
     → has_least_offset least row.run row.valid ≡ true → best_row files least valid ≡ Some row
 unfolding best_row
 same_row files valid least row is keeps =
@@ -79,6 +79,6 @@ rows_same least (entry ∷ entries) each = by_row (best_row entry.1 None entry.0
         (same_row entry.1 entry.0 least row is all.0 ∙ sym is) (more all.1)
 
 -- the rows of a page that keep a least offset
-pub from_kept : (least : Option ℤ) (page : BTreeMap ℤ (List Loaded)) → KeepLeast least (page_rows page)
-    → page_rows page ≡ filter_map (best_of_entry least) page.entries
-from_kept least page keep = sym (rows_same least page.entries (each_from_All (Keeps least) (page_rows page) keep))
+pub from_kept : (least : Option ℤ) (page : BTreeMap ℤ (List Loaded)) → KeepLeast least (page_rows page).rows
+    → (page_rows page).rows ≡ filter_map (best_of_entry least) page.entries
+from_kept least page keep = sym (rows_same least page.entries (each_from_All (Keeps least) (page_rows page).rows keep))

@@ -1,3 +1,4 @@
+pub mod AloneLemmas
 pub mod BestLemmas
 pub mod ChangeLemmas
 pub mod CountLemmas
@@ -5,6 +6,7 @@ pub mod EditionLemmas
 pub mod PageLemmas
 pub mod EntryLemmas
 pub mod IndexLemmas
+pub mod KeepLemmas
 pub mod KeyLemmas
 pub mod LeastLemmas
 pub mod LeastSteps

@@ -1,5 +1,5 @@
 -- What the maps of an edition hold, each as a function of its list of files.
-use Rattle.std.specs.Prelude.{◌≡◌, ◌+ℤ◌, All, ◌&&◌, Bool, List, [], ◌∷◌, Option, None, Some, option_and_then, ℤ, pos, if◌then◌else◌, map}
+use Rattle.std.specs.Prelude.{◌≡◌, ◌+ℤ◌, All, ◌&&◌, ◌==◌, Bool, true, length, List, [], ◌∷◌, Option, None, Some, option_and_then, ℤ, pos, if◌then◌else◌, map}
 use Rattle.std.specs.BTreeMap.{BTreeMap, get, values, IsOrdered}
 use Rattle.std.specs.Int.{int_div_euclid}
 use Rattle.std.specs.List.{filter_map, flat_map, list_any}
@@ -21,6 +21,7 @@ use Rattle.fm_edition.specs.declared.maps.index.Index.{Index}
 use Rattle.fm_edition.specs.declared.maps.wanted.Wanted.{Wanted}
 use Rattle.fm_edition.specs.declared.maps.wanted.Wanted.TheVariants.{Best, After, At}
 use Rattle.fm_edition.specs.Held.{Held, IsEdition}
+use Rattle.fm_edition.specs.Kept.{KeptRows}
 
 -- a list, unless it is empty
 abbrev pub some_of : {A : Type 0} → List A → Option (List A)
@@ -105,16 +106,25 @@ best_of_entry least = entry_row (Best least)
 abbrev pub kept_row : ℤ × List Loaded → Option Row
 kept_row = best_of_entry None
 
--- the rows of a page's valid times from their best runs
-abbrev pub page_rows : BTreeMap ℤ (List Loaded) → List Row
-page_rows page = filter_map kept_row page.entries
+-- whether there is one file
+abbrev pub is_one : List Loaded → Bool
+is_one files = length files == 1
 
--- the rows of the best time series, page by page
+-- whether each of some instants is that of one file
+abbrev pub each_one : List (ℤ × List Loaded) → Bool
+each_one [] = true
+each_one (entry ∷ entries) = is_one entry.1 && each_one entries
+
+-- what is kept of a page
+abbrev pub page_rows : BTreeMap ℤ (List Loaded) → KeptRows
+page_rows page = record { rows = filter_map kept_row page.entries; alone = each_one page.entries }
+
+-- what is kept of the rows of the best time series, page by page
 abbrev pub RowPages : Type 0
-RowPages = BTreeMap ℤ (List Row)
+RowPages = BTreeMap ℤ KeptRows
 
--- the rows of the page of a number, where there is such a page
-unfoldable pub rows_at : Pages → ℤ → Option (List Row)
+-- what is kept of the page of a number, where there is such a page
+unfoldable pub rows_at : Pages → ℤ → Option KeptRows
 rows_at pages number = option_map page_rows (get int_cmp pages number)
 
 -- whether one of some instants is in the page of a number

@@ -1,5 +1,5 @@
 -- Rows with a least offset.
-use Rattle.std.specs.Prelude.{◌≡◌, ◌≤ℤ◌, ◌-ℤ◌, All, List, Option, ℤ, true}
+use Rattle.std.specs.Prelude.{◌≡◌, ◌≤ℤ◌, ◌-ℤ◌, All, Bool, List, Option, ℤ, true}
 use Rattle.fm_model.specs.declared.row.Row.{Row}
 use Rattle.fm_model.specs.Cell.{has_least_offset}
 
@@ -7,6 +7,10 @@ use Rattle.fm_model.specs.Cell.{has_least_offset}
 abbrev pub LieAfter : ℤ → List Row → Type 0
 LieAfter seconds rows = All (λ (row : Row). seconds ≤ℤ (row.valid -ℤ row.run)) rows
 
--- each row keeps the least offset, where one is given
+-- whether a row keeps the least offset, where one is given
+abbrev pub keeps_least : Option ℤ → Row → Bool
+keeps_least least row = has_least_offset least row.run row.valid
+
+-- each row keeps the least offset
 abbrev pub KeepLeast : Option ℤ → List Row → Type 0
-KeepLeast least rows = All (λ (row : Row). has_least_offset least row.run row.valid ≡ true) rows
+KeepLeast least rows = All (λ (row : Row). keeps_least least row ≡ true) rows

@@ -1,6 +1,7 @@
 pub mod Amounts
 pub mod Held
 pub mod Indexes
+pub mod Kept
 pub mod Least
 pub mod Log
 pub mod Pieces

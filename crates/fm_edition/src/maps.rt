@@ -13,6 +13,7 @@ mod best;
 mod by_run;
 mod entry;
 mod index;
+mod keeping;
 mod named;
 mod page_rows;
 mod pages;

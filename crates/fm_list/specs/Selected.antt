@@ -1,12 +1,15 @@
 -- The files of a run, of a valid time, or of a name's code,
 -- and what is asked of files before a valid time is looked for in them.
 use Rattle.std.specs.Prelude.{◌≡◌, ◌≢◌, ◌≤◌, ◌++◌, All, AllPairs, Bool, List, filter, length, ℤ, true}
+use Rattle.std.specs.List.{list_any}
 use Rattle.std.specs.Ordering.{int_eq}
 use Rattle.fm_model.specs.declared.limit.TheConstants.{MAX_TIMES}
 use Rattle.fm_model.specs.declared.loaded.Loaded.{Loaded}
 use Rattle.fm_model.specs.declared.op.Op.{Op}
+use Rattle.fm_model.specs.declared.op.Op.TheVariants.{Put, Expire, Retract}
 use Rattle.fm_model.specs.Cell.{has_time}
 use Rattle.fm_model.specs.LoadTimes.{IsInstant}
+use Rattle.fm_model.specs.Rising.{Rises}
 use Rattle.fm_list.specs.declared.by.By.{By}
 use Rattle.fm_list.specs.declared.by.By.TheVariants.{Run, Time, Name}
 use Rattle.fm_list.specs.Change.{added, keeps}
@@ -25,6 +28,17 @@ part by files key = filter (selects by key) files
 -- such files after an operation
 unfoldable pub part_after : By → ℤ → Op → List Loaded → List Loaded
 part_after by key op files = filter (keeps op) files ++ filter (selects by key) (added op)
+
+-- rising instants are those by which a file is found
+pub record IsFoundBy (by : By) (file : Loaded) (own : List ℤ) : Type 0 where
+  pub rises : Rises own
+  pub each : (key : ℤ) → list_any (λ other. int_eq other key) own ≡ selects by key file
+
+-- rising instants are those by which the file is found that an operation adds
+abbrev pub AreOwn : By → Op → List ℤ → Type 0
+AreOwn by (Put file) own = IsFoundBy by file own
+AreOwn by (Expire cutoff) own = Unit {0}
+AreOwn by (Retract name) own = Unit {0}
 
 -- a file has few times, each once, and all are instants of a collection
 pub record HasSoundTimes (file : Loaded) : Type 0 where

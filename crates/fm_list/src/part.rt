@@ -1,32 +1,27 @@
 //! The files by an instant: those of a run, or those that have a valid time. A name's code serves as an instant, too.
 ghost use Rattle.std.specs.Prelude.{◌≡◌, [], ◌∷◌, ◌++◌, IfOk, filter, is_some};
+ghost use Rattle.std.specs.List.{list_any};
+ghost use Rattle.std.specs.Ordering.{int_eq};
 ghost use Rattle.fm_model.specs.Cell.{best};
+ghost use Rattle.fm_model.specs.Rising.{Rises};
 ghost use Rattle.fm_list.specs.Selected as spec;
 
 use crate::by::By;
 use crate::change::kept;
-use crate::code::code_of;
-use crate::finding::{place_in, raised_by};
+use crate::finding::raised_by;
 use crate::placed::Placed;
 use fm_base::{Arc, List, NoMemory};
 use fm_model::{Loaded, Op};
 use std::alloc::Global;
 
-// An index among a file's times, if it is of a run or a name's code, or that of a valid time, if it has it.
-#[tactic(auto, unfolding(crate::specs::Selected::selects))]
-fn selected(by: By, key: i64, file: &Loaded) -> Option<usize>
-    ensures { is_some result ≡ spec.selects by key file.now }
+// The index of an instant among rising ones, if it is there.
+fn index_among(own: &[i64], key: i64) -> Option<usize>
+    requires { Rises own.now }
+    ensures { is_some result ≡ list_any (λ other. int_eq other key) own.now }
 {
-    match by {
-        By::Run => { if file.run == key { Some(0) } else { None } }
-        By::Time => place_in(file, 0, key),
-        By::Name => {
-            if code_of(file.name.as_slice()) == key {
-                Some(0)
-            } else {
-                None
-            }
-        }
+    match own.binary_search(&key) {
+        Ok(index) => Some(index),
+        Err(_) => None,
     }
 }
 
@@ -42,16 +37,19 @@ pub fn best_among(files: &[Placed], valid: i64, least: Option<i64>) -> Option<i6
     greatest
 }
 
-// Some files, and one more where it is of a run, or has a valid time.
+// Some files, and one more where it is found by an instant. Where its times rise, the time stands at its place among
+// its own instants.
 fn with_selected(
     mut files: List<Placed>,
     by: By,
     key: i64,
     file: &Arc<Loaded>,
+    own: &[i64],
 ) -> Result<List<Placed>, NoMemory>
+    requires { spec.IsFoundBy by file.now own.now }
     ensures { IfOk result (λ next. next ≡ files ++ filter (spec.selects by key) (file.now ∷ [])) }
 {
-    match selected(by, key, file.get()) {
+    match index_among(own, key) {
         None => Ok(files),
         Some(place) => {
             files.push(Placed::new(file.share()?, place))?;
@@ -60,19 +58,21 @@ fn with_selected(
     }
 }
 
-/// The files by an instant after an operation.
+/// The files by an instant after an operation, where `own` are the instants of the file that it adds.
 pub fn part_after(
     alloc: Global,
     by: By,
     key: i64,
     files: &[Placed],
     op: &Op,
+    own: &[i64],
 ) -> Result<List<Placed>, NoMemory>
+    requires { spec.AreOwn by op.now own.now }
     ensures { IfOk result (λ next. next ≡ spec.part_after by key op.now files.now) }
 {
     let next = kept(alloc, files, op)?;
     match op {
-        Op::Put(file) => with_selected(next, by, key, file),
+        Op::Put(file) => with_selected(next, by, key, file, own),
         Op::Expire(_) => Ok(next),
         Op::Retract(_) => Ok(next),
     }

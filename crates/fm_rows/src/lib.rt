@@ -2,5 +2,6 @@
 #![tactic(auto)]
 
 mod rows;
+mod stretch;
 
 pub use rows::Rows;

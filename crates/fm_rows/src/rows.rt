@@ -1,8 +1,9 @@
 //! Rows in pages.
-ghost use Rattle.std.specs.Prelude.{◌≡◌, ◌≤◌, ◌++◌, ◌↔◌, [], IfOk, IfSome, IsNone, IsTrue, None, OnErr, OnOk, Some, length, nat_le, slice_get};
+ghost use Rattle.std.specs.Prelude.{◌≡◌, ◌≤◌, ◌++◌, ◌↔◌, [], IfOk, IfSome, IsNone, IsTrue, None, OnErr, OnOk, Some, drop, length, nat_le, slice_get, take};
 ghost use Rattle.std.specs.List.Sorted.{IsNonDecreasingBy};
 ghost use Rattle.fm_rows.specs.Pages.{AreBegun};
 
+use crate::stretch::Stretch;
 use fm_base::{Arc, List, NoMemory};
 use fm_model::Row;
 use std::alloc::Global;
@@ -12,7 +13,7 @@ use std::marker::Model;
 #[derive(Drop)]
 struct Page {
     start: usize,
-    rows: Arc<List<Row>>,
+    rows: Stretch,
 }
 
 /// The rows of a view, page after page. Several views may share a page. A clause sees the rows alone.
@@ -75,18 +76,41 @@ impl Rows {
         Ok(rows)
     }
 
+    // Adds rows of a list at the end.
+    fn push_stretch(&mut self, rows: Stretch) -> Result<(), NoMemory>
+        ensures ok { OnOk result (self.new ≡ self.old ++ rows) }
+        ensures err { OnErr result (self.new ≡ self.old) }
+    {
+        let start = self.len;
+        let Some(len) = start.checked_add(rows.len()) else {
+            return Err(NoMemory);
+        };
+        self.pages.push(Page { start, rows })?;
+        self.len = len;
+        Ok(())
+    }
+
     /// Adds the rows of a page at the end. It takes no memory for them. An `Err` changes nothing.
     pub fn push(&mut self, page: Arc<List<Row>>) -> Result<(), NoMemory>
         ensures ok { OnOk result (self.new ≡ self.old ++ page) }
         ensures err { OnErr result (self.new ≡ self.old) }
     {
-        let start = self.len;
-        let Some(len) = start.checked_add(page.get().len()) else {
-            return Err(NoMemory);
-        };
-        self.pages.push(Page { start, rows: page })?;
-        self.len = len;
-        Ok(())
+        self.push_stretch(Stretch::whole(page))
+    }
+
+    /// Adds the rows of a page from one place up to another. It takes no memory for them. An `Err` changes nothing.
+    pub fn push_part(
+        &mut self,
+        page: Arc<List<Row>>,
+        from: usize,
+        to: usize,
+    ) -> Result<(), NoMemory>
+        requires order { from ≤ to }
+        requires within { to ≤ length page }
+        ensures ok { OnOk result (self.new ≡ self.old ++ drop from (take to page)) }
+        ensures err { OnErr result (self.new ≡ self.old) }
+    {
+        self.push_stretch(Stretch::part(page, from, to))
     }
 
     /// The number of rows.
@@ -115,6 +139,6 @@ impl Rows {
             return None;
         }
         let page = &pages[begun - 1];
-        row_at(page.rows.get().as_slice(), place - page.start)
+        row_at(page.rows.get(), place - page.start)
     }
 }

@@ -83,7 +83,7 @@ fn ran_over<R: Threads + Wait + Sync>(
     world: &mut MemWorld,
 ) -> Result<String, NoMemory> {
     let status = srv_run::run(rt, alloc, &given.words, world);
-    shown::left(alloc, status, world)
+    shown::left(alloc, status, world, given.shows_lines)
 }
 
 /// Runs the rows of a text.

@@ -10,14 +10,18 @@ use std::sync::atomic::{AtomicU64, Ordering};
 // For how many turns one waits for the other.
 const TURNS: u64 = 1_000_000_000;
 
-// The number of verdicts on names, of links that were served, and of waits for the other that were given up; and the
-// numbers in the verdicts on moments, by their kinds.
+// The line of a clock by which one run went.
+const WENT: &[u8] = b"expired before 2024-01-01T06:00:00Z revision 3";
+
+// The number of verdicts on names, of links that were served, and of waits for the other that were given up; the
+// numbers in the verdicts on moments, by their kinds; and how often the one line of a clock was the one above.
 #[derive(Drop)]
 pub(crate) struct Course {
     pub(crate) settled: AtomicU64,
     pub(crate) served: AtomicU64,
     pub(crate) gave_up: AtomicU64,
     pub(crate) expired: AtomicU64,
+    pub(crate) told: AtomicU64,
     pub(crate) idle: AtomicU64,
 }
 
@@ -28,6 +32,7 @@ impl Course {
             served: AtomicU64::new(0),
             gave_up: AtomicU64::new(0),
             expired: AtomicU64::new(0),
+            told: AtomicU64::new(0),
             idle: AtomicU64::new(0),
         }
     }
@@ -93,6 +98,18 @@ impl<'a> Inbox for CountedInbox<'a> {
         self.course.settled.fetch_add(1, Ordering::SeqCst);
         settled
     }
+
+    fn note(&mut self, line: &[&[u8]]) {
+        self.inbox.note(line);
+    }
+}
+
+// Whether one line was told, and this one.
+fn is_one(lines: Option<&[Bytes]>, wanted: &[u8]) -> bool {
+    match lines {
+        Some([line]) => line.as_slice() == wanted,
+        _ => false,
+    }
 }
 
 // A clock in memory that comes to a moment once two links were served.
@@ -118,6 +135,13 @@ impl<'a> Clock for LateClock<'a> {
             Expiry::Short => {}
         }
         self.clock.settle(verdict);
+    }
+
+    fn note(&mut self, line: &[&[u8]]) {
+        self.clock.note(line);
+        if is_one(self.clock.lines(), WENT) {
+            self.course.told.fetch_add(1, Ordering::SeqCst);
+        }
     }
 }
 
@@ -166,5 +190,9 @@ impl<'a> Opener for CountedOpener<'a> {
             clock: self.opener.clock(ticks),
             course: self.course,
         }
+    }
+
+    fn note(&mut self, line: &[&[u8]]) {
+        self.opener.note(line);
     }
 }

@@ -79,7 +79,7 @@ fn each_link_is_served_from_all_that_was_settled_before_it(rt: HostRuntime) {
     assert!(rt; left.doors == 1 && in_turn(left.replies.as_slice()));
 }
 
-// Both files came, and by the first of two moments the first of them went.
+// Both files came, and by the first of two moments the first of them went, with a line.
 #[test]
 fn a_run_goes_once_it_is_too_old(rt: HostRuntime) {
     let course = Course::new();
@@ -88,4 +88,5 @@ fn a_run_goes_once_it_is_too_old(rt: HostRuntime) {
     assert_eq!(rt; left.line.as_slice(), line);
     let expired = course.expired.load(Ordering::SeqCst);
     assert_eq!(rt; (expired, course.idle.load(Ordering::SeqCst)), (3, 3));
+    assert_eq!(rt; course.told.load(Ordering::SeqCst), 1);
 }

@@ -1,7 +1,7 @@
 -- The links of a door after the turn of the one that a key names.
 use Rattle.std.proofs.Common.{◌≡◌, ℕ, ◌+◌, Bool, Option, Some, None, sym, ap, subst, ◌∙◌}
 use Rattle.std.specs.Prelude.{if◌then◌else◌}
-use Rattle.slab.specs.Slab.{get, slab_len, Slab, Updates}
+use Rattle.slab.specs.Slab.{get, slab_len, SameValues, Slab, Updates}
 use Rattle.fm_model.specs.declared.proto.Proto.{Proto}
 use Rattle.dev_traits.specs.Cause.{one_more}
 use Rattle.dev_traits.specs.Door.{after_done, Doorway}
@@ -23,6 +23,14 @@ updates-back : {A : Type 0} (s emptied now : Slab A) (key taken : ℕ) (value : 
 updates-back {A} s emptied now key taken value out same back =
     let u = subst (λ (k : ℕ). Updates emptied now k (Some value)) same back in
     record { changed = u.changed; others = λ other differs. u.others other differs ∙ out.others other differs }
+
+-- a table with the same values is emptied too
+pub updates-still : {A : Type 0} {s emptied now : Slab A} {key : ℕ} → Updates s emptied key None
+    → SameValues emptied now → Updates s now key None
+updates-still {A} {s} {emptied} {now} {key} out same = record {
+  changed = same key ∙ out.changed;
+  others = λ other differs. same other ∙ out.others other differs;
+}
 
 module _ {L : Type 0} {shown : L → LinkShown} {proto : Proto} {still : Bool} where
   -- it waits

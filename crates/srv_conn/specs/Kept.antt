@@ -1,8 +1,9 @@
 -- A connection between two turns.
-use Rattle.std.specs.Prelude.{ℕ, Option, Some, None}
-use Rattle.web_session.specs.State.{idle_after, State}
+use Rattle.web_session.specs.State.{State}
+use Rattle.srv_conn.specs.declared.kept.Stored.{Stored}
+use Rattle.srv_conn.specs.declared.kept.Stored.TheVariants.{Whole, Packed}
 
--- the session of a connection, which is made anew where it has none
-abbrev pub session_of : Option State → ℕ → State
-session_of (Some session) before = session
-session_of None before = idle_after before
+-- the session that is stored
+abbrev pub session_of : Stored → State
+session_of (Whole session) = session
+session_of (Packed session) = session

@@ -88,7 +88,7 @@ pub(crate) fn admit<D: Door, K: Look>(
                 doing: Doing::Reading,
                 revision,
             };
-            let kept = Kept::new(connection);
+            let kept = Kept::new(alloc, connection, &mut hall.spare);
             let taken = hall.links.insert_reserved(kept);
             Some(taken)
         }

@@ -6,7 +6,7 @@ ghost use Rattle.srv_conn.specs.AtDoor.{AreReady, AtDoor, IsOutSome};
 ghost use Rattle.srv_conn.specs.Sight.{Sight};
 
 use crate::connection::Connection;
-use crate::hall::Hall;
+use crate::hall::{Hall, give_back, leave_behind};
 use crate::kept::Kept;
 use crate::stepping::go_on;
 use dev_traits::Door;
@@ -41,7 +41,7 @@ pub(crate) fn go_on_at<D: Door, K: Look>(
         return false;
     }
     let kept = hall.links.remove(key);
-    let mut connection = match kept.woken(alloc) {
+    let mut connection = match kept.woken(alloc, &mut hall.spare) {
         Ok(connection) => connection,
         Err(kept) => {
             let rested = kept.rested(door, key);
@@ -52,7 +52,7 @@ pub(crate) fn go_on_at<D: Door, K: Look>(
     match go_on(alloc, look, &mut connection, site, room) {
         None => {
             door.rest(key, &mut connection.link);
-            let kept = Kept::new(connection);
+            let kept = Kept::new(alloc, connection, &mut hall.spare);
             hall.links.insert_reserved(kept);
             false
         }
@@ -63,8 +63,10 @@ pub(crate) fn go_on_at<D: Door, K: Look>(
                 doing,
                 ..
             } = connection;
-            drop(session);
             drop(doing);
+            let is_last = hall.links.is_empty();
+            leave_behind(&mut hall.spare, session, is_last);
+            give_back(&mut hall.links);
             door.done(key, link);
             hall.count(Some(end));
             true

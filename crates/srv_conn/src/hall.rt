@@ -1,5 +1,6 @@
 //! The links of a door that are out.
 ghost use Rattle.std.specs.Prelude.{◌≡◌, [], if◌then◌else◌};
+ghost use Rattle.slab.specs.Slab.{SameValues, slab_len};
 ghost use Rattle.dev_traits.specs.Cause.{one_more};
 ghost use Rattle.srv_conn.specs.DoorTurns.{is_short};
 
@@ -7,12 +8,14 @@ use crate::door_report::{DoorEnd, DoorReport};
 use crate::kept::Kept;
 use slab::Slab;
 use std::alloc::Global;
-use web_session::End;
+use web_session::{End, Session};
 
 /// The links of a door that are out, each under a key, and how many were given back.
 #[derive(Drop)]
 pub(crate) struct Hall<L> {
     pub links: Slab<Kept<L>>,
+    /// A session that a link left behind, for the room that it has.
+    pub spare: Option<Session>,
     /// How many links were given back. It stands still at its greatest number.
     pub served: u64,
     /// In how many of their turns memory ran out. It stands still at its greatest number.
@@ -26,6 +29,26 @@ fn is_short(end: Option<End>) -> bool
     matches!(end, None | Some(End::NoMemory))
 }
 
+/// Keeps the session of a link that has ended, for the room that it has, unless that link was the last one out.
+pub(crate) fn leave_behind(spare: &mut Option<Session>, session: Session, is_last: bool) {
+    if is_last {
+        drop(session);
+        drop(spare.take());
+    } else {
+        drop(spare.replace(session));
+    }
+}
+
+/// Gives back the room for links where none is out.
+pub(crate) fn give_back<L: Drop>(links: &mut Slab<Kept<L>>)
+    ensures values { SameValues links.old links.new }
+    ensures len { slab_len links.new ≡ slab_len links.old }
+{
+    if links.is_empty() {
+        links.shrink_to_fit();
+    }
+}
+
 impl<L> Hall<L> {
     pub fn new(alloc: Global) -> Hall<L>
         ensures links { result.links.slots ≡ [] }
@@ -33,6 +56,7 @@ impl<L> Hall<L> {
     {
         Hall {
             links: Slab::new(alloc),
+            spare: None,
             served: 0,
             short: 0,
         }

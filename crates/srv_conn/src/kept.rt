@@ -1,5 +1,5 @@
 //! A connection between two turns.
-ghost use Rattle.std.specs.Prelude.{◌≡◌, ◌<◌, IfErr, IfOk, None, OnErr};
+ghost use Rattle.std.specs.Prelude.{◌≡◌, IfErr, IfOk};
 ghost use Rattle.srv_conn.specs.Kept.{session_of};
 
 use crate::connection::Connection;
@@ -8,22 +8,26 @@ use dev_traits::Door;
 use fm_base::NoMemory;
 use std::alloc::Global;
 use std::marker::Model;
-use web_session::Session;
+use web_session::{PackedSession, Session};
 
-/// A connection between two turns. While its session waits for bytes and holds none, there is no session, and so no
-/// buffer. A clause sees the connection.
+// A session between two turns. One that is packed has left its room to the worker.
+#[derive(Drop)]
+pub(crate) enum Stored {
+    Whole(Session),
+    Packed(PackedSession),
+}
+
+/// A connection between two turns. Its session takes no more memory than the bytes that it holds, unless these are of a
+/// head that isn't whole. A clause sees the connection.
 #[derive(Drop)]
 pub(crate) struct Kept<L> {
     link: L,
-    session: Option<Session>,
-    // How many replies were sent, where there is no session.
-    before: u32,
+    session: Stored,
     doing: Doing,
     revision: u64,
 }
 
 impl<L> Model for Kept<L> {
-    ghost use Rattle.std.specs.Prelude.{◌<◌};
     ghost use Rattle.srv_conn.specs.declared.connection.Connection.{Connection};
     ghost use Rattle.srv_conn.specs.Kept.{session_of};
 
@@ -31,18 +35,15 @@ impl<L> Model for Kept<L> {
 
     ghost view = { λ k. record {
       link = k.link;
-      session = session_of k.session k.before;
+      session = session_of k.session;
       doing = k.doing;
       revision = k.revision;
     } };
-
-    ghost invariant = { λ k. k.before < 10000 };
 }
 
 impl<L> Kept<L> {
-    /// Keeps a connection until its next turn.
-    #[tactic(auto, using(web_session::proofs::IdleLemmas::kept))]
-    pub fn new(connection: Connection<L>) -> Kept<L>
+    /// Keeps a connection until its next turn. A session that is packed leaves its room behind.
+    pub fn new(alloc: Global, connection: Connection<L>, spare: &mut Option<Session>) -> Kept<L>
         ensures { result ≡ connection }
     {
         let Connection {
@@ -51,47 +52,36 @@ impl<L> Kept<L> {
             doing,
             revision,
         } = connection;
-        match session.idle() {
-            Some(before) => Kept {
-                link,
-                session: None,
-                before,
-                doing,
-                revision,
-            },
-            None => Kept {
-                link,
-                session: Some(session),
-                before: 0,
-                doing,
-                revision,
-            },
+        let session = store(alloc, session, spare);
+        Kept {
+            link,
+            session,
+            doing,
+            revision,
         }
     }
 
-    /// The connection, for whose session memory is taken where there is none.
-    pub fn woken(self, alloc: Global) -> Result<Connection<L>, Kept<L>>
+    /// The connection, whose session takes the room that was left behind, or memory where there is none.
+    pub fn woken(self, alloc: Global, spare: &mut Option<Session>) -> Result<Connection<L>, Kept<L>>
         ensures ok { IfOk result (λ connection. connection ≡ self) }
         ensures err { IfErr result (λ kept. kept ≡ self) }
     {
         let Kept {
             link,
             session,
-            before,
             doing,
             revision,
         } = self;
-        match resumed(alloc, session, before) {
+        match restored(alloc, session, spare) {
             Ok(session) => Ok(Connection {
                 link,
                 session,
                 doing,
                 revision,
             }),
-            Err(NoMemory) => Err(Kept {
+            Err(session) => Err(Kept {
                 link,
-                session: None,
-                before,
+                session,
                 doing,
                 revision,
             }),
@@ -110,14 +100,41 @@ impl<L> Kept<L> {
     }
 }
 
-// A session, or the one that is made anew after this number of replies.
-fn resumed(alloc: Global, session: Option<Session>, before: u32) -> Result<Session, NoMemory>
-    requires { before < 10_000 }
-    ensures ok { IfOk result (λ found. found ≡ session_of session before) }
-    ensures err { OnErr result (session ≡ None) }
+// A session as it is stored. Where it is packed it is left behind, for the room that it has.
+fn store(alloc: Global, session: Session, spare: &mut Option<Session>) -> Stored
+    ensures { session_of result ≡ session }
 {
-    match session {
+    match session.packed(alloc) {
+        Some(packed) => {
+            drop(spare.replace(session));
+            Stored::Packed(packed)
+        }
+        None => Stored::Whole(session),
+    }
+}
+
+// Some session, for the room that it has.
+fn any_session(alloc: Global, spare: &mut Option<Session>) -> Result<Session, NoMemory> {
+    match spare.take() {
         Some(session) => Ok(session),
-        None => Session::resumed(alloc, before),
+        None => Session::new(alloc),
+    }
+}
+
+// A stored session in a room of its own.
+fn restored(alloc: Global, stored: Stored, spare: &mut Option<Session>) -> Result<Session, Stored>
+    ensures ok { IfOk result (λ session. session ≡ session_of stored) }
+    ensures err { IfErr result (λ kept. session_of kept ≡ session_of stored) }
+{
+    match stored {
+        Stored::Whole(session) => Ok(session),
+        Stored::Packed(packed) => match any_session(alloc, spare) {
+            Ok(mut session) => {
+                session.unpack(&packed);
+                drop(packed);
+                Ok(session)
+            }
+            Err(NoMemory) => Err(Stored::Packed(packed)),
+        },
     }
 }

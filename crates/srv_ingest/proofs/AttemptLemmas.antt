@@ -15,7 +15,7 @@ IsNumbered-last ops op =
     record { index = length ops; number_is = length-append ops (op ∷ []); op_is = slice_get-push ops op }
 
 -- a log with one operation more is the longer of it and a list that isn't longer than the log
-longer-more : (own ops : List Op) (op : Op) → length own ≤ length ops
+pub longer-more : (own ops : List Op) (op : Op) → length own ≤ length ops
     → longer own (ops ++ op ∷ []) ≡ ops ++ op ∷ []
 longer-more own ops op within = ap (λ b. if b then ops ++ op ∷ [] else own)
     (lt-ltb (length own) (length (ops ++ op ∷ [])) (omega (arith, within, length-append ops (op ∷ []))))

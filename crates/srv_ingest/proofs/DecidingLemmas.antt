@@ -43,7 +43,7 @@ Decides-after {a} {b} {c} {s} {t} {u} {published} {looked} first second = record
 }
 
 -- an operation that has a number was seen
-IsNumbered-within : (ops : List Op) (number : ℕ) (op : Op) → IsNumbered ops number op → number ≤ length ops
+pub IsNumbered-within : (ops : List Op) (number : ℕ) (op : Op) → IsNumbered ops number op → number ≤ length ops
 IsNumbered-within ops number op is = omega (arith, is.number_is, slice_get_within ops is.index op is.op_is)
 
 -- an operation was published, and the verdict says its number

@@ -5,7 +5,7 @@ use Rattle.pub_look.specs.History.{Continues, History}
 use Rattle.srv_ingest.specs.declared.report.ExpireReport.{ExpireReport}
 use Rattle.srv_ingest.specs.Expires.{AllSettledWith, AreAll, SettledMoment}
 use Rattle.srv_ingest.specs.Turns.{HasNoMoment}
-use Rattle.srv_ingest.proofs.ExpireLemmas.{MomentsSoFar, MovesOnIn}
+use Rattle.srv_ingest.proofs.ExpireLemmas.{MomentsSoFar, MovesOnIn, TellsMoments}
 
 -- all moments, where none is left
 all-moved : (a b c : Option Moments) (settled : List SettledMoment) → MovesOnIn a b settled
@@ -34,6 +34,7 @@ AllSettledWith-all keep epoch a b c pass pass' pass'' share share' expired short
       all = all-moved a b c far.settled far.moves none.none_left none.clock_is;
       each = far.each;
       sees = far.sees;
+      lines = subst (λ (h : Option Moments). TellsMoments keep epoch a h far.settled) (sym none.clock_is) far.lines;
       expired_is = expired_is ∙ far.expired_is;
       short_is = short_is ∙ far.short_is;
     })

@@ -1,20 +1,22 @@
 -- The moments that were settled so far, and one more.
-use Rattle.std.proofs.Common.{◌≡◌, ℕ, ℤ, ◌+◌, ◌≤◌, if◌then◌else◌, All, List, [], ◌∷◌, ◌++◌, length, map, drop, Option, Some, None, IfSome, IsSomeAnd, count_by, refl, sym, ap, ap₂, subst, ◌∙◌, append_assoc, append-nil, arith}
+use Rattle.std.proofs.Common.{◌≡◌, ℕ, ℤ, ◌+◌, ◌≤◌, if◌then◌else◌, All, List, [], ◌∷◌, ◌++◌, length, map, drop, Option, Some, None, IfSome, IsSomeAnd, count_by, flat_map, refl, sym, ap, ap₂, subst, ◌∙◌, append_assoc, append-nil, arith}
 use Rattle.std.proofs.lemmas.List.{map-append}
 use Rattle.std.proofs.lemmas.List.Elements.{All-append, All-cons, All-nil, All-weaker}
 use Rattle.std.proofs.lemmas.Option.{none-some, same_Some}
 use Rattle.dev_traits.specs.declared.clock.Expiry.{Expiry}
-use Rattle.dev_traits.specs.Clock.{after_moment, after_verdict, Moments}
+use Rattle.dev_traits.specs.Clock.{after_moment, after_verdict, clock_lines, Moments, with_clock_lines}
+use Rattle.dev_traits.specs.Lines.{Tells, Told}
+use Rattle.dev_traits.proofs.TellLemmas.{Tells-none, Tells-then}
 use Rattle.dev_traits.specs.Door.{first_of}
 use Rattle.dev_traits.specs.Cause.{capped, one_more}
 use Rattle.pub_look.specs.History.{History}
 use Rattle.srv_ingest.specs.Attempts.{expired_number, idle_number, Sees}
-use Rattle.srv_ingest.specs.Expires.{expired_numbers, idle_numbers, is_expired, IsRightAt, is_short_moment, SettledMoment}
+use Rattle.srv_ingest.specs.Expires.{expired_numbers, idle_numbers, is_expired, IsRightAt, is_short_moment, line_at, SettledMoment}
 use Rattle.srv_ingest.specs.Turns.{SettlesMoment}
 use Rattle.srv_ingest.specs.Verdicts.{cutoff_at}
 use Rattle.srv_ingest.proofs.LaterLemmas.{IsExpiry-later}
 use Rattle.srv_ingest.proofs.SeesLemmas.{Sees-itself, Sees-then}
-use Rattle.srv_ingest.proofs.MomentCounts.{count-more, expired-one, numbers-more, short-one}
+use Rattle.srv_ingest.proofs.MomentCounts.{count-more, expired-one, lines-more, numbers-more, short-one}
 
 -- these moments were the next of a clock, and were settled
 pub record MovesOn (moments moments' : Moments) (settled : List SettledMoment) : Type 0 where
@@ -27,13 +29,19 @@ abbrev pub MovesOnIn : Option Moments → Option Moments → List SettledMoment 
 MovesOnIn clock clock' settled =
     IfSome clock (λ moments. IsSomeAnd clock' (λ moments'. MovesOn moments moments' settled))
 
--- all moments that a clock gave so far were settled, and are counted
+-- the lines of these verdicts were told to a clock, where it is known what it holds
+abbrev pub TellsMoments : ℕ → ℤ → Option Moments → Option Moments → List SettledMoment → Type 0
+TellsMoments keep epoch clock clock' settled = IfSome clock
+    (λ moments. Tells (flat_map (line_at keep epoch) settled) moments.lines (clock_lines clock'))
+
+-- all moments that a clock gave so far were settled and told, and are counted
 pub record MomentsSoFar (keep : ℕ) (epoch : ℤ) (clock clock' : Option Moments) (pass pass' : History)
     (expired short : ℕ) : Type 0 where
   pub settled : List SettledMoment
   pub moves : MovesOnIn clock clock' settled
   pub each : All (IsRightAt keep epoch pass'.seen) settled
   pub sees : Sees pass pass' (expired_numbers settled) (idle_numbers settled)
+  pub lines : TellsMoments keep epoch clock clock' settled
   pub expired_is : expired ≡ count_by (λ it. is_expired it.verdict) settled
   pub short_is : short ≡ capped (count_by (λ it. is_short_moment it.verdict) settled)
 
@@ -45,6 +53,7 @@ MomentsSoFar-none keep epoch clock pass = record {
   moves = none_moved clock;
   each = All-nil (IsRightAt keep epoch pass.seen);
   sees = Sees-itself pass;
+  lines = none_told clock;
   expired_is = refl;
   short_is = refl;
 }
@@ -53,6 +62,10 @@ MomentsSoFar-none keep epoch clock pass = record {
     none_moved None = tt
     none_moved (Some moments) =
         record { left_is = refl; verdicts_are = sym (append-nil moments.verdicts); asked_is = refl }
+
+    none_told : (c : Option Moments) → TellsMoments keep epoch c c []
+    none_told None = tt
+    none_told (Some moments) = Tells-none moments.lines
 
 -- a list with a first moment
 first-is : (moments : List ℤ) (moment : ℤ) → first_of moments ≡ Some moment → moments ≡ moment ∷ drop 1 moments
@@ -70,12 +83,13 @@ left-more settled it left left' is first =
     ∙ ap (λ (l : List ℤ). l ++ drop 1 left') (sym (map-append moment settled (it ∷ [])))
 
 -- one more moment was the next
-MovesOnIn-more : (a b c : Option Moments) (settled : List SettledMoment) (it : SettledMoment) → MovesOnIn a b settled
-    → IfSome b (λ moments. first_of moments.left ≡ Some it.moment)
-    → c ≡ after_verdict it.verdict (after_moment (Some it.moment) b) → MovesOnIn a c (settled ++ it ∷ [])
-MovesOnIn-more None b c settled it moves first is = tt
-MovesOnIn-more (Some p) None c settled it moves first is = absurd moves
-MovesOnIn-more (Some p) (Some q) c settled it moves first is =
+MovesOnIn-more : (a b c : Option Moments) (settled : List SettledMoment) (it : SettledMoment) (told : Told)
+    → MovesOnIn a b settled → IfSome b (λ moments. first_of moments.left ≡ Some it.moment)
+    → c ≡ after_verdict it.verdict (with_clock_lines told (after_moment (Some it.moment) b))
+    → MovesOnIn a c (settled ++ it ∷ [])
+MovesOnIn-more None b c settled it told moves first is = tt
+MovesOnIn-more (Some p) None c settled it told moves first is = absurd moves
+MovesOnIn-more (Some p) (Some q) c settled it told moves first is =
     let verdict : SettledMoment → Expiry = λ it. it.verdict in
     subst (λ (h : Option Moments). IsSomeAnd h (λ r. MovesOn p r (settled ++ it ∷ []))) (sym is) (record {
       left_is = left-more settled it p.left q.left moves.left_is first;
@@ -84,6 +98,20 @@ MovesOnIn-more (Some p) (Some q) c settled it moves first is =
           ∙ ap (λ (l : List Expiry). p.verdicts ++ l) (sym (map-append verdict settled (it ∷ [])));
       asked_is = moves.asked_is;
     })
+
+-- one more verdict was told
+TellsMoments-more : (keep : ℕ) (epoch : ℤ) (a b c : Option Moments) (settled : List SettledMoment) (it : SettledMoment)
+    (told : Told) → MovesOnIn a b settled → TellsMoments keep epoch a b settled
+    → IfSome b (λ moments. Tells (line_at keep epoch it) moments.lines told)
+    → c ≡ after_verdict it.verdict (with_clock_lines told (after_moment (Some it.moment) b))
+    → TellsMoments keep epoch a c (settled ++ it ∷ [])
+TellsMoments-more keep epoch None b c settled it told moves first second is = tt
+TellsMoments-more keep epoch (Some p) None c settled it told moves first second is = absurd moves
+TellsMoments-more keep epoch (Some p) (Some q) c settled it told moves first second is =
+    let line : SettledMoment → List (List ℕ) = line_at keep epoch in
+    subst (λ (t : Told). Tells (flat_map line (settled ++ it ∷ [])) p.lines t) (sym (ap clock_lines is))
+    (subst (λ (l : List (List ℕ)). Tells l p.lines told) (lines-more line settled it)
+    (Tells-then (flat_map line settled) (line it) p.lines q.lines told first second))
 
 -- one more moment was settled
 pub MomentsSoFar-more : (keep : ℕ) (epoch : ℤ) (a b c : Option Moments) (pass pass' pass'' : History)
@@ -96,7 +124,7 @@ pub MomentsSoFar-more : (keep : ℕ) (epoch : ℤ) (a b c : Option Moments) (pas
 MomentsSoFar-more keep epoch a b c pass pass' pass'' share share' expired expired' short short' verdict far next
     expired_is short_is = record {
       settled = far.settled ++ it ∷ [];
-      moves = MovesOnIn-more a b c far.settled it far.moves next.next next.clock_is;
+      moves = MovesOnIn-more a b c far.settled it next.told far.moves next.next next.clock_is;
       each = All-append P far.settled (it ∷ []) (All-weaker (IsRightAt keep epoch pass'.seen) P
           (λ x right. IsExpiry-later pass'.seen pass''.seen (cutoff_at x.moment keep epoch) x.verdict
           next.decides.sees.later right) far.settled far.each) (All-cons P it [] next.is (All-nil P));
@@ -106,6 +134,7 @@ MomentsSoFar-more keep epoch a b c pass pass' pass'' share share' expired expire
           (numbers-more idle_number far.settled it)
           (Sees-then pass pass' pass'' (expired_numbers far.settled) (expired_number verdict) (idle_numbers far.settled)
           (idle_number verdict) far.sees next.decides.sees));
+      lines = TellsMoments-more keep epoch a b c far.settled it next.told far.moves far.lines next.lines next.clock_is;
       expired_is = expired_is ∙ ap₂ (λ (n m : ℕ). n + m) far.expired_is (expired-one verdict)
           ∙ sym (count-more is_expired far.settled it);
       short_is = short_is

@@ -6,16 +6,18 @@ use Rattle.std.proofs.lemmas.Grind.{flat_map-append}
 use Rattle.dev_traits.specs.declared.inbox.Arrival.TheVariants as arrivals
 use Rattle.dev_traits.specs.declared.inbox.Verdict.{Verdict}
 use Rattle.dev_traits.specs.Door.{first_of}
-use Rattle.dev_traits.specs.Inbox.{after_next, after_settle, Post}
+use Rattle.dev_traits.specs.Inbox.{after_next, after_settle, inbox_lines, Post, with_lines}
+use Rattle.dev_traits.specs.Lines.{Tells, Told}
 use Rattle.fm_model.specs.declared.op.Op.{Op}
 use Rattle.fm_model.specs.declared.proto.Proto.{Proto}
 use Rattle.pub_look.specs.History.{Continues, History}
 use Rattle.srv_ingest.specs.Attempts.{looked_number, published_number, Sees}
-use Rattle.srv_ingest.specs.Ingests.{AllRight, IsRight, looked_numbers, MovesOn, MovesIn, published_numbers, Settled, Settlement}
+use Rattle.srv_ingest.specs.Ingests.{AllRight, IsRight, line_on, looked_numbers, MovesOn, MovesIn, published_numbers, Settled, Settlement, TellsAll}
 use Rattle.srv_ingest.specs.Verdicts.{taken_back}
 use Rattle.srv_ingest.proofs.LaterLemmas.{IsVerdict-later}
+use Rattle.srv_ingest.proofs.LineLemmas.{TellsAll-later, TellsAll-none, TellsAll-one, TellsAll-then}
 use Rattle.srv_ingest.proofs.SeesLemmas.{Sees-itself, Sees-then}
-use Rattle.srv_ingest.proofs.TurnLemmas.{AllRight-none, AllRight-one, first-is, MovesIn-itself, Sees-one}
+use Rattle.srv_ingest.proofs.TurnLemmas.{AllRight-none, AllRight-one, first-is, lines-itself, MovesIn-itself, Sees-one}
 
 -- the names that are left, where some were settled and then others
 left-then : (xs ys : List Settlement) (end names names' names'' : List (List ℕ))
@@ -52,11 +54,12 @@ MovesIn-then (Some p) (Some q) (Some r) xs ys unsettled first second = record {
 }
 
 -- one name was settled
-MovesIn-one : (held held' : Option Post) (it : Settlement)
+MovesIn-one : (held held' : Option Post) (it : Settlement) (told : Told)
     → IfSome held (λ post. first_of post.left ≡ Some it.name)
-    → held' ≡ after_settle it.verdict (after_next (arrivals.Name it.name) held) → MovesIn held held' (it ∷ []) None
-MovesIn-one None held' it first is = tt
-MovesIn-one (Some post) held' it first is =
+    → held' ≡ after_settle it.verdict (with_lines told (after_next (arrivals.Name it.name) held))
+    → MovesIn held held' (it ∷ []) None
+MovesIn-one None held' it told first is = tt
+MovesIn-one (Some post) held' it told first is =
     subst (λ (h : Option Post). IsSomeAnd h (λ post'. MovesOn post post' (it ∷ []) None)) (sym is) (record {
       left_is = first-is post.left it.name first;
       verdicts_are = refl;
@@ -90,6 +93,7 @@ Settled-none proto held pass = record {
   moves = MovesIn-itself held held refl;
   each = AllRight-none proto held pass.seen;
   sees = Sees-itself pass;
+  lines = TellsAll-none proto held held pass.seen (lines-itself held held refl);
 }
 
 -- the numbers of some verdicts and of others
@@ -114,23 +118,34 @@ pub Settled-then : {proto : Proto} {a b c : Option Post} {pass pass' pass'' : Hi
     {settled : List Settlement} (more found : List Settlement) {unsettled : Option (List ℕ)}
     → Settled proto a b pass pass' settled settled None → MovesIn b c more unsettled
     → AllRight proto b pass''.seen found → Sees pass' pass'' (published_numbers found) (looked_numbers found)
+    → TellsAll proto b c pass''.seen found
     → Settled proto a c pass pass'' (settled ++ more) (settled ++ found) unsettled
-Settled-then {proto} {a} {b} {c} {pass} {pass'} {pass''} {settled} more found {unsettled} is moves right sees =
+Settled-then {proto} {a} {b} {c} {pass} {pass'} {pass''} {settled} more found {unsettled} is moves right sees lines =
     let all = AllRight-later proto a pass'.seen pass''.seen settled sees.later is.each in
     record {
       moves = MovesIn-then a b c settled more unsettled is.moves moves;
       each = AllRight-then proto a b pass''.seen settled settled found is.moves all right;
       sees = Sees-found pass pass' pass'' settled found is.sees sees;
+      lines = TellsAll-then proto a b c pass''.seen settled found is.moves
+          (TellsAll-later proto a b pass'.seen pass''.seen settled sees.later is.each is.lines) lines;
     }
 
 -- one more name was settled
 pub Settled-more : {proto : Proto} {a b c : Option Post} {pass pass' pass'' : History} {settled : List Settlement}
-    (it : Settlement) → Settled proto a b pass pass' settled settled None
+    (it : Settlement) (told : Told) → Settled proto a b pass pass' settled settled None
     → IfSome b (λ post. first_of post.left ≡ Some it.name)
     → IfSome b (λ post. IsRight proto post.content pass''.seen it)
     → Sees pass' pass'' (published_number it.verdict) (looked_number it.verdict)
-    → c ≡ after_settle it.verdict (after_next (arrivals.Name it.name) b)
+    → IfSome b (λ post. Tells (line_on proto pass''.seen post.content it) post.lines told)
+    → c ≡ after_settle it.verdict (with_lines told (after_next (arrivals.Name it.name) b))
     → Settled proto a c pass pass'' (settled ++ it ∷ []) (settled ++ it ∷ []) None
-Settled-more {proto} {a} {b} {c} {pass} {pass'} {pass''} {settled} it is first right sees held_is =
-    Settled-then (it ∷ []) (it ∷ []) is (MovesIn-one b c it first held_is) (AllRight-one proto b pass''.seen it right)
-    (Sees-one pass' pass'' it sees)
+Settled-more {proto} {a} {b} {c} {pass} {pass'} {pass''} {settled} it told is first right sees lines held_is =
+    Settled-then (it ∷ []) (it ∷ []) is (MovesIn-one b c it told first held_is)
+    (AllRight-one proto b pass''.seen it right) (Sees-one pass' pass'' it sees)
+    (TellsAll-one proto b c pass''.seen it told (lines_are b held_is) lines)
+  where
+    lines_are : (held : Option Post)
+        → c ≡ after_settle it.verdict (with_lines told (after_next (arrivals.Name it.name) held))
+        → IfSome held (λ post. inbox_lines c ≡ told)
+    lines_are None is = tt
+    lines_are (Some post) is = ap inbox_lines is

@@ -34,7 +34,7 @@ IsNumbered-later ops ops' number op later is = record {
 }
 
 -- the first operations stay the first
-take-later : (ops ops' : List Op) (count : ℕ) → Continues ops ops' → count ≤ length ops
+pub take-later : (ops ops' : List Op) (count : ℕ) → Continues ops ops' → count ≤ length ops
     → take count ops ≡ take count ops'
 take-later ops ops' count later within =
     sym (ap (λ (l : List Op). take count l) later.1 ∙ take-append-le count ops later.0 within)

@@ -3,8 +3,11 @@ pub mod CountLemmas
 pub mod DecidingLemmas
 pub mod ExpireEnd
 pub mod ExpireLemmas
+pub mod HeldLemmas
 pub mod IngestLemmas
+pub mod InstantLemmas
 pub mod LaterLemmas
+pub mod LineLemmas
 pub mod LookLemmas
 pub mod MomentCounts
 pub mod MomentLemmas
@@ -12,5 +15,6 @@ pub mod NextLemmas
 pub mod ReportLemmas
 pub mod SeesLemmas
 pub mod SoFar
+pub mod ToldLemmas
 pub mod TurnLemmas
 pub mod VerdictLemmas

@@ -17,6 +17,13 @@ numbers-more number settled it =
     ap (λ (l : List ℕ). flat_map of settled ++ l) (sym (append-nil (of it)))
     ∙ sym (flat_map-append of settled (it ∷ []))
 
+-- the lines of one moment more
+pub lines-more : (line : SettledMoment → List (List ℕ)) (settled : List SettledMoment) (it : SettledMoment)
+    → flat_map line settled ++ line it ≡ flat_map line (settled ++ it ∷ [])
+lines-more line settled it =
+    ap (λ (l : List (List ℕ)). flat_map line settled ++ l) (sym (append-nil (line it)))
+    ∙ sym (flat_map-append line settled (it ∷ []))
+
 -- how many verdicts are of a kind, with one more
 pub count-more : (is : Expiry → Bool) (settled : List SettledMoment) (it : SettledMoment)
     → count_by (λ it. is it.verdict) (settled ++ it ∷ [])

@@ -38,7 +38,7 @@ pub SoFar-more : (proto : Proto) (a b c : InboxShown) (pass pass' pass'' : Histo
     → SoFar proto a c pass pass'' report'
 SoFar-more proto a b c pass pass' pass'' report report' far next = record {
   settled = far.settled ++ next.it ∷ [];
-  is = Settled-more next.it far.is next.next next.is next.sees next.held_is;
+  is = Settled-more next.it next.told far.is next.next next.is next.sees next.lines next.held_is;
   counts = subst (λ (r : IngestReport). Counts (far.settled ++ next.it ∷ []) (far.settled ++ next.it ∷ []) r)
       (sym next.report_is) (Counts-more far.settled next.it report far.counts);
   faults_are = next.faults_are ∙ far.faults_are;
@@ -71,7 +71,7 @@ SettledWith-stopped proto a b c pass pass' pass'' report report' report'' end fa
       unsettled = stops.unsettled;
       is = subst (λ (l : List Settlement). Settled proto a.held c.held pass pass'' l found stops.unsettled)
           (append-nil far.settled) (Settled-then [] (option_to_list stops.untaken) far.is stops.moves stops.right
-          stops.sees);
+          stops.sees stops.lines);
       counts = Counts-end far.settled found report' end (subst (λ (r : IngestReport). Counts far.settled found r)
           (sym stops.report_is) (Counts-found far.settled stops.untaken report far.counts));
       named = stops.named;

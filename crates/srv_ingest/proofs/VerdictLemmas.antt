@@ -1,22 +1,27 @@
 -- The verdict on a name, by what was found under it.
-use Rattle.std.proofs.Common.{◌≡◌, ◌⊎◌, ℕ, List, [], Option, Some, None, Result, Ok, Err, IfSome, inl, inr, refl, sym, ap, subst, ◌∙◌}
+use Rattle.std.proofs.Common.{◌≡◌, ◌⊎◌, ℕ, List, [], ◌∷◌, Option, Some, None, Result, Ok, Err, IfSome, inl, inr, refl, sym, ap, subst, ◌∙◌}
 use Rattle.dev_traits.specs.declared.inbox.Verdict.{Verdict}
 use Rattle.dev_traits.specs.declared.inbox.Verdict.TheVariants as verdicts
-use Rattle.dev_traits.specs.Inbox.{InboxShown, Post}
+use Rattle.dev_traits.specs.Inbox.{inbox_lines, InboxShown, Post, with_lines}
+use Rattle.dev_traits.specs.Lines.{Tells}
+use Rattle.fm_model.specs.declared.full.Tally.{Tally}
 use Rattle.fm_model.specs.declared.limit.TheConstants.{MAX_FILE_BYTES}
 use Rattle.fm_model.specs.declared.loaded.Loaded.{Loaded}
-use Rattle.fm_model.specs.declared.loaded.LoadFault.{LoadFault}
 use Rattle.fm_model.specs.declared.op.Op.{Op}
 use Rattle.fm_model.specs.declared.proto.Proto.{Proto}
-use Rattle.fm_model.specs.Code.{load_code}
-use Rattle.fm_model.specs.Load.{load_of}
 use Rattle.dev_traits.specs.declared.files.Found.{Found}
-use Rattle.dev_traits.specs.declared.files.Found.TheVariants as found
 use Rattle.dev_traits.specs.Files.{found_of}
 use Rattle.pub_look.specs.History.{History}
-use Rattle.srv_ingest.specs.Attempts.{Decides, DecidesName, looked_number, published_number}
-use Rattle.srv_ingest.specs.Verdicts.{file_or_verdict, GivesFile, IsVerdict, IsVerdictOnFile, IsVerdictOnRetraction, taken_back, unless_refused}
+use Rattle.srv_ingest.specs.declared.file.Refusal.{Refusal}
+use Rattle.srv_ingest.specs.declared.file.Refusal.TheVariants as refusals
+use Rattle.srv_ingest.specs.Attempts.{Decides, DecidesName, HeldAfter, looked_number, published_number}
+use Rattle.srv_ingest.specs.Lines.{back_lines, file_lines, later_line, lines_of, put_lines, refusal_lines}
+use Rattle.srv_ingest.specs.Telling.{TellsInbox}
+use Rattle.srv_ingest.specs.Verdicts.{file_or_refusal, file_or_verdict, IsVerdict, IsVerdictOnFile, IsVerdictOnRetraction, taken_back, unless_refused, verdict_of}
 use Rattle.srv_ingest.proofs.DecidingLemmas.{Decides-itself}
+use Rattle.srv_ingest.proofs.HeldLemmas.{put_lines-held}
+use Rattle.srv_ingest.proofs.LineLemmas.{lines_of-short}
+use Rattle.srv_ingest.proofs.ToldLemmas.{told-by}
 
 -- whatever an inbox holds
 whatever : (P : Post → Type 0) (held : Option Post) → ((post : Post) → P post) → IfSome held P
@@ -30,17 +35,25 @@ unfolding IsVerdict
 short-right proto ops content name None = inl refl
 short-right proto ops content name (Some back) = inl refl
 
--- memory ran out
-pub DecidesName-short : {proto : Proto} {name : List ℕ} {inbox inbox' : InboxShown} {pass : History} {share : ℕ}
-    → inbox'.held ≡ inbox.held → inbox'.faults ≡ inbox.faults
-    → DecidesName proto name inbox inbox' pass pass share share verdicts.Short
-DecidesName-short {proto} {name} {inbox} {inbox'} {pass} {share} held_is faults_are = record {
-  is = whatever (λ post. IsVerdict proto pass.seen post.content name (taken_back name) verdicts.Short) inbox.held
-      (λ post. short-right proto pass.seen post.content name (taken_back name));
-  decides = Decides-itself;
-  held_is = held_is;
-  faults_are = faults_are;
-}
+-- memory ran out at a name
+pub DecidesName-short : {proto : Proto} {name : List ℕ} {inbox inbox' inbox'' : InboxShown} {pass : History}
+    {share : ℕ} {verdict : Verdict} → inbox'.held ≡ inbox.held → inbox'.faults ≡ inbox.faults
+    → verdict ≡ verdicts.Short → TellsInbox (later_line name ∷ []) inbox' inbox''
+    → DecidesName proto name inbox inbox'' pass pass share share verdict
+DecidesName-short {proto} {name} {inbox} {inbox'} {inbox''} {pass} {share} {verdict} held_is faults_are short told =
+    subst (λ (v : Verdict). DecidesName proto name inbox inbox'' pass pass share share v) (sym short) (record {
+      is = whatever (λ post. IsVerdict proto pass.seen post.content name (taken_back name) verdicts.Short) inbox.held
+          (λ post. short-right proto pass.seen post.content name (taken_back name));
+      decides = Decides-itself;
+      told = told.told;
+      lines = told-by (λ post. lines_of proto pass.seen post.content name (taken_back name) verdicts.Short) inbox.held
+          inbox'.held (later_line name ∷ []) told.told held_is told.tells
+          (whatever (λ post. later_line name ∷ []
+          ≡ lines_of proto pass.seen post.content name (taken_back name) verdicts.Short) inbox.held
+          (λ post. lines_of-short proto pass.seen post.content name (taken_back name)));
+      held_is = told.held_is ∙ ap (with_lines told.told) held_is;
+      faults_are = told.faults_are ∙ faults_are;
+    })
 
 -- the verdict on a name that takes a file back
 back-right : (proto : Proto) (ops : List Op) (content : List ℕ → Option (List ℕ)) (name back : List ℕ)
@@ -51,19 +64,27 @@ unfolding IsVerdict
 back-right proto ops content name back taken verdict is right =
     subst (λ (o : Option (List ℕ)). IsVerdict proto ops content name o verdict) is right
 
--- a verdict was found on a name that takes a file back
-pub DecidesName-back : {proto : Proto} {name back : List ℕ} {inbox : InboxShown} {pass pass' : History}
+-- a verdict was found on a name that takes a file back, and told
+pub DecidesName-back : {proto : Proto} {name back : List ℕ} {inbox inbox' : InboxShown} {pass pass' : History}
     {share share' : ℕ} {verdict : Verdict} → Some back ≡ taken_back name
     → (verdict ≡ verdicts.Short) ⊎ IsVerdictOnRetraction pass'.seen back verdict
     → Decides pass pass' share share' (published_number verdict) (looked_number verdict)
-    → DecidesName proto name inbox inbox pass pass' share share' verdict
-DecidesName-back {proto} {name} {back} {inbox} {pass} {pass'} {share} {share'} {verdict} is right decides = record {
-  is = whatever (λ post. IsVerdict proto pass'.seen post.content name (taken_back name) verdict) inbox.held
-      (λ post. back-right proto pass'.seen post.content name back (taken_back name) verdict is right);
-  decides = decides;
-  held_is = refl;
-  faults_are = refl;
-}
+    → TellsInbox (back_lines name back verdict) inbox inbox'
+    → DecidesName proto name inbox inbox' pass pass' share share' verdict
+DecidesName-back {proto} {name} {back} {inbox} {inbox'} {pass} {pass'} {share} {share'} {verdict} is right decides
+    told = record {
+      is = whatever (λ post. IsVerdict proto pass'.seen post.content name (taken_back name) verdict) inbox.held
+          (λ post. back-right proto pass'.seen post.content name back (taken_back name) verdict is right);
+      decides = decides;
+      told = told.told;
+      lines = told-by (λ post. lines_of proto pass'.seen post.content name (taken_back name) verdict) inbox.held
+          inbox.held (back_lines name back verdict) told.told refl told.tells
+          (whatever (λ post. back_lines name back verdict
+          ≡ lines_of proto pass'.seen post.content name (taken_back name) verdict) inbox.held
+          (λ post. ap (λ (o : Option (List ℕ)). lines_of proto pass'.seen post.content name o verdict) is));
+      held_is = told.held_is;
+      faults_are = told.faults_are;
+    }
 
 -- the verdict on a name by what was found under it
 file-right : (proto : Proto) (ops : List Op) (name : List ℕ) (held : Option Post) (taken : Option (List ℕ)) (it : Found)
@@ -79,61 +100,94 @@ file-right proto ops name (Some post) taken it given verdict none found_is given
     (subst (λ (r : Result Loaded Verdict). (verdict ≡ verdicts.Short) ⊎ IsVerdictOnFile ops r verdict)
     (sym (ap (λ (f : Found). file_or_verdict proto name f) (sym found_is) ∙ given_is)) right)
 
--- a verdict was found on a file
-pub DecidesName-file : {proto : Proto} {name : List ℕ} {inbox inbox' : InboxShown} {pass pass' : History}
-    {share share' : ℕ} (it : Found) {file : Loaded} {verdict : Verdict} → None ≡ taken_back name
-    → IfSome inbox.held (λ post. it ≡ found_of MAX_FILE_BYTES (post.content name))
-    → file_or_verdict proto name it ≡ Ok file
-    → (verdict ≡ verdicts.Short) ⊎ IsVerdictOnFile pass'.seen (Ok file) verdict
+-- the line of the verdict on a name by what was found under it
+file-line : (proto : Proto) (ops : List Op) (name : List ℕ) (held : Option Post) (taken : Option (List ℕ)) (it : Found)
+    (found : Result Loaded Refusal) (verdict : Verdict) → None ≡ taken
+    → IfSome held (λ post. it ≡ found_of MAX_FILE_BYTES (post.content name)) → file_or_refusal proto name it ≡ found
+    → IfSome held (λ post. file_lines ops name found verdict ≡ lines_of proto ops post.content name taken verdict)
+file-line proto ops name None taken it found verdict none found_is is = tt
+file-line proto ops name (Some post) taken it found verdict none found_is is =
+    ap (λ (r : Result Loaded Refusal). file_lines ops name r verdict)
+    (sym is ∙ ap (λ (f : Found). file_or_refusal proto name f) found_is)
+    ∙ ap (λ (o : Option (List ℕ)). lines_of proto ops post.content name o verdict) none
+
+-- a verdict was found on what was found under a name, and told
+DecidesName-found : {proto : Proto} {name : List ℕ} {inbox inbox' inbox'' : InboxShown} {pass pass' : History}
+    {share share' : ℕ} (it : Found) (found : Result Loaded Refusal) {verdict : Verdict} (lines : List (List ℕ))
+    → None ≡ taken_back name → IfSome inbox.held (λ post. it ≡ found_of MAX_FILE_BYTES (post.content name))
+    → file_or_refusal proto name it ≡ found
+    → (verdict ≡ verdicts.Short) ⊎ IsVerdictOnFile pass'.seen (unless_refused found) verdict
     → Decides pass pass' share share' (published_number verdict) (looked_number verdict)
-    → inbox'.held ≡ inbox.held → inbox'.faults ≡ inbox.faults
-    → DecidesName proto name inbox inbox' pass pass' share share' verdict
-DecidesName-file {proto} {name} {inbox} {inbox'} {pass} {pass'} {share} {share'} it {file} {verdict} none found_is
-    file_is right decides held_is faults_are = record {
-      is = file-right proto pass'.seen name inbox.held (taken_back name) it (Ok file) verdict none found_is file_is
-          right;
+    → inbox'.held ≡ inbox.held → inbox'.faults ≡ inbox.faults → lines ≡ file_lines pass'.seen name found verdict
+    → TellsInbox lines inbox' inbox'' → DecidesName proto name inbox inbox'' pass pass' share share' verdict
+DecidesName-found {proto} {name} {inbox} {inbox'} {inbox''} {pass} {pass'} {share} {share'} it found {verdict} lines
+    none found_is is right decides held_is faults_are lines_are told = record {
+      is = file-right proto pass'.seen name inbox.held (taken_back name) it (unless_refused found) verdict none found_is
+          (ap unless_refused is) right;
       decides = decides;
-      held_is = held_is;
-      faults_are = faults_are;
+      told = told.told;
+      lines = told-by (λ post. lines_of proto pass'.seen post.content name (taken_back name) verdict) inbox.held
+          inbox'.held (file_lines pass'.seen name found verdict) told.told held_is
+          (subst (λ (l : List (List ℕ)). Tells l (inbox_lines inbox'.held) told.told) lines_are told.tells)
+          (file-line proto pass'.seen name inbox.held (taken_back name) it found verdict none found_is is);
+      held_is = told.held_is ∙ ap (with_lines told.told) held_is;
+      faults_are = told.faults_are ∙ faults_are;
     }
 
+-- a verdict was found on a file, and told
+pub DecidesName-file : {proto : Proto} {name : List ℕ} {inbox inbox' inbox'' : InboxShown} {pass pass' : History}
+    {share share' : ℕ} (it : Found) {file : Loaded} {verdict : Verdict} (held : Tally) → None ≡ taken_back name
+    → IfSome inbox.held (λ post. it ≡ found_of MAX_FILE_BYTES (post.content name))
+    → file_or_refusal proto name it ≡ Ok file
+    → (verdict ≡ verdicts.Short) ⊎ IsVerdictOnFile pass'.seen (Ok file) verdict
+    → Decides pass pass' share share' (published_number verdict) (looked_number verdict)
+    → HeldAfter pass'.seen held (published_number verdict)
+    → inbox'.held ≡ inbox.held → inbox'.faults ≡ inbox.faults → TellsInbox (put_lines name held verdict) inbox' inbox''
+    → DecidesName proto name inbox inbox'' pass pass' share share' verdict
+unfolding file_lines
+DecidesName-file {proto} {name} {inbox} {inbox'} {inbox''} {pass} {pass'} {share} {share'} it {file} {verdict} held
+    none found_is is right decides after held_is faults_are told =
+    DecidesName-found it (Ok file) (put_lines name held verdict) none found_is is right decides held_is faults_are
+    (put_lines-held pass'.seen name held verdict after) told
+
 -- a file that is refused becomes no operation and takes no look
-refused-numbers : (loaded : Result Loaded LoadFault) (verdict : Verdict) → unless_refused loaded ≡ Err verdict
-    → (published_number verdict ≡ []) × (looked_number verdict ≡ [])
-refused-numbers (Ok file) verdict is = absurd (cc)
-refused-numbers (Err fault) verdict is =
-    let same : verdict ≡ verdicts.Refused (load_code fault) = cc in
-    (ap published_number same, ap looked_number same)
+refused-numbers : (refusal : Refusal)
+    → (published_number (verdict_of refusal) ≡ []) × (looked_number (verdict_of refusal) ≡ [])
+refused-numbers refusals.Absent = (refl, refl)
+refused-numbers refusals.TooLong = (refl, refl)
+refused-numbers (refusals.Fault fault) = (refl, refl)
 
 -- where there is no file, no operation and no look is spoken of
-pub given-numbers : (proto : Proto) (name : List ℕ) (it : Found) (verdict : Verdict)
-    → file_or_verdict proto name it ≡ Err verdict → (published_number verdict ≡ []) × (looked_number verdict ≡ [])
-unfolding file_or_verdict
-given-numbers proto name found.Absent verdict is =
-    let same : verdict ≡ verdicts.Gone = cc in (ap published_number same, ap looked_number same)
-given-numbers proto name (found.TooLong len) verdict is =
-    let same : verdict ≡ verdicts.Refused 62 = cc in (ap published_number same, ap looked_number same)
-given-numbers proto name (found.Content bytes) verdict is = refused-numbers (load_of name bytes proto) verdict is
+pub given-numbers : (found : Result Loaded Refusal) (verdict : Verdict) → unless_refused found ≡ Err verdict
+    → (published_number verdict ≡ []) × (looked_number verdict ≡ [])
+given-numbers (Ok file) verdict is = absurd (cc)
+given-numbers (Err refusal) verdict is =
+    let same : verdict ≡ verdict_of refusal = cc in
+    let numbers = refused-numbers refusal in
+    (ap published_number same ∙ numbers.0, ap looked_number same ∙ numbers.1)
 
--- there was no file, and that is the verdict
-pub DecidesName-given : {proto : Proto} {name : List ℕ} {inbox inbox' : InboxShown} {pass : History} {share : ℕ}
-    (it : Found) {verdict : Verdict} → None ≡ taken_back name
+-- the line of a refusal
+refusal-line : (ops : List Op) (name : List ℕ) (refusal : Refusal)
+    → refusal_lines name refusal ≡ file_lines ops name (Err refusal) (verdict_of refusal)
+unfolding file_lines
+refusal-line ops name refusals.Absent = refl
+refusal-line ops name refusals.TooLong = refl
+refusal-line ops name (refusals.Fault fault) = refl
+
+-- there was no file, and that is the verdict, which was told
+pub DecidesName-refused : {proto : Proto} {name : List ℕ} {inbox inbox' inbox'' : InboxShown} {pass : History}
+    {share : ℕ} (it : Found) {refusal : Refusal} {verdict : Verdict} → None ≡ taken_back name
     → IfSome inbox.held (λ post. it ≡ found_of MAX_FILE_BYTES (post.content name))
-    → GivesFile (file_or_verdict proto name it) (Err verdict)
-    → inbox'.held ≡ inbox.held → inbox'.faults ≡ inbox.faults
-    → DecidesName proto name inbox inbox' pass pass share share verdict
-DecidesName-given {proto} {name} {inbox} {inbox'} {pass} {share} it {verdict} none found_is given held_is
-    faults_are = elim given [
-      | inl short ↦ subst (λ (v : Verdict). DecidesName proto name inbox inbox' pass pass share share v) (sym short)
-          (DecidesName-short held_is faults_are)
-      | inr is ↦
-          let numbers = given-numbers proto name it verdict is in
-          record {
-            is = file-right proto pass.seen name inbox.held (taken_back name) it (Err verdict) verdict none found_is is
-                (inr refl);
-            decides = subst (λ (l : List ℕ). Decides pass pass share share l (looked_number verdict)) (sym numbers.0)
-                (subst (λ (l : List ℕ). Decides pass pass share share [] l) (sym numbers.1) Decides-itself);
-            held_is = held_is;
-            faults_are = faults_are;
-          }
-    ]
+    → file_or_refusal proto name it ≡ Err refusal → verdict ≡ verdict_of refusal
+    → inbox'.held ≡ inbox.held → inbox'.faults ≡ inbox.faults → TellsInbox (refusal_lines name refusal) inbox' inbox''
+    → DecidesName proto name inbox inbox'' pass pass share share verdict
+DecidesName-refused {proto} {name} {inbox} {inbox'} {inbox''} {pass} {share} it {refusal} {verdict} none found_is is
+    verdict_is held_is faults_are told =
+    let numbers = refused-numbers refusal in
+    let decides : Decides pass pass share share (published_number (verdict_of refusal))
+    (looked_number (verdict_of refusal)) =
+    subst (λ (l : List ℕ). Decides pass pass share share l (looked_number (verdict_of refusal))) (sym numbers.0)
+    (subst (λ (l : List ℕ). Decides pass pass share share [] l) (sym numbers.1) Decides-itself) in
+    subst (λ (v : Verdict). DecidesName proto name inbox inbox'' pass pass share share v) (sym verdict_is)
+    (DecidesName-found it (Err refusal) (refusal_lines name refusal) none found_is is (inr refl) decides held_is
+    faults_are (refusal-line pass.seen name refusal) told)

@@ -1,16 +1,20 @@
 -- Attempts to publish at a desk under its lock, and the search for a verdict on one name or moment.
-use Rattle.std.specs.Prelude.{◌≡◌, ◌⊎◌, ℕ, ◌+◌, ◌<◌, ◌≤◌, List, [], ◌∷◌, ◌++◌, length, Option, Some, None, IfSome, Result, MatchResult}
+use Rattle.std.specs.Prelude.{⊤, ◌≡◌, ◌⊎◌, All, ℕ, ◌+◌, ◌<◌, ◌≤◌, List, [], ◌∷◌, ◌++◌, length, take, Option, Some, None, IfSome, Result, MatchResult}
+use Rattle.fm_model.specs.declared.full.Tally.{Tally}
 use Rattle.fm_model.specs.declared.op.Op.{Op}
 use Rattle.fm_model.specs.declared.proto.Proto.{Proto}
+use Rattle.fm_model.specs.Collection.{coll, tally}
 use Rattle.dev_traits.specs.Cause.{one_more}
 use Rattle.dev_traits.specs.declared.clock.Expiry.{Expiry}
 use Rattle.dev_traits.specs.declared.clock.Expiry.TheVariants as expiries
 use Rattle.dev_traits.specs.declared.inbox.Verdict.{Verdict}
 use Rattle.dev_traits.specs.declared.inbox.Verdict.TheVariants as verdicts
-use Rattle.dev_traits.specs.Inbox.{InboxShown}
+use Rattle.dev_traits.specs.Inbox.{InboxShown, with_lines}
+use Rattle.dev_traits.specs.Lines.{Tells, Told}
 use Rattle.pub_look.specs.History.{Continues, History}
 use Rattle.srv_ingest.specs.declared.attempt.Attempt.{Attempt}
 use Rattle.srv_ingest.specs.declared.attempt.Attempt.TheVariants.{Done, Again, Short}
+use Rattle.srv_ingest.specs.Lines.{lines_of}
 use Rattle.srv_ingest.specs.Verdicts.{IsNumbered, IsVerdict, taken_back}
 
 -- an attempt to publish an operation: the pass had not seen it and now has, and one more is counted; or nothing
@@ -20,6 +24,16 @@ Tried op pass pass' share share' (Done number) =
     IsNumbered pass'.seen number op × (length pass.seen < number) × (share' ≡ share + 1)
 Tried op pass pass' share share' Again = (pass' ≡ pass) × (share' ≡ share)
 Tried op pass pass' share share' Short = (pass' ≡ pass) × (share' ≡ share)
+
+-- this is held after each of these operations
+abbrev pub HeldAfter : List Op → Tally → List ℕ → Type 0
+HeldAfter ops held numbers = All (λ number. held ≡ tally (coll (take number ops))) numbers
+
+-- this is held after the operation that an attempt published
+abbrev pub HeldAt : List Op → Tally → Attempt → Type 0
+HeldAt ops held (Done number) = held ≡ tally (coll (take number ops))
+HeldAt ops held Again = ⊤
+HeldAt ops held Short = ⊤
 
 -- a pass saw more and looked at nothing
 pub record OnlyLearnt (pass pass' : History) : Type 0 where
@@ -80,12 +94,15 @@ pub record Decides (pass pass' : History) (share share' : ℕ) (published looked
   pub sees : Sees pass pass' published looked
   pub counted : share' ≡ share + length published
 
--- a verdict was found on a name, and the inbox is as before
+-- a verdict was found on a name and told, and else the inbox is as before
 pub record DecidesName (proto : Proto) (name : List ℕ) (inbox inbox' : InboxShown) (pass pass' : History)
     (share share' : ℕ) (verdict : Verdict) : Type 0 where
   pub is : IfSome inbox.held (λ post. IsVerdict proto pass'.seen post.content name (taken_back name) verdict)
   pub decides : Decides pass pass' share share' (published_number verdict) (looked_number verdict)
-  pub held_is : inbox'.held ≡ inbox.held
+  pub told : Told
+  pub lines : IfSome inbox.held
+      (λ post. Tells (lines_of proto pass'.seen post.content name (taken_back name) verdict) post.lines told)
+  pub held_is : inbox'.held ≡ with_lines told inbox.held
   pub faults_are : inbox'.faults ≡ inbox.faults
 
 -- the inbox failed before there was a verdict, and nothing else changed

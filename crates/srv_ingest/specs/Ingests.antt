@@ -5,13 +5,15 @@ use Rattle.fm_model.specs.declared.op.Op.{Op}
 use Rattle.fm_model.specs.declared.proto.Proto.{Proto}
 use Rattle.dev_traits.specs.declared.inbox.Verdict.{Verdict}
 use Rattle.dev_traits.specs.declared.inbox.Verdict.TheVariants as kinds
-use Rattle.dev_traits.specs.Inbox.{InboxShown, Post}
+use Rattle.dev_traits.specs.Inbox.{inbox_lines, InboxShown, Post}
+use Rattle.dev_traits.specs.Lines.{Tells}
 use Rattle.dev_traits.specs.Cause.{capped, one_more}
 use Rattle.pub_look.specs.History.{History}
 use Rattle.srv_ingest.specs.declared.report.IngestEnd.{IngestEnd}
 use Rattle.srv_ingest.specs.declared.report.IngestEnd.TheVariants as ends
 use Rattle.srv_ingest.specs.declared.report.IngestReport.{IngestReport}
 use Rattle.srv_ingest.specs.Attempts.{looked_number, published_number, Sees}
+use Rattle.srv_ingest.specs.Lines.{lines_of}
 use Rattle.srv_ingest.specs.Verdicts.{IsVerdict, taken_back}
 
 -- a name that was taken from an inbox, and its verdict
@@ -40,6 +42,15 @@ MovesIn inbox inbox' settled unsettled =
 abbrev pub AllRight : Proto → Option Post → List Op → List Settlement → Type 0
 AllRight proto inbox ops settled = IfSome inbox (λ post. All (IsRight proto post.content ops) settled)
 
+-- the line of a verdict on a name, if it has one
+abbrev pub line_on : Proto → List Op → (List ℕ → Option (List ℕ)) → Settlement → List (List ℕ)
+line_on proto ops content it = lines_of proto ops content it.name (taken_back it.name) it.verdict
+
+-- where the inbox shows what it holds, and lost no line, its new lines are those of these verdicts, in order
+abbrev pub TellsAll : Proto → Option Post → Option Post → List Op → List Settlement → Type 0
+TellsAll proto inbox inbox' ops found =
+    IfSome inbox (λ post. Tells (flat_map (line_on proto ops post.content) found) post.lines (inbox_lines inbox'))
+
 -- the numbers of the operations that names became
 abbrev pub published_numbers : List Settlement → List ℕ
 published_numbers settled = flat_map (λ it. published_number it.verdict) settled
@@ -49,12 +60,13 @@ abbrev pub looked_numbers : List Settlement → List ℕ
 looked_numbers settled = flat_map (λ it. looked_number it.verdict) settled
 
 -- names were taken from an inbox and settled, once each and in order. The verdicts that were found, on those and maybe
--- on one more, are right by what has been seen by the end
+-- on one more, are right by what has been seen by the end, and were told
 pub record Settled (proto : Proto) (inbox inbox' : Option Post) (pass pass' : History)
     (settled found : List Settlement) (unsettled : Option (List ℕ)) : Type 0 where
   pub moves : MovesIn inbox inbox' settled unsettled
   pub each : AllRight proto inbox pass'.seen found
   pub sees : Sees pass pass' (published_numbers found) (looked_numbers found)
+  pub lines : TellsAll proto inbox inbox' pass'.seen found
 
 -- whether a name became an operation
 unfoldable pub is_published : Verdict → Bool

@@ -1,5 +1,7 @@
 pub mod Attempts
 pub mod Expires
 pub mod Ingests
+pub mod Lines
+pub mod Telling
 pub mod Turns
 pub mod Verdicts

@@ -5,16 +5,18 @@ use Rattle.dev_traits.specs.declared.clock.Expiry.{Expiry}
 use Rattle.dev_traits.specs.declared.inbox.Arrival.TheVariants as arrivals
 use Rattle.dev_traits.specs.declared.inbox.Verdict.{Verdict}
 use Rattle.dev_traits.specs.declared.inbox.Verdict.TheVariants as kinds
-use Rattle.dev_traits.specs.Clock.{after_moment, after_verdict, Moments}
+use Rattle.dev_traits.specs.Clock.{after_moment, after_verdict, Moments, with_clock_lines}
 use Rattle.dev_traits.specs.Door.{first_of}
-use Rattle.dev_traits.specs.Inbox.{after_next, after_settle, InboxShown}
+use Rattle.dev_traits.specs.Inbox.{after_next, after_settle, InboxShown, with_lines}
+use Rattle.dev_traits.specs.Lines.{Tells, Told}
 use Rattle.dev_traits.specs.Cause.{one_more}
 use Rattle.pub_look.specs.History.{History}
 use Rattle.srv_ingest.specs.declared.report.IngestEnd.{IngestEnd}
 use Rattle.srv_ingest.specs.declared.report.IngestEnd.TheVariants as ends
 use Rattle.srv_ingest.specs.declared.report.IngestReport.{IngestReport}
 use Rattle.srv_ingest.specs.Attempts.{Decides, expired_number, idle_number, looked_number, published_number, Sees}
-use Rattle.srv_ingest.specs.Ingests.{AllRight, EndsIngest, IsRight, looked_numbers, MovesIn, published_numbers, Settlement}
+use Rattle.srv_ingest.specs.Ingests.{AllRight, EndsIngest, IsRight, line_on, looked_numbers, MovesIn, published_numbers, Settlement, TellsAll}
+use Rattle.srv_ingest.specs.Lines.{moment_lines}
 use Rattle.srv_ingest.specs.Verdicts.{cutoff_at, IsExpiry, taken_back}
 
 -- the next name was given, or why there is none
@@ -48,7 +50,10 @@ pub record SettlesNext (proto : Proto) (inbox inbox' : InboxShown) (pass pass' :
   pub next : IfSome inbox.held (λ post. first_of post.left ≡ Some it.name)
   pub is : IfSome inbox.held (λ post. IsRight proto post.content pass'.seen it)
   pub sees : Sees pass pass' (published_number it.verdict) (looked_number it.verdict)
-  pub held_is : inbox'.held ≡ after_settle it.verdict (after_next (arrivals.Name it.name) inbox.held)
+  pub told : Told
+  pub lines : IfSome inbox.held (λ post. Tells (line_on proto pass'.seen post.content it) post.lines told)
+  pub held_is : inbox'.held
+      ≡ after_settle it.verdict (with_lines told (after_next (arrivals.Name it.name) inbox.held))
   pub faults_are : inbox'.faults ≡ inbox.faults
   pub report_is : report' ≡ with_settled (with_published report (taken_back it.name) it.verdict) it.verdict
 
@@ -67,6 +72,7 @@ pub record StopsNext (proto : Proto) (inbox inbox' : InboxShown) (pass pass' : H
   pub moves : MovesIn inbox.held inbox'.held [] unsettled
   pub right : AllRight proto inbox.held pass'.seen (option_to_list untaken)
   pub sees : Sees pass pass' (published_numbers (option_to_list untaken)) (looked_numbers (option_to_list untaken))
+  pub lines : TellsAll proto inbox.held inbox'.held pass'.seen (option_to_list untaken)
   pub report_is : report' ≡ with_untaken report untaken
   pub whole : end ≢ ends.InboxFault → unsettled ≡ None
   pub ends_so : EndsIngest inbox inbox' end
@@ -85,7 +91,9 @@ pub record SettlesMoment (keep : ℕ) (epoch : ℤ) (clock clock' : Option Momen
   pub next : IfSome clock (λ moments. first_of moments.left ≡ Some moment)
   pub is : IsExpiry pass'.seen (cutoff_at moment keep epoch) verdict
   pub decides : Decides pass pass' share share' (expired_number verdict) (idle_number verdict)
-  pub clock_is : clock' ≡ after_verdict verdict (after_moment (Some moment) clock)
+  pub told : Told
+  pub lines : IfSome clock (λ moments. Tells (moment_lines keep epoch moment verdict) moments.lines told)
+  pub clock_is : clock' ≡ after_verdict verdict (with_clock_lines told (after_moment (Some moment) clock))
 
 -- a clock had no moment left, and nothing changed
 pub record HasNoMoment (clock clock' : Option Moments) (pass pass' : History) (share share' : ℕ) : Type 0 where

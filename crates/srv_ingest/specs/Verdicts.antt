@@ -18,6 +18,8 @@ use Rattle.dev_traits.specs.declared.clock.Expiry.{Expiry}
 use Rattle.dev_traits.specs.declared.clock.Expiry.TheVariants as expiries
 use Rattle.dev_traits.specs.declared.inbox.Verdict.{Verdict}
 use Rattle.dev_traits.specs.declared.inbox.Verdict.TheVariants as verdicts
+use Rattle.srv_ingest.specs.declared.file.Refusal.{Refusal}
+use Rattle.srv_ingest.specs.declared.file.Refusal.TheVariants as refusals
 
 -- an operation is the one of this number, counted from 1
 pub record IsNumbered (ops : List Op) (number : ℕ) (op : Op) : Type 0 where
@@ -30,21 +32,31 @@ unfoldable pub taken_back : List ℕ → Option (List ℕ)
 taken_back name =
     if bytes_eq (drop (length name - 8) name) (codes ".retract") then Some (take (length name - 8) name) else None
 
--- the file that was loaded, or the verdict that it was refused
-abbrev pub unless_refused : Result Loaded LoadFault → Result Loaded Verdict
+-- the file that was loaded, or why there is none
+abbrev pub unless_faulty : Result Loaded LoadFault → Result Loaded Refusal
+unless_faulty (Ok file) = Ok file
+unless_faulty (Err fault) = Err (refusals.Fault fault)
+
+-- the file under a name, or why there is none
+unfoldable pub file_or_refusal : Proto → List ℕ → Found → Result Loaded Refusal
+file_or_refusal proto name found.Absent = Err refusals.Absent
+file_or_refusal proto name (found.TooLong len) = Err refusals.TooLong
+file_or_refusal proto name (found.Content bytes) = unless_faulty (load_of name bytes proto)
+
+-- the verdict where there is no file
+abbrev pub verdict_of : Refusal → Verdict
+verdict_of refusals.Absent = verdicts.Gone
+verdict_of refusals.TooLong = verdicts.Refused 62
+verdict_of (refusals.Fault fault) = verdicts.Refused (load_code fault)
+
+-- the file, or the verdict where there is none
+abbrev pub unless_refused : Result Loaded Refusal → Result Loaded Verdict
 unless_refused (Ok file) = Ok file
-unless_refused (Err fault) = Err (verdicts.Refused (load_code fault))
+unless_refused (Err refusal) = Err (verdict_of refusal)
 
 -- the file under a name, or the verdict where there is none
-unfoldable pub file_or_verdict : Proto → List ℕ → Found → Result Loaded Verdict
-file_or_verdict proto name found.Absent = Err verdicts.Gone
-file_or_verdict proto name (found.TooLong len) = Err (verdicts.Refused 62)
-file_or_verdict proto name (found.Content bytes) = unless_refused (load_of name bytes proto)
-
--- a call gave the file or the verdict, or memory ran out
-abbrev pub GivesFile : Result Loaded Verdict → Result Loaded Verdict → Type 0
-GivesFile wanted (Ok file) = wanted ≡ Ok file
-GivesFile wanted (Err verdict) = (verdict ≡ verdicts.Short) ⊎ (wanted ≡ Err verdict)
+abbrev pub file_or_verdict : Proto → List ℕ → Found → Result Loaded Verdict
+file_or_verdict proto name it = unless_refused (file_or_refusal proto name it)
 
 -- the verdict on a file, or on a name without one, by the operations that were seen
 abbrev pub IsVerdictOnFile : List Op → Result Loaded Verdict → Verdict → Type 0

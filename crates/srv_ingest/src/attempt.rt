@@ -2,10 +2,11 @@
 ghost use Rattle.std.specs.Prelude.{◌≡◌, length};
 ghost use Rattle.pub_look.specs.History.{Continues};
 ghost use Rattle.pub_snap.specs.Rule.{longer};
-ghost use Rattle.srv_ingest.specs.Attempts.{OnlyLearnt, Tried};
+ghost use Rattle.srv_ingest.specs.Attempts.{HeldAt, OnlyLearnt, Tried};
 
 use crate::change::Change;
 use crate::seat::Seat;
+use fm_model::Tally;
 use pub_look::Look;
 use pub_snap::{Desk, Name, Pass, Share};
 use std::alloc::Global;
@@ -22,25 +23,30 @@ pub(crate) enum Attempt {
     Short,
 }
 
-// Asks a desk for a change, once it has all that the pass has seen.
-#[tactic(auto, using(crate::proofs::AttemptLemmas::attempts))]
+// Asks a desk for a change, once it has all that the pass has seen. Then `held` is what is held after the change.
+#[tactic(auto, using(crate::proofs::AttemptLemmas::attempts, crate::proofs::HeldLemmas::helds))]
 fn try_at<N: Name, R: Wait, C: Change>(
     rt: &R,
     alloc: Global,
     desk: &mut Desk<N>,
     pass: &mut Pass<N>,
     share: &mut Share<N>,
+    held: &mut Tally,
     change: &C,
 ) -> Attempt
     requires { C.fits change.now N.proto }
     ensures tried { Tried (C.operation change.now) pass.old pass.new share.old share.new result }
+    ensures held { HeldAt pass.new.seen held.new result }
     ensures learnt { OnlyLearnt pass.old pass.new }
 {
     if desk.revision() < pass.seen() {
         return Attempt::Again;
     }
     match change.ask_desk(rt, alloc, desk, share) {
-        Ok(true) => learn(pass, desk),
+        Ok(true) => {
+            *held = desk.tally();
+            learn(pass, desk)
+        }
         Ok(false) => Attempt::Again,
         Err(_) => Attempt::Short,
     }
@@ -58,7 +64,7 @@ fn learn<N: Name>(pass: &mut Pass<N>, desk: &Desk<N>) -> Attempt
     Attempt::Done(receipt.revision())
 }
 
-/// Asks the desk of a seat for a change, under its lock.
+/// Asks the desk of a seat for a change, under its lock. The seat then says what is held after it.
 pub(crate) fn try_once<N: Name, R: Wait, C: Change>(
     rt: &R,
     alloc: Global,
@@ -68,13 +74,22 @@ pub(crate) fn try_once<N: Name, R: Wait, C: Change>(
     requires { C.fits change.now N.proto }
     ensures tried { Tried (C.operation change.now) seat.old.pass.now seat.new.pass.now
         seat.old.share.now seat.new.share.now result }
+    ensures held { HeldAt seat.new.pass.now.seen seat.new.held result }
     ensures learnt { OnlyLearnt seat.old.pass.now seat.new.pass.now }
     ensures same { (seat.new.pass.ghost_name ≡ seat.old.pass.ghost_name)
         × (seat.new.share.ghost_name ≡ seat.old.share.ghost_name) }
 {
     let desk = seat.desk;
     let mut guard = desk.lock(rt);
-    let attempt = try_at(rt, alloc, &mut guard, seat.pass, seat.share, change);
+    let attempt = try_at(
+        rt,
+        alloc,
+        &mut guard,
+        seat.pass,
+        seat.share,
+        &mut seat.held,
+        change,
+    );
     MutexGuard::unlock(guard);
     attempt
 }

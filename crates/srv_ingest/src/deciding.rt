@@ -1,6 +1,6 @@
 //! The verdict on a change.
 ghost use Rattle.std.specs.Prelude.{◌≡◌, [], IfSome};
-ghost use Rattle.srv_ingest.specs.Attempts.{Decides, numbers_by, Sees};
+ghost use Rattle.srv_ingest.specs.Attempts.{Decides, HeldAfter, numbers_by, Sees};
 
 use crate::attempt::{Attempt, try_once};
 use crate::change::Change;
@@ -35,6 +35,7 @@ fn decide_once<N: Name, R: Wait, C: Change>(
     ensures verdict { IfSome result (C.judges change.now seat.new.pass.now.seen) }
     ensures decides { Decides seat.old.pass.now seat.new.pass.now seat.old.share.now seat.new.share.now
         (numbers_by C.number_of result) (numbers_by C.look_of result) }
+    ensures held { HeldAfter seat.new.pass.now.seen seat.new.held (numbers_by C.number_of result) }
     ensures same { (seat.new.pass.ghost_name ≡ seat.old.pass.ghost_name)
         × (seat.new.share.ghost_name ≡ seat.old.share.ghost_name) }
 {
@@ -56,6 +57,7 @@ pub(crate) fn decide<N: Name, R: Wait, C: Change>(
     ensures verdict { C.judges change.now seat.new.pass.now.seen result }
     ensures decides { Decides seat.old.pass.now seat.new.pass.now seat.old.share.now seat.new.share.now
         (C.number_of result) (C.look_of result) }
+    ensures held { HeldAfter seat.new.pass.now.seen seat.new.held (C.number_of result) }
     ensures same { (seat.new.pass.ghost_name ≡ seat.old.pass.ghost_name)
         × (seat.new.share.ghost_name ≡ seat.old.share.ghost_name) }
 {

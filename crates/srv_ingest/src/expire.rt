@@ -8,10 +8,9 @@ ghost use Rattle.srv_ingest.specs.Expires.{AllSettledWith, is_short_moment};
 ghost use Rattle.srv_ingest.specs.Turns.{TakesMoment};
 ghost use Rattle.srv_ingest.specs.Verdicts.{cutoff_at};
 
-use crate::changes::Expiring;
-use crate::deciding::decide;
+use crate::moment::judge;
 use crate::report::ExpireReport;
-use crate::seat::Seat;
+use crate::seat::{NOTHING, Seat};
 use dev_traits::{Clock, Expiry};
 use fm_model::{MAX_INSTANT, Site};
 use pub_snap::{Desk, Name, Pass, Share};
@@ -46,7 +45,7 @@ fn cutoff_at(moment: i64, keep: u32, epoch: i64) -> i64
     to_instant(seconds_before(moment, keep, epoch))
 }
 
-// Takes the next moment, finds the verdict on it and settles it. `None` where no moment is left.
+// Takes the next moment, finds and tells the verdict on it and settles it. `None` where no moment is left.
 #[tactic(auto, using(crate::proofs::MomentLemmas::moment_turns))]
 fn take_moment<N: Name, R: Wait, C: Clock>(
     rt: &R,
@@ -63,7 +62,7 @@ fn take_moment<N: Name, R: Wait, C: Clock>(
 {
     let moment = clock.next()?;
     let cutoff = cutoff_at(moment, keep, site.epoch);
-    let verdict = decide(rt, alloc, seat, &Expiring { cutoff });
+    let verdict = judge(rt, alloc, seat, clock, cutoff, site.epoch);
     clock.settle(verdict);
     Some(verdict)
 }
@@ -95,7 +94,8 @@ fn count_short(short: u64, verdict: Expiry) -> u64
 }
 
 /// Lets all runs go that are more than `keep` seconds old, at each moment of the clock, and returns once the clock has
-/// no more. It waits for the clock, for the desk, and for readers that are inside the copy that is changed.
+/// no more. The clock is told the line of a verdict before it. It waits for the clock, for the desk, and for readers
+/// that are inside the copy that is changed.
 pub fn expire_all<N: Name, R: Wait, C: Clock>(
     rt: &R,
     alloc: Global,
@@ -112,7 +112,12 @@ pub fn expire_all<N: Name, R: Wait, C: Clock>(
     ensures later { Continues pass.old.seen pass.new.seen }
     ensures same_proto { pass.new.proto ≡ pass.old.proto }
 {
-    let mut seat = Seat { desk, pass, share };
+    let mut seat = Seat {
+        desk,
+        pass,
+        share,
+        held: NOTHING,
+    };
     let mut expired = 0u64;
     let mut short = 0u64;
     for _ in rt.forever() {

@@ -4,7 +4,7 @@ ghost use Rattle.pub_look.specs.History.{Continues};
 ghost use Rattle.srv_ingest.specs.Ingests.{EndsIngest, SettledWith};
 
 use crate::report::{IngestEnd, IngestReport};
-use crate::seat::Seat;
+use crate::seat::{NOTHING, Seat};
 use crate::turn::take_next;
 use dev_traits::Inbox;
 use fm_base::Arc;
@@ -14,8 +14,9 @@ use std::alloc::Global;
 use std::sync::{Mutex, Wait};
 
 /// Takes in all names that arrive, until none will arrive any more or the inbox fails. A file comes to the collection,
-/// and a name that ends in `.retract` takes back the file that it names. Each name gets its verdict, in order. It waits
-/// for the inbox, for the desk, and for readers that are inside the copy that is changed.
+/// and a name that ends in `.retract` takes back the file that it names. Each name gets its verdict, in order, and the
+/// inbox is told its line before. It waits for the inbox, for the desk, and for readers inside the copy that is
+/// changed.
 pub fn ingest_all<N: Name, R: Wait, I: Inbox>(
     rt: &R,
     alloc: Global,
@@ -32,7 +33,12 @@ pub fn ingest_all<N: Name, R: Wait, I: Inbox>(
     ensures later { Continues pass.old.seen pass.new.seen }
     ensures same_proto { pass.new.proto ≡ pass.old.proto }
 {
-    let mut seat = Seat { desk, pass, share };
+    let mut seat = Seat {
+        desk,
+        pass,
+        share,
+        held: NOTHING,
+    };
     let mut report = IngestReport {
         published: 0,
         retracted: 0,

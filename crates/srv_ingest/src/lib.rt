@@ -8,6 +8,8 @@ mod deciding;
 mod expire;
 mod file;
 mod ingest;
+mod lines;
+mod moment;
 mod report;
 mod seat;
 mod turn;

@@ -2,13 +2,20 @@
 ghost use Rattle.std.specs.Prelude.{◌≡◌, ◌⊎◌, ◌+◌, ◌≤◌, Ok as Good};
 ghost use Rattle.dev_traits.specs.declared.inbox.Verdict.TheVariants as verdicts;
 ghost use Rattle.fm_model.specs.Load.{Fits};
-ghost use Rattle.srv_ingest.specs.Attempts.{Decides, FindsVerdict, looked_number, published_number};
+ghost use Rattle.srv_ingest.specs.Attempts.{
+  Decides,
+  FindsVerdict,
+  HeldAfter,
+  looked_number,
+  published_number,
+};
 ghost use Rattle.srv_ingest.specs.Turns.{NextName, TakesNext, operations};
 ghost use Rattle.srv_ingest.specs.Verdicts.{IsVerdictOnFile};
 
 use crate::changes::{Putting, Retracting};
 use crate::deciding::decide;
 use crate::file::{file_of, taken_back};
+use crate::lines::{note_back, note_put, refused, short};
 use crate::report::{IngestEnd, IngestReport, count_published, count_settled};
 use crate::seat::Seat;
 use dev_traits::{Arrival, Failed, Inbox, Verdict};
@@ -29,6 +36,7 @@ fn publish_file<N: Name, R: Wait>(
     ensures verdict { (result ≡ verdicts.Short) ⊎ IsVerdictOnFile seat.new.pass.now.seen (Good file) result }
     ensures decides { Decides seat.old.pass.now seat.new.pass.now seat.old.share.now seat.new.share.now
         (published_number result) (looked_number result) }
+    ensures held { HeldAfter seat.new.pass.now.seen seat.new.held (published_number result) }
     ensures same { (seat.new.pass.ghost_name ≡ seat.old.pass.ghost_name)
         × (seat.new.share.ghost_name ≡ seat.old.share.ghost_name) }
 {
@@ -38,8 +46,8 @@ fn publish_file<N: Name, R: Wait>(
     decide(rt, alloc, seat, &Putting { file })
 }
 
-// The verdict on a name that arrived: its file comes to the collection, or the file that it names is taken back. An
-// `Err` says that the inbox failed before there was a verdict.
+// The verdict on a name that arrived, and its line: its file comes to the collection, or the file that it names is
+// taken back. An `Err` says that the inbox failed before there was a verdict.
 fn verdict_on<N: Name, R: Wait, I: Inbox>(
     rt: &R,
     alloc: Global,
@@ -55,16 +63,23 @@ fn verdict_on<N: Name, R: Wait, I: Inbox>(
         × (seat.new.share.ghost_name ≡ seat.old.share.ghost_name) }
 {
     if let Some(back) = taken_back(name) {
-        return Ok(decide(rt, alloc, seat, &Retracting { name: back }));
+        let verdict = decide(rt, alloc, seat, &Retracting { name: back });
+        note_back(inbox, name, back, verdict);
+        return Ok(verdict);
     }
     let found = match inbox.fetch(alloc, name, MAX_FILE_BYTES) {
         Ok(found) => found,
-        Err(Fail::NoMemory) => return Ok(Verdict::Short),
+        Err(Fail::NoMemory) => return Ok(short(inbox, name)),
         Err(Fail::Fault(failed)) => return Err(failed),
     };
     match file_of(alloc, name, found, proto.get()) {
-        Ok(file) => Ok(publish_file(rt, alloc, seat, file)),
-        Err(verdict) => Ok(verdict),
+        Ok(file) => {
+            let verdict = publish_file(rt, alloc, seat, file);
+            note_put(inbox, name, seat.held, verdict);
+            Ok(verdict)
+        }
+        Err(Fail::NoMemory) => Ok(short(inbox, name)),
+        Err(Fail::Fault(refusal)) => Ok(refused(inbox, name, refusal)),
     }
 }
 
@@ -85,7 +100,7 @@ fn next_name<R: Wait, I: Inbox>(rt: &R, alloc: Global, inbox: &mut I) -> Result<
     unreachable!()
 }
 
-/// Takes the next name, finds the verdict on it and settles it. Returns why taking in stops, where it does.
+/// Takes the next name, finds and tells the verdict on it, and settles it. Returns why taking in stops, where it does.
 #[tactic(auto, using(crate::proofs::TurnLemmas::turns))]
 pub(crate) fn take_next<N: Name, R: Wait, I: Inbox>(
     rt: &R,

@@ -18,7 +18,7 @@ use Rattle.srv_ingest.specs.declared.report.IngestEnd.TheVariants as ends
 use Rattle.srv_ingest.specs.declared.report.IngestReport.{IngestReport}
 use Rattle.srv_laws.specs.Accepted.{IsAccepted, IsPublishedOrFull}
 use Rattle.srv_ingest.specs.Ingests.{found_with, IsRight, SettledWith}
-use Rattle.srv_ingest.specs.Verdicts.{file_or_verdict, IsVerdict, IsVerdictOnFile, taken_back, unless_refused}
+use Rattle.srv_ingest.specs.Verdicts.{file_or_refusal, file_or_verdict, IsVerdict, IsVerdictOnFile, taken_back, unless_faulty, unless_refused}
 
 -- the verdict on a file is that it was published, or that there was no room
 on-file : (ops : List Op) (file : Loaded) (verdict : Verdict) → IsVerdictOnFile ops (Ok file) verdict
@@ -31,10 +31,10 @@ on-file ops file verdict is = absurd is
 file-is : (proto : Proto) (content : List ℕ → Option (List ℕ)) (name : List ℕ) (file : Loaded)
     → IsAccepted proto content name file
     → file_or_verdict proto name (found_of MAX_FILE_BYTES (content name)) ≡ Ok file
-unfolding file_or_verdict
+unfolding file_or_refusal
 file-is proto content name file accepted =
     ap (λ (f : Found). file_or_verdict proto name f) accepted.is_found
-    ∙ ap (λ (r : Result Loaded LoadFault). unless_refused r) accepted.loads
+    ∙ ap (λ (r : Result Loaded LoadFault). unless_refused (unless_faulty r)) accepted.loads
 
 -- one name
 one-accepted : (proto : Proto) (content : List ℕ → Option (List ℕ)) (ops : List Op) (name : List ℕ)

@@ -22,7 +22,7 @@ use Rattle.srv_laws.specs.Alone.{IsOfBoth, verdicts_on}
 use Rattle.srv_ingest.specs.Attempts.{expired_number, published_number, RiseBetween}
 use Rattle.srv_ingest.specs.Expires.{expired_numbers, is_expired, AllSettledWith, IsRightAt, SettledMoment}
 use Rattle.srv_ingest.specs.Ingests.{found_with, has_come, is_published, is_retracted, IsRight, published_numbers, SettledWith, Settlement}
-use Rattle.srv_ingest.specs.Verdicts.{cutoff_at, file_or_verdict, IsExpiry, IsNumbered, IsVerdict, IsVerdictOnFile, IsVerdictOnRetraction, taken_back}
+use Rattle.srv_ingest.specs.Verdicts.{cutoff_at, file_or_refusal, file_or_verdict, IsExpiry, IsNumbered, IsVerdict, IsVerdictOnFile, IsVerdictOnRetraction, taken_back}
 use Rattle.srv_ingest.proofs.LaterLemmas.{IsNumbered-later}
 use Rattle.srv_ingest.proofs.MomentCounts.{expired-one}
 use Rattle.srv_laws.proofs.RisingNumbers.{at-most, each-once, many, many-both, none-without}
@@ -100,7 +100,8 @@ of-name proto ops log content name None verdict later is = elim is [
   | inl short ↦ subst (λ (v : Verdict). All (λ n. by_inbox log n ≡ true) (published_number v)) (sym short)
       (All-nil (λ n. by_inbox log n ≡ true))
   | inr right ↦ of-file ops log (file_or_verdict proto name (found_of MAX_FILE_BYTES (content name))) verdict later
-      (λ given e. (given-numbers proto name (found_of MAX_FILE_BYTES (content name)) given e).0) right
+      (λ given e. (given-numbers (file_or_refusal proto name (found_of MAX_FILE_BYTES (content name))) given e).0)
+      right
 ]
 
 -- all operations that verdicts on names say are of the inbox's kinds

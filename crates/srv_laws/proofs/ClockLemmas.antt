@@ -58,6 +58,7 @@ opens-shown {D} {I} {C} show serving opener opener' devices stock opens is all =
       doors = drop doors stock.doors;
       inboxes = drop inboxes stock.inboxes;
       clocks = stock.clocks;
+      lines = stock.lines;
     } in
     let there : opens.after_inboxes ≡ Some left =
     opens.inboxes.left ∙ ap (after_inboxes inboxes) (opens.doors.left ∙ ap (after_doors doors) is) in
@@ -94,7 +95,7 @@ pub clocks-used : {D I C L : Type 0} (show : Shows D I C L) (serving : Serving) 
     → HasRun show serving proto opener opener' left outcome → ShowsClocks show opener
     → All (λ clock. IsSomeAnd (show.clock clock) (λ moments. moments.left ≡ [])) left.clocks
 clocks-used {D} {I} {C} show serving proto opener opener' left outcome run shown =
-    let opened = opens-shown show serving opener.held opener'.held run.devices shown.stock run.opens shown.held_is
+    let opened = opens-shown show serving opener.held run.opened.held run.devices shown.stock run.opens shown.held_is
     shown.each in
     let are = run.ran.clocks in
     let keep = kept_for serving.keep in

@@ -81,7 +81,9 @@ goes-on-became show serving end status stage stage' is on = elim on.serves [
   | inl unserved ↦
       let stopped = unserved.stopped in
       inr (inl (record {
+        opened = stopped.opened;
         opens = stopped.opens;
+        told = stopped.told;
         files = on.files;
         status_is = stop-status serving stage'.devices stage.opener.faults stage'.opener.faults end status
             stopped.stops is;

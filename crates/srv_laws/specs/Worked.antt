@@ -1,22 +1,27 @@
 -- Whether workers ran over the devices of a run of `serve`.
 use Rattle.std.specs.Prelude.{◌≡◌, ◌⊎◌, ℕ}
 use Rattle.fm_model.specs.declared.proto.Proto.{Proto}
+use Rattle.dev_traits.specs.Opener.{OpenerShown}
 use Rattle.srv_words.specs.declared.job.Serving.{Serving}
 use Rattle.srv_workers.specs.declared.outcome.Outcome.{Outcome}
 use Rattle.srv_serve.specs.Devices.{OpensDevices}
 use Rattle.srv_alone.specs.Once.{Opens}
 use Rattle.srv_serve.specs.Serve.{HasRun}
 use Rattle.srv_serve.specs.Stage.{LeavesDevices, Shows, Stage}
+use Rattle.srv_serve.specs.Telling.{TellsServing}
 
 -- Nothing was opened: memory ran out, or the prototype wasn't there, or it was refused.
 pub record HasNotOpened {D I C : Type 0} (status : ℕ) (stage stage' : Stage D I C) : Type 0 where
   pub leaves : LeavesDevices stage stage'
   pub status_is : (status ≡ 3) ⊎ (status ≡ 4) ⊎ (status ≡ 5) ⊎ (status ≡ 10)
 
--- No worker ran: the devices are as the opener gave them. Memory ran out, or a door or an inbox wasn't opened.
+-- No worker ran: the devices are as the opener gave them, and at most it was told that all were opened. Memory ran out,
+-- or a door or an inbox wasn't opened.
 pub record HasNotWorked {D I C L : Type 0} (show : Shows D I C L) (serving : Serving) (status : ℕ)
     (stage stage' : Stage D I C) : Type 0 where
-  pub opens : OpensDevices show serving stage.opener.held stage'.opener.held stage'.devices
+  pub opened : OpenerShown D I C
+  pub told : (stage'.opener ≡ opened) ⊎ TellsServing serving opened stage'.opener
+  pub opens : OpensDevices show serving stage.opener.held opened.held stage'.devices
   pub files : stage'.outside.files ≡ stage.outside.files
   pub status_is : (status ≡ 4) ⊎ (status ≡ 6) ⊎ (status ≡ 8)
 

@@ -3,3 +3,4 @@ pub mod EndLemmas
 pub mod OpeningLemmas
 pub mod RunLemmas
 pub mod StageLemmas
+pub mod TellingLemmas

@@ -3,3 +3,4 @@ pub mod Devices
 pub mod Opening
 pub mod Serve
 pub mod Stage
+pub mod Telling

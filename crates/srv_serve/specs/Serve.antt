@@ -13,6 +13,7 @@ use Rattle.srv_serve.specs.Devices.{AreAllOpened, kept_for, OpensDevices, StopsA
 use Rattle.srv_alone.specs.Once.{EndsOpening, Opens}
 use Rattle.srv_alone.specs.Report.{Reports}
 use Rattle.srv_serve.specs.Stage.{LeavesDevices, Shows, Stage}
+use Rattle.srv_serve.specs.Telling.{TellsServing}
 
 -- The run ended at the file of its prototype, so with status 3, 4, 5 or 10: nothing was opened.
 pub record EndsUnopened {D I C : Type 0} (serving : Serving) (stage stage' : Stage D I C) (end : End) : Type 0 where
@@ -20,17 +21,22 @@ pub record EndsUnopened {D I C : Type 0} (serving : Serving) (stage stage' : Sta
   pub leaves : LeavesDevices stage stage'
   pub reports : Reports end serving.proto stage.outside.sink stage'.outside.sink
 
--- Devices were opened, but not all, or memory ran out before a worker ran: they are as they were opened.
+-- Devices were opened, but not all, or memory ran out before a worker ran, maybe after the opener was told that all
+-- were opened: they are as they were opened.
 pub record HasStopped {D I C L : Type 0} (show : Shows D I C L) (serving : Serving) (opener opener' : OpenerShown D I C)
     (left : Devices D I C) (end : End) : Type 0 where
-  pub opens : OpensDevices show serving opener.held opener'.held left
+  pub opened : OpenerShown D I C
+  pub told : (opener' ≡ opened) ⊎ TellsServing serving opened opener'
+  pub opens : OpensDevices show serving opener.held opened.held left
   pub stops : StopsAt serving left opener.faults opener'.faults end
 
--- All devices were opened, and workers ran over them and left them so.
+-- All devices were opened, the opener was told so, and workers ran over them and left them so.
 pub record HasRun {D I C L : Type 0} (show : Shows D I C L) (serving : Serving) (proto : Proto)
     (opener opener' : OpenerShown D I C) (left : Devices D I C) (outcome : Outcome) : Type 0 where
   pub devices : Devices D I C
-  pub opens : OpensDevices show serving opener.held opener'.held devices
+  pub opened : OpenerShown D I C
+  pub told : TellsServing serving opened opener'
+  pub opens : OpensDevices show serving opener.held opened.held devices
   pub all : AreAllOpened serving devices opener.faults opener'.faults
   pub ran : RanTogether show.door show.link show.inbox show.clock proto (kept_for serving.keep) devices left outcome
 

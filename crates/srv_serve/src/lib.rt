@@ -4,5 +4,6 @@
 mod closing;
 mod opening;
 mod serving;
+mod telling;
 
 pub use serving::serve;

@@ -8,6 +8,7 @@ ghost use Rattle.srv_serve.specs.Stage.{shows, stage_of};
 
 use crate::closing::close;
 use crate::opening::open_devices;
+use crate::telling::tell_serving;
 use dev_traits::{Door, Files, Gate, Link, Opener, Sink, World};
 use fm_base::{Arc, Bytes, List, NoMemory};
 use fm_model::{Proto, Site};
@@ -44,7 +45,7 @@ fn read_shared<F: Files>(alloc: Global, files: &mut F, serving: &Serving) -> Res
     Ok(Arc::new(alloc, proto)?)
 }
 
-// Opens all devices, and has workers run over them.
+// Opens all devices, tells so, and has workers run over them.
 fn open_and_run<R: Threads + Wait + Sync, O: Opener, G: Gate + Sync>(
     rt: &R,
     alloc: Global,
@@ -68,6 +69,7 @@ where
         (O.shown opener.old) (O.shown opener.new) devices.new) }
 {
     open_devices(alloc, opener, serving, devices)?;
+    tell_serving(alloc, opener, serving)?;
     let keep = serving.keep.unwrap_or(0);
     let outcome = run_workers(rt, alloc, proto, keep, gate, devices)?;
     Ok(outcome)

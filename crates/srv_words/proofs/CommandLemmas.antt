@@ -2,7 +2,7 @@
 use Rattle.std.proofs.Common.{◌≡◌, ◌==◌, ◌⊎◌, ◌∙◌, ◌||◌, Bool, inl, inr, true, false, List, [], ◌∷◌, length, Result, Ok, Err, All, IfOk, OnOk, refl, sym, ap, subst, arith}
 use Rattle.std.proofs.lemmas.Bool.{and_parts, cases_Bool, eqb-true}
 use Rattle.std.proofs.lemmas.List.Elements.{All-head, All-tail}
-use Rattle.clap.specs.Built.{AddsArg, AddsInTurn}
+use Rattle.clap.specs.Built.{AddsArg, AddsInTurn, AddsSubcommand}
 use Rattle.clap.specs.Kinds.{FailsBy, IsAmong, Kinds}
 use Rattle.clap.specs.declared.builder.arg.Arg.{Arg}
 use Rattle.clap.specs.declared.builder.command.Command.{Command}
@@ -12,7 +12,7 @@ use Rattle.clap.specs.declared.error.kind.ErrorKind.{ErrorKind}
 use Rattle.clap.specs.declared.error.kind.ErrorKind.TheVariants as kind
 use Rattle.clap.specs.declared.parser.matches.ArgMatches.{ArgMatches}
 use Rattle.clap.specs.Faults.{fault_of, is_free_app, is_simple_and_free}
-use Rattle.clap.specs.Simple.{App, HasMatchesOf, app_of, built, is_simple, subcommand_of, subcommand_rows_of}
+use Rattle.clap.specs.Simple.{App, HasMatchesOf, app_of, built, is_simple, subcommand_of, subcommand_rows_of, with_subcommand}
 use Rattle.clap.specs.Walk.{Rule, Text}
 use Rattle.srv_words.specs.Command.{fmrcd, rules_in, subcommand, used, with_arguments, with_clock, with_door, with_rules, with_site}
 
@@ -41,6 +41,27 @@ args_in_turn old new (arg ∷ args) adds local plain =
     let rest = args_in_turn next new args adds.2 (All-tail (λ (arg : Arg). arg.global ≡ false) arg args local)
     (neither _ _ _ adds.1.globals plain here) in
     (rest.0 ∙ ap (λ (app : App). with_rules app (rules_in args)) (adds.1.shape here), rest.1)
+
+-- the same, where memory sufficed
+pub args_made : {E F : Type 0} (old : Command) (args : List Arg) (added : Result Command E) (made : Result Command F)
+    → IfOk made (λ new. added ≡ Ok new) → IfOk added (AddsInTurn AddsArg old args)
+    → All (λ (arg : Arg). arg.global ≡ false) args → (out-Command old).has_globals ≡ false
+    → IfOk made (λ new. app_of new ≡ with_rules (app_of old) (rules_in args))
+    × IfOk made (λ new. (out-Command new).has_globals ≡ false)
+args_made old args added (Ok new) is adds local plain = args_in_turn old new args (rw is at adds) local plain
+args_made old args added (Err fault) is adds local plain = (tt, tt)
+
+-- a command with one more subcommand, where memory sufficed
+pub one_made : {E F : Type 0} (before next : App) (old sub : Command) (added : Result Command E)
+    (made : Result Command F) → IfOk made (λ new. added ≡ Ok new) → IfOk added (AddsSubcommand old sub)
+    → app_of old ≡ before → app_of sub ≡ next → (out-Command sub).has_globals ≡ false
+    → IfOk made (λ new. app_of new ≡ with_subcommand before next.top)
+one_made before next old sub added (Ok new) is adds first second plain =
+    let one : AddsSubcommand old sub new = rw is at adds in
+    one.shape plain
+    ∙ ap (λ (a : App). with_subcommand (app_of old) a.top) second
+    ∙ ap (λ (a : App). with_subcommand a next.top) first
+one_made before next old sub added (Err fault) is adds first second plain = tt
 
 pub fmrcd_is_free : is_simple_and_free fmrcd ≡ true
 unfolding fmrcd subcommand with_arguments with_site with_door with_clock

@@ -4,7 +4,7 @@ use Rattle.clap.specs.Faults.{fault_of}
 use Rattle.clap.specs.Simple.{App, new_app, new_rule, with_rule, with_subcommand, on_top, subcommand_of}
 use Rattle.clap.specs.Walk.{Text, Row, Rule, rule_of}
 use Rattle.clap.specs.declared.builder.action.ArgAction.{ArgAction}
-use Rattle.clap.specs.declared.builder.action.ArgAction.TheVariants.{Set, Append}
+use Rattle.clap.specs.declared.builder.action.ArgAction.TheVariants.{Set, Append, SetTrue}
 use Rattle.clap.specs.declared.builder.arg.Arg.{Arg}
 use Rattle.srv_words.specs.declared.job.Command.{Command}
 use Rattle.srv_words.specs.declared.job.Command.TheVariants.{Once, Check, Load, Serve}
@@ -13,6 +13,10 @@ use Rattle.srv_words.specs.declared.job.Command.TheVariants.{Once, Check, Load, 
 abbrev pub option : Text → Bool → Rule
 option id required =
     record (new_rule id) { long = Some id; action = Some Set; value_names = 1; required = required }
+
+-- a long option without a value
+abbrev pub flag : Text → Rule
+flag id = record (new_rule id) { long = Some id; action = Some SetTrue; required = false }
 
 -- a word that has to stand (`Set`), or one word or more (`Append`)
 abbrev pub word : Text → ArgAction → Rule
@@ -41,12 +45,13 @@ unfoldable pub with_clock : List Rule → List Rule
 with_clock rules = one_more (one_more rules (option (codes "keep") false)) (option (codes "ticks") false)
 
 -- with all that stands behind a command: `STEP..` and the options of a collection, `FILE`, `SEED FILES`, or `INBOX..`
--- and the options of a collection, a door and a clock
+-- and the options of a collection, a door and a clock, and `[--quiet]`
 unfoldable pub with_arguments : Command → List Rule → List Rule
 with_arguments Once rules = one_more (with_site rules) (word (codes "STEP") Append)
 with_arguments Check rules = one_more rules (word (codes "FILE") Set)
 with_arguments Load rules = one_more (one_more rules (word (codes "SEED") Set)) (word (codes "FILES") Set)
-with_arguments Serve rules = one_more (with_clock (with_door (with_site rules))) (word (codes "INBOX") Append)
+with_arguments Serve rules = one_more (one_more (with_clock (with_door (with_site rules))) (flag (codes "quiet")))
+    (word (codes "INBOX") Append)
 
 -- a command with these rules more, one after the other
 abbrev pub with_rules : App → List Rule → App

@@ -8,9 +8,10 @@ ghost use Rattle.srv_words.specs.declared.job.Command.TheVariants.{Load, Once, S
 
 use crate::help::{
     CONNECTIONS_HELP, EPOCH_HELP, FILE_HELP, FILES_HELP, INBOX_HELP, KEEP_HELP, LISTEN_HELP,
-    MARK_HELP, NAME_HELP, PROTO_HELP, SEED_HELP, STEP_HELP, TICKS_HELP, WORKERS_HELP,
+    MARK_HELP, NAME_HELP, PROTO_HELP, QUIET_HELP, SEED_HELP, STEP_HELP, TICKS_HELP, WORKERS_HELP,
 };
 use crate::job;
+use crate::made::made;
 use clap::{Arg, ArgAction, Command};
 use fm_base::NoMemory;
 use std::alloc::Global;
@@ -40,6 +41,14 @@ fn option<'a>(alloc: Global, id: &'a str, value: &'a str, help: &'a str, require
     argument(alloc, id, help, ArgAction::Set, required)
         .long(id)
         .value_name(value)
+}
+
+// A long option without a value.
+fn flag<'a>(alloc: Global, id: &'a str, help: &'a str) -> Arg<'a>
+    ensures rule { rule_of result ≡ spec.flag id.entry.now }
+    ensures local { result.global ≡ false }
+{
+    argument(alloc, id, help, ArgAction::SetTrue, false).long(id)
 }
 
 /// Arguments of one command alone, and not of the commands below it.
@@ -81,6 +90,14 @@ impl<'a> Arguments<'a> {
             ≡ spec.one_more (spec.rules_in self.old.list.items) (spec.option id.entry.now required)) }
     {
         self.put(option(alloc, id, value, help, required))
+    }
+
+    // Adds an option without a value.
+    fn put_flag(&mut self, alloc: Global, id: &'a str, help: &'a str) -> Result<(), NoMemory>
+        ensures { OnOk result (spec.rules_in self.new.list.items
+            ≡ spec.one_more (spec.rules_in self.old.list.items) (spec.flag id.entry.now)) }
+    {
+        self.put(flag(alloc, id, help))
     }
 
     // Adds a word that has to stand, or the words of which there is one at least.
@@ -150,6 +167,7 @@ impl<'a> Arguments<'a> {
         self.put_site(alloc)?;
         self.put_door(alloc)?;
         self.put_clock(alloc)?;
+        self.put_flag(alloc, "quiet", QUIET_HELP)?;
         self.put_word(alloc, "INBOX", INBOX_HELP, ArgAction::Append)
     }
 
@@ -174,6 +192,6 @@ impl<'a> Arguments<'a> {
             app_of c ≡ spec.with_rules (app_of command.entry) (spec.rules_in self.entry.list.items)) }
         ensures plain { IfOk result (λ c. (out-Command c).has_globals ≡ false) }
     {
-        Ok(command.args(self.list)?)
+        made(command.args(self.list))
     }
 }

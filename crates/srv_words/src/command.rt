@@ -7,7 +7,7 @@ ghost use Rattle.srv_words.specs.Command as spec;
 use crate::arguments::Arguments;
 use crate::help::{CHECK_HELP, LOAD_HELP, ONCE_HELP, SERVE_HELP};
 use crate::job;
-use crate::pair::both;
+use crate::made::made;
 use clap::Command;
 use fm_base::NoMemory;
 use std::alloc::Global;
@@ -40,18 +40,7 @@ pub(crate) fn subcommand<'a>(alloc: Global, command: job::Command) -> Result<Com
     arguments.onto(named(alloc, command))
 }
 
-// A command with one more subcommand.
-fn with_subcommand<'a>(
-    command: Command<'a>,
-    subcommand: Command<'a>,
-) -> Result<Command<'a>, NoMemory>
-    requires plain { (out-Command subcommand).has_globals ≡ false }
-    ensures { IfOk result (λ c. app_of c ≡ added (app_of command.entry) (app_of subcommand.entry).top) }
-{
-    Ok(command.subcommand(subcommand)?)
-}
-
-// The same, where memory sufficed for the command.
+// A command with one more subcommand, where memory sufficed for the command.
 fn joined<'a>(
     alloc: Global,
     command: Result<Command<'a>, NoMemory>,
@@ -60,8 +49,16 @@ fn joined<'a>(
     ensures { (before : App) → IfOk command.entry (λ c. app_of c ≡ before)
         → IfOk result (λ c. app_of c ≡ added before (spec.subcommand next).top) }
 {
-    let pair = both(command, subcommand(alloc, next))?;
-    with_subcommand(pair.0, pair.1)
+    match command {
+        Ok(command) => match subcommand(alloc, next) {
+            Ok(next) => made(command.subcommand(next)),
+            Err(NoMemory) => {
+                drop(command);
+                Err(NoMemory)
+            }
+        },
+        Err(NoMemory) => Err(NoMemory),
+    }
 }
 
 // A command that wants a subcommand, and is given the words after the program's name.
@@ -76,8 +73,7 @@ fn wanting<'a>(command: Command<'a>) -> Command<'a>
 fn top<'a>(alloc: Global) -> Result<Command<'a>, NoMemory>
     ensures { IfOk result (λ c. app_of c ≡ spec.top) }
 {
-    let command = wanting(Command::new(alloc, "fmrcd"));
-    Ok(command.bin_name("fmrcd")?)
+    made(wanting(Command::new(alloc, "fmrcd")).bin_name("fmrcd"))
 }
 
 /// The command, with all that it says of itself.

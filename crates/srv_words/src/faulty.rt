@@ -1,8 +1,11 @@
 //! Values that haven't their form.
 
+use crate::asked::command_named;
 use crate::help::{
-    ASK_FORM, EPOCH_FORM, EXPIRE_FORM, FOLDERS_FORM, MARK_FORM, NAME_FORM, STEP_FORM,
+    ASK_FORM, COUNT_FORM, EPOCH_FORM, EXPIRE_FORM, FILES_FORM, FOLDERS_FORM, KEEP_FORM, MARK_FORM,
+    NAME_FORM, STEP_FORM, WORKERS_FORM,
 };
+use crate::job::Command;
 use crate::load::{MAX_MADE, MAX_SEED};
 use crate::matches::{text_of, texts_of};
 use crate::number::number_in;
@@ -11,9 +14,8 @@ use crate::site::name_of;
 use crate::steps::step_of;
 use crate::values::{MAX_MARK, epoch_of};
 use clap::ArgMatches;
-use fm_base::{Fail, NoMemory};
+use fm_base::Fail;
 use std::alloc::Global;
-use std::fmt::Write;
 
 /// A value that hasn't its form.
 #[derive(Clone, Copy)]
@@ -21,30 +23,8 @@ pub(crate) struct Faulty<'a> {
     pub value: &'a str,
     /// The option or the positional, as the usage calls it.
     pub of: &'static str,
-    pub form: Form,
-}
-
-/// The form that a value has to have.
-#[derive(Clone, Copy)]
-pub(crate) enum Form {
-    /// What a sentence says of it.
-    Said(&'static str),
-    /// A number in a range.
-    Number(u32, u32),
-}
-
-impl Form {
-    /// Puts what a value must be.
-    pub fn put(self, out: &mut String) -> Result<(), NoMemory> {
-        let put = match self {
-            Form::Said(text) => out.push_str(text),
-            Form::Number(least, most) => write!(
-                out,
-                "it must be a number from {least} to {most}, without leading zeros"
-            ),
-        };
-        Ok(put?)
-    }
+    /// What it must be.
+    pub form: &'static str,
 }
 
 /// The first value of a subcommand that hasn't its form.
@@ -53,14 +33,11 @@ pub(crate) fn faulty_in<'a>(
     name: &str,
     matches: &ArgMatches<'a>,
 ) -> Option<Faulty<'a>> {
-    if name == "once" {
-        faulty_site(matches).or(faulty_step(alloc, matches))
-    } else if name == "load" {
-        faulty_load(matches)
-    } else if name == "serve" {
-        faulty_site(matches).or(faulty_serve(matches))
-    } else {
-        None
+    match command_named(name.as_bytes())? {
+        Command::Once => faulty_site(matches).or(faulty_step(alloc, matches)),
+        Command::Check => None,
+        Command::Load => faulty_load(matches),
+        Command::Serve => faulty_site(matches).or(faulty_serve(matches)),
     }
 }
 
@@ -72,11 +49,7 @@ fn faulty_at<'a>(
     form: &'static str,
 ) -> Option<Faulty<'a>> {
     let value = matches.get_str(id)?;
-    Some(Faulty {
-        value,
-        of,
-        form: Form::Said(form),
-    })
+    Some(Faulty { value, of, form })
 }
 
 fn faulty_site<'a>(matches: &ArgMatches<'a>) -> Option<Faulty<'a>> {
@@ -99,38 +72,50 @@ fn faulty_number<'a>(
     matches: &ArgMatches<'a>,
     id: &str,
     of: &'static str,
+    form: &'static str,
     least: u32,
     most: u32,
 ) -> Option<Faulty<'a>> {
     let value = matches.get_str(id)?;
     match number_in(least, most, value.as_bytes()) {
         Some(_) => None,
-        None => Some(Faulty {
-            value,
-            of,
-            form: Form::Number(least, most),
-        }),
+        None => Some(Faulty { value, of, form }),
     }
 }
 
 fn faulty_load<'a>(matches: &ArgMatches<'a>) -> Option<Faulty<'a>> {
-    faulty_number(matches, "SEED", "<SEED>", 0, MAX_SEED).or(faulty_number(
-        matches, "FILES", "<FILES>", 1, MAX_MADE,
+    faulty_number(matches, "SEED", "<SEED>", COUNT_FORM, 0, MAX_SEED).or(faulty_number(
+        matches, "FILES", "<FILES>", FILES_FORM, 1, MAX_MADE,
     ))
 }
 
 fn faulty_serve<'a>(matches: &ArgMatches<'a>) -> Option<Faulty<'a>> {
-    faulty_number(matches, "workers", "--workers <NUMBER>", 1, MAX_WORKERS)
-        .or(faulty_number(
-            matches,
-            "connections",
-            "--connections <NUMBER>",
-            0,
-            MAX_COUNT,
-        ))
-        .or(faulty_number(matches, "keep", "--keep <SECONDS>", 1, MAX_KEPT))
-        .or(faulty_number(matches, "ticks", "--ticks <NUMBER>", 0, MAX_COUNT))
-        .or(faulty_folder(matches))
+    faulty_number(
+        matches,
+        "workers",
+        "--workers <NUMBER>",
+        WORKERS_FORM,
+        1,
+        MAX_WORKERS,
+    )
+    .or(faulty_number(
+        matches,
+        "connections",
+        "--connections <NUMBER>",
+        COUNT_FORM,
+        0,
+        MAX_COUNT,
+    ))
+    .or(faulty_number(matches, "keep", "--keep <SECONDS>", KEEP_FORM, 1, MAX_KEPT))
+    .or(faulty_number(
+        matches,
+        "ticks",
+        "--ticks <NUMBER>",
+        COUNT_FORM,
+        0,
+        MAX_COUNT,
+    ))
+    .or(faulty_folder(matches))
 }
 
 // The first folder that is too many.
@@ -139,7 +124,7 @@ fn faulty_folder<'a>(matches: &ArgMatches<'a>) -> Option<Faulty<'a>> {
     Some(Faulty {
         value,
         of: "<INBOX>...",
-        form: Form::Said(FOLDERS_FORM),
+        form: FOLDERS_FORM,
     })
 }
 
@@ -147,11 +132,14 @@ fn faulty_folder<'a>(matches: &ArgMatches<'a>) -> Option<Faulty<'a>> {
 fn faulty_step<'a>(alloc: Global, matches: &ArgMatches<'a>) -> Option<Faulty<'a>> {
     let epoch = epoch_of(text_of(matches, "epoch"))?;
     for word in texts_of(matches, "STEP")? {
-        if let Err(Fail::Fault(_)) = step_of(alloc, epoch, word.as_bytes()) {
+        let step = step_of(alloc, epoch, word.as_bytes());
+        let is_faulty = matches!(&step, Err(Fail::Fault(_)));
+        drop(step);
+        if is_faulty {
             return Some(Faulty {
                 value: *word,
                 of: "<STEP>...",
-                form: Form::Said(step_form(word)),
+                form: step_form(word),
             });
         }
     }

@@ -54,6 +54,8 @@ pub(crate) const KEEP_HELP: &str =
 pub(crate) const TICKS_HELP: &str =
     "After how many looks for old runs the clock ends, up to 4294967295,{n}or 0 for never [default: 0]";
 
+pub(crate) const QUIET_HELP: &str = "Leaves out the lines on standard error";
+
 pub(crate) const INBOX_HELP: &str = "A folder in which files arrive: 1 to 8 of them";
 
 /// What a value must be, for a person who gave another.
@@ -73,3 +75,13 @@ pub(crate) const ASK_FORM: &str =
     "it must be ask:NUMBER, a number from 1 to 10000 without leading zeros";
 
 pub(crate) const FOLDERS_FORM: &str = "there may be at most 8 folders";
+
+pub(crate) const FILES_FORM: &str = "it must be a number from 1 to 400, without leading zeros";
+
+pub(crate) const WORKERS_FORM: &str = "it must be a number from 1 to 16, without leading zeros";
+
+pub(crate) const COUNT_FORM: &str =
+    "it must be a number from 0 to 4294967295, without leading zeros";
+
+pub(crate) const KEEP_FORM: &str =
+    "it must be a number from 1 to 1073741823, without leading zeros";

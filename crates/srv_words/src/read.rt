@@ -75,8 +75,15 @@ fn job_of_texts(alloc: Global, texts: &[&str]) -> Result<Job, Fail<BadWords>>
     ensures { Reads (spec.job_of_texts (map (λ text. text.now) texts.now)) result }
 {
     match parsed(alloc, texts) {
-        Ok(matches) => job_of_found(alloc, &matches),
-        Err(Fail::Fault(_)) => Err(Fail::Fault(BadWords)),
+        Ok(matches) => {
+            let job = job_of_found(alloc, &matches);
+            drop(matches);
+            job
+        }
+        Err(Fail::Fault(error)) => {
+            drop(error);
+            Err(Fail::Fault(BadWords))
+        }
         Err(Fail::NoMemory) => Err(Fail::NoMemory),
     }
 }

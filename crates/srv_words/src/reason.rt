@@ -42,8 +42,16 @@ fn put_reason(alloc: Global, words: &[Bytes], out: &mut String) -> Result<(), No
 
 fn put_reason_of_texts(alloc: Global, words: &[&str], out: &mut String) -> Result<(), NoMemory> {
     match parsed(alloc, words) {
-        Ok(matches) => put_value(alloc, &matches, out),
-        Err(Fail::Fault(error)) => put_error(alloc, &error, out),
+        Ok(matches) => {
+            let put = put_value(alloc, &matches, out);
+            drop(matches);
+            put
+        }
+        Err(Fail::Fault(error)) => {
+            let put = put_error(alloc, &error, out);
+            drop(error);
+            put
+        }
         Err(Fail::NoMemory) => Err(NoMemory),
     }
 }
@@ -72,17 +80,17 @@ fn put_value(alloc: Global, matches: &ArgMatches<'_>, out: &mut String) -> Resul
 fn put_faulty(faulty: &Faulty<'_>, out: &mut String) -> Result<(), NoMemory> {
     out.push_str("invalid value '")?;
     put_shown(faulty.value, out)?;
-    write!(out, "' for '{}': ", faulty.of)?;
-    faulty.form.put(out)
+    Ok(write!(out, "' for '{}': {}", faulty.of, faulty.form)?)
 }
 
 // Puts the error of `clap`.
 fn put_error(alloc: Global, error: &Error, out: &mut String) -> Result<(), NoMemory> {
-    match error.kind() {
-        ErrorKind::DisplayHelp => Ok(out.push_str(NOT_ALONE)?),
-        ErrorKind::MissingSubcommand => Ok(out.push_str(NO_COMMAND)?),
-        _ => put_text(alloc, error, out),
-    }
+    let said = match error.kind() {
+        ErrorKind::DisplayHelp => NOT_ALONE,
+        ErrorKind::MissingSubcommand => NO_COMMAND,
+        _ => return put_text(alloc, error, out),
+    };
+    Ok(out.push_str(said)?)
 }
 
 fn put_text(alloc: Global, error: &Error, out: &mut String) -> Result<(), NoMemory> {
@@ -93,13 +101,9 @@ fn put_text(alloc: Global, error: &Error, out: &mut String) -> Result<(), NoMemo
 // Puts the first paragraph of a text, which says which word is meant, and the first tip.
 fn put_paragraphs(text: &str, out: &mut String) -> Result<(), NoMemory> {
     let text = text.strip_prefix("error: ").unwrap_or(text);
-    match text.split_once("\n\n") {
-        Some((front, rest)) => {
-            put_lines(front, out)?;
-            put_tip(rest, out)
-        }
-        None => put_lines(text, out),
-    }
+    let (front, rest) = text.split_once("\n\n").unwrap_or((text, ""));
+    put_lines(front, out)?;
+    put_tip(rest, out)
 }
 
 // Puts the lines of a text as one.
@@ -118,10 +122,8 @@ fn put_tip(text: &str, out: &mut String) -> Result<(), NoMemory> {
         return Ok(());
     };
     out.push_str("; ")?;
-    match tip.split_once('\n') {
-        Some((tip, _)) => put_shown(tip, out),
-        None => put_shown(tip, out),
-    }
+    let (tip, _) = tip.split_once('\n').unwrap_or((tip, ""));
+    put_shown(tip, out)
 }
 
 // Puts the first characters of a text, and `?` for one that isn't shown.
@@ -138,8 +140,9 @@ fn put_see(words: &[Bytes], out: &mut String) -> Result<(), NoMemory> {
         [first, ..] => command_named(first.as_slice()),
         [] => None,
     };
-    match command {
-        Some(command) => Ok(write!(out, "; see 'fmrcd {} --help'", command.name())?),
-        None => Ok(out.push_str("; see 'fmrcd --help'")?),
-    }
+    let put = match command {
+        Some(command) => write!(out, "; see 'fmrcd {} --help'", command.name()),
+        None => out.push_str("; see 'fmrcd --help'"),
+    };
+    Ok(put?)
 }

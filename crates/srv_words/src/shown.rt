@@ -5,7 +5,7 @@ use crate::help::{MORE_HELP, PROGRAM_HELP};
 use crate::job;
 use clap::Command;
 use fm_base::NoMemory;
-use std::alloc::Global;
+use std::alloc::{AllocError, Global};
 
 /// The help of the program.
 pub(crate) fn program_help(alloc: Global) -> Result<String, NoMemory> {
@@ -16,13 +16,25 @@ pub(crate) fn program_help(alloc: Global) -> Result<String, NoMemory> {
 /// The help of a command.
 pub(crate) fn command_help(alloc: Global, command: job::Command) -> Result<String, NoMemory> {
     let name = format!(in alloc; "fmrcd {}", command.name())?;
-    let command = subcommand(alloc, command)?;
-    help_of(command.bin_name(name.as_str())?)
+    match subcommand(alloc, command) {
+        Ok(command) => help_as(command, name.as_str()),
+        Err(NoMemory) => Err(NoMemory),
+    }
+}
+
+// The help of a command that its usage calls by this name.
+fn help_as(command: Command<'_>, name: &str) -> Result<String, NoMemory> {
+    match command.bin_name(name) {
+        Ok(command) => help_of(command),
+        Err(AllocError) => Err(NoMemory),
+    }
 }
 
 fn help_of(command: Command<'_>) -> Result<String, NoMemory> {
     let mut command = command
         .disable_help_flag(true)
         .disable_help_subcommand(true);
-    Ok(command.render_help()?)
+    let help = command.render_help();
+    drop(command);
+    Ok(help?)
 }

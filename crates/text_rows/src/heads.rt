@@ -1,29 +1,28 @@
 //! Request heads: one, however it is cut, and those of a stream.
 
-use super::{known, only};
-use fm_base::NoMemory;
+use super::{allocated, known, only};
 use row_text::{Field, Row, bytes, content, put_shown};
-use std::alloc::Global;
+use std::alloc::{AllocError, Global};
 use std::fmt::Write;
 use web_frame::{Frame, Method, Next, Request};
 
 /// Puts the item that a head is read as. It comes whole, cut in two at each offset, and byte by byte.
-pub fn put_head(alloc: Global, row: &Row<'_>, out: &mut String) -> Result<bool, NoMemory> {
+pub fn put_head(alloc: Global, row: &Row<'_>, out: &mut String) -> Result<bool, AllocError> {
     match only(alloc, row, "head")? {
         Some(head) => known(put_item(alloc, head.as_slice(), out)),
         None => Ok(false),
     }
 }
 
-fn put_item(alloc: Global, head: &[u8], out: &mut String) -> Result<(), NoMemory> {
-    let mut frame = Frame::new(alloc)?;
+fn put_item(alloc: Global, head: &[u8], out: &mut String) -> Result<(), AllocError> {
+    let mut frame = allocated(Frame::new(alloc))?;
     let put = put_read(&mut frame, head, out);
     drop(frame);
     put
 }
 
 // Appends the item that a frame without bytes reads a head as.
-fn put_read(frame: &mut Frame, head: &[u8], out: &mut String) -> Result<(), NoMemory> {
+fn put_read(frame: &mut Frame, head: &[u8], out: &mut String) -> Result<(), AllocError> {
     frame.feed(head);
     let read = frame.next();
     put_next(frame, read, out)?;
@@ -67,11 +66,11 @@ fn is_read_by_bytes(frame: &mut Frame, head: &[u8], want: Next) -> bool {
 
 /// Puts the heads of a stream, a line for each. Its slices are fed one after the other, and all heads of one are read
 /// before the next comes.
-pub fn put_stream(alloc: Global, row: &Row<'_>, out: &mut String) -> Result<bool, NoMemory> {
+pub fn put_stream(alloc: Global, row: &Row<'_>, out: &mut String) -> Result<bool, AllocError> {
     if !row.has_only(&["feed", "feed file"]) {
         return Ok(false);
     }
-    let mut frame = Frame::new(alloc)?;
+    let mut frame = allocated(Frame::new(alloc))?;
     let put = put_slices(alloc, &mut frame, row, out);
     drop(frame);
     put
@@ -82,7 +81,7 @@ fn put_slices(
     frame: &mut Frame,
     row: &Row<'_>,
     out: &mut String,
-) -> Result<bool, NoMemory> {
+) -> Result<bool, AllocError> {
     for field in &row.fields {
         if field.key.starts_with("feed") && !put_slice(alloc, frame, field, out)? {
             return Ok(false);
@@ -97,7 +96,7 @@ fn put_slice(
     frame: &mut Frame,
     field: &Field<'_>,
     out: &mut String,
-) -> Result<bool, NoMemory> {
+) -> Result<bool, AllocError> {
     let value = field.value.as_str();
     let slice = match field.key {
         "feed" => bytes(alloc, value)?,
@@ -113,7 +112,7 @@ fn put_slice(
 }
 
 // Appends the heads that end in what a frame holds, at most 16 of them, and what is left.
-fn put_heads(frame: &mut Frame, out: &mut String) -> Result<(), NoMemory> {
+fn put_heads(frame: &mut Frame, out: &mut String) -> Result<(), AllocError> {
     for _ in 0..16 {
         let read = frame.next();
         out.push_str(if out.is_empty() { "" } else { "\n" })?;
@@ -126,17 +125,17 @@ fn put_heads(frame: &mut Frame, out: &mut String) -> Result<(), NoMemory> {
     Ok(())
 }
 
-fn put_next(frame: &Frame, read: Next, out: &mut String) -> Result<(), NoMemory> {
+fn put_next(frame: &Frame, read: Next, out: &mut String) -> Result<(), AllocError> {
     match read {
-        Next::Need => Ok(out.push_str("no head")?),
+        Next::Need => out.push_str("no head"),
         Next::Head(request) => put_request(request, frame.target(), out),
-        Next::BadHead => Ok(out.push_str("bad head")?),
-        Next::HeadTooLong => Ok(out.push_str("head too long")?),
+        Next::BadHead => out.push_str("bad head"),
+        Next::HeadTooLong => out.push_str("head too long"),
     }
 }
 
 /// Appends a request's method and target, and whether the connection ends after it and it has a body.
-pub fn put_request(request: Request, target: &[u8], out: &mut String) -> Result<(), NoMemory> {
+pub fn put_request(request: Request, target: &[u8], out: &mut String) -> Result<(), AllocError> {
     out.push_str(match request.method {
         Method::Get => "get ",
         Method::Head => "head ",
@@ -144,5 +143,5 @@ pub fn put_request(request: Request, target: &[u8], out: &mut String) -> Result<
     })?;
     put_shown(target, out)?;
     out.push_str(if request.close { ", close" } else { "" })?;
-    Ok(out.push_str(if request.has_body { ", body" } else { "" })?)
+    out.push_str(if request.has_body { ", body" } else { "" })
 }

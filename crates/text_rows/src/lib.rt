@@ -27,10 +27,7 @@ pub struct Texts<'a> {
 
 impl Answers for Texts<'_> {
     fn answer(&self, alloc: Global, row: &Row<'_>, out: &mut String) -> Result<bool, AllocError> {
-        match put_answer(alloc, self.files, row, out) {
-            Ok(known) => Ok(known),
-            Err(NoMemory) => Err(AllocError),
-        }
+        put_answer(alloc, self.files, row, out)
     }
 }
 
@@ -70,7 +67,7 @@ fn put_answer(
     files: &[File],
     row: &Row<'_>,
     out: &mut String,
-) -> Result<bool, NoMemory> {
+) -> Result<bool, AllocError> {
     match call_of(row) {
         Some("asks") => projections::put_projection(alloc, files, row, out),
         Some(key) => put_value(alloc, key, row, out),
@@ -79,7 +76,12 @@ fn put_answer(
 }
 
 // Puts what comes out of a row about a value, a constraint or a target, by its key.
-fn put_value(alloc: Global, key: &str, row: &Row<'_>, out: &mut String) -> Result<bool, NoMemory> {
+fn put_value(
+    alloc: Global,
+    key: &str,
+    row: &Row<'_>,
+    out: &mut String,
+) -> Result<bool, AllocError> {
     match key {
         "units" => times::put_units(alloc, row, out),
         "mark" => times::put_mark(alloc, row, out),
@@ -93,7 +95,12 @@ fn put_value(alloc: Global, key: &str, row: &Row<'_>, out: &mut String) -> Resul
 }
 
 // Puts what comes out of a row about the words of a command or the bytes of a stream, by its key.
-fn put_course(alloc: Global, key: &str, row: &Row<'_>, out: &mut String) -> Result<bool, NoMemory> {
+fn put_course(
+    alloc: Global,
+    key: &str,
+    row: &Row<'_>,
+    out: &mut String,
+) -> Result<bool, AllocError> {
     match key {
         "words" => words::put_words(alloc, row, out),
         "no words" => words::put_no_words(alloc, row, out),
@@ -105,17 +112,25 @@ fn put_course(alloc: Global, key: &str, row: &Row<'_>, out: &mut String) -> Resu
 }
 
 // That a row is known, once its answer was put.
-fn known(put: Result<(), NoMemory>) -> Result<bool, NoMemory> {
+fn known(put: Result<(), AllocError>) -> Result<bool, AllocError> {
     match put {
         Ok(()) => Ok(true),
-        Err(NoMemory) => Err(NoMemory),
+        Err(AllocError) => Err(AllocError),
+    }
+}
+
+// A value that was made, or that memory ran out.
+fn allocated<T: Drop>(value: Result<T, NoMemory>) -> Result<T, AllocError> {
+    match value {
+        Ok(value) => Ok(value),
+        Err(NoMemory) => Err(AllocError),
     }
 }
 
 // That a row isn't known, where there is a fault.
-fn unknown<E: Drop>(fail: Fail<E>) -> Result<bool, NoMemory> {
+fn unknown<E: Drop>(fail: Fail<E>) -> Result<bool, AllocError> {
     match fail {
-        Fail::NoMemory => Err(NoMemory),
+        Fail::NoMemory => Err(AllocError),
         Fail::Fault(_) => Ok(false),
     }
 }

@@ -7,9 +7,9 @@ use crate::declarations::read_decls;
 use dap_ce::read_constraint;
 use dap_model::{Array, Decl, ProjectFault, Projected, Projection, Sent};
 use dap_project::project;
-use fm_base::{Bytes, Fail, NoMemory};
+use fm_base::{Bytes, Fail};
 use row_text::{File, Row, put_shown};
-use std::alloc::Global;
+use std::alloc::{AllocError, Global};
 use std::fmt::Write;
 use std::str;
 
@@ -19,7 +19,7 @@ pub fn put_projection(
     files: &[File],
     row: &Row<'_>,
     out: &mut String,
-) -> Result<bool, NoMemory> {
+) -> Result<bool, AllocError> {
     if !row.has_each(&["of", "asks"]) {
         return Ok(false);
     }
@@ -44,7 +44,7 @@ fn put_asked(
     decls: &[Decl],
     row: &Row<'_>,
     out: &mut String,
-) -> Result<bool, NoMemory> {
+) -> Result<bool, AllocError> {
     match row.bytes(alloc, "asks")? {
         Some(text) => put_for(alloc, decls, text.as_slice(), out),
         None => Ok(false),
@@ -52,7 +52,12 @@ fn put_asked(
 }
 
 // Puts what is sent for the constraint of a text. It is false where it is none.
-fn put_for(alloc: Global, decls: &[Decl], text: &[u8], out: &mut String) -> Result<bool, NoMemory> {
+fn put_for(
+    alloc: Global,
+    decls: &[Decl],
+    text: &[u8],
+    out: &mut String,
+) -> Result<bool, AllocError> {
     match read_constraint(alloc, text) {
         Ok(asked) => {
             let put = put_sent(alloc, decls, &asked, out);
@@ -68,7 +73,7 @@ fn put_sent(
     decls: &[Decl],
     asked: &Projection,
     out: &mut String,
-) -> Result<(), NoMemory> {
+) -> Result<(), AllocError> {
     match project(alloc, decls, asked) {
         Ok(projected) => {
             let put = put_projected(&projected, out);
@@ -80,11 +85,11 @@ fn put_sent(
             drop(fault);
             put
         }
-        Err(Fail::NoMemory) => Err(NoMemory),
+        Err(Fail::NoMemory) => Err(AllocError),
     }
 }
 
-fn put_projected(projected: &Projected, out: &mut String) -> Result<(), NoMemory> {
+fn put_projected(projected: &Projected, out: &mut String) -> Result<(), AllocError> {
     for decl in projected.decls.as_slice() {
         put_decl(decl, out)?;
         out.push('\n')?;
@@ -96,7 +101,7 @@ fn put_projected(projected: &Projected, out: &mut String) -> Result<(), NoMemory
     Ok(())
 }
 
-fn put_decl(decl: &Decl, out: &mut String) -> Result<(), NoMemory> {
+fn put_decl(decl: &Decl, out: &mut String) -> Result<(), AllocError> {
     match decl {
         Decl::Plain(array) => put_array(array, out),
         Decl::Grid { name, array, maps } => {
@@ -113,22 +118,22 @@ fn put_decl(decl: &Decl, out: &mut String) -> Result<(), NoMemory> {
 }
 
 // Appends a word, a name and an opening parenthesis.
-fn put_front(word: &str, name: &Bytes, out: &mut String) -> Result<(), NoMemory> {
+fn put_front(word: &str, name: &Bytes, out: &mut String) -> Result<(), AllocError> {
     out.push_str(word)?;
     put_shown(name.as_slice(), out)?;
-    Ok(out.push('(')?)
+    out.push('(')
 }
 
 // Appends arrays and a closing parenthesis.
-fn put_arrays(arrays: &[Array], out: &mut String) -> Result<(), NoMemory> {
+fn put_arrays(arrays: &[Array], out: &mut String) -> Result<(), AllocError> {
     for (index, array) in arrays.iter().enumerate() {
         out.push_str(if index == 0 { "" } else { ", " })?;
         put_array(array, out)?;
     }
-    Ok(out.push(')')?)
+    out.push(')')
 }
 
-fn put_array(array: &Array, out: &mut String) -> Result<(), NoMemory> {
+fn put_array(array: &Array, out: &mut String) -> Result<(), AllocError> {
     put_shown(array.name.as_slice(), out)?;
     for dim in array.dims.as_slice() {
         out.push('[')?;
@@ -138,27 +143,27 @@ fn put_array(array: &Array, out: &mut String) -> Result<(), NoMemory> {
     Ok(())
 }
 
-fn put_part(part: &Sent, out: &mut String) -> Result<(), NoMemory> {
+fn put_part(part: &Sent, out: &mut String) -> Result<(), AllocError> {
     write!(out, "{}.{}", part.decl, part.part)?;
     put_slabs(part.slabs.as_slice(), out)
 }
 
-fn put_fault(fault: &ProjectFault, out: &mut String) -> Result<(), NoMemory> {
+fn put_fault(fault: &ProjectFault, out: &mut String) -> Result<(), AllocError> {
     match fault {
         ProjectFault::NoSuchVariable(name) => put_refused(23, name, out),
         ProjectFault::SlabRank { name, got, rank } => {
             put_refused(24, name, out)?;
-            Ok(write!(out, ", {got} slabs for {rank}")?)
+            write!(out, ", {got} slabs for {rank}")
         }
         ProjectFault::SlabRange { name, dim, size } => {
             put_refused(25, name, out)?;
-            Ok(write!(out, ", slab {dim} of {size}")?)
+            write!(out, ", slab {dim} of {size}")
         }
         ProjectFault::SlabConflict(name) => put_refused(26, name, out),
     }
 }
 
-fn put_refused(code: u16, name: &Bytes, out: &mut String) -> Result<(), NoMemory> {
+fn put_refused(code: u16, name: &Bytes, out: &mut String) -> Result<(), AllocError> {
     write!(out, "refused {code} ")?;
-    Ok(put_shown(name.as_slice(), out)?)
+    put_shown(name.as_slice(), out)
 }

@@ -1,42 +1,46 @@
 //! Sessions: what they do over whole input, however it is cut, and at each of some events.
 
 use super::heads::put_request;
-use super::{known, only};
-use fm_base::NoMemory;
+use super::{allocated, known, only};
 use row_text::{Field, Row, bytes, content};
-use std::alloc::Global;
+use std::alloc::{AllocError, Global};
 use std::fmt::Write;
 use web_session::{Action, Asked, End, Event, Session};
 
 /// Puts what a session does over some input, a line for each action. Each reply has 5 bytes, of which at most 2 are
 /// sent at a time. Reads are left out: the input comes whole, and in pieces of at most 1 to 100 bytes.
-pub fn put_input(alloc: Global, row: &Row<'_>, out: &mut String) -> Result<bool, NoMemory> {
+pub fn put_input(alloc: Global, row: &Row<'_>, out: &mut String) -> Result<bool, AllocError> {
     match only(alloc, row, "input")? {
         Some(input) => known(put_all(alloc, input.as_slice(), out)),
         None => Ok(false),
     }
 }
 
-fn put_all(alloc: Global, input: &[u8], out: &mut String) -> Result<(), NoMemory> {
+fn put_all(alloc: Global, input: &[u8], out: &mut String) -> Result<(), AllocError> {
     put_actions(alloc, input, input.len(), out)?;
     for most in 1..101usize {
         if !is_done(alloc, input, most, out.as_str())? {
-            return Ok(write!(out, "\nbut not in pieces of {most} bytes")?);
+            return write!(out, "\nbut not in pieces of {most} bytes");
         }
     }
     Ok(())
 }
 
 // Whether this is what a session does over some input, of which it reads at most `most` bytes at a time.
-fn is_done(alloc: Global, input: &[u8], most: usize, want: &str) -> Result<bool, NoMemory> {
+fn is_done(alloc: Global, input: &[u8], most: usize, want: &str) -> Result<bool, AllocError> {
     let mut got = String::new(alloc);
     put_actions(alloc, input, most, &mut got)?;
     Ok(got.as_str() == want)
 }
 
 // Puts what a session does over some input, of which it reads at most `most` bytes at a time.
-fn put_actions(alloc: Global, input: &[u8], most: usize, out: &mut String) -> Result<(), NoMemory> {
-    let mut session = Session::new(alloc)?;
+fn put_actions(
+    alloc: Global,
+    input: &[u8],
+    most: usize,
+    out: &mut String,
+) -> Result<(), AllocError> {
+    let mut session = allocated(Session::new(alloc))?;
     let put = put_session(&mut session, input, most, out);
     drop(session);
     put
@@ -48,7 +52,7 @@ fn put_session(
     input: &[u8],
     most: usize,
     out: &mut String,
-) -> Result<(), NoMemory> {
+) -> Result<(), AllocError> {
     let mut left = input;
     let mut action = session.on(Event::Start);
     for _ in 0..1_000_000u32 {
@@ -87,11 +91,11 @@ fn after(session: &mut Session, action: Action) -> Action {
 }
 
 /// Puts what a session does at each of some events, a line for each, after requests that were answered before.
-pub fn put_events(alloc: Global, row: &Row<'_>, out: &mut String) -> Result<bool, NoMemory> {
+pub fn put_events(alloc: Global, row: &Row<'_>, out: &mut String) -> Result<bool, AllocError> {
     if !row.has_only(&["answered", "on", "on file"]) {
         return Ok(false);
     }
-    let mut session = Session::new(alloc)?;
+    let mut session = allocated(Session::new(alloc))?;
     let put = put_fields(alloc, &mut session, row, out);
     drop(session);
     put
@@ -102,7 +106,7 @@ fn put_fields(
     session: &mut Session,
     row: &Row<'_>,
     out: &mut String,
-) -> Result<bool, NoMemory> {
+) -> Result<bool, AllocError> {
     for field in &row.fields {
         if !put_field(alloc, session, field, out)? {
             return Ok(false);
@@ -117,7 +121,7 @@ fn put_field(
     session: &mut Session,
     field: &Field<'_>,
     out: &mut String,
-) -> Result<bool, NoMemory> {
+) -> Result<bool, AllocError> {
     let value = field.value.as_str();
     match field.key {
         "answered" => Ok(answer(session, value)),
@@ -146,7 +150,7 @@ fn put_after(
     session: &mut Session,
     text: &str,
     out: &mut String,
-) -> Result<bool, NoMemory> {
+) -> Result<bool, AllocError> {
     let (name, value) = text.split_once(' ').unwrap_or((text, ""));
     match bytes(alloc, value)? {
         Some(bytes) => put_on(session, event_of(name, value, bytes.as_slice()), out),
@@ -159,7 +163,7 @@ fn put_on(
     session: &mut Session,
     event: Option<Event<'_>>,
     out: &mut String,
-) -> Result<bool, NoMemory> {
+) -> Result<bool, AllocError> {
     let Some(event) = event else {
         return Ok(false);
     };
@@ -173,7 +177,7 @@ fn put_after_file(
     session: &mut Session,
     text: &str,
     out: &mut String,
-) -> Result<bool, NoMemory> {
+) -> Result<bool, AllocError> {
     match content(alloc, &[], text)? {
         Some(bytes) => put_on(session, Some(Event::Bytes(bytes.as_slice())), out),
         None => Ok(false),
@@ -196,32 +200,32 @@ fn event_of<'a>(name: &str, value: &str, bytes: &'a [u8]) -> Option<Event<'a>> {
 }
 
 // Appends an action as a line. A request has its target, and says whether the link ends after its reply.
-fn put_action(session: &Session, action: Action, out: &mut String) -> Result<(), NoMemory> {
+fn put_action(session: &Session, action: Action, out: &mut String) -> Result<(), AllocError> {
     out.push_str(if out.is_empty() { "" } else { "\n" })?;
     match action {
-        Action::Read(room) => write!(out, "read {room}")?,
-        Action::Ask(asked) => put_asked(session, asked, out)?,
-        Action::Send { from } => write!(out, "send from {from}")?,
-        Action::Close(end) => put_end(end, out)?,
+        Action::Read(room) => write!(out, "read {room}"),
+        Action::Ask(asked) => put_asked(session, asked, out),
+        Action::Send { from } => write!(out, "send from {from}"),
+        Action::Close(end) => put_end(end, out),
     }
-    Ok(())
 }
 
-fn put_asked(session: &Session, asked: Asked, out: &mut String) -> Result<(), NoMemory> {
+fn put_asked(session: &Session, asked: Asked, out: &mut String) -> Result<(), AllocError> {
     out.push_str("ask ")?;
-    match asked {
-        Asked::Head(request) => put_request(request, session.target(), out)?,
-        Asked::BadHead => out.push_str("bad head")?,
-        Asked::HeadTooLong => out.push_str("head too long")?,
-    }
-    Ok(out.push_str(if session.last() { ", the last" } else { "" })?)
+    let put = match asked {
+        Asked::Head(request) => put_request(request, session.target(), out),
+        Asked::BadHead => out.push_str("bad head"),
+        Asked::HeadTooLong => out.push_str("head too long"),
+    };
+    put?;
+    out.push_str(if session.last() { ", the last" } else { "" })
 }
 
-fn put_end(end: End, out: &mut String) -> Result<(), NoMemory> {
+fn put_end(end: End, out: &mut String) -> Result<(), AllocError> {
     out.push_str("close: ")?;
     match end {
-        End::Cut(begun) => Ok(write!(out, "cut after {begun}")?),
-        other => Ok(out.push_str(end_name(other))?),
+        End::Cut(begun) => write!(out, "cut after {begun}"),
+        other => out.push_str(end_name(other)),
     }
 }
 

@@ -1,15 +1,15 @@
 //! Targets, in a collection `gfs`.
 
-use super::known;
+use super::{allocated, known};
 use fm_base::{Bytes, Fail, NoMemory};
 use fm_model::{Site, ViewName};
 use row_text::{Row, put_shown};
-use std::alloc::Global;
+use std::alloc::{AllocError, Global};
 use std::fmt::Write;
 use web_path::{PathFault, Service, Target, read_target};
 
 /// Puts what a target asks for in the collection of an epoch, or its fault.
-pub fn put_target(alloc: Global, row: &Row<'_>, out: &mut String) -> Result<bool, NoMemory> {
+pub fn put_target(alloc: Global, row: &Row<'_>, out: &mut String) -> Result<bool, AllocError> {
     let Some(epoch) = epoch_of(row) else {
         return Ok(false);
     };
@@ -20,8 +20,8 @@ pub fn put_target(alloc: Global, row: &Row<'_>, out: &mut String) -> Result<bool
 }
 
 // Puts what a target asks for in the collection of an epoch.
-fn put_in(alloc: Global, epoch: i64, target: &[u8], out: &mut String) -> Result<(), NoMemory> {
-    let site = site_of(alloc, epoch)?;
+fn put_in(alloc: Global, epoch: i64, target: &[u8], out: &mut String) -> Result<(), AllocError> {
+    let site = allocated(site_of(alloc, epoch))?;
     let put = put_asked(alloc, target, &site, out);
     drop(site);
     put
@@ -44,7 +44,12 @@ fn site_of(alloc: Global, epoch: i64) -> Result<Site, NoMemory> {
     })
 }
 
-fn put_asked(alloc: Global, target: &[u8], site: &Site, out: &mut String) -> Result<(), NoMemory> {
+fn put_asked(
+    alloc: Global,
+    target: &[u8],
+    site: &Site,
+    out: &mut String,
+) -> Result<(), AllocError> {
     match read_target(alloc, target, site) {
         Ok(target) => {
             let put = put_read(&target, out);
@@ -52,17 +57,17 @@ fn put_asked(alloc: Global, target: &[u8], site: &Site, out: &mut String) -> Res
             put
         }
         Err(Fail::Fault(fault)) => put_fault(fault, out),
-        Err(Fail::NoMemory) => Err(NoMemory),
+        Err(Fail::NoMemory) => Err(AllocError),
     }
 }
 
-fn put_read(target: &Target, out: &mut String) -> Result<(), NoMemory> {
+fn put_read(target: &Target, out: &mut String) -> Result<(), AllocError> {
     out.push_str(service_name(target.service))?;
     put_view(target.view, out)?;
     out.push_str(", asks [")?;
     put_shown(target.constraint.as_slice(), out)?;
     out.push_str("], label ")?;
-    Ok(put_shown(target.label.as_slice(), out)?)
+    put_shown(target.label.as_slice(), out)
 }
 
 fn service_name(service: Service) -> &'static str {
@@ -73,22 +78,20 @@ fn service_name(service: Service) -> &'static str {
     }
 }
 
-fn put_view(view: ViewName, out: &mut String) -> Result<(), NoMemory> {
-    let put = match view {
+fn put_view(view: ViewName, out: &mut String) -> Result<(), AllocError> {
+    match view {
         ViewName::Best => out.push_str("best"),
         ViewName::BestFrom(offset) => write!(out, "best from {offset}"),
         ViewName::Run(instant) => write!(out, "run {instant}"),
         ViewName::Offset(offset) => write!(out, "offset {offset}"),
         ViewName::Forecast(instant) => write!(out, "forecast {instant}"),
-    };
-    Ok(put?)
+    }
 }
 
-fn put_fault(fault: PathFault, out: &mut String) -> Result<(), NoMemory> {
-    let put = match fault {
+fn put_fault(fault: PathFault, out: &mut String) -> Result<(), AllocError> {
+    match fault {
         PathFault::BadEscape(at) => write!(out, "refused 31 at {at}"),
         PathFault::NoSuchDataset => out.push_str("refused 32"),
         PathFault::NoSuchService => out.push_str("refused 33"),
-    };
-    Ok(put?)
+    }
 }

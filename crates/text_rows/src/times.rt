@@ -1,13 +1,13 @@
 //! Units of time, marks in the names of files, and instants.
 
-use super::{known, only};
-use fm_base::{Bytes, NoMemory};
+use super::{allocated, known, only};
+use fm_base::Bytes;
 use row_text::{Row, put_shown};
-use std::alloc::Global;
+use std::alloc::{AllocError, Global};
 use tm_units::{Units, UnitsFault, instant_text, read_instant, read_mark, read_units};
 
 /// Puts the units of a text, with a calendar or without one.
-pub fn put_units(alloc: Global, row: &Row<'_>, out: &mut String) -> Result<bool, NoMemory> {
+pub fn put_units(alloc: Global, row: &Row<'_>, out: &mut String) -> Result<bool, AllocError> {
     match row.bytes(alloc, "units")? {
         Some(text) => put_by_calendar(alloc, row, text.as_slice(), out),
         None => Ok(false),
@@ -20,7 +20,7 @@ fn put_by_calendar(
     row: &Row<'_>,
     text: &[u8],
     out: &mut String,
-) -> Result<bool, NoMemory> {
+) -> Result<bool, AllocError> {
     if row.has_each(&["units"]) {
         return put_read(read_units(text, None), out);
     }
@@ -33,28 +33,27 @@ fn put_by_calendar(
     }
 }
 
-fn put_read(units: Result<Units, UnitsFault>, out: &mut String) -> Result<bool, NoMemory> {
+fn put_read(units: Result<Units, UnitsFault>, out: &mut String) -> Result<bool, AllocError> {
     match units {
         Ok(units) => known(put_origin(units, out)),
         Err(fault) => known(put_fault(fault, out)),
     }
 }
 
-fn put_origin(units: Units, out: &mut String) -> Result<(), NoMemory> {
-    Ok(write!(out, "{} from {}", units.per, units.origin)?)
+fn put_origin(units: Units, out: &mut String) -> Result<(), AllocError> {
+    write!(out, "{} from {}", units.per, units.origin)
 }
 
-fn put_fault(fault: UnitsFault, out: &mut String) -> Result<(), NoMemory> {
-    let put = match fault {
+fn put_fault(fault: UnitsFault, out: &mut String) -> Result<(), AllocError> {
+    match fault {
         UnitsFault::BadUnits(at) => write!(out, "refused 15 at {at}"),
         UnitsFault::Calendar => out.push_str("refused 16"),
         UnitsFault::MixedCalendar => out.push_str("refused 17"),
-    };
-    Ok(put?)
+    }
 }
 
 /// Puts the moment behind a prefix in the name of a file.
-pub fn put_mark(alloc: Global, row: &Row<'_>, out: &mut String) -> Result<bool, NoMemory> {
+pub fn put_mark(alloc: Global, row: &Row<'_>, out: &mut String) -> Result<bool, AllocError> {
     if !row.has_each(&["mark", "after"]) {
         return Ok(false);
     }
@@ -70,7 +69,7 @@ fn put_mark_of(
     row: &Row<'_>,
     name: &[u8],
     out: &mut String,
-) -> Result<bool, NoMemory> {
+) -> Result<bool, AllocError> {
     match row.bytes(alloc, "after")? {
         Some(prefix) => put_seconds(read_mark(name, prefix.as_slice()), out),
         None => Ok(false),
@@ -78,29 +77,28 @@ fn put_mark_of(
 }
 
 /// Puts a number of seconds, or that there is none.
-pub fn put_seconds(seconds: Option<i64>, out: &mut String) -> Result<bool, NoMemory> {
+pub fn put_seconds(seconds: Option<i64>, out: &mut String) -> Result<bool, AllocError> {
     let put = match seconds {
         Some(seconds) => write!(out, "{seconds}"),
         None => out.push_str("none"),
     };
-    put?;
-    Ok(true)
+    known(put)
 }
 
 /// Puts the instant of a text, and how it is written.
-pub fn put_instant(alloc: Global, row: &Row<'_>, out: &mut String) -> Result<bool, NoMemory> {
+pub fn put_instant(alloc: Global, row: &Row<'_>, out: &mut String) -> Result<bool, AllocError> {
     match only(alloc, row, "instant")? {
         Some(text) => put_written(alloc, text.as_slice(), out),
         None => Ok(false),
     }
 }
 
-fn put_written(alloc: Global, text: &[u8], out: &mut String) -> Result<bool, NoMemory> {
+fn put_written(alloc: Global, text: &[u8], out: &mut String) -> Result<bool, AllocError> {
     let Some(seconds) = read_instant(text) else {
         return put_seconds(None, out);
     };
     let mut written = Bytes::new(alloc);
-    instant_text(alloc, seconds, &mut written)?;
+    allocated(instant_text(alloc, seconds, &mut written))?;
     write!(out, "{seconds}, written ")?;
     put_shown(written.as_slice(), out)?;
     Ok(true)

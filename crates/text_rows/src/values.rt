@@ -2,16 +2,16 @@
 ghost use Rattle.nc_model.specs.Pattern.{IsPattern};
 
 use super::times::put_seconds;
-use super::{known, only};
-use fm_base::{Bytes, NoMemory};
+use super::{allocated, known, only};
+use fm_base::Bytes;
 use fm_bits::{pattern_at, put_quoted, text_of, whole_seconds};
 use nc_model::{Kind, Pattern};
 use row_text::{Row, hex, put_shown};
-use std::alloc::Global;
+use std::alloc::{AllocError, Global};
 
 /// Puts the text of a value, or its whole seconds in a unit of `per` seconds. The value is a kind's name and the bytes
 /// in hexadecimal digits behind it.
-pub fn put_value(alloc: Global, row: &Row<'_>, out: &mut String) -> Result<bool, NoMemory> {
+pub fn put_value(alloc: Global, row: &Row<'_>, out: &mut String) -> Result<bool, AllocError> {
     let text = row.value("value").unwrap_or("");
     let (name, digits) = text.split_once(' ').unwrap_or((text, ""));
     let Some(kind) = kind_of(name) else {
@@ -29,9 +29,9 @@ fn put_bits(
     kind: Kind,
     bits: &[u8],
     out: &mut String,
-) -> Result<bool, NoMemory> {
+) -> Result<bool, AllocError> {
     let Some(pattern) = pattern_at(kind, bits) else {
-        return known(put_none(out));
+        return known(out.push_str("no pattern"));
     };
     if row.has_each(&["value"]) {
         return known(put_text_of(alloc, pattern, out));
@@ -42,17 +42,13 @@ fn put_bits(
     }
 }
 
-fn put_none(out: &mut String) -> Result<(), NoMemory> {
-    Ok(out.push_str("no pattern")?)
-}
-
 // Puts the text of a pattern.
-fn put_text_of(alloc: Global, pattern: Pattern, out: &mut String) -> Result<(), NoMemory>
+fn put_text_of(alloc: Global, pattern: Pattern, out: &mut String) -> Result<(), AllocError>
     requires { IsPattern pattern }
 {
     let mut text = Bytes::new(alloc);
-    text_of(alloc, pattern, &mut text)?;
-    Ok(put_shown(text.as_slice(), out)?)
+    allocated(text_of(alloc, pattern, &mut text))?;
+    put_shown(text.as_slice(), out)
 }
 
 // The seconds of the unit of a row that has one beside its value.
@@ -77,15 +73,15 @@ fn kind_of(name: &str) -> Option<Kind> {
 }
 
 /// Puts a text between quotation marks.
-pub fn put_quote(alloc: Global, row: &Row<'_>, out: &mut String) -> Result<bool, NoMemory> {
+pub fn put_quote(alloc: Global, row: &Row<'_>, out: &mut String) -> Result<bool, AllocError> {
     match only(alloc, row, "quoted")? {
         Some(text) => known(put_between(alloc, text.as_slice(), out)),
         None => Ok(false),
     }
 }
 
-fn put_between(alloc: Global, text: &[u8], out: &mut String) -> Result<(), NoMemory> {
+fn put_between(alloc: Global, text: &[u8], out: &mut String) -> Result<(), AllocError> {
     let mut quoted = Bytes::new(alloc);
-    put_quoted(alloc, text, &mut quoted)?;
-    Ok(put_shown(quoted.as_slice(), out)?)
+    allocated(put_quoted(alloc, text, &mut quoted))?;
+    put_shown(quoted.as_slice(), out)
 }

@@ -1,23 +1,28 @@
 //! Words of a command, which stand between bars: their job, the text that they ask for, and why they are no job.
 
-use super::known;
+use super::{allocated, known};
 use fm_base::{Bytes, Fail, List, NoMemory};
 use fm_model::Site;
 use row_text::{Row, put_shown};
 use srv_words::{Job, Serving, Step, read_job, reason_of, text_asked};
-use std::alloc::Global;
+use std::alloc::{AllocError, Global};
 use std::fmt::Write;
 
 /// Puts the job of words, whether the text that they ask for has a part, or why they are no job.
-pub fn put_words(alloc: Global, row: &Row<'_>, out: &mut String) -> Result<bool, NoMemory> {
+pub fn put_words(alloc: Global, row: &Row<'_>, out: &mut String) -> Result<bool, AllocError> {
     match row.bytes(alloc, "words")? {
         Some(line) => put_line(alloc, line.as_slice(), row, out),
         None => Ok(false),
     }
 }
 
-fn put_line(alloc: Global, line: &[u8], row: &Row<'_>, out: &mut String) -> Result<bool, NoMemory> {
-    let words = words_of(alloc, line)?;
+fn put_line(
+    alloc: Global,
+    line: &[u8],
+    row: &Row<'_>,
+    out: &mut String,
+) -> Result<bool, AllocError> {
+    let words = allocated(words_of(alloc, line))?;
     match row.value("shows") {
         None if row.has_each(&["words"]) => put_read(alloc, &words, out),
         None if row.has_each(&["words", "says"]) => put_reason(alloc, &words, out),
@@ -32,9 +37,9 @@ fn put_found(
     words: &List<Bytes>,
     part: &str,
     out: &mut String,
-) -> Result<bool, NoMemory> {
-    let text = text_asked(alloc, words)?;
-    known(put_plain(found_in(text, part), out))
+) -> Result<bool, AllocError> {
+    let text = allocated(text_asked(alloc, words))?;
+    known(out.push_str(found_in(text, part)))
 }
 
 // Whether a text that was asked for has a part.
@@ -47,17 +52,13 @@ fn found_in(text: Option<String>, part: &str) -> &'static str {
 }
 
 // Puts why words are no job: the line that a person is shown.
-fn put_reason(alloc: Global, words: &List<Bytes>, out: &mut String) -> Result<bool, NoMemory> {
-    let line = reason_of(alloc, words)?;
-    known(put_plain(line.as_str(), out))
-}
-
-fn put_plain(text: &str, out: &mut String) -> Result<(), NoMemory> {
-    Ok(out.push_str(text)?)
+fn put_reason(alloc: Global, words: &List<Bytes>, out: &mut String) -> Result<bool, AllocError> {
+    let line = allocated(reason_of(alloc, words))?;
+    known(out.push_str(line.as_str()))
 }
 
 /// Puts the job of no words, or why they are none.
-pub fn put_no_words(alloc: Global, row: &Row<'_>, out: &mut String) -> Result<bool, NoMemory> {
+pub fn put_no_words(alloc: Global, row: &Row<'_>, out: &mut String) -> Result<bool, AllocError> {
     if row.has_each(&["no words"]) {
         put_read(alloc, &List::new(alloc), out)
     } else if row.has_each(&["no words", "says"]) {
@@ -75,30 +76,30 @@ fn words_of(alloc: Global, line: &[u8]) -> Result<List<Bytes>, NoMemory> {
     Ok(words)
 }
 
-fn put_read(alloc: Global, words: &List<Bytes>, out: &mut String) -> Result<bool, NoMemory> {
+fn put_read(alloc: Global, words: &List<Bytes>, out: &mut String) -> Result<bool, AllocError> {
     known(put_job_of(alloc, words, out))
 }
 
-fn put_job_of(alloc: Global, words: &List<Bytes>, out: &mut String) -> Result<(), NoMemory> {
+fn put_job_of(alloc: Global, words: &List<Bytes>, out: &mut String) -> Result<(), AllocError> {
     match read_job(alloc, words) {
         Ok(job) => {
             let put = put_job(&job, out);
             drop(job);
             put
         }
-        Err(Fail::Fault(_)) => Ok(out.push_str("bad words")?),
-        Err(Fail::NoMemory) => Err(NoMemory),
+        Err(Fail::Fault(_)) => out.push_str("bad words"),
+        Err(Fail::NoMemory) => Err(AllocError),
     }
 }
 
-fn put_job(job: &Job, out: &mut String) -> Result<(), NoMemory> {
+fn put_job(job: &Job, out: &mut String) -> Result<(), AllocError> {
     match job {
         Job::Once { site, proto, steps } => {
             put_command("once", site, proto, out)?;
             put_steps(steps.as_slice(), out)
         }
         Job::Check { path } => put_text("check", path, out),
-        Job::Load { seed, files } => Ok(write!(out, "load {seed} {files}")?),
+        Job::Load { seed, files } => write!(out, "load {seed} {files}"),
         Job::Serve(serving) => {
             put_command("serve", &serving.site, &serving.proto, out)?;
             put_serving(serving, out)
@@ -112,13 +113,13 @@ fn put_command(
     site: &Site,
     proto: &Bytes,
     out: &mut String,
-) -> Result<(), NoMemory> {
+) -> Result<(), AllocError> {
     out.push_str(command)?;
     put_site(site, out)?;
     put_text(" proto", proto, out)
 }
 
-fn put_steps(steps: &[Step], out: &mut String) -> Result<(), NoMemory> {
+fn put_steps(steps: &[Step], out: &mut String) -> Result<(), AllocError> {
     for step in steps {
         put_step(step, out)?;
     }
@@ -126,29 +127,29 @@ fn put_steps(steps: &[Step], out: &mut String) -> Result<(), NoMemory> {
 }
 
 // A key and a text in brackets.
-fn put_text(key: &str, text: &Bytes, out: &mut String) -> Result<(), NoMemory> {
+fn put_text(key: &str, text: &Bytes, out: &mut String) -> Result<(), AllocError> {
     out.push_str(key)?;
     out.push_str(" [")?;
     put_shown(text.as_slice(), out)?;
-    Ok(out.push(']')?)
+    out.push(']')
 }
 
-fn put_site(site: &Site, out: &mut String) -> Result<(), NoMemory> {
+fn put_site(site: &Site, out: &mut String) -> Result<(), AllocError> {
     put_text(" name", &site.name, out)?;
     write!(out, " epoch {}", site.epoch)?;
     put_text(" mark", &site.mark, out)
 }
 
-fn put_step(step: &Step, out: &mut String) -> Result<(), NoMemory> {
+fn put_step(step: &Step, out: &mut String) -> Result<(), AllocError> {
     match step {
         Step::Put(path) => put_text(" put", path, out),
-        Step::Expire(cutoff) => Ok(write!(out, " expire {cutoff}")?),
+        Step::Expire(cutoff) => write!(out, " expire {cutoff}"),
         Step::Retract(name) => put_text(" retract", name, out),
-        Step::Ask(count) => Ok(write!(out, " ask {count}")?),
+        Step::Ask(count) => write!(out, " ask {count}"),
     }
 }
 
-fn put_serving(serving: &Serving, out: &mut String) -> Result<(), NoMemory> {
+fn put_serving(serving: &Serving, out: &mut String) -> Result<(), AllocError> {
     put_text(" listen", &serving.listen, out)?;
     write!(
         out,
@@ -160,15 +161,14 @@ fn put_serving(serving: &Serving, out: &mut String) -> Result<(), NoMemory> {
     put_inboxes(serving.inboxes.as_slice(), out)
 }
 
-fn put_clock(keep: Option<u32>, out: &mut String) -> Result<(), NoMemory> {
-    let put = match keep {
+fn put_clock(keep: Option<u32>, out: &mut String) -> Result<(), AllocError> {
+    match keep {
         Some(seconds) => write!(out, " keep {seconds}"),
         None => out.push_str(" no clock"),
-    };
-    Ok(put?)
+    }
 }
 
-fn put_inboxes(inboxes: &[Bytes], out: &mut String) -> Result<(), NoMemory> {
+fn put_inboxes(inboxes: &[Bytes], out: &mut String) -> Result<(), AllocError> {
     for inbox in inboxes {
         put_text(" from", inbox, out)?;
     }

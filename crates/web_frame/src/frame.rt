@@ -7,9 +7,10 @@ ghost use Rattle.web_frame.specs.Stream as spec;
 use crate::blank::skip_blank;
 use crate::head::read_head;
 use crate::limit::MAX_HEAD;
+use crate::packed::PackedFrame;
 use crate::request::Request;
 use crate::unread::Unread;
-use fm_base::NoMemory;
+use fm_base::{Bytes, NoMemory};
 use httparse::spans::Span;
 use std::alloc::Global;
 use std::marker::Model;
@@ -122,6 +123,28 @@ impl Frame {
             None if held < MAX_HEAD => Next::Need,
             None => Next::HeadTooLong,
         }
+    }
+
+    /// The same bytes, in no more memory than they take.
+    pub fn packed(&self, alloc: Global) -> Result<PackedFrame, NoMemory>
+        ensures { IfOk result (λ packed. packed ≡ self.now) }
+    {
+        // No more is held than a head may have.
+        let _held = self.unread.len();
+        Ok(PackedFrame {
+            bytes: Bytes::copy_of(alloc, self.unread.as_slice())?,
+            given: self.given,
+            target: self.target,
+        })
+    }
+
+    /// Holds what is packed, in place of what it held.
+    pub fn unpack(&mut self, packed: &PackedFrame)
+        ensures { self.new ≡ packed.now }
+    {
+        self.unread.replace(packed.bytes.as_slice());
+        self.given = packed.given;
+        self.target = packed.target;
     }
 
     /// How many bytes of a head that hasn't ended are held: those after the head that was given last, without the empty

@@ -7,6 +7,7 @@ mod frame;
 mod head;
 pub mod laws;
 mod limit;
+mod packed;
 mod request;
 mod scan;
 mod store;
@@ -15,4 +16,5 @@ mod word;
 
 pub use frame::{Frame, Next};
 pub use limit::{MAX_FIELDS, MAX_HEAD};
+pub use packed::PackedFrame;
 pub use request::{Method, Request};

@@ -93,4 +93,14 @@ impl Store {
     {
         self.start += count;
     }
+
+    /// Holds these bytes in place of those before.
+    pub fn replace(&mut self, piece: &[u8])
+        requires { length piece.now ≤ MAX_HEAD }
+        ensures { self.new ≡ piece.now }
+    {
+        put_at(self.bytes.as_mut_slice(), 0, piece);
+        self.start = 0;
+        self.end = piece.len();
+    }
 }

@@ -76,6 +76,17 @@ impl Unread {
         }
     }
 
+    /// Holds these bytes in place of those before.
+    #[tactic(auto, unfolding(crate::specs::Scan::state_past))]
+    pub fn replace(&mut self, piece: &[u8])
+        requires { length piece.now ≤ MAX_HEAD }
+        ensures { self.new ≡ piece.now }
+    {
+        self.scanned = 0;
+        self.state = State::Before;
+        self.store.replace(piece);
+    }
+
     /// How many bytes the first head has, with the empty lines before it. No byte is looked at twice until bytes are
     /// taken off.
     pub fn head_len(&mut self) -> Option<usize>

@@ -109,5 +109,3 @@ none_not_same text n r h parsed other =
 
 pub some_same : (text : List ℕ) (n : ℤ) → FitsSigned w64 n → text ≡ signed_decimal n → Some n ≡ seconds_of text
 some_same text n fits is = sym (seconds_of-decimal n text (fits_if_fitting n fits) is)
-
-pub ruleset numbers = (none_not_utf8, none_not_parsed, none_not_same, some_same)

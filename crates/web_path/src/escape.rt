@@ -13,7 +13,6 @@ fn begins_with_two_digits(bytes: &[u8]) -> bool
 }
 
 // The offset of the first `%` without two hexadecimal digits after it.
-#[tactic(auto, using(crate::proofs::ScanLemmas::scans))]
 pub(crate) fn bad_escape(bytes: &[u8]) -> Option<usize>
     ensures { result ≡ spec.bad_escape bytes.now }
 {

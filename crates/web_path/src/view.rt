@@ -36,7 +36,6 @@ fn is_decimal(number: i64, text: &[u8]) -> bool
 }
 
 // The number of which a text is the decimal.
-#[tactic(auto, using(crate::proofs::NumberLemmas::numbers))]
 fn seconds_in(text: &[u8]) -> Option<i64>
     ensures { result ≡ spec.seconds_of text.now }
 {

@@ -1,4 +1,3 @@
-pub mod IdleLemmas
 pub mod LookLemmas
 pub mod ReplyLemmas
 pub mod RunLaws

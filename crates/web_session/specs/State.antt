@@ -28,20 +28,6 @@ pub record State : Type 0 where
 abbrev pub fresh : State
 fresh = record { phase = Waiting; held = record { head = []; rest = [] }; before = 0 }
 
--- a session that waits for bytes and holds none, after this number of replies
-abbrev pub idle_after : ℕ → State
-idle_after before = record fresh { before = before }
-
--- how many replies a session sent, where it waits for bytes and holds none
-abbrev pub idle_at : Phase → Held → ℕ → Option ℕ
-idle_at Waiting held before = if held_len held == 0 then Some before else None
-idle_at (Asking asked) held before = None
-idle_at (Sending asked from len) held before = None
-idle_at (Ended end) held before = None
-
-unfoldable pub idle_of : State → Option ℕ
-idle_of s = idle_at s.phase s.held s.before
-
 -- the next action: a read where no head is whole, then an answer to a head, then the unsent bytes of its reply
 abbrev pub action_at : Phase → Held → Action
 action_at Waiting held = Read (MAX_HEAD - held_len held)

@@ -5,11 +5,13 @@
 mod action;
 mod event;
 pub mod laws;
+mod packed;
 mod phase;
 mod session;
 
 pub use action::{Action, Asked, End};
 pub use event::Event;
+pub use packed::PackedSession;
 pub use phase::MAX_REPLIES;
 pub use session::Session;
 pub use web_frame::{MAX_HEAD, Method, Request};

@@ -1,5 +1,5 @@
 //! One connection.
-ghost use Rattle.std.specs.Prelude.{◌≡◌, ◌<◌, IfOk};
+ghost use Rattle.std.specs.Prelude.{◌≡◌, ◌<◌, IfOk, IfSome};
 ghost use Rattle.web_frame.specs.Items.{item_of};
 ghost use Rattle.web_frame.specs.Stream.{held_after, next_of, target_in};
 ghost use Rattle.web_session.specs.Event as step;
@@ -7,6 +7,7 @@ ghost use Rattle.web_session.specs.State as spec;
 
 use crate::action::{Action, Asked, End};
 use crate::event::Event;
+use crate::packed::PackedSession;
 use crate::phase::{MAX_REPLIES, Phase};
 use fm_base::NoMemory;
 use std::alloc::Global;
@@ -61,38 +62,42 @@ fn look(frame: &mut Frame) -> Phase
 }
 
 impl Session {
+    #[tactic(auto, unfolding(crate::specs::State::is_sound))]
     pub fn new(alloc: Global) -> Result<Session, NoMemory>
         ensures { IfOk result (λ session. session ≡ spec.fresh) }
-    {
-        Session::resumed(alloc, 0)
-    }
-
-    /// A session that waits for bytes and holds none, after this number of replies.
-    #[tactic(auto, unfolding(crate::specs::State::is_sound))]
-    pub fn resumed(alloc: Global, before: u32) -> Result<Session, NoMemory>
-        requires { before < MAX_REPLIES }
-        ensures { IfOk result (λ session. session ≡ spec.idle_after before) }
     {
         Ok(Session {
             frame: Frame::new(alloc)?,
             phase: Phase::Waiting,
-            before,
+            before: 0,
         })
     }
 
-    /// How many replies were sent, where the session waits for bytes and holds none: then it may be dropped, and
-    /// `resumed` makes the same one.
-    #[tactic(auto, unfolding(crate::specs::State::idle_of), using(crate::proofs::IdleLemmas::idles))]
-    pub fn idle(&self) -> Option<u32>
-        ensures { result ≡ spec.idle_of self.now }
+    /// The same session, in no more memory than its bytes take. `None` where there is no memory for it, or a head has
+    /// begun that isn't whole, of which each byte is looked at once.
+    pub fn packed(&self, alloc: Global) -> Option<PackedSession>
+        ensures { IfSome result (λ packed. packed ≡ self.now) }
     {
-        if self.frame.room() < MAX_HEAD {
+        if matches!(self.phase, Phase::Waiting) && self.frame.room() < MAX_HEAD {
             return None;
         }
-        match self.phase {
-            Phase::Waiting => Some(self.before),
-            Phase::Asking(_) | Phase::Sending { .. } | Phase::Ended(_) => None,
+        match self.frame.packed(alloc) {
+            Ok(frame) => Some(PackedSession {
+                frame,
+                phase: self.phase,
+                before: self.before,
+            }),
+            Err(NoMemory) => None,
         }
+    }
+
+    /// Becomes the session that is packed.
+    pub fn unpack(&mut self, packed: &PackedSession)
+        ensures { self.new ≡ packed.now }
+    {
+        self.frame.unpack(&packed.frame);
+        self.phase = packed.phase;
+        self.before = packed.before;
     }
 
     // The reply that was asked for is whole.

@@ -1,11 +1,23 @@
 //! The clock of the machine.
 
-use dev_host::RealClock;
+use dev_host::{RealClock, Teller};
 use dev_traits::{Clock, Expiry};
 use std::time::Duration;
 
+type HostClock = RealClock<HostRuntime, Teller<HostRuntime>>;
+
+// A clock of these ticks, a millisecond apart, whose lines are left out.
+fn clock_of(rt: HostRuntime, ticks: u32) -> HostClock {
+    RealClock::new(
+        rt,
+        Teller::new(rt, rt.stderr(), true),
+        ticks,
+        Duration::from_millis(1),
+    )
+}
+
 // Whether two moments come, the second not before the first, and the clock then ends.
-fn gives_two(clock: &mut RealClock<HostRuntime>) -> bool {
+fn gives_two(clock: &mut HostClock) -> bool {
     let first = clock.next();
     clock.settle(Expiry::Idle(0));
     let second = clock.next();
@@ -20,11 +32,11 @@ fn gives_two(clock: &mut RealClock<HostRuntime>) -> bool {
 
 #[test]
 fn a_clock_gives_its_moments_and_ends(rt: HostRuntime) {
-    assert!(rt; gives_two(&mut RealClock::new(rt, 2, Duration::from_millis(1))));
+    assert!(rt; gives_two(&mut clock_of(rt, 2)));
 }
 
 // Whether five moments come.
-fn goes_on(clock: &mut RealClock<HostRuntime>) -> bool {
+fn goes_on(clock: &mut HostClock) -> bool {
     for _ in 0..5 {
         if clock.next().is_none() {
             return false;
@@ -35,5 +47,5 @@ fn goes_on(clock: &mut RealClock<HostRuntime>) -> bool {
 
 #[test]
 fn a_clock_without_end_goes_on(rt: HostRuntime) {
-    assert!(rt; goes_on(&mut RealClock::new(rt, 0, Duration::from_millis(1))));
+    assert!(rt; goes_on(&mut clock_of(rt, 0)));
 }

@@ -1,7 +1,7 @@
 //! Doors at sockets of the loopback device.
 
 use super::echoing::serve;
-use dev_host::{Patience, Stops, TcpDoor, TcpLink};
+use dev_host::{Patience, Stops, TcpDoor, TcpLink, Teller};
 use dev_traits::{Coming, Door, Failed};
 use std::alloc::Global;
 use std::io::{Read, Write};
@@ -17,7 +17,7 @@ pub(crate) const LONG: u64 = 20_000;
 pub(crate) const SHORT: u64 = 300;
 
 // A door of the machine, and a link that comes through it.
-pub(crate) type HostDoor = TcpDoor<HostRuntime>;
+pub(crate) type HostDoor = TcpDoor<HostRuntime, Teller<HostRuntime>>;
 
 pub(crate) type HostLink = TcpLink<HostRuntime>;
 

@@ -1,7 +1,7 @@
 //! What the machine opens.
 
 use super::doors::{HostDoor, next_link};
-use dev_host::{HostOpener, RealOpener, Teller, host_world};
+use dev_host::{HostOpener, RealOpener, Teller, connections_left, host_world};
 use dev_traits::{Clock, Door, Inbox, Opener};
 use fm_base::List;
 use std::alloc::Global;
@@ -199,12 +199,15 @@ fn opens_a_clock(opener: &mut HostOpener) -> bool {
 fn is_closed(rt: HostRuntime) -> bool {
     let mut world = host_world(rt, &List::new(rt.alloc()));
     let is_empty = world.doors.is_empty() && world.inboxes.is_empty() && world.clocks.is_empty();
-    let holds = is_empty && opens_a_clock(&mut world.opener);
-    drop(world);
-    holds
+    is_empty && opens_a_clock(&mut world.opener)
 }
 
 #[test]
 fn a_world_of_a_process_opens_a_clock(rt: HostRuntime) {
     assert!(rt; is_closed(rt));
+}
+
+#[test]
+fn a_process_that_is_open_nowhere_has_room_for_connections(rt: HostRuntime) {
+    assert!(rt; connections_left(&rt, rt.alloc()).unwrap_or(0) > 0);
 }

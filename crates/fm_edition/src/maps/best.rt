@@ -1,14 +1,15 @@
 //! The rows of the best time series, kept page by page, so that many replies share them.
-ghost use Rattle.std.specs.Prelude.{◌≡◌, ◌≢◌, ◌<◌, ◌≤◌, ◌^◌, ℤ, All, IfOk, OnOk, None, Some, false, if◌then◌else◌, length, take, true};
+ghost use Rattle.std.specs.Prelude.{◌≡◌, ◌≢◌, ◌<◌, ◌≤◌, ◌++◌, ◌^◌, ℤ, All, IfOk, OnOk, None, Some, false, if◌then◌else◌, length, take, true};
 ghost use Rattle.std.specs.BTreeMap as tree;
 ghost use Rattle.std.specs.List.{filter_map};
 ghost use Rattle.std.specs.Ordering.{int_cmp, int_eq};
 ghost use Rattle.fm_edition.specs.Indexes as spec;
 
+use crate::maps::keeping::{count_keeping, push_keeping};
 use crate::maps::page_rows::PageRows;
 use crate::maps::pages::{Page, Pages, page_of};
 use crate::maps::shared::Shared;
-use crate::maps::walk::{count_page, push_page};
+use crate::maps::walk::{count_page, each_one, push_page};
 use crate::maps::wanted::Wanted;
 use fm_base::{Arc, List, NoMemory};
 use fm_model::Row;
@@ -29,6 +30,15 @@ fn rows_of(alloc: Global, page: &Page, least: Option<i64>) -> Result<List<Row>, 
     Ok(rows)
 }
 
+// What is kept of a page.
+fn kept_of(alloc: Global, page: &Page) -> Result<PageRows, NoMemory>
+    requires { All spec.IsTimed page.now.entries }
+    ensures { IfOk result (λ kept. kept ≡ spec.page_rows page.now) }
+{
+    let rows = rows_of(alloc, page, None)?;
+    PageRows::new(alloc, rows, each_one(page))
+}
+
 // Makes the rows of the page of a number anew. Where there is no such page, there are no rows.
 fn set_rows(alloc: Global, best: &mut RowPages, pages: &Pages, number: i64) -> Result<(), NoMemory>
     requires best { tree.IsOrdered int_cmp best.old }
@@ -40,7 +50,7 @@ fn set_rows(alloc: Global, best: &mut RowPages, pages: &Pages, number: i64) -> R
 {
     match pages.get(&number) {
         Some(page) => {
-            let rows = PageRows::new(alloc, rows_of(alloc, page.get(), None)?)?;
+            let rows = kept_of(alloc, page.get())?;
             best.insert(number, Shared::new(alloc, rows)?)?;
         }
         None => {
@@ -95,21 +105,27 @@ fn kept_page<'a>(best: &'a RowPages, number: &i64) -> &'a PageRows
     }
 }
 
-// The rows of a page with a least offset: those that are kept, where they keep it.
-fn rows_from(
+// Adds the rows of a page with a least offset. Where the kept rows keep it, or no other file can take the place of one
+// that doesn't, those that keep it are shared.
+fn push_from(
     alloc: Global,
+    rows: &mut Rows,
     kept: &PageRows,
     page: &Page,
     least: Option<i64>,
-) -> Result<Arc<List<Row>>, NoMemory>
+) -> Result<(), NoMemory>
     requires kept { kept.now ≡ spec.page_rows page.now }
     requires timed { All spec.IsTimed page.now.entries }
-    ensures { IfOk result (λ rows. rows ≡ filter_map (spec.best_of_entry least) page.now.entries) }
+    ensures { OnOk result (rows.new ≡ rows.old ++ filter_map (spec.best_of_entry least) page.now.entries) }
 {
     if kept.keeps(least) {
-        return kept.share();
+        return rows.push(kept.share()?);
     }
-    Arc::new(alloc, rows_of(alloc, page, least)?)
+    if kept.is_alone() {
+        return push_keeping(rows, kept, least);
+    }
+    let made = rows_of(alloc, page, least)?;
+    rows.push(Arc::new(alloc, made)?)
 }
 
 // How many rows a page has with a least offset.
@@ -121,6 +137,9 @@ fn count_from(kept: &PageRows, page: &Page, least: Option<i64>) -> usize
 {
     if kept.keeps(least) {
         return kept.len();
+    }
+    if kept.is_alone() {
+        return count_keeping(kept.get(), least);
     }
     count_page(page, Wanted::Best(least))
 }
@@ -139,7 +158,7 @@ pub(crate) fn best_rows(
 {
     let mut rows = Rows::new(alloc);
     for (number, page) in pages {
-        rows.push(rows_from(alloc, kept_page(best, number), page.get(), least)?)?;
+        push_from(alloc, &mut rows, kept_page(best, number), page.get(), least)?;
     }
     Ok(rows)
 }

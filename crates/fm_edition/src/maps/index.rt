@@ -2,13 +2,15 @@
 ghost use Rattle.std.specs.Prelude.{◌≡◌, [], ℤ, IfOk, false};
 ghost use Rattle.std.specs.BTreeMap as tree;
 ghost use Rattle.std.specs.Ordering.{int_cmp};
+ghost use Rattle.fm_list.specs.Selected.{AreOwn};
 ghost use Rattle.fm_edition.specs.Indexes as spec;
 
 use crate::maps::Edition;
 use crate::maps::best::{RowPages, best_after};
 use crate::maps::pages::{Change, Pages, pages_after};
 use crate::plain_list::instants::instants_in;
-use fm_base::NoMemory;
+use fm_base::{List, NoMemory};
+use fm_list::change::changed;
 use fm_list::{By, Placed};
 use fm_model::Op;
 use std::alloc::Global;
@@ -35,6 +37,15 @@ pub(crate) fn no_maps(alloc: Global) -> Index
     }
 }
 
+// The instants by which the file is found that an operation adds.
+fn own_of(alloc: Global, by: By, op: &Op) -> Result<List<i64>, NoMemory>
+    ensures { IfOk result (λ own. AreOwn by op.now own) }
+{
+    let added = changed(List::new(alloc), op)?;
+    let own = instants_in(alloc, by, added.as_slice())?;
+    Ok(own)
+}
+
 // The pages after an operation that touches some instants.
 fn after_change(
     alloc: Global,
@@ -50,7 +61,14 @@ fn after_change(
     ensures same { IfOk result (λ next. (number : ℤ) → spec.touches touched.now number ≡ false
         → tree.get int_cmp next number ≡ tree.get int_cmp pages.now number) }
 {
-    pages_after(alloc, pages, &Change { by, op, touched })
+    let own = own_of(alloc, by, op)?;
+    let change = Change {
+        by,
+        op,
+        touched,
+        own: own.as_slice(),
+    };
+    pages_after(alloc, pages, &change)
 }
 
 // The pages after an operation that takes out and adds some files.

@@ -7,12 +7,13 @@ use fm_model::Row;
 use std::alloc::Global;
 use std::marker::Model;
 
-/// The rows of a page, and the least number of seconds that the valid time of one lies after its run. A clause sees the
-/// rows alone.
+/// The rows of a page, the least number of seconds that the valid time of one lies after its run, and whether each
+/// valid time of the page is that of one file. A clause sees the rows and the last.
 #[derive(Drop)]
 pub(crate) struct PageRows {
     rows: Arc<List<Row>>,
     least: i128,
+    alone: bool,
 }
 
 fn lesser(one: i128, other: i128) -> i128
@@ -34,13 +35,12 @@ fn least_of(rows: &[Row]) -> i128
 }
 
 impl Model for PageRows {
-    ghost use Rattle.std.specs.Prelude.{List};
-    ghost use Rattle.fm_model.specs.declared.row.Row.{Row as TheRow};
+    ghost use Rattle.fm_edition.specs.Kept.{KeptRows};
     ghost use Rattle.fm_edition.specs.Least.{LieAfter};
 
-    ghost Value = { List TheRow };
+    ghost Value = { KeptRows };
 
-    ghost view = { λ page. page.rows };
+    ghost view = { λ page. record { rows = page.rows; alone = page.alone } };
 
     ghost invariant = { λ page. LieAfter page.least page.rows };
 }
@@ -49,32 +49,47 @@ impl PageRows {
     ghost use Rattle.std.specs.Prelude.{◌≡◌, IfOk, IsTrue, length};
     ghost use Rattle.fm_edition.specs.Least.{KeepLeast};
 
-    pub(crate) fn new(alloc: Global, rows: List<Row>) -> Result<PageRows, NoMemory>
-        ensures { IfOk result (λ page. page ≡ rows) }
+    pub(crate) fn new(alloc: Global, rows: List<Row>, alone: bool) -> Result<PageRows, NoMemory>
+        ensures { IfOk result (λ page. page ≡ record { rows = rows; alone = alone }) }
     {
         let least = least_of(rows.as_slice());
         Ok(PageRows {
             rows: Arc::new(alloc, rows)?,
             least,
+            alone,
         })
     }
 
     pub(crate) fn len(&self) -> usize
-        ensures { result ≡ length self.now }
+        ensures { result ≡ length self.now.rows }
     {
         self.rows.get().len()
     }
 
+    // The rows.
+    pub(crate) fn get(&self) -> &[Row]
+        ensures { result.now ≡ self.now.rows }
+    {
+        self.rows.get().as_slice()
+    }
+
+    // Whether each valid time of the page is that of one file.
+    pub(crate) fn is_alone(&self) -> bool
+        ensures { result ≡ self.now.alone }
+    {
+        self.alone
+    }
+
     // One more owner of the rows.
     pub(crate) fn share(&self) -> Result<Arc<List<Row>>, NoMemory>
-        ensures { IfOk result (λ rows. rows ≡ self.now) }
+        ensures { IfOk result (λ rows. rows ≡ self.now.rows) }
     {
         self.rows.share()
     }
 
     // Whether it is seen at once that each row keeps the least offset.
     pub(crate) fn keeps(&self, least: Option<i64>) -> bool
-        ensures { IsTrue result → KeepLeast least self.now }
+        ensures { IsTrue result → KeepLeast least self.now.rows }
     {
         match least {
             Some(seconds) => i128::from(seconds) <= self.least,

@@ -3,6 +3,7 @@ ghost use Rattle.std.specs.Prelude.{◌≡◌, ◌<◌, ◌≤◌, ℤ, IfOk, On
 ghost use Rattle.std.specs.BTreeMap as tree;
 ghost use Rattle.std.specs.List.{slice_index_or};
 ghost use Rattle.std.specs.Ordering.{int_cmp, int_eq};
+ghost use Rattle.fm_list.specs.Selected.{AreOwn};
 ghost use Rattle.fm_edition.specs.Indexes as spec;
 
 use crate::maps::shared::Shared;
@@ -85,12 +86,14 @@ fn opened(alloc: Global, pages: &Pages, number: i64) -> Result<Page, NoMemory>
     }
 }
 
-/// An operation, the kind of instant that its files are looked up by, and the instants that it touches.
+/// An operation, the kind of instant that its files are looked up by, the instants that it touches, and those of the
+/// file that it adds.
 #[derive(Clone, Copy)]
 pub(crate) struct Change<'a> {
     pub by: By,
     pub op: &'a Op,
     pub touched: &'a [i64],
+    pub own: &'a [i64],
 }
 
 // Does an operation to the instants of one page, from an index of the touched ones. Returns the index after them.
@@ -102,6 +105,7 @@ fn page_after(
     change: &Change<'_>,
     from: usize,
 ) -> Result<usize, NoMemory>
+    requires own { AreOwn change.now.by change.now.op.now change.now.own.now }
     requires index { from < length change.now.touched.now }
     requires ordered { tree.IsOrdered int_cmp page.old }
     requires first { spec.page_of (slice_index_or change.now.touched.now from number) ≡ number }
@@ -123,7 +127,14 @@ fn page_after(
     let mut at = from;
     while at < touched.len() && page_of(touched[at]) == number {
         let key = touched[at];
-        let files = part_after(alloc, change.by, key, files_at(pages, key), change.op)?;
+        let files = part_after(
+            alloc,
+            change.by,
+            key,
+            files_at(pages, key),
+            change.op,
+            change.own,
+        )?;
         set_part(alloc, page, key, files)?;
         at += 1;
     }
@@ -136,7 +147,8 @@ pub(crate) fn pages_after(
     pages: &Pages,
     change: &Change<'_>,
 ) -> Result<Pages, NoMemory>
-    requires { spec.AreOrdered pages.now }
+    requires own { AreOwn change.now.by change.now.op.now change.now.own.now }
+    requires ordered { spec.AreOrdered pages.now }
     ensures ordered { IfOk result spec.AreOrdered }
     ensures set { IfOk result (λ next. (number key : ℤ) → spec.in_page next number key
         ≡ spec.page_set change.now.by change.now.touched.now change.now.op.now (spec.in_page pages.now) number key) }

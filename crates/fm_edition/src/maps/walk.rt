@@ -8,6 +8,7 @@ use crate::maps::entry::{has_wanted, push_wanted};
 use crate::maps::pages::{Page, Pages};
 use crate::maps::wanted::Wanted;
 use fm_base::{List, NoMemory};
+use fm_list::Placed;
 use fm_model::Row;
 use std::alloc::Global;
 
@@ -53,6 +54,25 @@ pub(crate) fn rows_in(alloc: Global, pages: &Pages, wanted: Wanted) -> Result<Li
         push_page(&mut rows, page.get(), wanted)?;
     }
     Ok(rows)
+}
+
+// Whether there is one file.
+fn is_one(files: &[Placed]) -> bool
+    ensures { result ≡ spec.is_one files.now }
+{
+    files.len() == 1
+}
+
+// Whether each instant of a page is that of one file.
+pub(crate) fn each_one(page: &Page) -> bool
+    ensures { result ≡ spec.each_one page.now.entries }
+{
+    for (_, files) in page {
+        if !is_one(files.get().as_slice()) {
+            return false;
+        }
+    }
+    true
 }
 
 // How many rows a page has.

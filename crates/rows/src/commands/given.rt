@@ -10,9 +10,10 @@ use row_text::{Field, File, Row};
 use std::alloc::Global;
 
 // The keys of a row beside `name` and `want`.
-const KEYS: [&str; 25] = [
+const KEYS: [&str; 26] = [
     "words",
     "word",
+    "lines",
     "file",
     "files fail",
     "sink fails",
@@ -47,6 +48,8 @@ fn is_command(row: &Row<'_>) -> bool {
 #[derive(Drop)]
 pub struct Given {
     pub words: List<Bytes>,
+    /// Whether the lines of the journal are shown.
+    pub shows_lines: bool,
     pub files: List<Entry>,
     pub failing_files: List<u64>,
     pub failing_sink: List<u64>,
@@ -64,6 +67,7 @@ impl Given {
         links.push(Linked::new(alloc, 0))?;
         Ok(Given {
             words: List::new(alloc),
+            shows_lines: false,
             files: List::new(alloc),
             failing_files: List::new(alloc),
             failing_sink: List::new(alloc),
@@ -110,6 +114,10 @@ impl Given {
         match field.key {
             "name" | "want" => Ok(true),
             "words" | "word" => self.add_words(alloc, field.key, value),
+            "lines" => {
+                self.shows_lines = true;
+                Ok(value == "shown")
+            }
             "file" => self.add_file(alloc, bases, value),
             "files fail" => put_numbers(alloc, value, &mut self.failing_files),
             "sink fails" => put_numbers(alloc, value, &mut self.failing_sink),

@@ -1,54 +1,68 @@
 -- Each turn writes one part.
+use Rattle.std.proofs.Common.{Some, length, subst, sym, ap, ◌∙◌}
+use Rattle.std.proofs.lemmas.Option.{slice_get-get_or}
+use Rattle.dap_xdr.specs.Content.{part_data}
 use Rattle.dap_xdr.specs.Datasets.{content_of}
-use Rattle.dap_plan.proofs.DataLemmas.{data-done, data-full, data-next, part-small}
-use Rattle.dap_plan.proofs.LaidLemmas.{data-from, laid-at, laid-rise, stands-from}
+use Rattle.dap_plan.specs.Laid.{AreBegins, AreMarked}
+use Rattle.dap_plan.proofs.DataLemmas.{data-done, data-full, data-next, ends-next, part-small, piece-put}
+use Rattle.dap_plan.proofs.LaidLemmas.{begins-rise, data-from, ends-behind, stands-from}
 use Rattle.dap_plan.proofs.data.put_data.Goals as goal
 
 pub part_at-at-requires : goal.part_at-at-requires
-part_at-at-requires c = laid-rise c.args.source.now c.args.sent.now c.args.laid.now c.requires.laid
+part_at-at-requires c =
+    let shown = c.args.source.now in
+    let sent = c.args.sent.now in
+    let are = subst (AreBegins shown sent) (sym c.as_slice-begins.ensures) c.requires.laid.begins_are in
+    begins-rise shown sent c.as_slice-begins.result.now are c.requires.small
 
 pub loop-place-init : goal.loop-place-init
 loop-place-init c =
-    data-from (content_of c.args.source.now) c.args.sent.now c.args.from c.part_at-at.result.place
-    c.part_at-at.result.left c.args.out.now
-    (stands-from c.args.source.now c.args.sent.now c.args.laid.now c.args.from c.part_at-at.result
-    c.requires.laid c.part_at-at.ensures.stands)
+    let shown = c.args.source.now in
+    let sent = c.args.sent.now in
+    let begins = c.as_slice-begins.result.now in
+    let at = c.part_at-at.result in
+    let are = subst (AreBegins shown sent) (sym c.as_slice-begins.ensures) c.requires.laid.begins_are in
+    record {
+      so_far = data-from (content_of shown) sent c.args.from at.place at.left c.args.out.now
+          (stands-from shown sent begins c.args.from at are c.requires.small c.part_at-at.ensures.stands);
+      ends = ends-behind shown sent begins c.args.from at.place are
+          (ap length c.as_slice-begins.ensures ∙ c.requires.laid.count) c.requires.small c.part_at-at.ensures.last;
+    }
 
-pub put_part-filled-requires-clause-len : goal.put_part-filled-requires-clause-len
-put_part-filled-requires-clause-len c =
-    (laid-at c.args.source.now c.args.sent.now c.args.laid.now c.loop-place.place
-    c.index-sent-place.result c.index-laid-place.result c.requires.laid c.loop-place-test.true c.index-sent-place.is
-    c.index-laid-place.is).len_is
+pub xdr_piece_marked-filled-requires-clause-marks : goal.xdr_piece_marked-filled-requires-clause-marks
+xdr_piece_marked-filled-requires-clause-marks c =
+    c.marks_at-known.ensures c.args.source.now c.args.sent.now c.index-sent-place.result
+    (subst (AreMarked c.args.source.now c.args.sent.now) (sym c.as_slice-marks.ensures) c.requires.laid.marks_are)
+    (slice_get-get_or c.args.sent.now c.loop-place.place c.index-sent-place.result c.loop-place-test.true
+    ∙ ap Some (sym c.index-sent-place.is))
 
-pub put_part-filled-requires-clause-marks : goal.put_part-filled-requires-clause-marks
-put_part-filled-requires-clause-marks c =
-    (laid-at c.args.source.now c.args.sent.now c.args.laid.now c.loop-place.place
-    c.index-sent-place.result c.index-laid-place.result c.requires.laid c.loop-place-test.true c.index-sent-place.is
-    c.index-laid-place.is).marks_are
-
-pub put_part-filled-requires-clause-small : goal.put_part-filled-requires-clause-small
-put_part-filled-requires-clause-small c =
+pub xdr_piece_marked-filled-requires-clause-small : goal.xdr_piece_marked-filled-requires-clause-small
+xdr_piece_marked-filled-requires-clause-small c =
     part-small (content_of c.args.source.now) c.args.sent.now c.loop-place.place 18446744073709551616
     c.index-sent-place.result c.loop-place-test.true c.index-sent-place.is c.requires.small
 
 pub loop-place-preserved : goal.loop-place-preserved
 loop-place-preserved c =
-    let is = laid-at c.args.source.now c.args.sent.now c.args.laid.now c.loop-place.place
-    c.index-sent-place.result c.index-laid-place.result c.requires.laid c.loop-place-test.true c.index-sent-place.is
-    c.index-laid-place.is in
-    data-next (content_of c.args.source.now) c.args.sent.now c.args.from c.loop-place.filled c.loop-place.place
-    c.loop-place.left c.put_part-filled.result c.index-laid-place.result.len c.left_after-left.result
-    c.index-sent-place.result c.args.out.now c.loop-place.out c.split_at_mut-rest.result.0.now
-    c.split_at_mut-rest.result.1.now c.put_part-filled.new.out c.loop-place.invariant c.loop-place-test.true
-    c.index-sent-place.is c.split_at_mut-rest.ensures.value c.split_at_mut-rest.ensures.front_len
-    is.len_is c.put_part-filled.ensures c.left_after-left.ensures
+    let content = content_of c.args.source.now in
+    let so = c.loop-place.invariant in
+    record {
+      so_far = data-next content c.args.sent.now c.args.from c.loop-place.filled c.loop-place.place c.loop-place.left
+          c.xdr_piece_marked-filled.result c.index-sent-place.result c.args.out.now c.loop-place.out
+          c.split_at_mut-rest.result.0.now c.split_at_mut-rest.result.1.now c.xdr_piece_marked-filled.new.out so.so_far
+          so.ends c.loop-place-test.true c.index-sent-place.is c.split_at_mut-rest.ensures.value
+          c.split_at_mut-rest.ensures.front_len
+          (piece-put (part_data content c.index-sent-place.result) c.split_at_mut-rest.result.1.now
+          c.xdr_piece_marked-filled.new.out c.loop-place.left c.xdr_piece_marked-filled.result
+          c.xdr_piece_marked-filled.ensures.count c.xdr_piece_marked-filled.ensures.bytes);
+      ends = ends-next content c.args.sent.now c.args.from c.loop-place.place so.ends;
+    }
 
 pub returns-else-filled-out : goal.returns-else-filled-out
 returns-else-filled-out c =
     data-full (content_of c.args.source.now) c.args.sent.now c.args.from c.loop-place.filled c.loop-place.place
-    c.loop-place.left c.args.out.now c.loop-place.out c.loop-place.invariant c.if-filled-out.false
+    c.loop-place.left c.args.out.now c.loop-place.out c.loop-place.invariant.so_far c.if-filled-out.false
 
 pub returns-after-loop-place : goal.returns-after-loop-place
 returns-after-loop-place c =
     data-done (content_of c.args.source.now) c.args.sent.now c.args.from c.loop-place.filled c.loop-place.place
-    c.loop-place.left c.args.out.now c.loop-place.out c.loop-place.invariant c.loop-place-test.false
+    c.loop-place.left c.args.out.now c.loop-place.out c.loop-place.invariant.so_far c.loop-place-test.false

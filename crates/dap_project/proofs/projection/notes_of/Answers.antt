@@ -1,5 +1,6 @@
 -- A clause more is noted, and has no fault.
 use Rattle.std.proofs.Common.{All, ap, arith, map, refl, subst, sym, take, ◌∙◌}
+use Rattle.std.proofs.lemmas.List.{take_all}
 use Rattle.std.proofs.lemmas.List.Elements.{All-push}
 use Rattle.std.proofs.lemmas.Result.{err_from_is_err_and}
 use Rattle.dap_project.specs.Checks.{HasCountable}
@@ -51,3 +52,9 @@ pub returns-clause-notes : goal.returns-clause-notes
 returns-clause-notes c =
     none_left c.args.decls.now c.args.clauses.now c.loop-clause.clause-index c.loop-clause.notes
     (omega (arith, c.loop-clause-test.false)) c.loop-clause.invariant.fault c.loop-clause.invariant.notes
+
+pub returns-clause-countable : goal.returns-clause-countable
+returns-clause-countable c =
+    subst (All HasCountable)
+    (take_all c.loop-clause.clause-index c.args.clauses.now (omega (arith, c.loop-clause-test.false)))
+    c.loop-clause.invariant.countable

@@ -1,5 +1,5 @@
 -- Few parts are sent of a dataset whose prototype is that of a file.
-use Rattle.std.proofs.Common.{◌≡◌, List, Ok, ap, sym, ◌∙◌}
+use Rattle.std.proofs.Common.{List, ap, sym, ◌∙◌}
 use Rattle.dap_model.specs.declared.declaration.Decl.{Decl}
 use Rattle.dap_reply.specs.Body.{projected_of}
 use Rattle.dap_reply.proofs.SentLemmas.{all-sent, few-sent}

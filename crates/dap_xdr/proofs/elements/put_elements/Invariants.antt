@@ -1,5 +1,6 @@
--- What is written so far, and where what is left begins.
-use Rattle.std.proofs.Common.{◌≡◌, ◌-◌, length}
+-- What is written so far, where what is left begins, and the index list of that place.
+use Rattle.std.proofs.Common.{◌≡◌, ◌-◌, ◌<◌, length}
+use Rattle.dap_model.specs.Box.{box_len, index_at}
 use Rattle.dap_xdr.proofs.SoFarLemmas.{SoFar}
 use Rattle.dap_xdr.proofs.elements.put_elements.Given as goal
 
@@ -10,3 +11,4 @@ abbrev pub invariant-loop-place : goal.invariant-loop-place
 invariant-loop-place l =
     (length l.index ≡ length l.fn.index)
     × SoFar l.part l.from l.filled l.place l.skip l.fn.out l.out
+    × (l.place < box_len l.part.sent.slabs → l.index ≡ index_at l.part.sent.slabs l.place)

@@ -1,5 +1,5 @@
 -- The dataset keeps what its parts were made as.
-use Rattle.std.proofs.Common.{ap₂, ◌∙◌, sym, subst}
+use Rattle.std.proofs.Common.{ℕ, List, ap₂, ◌∙◌, sym, subst}
 use Rattle.fm_model.specs.declared.proto.Proto.{Proto}
 use Rattle.fm_model.specs.Prototype.{IsSound}
 use Rattle.fm_model.specs.Site.{IsPrototype}
@@ -7,6 +7,7 @@ use Rattle.fm_model.proofs.ProtoLemmas.{IsSound-given}
 use Rattle.fm_dataset.specs.Declarations.{decls_of}
 use Rattle.fm_dataset.specs.Kept.{HasCoordinates, HasSlotNumbers}
 use Rattle.fm_dataset.specs.Rows.{AreRows}
+use Rattle.fm_dataset.specs.Values.{Shown}
 use Rattle.fm_dataset.proofs.build.dataset.Goals as goal
 
 pub invariant_of-result : goal.invariant_of-result
@@ -22,3 +23,9 @@ invariant_of-result c =
       slots_are = subst (λ (p : Proto). HasSlotNumbers p c.in_ok-slots.slots)
           (c.get-3.ensures ∙ shared) c.in_ok-slots.ensures;
     }
+
+pub returns : goal.returns
+returns c =
+    let show : Proto → List ℕ → Shown =
+    λ p l. record { proto = p; rows = c.args.rows; view = c.args.view; label = l } in
+    ap₂ show c.in_ok-proto.ensures c.in_ok-label.ensures

@@ -1,7 +1,21 @@
-use Rattle.std.proofs.Common.{◌<◌, length, refl, arith}
+use Rattle.std.proofs.Common.{◌<◌, get_or, length, refl, arith}
 use Rattle.fm_dataset.specs.Kept.{length_at}
-use Rattle.nc_layout.proofs.RankLemmas.{rank_more, length-index_of_ids}
+use Rattle.nc_layout.proofs.RankLemmas.{rank_fits, rank_more, length-index_of_ids}
 use Rattle.fm_dataset.proofs.index.rank.Goals as goal
+
+pub overflow_mul-rank : goal.overflow_mul-rank
+overflow_mul-rank c =
+    let fits = rank_fits (length_at c.args.proto.now) c.loop-place.rank c.length_at.result
+    (get_or c.args.index.now c.loop-place.place 0) c.args.ids.now c.args.index.now c.loop-place.place c.requires.index
+    c.loop-place-test.true c.length_at.ensures refl c.loop-place.invariant in
+    omega (arith, fits, c.requires.most, c.ranges.most.fits)
+
+pub overflow_add-rank : goal.overflow_add-rank
+overflow_add-rank c =
+    let fits = rank_fits (length_at c.args.proto.now) c.loop-place.rank c.length_at.result
+    (get_or c.args.index.now c.loop-place.place 0) c.args.ids.now c.args.index.now c.loop-place.place c.requires.index
+    c.loop-place-test.true c.length_at.ensures refl c.loop-place.invariant in
+    omega (arith, fits, c.requires.most, c.ranges.most.fits)
 
 pub loop-place-preserved : goal.loop-place-preserved
 loop-place-preserved c =

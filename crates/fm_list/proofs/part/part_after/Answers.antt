@@ -5,8 +5,11 @@ use Rattle.std.proofs.lemmas.Int.{to_z-of_z}
 use Rattle.std.proofs.lemmas.List.{append-nil}
 use Rattle.fm_model.specs.declared.op.Op.{Op}
 use Rattle.fm_list.specs.Change.{added, keeps}
-use Rattle.fm_list.specs.Selected.{part_after, selects}
+use Rattle.fm_list.specs.Selected.{part_after, selects, AreOwn}
 use Rattle.fm_list.proofs.part.part_after.Goals as goal
+
+pub with_selected-requires : goal.with_selected-requires
+with_selected-requires c = subst (λ (op : Op). AreOwn c.args.by op c.args.own.now) c.in-Put.is c.requires
 
 pub returns-in-Put : goal.returns-in-Put
 unfolding part_after

@@ -1,6 +1,6 @@
 -- A link that waits is put in again under its key, and one whose session has ended is given back.
-use Rattle.std.proofs.Common.{Some, refl, sym, ap, ◌∙◌}
-use Rattle.srv_conn.proofs.AtKey.{at-removed, at-rested}
+use Rattle.std.proofs.Common.{◌+◌, ℕ, Some, refl, sym, ap, ◌∙◌}
+use Rattle.srv_conn.proofs.AtKey.{at-removed, at-rested, updates-still}
 use Rattle.srv_conn.proofs.BeginLemmas.{behind-itself}
 use Rattle.srv_conn.proofs.NextLemmas.{held-same, updates-same}
 use Rattle.srv_conn.proofs.OutSteps.{out-same}
@@ -37,7 +37,8 @@ returns-in-None-clause-at g c = λ first sight at.
 pub returns-in-Some-clause-at : goal.returns-in-Some-clause-at
 returns-in-Some-clause-at g c = λ first sight at.
     at-removed first (g.D.Door.shown c.args.door.now).held (g.D.Door.shown c.done.new.self).held sight _ _
-    c.args.hall.now c.count.new.self c.remove-kept.new.self c.args.key _ _ c.in-Some.end at
+    c.args.hall.now c.count.new.self c.give_back.new.links c.args.key _ _ c.in-Some.end at
     (c.remove-kept.ensures.value ∙ ap Some (sym c.in-Ok.ensures.ok)) c.in-Some.ensures.went c.in-Some.ensures.later
-    c.remove-kept.ensures.updates c.remove-kept.ensures.len c.count.ensures.links c.count.ensures.served
-    c.count.ensures.short c.done.ensures.given
+    (updates-still c.remove-kept.ensures.updates c.give_back.ensures.values)
+    (ap (λ (n : ℕ). n + 1) c.give_back.ensures.len ∙ c.remove-kept.ensures.len) c.count.ensures.links
+    c.count.ensures.served c.count.ensures.short c.done.ensures.given

@@ -1,9 +1,20 @@
 -- A byte behind a name ends it, or no constraint goes on with it.
-use Rattle.std.proofs.Common.{◌≡◌, ℕ, List, ◌+◌, ◌∙◌, Some, ap, sym, take, drop, get_or}
-use Rattle.dap_model.specs.ConstraintReading.{Begun, before_name, step_on, with_name}
-use Rattle.dap_ce.specs.Phases.{begun_of}
-use Rattle.dap_ce.proofs.StepLemmas.{slice_between, step_name-dot, step_name-on, step_on-none}
+use Rattle.std.proofs.Common.{◌≡◌, ℕ, List, ◌+◌, ◌∙◌, Some, ap, sym, subst, take, drop, get_or}
+use Rattle.dap_model.specs.ConstraintReading.{Begun, before_name, step_name, step_on, with_name}
+use Rattle.dap_ce.specs.declared.phase.Phase.{Phase}
+use Rattle.dap_ce.specs.Phases.{begun_of, state_in}
+use Rattle.dap_ce.proofs.StepLemmas.{slice_between, step_name-dot, step_name-more, step_name-on, step_on-none}
 use Rattle.dap_ce.proofs.reader.Reader.in_name.Goals as goal
+
+pub returns-then-is_name_byte-clause-step : goal.returns-then-is_name_byte-clause-step
+returns-then-is_name_byte-clause-step c =
+    let begun = begun_of c.args.self.now in
+    let text = c.args.text.now in
+    let at = c.args.at in
+    subst (λ (phase : Phase). step_name begun (drop c.args.from (take at text)) (get_or text at 0)
+    ≡ Some (state_in begun (take (at + 1) text) phase))
+    (sym c.requires.phase)
+    (step_name-more begun text c.args.from at c.requires.begun c.requires.place (sym c.if-is_name_byte.ensures))
 
 pub returns-then-byte-ne44-clause-step : goal.returns-then-byte-ne44-clause-step
 returns-then-byte-ne44-clause-step c =

@@ -6,6 +6,17 @@ use Rattle.dap_ce.specs.declared.phase.Phase.{Phase}
 use Rattle.dap_ce.specs.Phases.{begun_of, state_in, state_of, LeadsTo}
 use Rattle.dap_ce.proofs.reader.Reader.step.Goals as goal
 
+pub returns-in-InName-clause-step : goal.returns-in-InName-clause-step
+unfolding step
+returns-in-InName-clause-step c =
+    let text = c.args.text.now in
+    let at = c.args.at in
+    subst (λ (phase : Phase). IfOk c.in_name.result
+    (LeadsTo (step (state_in (begun_of c.args.self.now) (take at text) phase) (get_or text at 0))
+    (state_of c.in_name.new.self (take (at + 1) text))))
+    (sym c.in-InName.is)
+    c.in_name.ensures.step
+
 pub returns-in-InNumber-clause-step : goal.returns-in-InNumber-clause-step
 unfolding step
 returns-in-InNumber-clause-step c =

@@ -2,7 +2,7 @@
 use Rattle.std.proofs.Common.{◌≡◌, length, take, drop, subst, ap, arith}
 use Rattle.dap_plan.specs.Parts.{bytes_of, Parts}
 use Rattle.dap_plan.proofs.LaidLemmas.{laid-data}
-use Rattle.dap_plan.proofs.PlanLemmas.{lent-data, lent-front}
+use Rattle.dap_plan.proofs.PlanLemmas.{data-small, lent-data, lent-front}
 use Rattle.dap_plan.proofs.parts.Plan.lent.Goals as goal
 
 pub returns-then-from-ready : goal.returns-then-from-ready
@@ -15,8 +15,12 @@ returns-then-from-ready c =
 pub lent_data-requires-clause-laid : goal.lent_data-requires-clause-laid
 lent_data-requires-clause-laid c =
     laid-data c.self.inside.source c.self.inside.sent c.as_slice-in-Some.result.now c.self.inside.laid
-    c.as_slice-in-Some-2.result.now c.in-Some.source c.self.invariant.1 c.in-Some.is c.as_slice-in-Some.ensures
-    c.as_slice-in-Some-2.ensures
+    c.in-Some.source c.self.invariant.1 c.in-Some.is c.as_slice-in-Some.ensures
+
+pub lent_data-requires-clause-small : goal.lent_data-requires-clause-small
+lent_data-requires-clause-small c =
+    data-small _ c.in-Some.source c.as_slice-in-Some.result.now c.self.inside.len
+    c.self.invariant.0 c.in-Some.is c.as_slice-in-Some.ensures
 
 pub returns-in-Some : goal.returns-in-Some
 returns-in-Some c =

@@ -23,8 +23,7 @@ put_data-requires-clause-small c =
 pub put_data-requires-clause-laid : goal.put_data-requires-clause-laid
 put_data-requires-clause-laid c =
     laid-data c.self.inside.source c.self.inside.sent c.as_slice-in-Some.result.now c.self.inside.laid
-    c.as_slice-in-Some-2.result.now c.in-Some.source c.self.invariant.1 c.in-Some.is c.as_slice-in-Some.ensures
-    c.as_slice-in-Some-2.ensures
+    c.in-Some.source c.self.invariant.1 c.in-Some.is c.as_slice-in-Some.ensures
 
 pub returns-in-None-clause-count : goal.returns-in-None-clause-count
 returns-in-None-clause-count c =

@@ -24,16 +24,16 @@ kept_page-requires c none =
     c.loop-number.number-iterator c.in-Some.ensures.steps c.loop-number.invariant.kept in
     none-some (page_rows c.in-Some.page.now) (sym none ∙ kept)
 
-pub rows_from-requires-clause-kept : goal.rows_from-requires-clause-kept
-rows_from-requires-clause-kept c =
+pub push_from-requires-clause-kept : goal.push_from-requires-clause-kept
+push_from-requires-clause-kept c =
     let page = c.in-Some.page.now in
     let kept = all_first (HasKept c.args.best.now) (c.in-Some.number.now, page) c.next.new.self
     c.loop-number.number-iterator c.in-Some.ensures.steps c.loop-number.invariant.kept in
     same_Some c.kept_page.result.now (page_rows page) (sym c.kept_page.ensures ∙ kept)
     ∙ ap page_rows (sym c.get.ensures)
 
-pub rows_from-requires-clause-timed : goal.rows_from-requires-clause-timed
-rows_from-requires-clause-timed c =
+pub push_from-requires-clause-timed : goal.push_from-requires-clause-timed
+push_from-requires-clause-timed c =
     let all : All IsTimed (c.in-Some.page.now.entries ++ entries_in c.next.new.self) =
     subst (λ l. All IsTimed (entries_in l)) c.in-Some.ensures.steps c.loop-number.invariant.timed in
     rw c.get.ensures (all_parts IsTimed c.in-Some.page.now.entries (entries_in c.next.new.self) all).0
@@ -52,6 +52,6 @@ loop-number-preserved c =
       kept = all_rest (HasKept c.args.best.now) (c.in-Some.number.now, page) c.next.new.self
           c.loop-number.number-iterator c.in-Some.ensures.steps c.loop-number.invariant.kept;
       timed = (all_parts IsTimed page.entries (entries_in c.next.new.self) all).1;
-      made = rw (c.in_ok-push.ensures.ok, c.in_ok-rows_from.ensures, c.get.ensures) (some_taken make c.loop-number.rows
+      made = rw (c.in_ok-push_from.ensures, c.get.ensures) (some_taken make c.loop-number.rows
           page.entries (entries_in c.next.new.self) (filter_map make (entries_of c.args.pages.now)) sum);
     }

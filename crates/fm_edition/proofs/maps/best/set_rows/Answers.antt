@@ -8,8 +8,8 @@ use Rattle.fm_edition.specs.Indexes.{page_rows, rows_at}
 use Rattle.fm_edition.proofs.BestLemmas.{timed_page}
 use Rattle.fm_edition.proofs.maps.best.set_rows.Goals as goal
 
-pub rows_of-requires : goal.rows_of-requires
-rows_of-requires c =
+pub kept_of-requires : goal.kept_of-requires
+kept_of-requires c =
     let a : SFits w64 c.args.number = search rules in
     let value = simp to_z-of_z at c.get.ensures.value in
     let found : get int_cmp c.args.pages.now c.args.number ≡ Some c.in-Some.page.now =
@@ -24,8 +24,7 @@ returns-in_ok-insert-in-Some-clause-set c other =
     let found : get int_cmp c.args.pages.now c.args.number ≡ Some c.in-Some.page.now =
     sym value ∙ ap option_copied c.in-Some.is in
     let same : Some c.in_ok-new-in-Some.field-0 ≡ rows_at c.args.pages.now c.args.number =
-    ap Some (c.in_ok-new-in-Some.ensures ∙ c.in_ok-rows-in-Some.ensures ∙ c.in_ok-rows_of-in-Some.ensures
-    ∙ ap page_rows c.get-in-Some.ensures)
+    ap Some (c.in_ok-new-in-Some.ensures ∙ c.in_ok-rows-in-Some.ensures ∙ ap page_rows c.get-in-Some.ensures)
     ∙ ap (option_map page_rows) (sym found) in
     simp to_z-of_z at (c.in_ok-insert-in-Some.ensures.updates.0 other)
     ∙ ap (λ rows. if int_eq c.args.number other then rows else get int_cmp c.args.best.now other) same

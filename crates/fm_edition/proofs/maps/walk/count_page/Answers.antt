@@ -1,5 +1,5 @@
 -- One more instant has a row or none.
-use Rattle.std.proofs.Common.{◌≡◌, true, false, length, rules, arith, sym, ap, subst, ◌∙◌, SFits, w64}
+use Rattle.std.proofs.Common.{◌≡◌, length, rules, arith, sym, ap, subst, ◌∙◌, SFits, w64}
 use Rattle.std.specs.Prelude.{is_some}
 use Rattle.std.specs.List.{filter_map}
 use Rattle.std.proofs.lemmas.Int.{to_z-of_z}

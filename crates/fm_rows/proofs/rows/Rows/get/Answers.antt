@@ -34,10 +34,10 @@ returns-clause-found c =
     let has = last_begun pages c.self.inside.len c.args.place c.begun_at-begun.result page are
     c.begun_at-begun.ensures.bound c.begun_at-begun.ensures.begun c.if-begun-eq0.false in
     let row : slice_get c.args.self.now c.args.place
-    ≡ slice_get c.as_slice.result.now (c.args.place - page.start) =
+    ≡ slice_get c.get.result.now (c.args.place - page.start) =
     ap (λ rows. slice_get rows c.args.place) (sym c.self.view_is ∙ ap rows_in (sym c.as_slice-pages.ensures))
     ∙ (subst (HasRow pages c.args.place) (sym c.index-pages-begun.is) has).row
-    ∙ ap (λ rows. slice_get rows (c.args.place - page.start)) (sym (c.as_slice.ensures ∙ c.get.ensures)) in
+    ∙ ap (λ rows. slice_get rows (c.args.place - page.start)) (sym c.get.ensures) in
     rw row c.row_at.ensures.found
 
 pub returns-clause-none : goal.returns-clause-none
@@ -48,8 +48,8 @@ returns-clause-none c =
     let has = last_begun pages c.self.inside.len c.args.place c.begun_at-begun.result page are
     c.begun_at-begun.ensures.bound c.begun_at-begun.ensures.begun c.if-begun-eq0.false in
     let row : slice_get c.args.self.now c.args.place
-    ≡ slice_get c.as_slice.result.now (c.args.place - page.start) =
+    ≡ slice_get c.get.result.now (c.args.place - page.start) =
     ap (λ rows. slice_get rows c.args.place) (sym c.self.view_is ∙ ap rows_in (sym c.as_slice-pages.ensures))
     ∙ (subst (HasRow pages c.args.place) (sym c.index-pages-begun.is) has).row
-    ∙ ap (λ rows. slice_get rows (c.args.place - page.start)) (sym (c.as_slice.ensures ∙ c.get.ensures)) in
+    ∙ ap (λ rows. slice_get rows (c.args.place - page.start)) (sym c.get.ensures) in
     rw row c.row_at.ensures.none

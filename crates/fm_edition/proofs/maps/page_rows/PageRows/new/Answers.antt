@@ -1,7 +1,9 @@
 -- The least offset is that of the rows.
-use Rattle.std.proofs.Common.{rules, subst, sym, ◌∙◌, SFits}
+use Rattle.std.proofs.Common.{rules, ap, List, subst, sym, ◌∙◌, SFits}
 use Rattle.std.specs.Int.{w128}
 use Rattle.std.proofs.lemmas.Int.{to_z-of_z}
+use Rattle.fm_model.specs.declared.row.Row.{Row}
+use Rattle.fm_edition.specs.Kept.{KeptRows}
 use Rattle.fm_edition.specs.Least.{LieAfter}
 use Rattle.fm_edition.proofs.maps.page_rows.PageRows.new.Goals as goal
 
@@ -10,3 +12,8 @@ invariant_of-result c =
     let a : SFits w128 c.least_of-least.result = search rules in
     simp to_z-of_z (subst (LieAfter c.least_of-least.result) (c.as_slice.ensures ∙ sym c.in_ok-new.ensures)
     c.least_of-least.ensures)
+
+pub returns : goal.returns
+returns c =
+    let kept : List Row → KeptRows = λ rows. record { rows = rows; alone = c.args.alone } in
+    ap kept c.in_ok-new.ensures

@@ -1,0 +1,13 @@
+-- A note for one declaration more.
+use Rattle.std.proofs.Common.{◌++◌, ◌∷◌, [], List, ap₂, ◌∙◌}
+use Rattle.dap_project.specs.Notes.{fresh_note}
+use Rattle.dap_project.specs.declared.note.Note.{Note}
+use Rattle.dap_project.proofs.PlaceLemmas.{map_up_to}
+use Rattle.dap_project.proofs.note.fresh_notes.Goals as goal
+
+pub loop-decl-preserved : goal.loop-decl-preserved
+loop-decl-preserved c =
+    c.in_ok-push.ensures.ok
+    ∙ ap₂ (λ (l : List Note) (n : Note). l ++ n ∷ []) c.loop-decl.invariant c.in_ok-fresh.ensures
+    ∙ map_up_to fresh_note c.args.decls.now c.loop-decl.decl-index c.decl-item.result
+    c.loop-decl-test.true c.decl-item.is

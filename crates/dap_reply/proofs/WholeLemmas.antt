@@ -1,0 +1,35 @@
+-- The structure text without a constraint is that of all declarations as they stand.
+use Rattle.std.proofs.Common.{◌≡◌, ℕ, List, [], Ok, refl, ap, ◌∙◌}
+use Rattle.fm_base.specs.Chain.{◌>>=◌, fault_as}
+use Rattle.dap_ce.specs.Asked.{as_projection}
+use Rattle.dap_ce.proofs.ReadLemmas.{constraint_of-none}
+use Rattle.dap_model.specs.declared.declaration.Decl.{Decl}
+use Rattle.dap_model.specs.ClauseFaults.{first_fault}
+use Rattle.dap_model.specs.Projection.{all_sent, projection_of}
+use Rattle.dap_model.specs.StructureText.{dds_of}
+use Rattle.dap_model.proofs.ProjectionWholeLemmas.{all_sent-whole}
+use Rattle.web_path.specs.declared.target.Target.{Target}
+use Rattle.dap_reply.specs.declared.body.BodyKind.TheVariants.{Structure}
+use Rattle.dap_reply.specs.declared.fault.DapFault.TheVariants.{Constraint, Projection}
+use Rattle.dap_reply.specs.Body.{projected_of, structure_by, structure_of, text_body, within_limit}
+
+-- no clause is at fault where there is none
+none-refused : (decls : List Decl) → projection_of decls [] ≡ Ok (all_sent decls [])
+unfolding projection_of first_fault
+none-refused decls = refl
+
+projected-whole : (decls : List Decl) → projected_of decls [] ≡ Ok (all_sent decls [])
+unfolding projected_of
+projected-whole decls =
+    ap (λ found. fault_as Constraint (as_projection found)
+    >>= (λ asked. fault_as Projection (projection_of decls asked.clauses))) constraint_of-none
+    ∙ ap (fault_as Projection) (none-refused decls)
+
+pub structure-whole : (decls : List Decl) (target : Target) → target.constraint ≡ []
+    → structure_by decls target ≡ within_limit (text_body Structure (dds_of target.label decls))
+unfolding structure_of
+structure-whole decls target none =
+    ap (λ (constraint : List ℕ). projected_of decls constraint
+    >>= (λ p. within_limit (text_body Structure (structure_of target p)))) none
+    ∙ ap (λ found. found >>= (λ p. within_limit (text_body Structure (structure_of target p)))) (projected-whole decls)
+    ∙ ap (λ (all : List Decl). within_limit (text_body Structure (dds_of target.label all))) (all_sent-whole decls)

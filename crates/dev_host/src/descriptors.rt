@@ -1,0 +1,64 @@
+//! How many connections the limit of descriptors allows.
+
+use dev_std::read_file;
+use dev_traits::Found;
+use std::alloc::Global;
+use std::{fs, rt, str};
+
+// Where the system says the limits of a process, and which descriptors it has.
+const LIMITS: &[u8] = b"/proc/self/limits";
+
+const OPEN: &str = "/proc/self/fd";
+
+// The most bytes of the text of the limits.
+const LONGEST: u64 = 65_536;
+
+/// The most descriptors that a process may have, in the system's text of its limits. `None` where it says no number, as
+/// where there is no limit.
+pub fn most_descriptors(limits: &str) -> Option<u64> {
+    for line in limits.lines() {
+        if let Some(rest) = line.strip_prefix("Max open files") {
+            return rest.split_whitespace().next()?.parse::<u64>().ok();
+        }
+    }
+    None
+}
+
+/// How many connections can be open at once beside what is open now: one for each descriptor that is left. `None` where
+/// the system doesn't say it.
+pub fn connections_left<R: rt::Files + Alloc + Clone + Drop>(rt: &R, alloc: Global) -> Option<u64> {
+    let most = most_of_process(rt, alloc)?;
+    let open = open_descriptors(rt)?;
+    Some(most.saturating_sub(open))
+}
+
+// The most descriptors that this process may have.
+fn most_of_process<R: rt::Files>(rt: &R, alloc: Global) -> Option<u64> {
+    match read_file(rt, alloc, LIMITS, LONGEST) {
+        Ok(Found::Content(text)) => {
+            let most = most_in(text.as_slice());
+            drop(text);
+            most
+        }
+        _ => None,
+    }
+}
+
+// The same in the bytes of the system's text.
+fn most_in(limits: &[u8]) -> Option<u64> {
+    match str::from_utf8(limits) {
+        Ok(limits) => most_descriptors(limits),
+        Err(_) => None,
+    }
+}
+
+// How many descriptors are open. That of the listing is one of them: a file that arrives needs one.
+fn open_descriptors<R: rt::Files + Alloc + Clone + Drop>(rt: &R) -> Option<u64> {
+    let mut count: u64 = 0;
+    for entry in fs::read_dir(rt, OPEN).ok()? {
+        if entry.is_ok() {
+            count = count.saturating_add(1);
+        }
+    }
+    Some(count)
+}

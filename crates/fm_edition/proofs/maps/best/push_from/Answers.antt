@@ -1,0 +1,32 @@
+-- Kept rows that keep the least offset are those with it; so are those of them that do, where each valid time is that
+-- of one file.
+use Rattle.std.proofs.Common.{OnOk, ◌≡◌, ◌++◌, List, ap, sym, ◌∙◌, subst}
+use Rattle.std.specs.Prelude.{filter}
+use Rattle.fm_model.specs.declared.row.Row.{Row}
+use Rattle.fm_edition.specs.Kept.{KeptRows}
+use Rattle.fm_edition.specs.Least.{keeps_least, KeepLeast}
+use Rattle.fm_edition.proofs.AloneLemmas.{from_alone}
+use Rattle.fm_edition.proofs.LeastLemmas.{from_kept}
+use Rattle.fm_edition.proofs.maps.best.push_from.Goals as goal
+
+pub returns-then-keeps : goal.returns-then-keeps
+returns-then-keeps c =
+    let rows_are = ap (λ (kept : KeptRows). kept.rows) c.requires.kept in
+    let same = from_kept c.args.least c.args.page.now
+    (subst (KeepLeast c.args.least) rows_are (c.keeps.ensures c.if-keeps.true)) in
+    subst (λ (rows : List Row). OnOk c.push.result (c.push.new.self ≡ c.args.rows.now ++ rows))
+    (c.in_ok-share.ensures ∙ rows_are ∙ same) c.push.ensures.ok
+
+pub returns-then-is_alone : goal.returns-then-is_alone
+returns-then-is_alone c =
+    let rows_are = ap (λ (kept : KeptRows). kept.rows) c.requires.kept in
+    let alone = ap (λ (kept : KeptRows). kept.alone) (sym c.requires.kept) ∙ sym c.is_alone.ensures
+    ∙ c.if-is_alone.true in
+    subst (λ (rows : List Row). OnOk c.push_keeping.result (c.push_keeping.new.rows ≡ c.args.rows.now ++ rows))
+    (ap (filter (keeps_least c.args.least)) rows_are ∙ from_alone c.args.least c.args.page.now alone)
+    c.push_keeping.ensures
+
+pub returns : goal.returns
+returns c =
+    subst (λ (rows : List Row). OnOk c.push-2.result (c.push-2.new.self ≡ c.args.rows.now ++ rows))
+    (c.in_ok-new.ensures ∙ c.in_ok-made.ensures) c.push-2.ensures.ok

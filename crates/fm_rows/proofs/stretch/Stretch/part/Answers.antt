@@ -1,0 +1,5 @@
+-- Rows from one place up to another.
+use Rattle.fm_rows.proofs.stretch.Stretch.part.Goals as goal
+
+pub invariant_of-result : goal.invariant_of-result
+invariant_of-result c = record { order = c.requires.order; within = c.requires.within }
