@@ -7,7 +7,8 @@ set -eu
 make_folder
 "$top/bench/crates.sh" "$folder" looks fm_load fm_sample pub_snap
 cp "$top/HANDLES" "$folder/HANDLES"
-cp "$top/crates/publishing_tests/src/sampled.rt" "$top/crates/publishing_tests/src/threads/files.rt" "$folder/crates/looks/src/"
+cp "$top/crates/server_tests/src/publishing/sampled.rt" "$top/crates/server_tests/src/publishing/threads/files.rt" "$folder/crates/looks/src/"
+sed -i 's/crate::publishing::sampled/crate::sampled/' "$folder/crates/looks/src/files.rt"
 mkdir -p "$folder/crates/looks/proofs/row" "$folder/crates/looks/proofs/write_on"
 : > "$folder/crates/looks/proofs/Lib.antt"
 cat > "$folder/crates/looks/proofs/write_on/Invariants.antt" << 'TURNS'

@@ -77,6 +77,10 @@ STEPS = [
     Step("the making of done", ["mkdir", "mkdirat"], "done", ["ENOSPC", "EDQUOT", "EROFS", "EIO", "EACCES"], told=True,
          prepare=without_done),
     Step("a close", ["close"], None, ["EIO", "EINTR"]),
+    # Where that can't be asked, the line is written.
+    Step("the question whether a line has room", ["epoll_create1"], None, ["EMFILE", "ENFILE", "ENOMEM"],
+         meanwhile=name_to_tell),
+    Step("the same of a descriptor", ["epoll_ctl"], None, ["ENOMEM", "ENOSPC", "EPERM"], meanwhile=name_to_tell),
     Step("a line", ["write", "writev"], None, ["EIO", "EAGAIN", "EPIPE"], meanwhile=name_to_tell),
     Step("a pause", ["clock_nanosleep", "nanosleep"], None, ["EINTR"]),
     Memory("memory for a file", ["mmap"], None, ["ENOMEM"], waits=True),

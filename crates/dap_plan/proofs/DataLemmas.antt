@@ -7,8 +7,8 @@ use Rattle.std.proofs.lemmas.Grind.{flat_map-append}
 use Rattle.std.proofs.lemmas.List.{append-nil, append_assoc, drop_all, drop-append-le, length-append, length-drop, length-take, take_all, take-append-drop, take-append-le, take-take}
 use Rattle.dap_model.specs.declared.projection.Sent.{Sent}
 use Rattle.dap_xdr.specs.Content.{data_of, part_data, Content}
-use Rattle.dap_xdr.specs.Overlay.{overlay, IsPut}
-use Rattle.dap_xdr.proofs.FrontLemmas.{drop-both, put-behind, put-full, put-long}
+use Rattle.dap_number.specs.Overlay.{overlay, IsPut}
+use Rattle.dap_number.proofs.FrontLemmas.{drop-both, put-behind, put-full, put-long}
 
 -- the data of the parts before a place
 abbrev pub data_before : Content → List Sent → ℕ → List ℕ

@@ -6,8 +6,8 @@ use Rattle.dap_model.specs.declared.projection.Sent.{Sent}
 use Rattle.fm_dataset.specs.Values.{Shown}
 use Rattle.dap_xdr.specs.Content.{data_of}
 use Rattle.dap_xdr.specs.Datasets.{content_of}
-use Rattle.dap_xdr.specs.Overlay.{overlay, IsPut}
-use Rattle.dap_xdr.proofs.FrontLemmas.{put-behind}
+use Rattle.dap_number.specs.Overlay.{overlay, IsPut}
+use Rattle.dap_number.proofs.FrontLemmas.{put-behind}
 use Rattle.dap_plan.specs.Parts.{bytes_of, data_behind, ready, IsPlan, IsSentOf, Parts}
 
 -- a plan without data

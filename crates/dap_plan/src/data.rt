@@ -2,7 +2,7 @@
 ghost use Rattle.std.specs.Prelude.{◌≡◌, ◌^◌, ◌<◌, drop, length, take, All};
 ghost use Rattle.dap_xdr.specs.Content.{data_of};
 ghost use Rattle.dap_xdr.specs.Datasets.{content_of};
-ghost use Rattle.dap_xdr.specs.Overlay.{IsPut};
+ghost use Rattle.dap_number.specs.Overlay.{IsPut};
 ghost use Rattle.dap_plan.specs.Laid.{AreLaid};
 ghost use Rattle.dap_plan.specs.Parts.{IsSentOf};
 

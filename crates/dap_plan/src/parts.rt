@@ -1,6 +1,6 @@
 //! The bytes of a reply, of which the data stays in the files.
 ghost use Rattle.std.specs.Prelude.{◌≡◌, ◌<◌, ◌≤◌, ◌^◌, ◌-◌, ◌++◌, All, IfOk, Some, drop, length, min, take};
-ghost use Rattle.dap_xdr.specs.Overlay.{overlay};
+ghost use Rattle.dap_number.specs.Overlay.{overlay};
 ghost use Rattle.dap_xdr.specs.Datasets.{content_of};
 ghost use Rattle.dap_plan.specs.Laid.{AreLaid};
 ghost use Rattle.dap_plan.specs.Parts.{bytes_of, ready, IsSentOf};
@@ -8,7 +8,7 @@ ghost use Rattle.dap_plan.specs.Parts.{bytes_of, ready, IsSentOf};
 use crate::data::{lent_data, put_data};
 use crate::laid::{Laid, no_parts};
 use dap_model::Sent;
-use dap_xdr::put;
+use dap_number::put;
 use fm_base::{Bytes, List, NoMemory};
 use fm_dataset::Dataset;
 use std::alloc::Global;

@@ -9,11 +9,11 @@ use Rattle.dap_model.specs.Box.{box_len, box_of, index_at}
 use Rattle.dap_model.specs.Xdr.{array_bytes, count_twice, element_bytes, element_len, zeros_after}
 use Rattle.dap_model.proofs.BoxLemmas.{length-box_of}
 use Rattle.dap_model.proofs.XdrLemmas.{elements_laid, length-element_bytes}
-use Rattle.dap_xdr.specs.Front.{IsFront}
+use Rattle.dap_number.specs.Front.{IsFront}
 use Rattle.dap_xdr.specs.Portion.{array_of, bits_in, body_of, numbers_from, Portion}
-use Rattle.dap_xdr.specs.Overlay.{overlay}
+use Rattle.dap_number.specs.Overlay.{overlay}
 use Rattle.dap_xdr.specs.Stretch.{AreBytesOf, ArePicked}
-use Rattle.dap_xdr.proofs.FrontLemmas.{front-more, overlay-front}
+use Rattle.dap_number.proofs.FrontLemmas.{front-more, overlay-front}
 use Rattle.dap_xdr.proofs.PickedLemmas.{drop-place}
 
 -- the first numbers from a place on, and those after them

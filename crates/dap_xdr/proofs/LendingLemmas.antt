@@ -11,7 +11,7 @@ use Rattle.dap_model.specs.declared.declaration.DapKind.TheVariants.{Int16}
 use Rattle.dap_xdr.specs.Portion.{array_of, bits_in, body_of, numbers_from, Portion}
 use Rattle.dap_xdr.specs.Stretch.{ArePicked}
 use Rattle.dap_xdr.proofs.ElementLemmas.{array-body, from-later, from-split}
-use Rattle.dap_xdr.proofs.FrontLemmas.{drop-both}
+use Rattle.dap_number.proofs.FrontLemmas.{drop-both}
 use Rattle.dap_xdr.proofs.StoredLemmas.{all-same}
 
 -- what is left of the first of two texts is a front of what is left of both

@@ -5,7 +5,6 @@ pub mod DatasetLemmas
 pub mod ElementLemmas
 pub mod ExtentLemmas
 pub mod FitLemmas
-pub mod FrontLemmas
 pub mod LendingLemmas
 pub mod MarkLemmas
 pub mod PickedLemmas

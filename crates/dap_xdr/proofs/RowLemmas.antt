@@ -8,7 +8,7 @@ use Rattle.dap_model.specs.Xdr.{element_bytes, number_bytes}
 use Rattle.dap_model.specs.declared.declaration.DapKind.{DapKind}
 use Rattle.dap_model.specs.declared.declaration.DapKind.TheVariants.{Int16}
 use Rattle.dap_xdr.specs.declared.rows.Rows.{Rows}
-use Rattle.dap_xdr.specs.Front.{widened_bytes}
+use Rattle.dap_number.specs.Front.{widened_bytes}
 use Rattle.dap_xdr.specs.Rows.{rows_in, ArePut, AreSentAs}
 use Rattle.dap_xdr.specs.Stretch.{AreBytesOf}
 use Rattle.dap_xdr.proofs.StoredLemmas.{all-same, widened-numbers}

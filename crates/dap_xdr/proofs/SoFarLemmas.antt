@@ -9,7 +9,7 @@ use Rattle.dap_model.specs.Xdr.{element_len}
 use Rattle.dap_model.specs.declared.declaration.DapKind.{DapKind}
 use Rattle.dap_model.specs.declared.declaration.DapKind.TheVariants.{Byte, Int16, Int32, Float32, Float64, Text}
 use Rattle.dap_xdr.specs.Portion.{numbers_from, Portion}
-use Rattle.dap_xdr.specs.Overlay.{overlay}
+use Rattle.dap_number.specs.Overlay.{overlay}
 use Rattle.dap_xdr.proofs.ElementLemmas.{from-later, length-from}
 
 -- a number takes some bytes

@@ -5,13 +5,13 @@ use Rattle.std.proofs.lemmas.List.Elements.{All-tail}
 use Rattle.dap_model.specs.Xdr.{element_bytes, number_bytes, bits_in, AreBitsOf}
 use Rattle.dap_model.specs.declared.declaration.DapKind.{DapKind}
 use Rattle.dap_model.specs.declared.declaration.DapKind.TheVariants.{Byte, Int16, Int32, Float32, Float64, Text}
-use Rattle.dap_xdr.specs.Front.{IsFront, widened_bytes}
-use Rattle.dap_xdr.specs.Overlay.{overlay}
+use Rattle.dap_number.specs.Front.{IsFront, widened_bytes}
+use Rattle.dap_number.specs.Overlay.{overlay}
 use Rattle.dap_xdr.specs.Stretch.{stored_bytes, AreBytesOf}
 use Rattle.std.proofs.lemmas.List.{length-drop, length-take}
 use Rattle.std.proofs.lemmas.Nat.{from_be_bytes-to_be_bytes_2}
 use Rattle.dap_xdr.proofs.WidenLemmas.{length-widened, widened-take}
-use Rattle.dap_xdr.proofs.FrontLemmas.{overlay-front}
+use Rattle.dap_number.proofs.FrontLemmas.{overlay-front}
 
 -- all but numbers of two bytes are sent as they stand
 pub stored-same : (kind : DapKind) (bits : ℕ) → kind ≢ Int16 → stored_bytes kind bits ≡ element_bytes kind bits

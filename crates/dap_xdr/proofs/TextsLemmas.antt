@@ -10,9 +10,9 @@ use Rattle.dap_model.specs.Xdr.{text_bytes, text_len, texts_bytes}
 use Rattle.dap_model.proofs.BoxLemmas.{get_or-box_of, length-box_of}
 use Rattle.dap_model.proofs.XdrLemmas.{length-text_bytes}
 use Rattle.dap_xdr.specs.Marks.{texts_before, IsMark}
-use Rattle.dap_xdr.specs.Overlay.{overlay, IsPut}
+use Rattle.dap_number.specs.Overlay.{overlay, IsPut}
 use Rattle.dap_xdr.specs.Portion.{text_in, texts_of, Portion}
-use Rattle.dap_xdr.proofs.FrontLemmas.{drop-both, put-behind, put-full, put-long}
+use Rattle.dap_number.proofs.FrontLemmas.{drop-both, put-behind, put-full, put-long}
 
 -- the texts so far are written, as far as they fit, and `left` bytes are still to be passed over
 pub record TextsSoFar (n : Portion) (from filled place left : ℕ) (old now : List ℕ) : Type 0 where

@@ -6,7 +6,7 @@ use Rattle.std.proofs.lemmas.List.{append-nil, append_assoc, length-append, drop
 use Rattle.dap_model.proofs.XdrLemmas.{length-number_bytes}
 use Rattle.dap_model.specs.Xdr.{number_bytes, number_len}
 use Rattle.dap_model.specs.declared.declaration.DapKind.TheVariants.{Int16}
-use Rattle.dap_xdr.specs.Front.{widened_bytes}
+use Rattle.dap_number.specs.Front.{widened_bytes}
 
 -- a pair of bytes as a number in four
 abbrev pair_at : List ℕ → ℕ → List ℕ

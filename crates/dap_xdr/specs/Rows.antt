@@ -5,7 +5,7 @@ use Rattle.dap_model.specs.declared.declaration.DapKind.{DapKind}
 use Rattle.dap_model.specs.Xdr.{element_bytes}
 use Rattle.dap_xdr.specs.declared.rows.Rows.{Rows}
 use Rattle.dap_xdr.specs.declared.slabs.Extent.{Extent}
-use Rattle.dap_xdr.specs.Front.{IsFront}
+use Rattle.dap_number.specs.Front.{IsFront}
 use Rattle.dap_xdr.specs.Portion.{bits_in, Portion}
 use Rattle.dap_xdr.specs.Stretch.{extent_of, stored_len, turns_at, AreBytesOf, ArePicked}
 

@@ -3,14 +3,14 @@ ghost use Rattle.std.specs.Prelude.{◌≡◌, ◌≢◌, ◌+◌, ◌-◌, ◌<
 ghost use Rattle.dap_model.specs.Box.{box_len, index_at};
 ghost use Rattle.dap_model.specs.declared.declaration.DapKind.{DapKind};
 ghost use Rattle.dap_model.specs.Xdr.{element_len};
-ghost use Rattle.dap_xdr.specs.Front.{IsFront};
+ghost use Rattle.dap_number.specs.Front.{IsFront};
 ghost use Rattle.dap_xdr.specs.Portion.{numbers_from};
-ghost use Rattle.dap_xdr.specs.Overlay.{overlay};
+ghost use Rattle.dap_number.specs.Overlay.{overlay};
 
-use crate::kind::{element_len, put_element};
 use crate::part::Part;
 use crate::rows::put_rows;
 use crate::stored::put_stored;
+use dap_number::{element_len, put_element};
 
 // The place of a number among those that are sent, and how many of its bytes are passed over.
 #[derive(Clone, Copy)]
@@ -62,7 +62,7 @@ fn put_first(part: &Part, at: Position, out: &mut [u8], index: &[u64]) -> usize
 
 // Writes numbers from a position on that stand together, or one number: at least one byte. The index list of its place
 // stands in `index`.
-#[tactic(auto, using(crate::proofs::FrontLemmas::nothing))]
+#[tactic(auto, using(dap_number::proofs::FrontLemmas::nothing))]
 fn put_stretch(part: &Part, at: Position, out: &mut [u8], index: &[u64]) -> usize
     requires number { part.now.array.kind ≢ DapKind.Text }
     requires place { at.place < box_len part.now.sent.slabs }
@@ -81,7 +81,7 @@ fn put_stretch(part: &Part, at: Position, out: &mut [u8], index: &[u64]) -> usiz
 
 // Writes whole rows from a position on, or what stands together there, or one number: at least one byte. The index list
 // of its place stands in `index`.
-#[tactic(auto, using(crate::proofs::FrontLemmas::nothing))]
+#[tactic(auto, using(dap_number::proofs::FrontLemmas::nothing))]
 fn put_longest(part: &Part, at: Position, out: &mut [u8], index: &[u64]) -> usize
     requires number { part.now.array.kind ≢ DapKind.Text }
     requires place { at.place < box_len part.now.sent.slabs }

@@ -8,11 +8,11 @@ ghost use Rattle.dap_xdr.specs.Datasets.{content_of};
 ghost use Rattle.dap_xdr.specs.Marks.{texts_before, AreMarksOf, IsMarked, IsNoted};
 ghost use Rattle.dap_xdr.specs.Portion.{data_in};
 
-use crate::kind::{element_len, number_len};
 use crate::part::{MAX_RANK, Part};
 use crate::text::text_len;
 use crate::texts::spacing;
 use dap_model::{DapKind, Sent};
+use dap_number::{element_len, number_len};
 use fm_base::{List, NoMemory};
 use fm_dataset::Dataset;
 use std::alloc::Global;

@@ -5,9 +5,9 @@ ghost use Rattle.dap_xdr.specs.Content.{array_in, part_data, FitsArray};
 ghost use Rattle.dap_xdr.specs.Datasets.{content_of};
 ghost use Rattle.dap_xdr.specs.Portion.{data_in, numbers_from};
 
-use crate::kind::element_len;
 use crate::part::{FEW, MAX_RANK, Part};
 use dap_model::Sent;
+use dap_number::element_len;
 use fm_dataset::Dataset;
 
 // The bytes of all numbers from an offset on, as far as they stand together in a file.

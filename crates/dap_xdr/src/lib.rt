@@ -5,7 +5,6 @@ mod array;
 mod elements;
 mod find;
 mod fit;
-mod kind;
 mod len;
 mod lending;
 mod part;
@@ -16,10 +15,8 @@ mod stored;
 mod text;
 mod texts;
 mod widen;
-mod writing;
 
 pub use fit::fits;
 pub use len::{Marked, xdr_len, xdr_marks};
 pub use lending::lent;
 pub use piece::{xdr_piece, xdr_piece_marked};
-pub use writing::put;

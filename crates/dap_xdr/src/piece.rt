@@ -4,15 +4,15 @@ ghost use Rattle.dap_model.specs.declared.declaration.DapKind.{DapKind as Kind};
 ghost use Rattle.dap_xdr.specs.Content.{array_in, part_data, FitsArray};
 ghost use Rattle.dap_xdr.specs.Datasets.{content_of};
 ghost use Rattle.dap_xdr.specs.Marks.{AreMarks, AreMarksOf};
-ghost use Rattle.dap_xdr.specs.Overlay.{overlay, IsPut};
+ghost use Rattle.dap_number.specs.Overlay.{overlay, IsPut};
 ghost use Rattle.dap_xdr.specs.Portion.{data_in};
 
 use crate::array::put_array;
-use crate::kind::put_number;
 use crate::part::{FEW, MAX_RANK, Part};
 use crate::text::put_text;
 use crate::texts::put_texts;
 use dap_model::{DapKind, Sent};
+use dap_number::put_number;
 use fm_dataset::Dataset;
 
 // Writes one number or one text.

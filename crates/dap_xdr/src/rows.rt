@@ -1,9 +1,9 @@
 //! Numbers that stand in a file in rows, each some way behind the one before it.
 ghost use Rattle.std.specs.Prelude.{◌≡◌, ℕ, ◌+◌, ◌*◌, ◌%◌, ◌<◌, ◌≤◌, ◌++◌, drop, false, length, take, IsTrue};
-ghost use Rattle.dap_xdr.specs.Front.{widened_bytes};
+ghost use Rattle.dap_number.specs.Front.{widened_bytes};
 ghost use Rattle.dap_xdr.specs.Rows.{ArePut, AreRowsAt, AreSentAs};
+ghost use Rattle.dap_xdr.specs.Stretch.{stored_len};
 
-use crate::kind::stored_len;
 use crate::slabs::Extent;
 use crate::widen::widen;
 use dap_model::DapKind;
@@ -18,6 +18,21 @@ pub(crate) struct Rows {
 
 // The greatest distance, in numbers, that is counted in bytes: 2^60.
 const FAR: u64 = 1_152_921_504_606_846_976;
+
+// How many bytes `count` numbers take in a netCDF file.
+#[tactic(auto, unfolding(crate::specs::Stretch::stored_len))]
+fn stored_len(kind: DapKind, count: u64) -> u64
+    requires { count ≤ 1_152_921_504_606_846_976 }
+    ensures { result ≡ count * stored_len kind }
+{
+    match kind {
+        DapKind::Text => 0,
+        DapKind::Byte => count,
+        DapKind::Int16 => count * 2,
+        DapKind::Int32 | DapKind::Float32 => count * 4,
+        DapKind::Float64 => count * 8,
+    }
+}
 
 // Whether a place is the first of a unit, and what follows is near enough to be counted in bytes.
 fn has_rows(extent: Extent, place: u64) -> bool

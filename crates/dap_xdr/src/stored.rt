@@ -2,12 +2,12 @@
 ghost use Rattle.std.specs.Prelude.{ℕ, List, drop};
 ghost use Rattle.std.specs.List.{flat_map};
 ghost use Rattle.dap_model.specs.Xdr.{element_bytes};
-ghost use Rattle.dap_xdr.specs.Front.{IsFront};
+ghost use Rattle.dap_number.specs.Front.{IsFront};
 ghost use Rattle.dap_xdr.specs.Stretch.{AreBytesOf};
 
 use crate::widen::widen;
-use crate::writing::put;
 use dap_model::DapKind;
+use dap_number::put;
 
 // Writes numbers that stand in a file, from an offset among their bytes on, as many as can be written at once: maybe
 // nothing.

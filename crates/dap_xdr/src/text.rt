@@ -1,10 +1,9 @@
 //! Texts as XDR.
 ghost use Rattle.std.specs.Prelude.{◌≡◌, ◌<◌, ◌^◌, ◌++◌, drop, length};
 ghost use Rattle.dap_model.specs.Xdr.{text_bytes, text_len, zeros_after};
-ghost use Rattle.dap_xdr.specs.Overlay.{IsPut};
+ghost use Rattle.dap_number.specs.Overlay.{IsPut};
 
-use crate::array::{count_bytes, put_zeros};
-use crate::writing::put;
+use dap_number::{count_bytes, put, put_zeros};
 
 // Writes a text's bytes and the zero bytes after them from an offset on.
 fn put_padded(text: &[u8], from: u64, out: &mut [u8]) -> usize

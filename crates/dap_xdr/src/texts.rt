@@ -3,13 +3,12 @@ ghost use Rattle.std.specs.Prelude.{◌≡◌, ◌+◌, ◌-◌, ◌<◌, ◌≤
 ghost use Rattle.dap_model.specs.Box.{box_len};
 ghost use Rattle.dap_model.specs.declared.declaration.DapKind.{DapKind};
 ghost use Rattle.dap_xdr.specs.Marks.{spacing, texts_before, AreMarks};
-ghost use Rattle.dap_xdr.specs.Overlay.{IsPut};
+ghost use Rattle.dap_number.specs.Overlay.{IsPut};
 ghost use Rattle.dap_xdr.specs.Portion.{texts_of};
 
-use crate::array::count_bytes;
 use crate::part::Part;
 use crate::text::{put_text, text_len};
-use crate::writing::put;
+use dap_number::{count_bytes, put};
 
 // How many texts there are from one mark to the next, of `count` in all.
 #[tactic(auto, unfolding(crate::specs::Marks::spacing))]

@@ -1,8 +1,8 @@
 //! Numbers of two bytes, each written in four.
 ghost use Rattle.std.specs.Prelude.{◌≡◌, ◌+◌, ◌*◌, ◌/◌, ◌≤◌, ◌++◌, drop, length, min, take};
-ghost use Rattle.dap_xdr.specs.Front.{widened_bytes};
+ghost use Rattle.dap_number.specs.Front.{widened_bytes};
 
-use crate::kind::widened;
+use dap_number::widened;
 
 // Writes four bytes at an offset.
 fn put_four(four: [u8; 4], at: usize, out: &mut [u8])

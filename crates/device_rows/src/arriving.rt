@@ -1,12 +1,12 @@
 //! What arrives in an inbox, as text.
 
 use crate::hearing::Heard;
+use crate::turned::put_number_line;
 use dev_host::FolderInbox;
 use dev_traits::{Arrival, Failed, Found, Inbox, Verdict};
-use fm_base::{Fail, NoMemory};
-use row_text::put_shown;
+use fm_base::Fail;
+use row_text::Said;
 use std::alloc::Global;
-use std::fmt::Write;
 use std::marker::Send;
 use std::rt;
 
@@ -30,8 +30,8 @@ pub fn put_step<R: rt::Files + rt::Clock + Drop + Send>(
     inbox: &mut FolderInbox<R, Heard>,
     folder: &str,
     line: &str,
-    out: &mut String,
-) -> Result<bool, NoMemory> {
+    out: &mut Said,
+) -> bool {
     let (word, words) = line.split_once(' ').unwrap_or((line, ""));
     match words.split_once(' ') {
         Some((how, name)) => put_named(alloc, inbox, word, how, name, out),
@@ -45,15 +45,15 @@ fn put_word<R: rt::Files + rt::Clock + Drop + Send>(
     inbox: &mut FolderInbox<R, Heard>,
     folder: &str,
     word: &str,
-    out: &mut String,
-) -> Result<bool, NoMemory> {
+    out: &mut Said,
+) -> bool {
     match word {
-        "next" => put_next(alloc, inbox, out)?,
-        "faults" => writeln!(out, "{} faults", inbox.faults())?,
-        "said" => inbox.teller().put_lines(folder, out)?,
-        _ => return Ok(false),
+        "next" => put_next(alloc, inbox, out),
+        "faults" => put_count(inbox.faults(), " faults\n", out),
+        "said" => inbox.teller().put_lines(folder, out),
+        _ => return false,
     }
-    Ok(true)
+    true
 }
 
 // Appends what a step on a name does.
@@ -63,12 +63,12 @@ fn put_named<R: rt::Files + rt::Clock + Drop + Send>(
     word: &str,
     how: &str,
     name: &str,
-    out: &mut String,
-) -> Result<bool, NoMemory> {
+    out: &mut Said,
+) -> bool {
     match word {
         "fetch" => put_fetched(alloc, inbox, how, name, out),
         "settle" => put_settled(inbox, how, name, out),
-        _ => Ok(false),
+        _ => false,
     }
 }
 
@@ -77,65 +77,67 @@ fn put_fetched<R: rt::Files + rt::Clock + Drop + Send>(
     inbox: &mut FolderInbox<R, Heard>,
     limit: &str,
     name: &str,
-    out: &mut String,
-) -> Result<bool, NoMemory> {
+    out: &mut Said,
+) -> bool {
     let Ok(limit) = limit.parse::<u64>() else {
-        return Ok(false);
+        return false;
     };
     let found = inbox.fetch(alloc, name.as_bytes(), limit);
-    let put = put_found(&found, out);
+    put_found(&found, out);
     drop(found);
-    put?;
-    Ok(true)
+    true
 }
 
 fn put_settled<R: rt::Files + rt::Clock + Drop + Send>(
     inbox: &mut FolderInbox<R, Heard>,
     verdict: &str,
     name: &str,
-    out: &mut String,
-) -> Result<bool, NoMemory> {
+    out: &mut Said,
+) -> bool {
     let Some(verdict) = verdict_of(verdict) else {
-        return Ok(false);
+        return false;
     };
     if inbox.settle(name.as_bytes(), verdict).is_err() {
-        out.push_str("fault\n")?;
+        out.put("fault\n");
     }
-    Ok(true)
+    true
 }
 
 fn put_next<R: rt::Files + rt::Clock + Drop + Send>(
     alloc: Global,
     inbox: &mut FolderInbox<R, Heard>,
-    out: &mut String,
-) -> Result<(), NoMemory> {
+    out: &mut Said,
+) {
     let next = inbox.next(alloc);
-    let put = put_arrival(&next, out);
+    put_arrival(&next, out);
     drop(next);
-    put
 }
 
-fn put_arrival(next: &Result<Arrival, Fail<Failed>>, out: &mut String) -> Result<(), NoMemory> {
+fn put_arrival(next: &Result<Arrival, Fail<Failed>>, out: &mut Said) {
     match next {
         Ok(Arrival::Name(name)) => {
-            put_shown(name.as_slice(), out)?;
-            out.push('\n')?;
+            out.put_shown(name.as_slice());
+            out.put("\n");
         }
-        Ok(Arrival::Idle) => out.push_str("nothing yet\n")?,
-        Ok(Arrival::Done) => out.push_str("done\n")?,
-        Err(Fail::Fault(_)) => out.push_str("fault\n")?,
-        Err(Fail::NoMemory) => return Err(NoMemory),
+        Ok(Arrival::Idle) => out.put("nothing yet\n"),
+        Ok(Arrival::Done) => out.put("done\n"),
+        Err(Fail::Fault(_)) => out.put("fault\n"),
+        Err(Fail::NoMemory) => out.run_short(),
     }
-    Ok(())
 }
 
-fn put_found(found: &Result<Found, Fail<Failed>>, out: &mut String) -> Result<(), NoMemory> {
+fn put_found(found: &Result<Found, Fail<Failed>>, out: &mut Said) {
     match found {
-        Ok(Found::Content(content)) => writeln!(out, "{} bytes", content.len())?,
-        Ok(Found::TooLong(len)) => writeln!(out, "too long: {}", *len)?,
-        Ok(Found::Absent) => out.push_str("absent\n")?,
-        Err(Fail::Fault(_)) => out.push_str("fault\n")?,
-        Err(Fail::NoMemory) => return Err(NoMemory),
+        Ok(Found::Content(content)) => put_count(content.len() as u64, " bytes\n", out),
+        Ok(Found::TooLong(len)) => put_number_line("too long: ", *len, out),
+        Ok(Found::Absent) => out.put("absent\n"),
+        Err(Fail::Fault(_)) => out.put("fault\n"),
+        Err(Fail::NoMemory) => out.run_short(),
     }
-    Ok(())
+}
+
+// Appends a number and what it counts.
+fn put_count(count: u64, what: &str, out: &mut Said) {
+    out.put_number("", count);
+    out.put(what);
 }

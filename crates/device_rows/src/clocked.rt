@@ -1,14 +1,13 @@
 //! The machine's clock, over clocks in memory.
 
 use crate::hearing::Heard;
-use crate::turned::text_if;
+use crate::turned::put_number_line;
 use dev_host::RealClock;
 use dev_traits::Clock;
 use fm_base::NoMemory;
-use row_text::Row;
+use row_text::{Row, Said};
 use std::alloc::Global;
 use std::cell::Cell;
-use std::fmt::Write;
 use std::io::{self, Error, ErrorKind};
 use std::rt;
 use std::time::Duration;
@@ -76,52 +75,50 @@ fn readings_of(alloc: Global, words: &str) -> Result<Option<Vec<Reading>>, NoMem
     Ok(Some(readings))
 }
 
-/// The moments of a clock of so many ticks, whose machine reads as the row says, and what it tells.
-pub fn moments(alloc: Global, row: &Row<'_>) -> Result<Option<String>, NoMemory> {
+/// Puts the moments of a clock of so many ticks, whose machine reads as the row says, and what it tells.
+pub fn put_moments(alloc: Global, row: &Row<'_>, out: &mut Said) -> Result<bool, NoMemory> {
     if !row.has_each(&["ticks", "reads"]) {
-        return Ok(None);
+        return Ok(false);
     }
     let (Some(ticks), Some(words)) = (row.value("ticks"), row.value("reads")) else {
-        return Ok(None);
+        return Ok(false);
     };
     let Ok(ticks) = ticks.parse::<u32>() else {
-        return Ok(None);
+        return Ok(false);
     };
-    match readings_of(alloc, words)? {
-        Some(readings) => moments_by(alloc, ticks, readings.as_slice()),
-        None => Ok(None),
+    match readings_of(alloc, words) {
+        Ok(Some(readings)) => {
+            put_by(alloc, ticks, readings.as_slice(), out);
+            Ok(true)
+        }
+        Ok(None) => Ok(false),
+        Err(NoMemory) => Err(NoMemory),
     }
 }
 
-fn moments_by(alloc: Global, ticks: u32, readings: &[Reading]) -> Result<Option<String>, NoMemory> {
+fn put_by(alloc: Global, ticks: u32, readings: &[Reading], out: &mut Said) {
     let machine = Script {
         readings,
         index: Cell::new(0),
     };
     let mut clock = RealClock::new(machine, Heard::new(alloc), ticks, Duration::from_secs(1));
-    let mut out = String::new(alloc);
-    let known = put_moments(&mut clock, &mut out);
+    put_each(&mut clock, out);
     drop(clock);
-    text_if(known, out)
 }
 
 // Appends each moment behind the lines that were told until it came, and `none` behind the last.
-fn put_moments(
-    clock: &mut RealClock<Script<'_>, Heard>,
-    out: &mut String,
-) -> Result<bool, NoMemory> {
+fn put_each(clock: &mut RealClock<Script<'_>, Heard>, out: &mut Said) {
     for _ in 0..ROUNDS {
         let moment = clock.next();
         if let Some(heard) = clock.teller() {
-            heard.put_all(out)?;
+            heard.put_all(out);
         }
         match moment {
-            Some(moment) => writeln!(out, "{moment}")?,
+            Some(moment) => put_number_line("", moment, out),
             None => {
-                out.push_str("none")?;
-                return Ok(true);
+                out.put("none");
+                break;
             }
         }
     }
-    Ok(true)
 }

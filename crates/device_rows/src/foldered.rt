@@ -4,9 +4,8 @@ use crate::arriving::put_step;
 use crate::hearing::Heard;
 use dev_host::{FolderInbox, Stops};
 use fm_base::{Fail, NoMemory};
-use row_text::Row;
+use row_text::{Row, Said};
 use std::alloc::Global;
-use std::fmt::Write;
 use std::os::unix::fs::symlink;
 use std::path::PathBuf;
 use std::{env, fs, io, process};
@@ -29,7 +28,7 @@ impl Folder {
 
     // Changes what lies there, or looks at it: `put NAME`, a file that has its name as its content; `link NAME`, a link
     // to `source`; `remove NAME`; `mkdir NAME`; `rmdir NAME`; `has NAME`.
-    fn change(&self, rt: &HostRuntime, line: &str, out: &mut String) -> io::Result<bool> {
+    fn change(&self, rt: &HostRuntime, line: &str, out: &mut Said) -> io::Result<bool> {
         let (word, name) = line.split_once(' ').unwrap_or((line, ""));
         let path = self.path.join(rt.alloc(), name)?;
         let changed = change_at(rt, word, name, path.as_str(), out);
@@ -44,7 +43,7 @@ fn change_at(
     word: &str,
     name: &str,
     path: &str,
-    out: &mut String,
+    out: &mut Said,
 ) -> io::Result<bool> {
     let done = match word {
         "put" => fs::write(rt, path, name.as_bytes()),
@@ -59,44 +58,45 @@ fn change_at(
     Ok(true)
 }
 
-fn put_there(rt: &HostRuntime, path: &str, out: &mut String) -> io::Result<()> {
+fn put_there(rt: &HostRuntime, path: &str, out: &mut Said) -> io::Result<()> {
     let there = there_at(rt, path)?;
-    Ok(writeln!(out, "{there}")?)
+    out.put(there);
+    Ok(())
 }
 
-// Whether anything lies at a path, as a link does that leads nowhere.
+// The line that says whether anything lies at a path, as a link does that leads nowhere.
 fn there_at(rt: &HostRuntime, path: &str) -> io::Result<&'static str> {
     match fs::symlink_metadata(rt, path) {
-        Ok(_) => Ok("there"),
-        Err(error) if error.kind() == io::ErrorKind::NotFound => Ok("not there"),
+        Ok(_) => Ok("there\n"),
+        Err(error) if error.kind() == io::ErrorKind::NotFound => Ok("not there\n"),
         Err(error) => Err(error),
     }
 }
 
-/// What the inbox of a folder does that has these files and folders at first, which end in `/`.
-pub fn folder_row(
+/// Puts what the inbox of a folder does that has these files and folders at first, which end in `/`.
+pub fn put_folder(
     rt: HostRuntime,
     alloc: Global,
     row: &Row<'_>,
-) -> Result<Option<String>, NoMemory> {
+    out: &mut Said,
+) -> Result<bool, NoMemory> {
     if !row.has_only(&["folder", "others", "steps"]) || row.value("steps").is_none() {
-        return Ok(None);
+        return Ok(false);
     }
     let Ok(folder) = Folder::new(&rt, row.line) else {
-        return Ok(None);
+        return Ok(false);
     };
-    let mut out = String::new(alloc);
-    let known = begin(&rt, &folder, row.value("folder").unwrap_or(""), &mut out)
-        && go_through(rt, alloc, &folder, row, &mut out)?;
-    if fs::remove_dir_all(&rt, folder.path.as_str()).is_err() || !known {
-        return Ok(None);
+    let known = begin(&rt, &folder, row.value("folder").unwrap_or(""), out)
+        && go_through(rt, alloc, &folder, row, out)?;
+    if fs::remove_dir_all(&rt, folder.path.as_str()).is_err() {
+        return Ok(false);
     }
     out.pop();
-    Ok(Some(out))
+    Ok(known)
 }
 
 // Puts the files there, and makes the folders.
-fn begin(rt: &HostRuntime, folder: &Folder, names: &str, out: &mut String) -> bool {
+fn begin(rt: &HostRuntime, folder: &Folder, names: &str, out: &mut Said) -> bool {
     for name in names.split_whitespace() {
         let line = match name.strip_suffix('/') {
             Some(name) => format!(in rt.alloc(); "mkdir {name}"),
@@ -137,7 +137,7 @@ fn go_through(
     alloc: Global,
     folder: &Folder,
     row: &Row<'_>,
-    out: &mut String,
+    out: &mut Said,
 ) -> Result<bool, NoMemory> {
     let stops = stops_of(alloc, row)?;
     let shared = stops.share()?;
@@ -147,11 +147,11 @@ fn go_through(
             let steps = row.value("steps").unwrap_or("");
             let done = do_steps(&rt, alloc, &mut inbox, folder, &stops, steps, out);
             drop(inbox);
-            done
+            Ok(done)
         }
         Err(Fail::NoMemory) => Err(NoMemory),
         Err(Fail::Fault(_)) => {
-            out.push_str("can't be opened\n")?;
+            out.put("can't be opened\n");
             Ok(true)
         }
     }
@@ -165,15 +165,15 @@ fn do_steps(
     folder: &Folder,
     stops: &Stops,
     steps: &str,
-    out: &mut String,
-) -> Result<bool, NoMemory> {
+    out: &mut Said,
+) -> bool {
     for line in steps.lines() {
-        let is_done = put_step(alloc, inbox, folder.path.as_str(), line, out)?
+        let is_done = put_step(alloc, inbox, folder.path.as_str(), line, out)
             || change_others(stops, line)
             || folder.change(rt, line, out).unwrap_or(false);
         if !is_done {
-            return Ok(false);
+            return false;
         }
     }
-    Ok(true)
+    true
 }

@@ -1,6 +1,7 @@
 //! What an inbox tells of its folder, and a clock.
 
 use dev_host::Tell;
+use row_text::Said;
 use std::alloc::{AllocError, Global};
 use std::cell::Cell;
 use std::str;
@@ -8,7 +9,7 @@ use std::str;
 // The lines that were told since they were put out last.
 #[derive(Drop)]
 pub(crate) struct Heard {
-    lines: Cell<Option<String>>,
+    lines: Cell<Option<Said>>,
     alloc: Global,
 }
 
@@ -21,59 +22,56 @@ impl Heard {
     }
 
     // Appends the lines, or `nothing said`. The path of a row's folder is left out.
-    pub fn put_lines(&self, folder: &str, out: &mut String) -> Result<(), AllocError> {
+    pub fn put_lines(&self, folder: &str, out: &mut Said) {
         match self.lines.take() {
-            Some(lines) => {
-                let put = put_inside(lines.as_str(), folder, out);
-                drop(lines);
-                put
-            }
-            None => out.push_str("nothing said\n"),
+            Some(lines) => put_inside(lines, folder, out),
+            None => out.put("nothing said\n"),
         }
     }
 
     // Appends the lines as they are.
-    pub fn put_all(&self, out: &mut String) -> Result<(), AllocError> {
-        match self.lines.take() {
-            Some(lines) => {
-                let put = out.push_str(lines.as_str());
-                drop(lines);
-                put
-            }
-            None => Ok(()),
+    pub fn put_all(&self, out: &mut Said) {
+        if let Some(lines) = self.lines.take() {
+            out.put_said(lines);
         }
-    }
-
-    // Adds a line to these. A part that isn't text is left out.
-    fn add(&self, lines: &mut String, line: &[&[u8]]) -> Result<(), AllocError> {
-        for part in line {
-            if let Ok(text) = str::from_utf8(*part) {
-                lines.push_str(text)?;
-            }
-        }
-        lines.push('\n')
     }
 }
 
 // Appends lines without the path of a folder.
-fn put_inside(lines: &str, folder: &str, out: &mut String) -> Result<(), AllocError> {
+fn put_inside(lines: Said, folder: &str, out: &mut Said) {
+    match lines.text() {
+        Ok(text) => put_each(text.as_str(), folder, out),
+        Err(AllocError) => out.run_short(),
+    }
+}
+
+fn put_each(lines: &str, folder: &str, out: &mut Said) {
     for line in lines.lines() {
         let (word, rest) = line.split_once(folder).unwrap_or(("", line));
-        out.push_str(word)?;
-        out.push_str("in")?;
-        out.push_str(rest)?;
-        out.push('\n')?;
+        out.put(word);
+        out.put("in");
+        out.put(rest);
+        out.put("\n");
     }
-    Ok(())
+}
+
+// Adds a line to these. A part that isn't text is left out.
+fn add(lines: &mut Said, line: &[&[u8]]) {
+    for part in line {
+        if let Ok(text) = str::from_utf8(*part) {
+            lines.put(text);
+        }
+    }
+    lines.put("\n");
 }
 
 impl Tell for Heard {
     fn tell(&self, line: &[&[u8]]) {
         let mut lines = match self.lines.take() {
             Some(lines) => lines,
-            None => String::new(self.alloc),
+            None => Said::new(self.alloc),
         };
-        let _added = self.add(&mut lines, line);
+        add(&mut lines, line);
         self.lines.set(Some(lines));
     }
 }

@@ -2,19 +2,19 @@
 
 use crate::hearing::Heard;
 use dev_host::{most_descriptors, tell_with_room};
-use fm_base::NoMemory;
-use row_text::Row;
+use row_text::{Row, Said};
 use std::alloc::Global;
 
-/// The most descriptors of a process, in the text of its limits.
-pub fn limits(alloc: Global, row: &Row<'_>) -> Result<Option<String>, NoMemory> {
+/// Puts the most descriptors of a process, in the text of its limits.
+pub fn put_limits(row: &Row<'_>, out: &mut Said) -> bool {
     let (true, Some(text)) = (row.has_each(&["limits"]), row.value("limits")) else {
-        return Ok(None);
+        return false;
     };
-    Ok(Some(match most_descriptors(text) {
-        Some(count) => format!(in alloc; "{count}")?,
-        None => String::from_str(alloc, "no number")?,
-    }))
+    match most_descriptors(text) {
+        Some(count) => out.put_number("", count),
+        None => out.put("no number"),
+    }
+    true
 }
 
 // The room that a row says: none where it has no such key.
@@ -28,31 +28,24 @@ fn room_of(row: &Row<'_>) -> Option<Option<u64>> {
     }
 }
 
-// A line of these two parts, with a blank between, as it is told where there is so much room.
-fn told(alloc: Global, word: &str, rest: &str, room: Option<u64>) -> Result<String, NoMemory> {
+// Puts a line of these two parts, with a blank between, as it is told where there is so much room.
+fn put_told(alloc: Global, word: &str, rest: &str, room: Option<u64>, out: &mut Said) {
     let heard = Heard::new(alloc);
     let blank: &[u8] = b" ";
     tell_with_room(&heard, &[word.as_bytes(), blank, rest.as_bytes()], room);
-    let mut out = String::new(alloc);
-    let put = heard.put_all(&mut out);
+    heard.put_all(out);
     drop(heard);
     out.pop();
-    match put {
-        Ok(()) => Ok(out),
-        Err(_) => {
-            drop(out);
-            Err(NoMemory)
-        }
-    }
 }
 
-/// A line as it is told where there is room for so many connections, or where that isn't known.
-pub fn line(alloc: Global, row: &Row<'_>) -> Result<Option<String>, NoMemory> {
+/// Puts a line as it is told where there is room for so many connections, or where that isn't known.
+pub fn put_line(alloc: Global, row: &Row<'_>, out: &mut Said) -> bool {
     let (true, Some(text)) = (row.has_only(&["line", "room"]), row.value("line")) else {
-        return Ok(None);
+        return false;
     };
     let (Some(room), Some((word, rest))) = (room_of(row), text.split_once(' ')) else {
-        return Ok(None);
+        return false;
     };
-    Ok(Some(told(alloc, word, rest, room)?))
+    put_told(alloc, word, rest, room, out);
+    true
 }

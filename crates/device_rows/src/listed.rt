@@ -2,11 +2,10 @@
 
 use crate::arriving::put_step;
 use crate::hearing::Heard;
-use crate::turned::text_if;
 use dev_host::{FolderInbox, Stops};
 use fm_base::NoMemory;
-use row_text::{Row, bytes};
-use std::alloc::{Allocator, Global};
+use row_text::{Row, Said, bytes};
+use std::alloc::{AllocError, Allocator, Global};
 use std::fs::{File, Metadata, OpenOptions};
 use std::io::{self, Error, ErrorKind, Read};
 use std::rt;
@@ -114,11 +113,17 @@ impl rt::Clock for Machine {
 }
 
 // The names between blanks, where there is room for them.
-fn names_of(alloc: Global, words: &str, fails: bool) -> Result<Option<Names>, NoMemory> {
-    let Some(mut names) = bytes(alloc, words)? else {
-        return Ok(None);
-    };
-    end_each(&mut names)?;
+fn names_of(alloc: Global, words: &str, fails: bool) -> Result<Option<Names>, AllocError> {
+    match bytes(alloc, words) {
+        Ok(Some(mut names)) => listed(&mut names, fails),
+        Ok(None) => Ok(None),
+        Err(AllocError) => Err(AllocError),
+    }
+}
+
+// The names between blanks, where there is room for them, each ended by a NUL.
+fn listed(names: &mut Vec<u8>, fails: bool) -> Result<Option<Names>, AllocError> {
+    end_each(names)?;
     let mut room = [0; ROOM];
     let mut left = names.as_slice();
     let Ok(len) = left.read(&mut room) else {
@@ -135,45 +140,41 @@ fn names_of(alloc: Global, words: &str, fails: bool) -> Result<Option<Names>, No
     }))
 }
 
-/// What the inbox of a folder in memory does, whose listings have these names between blanks; with the key
+/// Puts what the inbox of a folder in memory does, whose listings have these names between blanks; with the key
 /// `fails` they fail after the last name.
-pub fn names_row(
+pub fn put_names(
     rt: HostRuntime,
     alloc: Global,
     row: &Row<'_>,
-) -> Result<Option<String>, NoMemory> {
+    out: &mut Said,
+) -> Result<bool, NoMemory> {
     let (true, Some(words), Some(steps)) = (
         row.has_only(&["names", "fails", "steps"]),
         row.value("names"),
         row.value("steps"),
     ) else {
-        return Ok(None);
+        return Ok(false);
     };
-    match names_of(alloc, words, row.value("fails").is_some())? {
-        Some(names) => over_names(Machine { rt, names }, alloc, steps),
-        None => Ok(None),
+    match names_of(alloc, words, row.value("fails").is_some()) {
+        Ok(Some(names)) => put_over(Machine { rt, names }, alloc, steps, out),
+        Ok(None) => Ok(false),
+        Err(AllocError) => Err(NoMemory),
     }
 }
 
-fn over_names(machine: Machine, alloc: Global, steps: &str) -> Result<Option<String>, NoMemory> {
-    let mut out = String::new(alloc);
-    let known = put_names(machine, alloc, steps, &mut out);
-    text_if(known, out)
-}
-
 // Appends what the steps of an inbox do. It is false where one is unknown, or the folder can't be opened.
-fn put_names(
+fn put_over(
     machine: Machine,
     alloc: Global,
     steps: &str,
-    out: &mut String,
+    out: &mut Said,
 ) -> Result<bool, NoMemory> {
-    let (heard, stops) = (Heard::new(alloc), Stops::new(alloc)?);
-    match FolderInbox::open(machine, heard, stops, alloc, b"in") {
+    let stops = Stops::new(alloc)?;
+    match FolderInbox::open(machine, Heard::new(alloc), stops, alloc, b"in") {
         Ok(mut inbox) => {
             let known = put_steps(alloc, &mut inbox, steps, out);
             drop(inbox);
-            known
+            Ok(known)
         }
         Err(_) => Ok(false),
     }
@@ -183,19 +184,19 @@ fn put_steps(
     alloc: Global,
     inbox: &mut FolderInbox<Machine, Heard>,
     steps: &str,
-    out: &mut String,
-) -> Result<bool, NoMemory> {
+    out: &mut Said,
+) -> bool {
     for line in steps.lines() {
-        if !put_step(alloc, inbox, "in", line, out)? {
-            return Ok(false);
+        if !put_step(alloc, inbox, "in", line, out) {
+            return false;
         }
     }
     out.pop();
-    Ok(true)
+    true
 }
 
 // Ends each name by a NUL.
-fn end_each(names: &mut Vec<u8>) -> Result<(), NoMemory> {
+fn end_each(names: &mut Vec<u8>) -> Result<(), AllocError> {
     for byte in names.as_mut_slice() {
         if *byte == b' ' {
             *byte = 0;

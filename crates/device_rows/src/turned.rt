@@ -4,8 +4,9 @@ use crate::accepted::put_accepts;
 use crate::linked::{put_end, put_link};
 use crate::turns::{Turn, turns_of};
 use fm_base::NoMemory;
-use row_text::Row;
+use row_text::{Row, Said};
 use std::alloc::Global;
+use std::fmt::Display;
 
 /// What does the turns of a row.
 #[derive(Clone, Copy)]
@@ -37,57 +38,31 @@ pub(crate) fn text_and_steps<'a>(row: &'a Row<'_>, key: &str) -> Option<(&'a str
     Some((row.value(key)?, row.value("steps")?))
 }
 
-// The text that was put, where all that it says is known.
-pub(crate) fn text_if(
-    known: Result<bool, NoMemory>,
-    text: String,
-) -> Result<Option<String>, NoMemory> {
-    match known {
-        Ok(true) => Ok(Some(text)),
-        Ok(false) => {
-            drop(text);
-            Ok(None)
-        }
-        Err(NoMemory) => {
-            drop(text);
-            Err(NoMemory)
-        }
-    }
+// Appends a line of a text and a number behind it.
+pub(crate) fn put_number_line<N: Display + Drop>(before: &str, number: N, out: &mut Said) {
+    out.put_number(before, number);
+    out.put("\n");
 }
 
-/// What the steps of a row do to a device that does its turns.
-pub fn over_turns(
+/// Puts what the steps of a row do to a device that does its turns.
+pub fn put_over_turns(
     alloc: Global,
     row: &Row<'_>,
     device: Device,
-) -> Result<Option<String>, NoMemory> {
+    out: &mut Said,
+) -> Result<bool, NoMemory> {
     let Some((words, steps)) = text_and_steps(row, device.key()) else {
-        return Ok(None);
+        return Ok(false);
     };
-    match turns_of(alloc, words)? {
-        Some(turns) => done_by(alloc, device, turns.as_slice(), steps),
-        None => Ok(None),
+    match turns_of(alloc, words) {
+        Ok(Some(turns)) => Ok(put_done(device, turns.as_slice(), steps, out)),
+        Ok(None) => Ok(false),
+        Err(NoMemory) => Err(NoMemory),
     }
 }
 
-fn done_by(
-    alloc: Global,
-    device: Device,
-    turns: &[Turn],
-    steps: &str,
-) -> Result<Option<String>, NoMemory> {
-    let mut out = String::new(alloc);
-    let known = put_done(device, turns, steps, &mut out);
-    text_if(known, out)
-}
-
 // Appends what the steps do. It is false where one is unknown.
-fn put_done(
-    device: Device,
-    turns: &[Turn],
-    steps: &str,
-    out: &mut String,
-) -> Result<bool, NoMemory> {
+fn put_done(device: Device, turns: &[Turn], steps: &str, out: &mut Said) -> bool {
     match device {
         Device::Link => put_link(turns, steps, out),
         Device::Ending => put_end(turns, steps, out),

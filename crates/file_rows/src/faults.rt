@@ -2,13 +2,12 @@
 
 use fm_model::{LoadFault, ProtoFault};
 use nc_model::{HeaderFault, LayoutFault, UnitsFault};
-use row_text::put_shown;
-use std::alloc::AllocError;
+use row_text::Said;
 
 /// Appends a fault of a header.
-pub fn put_header_fault(fault: HeaderFault, out: &mut String) -> Result<(), AllocError> {
+pub fn put_header_fault(fault: HeaderFault, out: &mut Said) {
     let (what, number) = header_fault(fault);
-    put_fault(fault.code(), what, number, out)
+    put_fault(fault.code(), what, number, out);
 }
 
 // What is wrong with a header, and the number that the fault carries.
@@ -30,44 +29,47 @@ fn header_fault(fault: HeaderFault) -> (&'static str, Option<u64>) {
 }
 
 // Appends the number of a fault, what is wrong, and the number that it carries.
-fn put_fault(
-    code: u16,
-    what: &str,
-    number: Option<u64>,
-    out: &mut String,
-) -> Result<(), AllocError> {
-    write!(out, "fault {code}: {what}")?;
+fn put_fault(code: u16, what: &str, number: Option<u64>, out: &mut Said) {
+    put_code(code, out);
     match number {
-        Some(number) => write!(out, "{number}"),
-        None => Ok(()),
+        Some(number) => out.put_number(what, number),
+        None => out.put(what),
     }
 }
 
+// Appends the number of a fault, before what is wrong.
+fn put_code(code: u16, out: &mut Said) {
+    out.put_number("fault ", code);
+    out.put(": ");
+}
+
 /// Appends a fault of a layout.
-pub fn put_layout_fault(fault: LayoutFault, out: &mut String) -> Result<(), AllocError> {
-    let code = fault.code();
+pub fn put_layout_fault(fault: LayoutFault, out: &mut Said) {
+    put_code(fault.code(), out);
     match fault {
-        LayoutFault::TooLarge(var) => write!(out, "fault {code}: variable {var} is too large"),
+        LayoutFault::TooLarge(var) => {
+            out.put_number("variable ", var);
+            out.put(" is too large");
+        }
         LayoutFault::DataOutside { var, end, len } => {
-            write!(
-                out,
-                "fault {code}: variable {var} ends at {end}, the file at {len}"
-            )
+            out.put_number("variable ", var);
+            out.put_number(" ends at ", end);
+            out.put_number(", the file at ", len);
         }
     }
 }
 
-fn put_units_fault(fault: UnitsFault, out: &mut String) -> Result<(), AllocError> {
+fn put_units_fault(fault: UnitsFault, out: &mut Said) {
     let (what, number) = match fault {
         UnitsFault::BadUnits(at) => ("units at ", Some(at)),
         UnitsFault::Calendar => ("another calendar", None),
         UnitsFault::MixedCalendar => ("a date before 1582-10-15", None),
     };
-    put_fault(fault.code(), what, number, out)
+    put_fault(fault.code(), what, number, out);
 }
 
 /// Appends why a file is no prototype.
-pub fn put_proto_fault(fault: &ProtoFault, out: &mut String) -> Result<(), AllocError> {
+pub fn put_proto_fault(fault: &ProtoFault, out: &mut Said) {
     let (what, name) = match fault {
         ProtoFault::Header(fault) => return put_header_fault(*fault, out),
         ProtoFault::Layout(fault) => return put_layout_fault(*fault, out),
@@ -77,12 +79,12 @@ pub fn put_proto_fault(fault: &ProtoFault, out: &mut String) -> Result<(), Alloc
         ProtoFault::NameTaken(name) => ("taken name ", name.as_slice()),
         ProtoFault::EmptyDimension(name) => ("empty dimension ", name.as_slice()),
     };
-    write!(out, "fault {}: {what}", fault.code())?;
-    put_shown(name, out)
+    put_code(fault.code(), out);
+    put_named(what, name, out);
 }
 
 /// Appends why a file isn't taken.
-pub fn put_load_fault(fault: &LoadFault, out: &mut String) -> Result<(), AllocError> {
+pub fn put_load_fault(fault: &LoadFault, out: &mut Said) {
     match fault {
         LoadFault::Header(fault) => put_header_fault(*fault, out),
         LoadFault::Layout(fault) => put_layout_fault(*fault, out),
@@ -92,18 +94,14 @@ pub fn put_load_fault(fault: &LoadFault, out: &mut String) -> Result<(), AllocEr
 }
 
 // Appends the fault of what a file holds.
-fn put_content_fault(fault: &LoadFault, out: &mut String) -> Result<(), AllocError> {
-    write!(out, "fault {}: ", fault.code())?;
-    put_content(fault, out)
-}
-
-fn put_content(fault: &LoadFault, out: &mut String) -> Result<(), AllocError> {
+fn put_content_fault(fault: &LoadFault, out: &mut Said) {
+    put_code(fault.code(), out);
     match fault {
         LoadFault::MissingVariable(name) => put_named("no variable ", name.as_slice(), out),
         LoadFault::VariableDiffers(name) => put_named("other form of ", name.as_slice(), out),
         LoadFault::AttributeDiffers { name, attribute } => {
-            put_named("other ", attribute.as_slice(), out)?;
-            put_named(" of ", name.as_slice(), out)
+            put_named("other ", attribute.as_slice(), out);
+            put_named(" of ", name.as_slice(), out);
         }
         LoadFault::GridDiffers {
             name,
@@ -111,38 +109,51 @@ fn put_content(fault: &LoadFault, out: &mut String) -> Result<(), AllocError> {
             proto,
             file,
         } => {
-            put_byte(*byte, *file, *proto, out)?;
-            put_shown(name.as_slice(), out)
+            put_byte(*byte, *file, *proto, out);
+            put_named(", of ", name.as_slice(), out);
         }
         _ => put_moment_fault(fault, out),
     }
 }
 
 // Appends that a byte is another one in the prototype.
-fn put_byte(byte: u64, file: u8, proto: u8, out: &mut String) -> Result<(), AllocError> {
-    write!(
-        out,
-        "byte {byte} is {file:02x}, in the prototype {proto:02x}, of "
-    )
+fn put_byte(byte: u64, file: u8, proto: u8, out: &mut Said) {
+    out.put_number("byte ", byte);
+    out.put(" is ");
+    out.put_hex(&[file]);
+    out.put(", in the prototype ");
+    out.put_hex(&[proto]);
 }
 
 /// Appends what a name is, and the name.
-pub fn put_named(what: &str, name: &[u8], out: &mut String) -> Result<(), AllocError> {
-    out.push_str(what)?;
-    put_shown(name, out)
+pub fn put_named(what: &str, name: &[u8], out: &mut Said) {
+    out.put(what);
+    out.put_shown(name);
 }
 
 // Appends the fault of a run or a time.
-fn put_moment_fault(fault: &LoadFault, out: &mut String) -> Result<(), AllocError> {
+fn put_moment_fault(fault: &LoadFault, out: &mut Said) {
     match fault {
-        LoadFault::NoRunTime => out.push_str("no run"),
-        LoadFault::NotWhole(k) => write!(out, "time {k} is not whole"),
-        LoadFault::TimeRange(k, seconds) => write!(out, "time {k} is {seconds}"),
-        LoadFault::TimeRepeated(k) => write!(out, "time {k} again"),
-        LoadFault::NoTimes => out.push_str("no times"),
-        LoadFault::TooManyTimes(count) => write!(out, "{count} times"),
-        LoadFault::RunNotWhole => out.push_str("the run is not whole"),
-        LoadFault::RunRange(seconds) => write!(out, "the run is {seconds}"),
-        _ => out.push_str("?"),
+        LoadFault::NoRunTime => out.put("no run"),
+        LoadFault::NotWhole(k) => put_time(*k, " is not whole", out),
+        LoadFault::TimeRange(k, seconds) => {
+            put_time(*k, " is ", out);
+            out.put_number("", *seconds);
+        }
+        LoadFault::TimeRepeated(k) => put_time(*k, " again", out),
+        LoadFault::NoTimes => out.put("no times"),
+        LoadFault::TooManyTimes(count) => {
+            out.put_number("", *count);
+            out.put(" times");
+        }
+        LoadFault::RunNotWhole => out.put("the run is not whole"),
+        LoadFault::RunRange(seconds) => out.put_number("the run is ", *seconds),
+        _ => out.put("?"),
     }
+}
+
+// Appends a time by its index, and what is wrong with it.
+fn put_time(index: u64, what: &str, out: &mut Said) {
+    out.put_number("time ", index);
+    out.put(what);
 }

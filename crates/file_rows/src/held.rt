@@ -2,13 +2,13 @@
 ghost use Rattle.std.specs.Prelude.{IfOk, IfSome};
 ghost use Rattle.fm_edition.specs.Held.{OpFits};
 
-use super::{allocated, unknown};
+use super::unknown;
 use fm_base::{Arc, Bytes, Fail, NoMemory};
 use fm_edition::Edition;
 use fm_load::load;
-use fm_model::{Loaded, MAX_FILE_BYTES, Op, Tally};
+use fm_model::{MAX_FILE_BYTES, Op, Tally};
 use fm_sample::edition_of;
-use row_text::{Field, File, Row, content, put_shown};
+use row_text::{Field, File, Row, Said, content};
 use std::alloc::{AllocError, Global};
 use std::mem::replace;
 
@@ -18,14 +18,15 @@ pub fn put_held(
     alloc: Global,
     files: &[File],
     row: &Row<'_>,
-    out: &mut String,
-) -> Result<bool, AllocError> {
+    out: &mut Said,
+) -> Result<bool, NoMemory> {
     if !row.has_only(&["collection", "put", "expire", "retract"]) {
         return Ok(false);
     }
-    match content(alloc, files, row.value("collection").unwrap_or(""))? {
-        Some(items) => put_over(alloc, Bytes { items }, files, row, out),
-        None => Ok(false),
+    match content(alloc, files, row.value("collection").unwrap_or("")) {
+        Ok(Some(items)) => put_over(alloc, Bytes { items }, files, row, out),
+        Ok(None) => Ok(false),
+        Err(AllocError) => Err(NoMemory),
     }
 }
 
@@ -34,8 +35,8 @@ fn put_over(
     prototype: Bytes,
     files: &[File],
     row: &Row<'_>,
-    out: &mut String,
-) -> Result<bool, AllocError> {
+    out: &mut Said,
+) -> Result<bool, NoMemory> {
     match edition_of(alloc, prototype) {
         Ok(mut edition) => {
             let put = put_after(alloc, &mut edition, files, row, out);
@@ -52,14 +53,14 @@ fn put_after(
     edition: &mut Edition,
     files: &[File],
     row: &Row<'_>,
-    out: &mut String,
-) -> Result<bool, AllocError> {
+    out: &mut Said,
+) -> Result<bool, NoMemory> {
     for field in row.fields.as_slice() {
-        if is_operation(field) && !allocated(goes_on(alloc, edition, files, field))? {
+        if is_operation(field) && !goes_on(alloc, edition, files, field)? {
             return Ok(false);
         }
     }
-    put_collection(alloc, edition, out)?;
+    put_collection(alloc, edition, out);
     Ok(true)
 }
 
@@ -70,12 +71,13 @@ fn goes_on(
     files: &[File],
     field: &Field<'_>,
 ) -> Result<bool, NoMemory> {
-    match after(alloc, edition, files, field)? {
-        Some(next) => {
+    match after(alloc, edition, files, field) {
+        Ok(Some(next)) => {
             drop(replace(edition, next));
             Ok(true)
         }
-        None => Ok(false),
+        Ok(None) => Ok(false),
+        Err(NoMemory) => Err(NoMemory),
     }
 }
 
@@ -134,9 +136,10 @@ fn put(
     ensures { IfOk result (λ op. IfSome op (OpFits edition.now.proto)) }
 {
     let (name, words) = words.split_once(' ').unwrap_or((words, ""));
-    match content(alloc, files, words)? {
-        Some(items) => put_bytes(alloc, edition, name, Bytes { items }),
-        None => Ok(None),
+    match content(alloc, files, words) {
+        Ok(Some(items)) => put_bytes(alloc, edition, name, Bytes { items }),
+        Ok(None) => Ok(None),
+        Err(AllocError) => Err(NoMemory),
     }
 }
 
@@ -163,51 +166,45 @@ fn put_bytes(
 }
 
 // Puts a collection: its counts, and for each run and valid time the file and the index of the time in it.
-fn put_collection(alloc: Global, edition: &Edition, out: &mut String) -> Result<(), AllocError> {
-    put_tally(edition.tally(), out)?;
-    let runs = allocated(edition.runs(alloc))?;
-    let put = put_runs(alloc, edition, runs.as_slice(), out);
-    drop(runs);
-    put
+fn put_collection(alloc: Global, edition: &Edition, out: &mut Said) {
+    put_tally(edition.tally(), out);
+    match edition.runs(alloc) {
+        Ok(runs) => {
+            put_runs(alloc, edition, runs.as_slice(), out);
+            drop(runs);
+        }
+        Err(NoMemory) => out.run_short(),
+    }
 }
 
-fn put_tally(tally: Tally, out: &mut String) -> Result<(), AllocError> {
-    write!(
-        out,
-        "{} files, {} times, {} bytes",
-        tally.files, tally.rows, tally.size
-    )
+fn put_tally(tally: Tally, out: &mut Said) {
+    out.put_number("", tally.files);
+    out.put_number(" files, ", tally.rows);
+    out.put_number(" times, ", tally.size);
+    out.put(" bytes");
 }
 
-fn put_runs(
-    alloc: Global,
-    edition: &Edition,
-    runs: &[i64],
-    out: &mut String,
-) -> Result<(), AllocError> {
+fn put_runs(alloc: Global, edition: &Edition, runs: &[i64], out: &mut Said) {
     for run in runs {
-        put_run(alloc, edition, *run, out)?;
+        match edition.times_of(alloc, *run) {
+            Ok(times) => put_cells(edition, *run, times.as_slice(), out),
+            Err(NoMemory) => out.run_short(),
+        }
     }
-    Ok(())
 }
 
-fn put_run(alloc: Global, edition: &Edition, run: i64, out: &mut String) -> Result<(), AllocError> {
-    let times = allocated(edition.times_of(alloc, run))?;
-    for time in times.as_slice() {
-        put_cell(edition, run, *time, out)?;
+fn put_cells(edition: &Edition, run: i64, times: &[i64], out: &mut Said) {
+    for time in times {
+        put_cell(edition, run, *time, out);
     }
-    Ok(())
 }
 
-fn put_cell(edition: &Edition, run: i64, time: i64, out: &mut String) -> Result<(), AllocError> {
-    write!(out, "\nrun {run}, time {time}: ")?;
-    put_found(edition.cell(run, time), out)
-}
-
-fn put_found(found: Option<(&Arc<Loaded>, u32)>, out: &mut String) -> Result<(), AllocError> {
-    let Some((file, index)) = found else {
-        return Ok(());
-    };
-    put_shown(file.get().name.as_slice(), out)?;
-    write!(out, " at {index}")
+fn put_cell(edition: &Edition, run: i64, time: i64, out: &mut Said) {
+    out.put_number("\nrun ", run);
+    out.put_number(", time ", time);
+    out.put(": ");
+    if let Some((file, index)) = edition.cell(run, time) {
+        out.put_shown(file.get().name.as_slice());
+        out.put_number(" at ", index);
+    }
 }

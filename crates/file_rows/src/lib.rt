@@ -13,7 +13,7 @@ mod words;
 
 use fm_base::{Fail, NoMemory};
 use question::Question;
-use row_text::{Answers, File, Row, content};
+use row_text::{Answers, File, Row, Said, content};
 use std::alloc::{AllocError, Global};
 
 // The keys that name a call.
@@ -44,23 +44,21 @@ pub struct Files<'a> {
 }
 
 impl Answers for Files<'_> {
-    fn answer(&self, alloc: Global, row: &Row<'_>, out: &mut String) -> Result<bool, AllocError> {
-        self.put_answer(alloc, row, out)
+    fn answer(&self, alloc: Global, row: &Row<'_>, out: &mut Said) -> Result<bool, AllocError> {
+        match self.put_answer(alloc, row, out) {
+            Ok(known) => Ok(known),
+            Err(NoMemory) => Err(AllocError),
+        }
     }
 }
 
 impl Files<'_> {
     // Puts what comes out of a row.
-    fn put_answer(
-        &self,
-        alloc: Global,
-        row: &Row<'_>,
-        out: &mut String,
-    ) -> Result<bool, AllocError> {
+    fn put_answer(&self, alloc: Global, row: &Row<'_>, out: &mut Said) -> Result<bool, NoMemory> {
         match call_of(row) {
             Some("load") => loading::put_load(alloc, self.files, row, out),
             Some("collection") => held::put_held(alloc, self.files, row, out),
-            Some("made") => made::put_made(alloc, row, out),
+            Some("made") => Ok(made::put_made(alloc, row, out)),
             Some(key) => self.put_asked(alloc, row, key, out),
             None => Ok(false),
         }
@@ -72,18 +70,19 @@ impl Files<'_> {
         alloc: Global,
         row: &Row<'_>,
         key: &str,
-        out: &mut String,
-    ) -> Result<bool, AllocError> {
+        out: &mut Said,
+    ) -> Result<bool, NoMemory> {
         if !row.has_only(&[key, "cuts"]) {
             return Ok(false);
         }
-        match content(alloc, self.files, row.value(key).unwrap_or(""))? {
-            Some(bytes) => {
+        match content(alloc, self.files, row.value(key).unwrap_or("")) {
+            Ok(Some(bytes)) => {
                 let put = question_of(key).put(alloc, bytes.as_slice(), row.value("cuts"), out);
                 drop(bytes);
-                put
+                Ok(put)
             }
-            None => Ok(false),
+            Ok(None) => Ok(false),
+            Err(AllocError) => Err(NoMemory),
         }
     }
 }
@@ -98,18 +97,10 @@ fn question_of<'a>(key: &str) -> Question<'a> {
     }
 }
 
-// A value that was made, or that memory ran out.
-fn allocated<T: Drop>(value: Result<T, NoMemory>) -> Result<T, AllocError> {
-    match value {
-        Ok(value) => Ok(value),
-        Err(NoMemory) => Err(AllocError),
-    }
-}
-
 // That a row isn't known, where there is a fault.
-fn unknown<E: Drop>(fail: Fail<E>) -> Result<bool, AllocError> {
+fn unknown<E: Drop>(fail: Fail<E>) -> Result<bool, NoMemory> {
     match fail {
-        Fail::NoMemory => Err(AllocError),
+        Fail::NoMemory => Err(NoMemory),
         Fail::Fault(_) => Ok(false),
     }
 }

@@ -6,10 +6,10 @@ use super::faults::put_load_fault;
 use super::prototypes::{EPOCH, prototype};
 use super::question::Question;
 use super::unknown;
-use fm_base::{Bytes, Fail};
+use fm_base::{Bytes, Fail, NoMemory};
 use fm_load::load;
 use fm_model::{Loaded, Proto, Slot};
-use row_text::{File, Row, content};
+use row_text::{File, Row, Said, content};
 use std::alloc::{AllocError, Global};
 
 /// Puts what comes of a row that loads a file, as `called`, over the prototype `over`. Where it says no such thing,
@@ -18,17 +18,18 @@ pub fn put_load(
     alloc: Global,
     files: &[File],
     row: &Row<'_>,
-    out: &mut String,
-) -> Result<bool, AllocError> {
+    out: &mut Said,
+) -> Result<bool, NoMemory> {
     if !row.has_only(&["load", "called", "over", "epoch", "cuts"]) {
         return Ok(false);
     }
     let Some(epoch) = epoch_of(row.value("epoch")) else {
         return Ok(false);
     };
-    match content(alloc, files, row.value("over").unwrap_or("A.nc"))? {
-        Some(over) => put_over(alloc, files, over.as_slice(), epoch, row, out),
-        None => Ok(false),
+    match content(alloc, files, row.value("over").unwrap_or("A.nc")) {
+        Ok(Some(over)) => put_over(alloc, files, over.as_slice(), epoch, row, out),
+        Ok(None) => Ok(false),
+        Err(AllocError) => Err(NoMemory),
     }
 }
 
@@ -39,8 +40,8 @@ fn put_over(
     over: &[u8],
     epoch: i64,
     row: &Row<'_>,
-    out: &mut String,
-) -> Result<bool, AllocError> {
+    out: &mut Said,
+) -> Result<bool, NoMemory> {
     match prototype(alloc, over, epoch) {
         Ok(proto) => {
             let put = put_called(alloc, files, &proto, row, out);
@@ -56,13 +57,14 @@ fn put_called(
     files: &[File],
     proto: &Proto,
     row: &Row<'_>,
-    out: &mut String,
-) -> Result<bool, AllocError> {
+    out: &mut Said,
+) -> Result<bool, NoMemory> {
     let called = row.value("called").unwrap_or("gfs_20240101_0000.nc");
     let question = Question::Load(proto, called);
-    match content(alloc, files, row.value("load").unwrap_or(""))? {
-        Some(bytes) => question.put(alloc, bytes.as_slice(), row.value("cuts"), out),
-        None => Ok(false),
+    match content(alloc, files, row.value("load").unwrap_or("")) {
+        Ok(Some(bytes)) => Ok(question.put(alloc, bytes.as_slice(), row.value("cuts"), out)),
+        Ok(None) => Ok(false),
+        Err(AllocError) => Err(NoMemory),
     }
 }
 
@@ -74,59 +76,60 @@ fn epoch_of(words: Option<&str>) -> Option<i64> {
 }
 
 /// Appends what a file of a name is over a prototype, or why it isn't taken.
-pub fn put_loaded(
-    alloc: Global,
-    proto: &Proto,
-    name: &str,
-    bytes: &[u8],
-    out: &mut String,
-) -> Result<(), AllocError>
+pub fn put_loaded(alloc: Global, proto: &Proto, name: &str, bytes: &[u8], out: &mut Said)
     requires { length bytes.now ≤ MAX_FILE_BYTES }
 {
-    let Ok(bytes) = Bytes::copy_of(alloc, bytes) else {
-        return Err(AllocError);
-    };
+    match Bytes::copy_of(alloc, bytes) {
+        Ok(bytes) => put_file(alloc, proto, name, bytes, out),
+        Err(NoMemory) => out.run_short(),
+    }
+}
+
+fn put_file(alloc: Global, proto: &Proto, name: &str, bytes: Bytes, out: &mut Said)
+    requires { length bytes ≤ MAX_FILE_BYTES }
+{
     match load(alloc, name.as_bytes(), bytes, proto) {
         Ok(file) => {
-            let put = put_taken(&file, out);
+            put_taken(&file, out);
             drop(file);
-            put
         }
-        Err(Fail::NoMemory) => Err(AllocError),
+        Err(Fail::NoMemory) => out.run_short(),
         Err(Fail::Fault(fault)) => {
-            let put = put_load_fault(&fault, out);
+            put_load_fault(&fault, out);
             drop(fault);
-            put
         }
     }
 }
 
-fn put_taken(file: &Loaded, out: &mut String) -> Result<(), AllocError> {
-    write!(out, "run {}, times", file.run)?;
-    put_times(file.times.as_slice(), out)?;
-    put_slots(file.slots.as_slice(), out)
+fn put_taken(file: &Loaded, out: &mut Said) {
+    out.put_number("run ", file.run);
+    out.put(", times");
+    put_times(file.times.as_slice(), out);
+    put_slots(file.slots.as_slice(), out);
 }
 
 // More than eight times are shown as the first and the last, with their number.
-fn put_times(times: &[i64], out: &mut String) -> Result<(), AllocError> {
+fn put_times(times: &[i64], out: &mut Said) {
     match times {
         [first, .., last] if times.len() > 8 => {
-            write!(out, " {first} to {last}, {} in all", times.len())
+            out.put_number(" ", *first);
+            out.put_number(" to ", *last);
+            out.put_number(", ", times.len());
+            out.put(" in all");
         }
         _ => put_each_time(times, out),
     }
 }
 
-fn put_each_time(times: &[i64], out: &mut String) -> Result<(), AllocError> {
+fn put_each_time(times: &[i64], out: &mut Said) {
     for time in times {
-        write!(out, " {time}")?;
+        out.put_number(" ", *time);
     }
-    Ok(())
 }
 
-fn put_slots(slots: &[Slot], out: &mut String) -> Result<(), AllocError> {
+fn put_slots(slots: &[Slot], out: &mut Said) {
     for slot in slots {
-        write!(out, "\ndata from {} each {}", slot.begin, slot.step)?;
+        out.put_number("\ndata from ", slot.begin);
+        out.put_number(" each ", slot.step);
     }
-    Ok(())
 }

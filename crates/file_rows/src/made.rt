@@ -1,26 +1,29 @@
 //! Files that are made.
 
-use super::allocated;
+use fm_base::NoMemory;
 use fm_gen::make_file;
-use row_text::Row;
-use std::alloc::{AllocError, Global};
+use row_text::{Row, Said};
+use std::alloc::Global;
 
 /// Puts the length and the sum of the file of the seed and the number, below 400, that a row has.
-pub fn put_made(alloc: Global, row: &Row<'_>, out: &mut String) -> Result<bool, AllocError> {
+pub fn put_made(alloc: Global, row: &Row<'_>, out: &mut Said) -> bool {
     if !row.has_only(&["made"]) {
-        return Ok(false);
+        return false;
     }
     let Some((seed, k)) = numbers_of(row.value("made").unwrap_or("")) else {
-        return Ok(false);
+        return false;
     };
     if k >= 400 {
-        return Ok(false);
+        return false;
     }
-    let file = allocated(make_file(alloc, seed, k))?;
-    let put = put_sum(file.as_slice(), out);
-    drop(file);
-    put?;
-    Ok(true)
+    match make_file(alloc, seed, k) {
+        Ok(file) => {
+            put_sum(file.as_slice(), out);
+            drop(file);
+        }
+        Err(NoMemory) => out.run_short(),
+    }
+    true
 }
 
 fn numbers_of(words: &str) -> Option<(u32, u32)> {
@@ -28,8 +31,10 @@ fn numbers_of(words: &str) -> Option<(u32, u32)> {
     Some((seed.parse::<u32>().ok()?, k.parse::<u32>().ok()?))
 }
 
-fn put_sum(file: &[u8], out: &mut String) -> Result<(), AllocError> {
-    write!(out, "{} bytes, sum {:08x}", file.len(), adler_of(file))
+fn put_sum(file: &[u8], out: &mut Said) {
+    out.put_number("", file.len());
+    out.put(" bytes, sum ");
+    out.put_hex(&adler_of(file).to_be_bytes());
 }
 
 // The sum of RFC 1950 (Adler-32).

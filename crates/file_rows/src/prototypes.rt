@@ -5,8 +5,8 @@ use super::words::{put_attrs, put_dims, put_front};
 use fm_base::{Bytes, Fail};
 use fm_model::{Proto, ProtoFault, ProtoVar, Site};
 use fm_proto::read_proto;
-use row_text::{put_hex, put_shown};
-use std::alloc::{AllocError, Global};
+use row_text::Said;
+use std::alloc::Global;
 
 /// The beginning of 2020, in Unix seconds.
 pub const EPOCH: i64 = 1_577_836_800;
@@ -22,38 +22,35 @@ pub fn prototype(alloc: Global, bytes: &[u8], epoch: i64) -> Result<Proto, Fail<
 }
 
 /// Appends what some bytes are as a prototype, or why they are none.
-pub fn put_prototype(alloc: Global, bytes: &[u8], out: &mut String) -> Result<(), AllocError> {
+pub fn put_prototype(alloc: Global, bytes: &[u8], out: &mut Said) {
     match prototype(alloc, bytes, EPOCH) {
         Ok(proto) => {
-            let put = put_kept(&proto, out);
+            put_kept(&proto, out);
             drop(proto);
-            put
         }
-        Err(Fail::NoMemory) => Err(AllocError),
+        Err(Fail::NoMemory) => out.run_short(),
         Err(Fail::Fault(fault)) => {
-            let put = put_proto_fault(&fault, out);
+            put_proto_fault(&fault, out);
             drop(fault);
-            put
         }
     }
 }
 
-fn put_kept(proto: &Proto, out: &mut String) -> Result<(), AllocError> {
-    put_shown(proto.site.name.as_slice(), out)?;
-    out.push_str(" along ")?;
-    put_shown(proto.axis.as_slice(), out)?;
-    put_dims(proto.dims.as_slice(), out)?;
-    put_attrs(proto.attrs.as_slice(), out)?;
+fn put_kept(proto: &Proto, out: &mut Said) {
+    out.put_shown(proto.site.name.as_slice());
+    out.put(" along ");
+    out.put_shown(proto.axis.as_slice());
+    put_dims(proto.dims.as_slice(), out);
+    put_attrs(proto.attrs.as_slice(), out);
     for var in proto.vars.as_slice() {
-        put_var(var, out)?;
+        put_var(var, out);
     }
-    Ok(())
 }
 
 // A variable along the axis has no elements here, and says so.
-fn put_var(var: &ProtoVar, out: &mut String) -> Result<(), AllocError> {
-    put_front(var.name.as_slice(), var.kind, var.dims.as_slice(), out)?;
-    out.push_str(if var.timed { " along the axis" } else { " " })?;
-    put_hex(var.fixed.as_slice(), out)?;
-    put_attrs(var.attrs.as_slice(), out)
+fn put_var(var: &ProtoVar, out: &mut Said) {
+    put_front(var.name.as_slice(), var.kind, var.dims.as_slice(), out);
+    out.put(if var.timed { " along the axis" } else { " " });
+    out.put_hex(var.fixed.as_slice());
+    put_attrs(var.attrs.as_slice(), out);
 }

@@ -5,6 +5,7 @@ use super::loading::put_loaded;
 use super::prototypes::put_prototype;
 use super::words::put_header;
 use fm_model::{MAX_FILE_BYTES, Proto};
+use row_text::Said;
 use std::alloc::{AllocError, Global};
 
 /// A question about the bytes alone, or over a prototype and under a name.
@@ -21,26 +22,20 @@ impl Question<'_> {
     /// Puts the answer about some bytes. Where `cuts` says `FROM to TO`, it is about the first `len` bytes for each
     /// `len` in that range, with a line where the answer differs from that of the length before. It is false where
     /// there are no such lengths.
-    pub fn put(
-        &self,
-        alloc: Global,
-        bytes: &[u8],
-        cuts: Option<&str>,
-        out: &mut String,
-    ) -> Result<bool, AllocError> {
+    pub fn put(&self, alloc: Global, bytes: &[u8], cuts: Option<&str>, out: &mut Said) -> bool {
         let Some(cuts) = cuts else {
             return self.put_answer(alloc, bytes, out);
         };
         let Some((from, to)) = lengths(cuts) else {
-            return Ok(false);
+            return false;
         };
         let mut last = String::new(alloc);
         for len in from..to.saturating_add(1) {
-            if !self.put_cut(alloc, bytes, len, &mut last, out)? {
-                return Ok(false);
+            if !self.put_cut(alloc, bytes, len, &mut last, out) {
+                return false;
             }
         }
-        Ok(true)
+        true
     }
 
     // Puts a line of the answer about the first bytes, where it isn't the last, and takes it as the last.
@@ -50,48 +45,46 @@ impl Question<'_> {
         bytes: &[u8],
         len: usize,
         last: &mut String,
-        out: &mut String,
-    ) -> Result<bool, AllocError> {
+        out: &mut Said,
+    ) -> bool {
         let Some(front) = bytes.get(..len) else {
-            return Ok(false);
+            return false;
         };
-        let mut answer = String::new(alloc);
-        if !self.put_answer(alloc, front, &mut answer)? {
-            return Ok(false);
+        let mut answer = Said::new(alloc);
+        let known = self.put_answer(alloc, front, &mut answer);
+        match answer.text() {
+            Ok(answer) => put_other(len, answer, last, out),
+            Err(AllocError) => out.run_short(),
         }
-        if answer.as_str() != last.as_str() {
-            put_line(len, answer.as_str(), out)?;
-            *last = answer;
-        }
-        Ok(true)
+        known
     }
 
-    fn put_answer(
-        &self,
-        alloc: Global,
-        bytes: &[u8],
-        out: &mut String,
-    ) -> Result<bool, AllocError> {
-        let put = match self {
+    fn put_answer(&self, alloc: Global, bytes: &[u8], out: &mut Said) -> bool {
+        match self {
             Question::Header => put_header(alloc, bytes, out),
             Question::Layout => put_layout(alloc, bytes, out),
             Question::Elements => put_elements(alloc, bytes, out),
             Question::Prototype => put_prototype(alloc, bytes, out),
             Question::Load(proto, name) => {
                 if bytes.len() as u64 > MAX_FILE_BYTES {
-                    return Ok(false);
+                    return false;
                 }
-                put_loaded(alloc, proto, name, bytes, out)
+                put_loaded(alloc, proto, name, bytes, out);
             }
-        };
-        put?;
-        Ok(true)
+        }
+        true
     }
 }
 
-fn put_line(len: usize, answer: &str, out: &mut String) -> Result<(), AllocError> {
-    out.push_str(if out.is_empty() { "" } else { "\n" })?;
-    write!(out, "{len}: {answer}")
+// Puts a line of an answer, where it isn't the last, and takes it as the last.
+fn put_other(len: usize, answer: String, last: &mut String, out: &mut Said) {
+    if answer.as_str() != last.as_str() {
+        out.begin_line();
+        out.put_number("", len);
+        out.put(": ");
+        out.put(answer.as_str());
+        *last = answer;
+    }
 }
 
 fn lengths(cuts: &str) -> Option<(usize, usize)> {

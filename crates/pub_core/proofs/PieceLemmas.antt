@@ -1,7 +1,7 @@
 -- A piece that is written over as many bytes as it has.
 use Rattle.std.proofs.Common.{◌≡◌, ◌≤◌, ℕ, ◌+◌, ◌-◌, List, ◌++◌, length, take, drop, ap, ◌∙◌, arith, append-nil, length-take, length-drop}
 use Rattle.std.proofs.lemmas.List.{drop_all, take_all, take-append-le}
-use Rattle.dap_xdr.specs.Overlay.{overlay}
+use Rattle.dap_number.specs.Overlay.{overlay}
 
 overlay-whole : (bytes old : List ℕ) → length old ≤ length bytes → overlay bytes old ≡ take (length old) bytes
 unfolding overlay

@@ -2,7 +2,7 @@
 
 use dap_reply::Plan;
 use fm_base::{Bytes, Fail, NoMemory};
-use row_text::{put_hex, put_shown};
+use row_text::Said;
 use std::alloc::Global;
 use text_rows::Wrong;
 
@@ -168,25 +168,18 @@ fn is_each_alike(plan: &Plan, bytes: &[u8], room: &mut [u8]) -> bool {
 }
 
 /// Adds bytes as lines of eight words of eight hexadecimal digits.
-pub fn put_lines(data: &[u8], out: &mut String) -> Result<(), NoMemory> {
+pub fn put_lines(data: &[u8], out: &mut Said) {
     for line in data.chunks(32) {
-        put_hex(line, out)?;
-        out.push('\n')?;
+        out.put_hex(line);
+        out.put("\n");
     }
-    Ok(())
-}
-
-/// Adds bytes as text.
-pub fn put_text(bytes: &[u8], out: &mut String) -> Result<(), NoMemory> {
-    Ok(put_shown(bytes, out)?)
 }
 
 /// Takes the last line end of a text away, or puts a mark where it has none.
-pub fn end(out: &mut String) -> Result<(), NoMemory> {
+pub fn end(out: &mut Said) {
     if out.as_str().ends_with('\n') {
         out.pop();
-        Ok(())
     } else {
-        Ok(out.push_str(" (no line end)")?)
+        out.put(" (no line end)");
     }
 }

@@ -4,28 +4,29 @@ ghost use Rattle.fm_model.specs.Load.{Fits};
 ghost use Rattle.fm_model.specs.Site.{IsPrototype};
 
 use super::moments::read_moment;
-use fm_base::{Arc, Bytes, Fail};
+use fm_base::{Arc, Bytes, Fail, NoMemory};
 use fm_edition::Edition;
 use fm_load::load;
-use fm_model::{Full, LoadFault, Loaded, MAX_FILE_BYTES, Op, Proto, Which};
+use fm_model::{Full, Loaded, MAX_FILE_BYTES, Op, Proto, Which};
 use fm_sample::{ItsProto, edition_of};
 use pub_look::{Look, Plain};
-use row_text::{File, Row, content};
-use std::alloc::Global;
+use row_text::{File, Row, Said, content};
+use std::alloc::{AllocError, Global};
 use text_rows::{Wrong, wrong_form};
 
 /// The bytes that some words describe.
 pub fn described(alloc: Global, files: &[File], words: &str) -> Result<Bytes, Fail<Wrong>> {
-    match content(alloc, files, words)? {
-        Some(items) => Ok(Bytes { items }),
-        None => Err(Fail::Fault(Wrong::Form)),
+    match content(alloc, files, words) {
+        Ok(Some(items)) => Ok(Bytes { items }),
+        Ok(None) => Err(Fail::Fault(Wrong::Form)),
+        Err(AllocError) => Err(Fail::NoMemory),
     }
 }
 
 /// The instant of a row's key `epoch`, as Unix seconds, which is the beginning of 2020.
 pub fn epoch_of(row: &Row<'_>) -> Result<i64, Fail<Wrong>> {
-    match read_moment(0, row.value("epoch").unwrap_or(""))? {
-        1_577_836_800 => Ok(1_577_836_800),
+    match read_moment(0, row.value("epoch").unwrap_or("")) {
+        Ok(1_577_836_800) => Ok(1_577_836_800),
         _ => Err(Fail::Fault(Wrong::Form)),
     }
 }
@@ -45,7 +46,10 @@ fn proto_of(edition: Edition) -> Result<Arc<Proto>, Fail<Wrong>>
 {
     let proto = edition.proto().share();
     drop(edition);
-    Ok(proto?)
+    match proto {
+        Ok(proto) => Ok(proto),
+        Err(NoMemory) => Err(Fail::NoMemory),
+    }
 }
 
 /// Publishes the file of a name and some bytes, and puts its revision, the number of its fault, or what there would be
@@ -55,7 +59,7 @@ pub fn put_file(
     plain: &mut Plain,
     name: &[u8],
     bytes: Bytes,
-    out: &mut String,
+    out: &mut Said,
 ) -> Result<(), Fail<Wrong>> {
     if bytes.len() as u64 > MAX_FILE_BYTES {
         return Err(Fail::Fault(Wrong::Form));
@@ -65,7 +69,11 @@ pub fn put_file(
     drop(proto);
     match loaded {
         Ok(file) => publish(alloc, plain, file, out),
-        Err(Fail::Fault(fault)) => put_refused(fault, out),
+        Err(Fail::Fault(fault)) => {
+            out.put_number("refused ", fault.code());
+            drop(fault);
+            Ok(())
+        }
         Err(Fail::NoMemory) => Err(Fail::NoMemory),
     }
 }
@@ -75,37 +83,33 @@ fn publish(
     alloc: Global,
     plain: &mut Plain,
     file: Loaded,
-    out: &mut String,
+    out: &mut Said,
 ) -> Result<(), Fail<Wrong>>
     requires { Fits file plain.old.proto }
 {
     match plain.publish(alloc, Op::Put(Arc::new(alloc, file)?)) {
-        Ok(revision) => put_revised(Some(revision), out),
+        Ok(revision) => out.put_number("revision ", revision),
         Err(Fail::Fault(full)) => put_full(full, out),
-        Err(Fail::NoMemory) => Err(Fail::NoMemory),
+        Err(Fail::NoMemory) => out.run_short(),
     }
-}
-
-fn put_refused(fault: LoadFault, out: &mut String) -> Result<(), Fail<Wrong>> {
-    let code = fault.code();
-    drop(fault);
-    Ok(write!(out, "refused {code}")?)
+    Ok(())
 }
 
 /// Puts the revision of an operation, or that nothing was done.
-pub fn put_revised(revision: Option<u64>, out: &mut String) -> Result<(), Fail<Wrong>> {
-    let put = match revision {
-        Some(revision) => write!(out, "revision {revision}"),
-        None => out.push_str("nothing"),
-    };
-    Ok(put?)
+pub fn put_done(done: Result<Option<u64>, NoMemory>, out: &mut Said) {
+    match done {
+        Ok(Some(revision)) => out.put_number("revision ", revision),
+        Ok(None) => out.put("nothing"),
+        Err(NoMemory) => out.run_short(),
+    }
 }
 
-fn put_full(full: Full, out: &mut String) -> Result<(), Fail<Wrong>> {
-    let what = match full.which {
-        Which::Files => "files",
-        Which::Rows => "rows",
-        Which::Size => "bytes",
-    };
-    Ok(write!(out, "full: {} {what} over {}", full.held, full.limit)?)
+fn put_full(full: Full, out: &mut Said) {
+    out.put_number("full: ", full.held);
+    out.put(match full.which {
+        Which::Files => " files",
+        Which::Rows => " rows",
+        Which::Size => " bytes",
+    });
+    out.put_number(" over ", full.limit);
 }

@@ -1,15 +1,15 @@
 //! The structure text of declarations that a row gives.
 
-use super::bytes::{end, put_text};
+use super::bytes::end;
 use dap_dds::{dds_len, dds_text};
 use dap_model::Decl;
 use fm_base::{Bytes, Fail, List};
-use row_text::Row;
+use row_text::{Row, Said};
 use std::alloc::Global;
 use text_rows::{Wrong, put_decl};
 
 /// Puts the structure text of a row's `declare` lines under its `label`, which has as many bytes as are counted.
-pub fn put_declared(alloc: Global, row: &Row<'_>, out: &mut String) -> Result<(), Fail<Wrong>> {
+pub fn put_declared(alloc: Global, row: &Row<'_>, out: &mut Said) -> Result<(), Fail<Wrong>> {
     if !row.has_only(&["label", "declare"]) {
         return Err(Fail::Fault(Wrong::Form));
     }
@@ -39,13 +39,14 @@ fn put_structure(
     alloc: Global,
     label: &[u8],
     decls: &List<Decl>,
-    out: &mut String,
+    out: &mut Said,
 ) -> Result<(), Fail<Wrong>> {
     let mut text = Bytes::new(alloc);
     dds_text(alloc, label, decls, &mut text)?;
     if dds_len(label, decls) != text.len() as u64 {
         return Err(Fail::Fault(Wrong::Taken));
     }
-    put_text(text.as_slice(), out)?;
-    Ok(end(out)?)
+    out.put_shown(text.as_slice());
+    end(out);
+    Ok(())
 }

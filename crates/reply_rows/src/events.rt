@@ -3,15 +3,15 @@ ghost use Rattle.std.specs.Prelude.{◌≡◌, All, IfOk};
 ghost use Rattle.fm_model.specs.Site.{IsPrototype};
 ghost use Rattle.pub_core.specs.Outcome.{EventFits};
 
-use super::bytes::{end, put_text};
+use super::bytes::end;
 use super::collection::{described, epoch_of, prototype};
 use super::moments::read_moment;
 use fm_base::{Arc, Bytes, Fail, List, NoMemory};
 use fm_load::load;
 use fm_model::{Op, Proto};
 use pub_core::{Event, Outcome, run_all};
-use row_text::{File, Row, bytes};
-use std::alloc::Global;
+use row_text::{File, Row, Said, bytes};
+use std::alloc::{AllocError, Global};
 use text_rows::{Wrong, wrong_form};
 
 /// Puts the outcome of a row's events: the number of operations, and for each session its revision and its bytes.
@@ -19,7 +19,7 @@ pub fn put_events(
     alloc: Global,
     files: &[File],
     row: &Row<'_>,
-    out: &mut String,
+    out: &mut Said,
 ) -> Result<(), Fail<Wrong>> {
     if !row.has_only(&["prototype", "epoch", "sessions", "event"]) {
         return Err(Fail::Fault(Wrong::Form));
@@ -35,14 +35,14 @@ fn put_run(
     files: &[File],
     row: &Row<'_>,
     words: &[&str],
-    out: &mut String,
+    out: &mut Said,
 ) -> Result<(), Fail<Wrong>> {
     let sessions = session_number(row.value("sessions").unwrap_or(""))?;
     let proto = prototype(alloc, files, row.value("prototype").unwrap_or(""))?;
     let outcome = outcome_of(alloc, files, proto, sessions, words)?;
-    let put = put_outcome(&outcome, out);
+    put_outcome(&outcome, out);
     drop(outcome);
-    put
+    Ok(())
 }
 
 // The outcome of the events of some words each.
@@ -56,7 +56,10 @@ fn outcome_of(
     requires { IsPrototype proto }
 {
     let events = events_of(alloc, files, proto.get(), words)?;
-    Ok(run_all(alloc, proto, sessions, &events)?)
+    match run_all(alloc, proto, sessions, &events) {
+        Ok(outcome) => Ok(outcome),
+        Err(NoMemory) => Err(Fail::NoMemory),
+    }
 }
 
 // The words of a row's events; the only one of `none` is none.
@@ -147,9 +150,10 @@ fn session_event(
     match what {
         "look" => Ok(Event::Look(session)),
         "learn" => Ok(Event::Learn(session, count(rest)?)),
-        "bytes" => match bytes(alloc, rest)? {
-            Some(items) => Ok(Event::Bytes(session, Bytes { items })),
-            None => Err(Fail::Fault(Wrong::Form)),
+        "bytes" => match bytes(alloc, rest) {
+            Ok(Some(items)) => Ok(Event::Bytes(session, Bytes { items })),
+            Ok(None) => Err(Fail::Fault(Wrong::Form)),
+            Err(AllocError) => Err(Fail::NoMemory),
         },
         "sent" => Ok(Event::Sent(session, count(rest)?)),
         "end" => Ok(Event::End(session)),
@@ -166,21 +170,19 @@ fn count(word: &str) -> Result<u64, Fail<Wrong>> {
     word.parse::<u64>().ok().ok_or(Fail::Fault(Wrong::Form))
 }
 
-fn put_outcome(outcome: &Outcome, out: &mut String) -> Result<(), Fail<Wrong>> {
-    write!(out, "operations {}", outcome.log.len())?;
+fn put_outcome(outcome: &Outcome, out: &mut Said) {
+    out.put_number("operations ", outcome.log.len());
     for (session, output) in outcome.outputs.as_slice().iter().enumerate() {
         let seen = outcome.seen.as_slice().get(session).copied().unwrap_or(0);
-        put_session(session, seen, output.as_slice(), out)?;
+        put_session(session, seen, output.as_slice(), out);
     }
-    Ok(())
 }
 
-fn put_session(session: usize, seen: u64, output: &[u8], out: &mut String) -> Result<(), NoMemory> {
-    write!(
-        out,
-        "\nsession {session} has seen {seen}, and was sent {} bytes\n",
-        output.len()
-    )?;
-    put_text(output, out)?;
-    end(out)
+fn put_session(session: usize, seen: u64, output: &[u8], out: &mut Said) {
+    out.put_number("\nsession ", session);
+    out.put_number(" has seen ", seen);
+    out.put_number(", and was sent ", output.len());
+    out.put(" bytes\n");
+    out.put_shown(output);
+    end(out);
 }

@@ -14,7 +14,7 @@ mod requests;
 mod steps;
 
 use fm_base::Fail;
-use row_text::{Answers, File, Row, Text, rows};
+use row_text::{Answers, File, Row, Said, Text, put_rows};
 use std::alloc::{AllocError, Global};
 use text_rows::Wrong;
 
@@ -47,12 +47,7 @@ impl<'a> Collections<'a> {
     }
 
     // Puts the answer to a row, by the first of these keys that it has.
-    fn put_answer(
-        &self,
-        alloc: Global,
-        row: &Row<'_>,
-        out: &mut String,
-    ) -> Result<(), Fail<Wrong>> {
+    fn put_answer(&self, alloc: Global, row: &Row<'_>, out: &mut Said) -> Result<(), Fail<Wrong>> {
         if row.value("event").is_some() {
             return events::put_events(alloc, self.files, row, out);
         }
@@ -70,25 +65,25 @@ impl<'a> Collections<'a> {
 }
 
 impl Answers for Collections<'_> {
-    fn answer(&self, alloc: Global, row: &Row<'_>, out: &mut String) -> Result<bool, AllocError> {
+    fn answer(&self, alloc: Global, row: &Row<'_>, out: &mut Said) -> Result<bool, AllocError> {
         match self.put_answer(alloc, row, out) {
-            Ok(()) => Ok(true),
-            Err(Fail::Fault(Wrong::Form)) => Ok(false),
+            Ok(()) => {}
+            Err(Fail::Fault(Wrong::Form)) => return Ok(false),
             Err(Fail::Fault(Wrong::Taken)) => {
                 put_unwanted("other bytes where they are taken in another way", out)
             }
             Err(Fail::Fault(Wrong::Data)) => put_unwanted("other data than the row describes", out),
-            Err(Fail::NoMemory) => Err(AllocError),
+            Err(Fail::NoMemory) => return Err(AllocError),
         }
+        Ok(true)
     }
 }
 
 // Puts a line behind an empty one, which no row wants.
-fn put_unwanted(text: &str, out: &mut String) -> Result<bool, AllocError> {
+fn put_unwanted(text: &str, out: &mut Said) {
     out.clear();
-    out.push('\n')?;
-    out.push_str(text)?;
-    Ok(true)
+    out.put("\n");
+    out.put(text);
 }
 
 // The rows of all texts in the folder `replies`.
@@ -101,15 +96,8 @@ fn all_rows(alloc: Global, texts: &[Text]) -> Result<Vec<Row<'_>>, AllocError> {
 fn put_all<'a>(alloc: Global, texts: &'a [Text], all: &mut Vec<Row<'a>>) -> Result<(), AllocError> {
     for text in texts {
         if text.folder() == "replies" {
-            put_rows(rows(alloc, text.text.as_str())?, all)?;
+            put_rows(alloc, text.text.as_str(), all)?;
         }
-    }
-    Ok(())
-}
-
-fn put_rows<'a>(rows: Vec<Row<'a>>, all: &mut Vec<Row<'a>>) -> Result<(), AllocError> {
-    for row in rows {
-        all.push(row)?;
     }
     Ok(())
 }

@@ -1,7 +1,7 @@
 //! Instants of a row, which a collection has in seconds from its epoch.
 
 use fm_base::{Bytes, Fail, NoMemory};
-use row_text::put_shown;
+use row_text::Said;
 use std::alloc::Global;
 use text_rows::Wrong;
 use tm_units::{instant_text, read_instant};
@@ -20,17 +20,14 @@ pub fn read_number(word: &str) -> Result<i64, Fail<Wrong>> {
 }
 
 /// Adds the instant `moment` seconds from an epoch, or the seconds where it lies outside the years 0 to 9999.
-pub fn put_moment(
-    alloc: Global,
-    epoch: i64,
-    moment: i64,
-    out: &mut String,
-) -> Result<(), NoMemory> {
+pub fn put_moment(alloc: Global, epoch: i64, moment: i64, out: &mut Said) {
     let instant = epoch.saturating_add(moment);
     if instant < -62_167_219_200 || instant > 253_402_300_799 {
-        return Ok(write!(out, "{moment}")?);
+        return out.put_number("", moment);
     }
     let mut text = Bytes::new(alloc);
-    instant_text(alloc, instant, &mut text)?;
-    Ok(put_shown(text.as_slice(), out)?)
+    match instant_text(alloc, instant, &mut text) {
+        Ok(()) => out.put_shown(text.as_slice()),
+        Err(NoMemory) => out.run_short(),
+    }
 }

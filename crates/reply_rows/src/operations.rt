@@ -1,34 +1,28 @@
-//! Operations on a collection and questions to it.
+//! Files that are published, and questions to a collection.
 
-use super::collection::{described, put_file, put_revised};
+use super::collection::{described, put_file};
 use super::questions::Question;
-use fm_base::{Bytes, Fail};
+use fm_base::{Bytes, Fail, NoMemory};
 use pub_look::{Look, Plain};
-use row_text::File;
+use row_text::{File, Said};
 use std::alloc::Global;
 use text_rows::Wrong;
 
-/// Lets the runs before a cutoff go.
-pub fn put_expired(
-    alloc: Global,
-    plain: &mut Plain,
-    cutoff: i64,
-    out: &mut String,
-) -> Result<(), Fail<Wrong>> {
-    put_revised(plain.expire(alloc, cutoff)?, out)
-}
-
 /// Puts the answer to a question in words.
-pub fn put_said(
+pub fn put_asked(
     alloc: Global,
     plain: &mut Plain,
     epoch: i64,
     words: &str,
-    out: &mut String,
+    out: &mut Said,
 ) -> Result<(), Fail<Wrong>> {
-    match plain.ask(alloc, &Question { epoch, words })? {
-        (Some(text), _) => Ok(out.push_str(text.as_str())?),
-        (None, _) => Err(Fail::Fault(Wrong::Form)),
+    match plain.ask(alloc, &Question { epoch, words }) {
+        Ok((Some(text), _)) => {
+            out.put(text.as_str());
+            Ok(())
+        }
+        Ok((None, _)) => Err(Fail::Fault(Wrong::Form)),
+        Err(NoMemory) => Err(Fail::NoMemory),
     }
 }
 
@@ -38,7 +32,7 @@ pub fn put_one(
     files: &[File],
     plain: &mut Plain,
     words: &str,
-    out: &mut String,
+    out: &mut Said,
 ) -> Result<(), Fail<Wrong>> {
     let (name, words) = words.split_once(' ').unwrap_or((words, ""));
     let content = described(alloc, files, words)?;
@@ -52,11 +46,13 @@ pub fn put_many(
     files: &[File],
     plain: &mut Plain,
     words: &str,
-    out: &mut String,
+    out: &mut Said,
 ) -> Result<(), Fail<Wrong>> {
     let (count, words) = words.split_once(' ').unwrap_or((words, ""));
     let (front, words) = words.split_once(' ').unwrap_or((words, ""));
-    let count = count.parse::<u16>().ok().ok_or(Fail::Fault(Wrong::Form))?;
+    let Ok(count) = count.parse::<u16>() else {
+        return Err(Fail::Fault(Wrong::Form));
+    };
     let content = described(alloc, files, words)?;
     put_last(alloc, plain, front, count, &content, out)
 }
@@ -68,11 +64,12 @@ fn put_last(
     front: &str,
     count: u16,
     content: &Bytes,
-    out: &mut String,
+    out: &mut Said,
 ) -> Result<(), Fail<Wrong>> {
-    let mut said = String::new(alloc);
-    put_each(alloc, plain, front, count, content, &mut said)?;
-    Ok(out.push_str(said.as_str())?)
+    let mut said = Said::new(alloc);
+    let put = put_each(alloc, plain, front, count, content, &mut said);
+    out.put_said(said);
+    put
 }
 
 // Publishes a file so often, and leaves the last answer alone.
@@ -82,7 +79,7 @@ fn put_each(
     front: &str,
     count: u16,
     content: &Bytes,
-    said: &mut String,
+    said: &mut Said,
 ) -> Result<(), Fail<Wrong>> {
     for number in 0..count {
         said.clear();
@@ -97,7 +94,7 @@ fn put_numbered(
     front: &str,
     number: u16,
     content: &Bytes,
-    out: &mut String,
+    out: &mut Said,
 ) -> Result<(), Fail<Wrong>> {
     let name = format!(in alloc; "{front}{number:04}")?;
     let bytes = Bytes::copy_of(alloc, content.as_slice())?;

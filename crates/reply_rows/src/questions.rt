@@ -1,14 +1,14 @@
 //! Questions about what a collection holds.
 
 use super::moments::{put_moment, read_moment, read_number};
-use fm_base::{Arc, Fail, NoMemory};
+use fm_base::{Fail, List, NoMemory};
 use fm_edition::Edition;
 use fm_model::{Loaded, Row, Tally, ViewName};
 use fm_rows::Rows;
-use fm_views::{row_count, rows};
+use fm_views::{NoRows, row_count, rows};
 use pub_look::Query;
-use row_text::put_shown;
-use std::alloc::Global;
+use row_text::Said;
+use std::alloc::{AllocError, Global};
 use text_rows::Wrong;
 
 /// A question in words, to a collection with this epoch. No answer where the words are none.
@@ -29,12 +29,19 @@ impl<'a> Query for Question<'a> {
         edition: &Edition,
         _revision: u64,
     ) -> Result<Option<String>, NoMemory> {
-        let mut out = String::new(alloc);
+        let mut out = Said::new(alloc);
         match put_answer(alloc, edition, self.epoch, self.words, &mut out) {
-            Ok(()) => Ok(Some(out)),
+            Ok(()) => all_said(out),
             Err(Fail::Fault(_)) => Ok(None),
             Err(Fail::NoMemory) => Err(NoMemory),
         }
+    }
+}
+
+fn all_said(said: Said) -> Result<Option<String>, NoMemory> {
+    match said.text() {
+        Ok(text) => Ok(Some(text)),
+        Err(AllocError) => Err(NoMemory),
     }
 }
 
@@ -43,16 +50,16 @@ fn put_answer(
     edition: &Edition,
     epoch: i64,
     words: &str,
-    out: &mut String,
+    out: &mut Said,
 ) -> Result<(), Fail<Wrong>> {
     let (what, rest) = words.split_once(' ').unwrap_or((words, ""));
     match what {
         "tally" => put_tally(edition.tally(), out),
         "holds" => put_yes_or_no(edition.holds(rest.as_bytes()), out),
-        "older" => put_older(edition, epoch, rest, out),
-        "runs" => put_runs(alloc, edition, epoch, out),
-        _ => put_answer_at(alloc, edition, epoch, what, rest, out),
+        "runs" => put_moments(alloc, epoch, edition.runs(alloc), out),
+        _ => return put_answer_at(alloc, edition, epoch, what, rest, out),
     }
+    Ok(())
 }
 
 // Puts the answer to a question about times.
@@ -62,9 +69,10 @@ fn put_answer_at(
     epoch: i64,
     what: &str,
     rest: &str,
-    out: &mut String,
+    out: &mut Said,
 ) -> Result<(), Fail<Wrong>> {
     match what {
+        "older" => put_older(edition, epoch, rest, out),
         "times" => put_times(alloc, edition, epoch, rest, out),
         "cell" => put_cell(edition, epoch, rest, out),
         "best" => put_best(alloc, edition, epoch, rest, out),
@@ -73,36 +81,25 @@ fn put_answer_at(
     }
 }
 
-fn put_tally(tally: Tally, out: &mut String) -> Result<(), Fail<Wrong>> {
-    Ok(write!(
-        out,
-        "files {}, rows {}, bytes {}",
-        tally.files, tally.rows, tally.size
-    )?)
+fn put_tally(tally: Tally, out: &mut Said) {
+    out.put_number("files ", tally.files);
+    out.put_number(", rows ", tally.rows);
+    out.put_number(", bytes ", tally.size);
 }
 
-fn put_yes_or_no(yes: bool, out: &mut String) -> Result<(), Fail<Wrong>> {
-    Ok(out.push_str(if yes { "yes" } else { "no" })?)
+fn put_yes_or_no(yes: bool, out: &mut Said) {
+    out.put(if yes { "yes" } else { "no" });
 }
 
 fn put_older(
     edition: &Edition,
     epoch: i64,
     words: &str,
-    out: &mut String,
+    out: &mut Said,
 ) -> Result<(), Fail<Wrong>> {
     let cutoff = read_moment(epoch, words)?;
-    put_yes_or_no(edition.older_than(cutoff), out)
-}
-
-fn put_runs(
-    alloc: Global,
-    edition: &Edition,
-    epoch: i64,
-    out: &mut String,
-) -> Result<(), Fail<Wrong>> {
-    let runs = edition.runs(alloc)?;
-    Ok(put_moments(alloc, epoch, runs.as_slice(), out)?)
+    put_yes_or_no(edition.older_than(cutoff), out);
+    Ok(())
 }
 
 fn put_times(
@@ -110,47 +107,46 @@ fn put_times(
     edition: &Edition,
     epoch: i64,
     words: &str,
-    out: &mut String,
+    out: &mut Said,
 ) -> Result<(), Fail<Wrong>> {
-    let times = edition.times_of(alloc, read_moment(epoch, words)?)?;
-    Ok(put_moments(alloc, epoch, times.as_slice(), out)?)
+    let run = read_moment(epoch, words)?;
+    put_moments(alloc, epoch, edition.times_of(alloc, run), out);
+    Ok(())
 }
 
-// Puts instants on one line.
-fn put_moments(alloc: Global, epoch: i64, all: &[i64], out: &mut String) -> Result<(), NoMemory> {
-    if all.is_empty() {
-        return Ok(out.push_str("none")?);
+// Puts instants that were asked for on one line.
+fn put_moments(alloc: Global, epoch: i64, all: Result<List<i64>, NoMemory>, out: &mut Said) {
+    match all {
+        Ok(all) => put_each(alloc, epoch, all.as_slice(), out),
+        Err(NoMemory) => out.run_short(),
     }
-    for moment in all {
-        out.push_str(if out.is_empty() { "" } else { " " })?;
-        put_moment(alloc, epoch, *moment, out)?;
+}
+
+fn put_each(alloc: Global, epoch: i64, all: &[i64], out: &mut Said) {
+    if all.is_empty() {
+        out.put("none");
+    }
+    for (index, moment) in all.iter().enumerate() {
+        out.put(if index == 0 { "" } else { " " });
+        put_moment(alloc, epoch, *moment, out);
+    }
+}
+
+// Puts the file that a run has for a valid time, and the time's index there.
+fn put_cell(edition: &Edition, epoch: i64, words: &str, out: &mut Said) -> Result<(), Fail<Wrong>> {
+    let (run, valid) = words.split_once(' ').unwrap_or((words, ""));
+    let (run, valid) = (read_moment(epoch, run)?, read_moment(epoch, valid)?);
+    match edition.cell(run, valid) {
+        Some((file, index)) => put_place(file.get(), index, out),
+        None => out.put("none"),
     }
     Ok(())
 }
 
-// Puts the file that a run has for a valid time, and the time's index there.
-fn put_cell(
-    edition: &Edition,
-    epoch: i64,
-    words: &str,
-    out: &mut String,
-) -> Result<(), Fail<Wrong>> {
-    let (run, valid) = words.split_once(' ').unwrap_or((words, ""));
-    let (run, valid) = (read_moment(epoch, run)?, read_moment(epoch, valid)?);
-    put_found(edition.cell(run, valid), out)
-}
-
-fn put_found(found: Option<(&Arc<Loaded>, u32)>, out: &mut String) -> Result<(), Fail<Wrong>> {
-    match found {
-        Some((file, index)) => Ok(put_place(file.get(), index, out)?),
-        None => Ok(out.push_str("none")?),
-    }
-}
-
 // Puts the name of a file and the index of a time in it.
-fn put_place(file: &Loaded, index: u32, out: &mut String) -> Result<(), NoMemory> {
-    put_shown(file.name.as_slice(), out)?;
-    Ok(write!(out, " {index}")?)
+fn put_place(file: &Loaded, index: u32, out: &mut Said) {
+    out.put_shown(file.name.as_slice());
+    out.put_number(" ", index);
 }
 
 // Puts the best run of a valid time, and maybe of a least offset in seconds.
@@ -159,12 +155,13 @@ fn put_best(
     edition: &Edition,
     epoch: i64,
     words: &str,
-    out: &mut String,
+    out: &mut Said,
 ) -> Result<(), Fail<Wrong>> {
     match best_of(edition, epoch, words)? {
-        Some(run) => Ok(put_moment(alloc, epoch, run, out)?),
-        None => Ok(out.push_str("none")?),
+        Some(run) => put_moment(alloc, epoch, run, out),
+        None => out.put("none"),
     }
+    Ok(())
 }
 
 fn best_of(edition: &Edition, epoch: i64, words: &str) -> Result<Option<i64>, Fail<Wrong>> {
@@ -194,41 +191,42 @@ fn put_view(
     edition: &Edition,
     epoch: i64,
     words: &str,
-    out: &mut String,
+    out: &mut Said,
 ) -> Result<(), Fail<Wrong>> {
     let view = view_of(epoch, words)?;
-    write!(out, "rows {}", row_count(alloc, edition, &view)?)?;
-    put_rows_of(alloc, edition, epoch, &view, out)
-}
-
-fn put_rows_of(
-    alloc: Global,
-    edition: &Edition,
-    epoch: i64,
-    view: &ViewName,
-    out: &mut String,
-) -> Result<(), Fail<Wrong>> {
-    match rows(alloc, edition, view) {
-        Ok(found) => Ok(put_rows(alloc, epoch, &found, out)?),
-        Err(Fail::Fault(_)) => Ok(()),
-        Err(Fail::NoMemory) => Err(Fail::NoMemory),
-    }
-}
-
-fn put_rows(alloc: Global, epoch: i64, rows: &Rows, out: &mut String) -> Result<(), NoMemory> {
-    for index in 0..rows.len() {
-        if let Some(row) = rows.get(index) {
-            put_row(alloc, epoch, row, out)?;
-        }
-    }
+    put_row_count(row_count(alloc, edition, &view), out);
+    put_rows(alloc, epoch, rows(alloc, edition, &view), out);
     Ok(())
 }
 
-fn put_row(alloc: Global, epoch: i64, row: &Row, out: &mut String) -> Result<(), NoMemory> {
-    out.push('\n')?;
-    put_moment(alloc, epoch, row.valid, out)?;
-    out.push(' ')?;
-    put_moment(alloc, epoch, row.run, out)?;
-    out.push(' ')?;
-    put_place(row.file.get(), row.place, out)
+fn put_row_count(count: Result<u64, NoMemory>, out: &mut Said) {
+    match count {
+        Ok(count) => out.put_number("rows ", count),
+        Err(NoMemory) => out.run_short(),
+    }
+}
+
+fn put_rows(alloc: Global, epoch: i64, found: Result<Rows, Fail<NoRows>>, out: &mut Said) {
+    match found {
+        Ok(rows) => put_each_row(alloc, epoch, &rows, out),
+        Err(Fail::Fault(NoRows)) => {}
+        Err(Fail::NoMemory) => out.run_short(),
+    }
+}
+
+fn put_each_row(alloc: Global, epoch: i64, rows: &Rows, out: &mut Said) {
+    for index in 0..rows.len() {
+        if let Some(row) = rows.get(index) {
+            put_row(alloc, epoch, row, out);
+        }
+    }
+}
+
+fn put_row(alloc: Global, epoch: i64, row: &Row, out: &mut Said) {
+    out.put("\n");
+    put_moment(alloc, epoch, row.valid, out);
+    out.put(" ");
+    put_moment(alloc, epoch, row.run, out);
+    out.put(" ");
+    put_place(row.file.get(), row.place, out);
 }

@@ -1,10 +1,10 @@
 //! Replies as a row shows them.
 
-use super::bytes::{all_of, end, put_lines, put_text};
+use super::bytes::{all_of, end, put_lines};
 use super::collection::described;
 use dap_reply::Plan;
 use fm_base::Fail;
-use row_text::{File, Row};
+use row_text::{File, Row, Said};
 use std::alloc::Global;
 use text_rows::Wrong;
 
@@ -14,11 +14,14 @@ pub fn put_planned(
     files: &[File],
     row: &Row<'_>,
     plan: &Plan,
-    out: &mut String,
+    out: &mut Said,
 ) -> Result<(), Fail<Wrong>> {
-    out.push_str(if out.is_empty() { "" } else { "\n" })?;
-    put_reply(alloc, files, row, plan, out)?;
-    Ok(end(out)?)
+    out.begin_line();
+    let all = all_of(alloc, plan)?;
+    let put = put_reply(alloc, files, row, plan, all.as_slice(), out);
+    drop(all);
+    end(out);
+    put
 }
 
 // Adds the bytes of a reply: the head and a text as text, data in hexadecimal digits or as the row describes it, and
@@ -28,32 +31,19 @@ fn put_reply(
     files: &[File],
     row: &Row<'_>,
     plan: &Plan,
-    out: &mut String,
+    all: &[u8],
+    out: &mut Said,
 ) -> Result<(), Fail<Wrong>> {
-    let all = all_of(alloc, plan)?;
     let ready = plan.front.len().min(all.len());
-    let (front, data) = all.as_slice().split_at(ready);
-    put_parts(alloc, files, row, front, data, out)?;
-    drop(all);
+    let (front, data) = all.split_at(ready);
+    out.put_shown(front);
+    match row.value("data") {
+        Some(words) => put_as_described(alloc, files, words, data, out)?,
+        None => put_lines(data, out),
+    }
     match row.value("lent") {
         Some(offsets) => put_lent(plan, offsets, out),
         None => Ok(()),
-    }
-}
-
-// Adds the front of a reply and its data.
-fn put_parts(
-    alloc: Global,
-    files: &[File],
-    row: &Row<'_>,
-    front: &[u8],
-    data: &[u8],
-    out: &mut String,
-) -> Result<(), Fail<Wrong>> {
-    put_text(front, out)?;
-    match row.value("data") {
-        Some(words) => put_as_described(alloc, files, words, data, out),
-        None => Ok(put_lines(data, out)?),
     }
 }
 
@@ -63,29 +53,26 @@ fn put_as_described(
     files: &[File],
     words: &str,
     data: &[u8],
-    out: &mut String,
+    out: &mut Said,
 ) -> Result<(), Fail<Wrong>> {
     let described = described(alloc, files, words)?;
     if described.as_slice() != data {
         return Err(Fail::Fault(Wrong::Data));
     }
-    Ok(out.push_str("as described\n")?)
+    out.put("as described\n");
+    Ok(())
 }
 
 // Adds how many bytes are lent from each of some offsets among the data.
-fn put_lent(plan: &Plan, offsets: &str, out: &mut String) -> Result<(), Fail<Wrong>> {
-    out.push_str("lent")?;
+fn put_lent(plan: &Plan, offsets: &str, out: &mut Said) -> Result<(), Fail<Wrong>> {
+    out.put("lent");
     for offset in offsets.split_whitespace() {
-        put_lent_from(plan, offset, out)?;
+        let Ok(offset) = offset.parse::<u64>() else {
+            return Err(Fail::Fault(Wrong::Form));
+        };
+        let from = offset.saturating_add(plan.front.len() as u64);
+        out.put_number(" ", plan.lent(from).len());
     }
-    Ok(out.push('\n')?)
-}
-
-fn put_lent_from(plan: &Plan, offset: &str, out: &mut String) -> Result<(), Fail<Wrong>> {
-    let Ok(offset) = offset.parse::<u64>() else {
-        return Err(Fail::Fault(Wrong::Form));
-    };
-    let from = offset.saturating_add(plan.front.len() as u64);
-    let count = plan.lent(from).len();
-    Ok(write!(out, " {count}")?)
+    out.put("\n");
+    Ok(())
 }

@@ -18,7 +18,7 @@ pub struct Wanted {
 }
 
 /// A GET of a target, on a connection that stays.
-pub fn get(alloc: Global, target: &[u8]) -> Result<Wanted, NoMemory> {
+pub fn get(alloc: Global, target: &[u8]) -> Result<Wanted, Fail<Wrong>> {
     Ok(Wanted {
         asked: Asked::Head(Request {
             method: Method::Get,
@@ -86,6 +86,8 @@ fn plan_of(alloc: Global, plain: &mut Plain, ordered: &Order) -> Result<Plan, No
 }
 
 fn plan_wanted(alloc: Global, plain: &mut Plain, dap: &Dap) -> Result<Plan, NoMemory> {
-    let (plan, _) = plain.ask(alloc, dap)?;
-    Ok(plan)
+    match plain.ask(alloc, dap) {
+        Ok((plan, _)) => Ok(plan),
+        Err(NoMemory) => Err(NoMemory),
+    }
 }

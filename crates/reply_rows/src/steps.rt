@@ -1,16 +1,16 @@
 //! The steps of a row over a collection: operations, questions and a request, in the order of its lines.
 
-use super::collection::{described, epoch_of, prototype, put_revised};
+use super::collection::{described, epoch_of, prototype, put_done};
 use super::keys::{goes_on, opens};
 use super::moments::read_moment;
-use super::operations::{put_expired, put_many, put_one, put_said};
+use super::operations::{put_asked, put_many, put_one};
 use super::replies::put_planned;
 use super::requests::{Wanted, first_of, get, plan_for};
 use dap_reply::Plan;
 use fm_base::Fail;
 use pub_look::Plain;
-use row_text::{File, Row, bytes};
-use std::alloc::Global;
+use row_text::{File, Row, Said, bytes};
+use std::alloc::{AllocError, Global};
 use text_rows::Wrong;
 
 // A collection with its epoch, and the plan of a reply from where it was asked for.
@@ -27,7 +27,7 @@ pub fn put_steps(
     files: &[File],
     first: &Row<'_>,
     next: Option<&Row<'_>>,
-    out: &mut String,
+    out: &mut Said,
 ) -> Result<(), Fail<Wrong>> {
     if !opens(first) {
         return Err(Fail::Fault(Wrong::Form));
@@ -41,7 +41,7 @@ fn put_opened(
     files: &[File],
     first: &Row<'_>,
     next: Option<&Row<'_>>,
-    out: &mut String,
+    out: &mut Said,
 ) -> Result<(), Fail<Wrong>> {
     let mut steps = opened(alloc, files, first)?;
     let put = steps.put(alloc, files, first, next, out);
@@ -68,7 +68,7 @@ impl Steps {
         files: &[File],
         first: &Row<'_>,
         next: Option<&Row<'_>>,
-        out: &mut String,
+        out: &mut Said,
     ) -> Result<(), Fail<Wrong>> {
         self.put_run(alloc, files, first, out)?;
         match next {
@@ -83,7 +83,7 @@ impl Steps {
         alloc: Global,
         files: &[File],
         next: &Row<'_>,
-        out: &mut String,
+        out: &mut Said,
     ) -> Result<(), Fail<Wrong>> {
         if !goes_on(next) || self.plan.is_some() {
             return Err(Fail::Fault(Wrong::Form));
@@ -99,7 +99,7 @@ impl Steps {
         alloc: Global,
         files: &[File],
         row: &Row<'_>,
-        out: &mut String,
+        out: &mut Said,
     ) -> Result<(), Fail<Wrong>> {
         for field in &row.fields {
             self.put_step(alloc, files, field.key, field.value.as_str(), out)?;
@@ -114,11 +114,11 @@ impl Steps {
         files: &[File],
         key: &str,
         value: &str,
-        out: &mut String,
+        out: &mut Said,
     ) -> Result<(), Fail<Wrong>> {
         match key {
             "put" | "puts" | "expire" | "retract" | "ask" => {
-                out.push_str(if out.is_empty() { "" } else { "\n" })?;
+                out.begin_line();
                 self.put_line(alloc, files, key, value, out)
             }
             _ => self.request_by(alloc, files, key, value),
@@ -154,9 +154,10 @@ impl Steps {
 
     // Asks for the reply to the head that a value stands for.
     fn request_head(&mut self, alloc: Global, value: &str) -> Result<(), Fail<Wrong>> {
-        match bytes(alloc, value)? {
-            Some(head) => self.request(alloc, head.as_slice(), true),
-            None => Err(Fail::Fault(Wrong::Form)),
+        match bytes(alloc, value) {
+            Ok(Some(head)) => self.request(alloc, head.as_slice(), true),
+            Ok(None) => Err(Fail::Fault(Wrong::Form)),
+            Err(AllocError) => Err(Fail::NoMemory),
         }
     }
 
@@ -167,7 +168,7 @@ impl Steps {
         files: &[File],
         key: &str,
         value: &str,
-        out: &mut String,
+        out: &mut Said,
     ) -> Result<(), Fail<Wrong>> {
         match key {
             "put" => put_one(alloc, files, &mut self.plain, value, out),
@@ -182,14 +183,17 @@ impl Steps {
         alloc: Global,
         key: &str,
         value: &str,
-        out: &mut String,
+        out: &mut Said,
     ) -> Result<(), Fail<Wrong>> {
-        let plain = &mut self.plain;
         match key {
-            "expire" => put_expired(alloc, plain, read_moment(self.epoch, value)?, out),
-            "retract" => put_revised(plain.retract(alloc, value.as_bytes())?, out),
-            _ => put_said(alloc, plain, self.epoch, value, out),
+            "expire" => {
+                let cutoff = read_moment(self.epoch, value)?;
+                put_done(self.plain.expire(alloc, cutoff), out);
+            }
+            "retract" => put_done(self.plain.retract(alloc, value.as_bytes()), out),
+            _ => return put_asked(alloc, &mut self.plain, self.epoch, value, out),
         }
+        Ok(())
     }
 
     // Asks for the one reply of the row, by a target or a whole head.
@@ -214,7 +218,7 @@ impl Steps {
         alloc: Global,
         files: &[File],
         row: &Row<'_>,
-        out: &mut String,
+        out: &mut Said,
     ) -> Result<(), Fail<Wrong>> {
         match &self.plan {
             Some(plan) => put_planned(alloc, files, row, plan, out),
@@ -231,6 +235,6 @@ fn wanted_of(alloc: Global, text: &[u8], whole: bool) -> Result<Wanted, Fail<Wro
     if whole {
         first_of(alloc, text)
     } else {
-        Ok(get(alloc, text)?)
+        get(alloc, text)
     }
 }

@@ -1,7 +1,8 @@
 //! The content of a file, as a row describes it.
 
-use crate::values::{hex, put_bytes_of};
+use crate::values::{hex, if_known, put_bytes_of};
 use std::alloc::{AllocError, Global};
+use std::str::SplitWhitespace;
 
 /// A file that rows begin from, under its name without the folders in front.
 #[derive(Drop)]
@@ -16,8 +17,8 @@ pub struct File {
 /// end.
 pub fn content(alloc: Global, files: &[File], words: &str) -> Result<Option<Vec<u8>>, AllocError> {
     let mut content = Vec::new(alloc);
-    let known = put_content(alloc, files, words, &mut content)?;
-    Ok(if known { Some(content) } else { None })
+    let known = put_content(alloc, files, words, &mut content);
+    if_known(known, content)
 }
 
 // Appends the content that words describe. It is false where they describe none.
@@ -28,16 +29,30 @@ fn put_content(
     out: &mut Vec<u8>,
 ) -> Result<bool, AllocError> {
     let mut words = words.split_whitespace();
-    let mut known = match words.next().unwrap_or("") {
-        "hex" => put_bytes_of(words.next().unwrap_or(""), out)?,
-        name => put_named(files, name, out)?,
+    let begun = match words.next().unwrap_or("") {
+        "hex" => put_bytes_of(words.next().unwrap_or(""), out),
+        name => put_named(files, name, out),
     };
-    while known && let Some(word) = words.next() {
+    match begun {
+        Ok(true) => change_each(alloc, words, out),
+        ended => ended,
+    }
+}
+
+// Makes the changes that words describe. It is false where they describe none.
+fn change_each(
+    alloc: Global,
+    mut words: SplitWhitespace<'_>,
+    out: &mut Vec<u8>,
+) -> Result<bool, AllocError> {
+    while let Some(word) = words.next() {
         let first = words.next();
         let second = if has_two(word) { words.next() } else { None };
-        known = change(alloc, word, first, second, out)?;
+        if !change(alloc, word, first, second, out)? {
+            return Ok(false);
+        }
     }
-    Ok(known)
+    Ok(true)
 }
 
 // Whether two words stand behind the word for a change.
@@ -86,9 +101,10 @@ fn replace(
     let Some(offset) = offset else {
         return Ok(false);
     };
-    match hex(alloc, digits.unwrap_or(""))? {
-        Some(bytes) => Ok(put_at(content, offset, bytes.as_slice())),
-        None => Ok(false),
+    match hex(alloc, digits.unwrap_or("")) {
+        Ok(Some(bytes)) => Ok(put_at(content, offset, bytes.as_slice())),
+        Ok(None) => Ok(false),
+        Err(AllocError) => Err(AllocError),
     }
 }
 
@@ -122,9 +138,10 @@ fn fill(
     let Some(count) = count else {
         return Ok(false);
     };
-    match hex(alloc, digits.unwrap_or(""))? {
-        Some(bytes) => repeat(content, count, bytes.as_slice()),
-        None => Ok(false),
+    match hex(alloc, digits.unwrap_or("")) {
+        Ok(Some(bytes)) => repeat(content, count, bytes.as_slice()),
+        Ok(None) => Ok(false),
+        Err(AllocError) => Err(AllocError),
     }
 }
 

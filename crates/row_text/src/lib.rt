@@ -5,11 +5,13 @@
 mod described;
 mod reading;
 mod running;
+mod said;
 mod text;
 mod values;
 
 pub use described::{File, content};
 pub use reading::{Inputs, Text, read_inputs};
 pub use running::{Answers, Count, end, run};
-pub use text::{Field, Row, rows};
-pub use values::{bytes, hex, put_hex, put_shown};
+pub use said::Said;
+pub use text::{Field, Row, put_rows, rows};
+pub use values::{bytes, hex};

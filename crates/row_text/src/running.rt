@@ -1,5 +1,6 @@
 //! Rows that are run and counted.
 
+use crate::said::Said;
 use crate::text::{Row, rows};
 use std::alloc::{AllocError, Global};
 use std::io::{self, Eprint, Print};
@@ -15,7 +16,7 @@ pub struct Count {
 /// The answer to a row, in the words of its `want`.
 pub trait Answers {
     /// Puts the answer into an empty text. It is false where the row isn't one that this program knows.
-    fn answer(&self, alloc: Global, row: &Row<'_>, out: &mut String) -> Result<bool, AllocError>;
+    fn answer(&self, alloc: Global, row: &Row<'_>, out: &mut Said) -> Result<bool, AllocError>;
 }
 
 /// Runs and counts the rows of a text. A row with another answer than the wanted one goes to standard error. So does a
@@ -42,15 +43,11 @@ fn run_row<A: Answers>(
     answers: &A,
     count: &mut Count,
 ) -> io::Result<()> {
-    let mut got = String::new(alloc);
-    let known = answers.answer(alloc, row, &mut got)?;
-    compare(
-        rt,
-        path,
-        row,
-        if known { Some(got.as_str()) } else { None },
-        count,
-    )
+    let mut said = Said::new(alloc);
+    let known = answers.answer(alloc, row, &mut said);
+    let got = said.text()?;
+    let got = if known? { Some(got.as_str()) } else { None };
+    compare(rt, path, row, got, count)
 }
 
 // Counts a row, and prints it where its answer isn't the wanted one.

@@ -102,8 +102,12 @@ pub fn rows(alloc: Global, text: &str) -> Result<Vec<Row<'_>>, AllocError> {
     Ok(rows)
 }
 
-// Appends the paragraphs of a text.
-fn put_rows<'a>(alloc: Global, text: &'a str, rows: &mut Vec<Row<'a>>) -> Result<(), AllocError> {
+/// Appends the paragraphs of a text.
+pub fn put_rows<'a>(
+    alloc: Global,
+    text: &'a str,
+    rows: &mut Vec<Row<'a>>,
+) -> Result<(), AllocError> {
     let mut first = 1usize;
     let mut begins = true;
     for (number, line) in text.lines().enumerate() {

@@ -1,4 +1,4 @@
-//! Bytes as text, and text as bytes.
+//! Text as bytes.
 ghost use Rattle.std.specs.Prelude.{◌<◌, IfSome};
 
 use std::alloc::{AllocError, Global};
@@ -7,8 +7,20 @@ use std::alloc::{AllocError, Global};
 /// a backslash too; `None` where a backslash begins nothing of these.
 pub fn bytes(alloc: Global, value: &str) -> Result<Option<Vec<u8>>, AllocError> {
     let mut bytes = Vec::new(alloc);
-    let known = put_bytes(value, &mut bytes)?;
-    Ok(if known { Some(bytes) } else { None })
+    let known = put_bytes(value, &mut bytes);
+    if_known(known, bytes)
+}
+
+// Bytes that were put, where all that they stand for is known.
+pub(crate) fn if_known(
+    known: Result<bool, AllocError>,
+    bytes: Vec<u8>,
+) -> Result<Option<Vec<u8>>, AllocError> {
+    match known {
+        Ok(true) => Ok(Some(bytes)),
+        Ok(false) => Ok(None),
+        Err(AllocError) => Err(AllocError),
+    }
 }
 
 // Appends the bytes that a value stands for. It is false where a backslash begins nothing of these.
@@ -38,8 +50,8 @@ fn escaped(part: &[u8]) -> Option<(u8, &[u8])> {
 /// The bytes of hexadecimal digits, two for each byte; blanks and line ends may stand between bytes.
 pub fn hex(alloc: Global, digits: &str) -> Result<Option<Vec<u8>>, AllocError> {
     let mut bytes = Vec::new(alloc);
-    let known = put_bytes_of(digits, &mut bytes)?;
-    Ok(if known { Some(bytes) } else { None })
+    let known = put_bytes_of(digits, &mut bytes);
+    if_known(known, bytes)
 }
 
 /// Appends the bytes of hexadecimal digits. It is false where the text is something else.
@@ -71,50 +83,5 @@ fn hex_digit(digit: u8) -> Option<u8>
         b'0'..=b'9' => Some(digit - b'0'),
         b'a'..=b'f' => Some(digit - b'a' + 10),
         _ => None,
-    }
-}
-
-/// Appends bytes as words of eight hexadecimal digits with a blank between two words.
-pub fn put_hex(bytes: &[u8], out: &mut String) -> Result<(), AllocError> {
-    for (index, byte) in bytes.iter().enumerate() {
-        if index > 0 && index % 4 == 0 {
-            out.push(' ')?;
-        }
-        put_digits(*byte, out)?;
-    }
-    Ok(())
-}
-
-fn put_digits(byte: u8, out: &mut String) -> Result<(), AllocError> {
-    out.push(digit_of(byte / 16))?;
-    out.push(digit_of(byte % 16))
-}
-
-fn digit_of(value: u8) -> char {
-    match value {
-        0..=9 => (b'0' + value) as char,
-        10..=15 => (b'a' + (value - 10)) as char,
-        _ => '?',
-    }
-}
-
-/// Appends bytes so that a person reads them: printable characters and line feeds stand for themselves, a carriage
-/// return is `\r`, and any other byte and a backslash `\xNN`.
-pub fn put_shown(bytes: &[u8], out: &mut String) -> Result<(), AllocError> {
-    for byte in bytes {
-        put_byte(*byte, out)?;
-    }
-    Ok(())
-}
-
-fn put_byte(byte: u8, out: &mut String) -> Result<(), AllocError> {
-    match byte {
-        b'\r' => out.push_str("\\r"),
-        b'\\' => out.push_str("\\x5c"),
-        b'\n' | 32..=126 => out.push(byte as char),
-        _ => {
-            out.push_str("\\x")?;
-            put_digits(byte, out)
-        }
     }
 }

@@ -11,7 +11,7 @@ mod world;
 
 use fm_base::NoMemory;
 use given::Given;
-use row_text::{Answers, File, Row, rows};
+use row_text::{Answers, File, Row, Said, rows};
 use std::alloc::{AllocError, Global};
 use std::marker::Sync;
 use std::sync::Wait;
@@ -33,12 +33,12 @@ pub struct Runs {
 }
 
 impl Answers for Runs {
-    fn answer(&self, _alloc: Global, row: &Row<'_>, out: &mut String) -> Result<bool, AllocError> {
+    fn answer(&self, _alloc: Global, row: &Row<'_>, out: &mut Said) -> Result<bool, AllocError> {
         for left in &self.left {
             if left.line == row.line
                 && let Some(shown) = &left.shown
             {
-                out.push_str(shown.as_str())?;
+                out.put(shown.as_str());
                 return Ok(true);
             }
         }
@@ -53,13 +53,14 @@ fn ran<R: Threads + Wait + Sync>(
     files: &[File],
     row: &Row<'_>,
 ) -> Result<Option<String>, NoMemory> {
-    match Given::read(alloc, files, row)? {
-        Some(given) => {
+    match Given::read(alloc, files, row) {
+        Ok(Some(given)) => {
             let left = ran_in(rt, alloc, &given);
             drop(given);
             left.map(Some)
         }
-        None => Ok(None),
+        Ok(None) => Ok(None),
+        Err(NoMemory) => Err(NoMemory),
     }
 }
 

@@ -4,9 +4,10 @@
 
 mod commands;
 
+use device_rows::Devices;
 use file_rows::Files;
 use reply_rows::Collections;
-use row_text::{Answers, Count, File, Row, Text, end, read_inputs, run};
+use row_text::{Answers, Count, File, Row, Said, Text, end, read_inputs, run};
 use std::alloc::{AllocError, Global};
 use std::io::{self, Eprint, Print};
 use std::marker::Sync;
@@ -19,12 +20,7 @@ use text_rows::Texts;
 struct Unknown;
 
 impl Answers for Unknown {
-    fn answer(
-        &self,
-        _alloc: Global,
-        _row: &Row<'_>,
-        _out: &mut String,
-    ) -> Result<bool, AllocError> {
+    fn answer(&self, _alloc: Global, _row: &Row<'_>, _out: &mut Said) -> Result<bool, AllocError> {
         Ok(false)
     }
 }
@@ -34,6 +30,7 @@ fn run_text<R: Threads + Wait + Eprint + Sync>(
     rt: &R,
     alloc: Global,
     collections: &Collections<'_>,
+    devices: &Devices,
     text: &Text,
     count: &mut Count,
 ) -> io::Result<()> {
@@ -47,6 +44,7 @@ fn run_text<R: Threads + Wait + Eprint + Sync>(
         "texts" => run(rt, alloc, path, rows, &Texts { files }, count),
         "files" => run(rt, alloc, path, rows, &Files { files }, count),
         "replies" => run(rt, alloc, path, rows, collections, count),
+        "devices" => run(rt, alloc, path, rows, devices, count),
         _ => run(rt, alloc, path, rows, &Unknown, count),
     }
 }
@@ -55,22 +53,25 @@ fn run_text<R: Threads + Wait + Eprint + Sync>(
 fn run_all<R: Threads + Wait + Eprint + Print + Sync>(
     rt: &R,
     alloc: Global,
+    devices: &Devices,
     files: &[File],
     texts: &[Text],
 ) -> io::Result<ExitCode> {
     let collections = Collections::of(alloc, files, texts)?;
     let mut count = Count::default();
     for text in texts {
-        run_text(rt, alloc, &collections, text, &mut count)?;
+        run_text(rt, alloc, &collections, devices, text, &mut count)?;
     }
     end(rt, count)
 }
 
 fn main(rt: HostRuntime) -> io::Result<ExitCode> {
     let inputs = read_inputs(&rt)?;
+    let devices = Devices { rt };
     run_all(
         &rt,
         rt.alloc(),
+        &devices,
         inputs.files.as_slice(),
         inputs.texts.as_slice(),
     )

@@ -11,8 +11,8 @@ use Rattle.web_session.specs.declared.action.Asked.{Asked}
 use Rattle.web_session.specs.declared.action.End.{End}
 use Rattle.web_session.specs.declared.phase.Phase.TheVariants.{Asking}
 use Rattle.web_session.specs.State.{end_after, replied, State}
-use Rattle.dap_xdr.specs.Overlay.{overlay}
-use Rattle.dap_xdr.proofs.FrontLemmas.{overlay-front}
+use Rattle.dap_number.specs.Overlay.{overlay}
+use Rattle.dap_number.proofs.FrontLemmas.{overlay-front}
 use Rattle.srv_conn.specs.declared.acting.Acted.TheVariants as acts
 use Rattle.srv_conn.specs.Acts.{acted_by, Sends}
 

@@ -4,8 +4,8 @@ use Rattle.std.specs.Prelude.{sum}
 use Rattle.std.proofs.Math.Seq.{take-append_seam}
 use Rattle.std.proofs.lemmas.List.{drop-drop, drop_all, length-take}
 use Rattle.std.proofs.lemmas.List.Sums.{sum_by-take-drop}
-use Rattle.dap_xdr.specs.Overlay.{overlay}
-use Rattle.dap_xdr.proofs.FrontLemmas.{overlay-front}
+use Rattle.dap_number.specs.Overlay.{overlay}
+use Rattle.dap_number.proofs.FrontLemmas.{overlay-front}
 use Rattle.srv_load.specs.Asked.{sum_of}
 
 -- a sum from an offset on is that of the next bytes and of those after them

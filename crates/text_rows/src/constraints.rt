@@ -1,56 +1,62 @@
 //! Constraints: names with dots, slabs as `start:stride:stop`, and clauses with semicolons.
 
-use super::{known, only};
+use super::only;
 use dap_ce::read_constraint;
 use dap_model::{CeFault, Clause, Slab};
-use fm_base::Fail;
-use row_text::{Row, put_shown};
+use fm_base::{Fail, NoMemory};
+use row_text::{Row, Said};
 use std::alloc::{AllocError, Global};
-use std::fmt::Write;
 
 /// Puts the clauses of a constraint, or its fault with the offset.
-pub fn put_constraint(alloc: Global, row: &Row<'_>, out: &mut String) -> Result<bool, AllocError> {
-    match only(alloc, row, "constraint")? {
-        Some(text) => known(put_read(alloc, text.as_slice(), out)),
-        None => Ok(false),
+pub fn put_constraint(alloc: Global, row: &Row<'_>, out: &mut Said) -> Result<bool, NoMemory> {
+    match only(alloc, row, "constraint") {
+        Ok(Some(text)) => {
+            put_read(alloc, text.as_slice(), out);
+            Ok(true)
+        }
+        Ok(None) => Ok(false),
+        Err(AllocError) => Err(NoMemory),
     }
 }
 
-fn put_read(alloc: Global, text: &[u8], out: &mut String) -> Result<(), AllocError> {
+fn put_read(alloc: Global, text: &[u8], out: &mut Said) {
     match read_constraint(alloc, text) {
-        Ok(projection) => put_clauses(projection.clauses.as_slice(), out),
+        Ok(projection) => {
+            put_clauses(projection.clauses.as_slice(), out);
+            drop(projection);
+        }
         Err(Fail::Fault(fault)) => put_fault(fault, out),
-        Err(Fail::NoMemory) => Err(AllocError),
+        Err(Fail::NoMemory) => out.run_short(),
     }
 }
 
-fn put_fault(fault: CeFault, out: &mut String) -> Result<(), AllocError> {
+fn put_fault(fault: CeFault, out: &mut Said) {
     match fault {
-        CeFault::BadConstraint(at) => write!(out, "refused 21 at {at}"),
-        CeFault::Selection(at) => write!(out, "refused 22 at {at}"),
+        CeFault::BadConstraint(at) => out.put_number("refused 21 at ", at),
+        CeFault::Selection(at) => out.put_number("refused 22 at ", at),
     }
 }
 
-fn put_clauses(clauses: &[Clause], out: &mut String) -> Result<(), AllocError> {
+fn put_clauses(clauses: &[Clause], out: &mut Said) {
     for (index, clause) in clauses.iter().enumerate() {
-        out.push_str(if index == 0 { "" } else { "; " })?;
-        put_clause(clause, out)?;
+        out.put(if index == 0 { "" } else { "; " });
+        put_clause(clause, out);
     }
-    Ok(())
 }
 
-fn put_clause(clause: &Clause, out: &mut String) -> Result<(), AllocError> {
+fn put_clause(clause: &Clause, out: &mut Said) {
     for (index, name) in clause.path.as_slice().iter().enumerate() {
-        out.push_str(if index == 0 { "" } else { "." })?;
-        put_shown(name.as_slice(), out)?;
+        out.put(if index == 0 { "" } else { "." });
+        out.put_shown(name.as_slice());
     }
-    put_slabs(clause.slabs.as_slice(), out)
+    put_slabs(clause.slabs.as_slice(), out);
 }
 
 /// Appends slabs, each behind a blank.
-pub fn put_slabs(slabs: &[Slab], out: &mut String) -> Result<(), AllocError> {
+pub fn put_slabs(slabs: &[Slab], out: &mut Said) {
     for slab in slabs {
-        write!(out, " {}:{}:{}", slab.start, slab.stride, slab.stop)?;
+        out.put_number(" ", slab.start);
+        out.put_number(":", slab.stride);
+        out.put_number(":", slab.stop);
     }
-    Ok(())
 }

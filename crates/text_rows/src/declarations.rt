@@ -3,7 +3,7 @@
 
 use crate::wrong::Wrong;
 use dap_model::{Array, DapKind, Decl};
-use fm_base::{Bytes, Fail, List};
+use fm_base::{Bytes, Fail, List, NoMemory};
 use nc_model::Dim;
 use std::alloc::Global;
 
@@ -18,7 +18,18 @@ pub fn read_decls(alloc: Global, text: &str) -> Result<List<Decl>, Fail<Wrong>> 
 
 /// Adds the declaration of a text.
 pub fn put_decl(alloc: Global, text: &str, decls: &mut List<Decl>) -> Result<(), Fail<Wrong>> {
-    Ok(decls.push(read_decl(alloc, text)?)?)
+    match read_decl(alloc, text) {
+        Ok(decl) => pushed(decls.push(decl)),
+        Err(fail) => Err(fail),
+    }
+}
+
+// That memory sufficed for a push.
+fn pushed(push: Result<(), NoMemory>) -> Result<(), Fail<Wrong>> {
+    match push {
+        Ok(()) => Ok(()),
+        Err(NoMemory) => Err(Fail::NoMemory),
+    }
 }
 
 // A declaration.
@@ -26,7 +37,9 @@ fn read_decl(alloc: Global, text: &str) -> Result<Decl, Fail<Wrong>> {
     let Some((front, arrays)) = text.split_once('(') else {
         return Ok(Decl::Plain(read_array(alloc, text)?));
     };
-    let arrays = arrays.strip_suffix(')').ok_or(Fail::Fault(Wrong::Form))?;
+    let Some(arrays) = arrays.strip_suffix(')') else {
+        return Err(Fail::Fault(Wrong::Form));
+    };
     match front.split_once(' ') {
         Some(("Grid", name)) => read_grid(alloc, name, arrays),
         Some(("Structure", name)) => read_structure(alloc, name, arrays),
@@ -59,7 +72,10 @@ fn read_arrays(alloc: Global, text: &str) -> Result<List<Array>, Fail<Wrong>> {
 }
 
 fn put_array(alloc: Global, text: &str, arrays: &mut List<Array>) -> Result<(), Fail<Wrong>> {
-    Ok(arrays.push(read_array(alloc, text)?)?)
+    match read_array(alloc, text) {
+        Ok(array) => pushed(arrays.push(array)),
+        Err(fail) => Err(fail),
+    }
 }
 
 fn read_array(alloc: Global, text: &str) -> Result<Array, Fail<Wrong>> {
@@ -82,11 +98,16 @@ fn read_dims(alloc: Global, text: &str) -> Result<List<Dim>, Fail<Wrong>> {
 }
 
 fn put_dim(alloc: Global, text: &str, dims: &mut List<Dim>) -> Result<(), Fail<Wrong>> {
-    Ok(dims.push(read_dim(alloc, text)?)?)
+    match read_dim(alloc, text) {
+        Ok(dim) => pushed(dims.push(dim)),
+        Err(fail) => Err(fail),
+    }
 }
 
 fn read_dim(alloc: Global, text: &str) -> Result<Dim, Fail<Wrong>> {
-    let (name, size) = dim_in(text).ok_or(Fail::Fault(Wrong::Form))?;
+    let Some((name, size)) = dim_in(text) else {
+        return Err(Fail::Fault(Wrong::Form));
+    };
     Ok(Dim {
         name: Bytes::copy_of(alloc, name.as_bytes())?,
         size,

@@ -1,38 +1,44 @@
 //! Request heads: one, however it is cut, and those of a stream.
 
-use super::{allocated, known, only};
-use row_text::{Field, Row, bytes, content, put_shown};
+use super::only;
+use fm_base::NoMemory;
+use row_text::{Field, Row, Said, bytes, content};
 use std::alloc::{AllocError, Global};
-use std::fmt::Write;
 use web_frame::{Frame, Method, Next, Request};
 
 /// Puts the item that a head is read as. It comes whole, cut in two at each offset, and byte by byte.
-pub fn put_head(alloc: Global, row: &Row<'_>, out: &mut String) -> Result<bool, AllocError> {
-    match only(alloc, row, "head")? {
-        Some(head) => known(put_item(alloc, head.as_slice(), out)),
-        None => Ok(false),
+pub fn put_head(alloc: Global, row: &Row<'_>, out: &mut Said) -> Result<bool, NoMemory> {
+    match only(alloc, row, "head") {
+        Ok(Some(head)) => {
+            put_item(alloc, head.as_slice(), out);
+            Ok(true)
+        }
+        Ok(None) => Ok(false),
+        Err(AllocError) => Err(NoMemory),
     }
 }
 
-fn put_item(alloc: Global, head: &[u8], out: &mut String) -> Result<(), AllocError> {
-    let mut frame = allocated(Frame::new(alloc))?;
-    let put = put_read(&mut frame, head, out);
-    drop(frame);
-    put
+fn put_item(alloc: Global, head: &[u8], out: &mut Said) {
+    match Frame::new(alloc) {
+        Ok(mut frame) => {
+            put_read(&mut frame, head, out);
+            drop(frame);
+        }
+        Err(NoMemory) => out.run_short(),
+    }
 }
 
 // Appends the item that a frame without bytes reads a head as.
-fn put_read(frame: &mut Frame, head: &[u8], out: &mut String) -> Result<(), AllocError> {
+fn put_read(frame: &mut Frame, head: &[u8], out: &mut Said) {
     frame.feed(head);
     let read = frame.next();
-    put_next(frame, read, out)?;
+    put_next(frame, read, out);
     if frame.next() != Next::Need {
-        out.push_str(", and more")?;
+        out.put(", and more");
     }
     if !is_read_cut(frame, head, read) {
-        out.push_str(", but not where it is cut")?;
+        out.put(", but not where it is cut");
     }
-    Ok(())
 }
 
 // Whether a frame without bytes reads a head as this, cut in two at each offset and byte by byte, and nothing before
@@ -66,11 +72,11 @@ fn is_read_by_bytes(frame: &mut Frame, head: &[u8], want: Next) -> bool {
 
 /// Puts the heads of a stream, a line for each. Its slices are fed one after the other, and all heads of one are read
 /// before the next comes.
-pub fn put_stream(alloc: Global, row: &Row<'_>, out: &mut String) -> Result<bool, AllocError> {
+pub fn put_stream(alloc: Global, row: &Row<'_>, out: &mut Said) -> Result<bool, NoMemory> {
     if !row.has_only(&["feed", "feed file"]) {
         return Ok(false);
     }
-    let mut frame = allocated(Frame::new(alloc))?;
+    let mut frame = Frame::new(alloc)?;
     let put = put_slices(alloc, &mut frame, row, out);
     drop(frame);
     put
@@ -80,8 +86,8 @@ fn put_slices(
     alloc: Global,
     frame: &mut Frame,
     row: &Row<'_>,
-    out: &mut String,
-) -> Result<bool, AllocError> {
+    out: &mut Said,
+) -> Result<bool, NoMemory> {
     for field in &row.fields {
         if field.key.starts_with("feed") && !put_slice(alloc, frame, field, out)? {
             return Ok(false);
@@ -95,53 +101,55 @@ fn put_slice(
     alloc: Global,
     frame: &mut Frame,
     field: &Field<'_>,
-    out: &mut String,
-) -> Result<bool, AllocError> {
+    out: &mut Said,
+) -> Result<bool, NoMemory> {
     let value = field.value.as_str();
     let slice = match field.key {
-        "feed" => bytes(alloc, value)?,
-        _ => content(alloc, &[], value)?,
+        "feed" => bytes(alloc, value),
+        _ => content(alloc, &[], value),
     };
-    let Some(slice) = slice else {
-        return Ok(false);
-    };
-    frame.feed(slice.as_slice());
-    drop(slice);
-    put_heads(frame, out)?;
-    Ok(true)
+    match slice {
+        Ok(Some(slice)) => {
+            frame.feed(slice.as_slice());
+            put_heads(frame, out);
+            Ok(true)
+        }
+        Ok(None) => Ok(false),
+        Err(AllocError) => Err(NoMemory),
+    }
 }
 
 // Appends the heads that end in what a frame holds, at most 16 of them, and what is left.
-fn put_heads(frame: &mut Frame, out: &mut String) -> Result<(), AllocError> {
+fn put_heads(frame: &mut Frame, out: &mut Said) {
     for _ in 0..16 {
         let read = frame.next();
-        out.push_str(if out.is_empty() { "" } else { "\n" })?;
-        put_next(frame, read, out)?;
+        out.begin_line();
+        put_next(frame, read, out);
         if matches!(read, Next::Need | Next::HeadTooLong) {
-            write!(out, ", {} begun, room {}", frame.begun(), frame.room())?;
+            out.put_number(", ", frame.begun());
+            out.put_number(" begun, room ", frame.room());
             break;
         }
     }
-    Ok(())
 }
 
-fn put_next(frame: &Frame, read: Next, out: &mut String) -> Result<(), AllocError> {
+fn put_next(frame: &Frame, read: Next, out: &mut Said) {
     match read {
-        Next::Need => out.push_str("no head"),
+        Next::Need => out.put("no head"),
         Next::Head(request) => put_request(request, frame.target(), out),
-        Next::BadHead => out.push_str("bad head"),
-        Next::HeadTooLong => out.push_str("head too long"),
+        Next::BadHead => out.put("bad head"),
+        Next::HeadTooLong => out.put("head too long"),
     }
 }
 
 /// Appends a request's method and target, and whether the connection ends after it and it has a body.
-pub fn put_request(request: Request, target: &[u8], out: &mut String) -> Result<(), AllocError> {
-    out.push_str(match request.method {
+pub fn put_request(request: Request, target: &[u8], out: &mut Said) {
+    out.put(match request.method {
         Method::Get => "get ",
         Method::Head => "head ",
         Method::Other => "other ",
-    })?;
-    put_shown(target, out)?;
-    out.push_str(if request.close { ", close" } else { "" })?;
-    out.push_str(if request.has_body { ", body" } else { "" })
+    });
+    out.put_shown(target);
+    out.put(if request.close { ", close" } else { "" });
+    out.put(if request.has_body { ", body" } else { "" });
 }

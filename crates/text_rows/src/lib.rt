@@ -15,7 +15,7 @@ mod wrong;
 
 pub use declarations::put_decl;
 use fm_base::{Fail, NoMemory};
-use row_text::{Answers, File, Row};
+use row_text::{Answers, File, Row, Said};
 use std::alloc::{AllocError, Global};
 pub use wrong::{Wrong, wrong_form};
 
@@ -26,8 +26,11 @@ pub struct Texts<'a> {
 }
 
 impl Answers for Texts<'_> {
-    fn answer(&self, alloc: Global, row: &Row<'_>, out: &mut String) -> Result<bool, AllocError> {
-        put_answer(alloc, self.files, row, out)
+    fn answer(&self, alloc: Global, row: &Row<'_>, out: &mut Said) -> Result<bool, AllocError> {
+        match put_answer(alloc, self.files, row, out) {
+            Ok(known) => Ok(known),
+            Err(NoMemory) => Err(AllocError),
+        }
     }
 }
 
@@ -66,8 +69,8 @@ fn put_answer(
     alloc: Global,
     files: &[File],
     row: &Row<'_>,
-    out: &mut String,
-) -> Result<bool, AllocError> {
+    out: &mut Said,
+) -> Result<bool, NoMemory> {
     match call_of(row) {
         Some("asks") => projections::put_projection(alloc, files, row, out),
         Some(key) => put_value(alloc, key, row, out),
@@ -76,12 +79,7 @@ fn put_answer(
 }
 
 // Puts what comes out of a row about a value, a constraint or a target, by its key.
-fn put_value(
-    alloc: Global,
-    key: &str,
-    row: &Row<'_>,
-    out: &mut String,
-) -> Result<bool, AllocError> {
+fn put_value(alloc: Global, key: &str, row: &Row<'_>, out: &mut Said) -> Result<bool, NoMemory> {
     match key {
         "units" => times::put_units(alloc, row, out),
         "mark" => times::put_mark(alloc, row, out),
@@ -95,15 +93,10 @@ fn put_value(
 }
 
 // Puts what comes out of a row about the words of a command or the bytes of a stream, by its key.
-fn put_course(
-    alloc: Global,
-    key: &str,
-    row: &Row<'_>,
-    out: &mut String,
-) -> Result<bool, AllocError> {
+fn put_course(alloc: Global, key: &str, row: &Row<'_>, out: &mut Said) -> Result<bool, NoMemory> {
     match key {
         "words" => words::put_words(alloc, row, out),
-        "no words" => words::put_no_words(alloc, row, out),
+        "no words" => Ok(words::put_no_words(alloc, row, out)),
         "head" => heads::put_head(alloc, row, out),
         "feed" | "feed file" => heads::put_stream(alloc, row, out),
         "input" => sessions::put_input(alloc, row, out),
@@ -111,26 +104,10 @@ fn put_course(
     }
 }
 
-// That a row is known, once its answer was put.
-fn known(put: Result<(), AllocError>) -> Result<bool, AllocError> {
-    match put {
-        Ok(()) => Ok(true),
-        Err(AllocError) => Err(AllocError),
-    }
-}
-
-// A value that was made, or that memory ran out.
-fn allocated<T: Drop>(value: Result<T, NoMemory>) -> Result<T, AllocError> {
-    match value {
-        Ok(value) => Ok(value),
-        Err(NoMemory) => Err(AllocError),
-    }
-}
-
 // That a row isn't known, where there is a fault.
-fn unknown<E: Drop>(fail: Fail<E>) -> Result<bool, AllocError> {
+fn unknown<E: Drop>(fail: Fail<E>) -> Result<bool, NoMemory> {
     match fail {
-        Fail::NoMemory => Err(AllocError),
+        Fail::NoMemory => Err(NoMemory),
         Fail::Fault(_) => Ok(false),
     }
 }

@@ -2,15 +2,14 @@
 //! number of its declaration and its own, with its slabs.
 
 use super::constraints::put_slabs;
-use super::{known, unknown};
+use super::unknown;
 use crate::declarations::read_decls;
 use dap_ce::read_constraint;
 use dap_model::{Array, Decl, ProjectFault, Projected, Projection, Sent};
 use dap_project::project;
-use fm_base::{Bytes, Fail};
-use row_text::{File, Row, put_shown};
+use fm_base::{Bytes, Fail, NoMemory};
+use row_text::{File, Row, Said};
 use std::alloc::{AllocError, Global};
-use std::fmt::Write;
 use std::str;
 
 /// Puts what is sent of the declarations of a file for a constraint, or its fault.
@@ -18,8 +17,8 @@ pub fn put_projection(
     alloc: Global,
     files: &[File],
     row: &Row<'_>,
-    out: &mut String,
-) -> Result<bool, AllocError> {
+    out: &mut Said,
+) -> Result<bool, NoMemory> {
     if !row.has_each(&["of", "asks"]) {
         return Ok(false);
     }
@@ -43,127 +42,117 @@ fn put_asked(
     alloc: Global,
     decls: &[Decl],
     row: &Row<'_>,
-    out: &mut String,
-) -> Result<bool, AllocError> {
-    match row.bytes(alloc, "asks")? {
-        Some(text) => put_for(alloc, decls, text.as_slice(), out),
-        None => Ok(false),
+    out: &mut Said,
+) -> Result<bool, NoMemory> {
+    match row.bytes(alloc, "asks") {
+        Ok(Some(text)) => put_for(alloc, decls, text.as_slice(), out),
+        Ok(None) => Ok(false),
+        Err(AllocError) => Err(NoMemory),
     }
 }
 
 // Puts what is sent for the constraint of a text. It is false where it is none.
-fn put_for(
-    alloc: Global,
-    decls: &[Decl],
-    text: &[u8],
-    out: &mut String,
-) -> Result<bool, AllocError> {
+fn put_for(alloc: Global, decls: &[Decl], text: &[u8], out: &mut Said) -> Result<bool, NoMemory> {
     match read_constraint(alloc, text) {
         Ok(asked) => {
-            let put = put_sent(alloc, decls, &asked, out);
+            put_sent(alloc, decls, &asked, out);
             drop(asked);
-            known(put)
+            Ok(true)
         }
         Err(fail) => unknown(fail),
     }
 }
 
-fn put_sent(
-    alloc: Global,
-    decls: &[Decl],
-    asked: &Projection,
-    out: &mut String,
-) -> Result<(), AllocError> {
+fn put_sent(alloc: Global, decls: &[Decl], asked: &Projection, out: &mut Said) {
     match project(alloc, decls, asked) {
         Ok(projected) => {
-            let put = put_projected(&projected, out);
+            put_projected(&projected, out);
             drop(projected);
-            put
         }
         Err(Fail::Fault(fault)) => {
-            let put = put_fault(&fault, out);
+            put_fault(&fault, out);
             drop(fault);
-            put
         }
-        Err(Fail::NoMemory) => Err(AllocError),
+        Err(Fail::NoMemory) => out.run_short(),
     }
 }
 
-fn put_projected(projected: &Projected, out: &mut String) -> Result<(), AllocError> {
+fn put_projected(projected: &Projected, out: &mut Said) {
     for decl in projected.decls.as_slice() {
-        put_decl(decl, out)?;
-        out.push('\n')?;
+        put_decl(decl, out);
+        out.put("\n");
     }
     for (index, part) in projected.sent.as_slice().iter().enumerate() {
-        out.push_str(if index == 0 { "sends " } else { ", " })?;
-        put_part(part, out)?;
+        put_part(if index == 0 { "sends " } else { ", " }, part, out);
     }
-    Ok(())
 }
 
-fn put_decl(decl: &Decl, out: &mut String) -> Result<(), AllocError> {
+fn put_decl(decl: &Decl, out: &mut Said) {
     match decl {
         Decl::Plain(array) => put_array(array, out),
         Decl::Grid { name, array, maps } => {
-            put_front("Grid ", name, out)?;
-            put_array(array, out)?;
-            out.push_str(", ")?;
-            put_arrays(maps.as_slice(), out)
+            put_front("Grid ", name, out);
+            put_array(array, out);
+            out.put(", ");
+            put_arrays(maps.as_slice(), out);
         }
         Decl::Structure { name, members } => {
-            put_front("Structure ", name, out)?;
-            put_arrays(members.as_slice(), out)
+            put_front("Structure ", name, out);
+            put_arrays(members.as_slice(), out);
         }
     }
 }
 
 // Appends a word, a name and an opening parenthesis.
-fn put_front(word: &str, name: &Bytes, out: &mut String) -> Result<(), AllocError> {
-    out.push_str(word)?;
-    put_shown(name.as_slice(), out)?;
-    out.push('(')
+fn put_front(word: &str, name: &Bytes, out: &mut Said) {
+    out.put(word);
+    out.put_shown(name.as_slice());
+    out.put("(");
 }
 
 // Appends arrays and a closing parenthesis.
-fn put_arrays(arrays: &[Array], out: &mut String) -> Result<(), AllocError> {
+fn put_arrays(arrays: &[Array], out: &mut Said) {
     for (index, array) in arrays.iter().enumerate() {
-        out.push_str(if index == 0 { "" } else { ", " })?;
-        put_array(array, out)?;
+        out.put(if index == 0 { "" } else { ", " });
+        put_array(array, out);
     }
-    out.push(')')
+    out.put(")");
 }
 
-fn put_array(array: &Array, out: &mut String) -> Result<(), AllocError> {
-    put_shown(array.name.as_slice(), out)?;
+fn put_array(array: &Array, out: &mut Said) {
+    out.put_shown(array.name.as_slice());
     for dim in array.dims.as_slice() {
-        out.push('[')?;
-        put_shown(dim.name.as_slice(), out)?;
-        write!(out, "={}]", dim.size)?;
+        out.put("[");
+        out.put_shown(dim.name.as_slice());
+        out.put_number("=", dim.size);
+        out.put("]");
     }
-    Ok(())
 }
 
-fn put_part(part: &Sent, out: &mut String) -> Result<(), AllocError> {
-    write!(out, "{}.{}", part.decl, part.part)?;
-    put_slabs(part.slabs.as_slice(), out)
+fn put_part(before: &str, part: &Sent, out: &mut Said) {
+    out.put_number(before, part.decl);
+    out.put_number(".", part.part);
+    put_slabs(part.slabs.as_slice(), out);
 }
 
-fn put_fault(fault: &ProjectFault, out: &mut String) -> Result<(), AllocError> {
+fn put_fault(fault: &ProjectFault, out: &mut Said) {
     match fault {
-        ProjectFault::NoSuchVariable(name) => put_refused(23, name, out),
+        ProjectFault::NoSuchVariable(name) => put_refused("refused 23 ", name, out),
         ProjectFault::SlabRank { name, got, rank } => {
-            put_refused(24, name, out)?;
-            write!(out, ", {got} slabs for {rank}")
+            put_refused("refused 24 ", name, out);
+            out.put_number(", ", *got);
+            out.put_number(" slabs for ", *rank);
         }
         ProjectFault::SlabRange { name, dim, size } => {
-            put_refused(25, name, out)?;
-            write!(out, ", slab {dim} of {size}")
+            put_refused("refused 25 ", name, out);
+            out.put_number(", slab ", *dim);
+            out.put_number(" of ", *size);
         }
-        ProjectFault::SlabConflict(name) => put_refused(26, name, out),
+        ProjectFault::SlabConflict(name) => put_refused("refused 26 ", name, out),
     }
 }
 
-fn put_refused(code: u16, name: &Bytes, out: &mut String) -> Result<(), AllocError> {
-    write!(out, "refused {code} ")?;
-    put_shown(name.as_slice(), out)
+fn put_refused(refused: &str, name: &Bytes, out: &mut Said) {
+    out.put(refused);
+    out.put_shown(name.as_slice());
 }

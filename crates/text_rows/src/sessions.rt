@@ -1,58 +1,57 @@
 //! Sessions: what they do over whole input, however it is cut, and at each of some events.
 
 use super::heads::put_request;
-use super::{allocated, known, only};
-use row_text::{Field, Row, bytes, content};
+use super::only;
+use fm_base::NoMemory;
+use row_text::{Field, Row, Said, bytes, content};
 use std::alloc::{AllocError, Global};
-use std::fmt::Write;
 use web_session::{Action, Asked, End, Event, Session};
 
 /// Puts what a session does over some input, a line for each action. Each reply has 5 bytes, of which at most 2 are
 /// sent at a time. Reads are left out: the input comes whole, and in pieces of at most 1 to 100 bytes.
-pub fn put_input(alloc: Global, row: &Row<'_>, out: &mut String) -> Result<bool, AllocError> {
-    match only(alloc, row, "input")? {
-        Some(input) => known(put_all(alloc, input.as_slice(), out)),
-        None => Ok(false),
+pub fn put_input(alloc: Global, row: &Row<'_>, out: &mut Said) -> Result<bool, NoMemory> {
+    match only(alloc, row, "input") {
+        Ok(Some(input)) => put_all(alloc, input.as_slice(), out),
+        Ok(None) => Ok(false),
+        Err(AllocError) => Err(NoMemory),
     }
 }
 
-fn put_all(alloc: Global, input: &[u8], out: &mut String) -> Result<(), AllocError> {
-    put_actions(alloc, input, input.len(), out)?;
+fn put_all(alloc: Global, input: &[u8], out: &mut Said) -> Result<bool, NoMemory> {
+    put_actions(alloc, input, input.len(), out);
     for most in 1..101usize {
         if !is_done(alloc, input, most, out.as_str())? {
-            return write!(out, "\nbut not in pieces of {most} bytes");
+            out.put_number("\nbut not in pieces of ", most);
+            out.put(" bytes");
+            break;
         }
     }
-    Ok(())
+    Ok(true)
 }
 
 // Whether this is what a session does over some input, of which it reads at most `most` bytes at a time.
-fn is_done(alloc: Global, input: &[u8], most: usize, want: &str) -> Result<bool, AllocError> {
-    let mut got = String::new(alloc);
-    put_actions(alloc, input, most, &mut got)?;
-    Ok(got.as_str() == want)
+fn is_done(alloc: Global, input: &[u8], most: usize, want: &str) -> Result<bool, NoMemory> {
+    let mut got = Said::new(alloc);
+    put_actions(alloc, input, most, &mut got);
+    match got.text() {
+        Ok(text) => Ok(text.as_str() == want),
+        Err(AllocError) => Err(NoMemory),
+    }
 }
 
 // Puts what a session does over some input, of which it reads at most `most` bytes at a time.
-fn put_actions(
-    alloc: Global,
-    input: &[u8],
-    most: usize,
-    out: &mut String,
-) -> Result<(), AllocError> {
-    let mut session = allocated(Session::new(alloc))?;
-    let put = put_session(&mut session, input, most, out);
-    drop(session);
-    put
+fn put_actions(alloc: Global, input: &[u8], most: usize, out: &mut Said) {
+    match Session::new(alloc) {
+        Ok(mut session) => {
+            put_session(&mut session, input, most, out);
+            drop(session);
+        }
+        Err(NoMemory) => out.run_short(),
+    }
 }
 
 // The same of a session that has not begun.
-fn put_session(
-    session: &mut Session,
-    input: &[u8],
-    most: usize,
-    out: &mut String,
-) -> Result<(), AllocError> {
+fn put_session(session: &mut Session, input: &[u8], most: usize, out: &mut Said) {
     let mut left = input;
     let mut action = session.on(Event::Start);
     for _ in 0..1_000_000u32 {
@@ -61,14 +60,13 @@ fn put_session(
             left = rest;
             action = after_read(session, piece);
         } else {
-            put_action(session, action, out)?;
+            put_action(session, action, out);
             if matches!(action, Action::Close(_)) {
                 break;
             }
             action = after(session, action);
         }
     }
-    Ok(())
 }
 
 // What a session does once it has read some bytes, or the end of its input.
@@ -91,11 +89,11 @@ fn after(session: &mut Session, action: Action) -> Action {
 }
 
 /// Puts what a session does at each of some events, a line for each, after requests that were answered before.
-pub fn put_events(alloc: Global, row: &Row<'_>, out: &mut String) -> Result<bool, AllocError> {
+pub fn put_events(alloc: Global, row: &Row<'_>, out: &mut Said) -> Result<bool, NoMemory> {
     if !row.has_only(&["answered", "on", "on file"]) {
         return Ok(false);
     }
-    let mut session = allocated(Session::new(alloc))?;
+    let mut session = Session::new(alloc)?;
     let put = put_fields(alloc, &mut session, row, out);
     drop(session);
     put
@@ -105,8 +103,8 @@ fn put_fields(
     alloc: Global,
     session: &mut Session,
     row: &Row<'_>,
-    out: &mut String,
-) -> Result<bool, AllocError> {
+    out: &mut Said,
+) -> Result<bool, NoMemory> {
     for field in &row.fields {
         if !put_field(alloc, session, field, out)? {
             return Ok(false);
@@ -120,8 +118,8 @@ fn put_field(
     alloc: Global,
     session: &mut Session,
     field: &Field<'_>,
-    out: &mut String,
-) -> Result<bool, AllocError> {
+    out: &mut Said,
+) -> Result<bool, NoMemory> {
     let value = field.value.as_str();
     match field.key {
         "answered" => Ok(answer(session, value)),
@@ -149,26 +147,24 @@ fn put_after(
     alloc: Global,
     session: &mut Session,
     text: &str,
-    out: &mut String,
-) -> Result<bool, AllocError> {
+    out: &mut Said,
+) -> Result<bool, NoMemory> {
     let (name, value) = text.split_once(' ').unwrap_or((text, ""));
-    match bytes(alloc, value)? {
-        Some(bytes) => put_on(session, event_of(name, value, bytes.as_slice()), out),
-        None => Ok(false),
+    match bytes(alloc, value) {
+        Ok(Some(bytes)) => Ok(put_on(session, event_of(name, value, bytes.as_slice()), out)),
+        Ok(None) => Ok(false),
+        Err(AllocError) => Err(NoMemory),
     }
 }
 
 // Appends what a session does at an event; false where there is none.
-fn put_on(
-    session: &mut Session,
-    event: Option<Event<'_>>,
-    out: &mut String,
-) -> Result<bool, AllocError> {
+fn put_on(session: &mut Session, event: Option<Event<'_>>, out: &mut Said) -> bool {
     let Some(event) = event else {
-        return Ok(false);
+        return false;
     };
     let action = session.on(event);
-    known(put_action(session, action, out))
+    put_action(session, action, out);
+    true
 }
 
 // Appends what a session does with the bytes that a text describes; false where it describes none.
@@ -176,11 +172,12 @@ fn put_after_file(
     alloc: Global,
     session: &mut Session,
     text: &str,
-    out: &mut String,
-) -> Result<bool, AllocError> {
-    match content(alloc, &[], text)? {
-        Some(bytes) => put_on(session, Some(Event::Bytes(bytes.as_slice())), out),
-        None => Ok(false),
+    out: &mut Said,
+) -> Result<bool, NoMemory> {
+    match content(alloc, &[], text) {
+        Ok(Some(bytes)) => Ok(put_on(session, Some(Event::Bytes(bytes.as_slice())), out)),
+        Ok(None) => Ok(false),
+        Err(AllocError) => Err(NoMemory),
     }
 }
 
@@ -200,32 +197,31 @@ fn event_of<'a>(name: &str, value: &str, bytes: &'a [u8]) -> Option<Event<'a>> {
 }
 
 // Appends an action as a line. A request has its target, and says whether the link ends after its reply.
-fn put_action(session: &Session, action: Action, out: &mut String) -> Result<(), AllocError> {
-    out.push_str(if out.is_empty() { "" } else { "\n" })?;
+fn put_action(session: &Session, action: Action, out: &mut Said) {
+    out.begin_line();
     match action {
-        Action::Read(room) => write!(out, "read {room}"),
+        Action::Read(room) => out.put_number("read ", room),
         Action::Ask(asked) => put_asked(session, asked, out),
-        Action::Send { from } => write!(out, "send from {from}"),
+        Action::Send { from } => out.put_number("send from ", from),
         Action::Close(end) => put_end(end, out),
     }
 }
 
-fn put_asked(session: &Session, asked: Asked, out: &mut String) -> Result<(), AllocError> {
-    out.push_str("ask ")?;
-    let put = match asked {
+fn put_asked(session: &Session, asked: Asked, out: &mut Said) {
+    out.put("ask ");
+    match asked {
         Asked::Head(request) => put_request(request, session.target(), out),
-        Asked::BadHead => out.push_str("bad head"),
-        Asked::HeadTooLong => out.push_str("head too long"),
-    };
-    put?;
-    out.push_str(if session.last() { ", the last" } else { "" })
+        Asked::BadHead => out.put("bad head"),
+        Asked::HeadTooLong => out.put("head too long"),
+    }
+    out.put(if session.last() { ", the last" } else { "" });
 }
 
-fn put_end(end: End, out: &mut String) -> Result<(), AllocError> {
-    out.push_str("close: ")?;
+fn put_end(end: End, out: &mut Said) {
+    out.put("close: ");
     match end {
-        End::Cut(begun) => write!(out, "cut after {begun}"),
-        other => out.push_str(end_name(other)),
+        End::Cut(begun) => out.put_number("cut after ", begun),
+        other => out.put(end_name(other)),
     }
 }
 

@@ -1,7 +1,6 @@
 //! Bytes that were sent, as text.
 
-use row_text::{put_hex, put_shown};
-use std::alloc::AllocError;
+use row_text::Said;
 
 // How many bytes stand on a line of words.
 const ON_A_LINE: usize = 32;
@@ -10,48 +9,48 @@ const ON_A_LINE: usize = 32;
 /// last line without one ends in a backslash. What comes after `Data:` and a line feed stands as words of eight
 /// hexadecimal digits, eight on a line, until `HTTP/1.1` begins the next reply. A `-` at the front of a line is `\x2d`,
 /// and a blank at the end of one `\x20`.
-pub fn put_output(bytes: &[u8], out: &mut String) -> Result<(), AllocError> {
+pub fn put_output(bytes: &[u8], out: &mut Said) {
     let mut data = None;
     for (index, byte) in bytes.iter().enumerate() {
         let (before, rest) = bytes.split_at(index);
         data = match data {
             None if before.ends_with(b"Data:\n") => Some(0),
             Some(_) if rest.starts_with(b"HTTP/1.1 ") => {
-                out.push('\n')?;
+                out.put("\n");
                 None
             }
             same => same,
         };
         match data {
             Some(count) => {
-                put_data(*byte, count, out)?;
+                put_data(*byte, count, out);
                 data = Some(count.saturating_add(1));
             }
-            None => put_text(*byte, before, rest, out)?,
+            None => put_text(*byte, before, rest, out),
         }
     }
     match data {
-        Some(_) => out.push('\n'),
-        None if bytes.is_empty() || bytes.ends_with(b"\n") => Ok(()),
-        None => out.push_str("\\\n"),
+        Some(_) => out.put("\n"),
+        None if bytes.is_empty() || bytes.ends_with(b"\n") => {}
+        None => out.put("\\\n"),
     }
 }
 
 // Appends a byte of data that `count` bytes of data stand before.
-fn put_data(byte: u8, count: usize, out: &mut String) -> Result<(), AllocError> {
+fn put_data(byte: u8, count: usize, out: &mut Said) {
     if count > 0 && count % ON_A_LINE == 0 {
-        out.push('\n')?;
+        out.put("\n");
     } else if count > 0 && count % 4 == 0 {
-        out.push(' ')?;
+        out.put(" ");
     }
-    put_hex(&[byte], out)
+    out.put_hex(&[byte]);
 }
 
 // Appends a byte that comes after some, and is the first of the rest.
-fn put_text(byte: u8, before: &[u8], rest: &[u8], out: &mut String) -> Result<(), AllocError> {
+fn put_text(byte: u8, before: &[u8], rest: &[u8], out: &mut Said) {
     match byte {
-        b'-' if before.is_empty() || before.ends_with(b"\n") => out.push_str("\\x2d"),
-        b' ' if rest.len() == 1 || rest.starts_with(b" \n") => out.push_str("\\x20"),
-        _ => put_shown(&[byte], out),
+        b'-' if before.is_empty() || before.ends_with(b"\n") => out.put("\\x2d"),
+        b' ' if rest.len() == 1 || rest.starts_with(b" \n") => out.put("\\x20"),
+        _ => out.put_shown(&[byte]),
     }
 }

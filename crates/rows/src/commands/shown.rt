@@ -4,7 +4,7 @@ use super::output::put_output;
 use super::world::MemWorld;
 use dev_memory::PausedLink;
 use fm_base::{Bytes, NoMemory};
-use row_text::put_shown;
+use row_text::Said;
 use std::alloc::{AllocError, Global};
 
 /// The status with the text of the sink, what was put on the link of the run, and then for each device that was opened
@@ -16,80 +16,92 @@ pub fn left(
     world: &MemWorld,
     shows_lines: bool,
 ) -> Result<String, NoMemory> {
-    let mut out = String::new(alloc);
-    put_end(status, world, &mut out)?;
-    put_doors(world, &mut out)?;
-    put_verdicts(world, &mut out)?;
+    let mut out = Said::new(alloc);
+    put_end(status, world, &mut out);
+    put_doors(world, &mut out);
+    put_verdicts(world, &mut out);
     if shows_lines {
-        put_told(world, &mut out)?;
+        put_told(world, &mut out);
     }
     out.pop();
-    Ok(out)
+    match out.text() {
+        Ok(text) => Ok(text),
+        Err(AllocError) => Err(NoMemory),
+    }
 }
 
-fn put_end(status: u8, world: &MemWorld, out: &mut String) -> Result<(), AllocError> {
+fn put_end(status: u8, world: &MemWorld, out: &mut Said) {
     let line = world.sink.bytes();
+    out.put_number("status ", status);
     if line.is_empty() {
-        write!(out, "status {status}\n")?;
+        out.put("\n");
     } else {
-        write!(out, "status {status}: ")?;
-        put_output(line, out)?;
+        out.put(": ");
+        put_output(line, out);
     }
     let sent = world.link.output();
     if !sent.is_empty() {
-        out.push_str("-- sent\n")?;
-        put_output(sent, out)?;
+        out.put("-- sent\n");
+        put_output(sent, out);
     }
-    Ok(())
 }
 
-fn put_doors(world: &MemWorld, out: &mut String) -> Result<(), AllocError> {
+// Appends the line that comes before what a device of a number was left with.
+fn put_device(device: &str, number: usize, out: &mut Said) {
+    out.put_number(device, number);
+    out.put("\n");
+}
+
+fn put_doors(world: &MemWorld, out: &mut Said) {
     for (number, door) in world.doors.as_slice().iter().enumerate() {
-        write!(out, "-- door {number}\n")?;
-        put_links(door.given(), out)?;
+        put_device("-- door ", number, out);
+        put_links(door.given(), out);
     }
-    Ok(())
 }
 
-fn put_links(links: &[PausedLink], out: &mut String) -> Result<(), AllocError> {
+fn put_links(links: &[PausedLink], out: &mut Said) {
     for (number, link) in links.iter().enumerate() {
-        write!(out, "-- link {number}\n")?;
-        put_output(link.link.output(), out)?;
+        put_device("-- link ", number, out);
+        put_output(link.link.output(), out);
     }
-    Ok(())
 }
 
-fn put_verdicts(world: &MemWorld, out: &mut String) -> Result<(), AllocError> {
+fn put_verdicts(world: &MemWorld, out: &mut Said) {
     for (number, inbox) in world.inboxes.as_slice().iter().enumerate() {
-        write!(out, "-- inbox {number}: {:?}\n", inbox.verdicts())?;
+        out.put_number("-- inbox ", number);
+        out.put_debug(": ", inbox.verdicts());
+        out.put("\n");
     }
     for (number, clock) in world.clocks.as_slice().iter().enumerate() {
-        write!(out, "-- clock {number}: {:?}\n", clock.verdicts())?;
+        out.put_number("-- clock ", number);
+        out.put_debug(": ", clock.verdicts());
+        out.put("\n");
     }
-    Ok(())
 }
 
-fn put_told(world: &MemWorld, out: &mut String) -> Result<(), AllocError> {
-    out.push_str("-- lines of the server\n")?;
-    put_lines(world.opener.lines(), out)?;
+fn put_told(world: &MemWorld, out: &mut Said) {
+    out.put("-- lines of the server\n");
+    put_lines(world.opener.lines(), out);
     for (number, inbox) in world.inboxes.as_slice().iter().enumerate() {
-        write!(out, "-- lines of inbox {number}\n")?;
-        put_lines(inbox.lines(), out)?;
+        put_device("-- lines of inbox ", number, out);
+        put_lines(inbox.lines(), out);
     }
     for (number, clock) in world.clocks.as_slice().iter().enumerate() {
-        write!(out, "-- lines of clock {number}\n")?;
-        put_lines(clock.lines(), out)?;
+        put_device("-- lines of clock ", number, out);
+        put_lines(clock.lines(), out);
     }
-    Ok(())
 }
 
-fn put_lines(lines: Option<&[Bytes]>, out: &mut String) -> Result<(), AllocError> {
-    let Some(lines) = lines else {
-        return out.push_str("lost\n");
-    };
+fn put_lines(lines: Option<&[Bytes]>, out: &mut Said) {
+    match lines {
+        Some(lines) => put_each(lines, out),
+        None => out.put("lost\n"),
+    }
+}
+
+fn put_each(lines: &[Bytes], out: &mut Said) {
     for line in lines {
-        put_shown(line.as_slice(), out)?;
-        out.push('\n')?;
+        out.put_shown(line.as_slice());
+        out.put("\n");
     }
-    Ok(())
 }

@@ -3,7 +3,7 @@
 use dev_memory::Entry;
 use fm_base::{Bytes, List, NoMemory};
 use row_text::{File, bytes, content};
-use std::alloc::Global;
+use std::alloc::{AllocError, Global};
 
 /// The numbers of a text, of which there is at least one.
 pub fn numbers(alloc: Global, text: &str) -> Result<Option<List<u64>>, NoMemory> {
@@ -23,20 +23,26 @@ pub fn numbers(alloc: Global, text: &str) -> Result<Option<List<u64>>, NoMemory>
 
 /// Puts the numbers of a text into `list`, instead of those it had. It is false where the text has none.
 pub fn put_numbers(alloc: Global, text: &str, list: &mut List<u64>) -> Result<bool, NoMemory> {
-    let Some(numbers) = numbers(alloc, text)? else {
-        return Ok(false);
-    };
-    *list = numbers;
-    Ok(true)
+    match numbers(alloc, text) {
+        Ok(Some(numbers)) => {
+            *list = numbers;
+            Ok(true)
+        }
+        Ok(None) => Ok(false),
+        Err(NoMemory) => Err(NoMemory),
+    }
 }
 
 /// Appends the bytes that a text stands for. It is false where it stands for none.
 pub fn append(alloc: Global, text: &str, out: &mut Bytes) -> Result<bool, NoMemory> {
-    let Some(bytes) = bytes(alloc, text)? else {
-        return Ok(false);
-    };
-    out.append(bytes.as_slice())?;
-    Ok(true)
+    match bytes(alloc, text) {
+        Ok(Some(bytes)) => match out.append(bytes.as_slice()) {
+            Ok(()) => Ok(true),
+            Err(NoMemory) => Err(NoMemory),
+        },
+        Ok(None) => Ok(false),
+        Err(AllocError) => Err(NoMemory),
+    }
 }
 
 /// The file that a path with a description behind it is.
@@ -44,11 +50,15 @@ pub fn entry(alloc: Global, bases: &[File], text: &str) -> Result<Option<Entry>,
     let Some((path, description)) = text.split_once(' ') else {
         return Ok(None);
     };
-    match (bytes(alloc, path)?, content(alloc, bases, description)?) {
-        (Some(path), Some(content)) => Ok(Some(Entry {
+    let Some(path) = bytes(alloc, path)? else {
+        return Ok(None);
+    };
+    match content(alloc, bases, description) {
+        Ok(Some(content)) => Ok(Some(Entry {
             path: List { items: path },
             content: List { items: content },
         })),
-        _ => Ok(None),
+        Ok(None) => Ok(None),
+        Err(AllocError) => Err(NoMemory),
     }
 }

@@ -3,6 +3,7 @@ ghost use Rattle.std.specs.Prelude.{◌≡◌, All, IfOk};
 ghost use Rattle.dev_traits.specs.Door.{IsFresh};
 
 use super::arriving::Arriving;
+use super::doored::Doored;
 use super::given::Given;
 use super::linked::Linked;
 use dev_memory::{
@@ -159,11 +160,23 @@ fn doors_of(alloc: Global, given: &Given) -> Result<List<MemDoor>, NoMemory>
         list: List::new(alloc),
     };
     for (index, doored) in given.doors.iter().enumerate() {
-        let links = links_of(alloc, given, index.saturating_add(1))?;
-        let door = MemDoor::new(alloc, links, copy_of(alloc, &doored.failing)?)?;
-        doors.push(door.with_events(copy_of(alloc, &doored.events)?))?;
+        doors.push(door_of(alloc, given, index.saturating_add(1), doored)?)?;
     }
     Ok(doors.into_list())
+}
+
+// The door with this number, from 1.
+fn door_of(
+    alloc: Global,
+    given: &Given,
+    number: usize,
+    doored: &Doored,
+) -> Result<MemDoor, NoMemory>
+    ensures { IfOk result (λ door. (⟦<MemDoor as Door>⟧.shown door).faults ≡ 0) }
+{
+    let links = links_of(alloc, given, number)?;
+    let door = MemDoor::new(alloc, links, copy_of(alloc, &doored.failing)?)?;
+    Ok(door.with_events(copy_of(alloc, &doored.events)?))
 }
 
 fn inbox_of(alloc: Global, arriving: &Arriving) -> Result<MemInbox, NoMemory>

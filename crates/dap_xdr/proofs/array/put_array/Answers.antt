@@ -3,9 +3,9 @@ use Rattle.std.proofs.Common.{◌≡◌, ℕ, ◌+◌, ◌-◌, ◌++◌, List, 
 use Rattle.dap_model.specs.Box.{box_len}
 use Rattle.dap_model.specs.Xdr.{count_twice}
 use Rattle.dap_xdr.specs.Portion.{body_of}
-use Rattle.dap_xdr.specs.Overlay.{overlay, IsPut}
+use Rattle.dap_number.specs.Overlay.{overlay, IsPut}
 use Rattle.dap_xdr.proofs.ElementLemmas.{array-body}
-use Rattle.dap_xdr.proofs.FrontLemmas.{put-behind}
+use Rattle.dap_number.proofs.FrontLemmas.{put-behind}
 use Rattle.dap_xdr.proofs.array.put_array.Goals as goal
 
 pub returns : goal.returns

@@ -3,9 +3,9 @@ use Rattle.std.proofs.Common.{◌≡◌, ℕ, ◌-◌, ◌*◌, drop, length, sy
 use Rattle.dap_model.specs.Box.{box_len}
 use Rattle.dap_model.specs.Xdr.{element_len, zeros_after}
 use Rattle.dap_xdr.specs.Portion.{body_of, numbers_from}
-use Rattle.dap_xdr.specs.Overlay.{IsPut}
+use Rattle.dap_number.specs.Overlay.{IsPut}
 use Rattle.dap_xdr.proofs.ElementLemmas.{length-all}
-use Rattle.dap_xdr.proofs.FrontLemmas.{put-behind}
+use Rattle.dap_number.proofs.FrontLemmas.{put-behind}
 use Rattle.dap_xdr.proofs.array.put_body.Goals as goal
 
 pub returns : goal.returns

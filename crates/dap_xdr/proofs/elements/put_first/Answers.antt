@@ -3,9 +3,9 @@ use Rattle.std.proofs.Common.{◌≡◌, ℕ, ◌-◌, List, drop, length, min, 
 use Rattle.dap_model.specs.Box.{index_at}
 use Rattle.dap_model.specs.Xdr.{element_bytes, element_len}
 use Rattle.dap_model.proofs.XdrLemmas.{length-element_bytes}
-use Rattle.dap_xdr.specs.Front.{IsFront}
+use Rattle.dap_number.specs.Front.{IsFront}
 use Rattle.dap_xdr.specs.Portion.{bits_in, numbers_from}
-use Rattle.dap_xdr.specs.Overlay.{overlay}
+use Rattle.dap_number.specs.Overlay.{overlay}
 use Rattle.dap_xdr.proofs.ElementLemmas.{one-front}
 use Rattle.dap_xdr.proofs.elements.put_first.Goals as goal
 

@@ -3,7 +3,7 @@ use Rattle.std.proofs.Common.{List, ℕ, drop, length, subst}
 use Rattle.std.specs.List.{flat_map}
 use Rattle.dap_model.specs.Xdr.{element_bytes}
 use Rattle.dap_model.specs.declared.declaration.DapKind.{DapKind}
-use Rattle.dap_xdr.specs.Front.{IsFront}
+use Rattle.dap_number.specs.Front.{IsFront}
 use Rattle.dap_xdr.specs.Stretch.{AreBytesOf}
 use Rattle.dap_xdr.proofs.ElementLemmas.{picked-front}
 use Rattle.dap_xdr.proofs.elements.put_in_place.Goals as goal

@@ -1,7 +1,7 @@
 -- The rows that are written are a front of what is left.
 use Rattle.std.proofs.Common.{ℕ, drop, sym, subst}
 use Rattle.dap_model.specs.declared.declaration.DapKind.{DapKind}
-use Rattle.dap_xdr.specs.Front.{IsFront}
+use Rattle.dap_number.specs.Front.{IsFront}
 use Rattle.dap_xdr.specs.Portion.{numbers_from}
 use Rattle.dap_xdr.specs.Rows.{ArePut}
 use Rattle.dap_xdr.proofs.ElementLemmas.{picked-front}

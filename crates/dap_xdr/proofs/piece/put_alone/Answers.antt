@@ -1,10 +1,10 @@
 -- A number or a text alone.
 use Rattle.std.proofs.Common.{ℕ, List, [], drop, sym, ap, subst, ◌∙◌}
 use Rattle.dap_model.specs.Xdr.{number_bytes, text_bytes}
-use Rattle.dap_xdr.specs.Overlay.{IsPut}
+use Rattle.dap_number.specs.Overlay.{IsPut}
 use Rattle.dap_xdr.specs.Portion.{bits_in}
 use Rattle.dap_xdr.proofs.DataLemmas.{alone, data-number, data-text}
-use Rattle.dap_xdr.proofs.FrontLemmas.{put-left}
+use Rattle.dap_number.proofs.FrontLemmas.{put-left}
 use Rattle.dap_xdr.proofs.piece.put_alone.Goals as goal
 
 pub text-requires : goal.text-requires

@@ -1,6 +1,6 @@
 -- An array of numbers or texts.
 use Rattle.std.proofs.Common.{◌^◌, ℕ, List, drop, sym, subst, ◌∙◌}
-use Rattle.dap_xdr.specs.Overlay.{IsPut}
+use Rattle.dap_number.specs.Overlay.{IsPut}
 use Rattle.dap_xdr.proofs.DataLemmas.{data-numbers, data-texts, numbers-small}
 use Rattle.dap_xdr.proofs.piece.put_many.Goals as goal
 

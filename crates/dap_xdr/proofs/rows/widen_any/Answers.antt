@@ -1,6 +1,6 @@
 -- Of rows of an odd length none is written.
 use Rattle.std.proofs.Common.{refl}
-use Rattle.dap_xdr.specs.Front.{widened_bytes}
+use Rattle.dap_number.specs.Front.{widened_bytes}
 use Rattle.dap_xdr.proofs.RowLemmas.{none-written}
 use Rattle.dap_xdr.proofs.rows.widen_any.Goals as goal
 

@@ -1,6 +1,6 @@
 -- Each turn widens one row.
 use Rattle.std.proofs.Common.{refl, arith}
-use Rattle.dap_xdr.specs.Front.{widened_bytes}
+use Rattle.dap_number.specs.Front.{widened_bytes}
 use Rattle.dap_xdr.proofs.RowLemmas.{rows-none, rows-written, widen-next}
 use Rattle.dap_xdr.proofs.rows.widen_rows.Goals as goal
 

@@ -1,6 +1,6 @@
 -- The rows that are widened so far.
 use Rattle.std.proofs.Common.{◌-◌}
-use Rattle.dap_xdr.specs.Front.{widened_bytes}
+use Rattle.dap_number.specs.Front.{widened_bytes}
 use Rattle.dap_xdr.proofs.RowLemmas.{RowsSoFar}
 use Rattle.dap_xdr.proofs.rows.widen_rows.Given as goal
 

@@ -4,7 +4,7 @@ use Rattle.std.specs.List.{flat_map}
 use Rattle.dap_model.specs.Xdr.{element_bytes}
 use Rattle.dap_model.specs.declared.declaration.DapKind.{DapKind}
 use Rattle.dap_model.specs.declared.declaration.DapKind.TheVariants.{Int16}
-use Rattle.dap_xdr.specs.Front.{IsFront}
+use Rattle.dap_number.specs.Front.{IsFront}
 use Rattle.dap_xdr.specs.Stretch.{AreBytesOf}
 use Rattle.dap_xdr.proofs.StoredLemmas.{put-same, put-widened}
 use Rattle.dap_xdr.proofs.stored.put_stored.Goals as goal

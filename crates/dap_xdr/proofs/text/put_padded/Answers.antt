@@ -1,7 +1,7 @@
 -- The zero bytes stand behind the text.
 use Rattle.std.proofs.Common.{length}
 use Rattle.dap_model.specs.Xdr.{zeros_after}
-use Rattle.dap_xdr.proofs.FrontLemmas.{put-behind}
+use Rattle.dap_number.proofs.FrontLemmas.{put-behind}
 use Rattle.dap_xdr.proofs.text.put_padded.Goals as goal
 
 pub returns : goal.returns

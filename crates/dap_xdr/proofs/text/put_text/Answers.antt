@@ -2,8 +2,8 @@
 use Rattle.std.proofs.Common.{ℕ, ◌-◌, ◌++◌, List, drop, length, min, ap, ◌∙◌}
 use Rattle.std.specs.Int.{w32, to_be_bytes}
 use Rattle.dap_model.specs.Xdr.{text_bytes, zeros_after}
-use Rattle.dap_xdr.specs.Overlay.{overlay}
-use Rattle.dap_xdr.proofs.FrontLemmas.{put-behind}
+use Rattle.dap_number.specs.Overlay.{overlay}
+use Rattle.dap_number.proofs.FrontLemmas.{put-behind}
 use Rattle.dap_xdr.proofs.text.put_text.Goals as goal
 
 pub returns : goal.returns

@@ -2,7 +2,7 @@
 use Rattle.std.proofs.Common.{refl, ap, ◌∙◌, arith}
 use Rattle.dap_model.specs.Xdr.{number_bytes}
 use Rattle.dap_model.specs.declared.declaration.DapKind.TheVariants.{Int16}
-use Rattle.dap_xdr.specs.Front.{widened_bytes}
+use Rattle.dap_number.specs.Front.{widened_bytes}
 use Rattle.dap_xdr.proofs.WidenLemmas.{widen-turn}
 use Rattle.dap_xdr.proofs.widen.widen.Goals as goal
 

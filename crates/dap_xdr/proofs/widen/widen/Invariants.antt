@@ -1,6 +1,6 @@
 -- The numbers so far stand over the front.
 use Rattle.std.proofs.Common.{◌≡◌, ◌*◌, ◌++◌, take, drop}
-use Rattle.dap_xdr.specs.Front.{widened_bytes}
+use Rattle.dap_number.specs.Front.{widened_bytes}
 use Rattle.dap_xdr.proofs.widen.widen.Given as goal
 
 abbrev pub invariant-loop-number : goal.invariant-loop-number

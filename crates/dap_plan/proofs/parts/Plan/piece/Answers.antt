@@ -1,7 +1,7 @@
 -- The front is written, and the data behind it.
 use Rattle.std.proofs.Common.{◌+◌, ◌-◌, ◌++◌, ℕ, length, min, drop, subst, sym, ap, ◌∙◌}
 use Rattle.std.proofs.lemmas.List.{length-drop}
-use Rattle.dap_xdr.specs.Overlay.{IsPut}
+use Rattle.dap_number.specs.Overlay.{IsPut}
 use Rattle.dap_plan.specs.Parts.{bytes_of, Parts}
 use Rattle.dap_plan.proofs.LaidLemmas.{laid-data}
 use Rattle.dap_plan.proofs.PlanLemmas.{data-small, piece-data, piece-ready}

@@ -1,0 +1,59 @@
+//! Rows about devices of the machine, over streams, listings and clocks in memory, and over folders.
+#![tactic(auto)]
+
+mod accepted;
+mod arriving;
+mod clocked;
+mod foldered;
+mod hearing;
+mod keyed;
+mod limited;
+mod linked;
+mod listed;
+mod turned;
+mod turns;
+
+use fm_base::NoMemory;
+use row_text::{Answers, Row, Said};
+use std::alloc::{AllocError, Global};
+use turned::{Device, put_over_turns};
+
+/// The machine on which rows run.
+#[derive(Drop)]
+pub struct Devices {
+    pub rt: HostRuntime,
+}
+
+impl Answers for Devices {
+    fn answer(&self, alloc: Global, row: &Row<'_>, out: &mut Said) -> Result<bool, AllocError> {
+        match put_answer(self.rt, alloc, row, out) {
+            Ok(known) => Ok(known),
+            Err(NoMemory) => Err(AllocError),
+        }
+    }
+}
+
+// Puts what comes out of a row's steps, by the device that its first key names.
+fn put_answer(
+    rt: HostRuntime,
+    alloc: Global,
+    row: &Row<'_>,
+    out: &mut Said,
+) -> Result<bool, NoMemory> {
+    for field in &row.fields {
+        return match field.key {
+            "link" => put_over_turns(alloc, row, Device::Link, out),
+            "ending" => put_over_turns(alloc, row, Device::Ending, out),
+            "accepts" => put_over_turns(alloc, row, Device::Accepts, out),
+            "sending" => Ok(linked::put_sending(row, out)),
+            "wheel" => keyed::put_wheel(alloc, row, out),
+            "limits" => Ok(limited::put_limits(row, out)),
+            "line" => Ok(limited::put_line(alloc, row, out)),
+            "ticks" => clocked::put_moments(alloc, row, out),
+            "names" => listed::put_names(rt, alloc, row, out),
+            "folder" => foldered::put_folder(rt, alloc, row, out),
+            _ => continue,
+        };
+    }
+    Ok(false)
+}
