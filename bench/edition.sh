@@ -1,6 +1,6 @@
 #!/bin/sh
 # Shows how long an edition takes to be made from the one before it, and its look-ups and views, for 40, 400 and 4,096
-# files of 64 times: over ordered maps, and as a list of files. Each number is the least of five turns. It uses what the
+# files of 64 times. Each number is the least of five turns. It uses what the
 # gate proved on this machine (bench/build.sh).
 # Use: bench/edition.sh.
 set -eu
@@ -36,13 +36,13 @@ impl Apart<'_> {
 }
 PROGRAM
 
-cat > "$folder/form.rt" << 'PROGRAM'
-//! One form of an edition.
+cat > "$folder/crates/edition_bench/src/steps.rt" << 'PROGRAM'
+//! Steps of an edition.
 
 use crate::apart::Apart;
 use crate::made::{Untaken, name_of, now, since};
 use fm_base::Arc;
-FORM_IMPORT
+use fm_edition::Edition;
 use fm_load::load;
 use fm_model::{MAX_FILE_BYTES, Op};
 use std::alloc::Global;
@@ -139,51 +139,30 @@ fn per(nanos: u64, times: i64) -> u64 {
     nanos / times
 }
 
-/// How long the rows of the best time series take, and how many they are.
-pub fn best_rows<R: Clock>(rt: &R, alloc: Global, edition: &Edition, turns: u8) -> Result<(u64, usize), Untaken> {
-    let mut least = u64::MAX;
-    let mut count = 0;
-    for _ in 0..turns {
-        let start = now(rt)?;
-        let rows = edition.best_rows(alloc, None)?;
-        least = least.min(since(rt, &start)? / 1_000);
-        count = rows.len();
-    }
-    Ok((least, count))
-}
-
 /// Shows what the steps take from an edition of one file less than a count, and returns it.
-pub fn steps<R: Print + Clock>(rt: &R, alloc: Global, none: Edition, made: &Apart<'_>, count: u32) -> Result<Edition, Untaken> {
+pub fn all<R: Print + Clock>(rt: &R, alloc: Global, none: Edition, made: &Apart<'_>, count: u32) -> Result<Edition, Untaken> {
     let less = count.wrapping_sub(1);
     let edition = built(rt, alloc, none, made, less)?;
     let added = new_name(rt, alloc, &edition, made, less)?;
     let expired = expiry(rt, alloc, &edition, made.run(1))?;
-    let best = best_run(rt, &edition, FORM_TIMES)?;
+    let best = best_run(rt, &edition, 2_000)?;
     let found = cell(rt, &edition, made, less)?;
-    let _ = println!(rt; "FORM_NAME: put {} us, expire one run {} us, best_run {} ns, cell {} ns", added, expired, best, found);
+    let _ = println!(rt; "put {} us, expire one run {} us, best_run {} ns, cell {} ns", added, expired, best, found);
     Ok(edition)
 }
 PROGRAM
-# form NAME EDITION TIMES: one form as a module, over whose edition this number of best runs is looked up.
-form() {
-    sed "s/^FORM_IMPORT/use $2;/; s/FORM_NAME/$1/; s/FORM_TIMES/$3/" "$folder/form.rt" \
-        > "$folder/crates/edition_bench/src/$1.rt"
-}
-form maps fm_edition::Edition 2_000
-form list fm_edition::plain_list::Edition 200
 
 cat > "$folder/crates/edition_bench/src/main.rt" << 'PROGRAM'
-//! `PROGRAM FILE` shows the times of both forms of an edition.
+//! `PROGRAM FILE` shows the times of an edition.
 #![tactic(auto)]
 
 mod apart;
-mod list;
 mod made;
-mod maps;
+mod steps;
 
 use apart::Apart;
 use fm_base::Bytes;
-use fm_edition::{Edition, plain_list};
+use fm_edition::Edition;
 use fm_model::ViewName;
 use fm_sample::edition_of;
 use fm_views::{row_count, rows};
@@ -192,12 +171,8 @@ use std::alloc::Global;
 use std::rt::Clock;
 use std::{env, fs, io};
 
-fn empty(alloc: Global, bytes: &[u8]) -> Result<(Edition, plain_list::Edition), Untaken> {
-    let Ok(maps) = edition_of(alloc, Bytes::copy_of(alloc, bytes)?) else {
-        return Err(Untaken);
-    };
-    let list = plain_list::Edition::empty(alloc, maps.proto().share()?)?;
-    Ok((maps, list))
+fn empty(alloc: Global, bytes: &[u8]) -> Result<Edition, Untaken> {
+    edition_of(alloc, Bytes::copy_of(alloc, bytes)?).map_err(|_| Untaken)
 }
 
 fn view<R: Print + Clock>(rt: &R, alloc: Global, edition: &Edition, name: &str, view: &ViewName) -> Result<(), Untaken> {
@@ -226,26 +201,11 @@ fn views<R: Print + Clock>(rt: &R, alloc: Global, edition: &Edition, made: &Apar
     view(rt, alloc, edition, "forecast", &ViewName::Forecast(run.wrapping_add(7_200)))
 }
 
-fn over_maps<R: Print + Clock>(rt: &R, alloc: Global, none: Edition, made: &Apart<'_>, count: u32) -> Result<(), Untaken> {
-    let edition = maps::steps(rt, alloc, none, made, count)?;
-    views(rt, alloc, &edition, made, count)
-}
-
-fn as_list<R: Print + Clock>(rt: &R, alloc: Global, none: plain_list::Edition, made: &Apart<'_>, count: u32) -> Result<(), Untaken> {
-    let edition = list::steps(rt, alloc, none, made, count)?;
-    if count > 400 {
-        return Ok(());
-    }
-    let (took, found) = list::best_rows(rt, alloc, &edition, 1)?;
-    let _ = println!(rt; "  best: {} rows in {} us", found, took);
-    Ok(())
-}
-
 fn shown<R: Print + Clock>(rt: &R, alloc: Global, made: &Apart<'_>, count: u32) -> Result<(), Untaken> {
-    let (none, empty_list) = empty(alloc, made.made.bytes)?;
+    let none = empty(alloc, made.made.bytes)?;
     let _ = println!(rt; "{} files of 64 times, a run each {} hours", count, made.gap / 3_600);
-    over_maps(rt, alloc, none, made, count)?;
-    as_list(rt, alloc, empty_list, made, count)
+    let edition = steps::all(rt, alloc, none, made, count)?;
+    views(rt, alloc, &edition, made, count)
 }
 
 fn main(rt: HostRuntime) -> io::Result<()> {

@@ -7,8 +7,7 @@ set -eu
 make_folder
 "$top/bench/crates.sh" "$folder" looks fm_load fm_sample pub_snap
 cp "$top/HANDLES" "$folder/HANDLES"
-cp "$top/crates/server_tests/src/publishing/sampled.rt" "$top/crates/server_tests/src/publishing/threads/files.rt" "$folder/crates/looks/src/"
-sed -i 's/crate::publishing::sampled/crate::sampled/' "$folder/crates/looks/src/files.rt"
+cp "$top/crates/server_tests/src/publishing/sampled.rt" "$top/crates/server_tests/src/publishing/files.rt" "$folder/crates/looks/src/"
 mkdir -p "$folder/crates/looks/proofs/row" "$folder/crates/looks/proofs/write_on"
 : > "$folder/crates/looks/proofs/Lib.antt"
 cat > "$folder/crates/looks/proofs/write_on/Invariants.antt" << 'TURNS'

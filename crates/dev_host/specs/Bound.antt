@@ -2,7 +2,7 @@
 use Rattle.std.specs.Prelude.{ℕ, List, [], ◌∷◌, nat_eq, if◌then◌else◌, Option, Some, None}
 use Rattle.std.specs.Cmp.Lexicographic.{pointwise}
 use Rattle.std.specs.declared.net.tcp.TcpListener.{TcpListener}
-use Rattle.dev_host.specs.declared.opener.Bound.{Bound}
+use Rattle.dev_host.specs.declared.bound.Bound.{Bound}
 
 -- the listener that was opened at this very address, if one was
 abbrev pub listener_at : List Bound → List ℕ → Option TcpListener

@@ -3,6 +3,7 @@
 
 mod accepting;
 mod arriving;
+mod bound;
 mod clock;
 mod closing;
 mod descriptors;

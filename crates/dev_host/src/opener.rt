@@ -1,8 +1,7 @@
 //! What opens the doors, inboxes and clocks of the machine.
-ghost use Rattle.std.specs.Option.{option_copied};
 ghost use Rattle.std.specs.Prelude.{◌≡◌, None, IfOk};
-ghost use Rattle.dev_host.specs.Bound.{listener_at};
 
+use crate::bound::{Bound, bind, bound_at, shared, unopened};
 use crate::clock::RealClock;
 use crate::descriptors::connections_left;
 use crate::door::TcpDoor;
@@ -15,24 +14,16 @@ use crate::patience::Patience;
 use crate::stops::Stops;
 use crate::telling::Tell;
 use dev_traits::{Door, Failed, Inbox, Opener};
-use fm_base::{Bytes, Fail, List, NoMemory};
+use fm_base::{Fail, List, NoMemory};
 use std::alloc::Global;
 use std::fs::File;
-use std::io::{self, Error, ErrorKind};
 use std::marker::Send;
-use std::net::{Net, TcpListener, ToSocketAddrs};
+use std::net::{Net, TcpListener};
 use std::time::Duration;
-use std::{rt, str};
+use std::{io, rt, str};
 
 // How many seconds it is from one tick of a clock to the next.
 const INTERVAL: u64 = 60;
-
-// A socket that listens, by the address at which it was opened.
-#[derive(Drop)]
-struct Bound {
-    address: Bytes,
-    listener: TcpListener,
-}
 
 /// Opens doors at sockets, inboxes of folders and the machine's clock. Doors that are opened at the same address share
 /// one socket, and a folder is opened by one opener of the machine at a time. It tells why what can't be opened can't.
@@ -274,57 +265,8 @@ where
     }
 }
 
-// The socket that was opened at this very address.
-fn bound_at<'a>(bound: &'a [Bound], address: &[u8]) -> Option<&'a TcpListener>
-    ensures { option_copied result ≡ listener_at bound.now address.now }
-{
-    for one in bound {
-        if one.address.as_slice() == address {
-            return Some(&one.listener);
-        }
-    }
-    None
-}
-
 // A folder that is open.
 fn open_folder<R: rt::Files>(rt: &R, alloc: Global, folder: &str) -> io::Result<R::File> {
     let path = folder_path(alloc, folder)?;
     File::open(rt, path.as_str())
-}
-
-// Tells why a folder or an address can't be opened, and returns why the call failed.
-fn unopened<T: Tell>(tell: &T, place: &str, error: Error) -> Fail<Failed> {
-    tell_of(tell, place, Event::Unopened(error));
-    fail_of(&error)
-}
-
-// Opens a socket that listens at an address, which is text, with the longest queue that the system allows.
-fn bind<R: Net, T: Tell>(rt: &R, tell: &T, address: &[u8]) -> Result<TcpListener, Fail<Failed>> {
-    let Ok(address) = str::from_utf8(address) else {
-        return Err(Fail::Fault(Failed));
-    };
-    match bind_any(rt, address) {
-        Ok(listener) => Ok(listener),
-        Err(error) => Err(unopened(tell, address, error)),
-    }
-}
-
-// The first socket that can be opened of those that an address means.
-fn bind_any<R: Net>(rt: &R, address: &str) -> io::Result<TcpListener> {
-    let mut failed = Error::from(ErrorKind::NotFound);
-    for address in address.to_socket_addrs(rt)? {
-        match mio::net::TcpListener::bind(rt, address) {
-            Ok(listener) => return Ok(TcpListener::from(listener)),
-            Err(error) => failed = error,
-        }
-    }
-    Err(failed)
-}
-
-// The same socket for one more door.
-fn shared(listener: &TcpListener) -> Result<TcpListener, Fail<Failed>> {
-    match listener.try_clone() {
-        Ok(listener) => Ok(listener),
-        Err(error) => Err(fail_of(&error)),
-    }
 }

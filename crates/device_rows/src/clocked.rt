@@ -75,7 +75,7 @@ fn readings_of(alloc: Global, words: &str) -> Result<Option<Vec<Reading>>, NoMem
     Ok(Some(readings))
 }
 
-/// Puts the moments of a clock of so many ticks, whose machine reads as the row says, and what it tells.
+/// Puts the moments of a clock of this number of ticks, whose machine reads as the row says, and what it tells.
 pub fn put_moments(alloc: Global, row: &Row<'_>, out: &mut Said) -> Result<bool, NoMemory> {
     if !row.has_each(&["ticks", "reads"]) {
         return Ok(false);

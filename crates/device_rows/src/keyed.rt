@@ -8,8 +8,8 @@ use row_text::{Row, Said};
 use std::alloc::Global;
 
 /// Puts what a wheel with room for the keys up to 9 does, from a second on: `put KEY SECOND` puts a key in,
-/// `pop SECOND` takes one out, `clear` takes out all, `due` is the first second at which one is due, `hurry` has all due
-/// at once.
+/// `pop SECOND` takes one out, `clear` takes out all, `due` is the first second at which one is due, `hurry` has all
+/// due at once.
 pub fn put_wheel(alloc: Global, row: &Row<'_>, out: &mut Said) -> Result<bool, NoMemory> {
     let Some((second, steps)) = text_and_steps(row, "wheel") else {
         return Ok(false);

@@ -38,7 +38,7 @@ fn put_told(alloc: Global, word: &str, rest: &str, room: Option<u64>, out: &mut 
     out.pop();
 }
 
-/// Puts a line as it is told where there is room for so many connections, or where that isn't known.
+/// Puts a line as it is told where there is room for this number of connections, or where it isn't known.
 pub fn put_line(alloc: Global, row: &Row<'_>, out: &mut Said) -> bool {
     let (true, Some(text)) = (row.has_only(&["line", "room"]), row.value("line")) else {
         return false;

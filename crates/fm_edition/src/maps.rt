@@ -22,7 +22,7 @@ mod shared;
 mod walk;
 mod wanted;
 
-use crate::plain_list::{counting, instants};
+use crate::{counting, instants};
 use fm_base::{Arc, Fail, List, NoMemory};
 use fm_list::{Placed, change, finding, part};
 use fm_model::{Full, Loaded, Op, Proto, Tally};

@@ -5,7 +5,7 @@ use Rattle.std.proofs.lemmas.Int.{ints}
 use Rattle.fm_model.specs.declared.loaded.Loaded.{Loaded}
 use Rattle.fm_model.specs.Cell.{best, has_least_offset, has_time, HasCell, HasLeastOffset, HasTimeFrom}
 use Rattle.fm_model.proofs.BestLemmas.{IsBest-from_best, best-from_IsBest, best-from_file, no_best_both, offset_from_test, offset_test, value-from_some}
-use Rattle.fm_model.proofs.CellLemmas.{has-in, in-has}
+use Rattle.fm_model.proofs.CellLemmas.{has-in}
 use Rattle.fm_model.proofs.Members.{Each-push, In-append_left, In-append_right, In-append_cases, Contains-from_in, in_from_Contains, All-from_each, each_from_All, Any-from_in, in_from_Any}
 
 -- what the tests say
@@ -19,11 +19,6 @@ HasTimeFrom-from_tests valid least file late has =
 pub late-from : (valid : ℤ) (least : Option ℤ) (file : Loaded) → HasTimeFrom valid least file
     → has_least_offset least file.run valid ≡ true
 late-from valid least file has = offset_test least file.run valid has.1
-
-pub has-from : (valid : ℤ) (least : Option ℤ) (file : Loaded) → HasTimeFrom valid least file → has_time valid file
-    ≡ true
-unfolding has_time
-has-from valid least file has = in-has valid file.times (in_from_Contains valid file.times has.0)
 
 -- a run with a cell, early enough, lies at or before the best
 below_best : (files : List Loaded) (valid : ℤ) (least : Option ℤ) (other : ℤ) → Any (HasCell other valid) files

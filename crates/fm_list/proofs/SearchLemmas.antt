@@ -1,6 +1,6 @@
 -- The index of a time that a search finds.
-use Rattle.std.proofs.Common.{cond, ◌≡◌, ◌≢◌, ℕ, zero, suc, ◌<◌, ◌≤◌, ◌≤ℤ◌, ◌<ℤ◌, inl, inr, Bool, true, false, List, [], ◌∷◌, length, get_or, None, Some, ℤ, refl, sym, ap, ◌∙◌, arith}
-use Rattle.std.specs.Prelude.{AllPairs, is_some, nat_lt, position, slice_get}
+use Rattle.std.proofs.Common.{◌≡◌, ◌≢◌, ℕ, zero, suc, ◌<◌, ◌≤◌, ◌≤ℤ◌, ◌<ℤ◌, inl, inr, Bool, true, false, List, [], ◌∷◌, length, get_or, Some, ℤ, refl, sym, ap, ◌∙◌, arith}
+use Rattle.std.specs.Prelude.{AllPairs, nat_lt, position, slice_get}
 use Rattle.std.specs.Cmp.{signed_Decides}
 use Rattle.std.specs.List.{list_any, position_or_len}
 use Rattle.std.specs.List.Sorted.{IsNonDecreasingBy, IsPartitionPoint}
@@ -13,11 +13,8 @@ use Rattle.std.proofs.lemmas.Cmp.{int_ranked}
 use Rattle.std.proofs.lemmas.Int.{ints}
 use Rattle.std.proofs.lemmas.List.Folds.{list_any_at, Any-from_list_any}
 use Rattle.std.proofs.lemmas.Option.{none-some, same_Some, slice_get-get_or}
-use Rattle.fm_model.specs.declared.loaded.Loaded.{Loaded}
-use Rattle.fm_model.specs.Cell.{has_time}
 use Rattle.fm_model.specs.Rising.{Rises}
-use Rattle.fm_model.proofs.CellLemmas.{in-has, in_from_slice_get}
-use Rattle.fm_list.proofs.CellSteps.{below_length}
+use Rattle.fm_model.proofs.CellLemmas.{in_from_slice_get}
 use Rattle.fm_model.proofs.Members.{Each-in, EachPair, each_from_AllPairs}
 
 -- the time at an index that a search gives
@@ -25,12 +22,6 @@ pub found_at : (times : List ℤ) (index : ℕ) (valid : ℤ) → index < length
     → ((d : ℤ) → int_cmp (get_or times index d) valid ≡ Equal) → slice_get times index ≡ Some valid
 found_at times index valid within here = slice_get-get_or times index valid within
     ∙ ap Some (int_ranked (get_or times index valid) valid Equal (sym (here valid)))
-
--- a file with the time at some index has it
-pub has_there : (file : Loaded) (index : ℕ) (valid : ℤ) → slice_get file.times index ≡ Some valid
-    → true ≡ has_time valid file
-unfolding has_time
-has_there file index valid here = sym (in-has valid file.times (in_from_slice_get file.times index valid here))
 
 abbrev Apart : ℤ → ℤ → Type 0
 Apart time other = time ≢ other
@@ -57,17 +48,6 @@ position_is times index valid differ here =
     let first = first_is valid times index (each_from_AllPairs Apart times differ) here in
     let within : nat_lt index (length times) ≡ true = grind (arith, nat_tests, first.1) in
     rw (first.0, within) refl
-
--- a file has a time exactly where there is a first index of it
-pub has_position : (file : Loaded) (valid : ℤ)
-    → is_some (position (λ time. int_eq time valid) file.times) ≡ has_time valid file
-unfolding has_time
-has_position file valid = by_test (nat_lt (position_or_len (λ time. int_eq time valid) file.times) (length file.times))
-    ∙ below_length (λ time. int_eq time valid) file.times
-  where
-    by_test : (b : Bool) → is_some (cond b (Some (position_or_len (λ time. int_eq time valid) file.times)) None) ≡ b
-    by_test true = refl
-    by_test false = refl
 
 -- an instant at an index that a search gives is among the others
 pub among_there : (own : List ℤ) (index : ℕ) (key : ℤ) → index < length own

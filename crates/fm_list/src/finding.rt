@@ -1,5 +1,5 @@
 //! Which files have a name, a run or a valid time.
-ghost use Rattle.std.specs.Prelude.{◌≡◌, ◌≢◌, [], ◌∷◌, ◌++◌, AllPairs, IfSome, IsNone, List, None, Some, is_some, position, slice_get, true};
+ghost use Rattle.std.specs.Prelude.{◌≡◌, ◌≢◌, [], ◌∷◌, ◌++◌, AllPairs, IfSome, IsNone, List, None, Some, position, slice_get, true};
 ghost use Rattle.std.specs.List.{list_any};
 ghost use Rattle.std.specs.Ordering.{int_eq};
 ghost use Rattle.fm_model.specs.declared.loaded.Loaded.{Loaded as File};
@@ -108,17 +108,6 @@ pub fn cell_of(files: &[Placed], run: i64, valid: i64) -> Option<(&Arc<Loaded>, 
     None
 }
 
-// An index of a valid time among those of a file, if it is there.
-pub(crate) fn place_in(file: &Loaded, place: usize, valid: i64) -> Option<usize>
-    ensures { is_some result ≡ has_time valid file.now }
-{
-    let times = file.times.as_slice();
-    if let Some(index) = searched(times, place, valid) {
-        return Some(index);
-    }
-    walked(times, valid)
-}
-
 // The best run of some files and one more that has the valid time, where `greatest` is that of the others.
 pub(crate) fn raised_by(
     greatest: Option<i64>,
@@ -140,26 +129,4 @@ pub(crate) fn raised_by(
         return greatest;
     }
     Some(own)
-}
-
-// The best run of some files and one more, where `greatest` is that of the others.
-fn raised(greatest: Option<i64>, file: &Placed, valid: i64, least: Option<i64>) -> Option<i64>
-    ensures { (others : List File) → best others valid least ≡ greatest
-        → best (others ++ file.now ∷ []) valid least ≡ result }
-{
-    match place_in(file.get(), file.place(), valid) {
-        Some(_) => raised_by(greatest, file, valid, least),
-        None => greatest,
-    }
-}
-
-/// The best run for a valid time.
-pub fn best_of(files: &[Placed], valid: i64, least: Option<i64>) -> Option<i64>
-    ensures { result ≡ best files.now valid least }
-{
-    let mut greatest = None;
-    for file in files {
-        greatest = raised(greatest, file, valid, least);
-    }
-    greatest
 }

@@ -1,7 +1,10 @@
-//! What publishes: over threads, and under random operations and events against a second computation. Here stands what
-//! no clause says: that memory suffices, and that threads change no answer.
+//! The publisher of `pub_snap`, in one thread and over several. Here stands what no clause says: that memory suffices,
+//! and that threads change no answer.
 
-mod editions;
+mod course;
+mod desk;
+mod files;
+mod probe;
+mod race;
+mod receipts;
 mod sampled;
-mod sessions;
-mod threads;

@@ -51,7 +51,7 @@ fn shown_instant(alloc: Global, t: i128) -> Result<Bytes, NoMemory>
     written_instant(alloc, t as i64)
 }
 
-// An instant that is so many seconds from the epoch.
+// The instant at these seconds from the epoch.
 fn instant_at(cutoff: i64, epoch: i64) -> i128
     ensures { result ≡ cutoff +ℤ epoch }
 {

@@ -6,7 +6,7 @@ ghost use Rattle.fm_list.specs.Selected.{AreSound};
 ghost use Rattle.fm_edition.specs.Indexes as spec;
 
 use crate::maps::wanted::Wanted;
-use crate::plain_list::best::push_row;
+use crate::row::push_row;
 use fm_base::{List, NoMemory};
 use fm_list::Placed;
 use fm_list::finding::cell_of;

@@ -5,10 +5,10 @@ ghost use Rattle.std.specs.Ordering.{int_cmp};
 ghost use Rattle.fm_list.specs.Selected.{AreOwn};
 ghost use Rattle.fm_edition.specs.Indexes as spec;
 
+use crate::instants::instants_in;
 use crate::maps::Edition;
 use crate::maps::best::{RowPages, best_after};
 use crate::maps::pages::{Change, Pages, pages_after};
-use crate::plain_list::instants::instants_in;
 use fm_base::{List, NoMemory};
 use fm_list::change::changed;
 use fm_list::{By, Placed};

@@ -6,8 +6,8 @@ ghost use Rattle.fm_model.specs.Collection.{holds_older};
 ghost use Rattle.fm_list.specs.Change as change;
 ghost use Rattle.fm_edition.specs.Pieces as spec;
 
+use crate::changing::files_after;
 use crate::maps::shared::Shared;
-use crate::plain_list::changing::files_after;
 use fm_base::{List, NoMemory};
 use fm_list::Placed;
 use fm_list::change::{kept, push_gone};

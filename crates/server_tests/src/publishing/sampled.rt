@@ -16,8 +16,8 @@ pub fn bytes_of(rt: &impl Abort, alloc: Global, file: File) -> Bytes {
     file.bytes(alloc).expect(rt, "memory")
 }
 
-/// The collection over the sample, without files.
-pub fn empty(rt: &impl Abort, alloc: Global) -> Edition {
+// The collection over the sample, without files.
+fn empty(rt: &impl Abort, alloc: Global) -> Edition {
     let Ok(edition) = edition_of(alloc, bytes_of(rt, alloc, File::Sample)) else {
         panic!(rt; "the sample is a prototype");
     };

@@ -1,0 +1,36 @@
+//! The row of a run and a valid time, among some files.
+ghost use Rattle.std.specs.Prelude.{◌≡◌, ◌++◌, OnOk, option_and_then};
+ghost use Rattle.std.specs.Option.{option_to_list};
+ghost use Rattle.fm_model.specs.Rows.{row_at};
+ghost use Rattle.fm_list.specs.Selected.{AreSound};
+
+use fm_base::{List, NoMemory};
+use fm_list::Placed;
+use fm_list::finding::cell_of;
+use fm_model::Row;
+
+// Adds the row of a run and a valid time, where there is a run and they have a cell.
+#[tactic(auto, unfolding(fm_model::specs::Rows::row_at))]
+pub(crate) fn push_row(
+    rows: &mut List<Row>,
+    files: &[Placed],
+    run: Option<i64>,
+    valid: i64,
+) -> Result<(), NoMemory>
+    requires { AreSound files.now }
+    ensures { OnOk result (rows.new
+        ≡ rows.old ++ option_to_list (option_and_then (λ run. row_at files.now run valid) run)) }
+{
+    let Some(run) = run else {
+        return Ok(());
+    };
+    match cell_of(files, run, valid) {
+        Some((file, index)) => rows.push(Row {
+            valid,
+            run,
+            file: file.share()?,
+            place: index,
+        }),
+        None => Ok(()),
+    }
+}
