@@ -1,4 +1,4 @@
-.PHONY: serve test demo build quick plants safety
+.PHONY: serve test demo build quick plants planted safety
 
 # The program's crate, and the sample files in its folder data/.
 SERVER = crates/fmrcd
@@ -41,7 +41,7 @@ build:
 	cd $(SERVER) && rt run -- once --name gfs --proto data/$(FIRST) put:data/$(FIRST) ask:1 < stdin
 	@echo "The proved program is $(SERVER)/out/fmrcd."
 
-# Every test and row, compiled with checks and not proved.
+# Every test and row, compiled with checks and not proved, and the page on safety.
 quick:
 	tests/quick.sh
 
@@ -49,12 +49,16 @@ quick:
 plants:
 	bench/plants.sh
 
+# The bodies that say for large input that memory ran out, which only running can refuse. All is built unproved.
+planted:
+	bench/planted_memory.sh
+
 # Compares the page on safety with the public calls of each crate.
 safety:
 	tests/safety_page.sh
 
 # Each target below runs the program by the line of its name. The program is built first where PROGRAM names none.
-LINES = package installs exits clients recipes proxy page restart faults limits memory fuzz day beside many first
+LINES = package installs exits clients recipes proxy page restart faults limits memory fuzz day beside many speed first
 BUILT = $(or $(PROGRAM),$(SERVER)/out/fmrcd)
 
 .PHONY: $(LINES)
@@ -85,7 +89,8 @@ page = tests/page.sh $(BUILT)
 # Kills the program and starts it again, with fmrcd-bring-back: what it held comes back.
 restart = tests/bring_back.sh $(BUILT)
 
-# Fails each system call that the worker of a folder makes, and sees whether the folder mends itself.
+# Fails each system call that the worker of a folder makes, and sees whether the folder mends itself; and the calls by
+# which connections are taken.
 faults = tests/faults.sh $(BUILT)
 
 # Runs the program at each of its limits.
@@ -99,7 +104,7 @@ SECONDS = 3600
 fuzz = bench/fuzz.sh $(BUILT) $(SECONDS)
 
 # Runs four servers through a day of some minutes, with clients and faults.
-MINUTES = 60
+MINUTES ?= 60
 day = bench/day.sh $(BUILT) $(MINUTES)
 
 # Measures the program beside nginx, which sends files of the same bytes.
@@ -109,5 +114,8 @@ beside = bench/beside_nginx.sh $(BUILT)
 # and `restart` have one worker a server, so that it holds all their connections.
 many = bench/many_links.sh $(BUILT)
 
-# Does `make serve` in a fresh clone, and opens what it says.
+# Measures slabs, editions, the memory of a plan and dear requests, each with its aims.
+speed = bench/speed.sh $(BUILT)
+
+# Does `make serve` in a fresh clone, and opens what it says; and types the lines of README.
 first = tests/first_command.sh $(BUILT)

@@ -1,16 +1,39 @@
-"""What a collection holds after each operation, and the reply that shows it."""
+"""What a collection holds after each operation, and the reply that shows it. Which operation has which number is what
+the server says on standard error. A line has to be that of a file that was brought, or of runs that were too old."""
+import calendar
+import re
 import struct
+import threading
+import time
 
 from classic import EPOCH, FLOAT, Classic, Variable, axis
+from serve_replies import name_of
 
-TIMES, STEP = 8, 3600
+TIMES, STEP = 8, 60
 FORM = Classic([("time", 0), ("y", 32), ("x", 32)], [axis(), Variable("v", FLOAT, [0, 1, 2])], records=TIMES)
 TARGET = b"/thredds/dodsC/gfs/gfs_best.ncd.dods?time,time_run"
 
+# For how many seconds a run is kept, the seconds between two looks of the clock, and what is added for a busy machine.
+KEEP, TICK, SLACK = 3600, 60, 15
+
+LINE = re.compile(r"\S+ (published|retracted|not held|expired before) (\S+) revision (\d+)(?: held (\d+) rows (\d+))?")
+# Lines that say nothing of an operation. Any other line is wrong here.
+BESIDE = re.compile(r"\S+ (serving|failing|working|passed over) ")
+
 
 def content_of(run, shift):
-    """The file of a run, whose first time is `shift` hours after it."""
+    """The file of a run, whose first time is `shift` steps after it."""
     return FORM.content([EPOCH + run + STEP * (shift + number) for number in range(TIMES)])
+
+
+def run_of(name):
+    """The run in a file's name, in seconds from the epoch."""
+    return calendar.timegm(time.strptime(name, "gfs_%Y%m%d_%H%M.nc")) - EPOCH
+
+
+def kept(held, cutoff):
+    """What is left of held files without the runs before a moment."""
+    return {run: shift for run, shift in held.items() if EPOCH + run >= cutoff}
 
 
 def reply_of(held):
@@ -33,27 +56,106 @@ def array(values):
 
 
 class Log:
-    """The replies at each revision of one life of a server, and of the life before it."""
+    """One life of a server: what it says that it did, and the reply at each revision."""
 
-    def __init__(self):
-        self.held, self.replies, self.before = {}, [reply_of({})], []
+    def __init__(self, brought, fail):
+        # The file that was last brought for each run, as its shift, and what takes a text on what is wrong.
+        self.brought, self.fail = brought, fail
+        self.lock, self.start = threading.Lock(), time.time()
+        self.states, self.replies = [{}], [reply_of({})]
+        # Operations whose line came before that of the one before them, and replies whose revision has no line yet.
+        self.early, self.waiting = {}, []
+        # The verdict on each name that had one, with its number, and how many operations let runs go.
+        self.verdicts, self.expiries = {}, 0
+        # Once the server was killed: the reply that a client may have got without a line.
+        self.last = None
 
-    def add(self, run, shift=None):
-        """An operation that puts the file of a run, or takes it back. Its reply is there before the server's is."""
-        if shift is None:
-            self.held.pop(run)
+    def held(self):
+        return self.states[-1]
+
+    def follow(self, stream):
+        """Reads the server's lines until it ends."""
+        for line in stream:
+            text = line.decode().rstrip("\n")
+            found = LINE.fullmatch(text)
+            if found:
+                try:
+                    self.take(*found.groups())
+                except (KeyError, ValueError) as error:
+                    self.fail("the line %r: %r" % (text, error))
+            elif not BESIDE.match(text):
+                self.fail("the line %r" % text)
+
+    def take(self, word, subject, number, files, rows):
+        """Takes what a line says. The lines of two workers may stand in another order than their numbers."""
+        number = int(number)
+        if word == "expired before":
+            cutoff = calendar.timegm(time.strptime(subject, "%Y-%m-%dT%H:%M:%SZ"))
+            if not 0 <= time.time() - KEEP - cutoff <= SLACK:
+                raise ValueError("it isn't %d seconds ago" % KEEP)
+            self.add(number, (word, cutoff))
+            return
+        run = run_of(subject)
+        if word == "published":
+            self.add(number, (word, run, self.brought[run], int(files), int(rows)))
+        elif word == "retracted":
+            self.add(number, (word, run))
+        self.verdicts[subject] = word, number
+
+    def add(self, number, operation):
+        """An operation with its number. It counts once each one before it is there."""
+        with self.lock:
+            if number < len(self.states) or number in self.early:
+                raise ValueError("the number came before")
+            self.early[number] = operation
+            while len(self.states) in self.early:
+                self.do(*self.early.pop(len(self.states)))
+
+    def do(self, word, what, *more):
+        """The next operation: what is held after it, and the reply. Replies that waited for it are compared."""
+        number, before = len(self.states), self.held()
+        if word == "expired before":
+            held = kept(before, what)
+            self.expiries += 1
         else:
-            self.held[run] = shift
-        self.replies.append(reply_of(self.held))
+            held = {run: shift for run, shift in before.items() if run != what}
+        if word != "published" and held == before:
+            self.fail("revision %d: nothing went" % number)
+        if word == "published":
+            held[what] = more[0]
+            if more[1:] != (len(held), TIMES * len(held)):
+                self.fail("revision %d: %d files, and the line says %r" % (number, len(held), more[1:]))
+        self.states.append(held)
+        self.replies.append(reply_of(held))
+        waiting, self.waiting = self.waiting, []
+        for revision, reply in waiting:
+            self.compare(revision, reply)
 
-    def begin_again(self):
-        """A new life, to which the held files come in the order of their names."""
-        held, self.before = self.held, self.replies
-        self.held, self.replies = {}, [reply_of({})]
-        for run in sorted(held):
-            self.add(run, held[run])
+    def saw(self, revision, reply):
+        """A client got a reply at a revision."""
+        with self.lock:
+            self.compare(revision, reply)
 
-    def is_right(self, revision, reply):
-        """Whether a reply is the one at its revision, in this life or the one before it."""
-        lives = (self.replies, self.before)
-        return any(revision < len(life) and life[revision] == reply for life in lives)
+    def compare(self, revision, reply):
+        """Compares a reply with the one at its revision, or lets it wait for the line, which may come later."""
+        if revision >= len(self.replies) and not self.last:
+            self.waiting.append((revision, reply))
+        elif reply != (self.replies + [self.last])[min(revision, len(self.replies))]:
+            self.fail("revision %d of %d: status %d, %r" % (revision, len(self.replies), reply[0], reply[1][-60:]))
+
+    def end(self):
+        """The server was killed, and its lines were read. Runs may have gone at that moment without a line."""
+        with self.lock:
+            self.last = reply_of(kept(self.held(), time.time() - KEEP))
+            waiting, self.waiting = self.waiting, []
+            for revision, reply in waiting:
+                self.compare(revision, reply)
+            if self.early:
+                self.fail("no line has the revision %d" % len(self.states))
+
+    def overdue(self):
+        """The runs that should have gone when the clock looked last."""
+        now = time.time()
+        if now < self.start + TICK + SLACK:
+            return []
+        return [name_of(run) for run in self.held() if EPOCH + run + KEEP + TICK + SLACK < now]

@@ -40,9 +40,32 @@ def most_held(server):
     return most
 
 
+def lines_of_links(said):
+    """What a server told of its connections, without the times."""
+    with open(said) as file:
+        lines = [line.split(" ", 1)[1] for line in file.read().splitlines()]
+    return [line for line in lines if "connection" in line and not line.startswith("serving ")]
+
+
+def check_told(server, said):
+    """It has to be told that no connection can be taken, and then that they are taken again, each once. The one worker
+    that tells it has to take one for that, so some more are asked for."""
+    place = "127.0.0.1:%d" % server.port
+    right = ["failing %s: no connection can be taken: Too many open files (os error 24)" % place,
+             "working %s: connections are taken again" % place]
+    for _ in range(100):
+        if lines_of_links(said) == right:
+            return
+        reply_of(asked(server.port))
+        time.sleep(0.05)
+    sys.exit("of connections it says %r, not %r" % (lines_of_links(said), right))
+
+
 def main():
     program, folder = os.path.abspath(sys.argv[1]), sys.argv[2]
-    server = Server(program, folder, file_of(0), 2)
+    said = os.path.join(folder, "said")
+    with open(said, "wb") as error:
+        server = Server(program, folder, file_of(0), 2, error=error)
     server.arrive(name_of(0), file_of(0))
     resource.prlimit(server.process.pid, resource.RLIMIT_NOFILE, (DESCRIPTORS, DESCRIPTORS))
     links = [asked(server.port) for _ in range(LINKS)]
@@ -54,6 +77,7 @@ def main():
         sys.exit("%d of %d replies are wrong" % (wrong, LINKS))
     if held < DESCRIPTORS:
         sys.exit("only %d of %d descriptors were in use at once" % (held, DESCRIPTORS))
+    check_told(server, said)
     print("%d connections were served with %d descriptors, all of which were in use" % (LINKS, DESCRIPTORS))
 
 

@@ -46,9 +46,9 @@ def stop(process):
 
 
 class Server:
-    """A program that serves one folder; `proto` is the content of its prototype."""
+    """A program that serves one folder; `proto` is the content of its prototype, and `error` takes its lines."""
 
-    def __init__(self, program, folder, proto, workers, port=None, collection="gfs"):
+    def __init__(self, program, folder, proto, workers, port=None, collection="gfs", error=None):
         self.inbox = os.path.join(folder, "inbox")
         self.part = os.path.join(self.inbox, "arriving.part")
         os.makedirs(self.inbox)
@@ -59,7 +59,7 @@ class Server:
         line = [program, "serve", "--name", collection, "--proto", name, "--listen", "127.0.0.1:%d" % self.port]
         # As docs/fmrcd@.service does it.
         given = dict(os.environ, MALLOC_MMAP_THRESHOLD_="1048576")
-        self.process = subprocess.Popen(line + ["--workers", str(workers), self.inbox], env=given)
+        self.process = subprocess.Popen(line + ["--workers", str(workers), self.inbox], env=given, stderr=error)
         atexit.register(stop, self.process)
         wait_for(self.port, self.process, "the server")
 

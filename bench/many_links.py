@@ -13,7 +13,7 @@ from figures import load
 from local_server import TOP, Nginx, Server, free_port
 from serve_replies import APART, FILES, file_of, name_of
 
-IDLE, READERS, WORKERS = 10_000, 1_000, 4
+IDLE, READERS, DRIPPERS, WORKERS = 10_000, 1_000, 100, 4
 VARIABLE = RUN + ".dods?t"
 LOADS = [("structure text", BEST + ".dds", "requests"), ("variable of 12 MB", VARIABLE, "bytes")]
 
@@ -21,6 +21,11 @@ LOADS = [("structure text", BEST + ".dds", "requests"), ("variable of 12 MB", VA
 OF_NGINX, IDLE_MEMORY, READER_MEMORY, READ, DELAY = 0.8, 4096, 16_384, 20_000, 200
 # How many bytes more than before may be resident once all have gone.
 REST = 1 << 20
+# After how many milliseconds a link has to be ended that sends a byte each five seconds: its time is over 30 seconds
+# after it came (crates/dev_host/src/patience.rt), and it is stepped in the second after that.
+SOONEST, LATEST = 29_900, 32_000
+# For how many seconds such links are there before the others, which are to outlast them.
+AHEAD = 4
 
 missed = []
 
@@ -55,28 +60,36 @@ def settled(server):
 
 
 class Crowd:
-    """Connections to a server, for as long as this lasts, all of which it holds."""
+    """Connections to a server, for as long as this lasts, all of which it holds; but it ends those that drip."""
 
-    def __init__(self, server, idle, readers):
-        self.server, self.count = server, (idle, readers)
+    def __init__(self, server, idle, readers, drippers=0):
+        self.server, self.count, self.drippers = server, (idle, readers), drippers
 
     def __enter__(self):
-        server, (idle, readers) = self.server, self.count
+        server, counts = self.server, (*self.count, self.drippers)
         before = settled(server)
-        line = [sys.executable, "-B", os.path.join(TOP, "bench", "crowd.py"), str(server.port), str(idle), str(readers)]
+        line = [sys.executable, "-B", os.path.join(TOP, "bench", "crowd.py"), *map(str, (server.port, *counts))]
         self.process = subprocess.Popen(line + [VARIABLE], stdin=subprocess.PIPE, stdout=subprocess.PIPE, text=True)
         if self.process.stdout.readline() != "ready\n":
             sys.exit("the crowd didn't come")
-        until(lambda: descriptors(server) >= before + idle + readers, "not all of the crowd were accepted", 20)
+        until(lambda: descriptors(server) >= before + sum(counts), "not all of the crowd were accepted", 20)
 
     def __exit__(self, *_):
         self.process.stdin.close()
-        idle, readers, read = (int(word) for word in self.process.stdout.readline().split())
+        idle, readers, read, *ends = (int(word) for word in self.process.stdout.readline().split())
         self.process.wait()
         if (idle, readers) != self.count:
             aim(False, "of %d idle connections and %d readers %d and %d were left" % (*self.count, idle, readers))
         if readers and read < READ:
             aim(False, "a slow reader took %d bytes a second, aim %d" % (read, READ))
+        if self.drippers:
+            self.compare_ends(*ends)
+
+    def compare_ends(self, ended, first, last):
+        """Whether each link that drips was ended at its time."""
+        shown = "a byte each 5 seconds: %d of %d links ended, %.1f to %.1f seconds after they came, aim %.1f to %.1f"
+        given = (ended, self.drippers, first / 1e3, last / 1e3, SOONEST / 1e3, LATEST / 1e3)
+        aim(ended == self.drippers and SOONEST <= first and last <= LATEST, shown % given)
 
 
 def compare(title, server, nginx, target, measure, links, turns):
@@ -114,6 +127,16 @@ def run_loads(server, nginx, turns):
         for links in (64, 1000):
             with Crowd(server, IDLE, 0), Crowd(server, 0, READERS):
                 compare(title, server, nginx, target, measure, links, turns)
+
+
+def run_drippers(server):
+    """Whether links that drip are ended while there are others, all of which are kept, and many requests come."""
+    came = time.monotonic()
+    with Crowd(server, 0, 0, DRIPPERS):
+        time.sleep(AHEAD)
+        with Crowd(server, IDLE, 0), Crowd(server, 0, READERS):
+            load(server.port, LOADS[0][1], 64, 16)
+            time.sleep(max(0.0, came + 1 + LATEST / 1e3 - time.monotonic()))
 
 
 def run_delays(small, large):
@@ -172,6 +195,7 @@ def main():
     opened, resident = settled(large), large.resident()
     run_memory(large)
     run_loads(large, nginx, turns)
+    run_drippers(large)
     run_delays(small, large)
     compare_rest(large, opened, resident)
     if missed:

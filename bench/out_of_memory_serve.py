@@ -281,8 +281,8 @@ def come_over(link):
     except OSError:
         pass
     finally:
-        # One whose request came while there was no memory goes on once its time is over, which is 30 seconds.
-        link.sock.settimeout(40)
+        # One whose request came while there was no memory goes on as soon as there is some.
+        link.sock.settimeout(10)
     return b"".join(parts)
 
 

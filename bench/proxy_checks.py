@@ -167,6 +167,36 @@ def check_added(nginx, folder, revision):
     return len(packed), len(right)
 
 
+def copied(nginx, folder, settings):
+    """What nccopy copies of the best time series through nginx, where its folder has these settings, and how many bytes
+    of data nginx sent for that. It asks for whole variables, where ncdump asks for rows that are too short."""
+    home = os.path.join(folder, "home")
+    os.makedirs(home, exist_ok=True)
+    with open(os.path.join(home, ".dodsrc"), "w") as file:
+        file.write(settings)
+    line = ["nccopy", "-k", "classic", "http://127.0.0.1:%d%s" % (nginx.port, BEST), "copy.nc"]
+    given = dict(os.environ, HOME=home, no_proxy="127.0.0.1")
+    with open(log_in(folder)) as log:
+        log.seek(0, 2)
+        subprocess.run(line, cwd=home, env=given, check=True, timeout=60)
+        # nginx writes a line of its log after its reply.
+        time.sleep(1)
+        sent = [int(told.split('" ')[1].split()[1]) for told in log if ".dods?" in told]
+    with open(os.path.join(home, "copy.nc"), "rb") as file:
+        return file.read(), sum(sent)
+
+
+def check_netcdf(nginx, folder):
+    """netCDF-C copies the same where it asks for compression, and fewer bytes come."""
+    right, plain = copied(nginx, folder, "")
+    copy, packed = copied(nginx, folder, "HTTP.DEFLATE=1\n")
+    if copy != right or len(right) < plain / 2:
+        fail("nccopy with HTTP.DEFLATE copies %d bytes, without it %d" % (len(copy), len(right)))
+    if not 0 < packed < plain:
+        fail("nccopy with HTTP.DEFLATE gets %d bytes, without it %d" % (packed, plain))
+    return packed, plain
+
+
 def links_to(port):
     """The ports from which connections to a port were made, also those that ended just now."""
     found = set()
@@ -325,6 +355,7 @@ def main():
     waves.arrive(name_of(0).replace("gfs", "waves"), file_of(0))
     passed("another collection: %d replies are the same" % check_same(waves, nginx, OF_WAVES))
     passed("compressed, %d bytes in place of %d; open to other sites; in the log" % check_added(nginx, folder, BEFORE))
+    passed("nccopy with HTTP.DEFLATE copies the same from %d bytes in place of %d" % check_netcdf(nginx, folder))
     passed("300 requests over 1 connection to nginx and %d to the server" % check_kept(server, nginx))
     readings, hits = check_arrivals(server, nginx, folder, runs)
     shown = "%d files arrived during %d replies, %d of them from the cache: each right, none older than one before it"

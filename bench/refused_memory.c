@@ -1,9 +1,11 @@
 /* A library that stands before the C library, and refuses memory. REFUSE_CALL is the number, from 1, of the one
-   request that is refused. REFUSE_FILE is a file whose first byte says while a program runs that all requests are
-   refused, where it isn't zero. REFUSE_COUNT is a file that holds the number of requests. */
+   request that is refused, and REFUSE_FROM the number from which on all are. REFUSE_FILE is a file whose first byte
+   says while a program runs that all requests are refused, where it isn't zero. REFUSE_COUNT is a file that holds the
+   number of requests. */
 #define _GNU_SOURCE
 #include <errno.h>
 #include <fcntl.h>
+#include <limits.h>
 #include <stdatomic.h>
 #include <stdlib.h>
 #include <sys/mman.h>
@@ -11,6 +13,7 @@
 
 static long own_count;
 static atomic_long refused_call = -1;
+static long refused_from = LONG_MAX;
 static _Atomic(long) *calls = (_Atomic(long) *)&own_count;
 static volatile char *flag;
 
@@ -40,6 +43,9 @@ __attribute__((constructor)) static void begin(void) {
     if (count != NULL) {
         calls = count;
     }
+    if (getenv("REFUSE_FROM") != NULL) {
+        refused_from = strtol(getenv("REFUSE_FROM"), NULL, 10);
+    }
     refused_call = getenv("REFUSE_CALL") == NULL ? 0 : strtol(getenv("REFUSE_CALL"), NULL, 10);
 }
 
@@ -48,7 +54,7 @@ static int refuses(void) {
         return 0;
     }
     long call = atomic_fetch_add(calls, 1) + 1;
-    if (call == refused_call || (flag != NULL && *flag != 0)) {
+    if (call == refused_call || call >= refused_from || (flag != NULL && *flag != 0)) {
         errno = ENOMEM;
         return 1;
     }

@@ -1,8 +1,9 @@
 #!/bin/sh
 # Refuses memory to a publisher with threads: a small program publishes while two readers look, in a run for each
 # request for memory, of which that one is refused. A call that was refused has to leave the log, the share and what is
-# looked at as they were; the program does it again, and ends as without a refusal. A run that hangs or ends otherwise
-# is shown, and the status is then 1. The program is proved first: 25 minutes where no check was kept here, else some.
+# looked at as they were; the program does it again, and ends as without a refusal. Then each request and all behind it
+# are refused: nothing may wait for memory, so that the program still ends. A run that hangs or ends otherwise is shown,
+# and the status is then 1. The program is proved first: 25 minutes where no check was kept here, else some.
 # Use: bench/refused_publisher.sh
 set -eu
 . "$(dirname "$0")/common.sh"
@@ -296,9 +297,10 @@ program, folder = sys.argv[1:]
 count = os.path.join(folder, "count")
 
 
-def refused(call):
+def refused(call, which="REFUSE_CALL"):
     """What the program prints where this request for memory is refused, and how many requests it made."""
-    given = dict(os.environ, LD_PRELOAD=os.path.join(folder, "refused.so"), REFUSE_CALL=str(call), REFUSE_COUNT=count)
+    given = dict(os.environ, LD_PRELOAD=os.path.join(folder, "refused.so"), REFUSE_COUNT=count)
+    given[which] = str(call)
     try:
         ran = subprocess.run([program], env=given, capture_output=True, timeout=30, check=False)
         found = ran.returncode, ran.stdout
@@ -310,7 +312,7 @@ def refused(call):
 
 right, requests = refused(0)
 print("%r: %d requests for memory" % (right, requests))
-if right[0] != 0 or not right[1].endswith(b" 0 wrong\n"):
+if requests == 0 or right[0] != 0 or not right[1].endswith(b" 0 wrong\n"):
     sys.exit(1)
 wrong = 0
 for call in range(1, requests + 1):
@@ -319,5 +321,12 @@ for call in range(1, requests + 1):
         print("request %d refused: %r" % (call, found))
         wrong += 1
 print("each request refused in turn: %d wrong" % wrong)
-sys.exit(wrong > 0)
+stuck = 0
+for call in range(1, requests + 1):
+    (status, _), _ = refused(call, "REFUSE_FROM")
+    if status != 0:
+        print("all from request %d on refused: %s" % (call, status))
+        stuck += 1
+print("each request and all behind it refused in turn: %d wrong" % stuck)
+sys.exit(wrong + stuck > 0)
 PYTHON

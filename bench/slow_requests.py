@@ -185,6 +185,22 @@ def wide():
     return search(collection, paths, names, 3, (4096 * 64, 1, 1), plain), collection
 
 
+def overlapping():
+    """4,096 files of 64 times, an hour apart, whose runs are 6 hours apart: up to 11 files have a time. The greatest
+    offsets are kept by the fewest of them."""
+    runs, records = 4096, 64
+    form = Classic([("time", 0), ("y", 1), ("x", 1)],
+                   [TIME, Variable("y", FLOAT, [1]), Variable("x", FLOAT, [2]), Variable("v", FLOAT, [0, 1, 2])],
+                   records=records)
+    collection = Collection("overlapping", form, [6 * HOUR * number for number in range(runs)],
+                            lambda number: [HOUR * record for record in range(records)])
+    middle = 6 * HOUR * (runs // 2)
+    paths = views(middle, 6 * HOUR, middle + 6 * HOUR)
+    paths["best from 60 hours"] = PATH + "best/gfs_BestGE_%ds" % (60 * HOUR)
+    plain = {"text": ".das", "times": ".dods?time", "runs": ".dods?time_run", "numbers": ".dods?v.v"}
+    return search(collection, paths, ["v", "time", "y"], 3, (6 * (runs - 1) + records, 1, 1), plain), collection
+
+
 def long():
     """64 files of 4,096 times each, of the same days."""
     form = Classic([("time", 0), ("y", 8), ("x", 8)],
@@ -214,7 +230,7 @@ def large():
 
 def main():
     found = []
-    for made in (wide, long, large):
+    for made in (wide, overlapping, long, large):
         more, collection = made()
         found += more
         collection.close()

@@ -195,10 +195,19 @@ compare "a full device for the line of a server" $status 7 "" ""
 wait
 run "a door that can't be opened" 6 "door fault 0" "~failing nowhere: it can't be opened: " "$folder/none" \
     $serve nowhere "$folder/inbox"
+run "an address of another machine" 6 "door fault 0" \
+    "~failing 192.0.2.1:8080: it can't be opened: Cannot assign requested address (os error 99)" "$folder/none" \
+    $serve 192.0.2.1:8080 "$folder/inbox"
 if [ "$(id -u)" -eq 0 ] && command -v setpriv > /dev/null; then
-    # A user without rights of its own who may have one thread. The address can't be opened, and isn't asked for.
+    # A user without rights of its own, for whom folders have modes.
     chmod 755 "$folder"
     cp "$program" "$folder/fmrcd"
+    mkdir -m 0 "$folder/closed"
+    setpriv --reuid 54321 --clear-groups "$folder/fmrcd" $serve 127.0.0.1:0 "$folder/closed" \
+        < "$folder/none" > "$folder/out" 2> "$folder/err"
+    compare "an inbox that is not allowed" $? 8 "inbox fault 0" \
+        "~failing $folder/closed: it can't be opened: Permission denied (os error 13)"
+    # The same user, who may have one thread. The address can't be opened, and isn't asked for.
     setpriv --reuid 54321 --clear-groups prlimit --nproc=1 "$folder/fmrcd" $serve nowhere "$folder/inbox" \
         < "$folder/none" > "$folder/out" 2> "$folder/err"
     compare "threads that can't be started" $? 4 "no memory" ""

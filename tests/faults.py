@@ -1,4 +1,5 @@
-"""Fails the system calls of a folder's worker, and sees whether the folder mends itself; tests/faults.sh says how."""
+"""Fails the system calls of a folder's worker, and sees whether the folder mends itself, and those by which connections
+are taken; tests/faults.sh says how."""
 import concurrent.futures
 import os
 import re
@@ -6,7 +7,8 @@ import shutil
 import sys
 import time
 
-from faulty_folder import A, B, C, LASTS, MINUTE, RUNS, SOON, Folder, Tracer, said_of, wait_until
+from faulty_folder import (A, B, BEST, C, LASTS, LISTED, MINUTE, MOVED, READ, RUNS, SOON, Folder, Tracer, reply_over,
+                           said_of, wait_until)
 from folder_cases import CASES
 from serve_replies import file_of
 
@@ -15,20 +17,22 @@ AT_ONCE = 6
 # Bytes behind those of a file, which no view shows, so that it takes memory of its own.
 MORE = 8 << 20
 
-READ = ["EIO", "EINTR", "EACCES", "ESTALE"]
-OPEN = READ + ["EMFILE", "ENFILE", "ENOMEM", "ENOENT"]
-WRITE = ["ENOSPC", "EDQUOT", "EROFS", "EXDEV", "EIO", "EINTR", "EACCES", "EISDIR"]
+READ_ERRORS = ["EIO", "EINTR", "EACCES", "ESTALE"]
+OPEN_ERRORS = READ_ERRORS + ["EMFILE", "ENFILE", "ENOMEM", "ENOENT"]
+MOVE_ERRORS = ["ENOSPC", "EDQUOT", "EROFS", "EXDEV", "EIO", "EINTR", "EACCES", "EISDIR"]
 
 
 class Step:
     """A step of the worker: the calls of which it makes one, the path that they are of, and how they can fail."""
 
-    def __init__(self, name, calls, path, errors, waits=False, told=False, number=1, prepare=None, meanwhile=None):
+    def __init__(self, name, calls, path, errors, waits=False, told=None, silent=(), number=1, prepare=None,
+                 meanwhile=None):
         self.name, self.calls, self.path, self.errors = name, calls, path, errors
         # Whether the file is looked at again only once it is another one, or after a minute.
         self.waits = waits
-        # Whether a line has to say that it fails, and another one that it works again.
-        self.told = told
+        # What the lines have to say that tell that it fails and that it works again, and the errors without lines: the
+        # call is made again at once, or there is no file.
+        self.told, self.silent = told, silent
         # Which of the calls on the path that are made for a file it is.
         self.number = number
         # What is done to the folder before calls fail, and while they do, so that it is made at all.
@@ -40,13 +44,46 @@ class Step:
         return ["-e", "trace=" + call, "-e", "inject=%s:error=%s%s" % (call, error, when)]
 
 
-class Memory(Step):
+    def check_lines(self, folder, error, once):
+        """What has to be told in a case."""
+        if self.told and error not in self.silent:
+            folder.check_told(*self.told)
+
+
+class OfContent(Step):
+    """A step by which the content of a file is had. Where memory runs out the file goes to `later`, with a line."""
+
+    def check_lines(self, folder, error, once):
+        if error == "ENOMEM":
+            folder.check_line("later %s no memory" % B)
+        else:
+            super().check_lines(folder, error, once)
+
+
+class Memory(OfContent):
     """The getting of memory, which the C library tries by two calls, and again. A failing brk gives a number."""
 
     def words(self, call, error, once):
         when = ":when=1..4" if once else ""
         fails = ["inject=mmap:error=%s%s" % (error, when), "inject=brk:retval=0" + when]
         return ["-e", "trace=mmap,brk", "-e", fails[0], "-e", fails[1]]
+
+    def check_lines(self, folder, error, once):
+        """Where a few of these calls fail, the library may still get it by others, and nothing is told."""
+        if not once:
+            super().check_lines(folder, error, once)
+
+
+class DoorStep(Step):
+    """A step of a door's worker, of which a call makes it whose line has a mark."""
+
+    def __init__(self, name, call, errors, mark, drops=False, tells=False):
+        super().__init__(name, [call], None, errors)
+        self.mark = mark
+        # Whether lines tell that it fails and that it works again.
+        self.tells = tells
+        # Whether the connection is dropped for which it is made. Else that waits.
+        self.drops = drops
 
 
 def without_done(folder):
@@ -62,20 +99,22 @@ def name_to_tell(folder):
 
 LOOK = ["statx", "newfstatat", "stat"]
 STEPS = [
-    Step("the look for STOP", LOOK, "STOP", READ + ["ENOMEM"], told=True),
-    Step("the opening of the folder", ["openat"], "", OPEN, told=True),
-    Step("the listing", ["getdents64"], "", ["EIO", "EINTR", "ESTALE"], told=True),
+    Step("the look for STOP", LOOK, "STOP", READ_ERRORS + ["ENOMEM"], told=LISTED),
+    Step("the opening of the folder", ["openat"], "", OPEN_ERRORS, told=LISTED),
+    Step("the listing", ["getdents64"], "", ["EIO", "EINTR", "ESTALE"], told=LISTED),
     # std takes this for the end of a listing.
     Step("the listing of a folder that is gone", ["getdents64"], "", ["ENOENT"]),
-    Step("the look at a listed file", LOOK, B, READ + ["ENOMEM", "ENOENT"], waits=True),
-    Step("the opening of a file", ["openat"], B, OPEN, waits=True),
-    Step("the look before the opening", ["statx"], B, READ + ["ENOENT"], waits=True, number=2),
-    Step("the length of a file", ["statx"], B, READ, waits=True, number=3),
-    Step("the reading of a file", ["read", "pread64"], B, ["EIO", "EINTR", "ESTALE", "EAGAIN"], waits=True),
-    Step("the look before a move", ["statx"], B, READ, told=True, number=4),
-    Step("a move", ["rename", "renameat", "renameat2"], B, WRITE, told=True),
-    Step("the making of done", ["mkdir", "mkdirat"], "done", ["ENOSPC", "EDQUOT", "EROFS", "EIO", "EACCES"], told=True,
-         prepare=without_done),
+    Step("the look at a listed file", LOOK, B, READ_ERRORS + ["ENOMEM", "ENOENT"], waits=True),
+    OfContent("the opening of a file", ["openat"], B, OPEN_ERRORS, waits=True, told=READ, silent=["EINTR", "ENOENT"]),
+    Step("the look before the opening", ["statx"], B, READ_ERRORS + ["ENOENT"], waits=True, told=READ,
+         silent=["ENOENT"], number=2),
+    Step("the length of a file", ["statx"], B, READ_ERRORS, waits=True, told=READ, number=3),
+    Step("the reading of a file", ["read", "pread64"], B, ["EIO", "EINTR", "ESTALE", "EAGAIN"], waits=True, told=READ,
+         silent=["EINTR"]),
+    Step("the look before a move", ["statx"], B, READ_ERRORS, told=MOVED, number=4),
+    Step("a move", ["rename", "renameat", "renameat2"], B, MOVE_ERRORS, told=MOVED),
+    Step("the making of done", ["mkdir", "mkdirat"], "done", ["ENOSPC", "EDQUOT", "EROFS", "EIO", "EACCES"],
+         told=MOVED, prepare=without_done),
     Step("a close", ["close"], None, ["EIO", "EINTR"]),
     # Where that can't be asked, the line is written.
     Step("the question whether a line has room", ["epoll_create1"], None, ["EMFILE", "ENFILE", "ENOMEM"],
@@ -84,6 +123,12 @@ STEPS = [
     Step("a line", ["write", "writev"], None, ["EIO", "EAGAIN", "EPIPE"], meanwhile=name_to_tell),
     Step("a pause", ["clock_nanosleep", "nanosleep"], None, ["EINTR"]),
     Memory("memory for a file", ["mmap"], None, ["ENOMEM"], waits=True),
+]
+DOOR_STEPS = [
+    DoorStep("an accept", "accept4", ["EMFILE", "ENFILE", "ENOBUFS", "ENOMEM", "EPROTO"], "accept4", tells=True),
+    DoorStep("an accept whose peer is gone", "accept4", ["ECONNABORTED"], "accept4"),
+    DoorStep("the sending at once", "setsockopt", ["EINVAL", "ENOBUFS", "ENOMEM"], "TCP_NODELAY", drops=True),
+    DoorStep("the watching of a connection", "epoll_ctl", ["ENOMEM", "ENOSPC", "EPERM"], "EPOLL_CTL_ADD", drops=True),
 ]
 # Calls that are made with others of these, that can't fail, or that give something back.
 OTHERS = {"brk", "munmap", "madvise", "sched_yield", "restart_syscall", "gettid"}
@@ -100,7 +145,7 @@ def comes_in_the_end(folder, waits):
     return folder.sees(B)
 
 
-def check_after(folder, step):
+def check_after(folder, step, error, once):
     """What has to hold once calls no longer fail."""
     if not comes_in_the_end(folder, step.waits):
         folder.wrongs("%s isn't taken in" % said_of(B))
@@ -108,8 +153,7 @@ def check_after(folder, step):
     if not folder.sees(C):
         folder.wrongs("%s isn't taken in" % said_of(C))
     folder.retract(A)
-    if step.told:
-        folder.check_told()
+    step.check_lines(folder, error, once)
     if folder.process.poll() is not None:
         folder.wrongs("the server ended with %d" % folder.process.returncode)
 
@@ -133,9 +177,57 @@ def fail_calls(program, top, step, call, error, once):
         if folder.reply() is None:
             folder.wrongs("no reply comes meanwhile")
         tracer.detach()
-        check_after(folder, step)
+        check_after(folder, step, error, once)
         return folder.wrong, was_made
     finally:
+        folder.close()
+
+
+def is_dropped(link):
+    """Whether a connection ends without a reply."""
+    try:
+        link.getresponse()
+    except TimeoutError:
+        return False
+    except OSError:
+        return True
+    return False
+
+
+def check_link(folder, step, link):
+    """What has to come over the connection that came while calls failed."""
+    if step.drops:
+        if not is_dropped(link):
+            folder.wrongs("the connection isn't dropped")
+        return
+    try:
+        if reply_over(link) != folder.right(folder.held):
+            folder.wrongs("the connection that came meanwhile has another reply")
+    except OSError:
+        folder.wrongs("the connection that came meanwhile has no reply")
+
+
+def fail_door_calls(program, top, step, call, error, once):
+    """One case of a server with one worker: what was wrong, and whether the server made the call."""
+    folder = Folder(program, top, workers=1)
+    link = folder.link()
+    try:
+        tracer = Tracer(folder, folder.door_thread(), step.words(call, error, once))
+        link.request("GET", BEST)
+        was_made = wait_until(lambda: any(step.mark in line for line in tracer.lines("INJECTED")), SOON)
+        if not once:
+            time.sleep(LASTS)
+        elif not folder.shows(folder.held):
+            folder.wrongs("the next connection has no reply")
+        tracer.detach()
+        check_link(folder, step, link)
+        if not folder.shows(folder.held):
+            folder.wrongs("a later connection has no reply")
+        if step.tells:
+            folder.check_door_told()
+        return folder.wrong, was_made
+    finally:
+        link.close()
         folder.close()
 
 
@@ -167,11 +259,24 @@ def injected_cases(program, top):
     for call in sorted(made - known - OTHERS):
         yield "the call " + call, lambda: (["no case fails it"], True)
     for step in STEPS:
-        for call in step.calls:
-            for error in step.errors if call in made else []:
-                for once in (True, False):
-                    name = "%s, %s %s %s" % (step.name, call, error, "once" if once else "for %d s" % LASTS)
-                    yield name, lambda given=(step, call, error, once): fail_calls(program, top, *given)
+        for name, given in cases_of(step, made):
+            yield name, lambda given=given: fail_calls(program, top, *given)
+
+
+def cases_of(step, calls):
+    """Each of these calls that a step makes, each error, once and for some seconds."""
+    for call in step.calls:
+        for error in step.errors if call in calls else []:
+            for once in (True, False):
+                name = "%s, %s %s %s" % (step.name, call, error, "once" if once else "for %d s" % LASTS)
+                yield name, (step, call, error, once)
+
+
+def door_cases(program, top):
+    """The same of each step of a door's worker that takes a connection."""
+    for step in DOOR_STEPS:
+        for name, given in cases_of(step, step.calls):
+            yield name, lambda given=given: fail_door_calls(program, top, *given)
 
 
 def other_cases(program, top):
@@ -182,7 +287,7 @@ def other_cases(program, top):
         try:
             act(folder)
             if told:
-                folder.check_told()
+                folder.check_told(*told)
             return folder.wrong, True
         finally:
             folder.close()
@@ -204,7 +309,7 @@ def main():
     program = os.path.join(top, "fmrcd")
     shutil.copy(sys.argv[1], program)
     os.chmod(program, 0o755)
-    cases = [*injected_cases(program, top), *other_cases(program, top)]
+    cases = [*injected_cases(program, top), *door_cases(program, top), *other_cases(program, top)]
     cases = [case for case in cases if not words or any(word in case[0] for word in words)]
     with concurrent.futures.ThreadPoolExecutor(AT_ONCE) as pool:
         results = list(pool.map(tried, cases))

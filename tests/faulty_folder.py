@@ -18,6 +18,10 @@ A, B, C = (name_of(APART * number) for number in range(3))
 RUNS = {name: APART * number for number, name in enumerate((A, B, C))}
 # How the lines begin that are not of failing calls.
 VERDICTS = ("serving ", "published ", "retracted ", "refused ", "full ", "later ", "not held ", "expired ")
+# What is told of a folder while calls fail, and once they work again.
+LISTED = ("it can't be listed", "it is listed again")
+MOVED = (B + " can't be moved", "all files are moved")
+READ = (B + " can't be read", "all files are read")
 BEST = "/thredds/dodsC/gfs/gfs_best.ncd.dods?time_run"
 # For how many seconds calls fail, and how many are waited for where something should happen at the next look.
 LASTS, SOON = 2, 20
@@ -38,6 +42,12 @@ def own_port():
         return port
 
 
+def lines_in(said):
+    """The lines in a file of a server's standard error, without the times."""
+    with open(said, errors="replace") as file:
+        return [line.split(" ", 1)[-1] for line in file.read().splitlines()]
+
+
 def wait_until(fact, seconds):
     """Whether a fact holds within these seconds."""
     end = time.monotonic() + seconds
@@ -51,7 +61,8 @@ def wait_until(fact, seconds):
 class Folder:
     """A server over one folder or several, with what a case does to them, and what it finds wrong."""
 
-    def __init__(self, program, top, inboxes=1):
+    def __init__(self, program, top, inboxes=1, workers=2):
+        self.workers = workers
         self.top = tempfile.mkdtemp(dir=top)
         os.chmod(self.top, 0o755)
         self.program = program
@@ -73,11 +84,13 @@ class Folder:
         self.bring(A)
         self.sees(A)
 
-    def start(self, port, inboxes, said):
-        line = [self.program, "serve", "--name", "gfs", "--proto", self.proto, "--listen", "127.0.0.1:%d" % port]
+    def start(self, port, inboxes, said, before=()):
+        """Starts a server, by another program where words stand before its own."""
+        line = [*before, self.program, "serve", "--name", "gfs", "--proto", self.proto]
+        line += ["--listen", "127.0.0.1:%d" % port, "--workers", str(self.workers)]
         with open(said, "w") as file:
-            return subprocess.Popen(line + ["--workers", "2"] + inboxes, stdout=subprocess.PIPE, stderr=file,
-                                    user=NOBODY, group=NOBODY, extra_groups=[], cwd=self.top)
+            return subprocess.Popen(line + inboxes, stdout=subprocess.PIPE, stderr=file, user=NOBODY, group=NOBODY,
+                                    extra_groups=[], cwd=self.top)
 
     def close(self):
         if self.process.poll() is None:
@@ -86,14 +99,26 @@ class Folder:
 
     def lines(self):
         """What the server said on standard error, without the times."""
-        with open(self.said, errors="replace") as file:
-            return [line.split(" ", 1)[-1] for line in file.read().splitlines()]
+        return lines_in(self.said)
 
-    def check_told(self):
-        """It has to be told when calls begin to fail, and when they work again, each once."""
+    def check_line(self, line):
+        """It has to be told."""
+        if not wait_until(lambda: line in self.lines(), SOON):
+            self.wrongs("there is no line %r" % line)
+
+    def check_told(self, fails, works):
+        """It has to be told that calls fail, with the reason, and that they work again, each once, and nothing else."""
+        self.check_line("working %s: %s" % (self.inbox, works))
         told = [line for line in self.lines() if not line.startswith(VERDICTS)]
-        if len(told) < 2 or len(told) > len(set(told)):
-            self.wrongs("of failing and mending %d lines are told, %d different ones" % (len(told), len(set(told))))
+        fronts = ("failing %s: %s: " % (self.inbox, fails), "working %s: %s" % (self.inbox, works))
+        if len(told) != 2 or not all(line.startswith(front) for line, front in zip(told, fronts)):
+            self.wrongs("of failing and mending %r is told" % told)
+
+    def check_door_told(self):
+        """It has to be told that accepts fail, and that they work again, each once, and nothing else."""
+        told = [line for line in self.lines() if not line.startswith(VERDICTS)]
+        if len(told) != 2 or len(set(told)) != 2:
+            self.wrongs("of failing and mending %r is told" % told)
 
     def path(self, *names):
         return os.path.join(self.inbox, *names)
@@ -106,13 +131,16 @@ class Folder:
         os.chmod(part, mode)
         os.rename(part, os.path.join(inbox or self.inbox, name))
 
+    def link(self):
+        """A connection to the server."""
+        return http.client.HTTPConnection("127.0.0.1", self.port, timeout=5)
+
     def reply(self):
         """The status and the body of the reply to a request, or None."""
-        link = http.client.HTTPConnection("127.0.0.1", self.port, timeout=5)
+        link = self.link()
         try:
             link.request("GET", BEST)
-            reply = link.getresponse()
-            return reply.status, reply.read()
+            return reply_over(link)
         except OSError:
             return None
         finally:
@@ -152,17 +180,36 @@ class Folder:
 
     def thread(self):
         """The number of the thread that lists the folder."""
+        return self.thread_of(["-e", "trace=getdents64", "-P", self.inbox], lambda: None)
+
+    def door_thread(self):
+        """The number of the thread that takes connections, where that is one."""
+        return self.thread_of(["-e", "trace=accept,accept4"], self.reply)
+
+    def thread_of(self, words, act):
+        """The number of the thread that makes calls which strace traces by these words, at least while one acts so."""
         log = os.path.join(self.top, "threads")
-        line = ["strace", "-f", "-p", str(self.process.pid), "-e", "trace=getdents64", "-P", self.inbox, "-o", log]
+        line = ["strace", "-f", "-p", str(self.process.pid), "-o", log] + words
         tracer = subprocess.Popen(line, stderr=subprocess.DEVNULL)
+
+        def is_found():
+            act()
+            return os.path.exists(log) and os.path.getsize(log) > 0
+
         try:
-            if not wait_until(lambda: os.path.exists(log) and os.path.getsize(log) > 0, 10):
-                raise OSError("no thread lists the folder")
+            if not wait_until(is_found, 10):
+                raise OSError("no thread is found by %s" % " ".join(words))
         finally:
             tracer.send_signal(signal.SIGINT)
             tracer.wait()
         with open(log) as file:
             return int(re.match("[0-9]+", file.read()).group())
+
+
+def reply_over(link):
+    """The status and the body of the reply that comes over a connection."""
+    reply = link.getresponse()
+    return reply.status, reply.read()
 
 
 def said_of(name):

@@ -1,6 +1,7 @@
 #!/bin/sh
 # Does what README begins with, in a fresh clone: 'make serve' has to print the addresses of five datasets, each of
-# which a client can open, and to end with its server where it is told to.
+# which a client can open, and to end with its server where it is told to. The lines behind it, which serve one file,
+# are run as they stand there, but for the port, and their server ends by STOP.
 # Use: tests/first_command.sh [PROGRAM]; by default the clone proves its own, which takes as long as 'make build'.
 set -eu
 . "$(dirname "$0")/../bench/common.sh"
@@ -27,6 +28,15 @@ done
 # The lines to type, but for those that need more than this machine may have.
 eval "$(grep "^  curl " "$folder/said")" > "$folder/typed" 2> "$folder/none"
 grep -q "gfs_best.ncd" "$folder/typed"
+# shellcheck disable=SC2016  # README has these signs
+sed -n '/^    PATH=\$PATH/,/^    sleep/s/^    //p' "$folder/clone/README.md" | sed "s/8080/$(free_port)/" \
+    > "$folder/lines"
+echo "touch inbox/STOP; wait" >> "$folder/lines"
+(cd "$folder/clone" && timeout 60 sh "$folder/lines") > "$folder/typed" 2> "$folder/none"
+for line in "} gfs_best.ncd;" "published 1 retracted 0 expired 0 held 1 rows 3 revision 1"; do
+    grep -qx "$line" "$folder/typed" || { echo "README's lines say:"; cat "$folder/typed" "$folder/none"; exit 1; }
+done
+echo "README's lines serve a file"
 end_process
 for _ in 1 2 3 4 5 6 7 8 9 10; do
     curl -s "http://127.0.0.1:$port/" > "$folder/none" || { echo "5 datasets opened, and the server ended"; exit 0; }

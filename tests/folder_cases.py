@@ -5,7 +5,8 @@ import socket
 import subprocess
 import time
 
-from faulty_folder import A, B, C, LASTS, MINUTE, SOON, Tracer, own_port, said_of, wait_until
+from faulty_folder import (A, B, C, LASTS, LISTED, MINUTE, MOVED, NOBODY, READ, SOON, Tracer, lines_in, own_port,
+                           said_of, wait_until)
 from serve_replies import APART, file_of
 
 # How many replies are under way: together they have more bytes than the system keeps for a peer that takes nothing.
@@ -189,6 +190,34 @@ def taken_back(folder):
         folder.wrongs("a file that was taken back isn't moved to taken")
 
 
+def number_of(path):
+    """The number of the file at a path, where one lies there."""
+    return os.stat(path).st_ino if os.path.isfile(path) else None
+
+
+def outdated(folder):
+    """Two files wait in `later`; of one the name is published meanwhile, and the name of the other is taken back. Both
+    go to `taken`."""
+    words = ["-e", "trace=openat", "-e", "inject=openat:error=ENOMEM:when=1..2"]
+    tracer = Tracer(folder, folder.thread(), words, [folder.path(B), folder.path(C)])
+    waiting = {}
+    for name in (B, C):
+        folder.bring(name)
+        if not wait_until(lambda path=folder.path("later", name): os.path.isfile(path), SOON):
+            folder.wrongs("%s doesn't go to later" % said_of(name))
+        waiting[name] = number_of(folder.path("later", name))
+        folder.check_line("later %s no memory" % name)
+    tracer.detach()
+    folder.bring(B)
+    comes(folder, B)
+    folder.bring(C + ".retract", b"")
+    for name, number in waiting.items():
+        if not wait_until(lambda path=folder.path("taken", name): number_of(path) == number, MINUTE):
+            folder.wrongs("%s isn't put away" % said_of(name))
+    if number_of(folder.path("done", B)) in (None, waiting[B]) or not folder.shows({A, B}):
+        folder.wrongs("%s that was published later is gone" % said_of(B))
+
+
 def relative_link(folder):
     """It would be broken once it was moved."""
     with open(os.path.join(folder.top, "source.nc"), "wb") as file:
@@ -213,14 +242,41 @@ def passed_over(folder):
             folder.wrongs("%r is told %d times" % (name, told))
 
 
+def other_inbox(folder):
+    """A folder that no server has."""
+    inbox = os.path.join(folder.top, "other")
+    os.mkdir(inbox)
+    os.chown(inbox, NOBODY, NOBODY)
+    return inbox
+
+
+def no_lock(folder):
+    """Where a folder can't be locked, that is told, and the folder is served."""
+    inbox, said = other_inbox(folder), os.path.join(folder.top, "unlocked")
+    words = ["strace", "-f", "-o", "/dev/null", "-e", "trace=flock", "-e", "inject=flock:error=ENOLCK"]
+    other = folder.start(own_port(), [inbox], said, words)
+    folder.bring(B, inbox=inbox)
+    if not wait_until(lambda: os.path.isfile(os.path.join(inbox, "done", B)), SOON):
+        folder.wrongs("%s isn't taken in" % said_of(B))
+    with open(os.path.join(inbox, "STOP"), "wb"):
+        pass
+    try:
+        status = other.wait(SOON)
+    except subprocess.TimeoutExpired:
+        other.kill()
+        status = "none"
+    other.communicate()
+    line = "failing %s: it can't be locked: No locks available (os error 37)" % inbox
+    if status != 0 or lines_in(said).count(line) != 1:
+        folder.wrongs("a server without a lock ends with %s, and says %r" % (status, lines_in(said)))
+
+
 def second_server(folder):
     """A second server over the folder, and one at the address of the first: each ends, and says why."""
     for port, status, why in ((own_port(), 8, "folder"), (folder.port, 6, "in use")):
         inbox = folder.inbox
         if status == 6:
-            inbox = os.path.join(folder.top, "other")
-            os.mkdir(inbox)
-            os.chown(inbox, 65534, 65534)
+            inbox = other_inbox(folder)
         said = os.path.join(folder.top, "said%d" % status)
         other = folder.start(port, [inbox], said)
         try:
@@ -237,23 +293,25 @@ def second_server(folder):
     comes(folder, B)
 
 
-# What a case is called, what it does, over how many folders, and whether lines have to say that calls fail and work
-# again.
+# What a case is called, what it does, over how many folders, and what lines have to say that calls fail and work again,
+# where some have to.
 CASES = [
-    ("the folder is away for 2 s", folder_away, 1, True),
-    ("done is a file for 2 s", done_is_a_file, 1, True),
-    ("done may not be written for 2 s", done_read_only, 1, True),
-    ("a folder lies where the file should go", folder_in_the_place, 1, True),
-    ("a file that may not be read may be read later", unreadable, 1, False),
-    ("a file that may not be read is replaced by one that may", unreadable_replaced, 1, False),
-    ("a file that couldn't be opened once lies there for a minute", unread_once, 1, False),
-    ("a listed file vanishes and comes again", vanished, 1, False),
-    ("a pipe takes the place of a listed file", pipe, 1, False),
-    ("STOP is taken away while another folder runs", stop_taken_away, 2, False),
-    ("STOP ends a server", stop_ends_the_server, 1, False),
-    ("STOP lets replies end that are under way", stop_lets_replies_end, 1, False),
-    ("a file is taken back", taken_back, 1, False),
-    ("a relative link", relative_link, 1, False),
-    ("names that are passed over", passed_over, 1, False),
-    ("a second server", second_server, 1, False),
+    ("the folder is away for 2 s", folder_away, 1, LISTED),
+    ("done is a file for 2 s", done_is_a_file, 1, MOVED),
+    ("done may not be written for 2 s", done_read_only, 1, MOVED),
+    ("a folder lies where the file should go", folder_in_the_place, 1, MOVED),
+    ("a file that may not be read may be read later", unreadable, 1, READ),
+    ("a file that may not be read is replaced by one that may", unreadable_replaced, 1, READ),
+    ("a file that couldn't be opened once lies there for a minute", unread_once, 1, READ),
+    ("a listed file vanishes and comes again", vanished, 1, None),
+    ("a pipe takes the place of a listed file", pipe, 1, None),
+    ("STOP is taken away while another folder runs", stop_taken_away, 2, None),
+    ("STOP ends a server", stop_ends_the_server, 1, None),
+    ("STOP lets replies end that are under way", stop_lets_replies_end, 1, None),
+    ("a file is taken back", taken_back, 1, None),
+    ("files of later whose names got a later verdict", outdated, 1, None),
+    ("a relative link", relative_link, 1, None),
+    ("names that are passed over", passed_over, 1, None),
+    ("a folder that can't be locked", no_lock, 1, None),
+    ("a second server", second_server, 1, None),
 ]

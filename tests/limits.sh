@@ -4,7 +4,7 @@
 # folders and operations. Each answer has to be the defined one, byte for byte, and not that memory ran out. What isn't
 # as it should be is shown, and the last line counts.
 # Use: tests/limits.sh [PROGRAM] [WORD..]; by default the proved program, which 'make build' leaves. With words, only
-# cases in whose names one of them stands are run. All take about two minutes and 2.5 GB of memory. The word `sum`
+# cases in whose names one of them stands are run. All take about three minutes and 2.5 GB of memory. The word `sum`
 # alone runs the one case that else is left out: 3 GiB of held files, which take 5 GB of memory.
 set -eu
 . "$(dirname "$0")/../bench/common.sh"

@@ -1,4 +1,5 @@
 """Limits of a server; tests/limits.sh says how."""
+import calendar
 import os
 import sys
 import time as clock
@@ -101,6 +102,34 @@ def the_file_after_4096_is_full(folder):
                                                   "full %s revision 4096" % names[4096]])
 
 
+def a_run_that_is_too_old_goes_with_a_line(folder):
+    """The clock's first moment comes at once, and the second a minute later: by then a file of 2020 is over an hour old.
+    The line says before which moment runs went."""
+    inbox = inboxes_in(folder, 1)[0]
+    bring(os.path.join(inbox, name_of(0)), FORM.content([EPOCH]))
+    bring(os.path.join(inbox, "STOP"), b"")
+    said, began = path_in(folder, "said"), clock.time()
+    options = ["--workers", "1", "--connections", "1", "--keep", "3600", "--ticks", "2"]
+    with open(said, "wb") as error:
+        server = FolderServer(PROGRAM, proto_in(folder), [inbox], options, error=error)
+    wait_until("it is published", lambda: verdicts_in([inbox]) == [1, 0, 0])
+    wait_until("it has gone", lambda: expiries_in(said), 90)
+    link = server.connect()
+    expect("a reply", link.ask(b"HEAD", BEST)[:2], (404, 2))
+    link.close()
+    line = "published 1 retracted 0 expired 1 held 0 rows 0 revision 2\n"
+    expect("the end", server.end(90), (0, line))
+    [(instant, revision)] = expiries_in(said)
+    moment = calendar.timegm(clock.strptime(instant, "%Y-%m-%dT%H:%M:%SZ")) + 3600
+    expect("the moment", (int(began) <= moment <= clock.time(), revision), (True, "2"))
+
+
+def expiries_in(said):
+    """Before when runs went, and the revision, of each such line."""
+    lines = (line.split(" ") for line in lines_in(said) if line.startswith("expired "))
+    return [(words[2], words[4]) for words in lines if words[1:4:2] == ["before", "revision"] and len(words) == 5]
+
+
 def operations_up_to_20000(folder):
     """10,000 files that come and are taken back, and 20,001 looks over three connections of one worker."""
     inbox = inboxes_in(folder, 1)[0]
@@ -199,6 +228,6 @@ def told(case):
 
 
 cases.run([told(case) for case in (sixteen_workers_with_eight_folders_and_a_clock, files_up_to_512_MiB_in_a_folder,
-                                   the_file_after_4096_is_full, operations_up_to_20000,
-                                   retractions_of_the_same_files_by_eight_folders,
+                                   the_file_after_4096_is_full, a_run_that_is_too_old_goes_with_a_line,
+                                   operations_up_to_20000, retractions_of_the_same_files_by_eight_folders,
                                    files_that_eight_folders_put_and_take_back_at_once)], FOLDER, sys.argv[3:])

@@ -1,7 +1,7 @@
 #!/bin/sh
-# Makes the Debian package, and installs it by apt in a fresh system, which debootstrap makes in a folder. There it runs
-# `check` and `once`, serves as the unit does, and replies to a request; what it held comes back after a kill. Then the
-# package is removed, and none of its files may be left, but all that was brought.
+# Makes the Debian package, and installs it by apt in a fresh system, which debootstrap makes in a folder. There it says
+# its version, runs `check` and `once`, serves as the unit does, and replies to a request; what it held comes back after
+# a kill. Then the package is removed, and none of its files may be left, but all that was brought.
 # Use: tests/package.sh [PROGRAM]; by default the proved program, which 'make build' leaves. It wants root and Debian's
 # registry, and takes two minutes. debootstrap is installed where it is missing.
 set -eu
@@ -37,6 +37,9 @@ inside apt-get -qq install -y --no-install-recommends "/tmp/$package" > "$folder
     exit 1
 }
 inside dpkg --verify fmrcd
+# shellcheck disable=SC2016  # dpkg-query reads it
+[ "$(inside fmrcd --version)" = "fmrcd $(inside dpkg-query -W -f '${Version}' fmrcd)" ] ||
+    fail "it says the version $(inside fmrcd --version)"
 cmp "$program" "$root/usr/bin/fmrcd"
 inside dpkg -L fmrcd > "$folder/files"
 for name in fmrcd fmrcd-serve fmrcd-once fmrcd-check fmrcd-load fmrcd-bring-back; do

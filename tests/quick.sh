@@ -1,7 +1,8 @@
 #!/bin/sh
-# Runs each test and each stored run, the rows among them, compiled with checks and not proved. What fails is shown, and
-# the last line counts; the status is 1 where something failed. Words that a crate has in a file `slow` are left to the
-# gate, and their rows aren't counted.
+# Runs each test and each stored run, the rows among them, compiled with checks and not proved. Without words it first
+# compares docs/SAFETY.md with the public calls, by tests/safety_page.sh. What fails is shown, and the last line counts;
+# the status is 1 where something failed. Words that a crate has in a file `slow` are left to the gate, and their rows
+# aren't counted.
 # Use: tests/quick.sh [CRATE..]
 set -eu
 cd "$(dirname "$0")/.."
@@ -56,11 +57,15 @@ fi
 
 logs=$(mktemp -d)
 trap 'rm -rf "$logs"' EXIT
-# The crates that stand highest come first, since they take longest.
-[ $# -gt 0 ] || set -- $(for crate in $(sed -n 's/^\([a-z0-9_]*\)[ :].*/\1/p' crates.txt | tac); do
-    if [ -f "crates/$crate/stdout" ] || grep -rq '#\[test\]' "crates/$crate/src"; then echo "$crate"; fi
-done)
+page=0
+if [ $# = 0 ]; then
+    tests/safety_page.sh || page=1
+    # The crates that stand highest come first, since they take longest.
+    set -- $(for crate in $(sed -n 's/^\([a-z0-9_]*\)[ :].*/\1/p' crates.txt | tac); do
+        if [ -f "crates/$crate/stdout" ] || grep -rq '#\[test\]' "crates/$crate/src"; then echo "$crate"; fi
+    done)
+fi
 printf '%s\n' "$@" | xargs -P "$(nproc)" -n 1 "$0" --one "$logs" | tee "$logs/all"
 failed=$(grep -c ' FAILED$' "$logs/all" || true)
-echo "quick: $(($# - failed)) passed, $failed failed"
-[ "$failed" = 0 ]
+echo "quick: $(($# - failed)) passed, $((failed + page)) failed"
+[ "$failed$page" = 00 ]

@@ -32,7 +32,7 @@ pub step_name-on : (begun : Begun) (name : List ℕ) (byte : ℕ) → is_name_by
 unfolding step_name
 step_name-on begun name byte other dot = cond-false _ _ _ other ∙ cond-false _ _ _ (ne_eqb byte 46 dot)
 
--- the bytes of a text between two places
+-- the bytes of a text between two offsets
 pub slice_between : (text : List ℕ) (from at : ℕ) → from ≤ at
     → drop from (take at text) ≡ take (at - from) (drop from text)
 slice_between text from at begun =

@@ -33,7 +33,7 @@ fn read_clauses(alloc: Global, text: &[u8]) -> Result<Projection, Fail<CeFault>>
 }
 
 /// What a constraint asks for, which is decoded already: the clauses of a projection, in their order. An empty text
-/// asks for everything and has no clause. A fault is the one that the text has, with its place.
+/// asks for everything and has no clause. A fault is the one that the text has, with its offset.
 pub fn read_constraint(alloc: Global, text: &[u8]) -> Result<Projection, Fail<CeFault>>
     ensures { Answers (asked_by text.now) result }
 {

@@ -95,7 +95,7 @@ impl Reader {
         from: usize,
         at: usize,
     ) -> Result<bool, NoMemory>
-        requires place { at < length text.now }
+        requires offset { at < length text.now }
         requires begun { from ≤ at }
         requires phase { self.old.phase ≡ Phase.InName from }
         ensures step { IfOk result (LeadsTo
@@ -170,7 +170,7 @@ impl Reader {
     // Takes the byte at an offset, if some constraint goes on with it; else nothing changes.
     #[tactic(auto, unfolding(dap_model::specs::ConstraintReading::step, dap_model::specs::ConstraintReading::step_to_name))]
     pub(crate) fn step(&mut self, alloc: Global, text: &[u8], at: usize) -> Result<bool, NoMemory>
-        requires place { at < length text.now }
+        requires offset { at < length text.now }
         requires fits { Fits at self.old.phase }
         ensures step { IfOk result (LeadsTo
             (step (state_of self.old (take at text.now)) (slice_index text.now at))

@@ -48,7 +48,7 @@ value_count kind values = length values / size_of kind
 abbrev pub value_at : Kind → List ℕ → ℕ → List ℕ
 value_at kind values i = take (size_of kind) (drop (i * size_of kind) values)
 
--- the text of the number of this place
+-- the text of the number at this index
 unfoldable pub number_at : Kind → List ℕ → ℕ → List ℕ
 number_at kind values i = option_map_or pattern_text (pattern_of_bytes kind (value_at kind values i)) []
 

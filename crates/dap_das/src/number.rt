@@ -15,7 +15,7 @@ pub(crate) fn value_count(kind: Kind, values: &[u8]) -> usize
     values.len() / usize::from(kind.size())
 }
 
-// The bytes of the value at a place.
+// The bytes of the value at an index.
 #[tactic(auto, using(crate::proofs::Numbers::value_ends))]
 fn value_at(kind: Kind, values: &[u8], i: usize) -> &[u8]
     requires { i < spec.value_count kind values.now }
@@ -27,7 +27,7 @@ fn value_at(kind: Kind, values: &[u8], i: usize) -> &[u8]
     value
 }
 
-// Writes the number at a place.
+// Writes the number at an index.
 #[tactic(auto, unfolding(crate::specs::AttributeText::number_at))]
 fn put_number(
     alloc: Global,

@@ -96,23 +96,23 @@ unfolding run
 stays_dead state last before after byte ran dead =
     run-append state last before (byte ∷ after) ran ∙ ap (option_and_then (λ (next : State). run next after)) dead
 
--- more of a text than up to a place, by the byte there
-cut : (text : List ℕ) (place more byte : ℕ) (rest : List ℕ) → slice_get text place ≡ Some byte → place < more
-    → take more text ++ rest ≡ take place text ++ byte ∷ (drop (suc place) (take more text) ++ rest)
-cut [] place more byte rest here longer = absurd (none-some byte here)
-cut (x ∷ text) place zero byte rest here longer = absurd (omega arith)
+-- more of a text than up to an offset, by the byte there
+cut : (text : List ℕ) (offset more byte : ℕ) (rest : List ℕ) → slice_get text offset ≡ Some byte → offset < more
+    → take more text ++ rest ≡ take offset text ++ byte ∷ (drop (suc offset) (take more text) ++ rest)
+cut [] offset more byte rest here longer = absurd (none-some byte here)
+cut (x ∷ text) offset zero byte rest here longer = absurd (omega arith)
 cut (x ∷ text) zero (suc more) byte rest here longer =
     ap (λ (b : ℕ). b ∷ (take more text ++ rest)) (same_Some x byte here)
-cut (x ∷ text) (suc place) (suc more) byte rest here longer =
-    ap (λ (l : List ℕ). x ∷ l) (cut text place more byte rest here (omega arith))
+cut (x ∷ text) (suc offset) (suc more) byte rest here longer =
+    ap (λ (l : List ℕ). x ∷ l) (cut text offset more byte rest here (omega arith))
 
 -- no constraint begins with more than what is read
-pub dead_end : (text : List ℕ) (dies : Dies front text) (more : ℕ) → dies.place < more
+pub dead_end : (text : List ℕ) (dies : Dies front text) (more : ℕ) → dies.offset < more
     → BeginsConstraint (take more text) → ⊥
 dead_end text dies more longer begins =
     let reads = Reads-constraint (take more text ++ begins.rest) begins.clauses begins.spelled in
     none-some reads.last
-    (sym (ap (run front) (cut text dies.place more dies.byte begins.rest dies.here longer)
-    ∙ stays_dead front dies.last (take dies.place text)
-    (drop (suc dies.place) (take more text) ++ begins.rest) dies.byte dies.ran dies.dead)
+    (sym (ap (run front) (cut text dies.offset more dies.byte begins.rest dies.here longer)
+    ∙ stays_dead front dies.last (take dies.offset text)
+    (drop (suc dies.offset) (take more text) ++ begins.rest) dies.byte dies.ran dies.dead)
     ∙ reads.ran)

@@ -8,14 +8,14 @@ use Rattle.dap_model.proofs.ConstraintLeads.{Leads-step}
 use Rattle.dap_model.proofs.ConstraintRuns.{run, run-cons}
 use Rattle.dap_model.proofs.ConstraintStates.{Leads}
 
--- reading goes on up to a place and dies of the byte there
+-- reading goes on up to an offset and dies of the byte there
 pub record Dies (state : State) (text : List ℕ) : Type 0 where
-  pub place : ℕ
+  pub offset : ℕ
   pub last : State
   pub byte : ℕ
-  pub within : place < length text
-  pub ran : run state (take place text) ≡ Some last
-  pub here : slice_get text place ≡ Some byte
+  pub within : offset < length text
+  pub ran : run state (take offset text) ≡ Some last
+  pub here : slice_get text offset ≡ Some byte
   pub dead : step last byte ≡ None
 
 -- reading comes to the end of a text
@@ -31,11 +31,11 @@ goes_on : (state next : State) (byte : ℕ) (text : List ℕ) → step state byt
 goes_on state next byte text took (inl lives) =
     inl (record { last = lives.last; ran = run-cons state next byte text took ∙ lives.ran })
 goes_on state next byte text took (inr dies) = inr (record {
-  place = suc dies.place;
+  offset = suc dies.offset;
   last = dies.last;
   byte = dies.byte;
   within = omega (arith, dies.within);
-  ran = run-cons state next byte (take dies.place text) took ∙ dies.ran;
+  ran = run-cons state next byte (take dies.offset text) took ∙ dies.ran;
   here = dies.here;
   dead = dies.dead;
 })
@@ -45,7 +45,7 @@ unfolding run
 goes-text state [] = inl (record { last = state; ran = refl })
 goes-text state (byte ∷ text) = elim (cases_Option (step state byte)) [
   | inl dead ↦
-      inr (record { place = 0; last = state; byte = byte; within = omega arith; ran = refl; here = refl; dead = dead })
+      inr (record { offset = 0; last = state; byte = byte; within = omega arith; ran = refl; here = refl; dead = dead })
   | inr took ↦ goes_on state took.0 byte text took.1 (goes-text took.0 text)
 ]
 
@@ -63,11 +63,11 @@ read_from-lives state last at (byte ∷ text) ran =
     ∙ ap (λ (n : ℕ). ended_at n (clauses_at last)) (omega arith))
 
 -- what is read where it dies
-pub read_from-dies : (state last : State) (at place byte : ℕ) (text : List ℕ) → run state (take place text) ≡ Some last
-    → slice_get text place ≡ Some byte → step last byte ≡ None
-    → read_from state at text ≡ Err (fault_at last (at + place) byte)
+pub read_from-dies : (state last : State) (at offset byte : ℕ) (text : List ℕ)
+    → run state (take offset text) ≡ Some last → slice_get text offset ≡ Some byte → step last byte ≡ None
+    → read_from state at text ≡ Err (fault_at last (at + offset) byte)
 unfolding run read_from
-read_from-dies state last at place byte [] ran here dead = absurd (none-some byte here)
+read_from-dies state last at offset byte [] ran here dead = absurd (none-some byte here)
 read_from-dies state last at zero byte (first ∷ text) ran here dead =
     let same = same_Some state last ran in
     let byte_is = same_Some first byte here in
@@ -76,11 +76,11 @@ read_from-dies state last at zero byte (first ∷ text) ran here dead =
     (ap₂ (λ (s : State) (b : ℕ). step s b) same byte_is ∙ dead)
     ∙ ap₂ (λ (s : State) (b : ℕ). Err (fault_at s at b)) same byte_is
     ∙ ap (λ (n : ℕ). Err (fault_at last n byte)) (omega arith)
-read_from-dies state last at (suc place) byte (first ∷ text) ran here dead =
-    option_and_then_some (λ (next : State). run next (take place text)) (step state first) last ran
+read_from-dies state last at (suc offset) byte (first ∷ text) ran here dead =
+    option_and_then_some (λ (next : State). run next (take offset text)) (step state first) last ran
     (λ next took e. ap (λ (o : Option State). option_map_or (λ (s : State). read_from s (at + 1) text) o
     (Err (fault_at state at first))) took
-    ∙ read_from-dies next last (at + 1) place byte text e here dead
+    ∙ read_from-dies next last (at + 1) offset byte text e here dead
     ∙ ap (λ (n : ℕ). Err (fault_at last n byte)) (omega arith))
 
 -- the text that was read leads to where reading stands

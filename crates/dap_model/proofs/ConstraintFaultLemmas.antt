@@ -42,7 +42,7 @@ constrains_from_constraint_of text clauses e = elim (goes-text front text) [
       (ended_ok (0 + length text) clauses (clauses_at lives.last)
       (sym (read_from-lives front lives.last 0 text lives.ran) ∙ e))
   | inr dies ↦
-      let other = sym (read_from-dies front dies.last 0 dies.place dies.byte text dies.ran dies.here dies.dead) ∙ e in
+      let other = sym (read_from-dies front dies.last 0 dies.offset dies.byte text dies.ran dies.here dies.dead) ∙ e in
       absurd (cc)
 ]
 
@@ -70,14 +70,14 @@ constraint_of-selection text at s =
     ∙ ap (λ (n : ℕ). Err (fault_at reads.last n 38)) (zero-add at)
     ∙ ap Err (selects reads.last s.clauses at reads.clauses_are)
 
--- what is read with a bad place is neither
+-- what is read with a bad offset is neither
 no_constraint : (text : List ℕ) (fault : CeFault) → constraint_of text ≡ Err fault → (clauses : List Clause)
     → Constrains text clauses → ⊥
 no_constraint text fault e clauses s = let other = constraint_of-constrains text clauses s in cc
 
-no_selection : (text : List ℕ) (at : ℕ) → constraint_of text ≡ Err (BadConstraint at) → (place : ℕ)
-    → IsSelection text place → ⊥
-no_selection text at e place s = let other = constraint_of-selection text place s in cc
+no_selection : (text : List ℕ) (at : ℕ) → constraint_of text ≡ Err (BadConstraint at) → (offset : ℕ)
+    → IsSelection text offset → ⊥
+no_selection text at e offset s = let other = constraint_of-selection text offset s in cc
 
 -- reading comes to the end of a text that is no constraint
 short : (text : List ℕ) (last : State) → run front text ≡ Some last
@@ -91,13 +91,13 @@ short text last ran e = record {
 }
 
 -- reading dies, at no selection
-stuck : (text : List ℕ) (dies : Dies front text) → constraint_of text ≡ Err (BadConstraint dies.place)
-    → IsBadConstraint text dies.place
+stuck : (text : List ℕ) (dies : Dies front text) → constraint_of text ≡ Err (BadConstraint dies.offset)
+    → IsBadConstraint text dies.offset
 stuck text dies e = record {
-  no_constraint = no_constraint text (BadConstraint dies.place) e;
-  no_selection = no_selection text dies.place e;
+  no_constraint = no_constraint text (BadConstraint dies.offset) e;
+  no_selection = no_selection text dies.offset e;
   within = omega (arith, dies.within);
-  begun = BeginsConstraint-run (take dies.place text) dies.last dies.ran;
+  begun = BeginsConstraint-run (take dies.offset text) dies.last dies.ran;
   greatest = λ more longer within begins. dead_end text dies more longer begins;
 }
 
@@ -112,14 +112,14 @@ ends_some (after_slab begun) e = (_, refl)
 
 -- reading dies of `&` where a constraint may end
 marked : (text : List ℕ) (dies : Dies front text) → dies.byte ≡ 38 → may_end dies.last ≡ true
-    → IsSelection text dies.place
+    → IsSelection text dies.offset
 marked text dies mark may =
     let ends = ends_some dies.last may in
     record {
       clauses = ends.0;
       before =
-          Constrains-from_leads (take dies.place text) dies.last ends.0
-          (Leads-front (take dies.place text) dies.last dies.ran) ends.1;
+          Constrains-from_leads (take dies.offset text) dies.last ends.0
+          (Leads-front (take dies.offset text) dies.last dies.ran) ends.1;
       mark = dies.here ∙ ap Some mark;
     }
 
@@ -136,10 +136,10 @@ HasFault-constraint_of text fault e = elim (goes-text front text) [
       (sym (read_from-lives front lives.last 0 text lives.ran) ∙ e) ∙ ap BadConstraint (zero-add (length text)) in
       subst (HasFault text) (sym is) (short text lives.last lives.ran (e ∙ ap Err is))
   | inr dies ↦
-      let found : fault ≡ fault_at dies.last dies.place dies.byte =
+      let found : fault ≡ fault_at dies.last dies.offset dies.byte =
       same_fault fault _ (sym e
-      ∙ read_from-dies front dies.last 0 dies.place dies.byte text dies.ran dies.here dies.dead)
-      ∙ ap (λ (n : ℕ). fault_at dies.last n dies.byte) (zero-add dies.place) in
+      ∙ read_from-dies front dies.last 0 dies.offset dies.byte text dies.ran dies.here dies.dead)
+      ∙ ap (λ (n : ℕ). fault_at dies.last n dies.byte) (zero-add dies.offset) in
       elim (cases_Bool (dies.byte == 38 && may_end dies.last)) [
         | inl t ↦
             let tests = and_parts (dies.byte == 38) (may_end dies.last) t in
@@ -151,9 +151,9 @@ HasFault-constraint_of text fault e = elim (goes-text front text) [
       ]
 ]
 
--- a text has one bad place at most
-same_place : (text : List ℕ) (at other : ℕ) → IsBadConstraint text at → IsBadConstraint text other → at ≡ other
-same_place text at other s t = elim (cases_order at other) [
+-- a text has one bad offset at most
+same_offset : (text : List ℕ) (at other : ℕ) → IsBadConstraint text at → IsBadConstraint text other → at ≡ other
+same_offset text at other s t = elim (cases_order at other) [
   | inl same ↦ same
   | inr apart ↦ elim apart [
     | inl below ↦ absurd (s.greatest other below t.within t.begun)
@@ -166,15 +166,15 @@ either : (outcome : Result (List Clause) CeFault)
 either (Ok clauses) = inl (clauses, refl)
 either (Err fault) = inr (fault, refl)
 
-bad_place : (text : List ℕ) (at : ℕ) (fault : CeFault) → IsBadConstraint text at → HasFault text fault
+bad_offset : (text : List ℕ) (at : ℕ) (fault : CeFault) → IsBadConstraint text at → HasFault text fault
     → fault ≡ BadConstraint at
-bad_place text at (BadConstraint other) s t = ap BadConstraint (same_place text other at t s)
-bad_place text at (Selection place) s t = absurd (s.no_selection place t)
+bad_offset text at (BadConstraint other) s t = ap BadConstraint (same_offset text other at t s)
+bad_offset text at (Selection offset) s t = absurd (s.no_selection offset t)
 
 -- a fault of a text is read
 pub constraint_of-fault : (text : List ℕ) (fault : CeFault) → HasFault text fault → constraint_of text ≡ Err fault
 constraint_of-fault text (Selection at) s = constraint_of-selection text at s
 constraint_of-fault text (BadConstraint at) s = elim (either (constraint_of text)) [
   | inl found ↦ absurd (s.no_constraint found.0 (constrains_from_constraint_of text found.0 found.1))
-  | inr found ↦ found.1 ∙ ap Err (bad_place text at found.0 s (HasFault-constraint_of text found.0 found.1))
+  | inr found ↦ found.1 ∙ ap Err (bad_offset text at found.0 s (HasFault-constraint_of text found.0 found.1))
 ]

@@ -17,15 +17,15 @@ use Rattle.dap_model.proofs.GridLemmas.{alone_if_every}
 use Rattle.dap_model.proofs.ListLemmas.{Has}
 use Rattle.dap_model.proofs.PickingLemmas.{Names-picked, picked_if_named, blank, is_named}
 
-none_in_front : (path : List (List ℕ)) (decl : Decl) (decls : List Decl) (place : ℕ)
+none_in_front : (path : List (List ℕ)) (decl : Decl) (decls : List Decl) (index : ℕ)
     → is_picked (picked_by decl path) ≡ false
-    → ((before : ℕ) (other : Decl) → before < place → slice_get decls before ≡ Some other → Names other path → ⊥)
-    → (before : ℕ) (other : Decl) → before < suc place → slice_get (decl ∷ decls) before ≡ Some other → Names other path
+    → ((before : ℕ) (other : Decl) → before < index → slice_get decls before ≡ Some other → Names other path → ⊥)
+    → (before : ℕ) (other : Decl) → before < suc index → slice_get (decl ∷ decls) before ≡ Some other → Names other path
     → ⊥
-none_in_front path decl decls place unpicked none zero other below is names =
+none_in_front path decl decls index unpicked none zero other below is names =
     let picked = picked_if_named decl path (subst (λ (d : Decl). Names d path) (sym (same_Some decl other is)) names) in
     true≢false (sym picked ∙ unpicked)
-none_in_front path decl decls place unpicked none (suc before) other below is names =
+none_in_front path decl decls index unpicked none (suc before) other below is names =
     none before other (omega arith) is names
 
 -- the declaration that is found is the first that the path names
@@ -37,7 +37,7 @@ IsNamedBy-decl_named (first ∷ decls) path decl e = elim (cases_Bool (is_picked
   | inl t ↦
       let same : first ≡ decl = same_Some _ _ (sym (cond-true _ _ _ t) ∙ e) in
       record {
-        place = 0;
+        index = 0;
         decl_is = ap Some same;
         names = subst (λ (d : Decl). Names d path) same (Names-picked first path t);
         first = λ before other below. absurd (omega arith);
@@ -45,10 +45,10 @@ IsNamedBy-decl_named (first ∷ decls) path decl e = elim (cases_Bool (is_picked
   | inr f ↦
       let s = IsNamedBy-decl_named decls path decl (sym (cond-false _ _ _ f) ∙ e) in
       record {
-        place = suc s.place;
+        index = suc s.index;
         decl_is = s.decl_is;
         names = s.names;
-        first = none_in_front path first decls s.place f s.first;
+        first = none_in_front path first decls s.index f s.first;
       }
 ]
 
@@ -67,21 +67,21 @@ unnamed (first ∷ decls) path decl e has names = elim (cases_Bool (is_picked (p
   ]
 ]
 
--- the part at a place, where it is the first of its name
-record PartAt (parts : List Array) (name : List ℕ) (place : ℕ) : Type 0 where
+-- the part at an index, where it is the first of its name
+record PartAt (parts : List Array) (name : List ℕ) (index : ℕ) : Type 0 where
   part : Array
-  part_is : slice_get parts place ≡ Some part
+  part_is : slice_get parts index ≡ Some part
   name_is : part.name ≡ name
-  first : (before : ℕ) (other : Array) → before < place → slice_get parts before ≡ Some other → other.name ≢ name
+  first : (before : ℕ) (other : Array) → before < index → slice_get parts before ≡ Some other → other.name ≢ name
 
-part_at : (parts : List Array) (name : List ℕ) (place : ℕ) → position (is_named name) parts ≡ Some place
-    → PartAt parts name place
-part_at parts name place e =
+part_at : (parts : List Array) (name : List ℕ) (index : ℕ) → position (is_named name) parts ≡ Some index
+    → PartAt parts name index
+part_at parts name index e =
     let count = position_or_len (is_named name) parts in
     elim (cases_lt count (length parts)) [
-      | inr past ↦ absurd (none-some place (sym (cond-false _ _ _ (le-ltb count (length parts) past)) ∙ e))
+      | inr past ↦ absurd (none-some index (sym (cond-false _ _ _ (le-ltb count (length parts) past)) ∙ e))
       | inl within ↦
-          let same : count ≡ place = same_Some _ _ (sym (cond-true _ _ _ (lt-ltb count (length parts) within)) ∙ e) in
+          let same : count ≡ index = same_Some _ _ (sym (cond-true _ _ _ (lt-ltb count (length parts) within)) ∙ e) in
           let part = get_or parts count (blank name) in
           record {
             part = part;
@@ -97,45 +97,45 @@ part_at parts name place e =
           }
     ]
 
--- the name behind the declaration's, and the place of the part that it picks
-record OnlyPart (decl : Decl) (path : List (List ℕ)) (place : ℕ) : Type 0 where
+-- the name behind the declaration's, and the index of the part that it picks
+record OnlyPart (decl : Decl) (path : List (List ℕ)) (index : ℕ) : Type 0 where
   name : List ℕ
   path_is : path ≡ name_of decl ∷ name ∷ []
-  place_is : position (is_named name) (named_parts decl) ≡ Some place
+  index_is : position (is_named name) (named_parts decl) ≡ Some index
 
-same_place : (o : Option ℕ) (place : ℕ) → option_map_or only o nothing ≡ only place → o ≡ Some place
-same_place None place e = absurd cc
-same_place (Some other) place e = let same : other ≡ place = cc in ap Some same
+same_index : (o : Option ℕ) (index : ℕ) → option_map_or only o nothing ≡ only index → o ≡ Some index
+same_index None index e = absurd cc
+same_index (Some other) index e = let same : other ≡ index = cc in ap Some same
 
-only_below : (decl : Decl) (names : List (List ℕ)) (place : ℕ) → picked_below decl names ≡ only place
-    → (name : List ℕ) × (names ≡ name ∷ []) × (position (is_named name) (named_parts decl) ≡ Some place)
+only_below : (decl : Decl) (names : List (List ℕ)) (index : ℕ) → picked_below decl names ≡ only index
+    → (name : List ℕ) × (names ≡ name ∷ []) × (position (is_named name) (named_parts decl) ≡ Some index)
 unfolding picked_part
-only_below decl [] place e = absurd cc
-only_below decl (name ∷ []) place e = (name, refl, same_place _ place e)
-only_below decl (name ∷ next ∷ names) place e = absurd cc
+only_below decl [] index e = absurd cc
+only_below decl (name ∷ []) index e = (name, refl, same_index _ index e)
+only_below decl (name ∷ next ∷ names) index e = absurd cc
 
-only_part : (decl : Decl) (path : List (List ℕ)) (place : ℕ) → picked_by decl path ≡ only place
-    → OnlyPart decl path place
+only_part : (decl : Decl) (path : List (List ℕ)) (index : ℕ) → picked_by decl path ≡ only index
+    → OnlyPart decl path index
 unfolding picked_by
-only_part decl [] place e = absurd cc
-only_part decl (name ∷ names) place e = elim (cases_Bool (bytes_eq (name_of decl) name)) [
+only_part decl [] index e = absurd cc
+only_part decl (name ∷ names) index e = elim (cases_Bool (bytes_eq (name_of decl) name)) [
   | inl t ↦
-      let s = only_below decl names place (sym (cond-true _ _ _ t) ∙ e) in
+      let s = only_below decl names index (sym (cond-true _ _ _ t) ∙ e) in
       let same = (bytes_eq-Decides (name_of decl) name).0 t in
       record {
         name = s.0;
         path_is = ap₂ (λ (n : List ℕ) (l : List (List ℕ)). n ∷ l) (sym same) s.1;
-        place_is = s.2;
+        index_is = s.2;
       }
-  | inr f ↦ let none : nothing ≡ only place = sym (cond-false _ _ _ f) ∙ e in absurd cc
+  | inr f ↦ let none : nothing ≡ only index = sym (cond-false _ _ _ f) ∙ e in absurd cc
 ]
 
-dims_of_part : (decl : Decl) (place : ℕ) (part : Array) → slice_get (named_parts decl) place ≡ Some part
-    → part_dims decl place ≡ part.dims
-dims_of_part (Plain array) place part e = absurd (none-some part e)
-dims_of_part (Grid name array maps) place part e =
+dims_of_part : (decl : Decl) (index : ℕ) (part : Array) → slice_get (named_parts decl) index ≡ Some part
+    → part_dims decl index ≡ part.dims
+dims_of_part (Plain array) index part e = absurd (none-some part e)
+dims_of_part (Grid name array maps) index part e =
     ap (λ (o : Option Array). option_map_or (λ (a : Array). a.dims) o []) e
-dims_of_part (Structure name members) place part e =
+dims_of_part (Structure name members) index part e =
     ap (λ (o : Option Array). option_map_or (λ (a : Array). a.dims) o []) e
 
 -- the dimensions of what is picked are those of what the path names
@@ -145,13 +145,13 @@ HasDims-picked decl path picked = go (picked_by decl path) refl picked where
   go : (p : Picked) → picked_by decl path ≡ p → is_picked p ≡ true → HasDims decl path (picked_dims decl p)
   go nothing e t = absurd (true≢false (sym t))
   go every e t = inl (alone_if_every decl path (ap is_every e), refl)
-  go (only place) e t =
-      let s = only_part decl path place e in
-      let at = part_at (named_parts decl) s.name place s.place_is in
+  go (only index) e t =
+      let s = only_part decl path index e in
+      let at = part_at (named_parts decl) s.name index s.index_is in
       inr (
         at.part,
         s.path_is ∙ ap (λ (n : List ℕ). name_of decl ∷ n ∷ []) (sym at.name_is),
         subst (λ (n : List ℕ). IsPartNamed (named_parts decl) n at.part) (sym at.name_is)
-            (record { place = place; part_is = at.part_is; name_is = at.name_is; first = at.first }),
-        dims_of_part decl place at.part at.part_is,
+            (record { index = index; part_is = at.part_is; name_is = at.name_is; first = at.first }),
+        dims_of_part decl index at.part at.part_is,
       )

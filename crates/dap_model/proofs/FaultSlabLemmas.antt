@@ -67,39 +67,39 @@ one_more_within : (dim : Dim) (dims : List Dim) (slab : Slab) (slabs : List Slab
 one_more_within dim dims slab slabs first others zero d s dim_is slab_is =
     subst (λ (other : Dim). LiesBelow other.size s) (same_Some dim d dim_is)
     (subst (LiesBelow dim.size) (same_Some slab s slab_is) first)
-one_more_within dim dims slab slabs first others (suc place) d s dim_is slab_is = others place d s dim_is slab_is
+one_more_within dim dims slab slabs first others (suc index) d s dim_is slab_is = others index d s dim_is slab_is
 
 -- slabs without a fault of range lie within their dimensions
-pub range_fault-none : (name : List ℕ) (place : ℕ) (dims : List Dim) (slabs : List Slab)
-    → range_fault name place dims slabs ≡ None → LieWithin dims slabs
+pub range_fault-none : (name : List ℕ) (index : ℕ) (dims : List Dim) (slabs : List Slab)
+    → range_fault name index dims slabs ≡ None → LieWithin dims slabs
 unfolding range_fault
-range_fault-none name place [] slabs e k dim slab dim_is slab_is = absurd (none-some dim dim_is)
-range_fault-none name place (first ∷ dims) [] e k dim slab dim_is slab_is = absurd (none-some slab slab_is)
-range_fault-none name place (first ∷ dims) (slab ∷ slabs) e k dim other dim_is slab_is =
+range_fault-none name index [] slabs e k dim slab dim_is slab_is = absurd (none-some dim dim_is)
+range_fault-none name index (first ∷ dims) [] e k dim slab dim_is slab_is = absurd (none-some slab slab_is)
+range_fault-none name index (first ∷ dims) (slab ∷ slabs) e k dim other dim_is slab_is =
     elim (cases_Bool (is_within first.size slab)) [
       | inl t ↦
           one_more_within first dims slab slabs (below_from_test first.size slab t)
-          (range_fault-none name (place + 1) dims slabs (sym (cond-true _ _ _ t) ∙ e)) k dim other dim_is slab_is
+          (range_fault-none name (index + 1) dims slabs (sym (cond-true _ _ _ t) ∙ e)) k dim other dim_is slab_is
       | inr f ↦ absurd (none-some _ (sym e ∙ cond-false _ _ _ f))
     ]
 
 -- what a fault of range says, of dimensions from this one on
 pub record RangeFault (name : List ℕ) (from : ℕ) (dims : List Dim) (slabs : List Slab) (fault : ProjectFault)
     : Type 0 where
-  pub place : ℕ
+  pub index : ℕ
   pub size : ℕ
-  pub fault_is : SlabRange name (from + place) size ≡ fault
-  pub outside : IsFirstOutside dims slabs place size
+  pub fault_is : SlabRange name (from + index) size ≡ fault
+  pub outside : IsFirstOutside dims slabs index size
 
-within_before : (dim : Dim) (dims : List Dim) (slab : Slab) (slabs : List Slab) (place : ℕ) → LiesBelow dim.size slab
-    → ((before : ℕ) (d : Dim) (s : Slab) → before < place → slice_get dims before ≡ Some d
+within_before : (dim : Dim) (dims : List Dim) (slab : Slab) (slabs : List Slab) (index : ℕ) → LiesBelow dim.size slab
+    → ((before : ℕ) (d : Dim) (s : Slab) → before < index → slice_get dims before ≡ Some d
     → slice_get slabs before ≡ Some s → LiesBelow d.size s)
-    → (before : ℕ) (d : Dim) (s : Slab) → before < suc place → slice_get (dim ∷ dims) before ≡ Some d
+    → (before : ℕ) (d : Dim) (s : Slab) → before < suc index → slice_get (dim ∷ dims) before ≡ Some d
     → slice_get (slab ∷ slabs) before ≡ Some s → LiesBelow d.size s
-within_before dim dims slab slabs place first others zero d s below dim_is slab_is =
+within_before dim dims slab slabs index first others zero d s below dim_is slab_is =
     subst (λ (other : Dim). LiesBelow other.size s) (same_Some dim d dim_is)
     (subst (LiesBelow dim.size) (same_Some slab s slab_is) first)
-within_before dim dims slab slabs place first others (suc before) d s below dim_is slab_is =
+within_before dim dims slab slabs index first others (suc before) d s below dim_is slab_is =
     others before d s (omega arith) dim_is slab_is
 
 pub range_fault-some : (name : List ℕ) (from : ℕ) (dims : List Dim) (slabs : List Slab) (fault : ProjectFault)
@@ -111,7 +111,7 @@ range_fault-some name from (dim ∷ dims) (slab ∷ slabs) fault e = elim (cases
   | inl t ↦
       let s = range_fault-some name (from + 1) dims slabs fault (sym (cond-true _ _ _ t) ∙ e) in
       record {
-        place = suc s.place;
+        index = suc s.index;
         size = s.size;
         fault_is = ap (λ (n : ℕ). SlabRange name n s.size) (omega arith) ∙ s.fault_is;
         outside = record {
@@ -121,11 +121,11 @@ range_fault-some name from (dim ∷ dims) (slab ∷ slabs) fault e = elim (cases
           slab_is = s.outside.slab_is;
           size_is = s.outside.size_is;
           outside = s.outside.outside;
-          others = within_before dim dims slab slabs s.place (below_from_test dim.size slab t) s.outside.others;
+          others = within_before dim dims slab slabs s.index (below_from_test dim.size slab t) s.outside.others;
         };
       }
   | inr f ↦ record {
-    place = 0;
+    index = 0;
     size = dim.size;
     fault_is = ap (λ (n : ℕ). SlabRange name n dim.size) (omega arith) ∙ same_Some _ _ (sym (cond-false _ _ _ f) ∙ e);
     outside = record {

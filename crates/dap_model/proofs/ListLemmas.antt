@@ -119,7 +119,7 @@ Has-range a (suc n) k low high = elim (cases_eq a k) [
   | inr apart ↦ inr (Has-range (a + 1) n k (omega arith) (omega arith))
 ]
 
--- the items of a list with their places
+-- the items of a list with their indices
 pub slice_get-numbered : {A : Type 0} (n : ℕ) (xs : List A) (pair : ℕ × A) → Has (enumerate_from n xs) pair
     → (i : ℕ) × (pair.0 ≡ n + i) × (slice_get xs i ≡ Some pair.1)
 slice_get-numbered n [] pair has = absurd has

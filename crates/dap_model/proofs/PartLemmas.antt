@@ -8,7 +8,7 @@ use Rattle.dap_model.specs.Box.{box_of, box_len, index_at}
 use Rattle.dap_model.specs.Xdr.{array_bytes, xdr_of, values_at}
 use Rattle.dap_model.proofs.BoxLemmas.{length-box_of, get_or-box_of}
 
--- numbers at the places of slabs are an array
+-- numbers that slabs pick are an array
 pub array_at : (kind : DapKind) (slabs : List Slab) (bits : List ℕ → ℕ) (words : List ℕ → List ℕ) → kind ≢ Text
     → slabs ≢ []
     → xdr_of kind (values_at kind slabs bits words) ≡ array_bytes kind (map bits (box_of slabs))
@@ -21,13 +21,13 @@ array_at Float32 (slab ∷ slabs) bits words number some = refl
 array_at Float64 (slab ∷ slabs) bits words number some = refl
 array_at Text (slab ∷ slabs) bits words number some = absurd (number refl)
 
--- there are as many numbers as places
+-- there are as many numbers as elements
 pub length-numbers : (slabs : List Slab) (bits : List ℕ → ℕ) → length (map bits (box_of slabs)) ≡ box_len slabs
 length-numbers slabs bits = length-map (box_of slabs) bits ∙ length-box_of slabs
 
--- the number at a place is that of the index list there
-pub get_or-numbers : (slabs : List Slab) (bits : List ℕ → ℕ) (place : ℕ) → place < box_len slabs
-    → get_or (map bits (box_of slabs)) place 0 ≡ bits (index_at slabs place)
-get_or-numbers slabs bits place within =
-    get_or-map bits (box_of slabs) place [] 0 (subst (λ (n : ℕ). place < n) (sym (length-box_of slabs)) within)
-    ∙ ap bits (get_or-box_of slabs place [] within)
+-- the number of an element is that at its index list
+pub get_or-numbers : (slabs : List Slab) (bits : List ℕ → ℕ) (element : ℕ) → element < box_len slabs
+    → get_or (map bits (box_of slabs)) element 0 ≡ bits (index_at slabs element)
+get_or-numbers slabs bits element within =
+    get_or-map bits (box_of slabs) element [] 0 (subst (λ (n : ℕ). element < n) (sym (length-box_of slabs)) within)
+    ∙ ap bits (get_or-box_of slabs element [] within)

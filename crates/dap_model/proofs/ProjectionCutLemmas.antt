@@ -43,7 +43,7 @@ nil_from_none : {A : Type 0} (xs : List A) → ((x : A) → Has xs x → ⊥) �
 nil_from_none [] none = refl
 nil_from_none (x ∷ xs) none = absurd (none x (inl refl))
 
--- what is made of the items of a list and of their places, where something is made of both or of neither
+-- what is made of the items of a list and of their indices, where something is made of both or of neither
 paired : {A B C D : Type 0} (P : B → C → Type 0) (o : ℕ → Option D) (cut : D → A → B) (mark : ℕ → D → C) (n : ℕ)
     (xs : List A)
     → ((k : ℕ) (x : A) (s : D) → slice_get xs k ≡ Some x → o (n + k) ≡ Some s → P (cut s x) (mark (n + k) s))
@@ -54,32 +54,32 @@ paired {A} {B} {C} {D} P o cut mark n (x ∷ xs) each =
     let h = λ (p : ℕ × A). option_map (λ (s : D). cut s p.1) (o p.0) in
     let g = λ (i : ℕ). option_map (mark i) (o i) in
     let others = paired P o cut mark (n + 1) xs (λ k y s is made.
-    let place : n + 1 + k ≡ n + suc k = omega arith in
-    subst (λ (i : ℕ). P (cut s y) (mark i s)) (sym place) (each (suc k) y s is (ap o (sym place) ∙ made))) in
+    let same : n + 1 + k ≡ n + suc k = omega arith in
+    subst (λ (i : ℕ). P (cut s y) (mark i s)) (sym same) (each (suc k) y s is (ap o (sym same) ∙ made))) in
     let arrays = enumerate_from (n + 1) xs in
-    let places = range_with_len (n + 1) (length xs) in
+    let numbers = range_with_len (n + 1) (length xs) in
     elim (cases_Option (o n)) [
       | inl none ↦
           let first = filter_map-none h (n, x) arrays (ap (option_map (λ (s : D). cut s x)) none) in
-          let second = filter_map-none g n places (ap (option_map (mark n)) none) in
-          subst (λ (l : List B). AllZip P l (filter_map g (n ∷ places))) (sym first)
+          let second = filter_map-none g n numbers (ap (option_map (mark n)) none) in
+          subst (λ (l : List B). AllZip P l (filter_map g (n ∷ numbers))) (sym first)
           (subst (λ (l : List C). AllZip P (filter_map h arrays) l) (sym second) others)
       | inr some ↦
           let first = filter_map-some h (n, x) arrays (cut some.0 x) (ap (option_map (λ (s : D). cut s x)) some.1) in
-          let second = filter_map-some g n places (mark n some.0) (ap (option_map (mark n)) some.1) in
+          let second = filter_map-some g n numbers (mark n some.0) (ap (option_map (mark n)) some.1) in
           let here : n + 0 ≡ n = omega arith in
           let front =
           subst (λ (i : ℕ). P (cut some.0 x) (mark i some.0)) here (each 0 x some.0 refl (ap o here ∙ some.1)) in
-          subst (λ (l : List B). AllZip P l (filter_map g (n ∷ places))) (sym first)
+          subst (λ (l : List B). AllZip P l (filter_map g (n ∷ numbers))) (sym first)
           (subst (λ (l : List C). AllZip P (cut some.0 x ∷ filter_map h arrays) l) (sym second) (front, others))
     ]
 
 -- the parts of one declaration
-parts_cut : (decls : List Decl) (clauses : List Clause) (place : ℕ) (decl : Decl) → slice_get decls place ≡ Some decl
-    → AllZip (IsCut decls) (cut_parts clauses decl) (sent_of clauses (place, decl))
+parts_cut : (decls : List Decl) (clauses : List Clause) (index : ℕ) (decl : Decl) → slice_get decls index ≡ Some decl
+    → AllZip (IsCut decls) (cut_parts clauses decl) (sent_of clauses (index, decl))
 unfolding cut_parts sent_of
-parts_cut decls clauses place decl is =
-    paired (IsCut decls) (slabs_of clauses decl) cut_array (with_slabs place) 0 (parts_of decl)
+parts_cut decls clauses index decl is =
+    paired (IsCut decls) (slabs_of clauses decl) cut_array (with_slabs index) 0 (parts_of decl)
     (λ k part slabs part_is made. record {
       decl = decl;
       part = part;
@@ -114,15 +114,15 @@ parts_of-sent clauses (Grid name array maps) =
 parts_of-sent clauses (Structure name members) = refl
 
 -- a declaration that no clause names has no part that is sent
-none_sent : (clauses : List Clause) (place : ℕ) (decl : Decl) → is_sent clauses decl ≡ false
-    → sent_of clauses (place, decl) ≡ []
+none_sent : (clauses : List Clause) (index : ℕ) (decl : Decl) → is_sent clauses decl ≡ false
+    → sent_of clauses (index, decl) ≡ []
 unfolding is_sent sent_of
-none_sent [] place decl e = absurd (true≢false (sym (is_sent-all decl) ∙ e))
-none_sent (x ∷ clauses) place decl e = nil_from_none (sent_of (x ∷ clauses) (place, decl)) (λ sent has.
+none_sent [] index decl e = absurd (true≢false (sym (is_sent-all decl) ∙ e))
+none_sent (x ∷ clauses) index decl e = nil_from_none (sent_of (x ∷ clauses) (index, decl)) (λ sent has.
     let s =
-    Source-filter_map (λ (part : ℕ). option_map (with_slabs place part) (slabs_of (x ∷ clauses) decl part))
+    Source-filter_map (λ (part : ℕ). option_map (with_slabs index part) (slabs_of (x ∷ clauses) decl part))
     (range_with_len 0 (length (parts_of decl))) sent has in
-    let slabs = mapped_some (with_slabs place s.item) (slabs_of (x ∷ clauses) decl s.item) sent s.gives in
+    let slabs = mapped_some (with_slabs index s.item) (slabs_of (x ∷ clauses) decl s.item) sent s.gives in
     let given = given-slabs_of x clauses decl s.item slabs.0 slabs.1 in
     let picked = picked_if_given decl given.0 s.item slabs.0 given.2 in
     true≢false (sym picked ∙ none_passes (λ (each : Clause). is_picked (picked_by decl each.path))

@@ -20,35 +20,35 @@ both_none (Some a) second e = absurd (none-some a (sym e))
 
 -- the first of some clauses that has a fault, after these
 record FirstAfter (decls : List Decl) (earlier clauses : List Clause) (fault : ProjectFault) : Type 0 where
-  place : ℕ
+  index : ℕ
   clause : Clause
-  clause_is : slice_get clauses place ≡ Some clause
-  fault_is : clause_fault decls (earlier ++ take place clauses) clause ≡ Some fault
-  none_before : (before : ℕ) (other : Clause) → before < place → slice_get clauses before ≡ Some other
+  clause_is : slice_get clauses index ≡ Some clause
+  fault_is : clause_fault decls (earlier ++ take index clauses) clause ≡ Some fault
+  none_before : (before : ℕ) (other : Clause) → before < index → slice_get clauses before ≡ Some other
       → clause_fault decls (earlier ++ take before clauses) other ≡ None
 
 moved : (decls : List Decl) (earlier : List Clause) (clause : Clause) (clauses : List Clause) (other : Clause)
-    (place : ℕ)
-    → clause_fault decls ((earlier ++ clause ∷ []) ++ take place clauses) other ≡ clause_fault decls
-    (earlier ++ take (suc place) (clause ∷ clauses)) other
-moved decls earlier clause clauses other place =
-    ap (λ (l : List Clause). clause_fault decls l other) (append_assoc earlier (clause ∷ []) (take place clauses))
+    (index : ℕ)
+    → clause_fault decls ((earlier ++ clause ∷ []) ++ take index clauses) other ≡ clause_fault decls
+    (earlier ++ take (suc index) (clause ∷ clauses)) other
+moved decls earlier clause clauses other index =
+    ap (λ (l : List Clause). clause_fault decls l other) (append_assoc earlier (clause ∷ []) (take index clauses))
 
 here : (decls : List Decl) (earlier : List Clause) (clause : Clause) (clauses : List Clause)
     → clause_fault decls (earlier ++ take 0 (clause ∷ clauses)) clause ≡ clause_fault decls earlier clause
 here decls earlier clause clauses = ap (λ (l : List Clause). clause_fault decls l clause) (append-nil earlier)
 
--- no fault in front, and none before a place behind it
-clear : (decls : List Decl) (earlier : List Clause) (clause : Clause) (clauses : List Clause) (place : ℕ)
+-- no fault in front, and none before an index behind it
+clear : (decls : List Decl) (earlier : List Clause) (clause : Clause) (clauses : List Clause) (index : ℕ)
     → clause_fault decls earlier clause ≡ None
-    → ((before : ℕ) (other : Clause) → before < place → slice_get clauses before ≡ Some other → clause_fault decls
+    → ((before : ℕ) (other : Clause) → before < index → slice_get clauses before ≡ Some other → clause_fault decls
     ((earlier ++ clause ∷ []) ++ take before clauses) other ≡ None)
-    → (before : ℕ) (other : Clause) → before < suc place → slice_get (clause ∷ clauses) before ≡ Some other
+    → (before : ℕ) (other : Clause) → before < suc index → slice_get (clause ∷ clauses) before ≡ Some other
     → clause_fault decls (earlier ++ take before (clause ∷ clauses)) other ≡ None
-clear decls earlier clause clauses place none each zero other below is =
+clear decls earlier clause clauses index none each zero other below is =
     subst (λ (c : Clause). clause_fault decls (earlier ++ []) c ≡ None) (same_Some clause other is)
     (here decls earlier clause clauses ∙ none)
-clear decls earlier clause clauses place none each (suc before) other below is =
+clear decls earlier clause clauses index none each (suc before) other below is =
     sym (moved decls earlier clause clauses other before) ∙ each before other (omega arith) is
 
 first_fault-found : (decls : List Decl) (earlier clauses : List Clause) (fault : ProjectFault)
@@ -59,14 +59,14 @@ first_fault-found decls earlier (clause ∷ clauses) fault e = elim (cases_Optio
   | inl none ↦
       let s = first_fault-found decls (earlier ++ clause ∷ []) clauses fault (sym (first_none _ _ none) ∙ e) in
       record {
-        place = suc s.place;
+        index = suc s.index;
         clause = s.clause;
         clause_is = s.clause_is;
-        fault_is = sym (moved decls earlier clause clauses s.clause s.place) ∙ s.fault_is;
-        none_before = clear decls earlier clause clauses s.place none s.none_before;
+        fault_is = sym (moved decls earlier clause clauses s.clause s.index) ∙ s.fault_is;
+        none_before = clear decls earlier clause clauses s.index none s.none_before;
       }
   | inr some ↦ record {
-    place = 0;
+    index = 0;
     clause = clause;
     clause_is = refl;
     fault_is =
@@ -80,7 +80,7 @@ pub IsFirstFault-first_fault : (decls : List Decl) (clauses : List Clause) (faul
 IsFirstFault-first_fault decls clauses fault e =
     let s = first_fault-found decls [] clauses fault e in
     record {
-      place = s.place;
+      index = s.index;
       clause = s.clause;
       clause_is = s.clause_is;
       fault_is = s.fault_is;
@@ -90,30 +90,30 @@ IsFirstFault-first_fault decls clauses fault e =
 -- no clause has a fault after those before it
 abbrev pub NoneAfter : List Decl → List Clause → List Clause → Type 0
 NoneAfter decls earlier clauses =
-    (place : ℕ) (clause : Clause) → slice_get clauses place ≡ Some clause
-    → clause_fault decls (earlier ++ take place clauses) clause ≡ None
+    (index : ℕ) (clause : Clause) → slice_get clauses index ≡ Some clause
+    → clause_fault decls (earlier ++ take index clauses) clause ≡ None
 
 pub none_after : (decls : List Decl) (earlier clauses : List Clause) → first_fault decls earlier clauses ≡ None
     → NoneAfter decls earlier clauses
 unfolding first_fault
-none_after decls earlier [] e place clause is = absurd (none-some clause is)
-none_after decls earlier (first ∷ clauses) e place clause is =
+none_after decls earlier [] e index clause is = absurd (none-some clause is)
+none_after decls earlier (first ∷ clauses) e index clause is =
     let parts = both_none _ _ e in
     let others = none_after decls (earlier ++ first ∷ []) clauses parts.1 in
-    clear decls earlier first clauses place parts.0 (λ before other below is. others before other is) place clause
+    clear decls earlier first clauses index parts.0 (λ before other below is. others before other is) index clause
     (omega arith) is
 
 -- two first faults are one
 same_first : (decls : List Decl) (clauses : List Clause) (fault other : ProjectFault) → IsFirstFault decls clauses fault
     → IsFirstFault decls clauses other → fault ≡ other
-same_first decls clauses fault other s t = elim (cases_order s.place t.place) [
+same_first decls clauses fault other s t = elim (cases_order s.index t.index) [
   | inl same ↦
       let clause : s.clause ≡ t.clause = same_Some _ _ (sym s.clause_is ∙ ap (slice_get clauses) same ∙ t.clause_is) in
       same_Some _ _ (sym s.fault_is ∙ ap₂ (λ (n : ℕ) (c : Clause). clause_fault decls (take n clauses) c) same clause
       ∙ t.fault_is)
   | inr apart ↦ elim apart [
-    | inl below ↦ absurd (none-some fault (sym (t.none_before s.place s.clause below s.clause_is) ∙ s.fault_is))
-    | inr above ↦ absurd (none-some other (sym (s.none_before t.place t.clause above t.clause_is) ∙ t.fault_is))
+    | inl below ↦ absurd (none-some fault (sym (t.none_before s.index s.clause below s.clause_is) ∙ s.fault_is))
+    | inr above ↦ absurd (none-some other (sym (s.none_before t.index t.clause above t.clause_is) ∙ t.fault_is))
   ]
 ]
 
@@ -122,7 +122,7 @@ pub first_fault-is : (decls : List Decl) (clauses : List Clause) (fault : Projec
     → IsFirstFault decls clauses fault → first_fault decls [] clauses ≡ Some fault
 first_fault-is decls clauses fault s = elim (cases_Option (first_fault decls [] clauses)) [
   | inl none ↦
-      absurd (none-some fault (sym (none_after decls [] clauses none s.place s.clause s.clause_is) ∙ s.fault_is))
+      absurd (none-some fault (sym (none_after decls [] clauses none s.index s.clause s.clause_is) ∙ s.fault_is))
   | inr some ↦
       let t = IsFirstFault-first_fault decls clauses some.0 some.1 in
       some.1 ∙ ap Some (same_first decls clauses some.0 fault t s)
@@ -135,5 +135,5 @@ no_first_fault decls clauses none = elim (cases_Option (first_fault decls [] cla
   | inl without ↦ without
   | inr some ↦
       let s = IsFirstFault-first_fault decls clauses some.0 some.1 in
-      absurd (none-some some.0 (sym (none s.place s.clause s.clause_is) ∙ s.fault_is))
+      absurd (none-some some.0 (sym (none s.index s.clause s.clause_is) ∙ s.fault_is))
 ]

@@ -41,15 +41,15 @@ within_fit dim slab e =
     record { stride = leb-true 1 slab.stride front.0; within = λ ordered. ltb-true slab.stop dim.size tests.1 }
 
 -- as many slabs as dimensions, and none out of range
-in_range_fit : (name : List ℕ) (place : ℕ) (dims : List Dim) (slabs : List Slab) → length slabs ≡ length dims
-    → range_fault name place dims slabs ≡ None → AllZip FitsDim dims slabs
+in_range_fit : (name : List ℕ) (index : ℕ) (dims : List Dim) (slabs : List Slab) → length slabs ≡ length dims
+    → range_fault name index dims slabs ≡ None → AllZip FitsDim dims slabs
 unfolding range_fault
-in_range_fit name place [] [] same none = tt
-in_range_fit name place [] (slab ∷ slabs) same none = absurd (omega arith)
-in_range_fit name place (dim ∷ dims) [] same none = absurd (omega arith)
-in_range_fit name place (dim ∷ dims) (slab ∷ slabs) same none = elim (cases_Bool (is_within dim.size slab)) [
+in_range_fit name index [] [] same none = tt
+in_range_fit name index [] (slab ∷ slabs) same none = absurd (omega arith)
+in_range_fit name index (dim ∷ dims) [] same none = absurd (omega arith)
+in_range_fit name index (dim ∷ dims) (slab ∷ slabs) same none = elim (cases_Bool (is_within dim.size slab)) [
   | inl t ↦
-      (within_fit dim slab t, in_range_fit name (place + 1) dims slabs (omega arith) (sym (cond-true _ _ _ t) ∙ none))
+      (within_fit dim slab t, in_range_fit name (index + 1) dims slabs (omega arith) (sym (cond-true _ _ _ t) ∙ none))
   | inr f ↦ absurd (none-some _ (sym none ∙ cond-false _ _ _ f))
 ]
 
@@ -77,51 +77,51 @@ none_spread_fit dims part =
     (whole_slabs-fit dims)
 
 -- the slab of one dimension
-one_fit : (dims : List Dim) (slabs : List Slab) (place : ℕ) (dim : Dim) → AllZip FitsDim dims slabs
-    → slice_get dims place ≡ Some dim
-    → AllZip FitsDim (dim ∷ []) (or_whole (dim ∷ []) (take 1 (drop place slabs)))
-one_fit [] slabs place dim fits is = absurd (none-some dim is)
-one_fit (first ∷ dims) [] place dim fits is = absurd fits
+one_fit : (dims : List Dim) (slabs : List Slab) (index : ℕ) (dim : Dim) → AllZip FitsDim dims slabs
+    → slice_get dims index ≡ Some dim
+    → AllZip FitsDim (dim ∷ []) (or_whole (dim ∷ []) (take 1 (drop index slabs)))
+one_fit [] slabs index dim fits is = absurd (none-some dim is)
+one_fit (first ∷ dims) [] index dim fits is = absurd fits
 one_fit (first ∷ dims) (slab ∷ slabs) zero dim fits is =
     (subst (λ (d : Dim). FitsDim d slab) (same_Some first dim is) fits.0, tt)
-one_fit (first ∷ dims) (slab ∷ slabs) (suc place) dim fits is = one_fit dims slabs place dim fits.1 is
+one_fit (first ∷ dims) (slab ∷ slabs) (suc index) dim fits is = one_fit dims slabs index dim fits.1 is
 
--- the map of a Grid at a place, and its one dimension
-record MapAt (array : Array) (maps : List Array) (place : ℕ) : Type 0 where
+-- the map of a Grid at an index, and its one dimension
+record MapAt (array : Array) (maps : List Array) (index : ℕ) : Type 0 where
   part : Array
   dim : Dim
-  part_is : slice_get maps place ≡ Some part
-  dim_is : slice_get array.dims place ≡ Some dim
+  part_is : slice_get maps index ≡ Some part
+  dim_is : slice_get array.dims index ≡ Some dim
   dims_are : part.dims ≡ dim ∷ []
 
-some_part : (maps : List Array) (place : ℕ) → place < length maps → (part : Array) × (slice_get maps place ≡ Some part)
-some_part [] place within = absurd (omega arith)
+some_part : (maps : List Array) (index : ℕ) → index < length maps → (part : Array) × (slice_get maps index ≡ Some part)
+some_part [] index within = absurd (omega arith)
 some_part (part ∷ maps) zero within = (part, refl)
-some_part (part ∷ maps) (suc place) within = some_part maps place (omega arith)
+some_part (part ∷ maps) (suc index) within = some_part maps index (omega arith)
 
-map_at : (array : Array) (maps : List Array) (place : ℕ) → place < length maps
-    → map (λ (part : Array). part.dims) maps ≡ map (λ (dim : Dim). dim ∷ []) array.dims → MapAt array maps place
-map_at array maps place within gridded =
-    let part = some_part maps place within in
-    let dims : slice_get (map (λ (dim : Dim). dim ∷ []) array.dims) place ≡ Some part.0.dims =
-    ap (λ (l : List (List Dim)). slice_get l place) (sym gridded) ∙ slice_get-map (λ (p : Array). p.dims) maps place
+map_at : (array : Array) (maps : List Array) (index : ℕ) → index < length maps
+    → map (λ (part : Array). part.dims) maps ≡ map (λ (dim : Dim). dim ∷ []) array.dims → MapAt array maps index
+map_at array maps index within gridded =
+    let part = some_part maps index within in
+    let dims : slice_get (map (λ (dim : Dim). dim ∷ []) array.dims) index ≡ Some part.0.dims =
+    ap (λ (l : List (List Dim)). slice_get l index) (sym gridded) ∙ slice_get-map (λ (p : Array). p.dims) maps index
     ∙ ap (option_map (λ (p : Array). p.dims)) part.1 in
     let dim =
-    mapped_some (λ (d : Dim). d ∷ []) (slice_get array.dims place) part.0.dims
-    (sym (slice_get-map (λ (d : Dim). d ∷ []) array.dims place) ∙ dims) in
+    mapped_some (λ (d : Dim). d ∷ []) (slice_get array.dims index) part.0.dims
+    (sym (slice_get-map (λ (d : Dim). d ∷ []) array.dims index) ∙ dims) in
     record { part = part.0; dim = dim.0; part_is = part.1; dim_is = dim.1; dims_are = sym dim.2 }
 
-map_fit : (array : Array) (maps : List Array) (slabs : List Slab) (place : ℕ) → place < length maps
+map_fit : (array : Array) (maps : List Array) (slabs : List Slab) (index : ℕ) → index < length maps
     → map (λ (part : Array). part.dims) maps ≡ map (λ (dim : Dim). dim ∷ []) array.dims
     → AllZip FitsDim array.dims slabs
-    → AllZip FitsDim (option_map_or (λ (part : Array). part.dims) (slice_get maps place) [])
-    (or_whole (option_map_or (λ (part : Array). part.dims) (slice_get maps place) []) (take 1 (drop place slabs)))
-map_fit array maps slabs place within gridded fits =
-    let at = map_at array maps place within gridded in
-    let dims : at.dim ∷ [] ≡ option_map_or (λ (part : Array). part.dims) (slice_get maps place) [] =
+    → AllZip FitsDim (option_map_or (λ (part : Array). part.dims) (slice_get maps index) [])
+    (or_whole (option_map_or (λ (part : Array). part.dims) (slice_get maps index) []) (take 1 (drop index slabs)))
+map_fit array maps slabs index within gridded fits =
+    let at = map_at array maps index within gridded in
+    let dims : at.dim ∷ [] ≡ option_map_or (λ (part : Array). part.dims) (slice_get maps index) [] =
     sym (ap (λ (o : Option Array). option_map_or (λ (part : Array). part.dims) o []) at.part_is ∙ at.dims_are) in
-    subst (λ (l : List Dim). AllZip FitsDim l (or_whole l (take 1 (drop place slabs)))) dims
-    (one_fit array.dims slabs place at.dim fits at.dim_is)
+    subst (λ (l : List Dim). AllZip FitsDim l (or_whole l (take 1 (drop index slabs)))) dims
+    (one_fit array.dims slabs index at.dim fits at.dim_is)
 
 -- the slabs of a whole declaration, spread over its parts
 spread_fit : (decl : Decl) (name : List ℕ) (slabs : List Slab) (part : ℕ) → IsGridded decl
@@ -134,8 +134,8 @@ spread_fit (Plain array) name (slab ∷ slabs) zero gridded within rank range =
 spread_fit (Plain array) name (slab ∷ slabs) (suc part) gridded within rank range = absurd (omega arith)
 spread_fit (Grid label array maps) name (slab ∷ slabs) zero gridded within rank range =
     or_whole-fit name array.dims (slab ∷ slabs) rank range
-spread_fit (Grid label array maps) name (slab ∷ slabs) (suc place) gridded within rank range =
-    map_fit array maps (slab ∷ slabs) place (omega arith) gridded
+spread_fit (Grid label array maps) name (slab ∷ slabs) (suc index) gridded within rank range =
+    map_fit array maps (slab ∷ slabs) index (omega arith) gridded
     (or_whole-fit name array.dims (slab ∷ slabs) rank range)
 spread_fit (Structure label members) name (slab ∷ slabs) part gridded within rank range =
     elim (ranked name [] (slab ∷ slabs) rank) [

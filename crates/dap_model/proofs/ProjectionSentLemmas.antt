@@ -25,9 +25,9 @@ pub record PartSent (decls : List Decl) (clauses : List Clause) (sent : Sent) : 
   pub within : sent.part < length (parts_of decl)
   pub slabs_are : slabs_of clauses decl sent.part ≡ Some sent.slabs
 
--- a part that is sent of a declaration at a place
+-- a part that is sent of a declaration at an index
 record SentOf (clauses : List Clause) (placed : ℕ × Decl) (sent : Sent) : Type 0 where
-  place_is : sent.decl ≡ placed.0
+  index_is : sent.decl ≡ placed.0
   within : sent.part < length (parts_of placed.1)
   slabs_are : slabs_of clauses placed.1 sent.part ≡ Some sent.slabs
 
@@ -43,7 +43,7 @@ SentOf-sent_of clauses placed sent has =
     let part : s.item ≡ sent.part = ap (λ (t : Sent). t.part) slabs.2 in
     let within = within_range 0 (length (parts_of placed.1)) s.item s.has in
     record {
-      place_is = sym (ap (λ (t : Sent). t.decl) slabs.2);
+      index_is = sym (ap (λ (t : Sent). t.decl) slabs.2);
       within = omega (arith, within.1);
       slabs_are = ap (slabs_of clauses placed.1) (sym part) ∙ slabs.1 ∙ ap Some (ap (λ (t : Sent). t.slabs) slabs.2);
     }
@@ -56,8 +56,8 @@ Has-sent_of clauses placed sent s =
     (range_with_len 0 (length (parts_of placed.1))) sent.part sent
     (Has-range 0 (length (parts_of placed.1)) sent.part (omega arith) (omega (arith, s.within)))
     (ap (option_map (with_slabs placed.0 sent.part)) s.slabs_are
-    ∙ ap (λ (place : ℕ). Some (with_slabs place sent.part sent.slabs))
-    (sym s.place_is))
+    ∙ ap (λ (index : ℕ). Some (with_slabs index sent.part sent.slabs))
+    (sym s.index_is))
 
 -- each part that is sent has the facts of one
 pub PartSent-all_sent : (decls : List Decl) (clauses : List Clause) (sent : Sent)
@@ -67,10 +67,10 @@ PartSent-all_sent decls clauses sent has =
     let s = Source-flat_map (sent_of clauses) (enumerate_from 0 decls) sent has in
     let t = SentOf-sent_of clauses s.item sent s.gives in
     let numbered = slice_get-numbered 0 decls s.item s.has in
-    let place : sent.decl ≡ numbered.0 = omega (arith, t.place_is, numbered.1) in
+    let index : sent.decl ≡ numbered.0 = omega (arith, t.index_is, numbered.1) in
     record {
       decl = s.item.1;
-      decl_is = ap (slice_get decls) place
+      decl_is = ap (slice_get decls) index
           ∙ numbered.2;
       within = t.within;
       slabs_are = t.slabs_are;
@@ -81,10 +81,10 @@ pub Has-all_sent : (decls : List Decl) (clauses : List Clause) (sent : Sent) →
 unfolding all_sent
 Has-all_sent decls clauses sent s =
     Has-flat_map (sent_of clauses) (enumerate_from 0 decls) (sent.decl, s.decl) sent
-    (subst (λ (place : ℕ). Has (enumerate_from 0 decls) (place, s.decl)) (zero-add sent.decl)
+    (subst (λ (index : ℕ). Has (enumerate_from 0 decls) (index, s.decl)) (zero-add sent.decl)
     (Has-numbered 0 decls sent.decl s.decl s.decl_is))
     (Has-sent_of clauses (sent.decl, s.decl) sent
-    (record { place_is = refl; within = s.within; slabs_are = s.slabs_are }))
+    (record { index_is = refl; within = s.within; slabs_are = s.slabs_are }))
 
 -- what is sent where there is no clause is each part, whole
 pub whole_sent : (decls : List Decl) (sent : Sent) → PartSent decls [] sent ↔ IsWhole decls sent
@@ -151,7 +151,7 @@ AllPairs-all_sent decls clauses =
     (λ p q a b before first second.
     let s = SentOf-sent_of clauses p a first in
     let t = SentOf-sent_of clauses q b second in
-    inl (omega (arith, s.place_is, t.place_is)))
+    inl (omega (arith, s.index_is, t.index_is)))
 
 -- a clause among some without a fault is sound on the declaration that it names
 record SoundAt (decl : Decl) (clause : Clause) : Type 0 where

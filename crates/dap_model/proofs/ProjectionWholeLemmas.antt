@@ -32,10 +32,10 @@ part_whole : (decl : Decl) (numbered : ℕ × Array) → Has (enumerate_from 0 (
     → option_map (λ (slabs : List Slab). cut_array slabs numbered.1) (slabs_of [] decl numbered.0) ≡ Some numbered.1
 part_whole decl numbered has =
     let found = slice_get-numbered 0 (parts_of decl) numbered has in
-    let place : numbered.0 ≡ found.0 = found.1 ∙ zero-add found.0 in
+    let same : numbered.0 ≡ found.0 = found.1 ∙ zero-add found.0 in
     let dims : part_dims decl numbered.0 ≡ numbered.1.dims =
     ap (λ (o : Option Array). option_map_or (λ (array : Array). array.dims) o [])
-    (ap (slice_get (parts_of decl)) place ∙ found.2) in
+    (ap (slice_get (parts_of decl)) same ∙ found.2) in
     ap (option_map (λ (slabs : List Slab). cut_array slabs numbered.1)) (slabs_of-all decl numbered.0)
     ∙ ap (λ (each : List Dim). Some (cut_array (whole_slabs each) numbered.1)) dims
     ∙ ap Some (cut_array-whole numbered.1)

@@ -15,14 +15,14 @@ pub length-slab_indices : (slab : Slab) → length (slab_indices slab) ≡ slab_
 unfolding slab_indices
 length-slab_indices slab = length-map-range_with_len (slab_index slab) 0 (slab_count slab)
 
--- the index at a place of a slab
-pub get_or-slab_indices : (slab : Slab) (place d : ℕ) → place < slab_count slab
-    → get_or (slab_indices slab) place d ≡ slab_index slab place
+-- the index that lies some strides past a slab's start
+pub get_or-slab_indices : (slab : Slab) (strides d : ℕ) → strides < slab_count slab
+    → get_or (slab_indices slab) strides d ≡ slab_index slab strides
 unfolding slab_indices
-get_or-slab_indices slab place d within =
-    get_or-map-range_with_len (slab_index slab) 0 (slab_count slab) place place d within (omega arith)
+get_or-slab_indices slab strides d within =
+    get_or-map-range_with_len (slab_index slab) 0 (slab_count slab) strides strides d within (omega arith)
 
--- two places of a slab have two indices
+-- other strides lead to another index
 pub same_strides : (slab : Slab) (m n : ℕ) → HasStride slab → slab_index slab m ≡ slab_index slab n → m ≡ n
 same_strides slab m n some same =
     let products : m * slab.stride ≡ n * slab.stride = omega arith in
@@ -39,19 +39,19 @@ count_cases slab = elim (leb_tells slab.start slab.stop) [
 ]
 
 -- an index of a slab is picked
-pub Picks-slab_index : (slab : Slab) (place : ℕ) → HasStride slab → place < slab_count slab
-    → Picks slab (slab_index slab place)
-Picks-slab_index slab place some within = elim (count_cases slab) [
+pub Picks-slab_index : (slab : Slab) (strides : ℕ) → HasStride slab → strides < slab_count slab
+    → Picks slab (slab_index slab strides)
+Picks-slab_index slab strides some within = elim (count_cases slab) [
   | inl t ↦
-      let few : place ≤ (slab.stop - slab.start) / slab.stride = omega arith in
+      let few : strides ≤ (slab.stop - slab.start) / slab.stride = omega arith in
       let below = mul-le-mul_right slab.stride few in
       let split = div-add-mod' (slab.stop - slab.start) slab.stride in
       let start : slab.start ≤ slab.stop = t.0 in
-      record { from_start = omega arith; to_stop = omega arith; strides = place; whole = refl }
+      record { from_start = omega arith; to_stop = omega arith; strides = strides; whole = refl }
   | inr f ↦ absurd (omega (arith, f.1))
 ]
 
--- what a slab picks stands at the place of its strides
+-- what a slab picks lies fewer strides past its start than the slab has indices
 pub strides_within : (slab : Slab) (index : ℕ) → HasStride slab → (picks : Picks slab index)
     → picks.strides < slab_count slab
 strides_within slab index some picks = elim (count_cases slab) [
@@ -102,17 +102,17 @@ unfolding slab_count whole_slab
 slab_count-whole zero = refl
 slab_count-whole (suc n) = grind arith
 
-slab_index-whole : (size place : ℕ) → place < size → slab_index (whole_slab size) place ≡ place
+slab_index-whole : (size strides : ℕ) → strides < size → slab_index (whole_slab size) strides ≡ strides
 unfolding whole_slab
-slab_index-whole zero place within = absurd (omega arith)
-slab_index-whole (suc n) place within = grind arith
+slab_index-whole zero strides within = absurd (omega arith)
+slab_index-whole (suc n) strides within = grind arith
 
 pub slab_indices-whole : (size : ℕ) → slab_indices (whole_slab size) ≡ range_with_len 0 size
 slab_indices-whole size = same_number_lists _ _
     (length-slab_indices (whole_slab size) ∙ slab_count-whole size ∙ sym (length-range_with_len 0 size))
-    (λ place within.
-    let below : place < slab_count (whole_slab size) =
-    subst (λ (n : ℕ). place < n) (length-slab_indices (whole_slab size)) within in
-    let inside : place < size = subst (λ (n : ℕ). place < n) (slab_count-whole size) below in
-    get_or-slab_indices (whole_slab size) place 0 below ∙ slab_index-whole size place inside
-    ∙ sym (get_or-range_with_len 0 size place 0 inside ∙ zero-add place))
+    (λ strides within.
+    let below : strides < slab_count (whole_slab size) =
+    subst (λ (n : ℕ). strides < n) (length-slab_indices (whole_slab size)) within in
+    let inside : strides < size = subst (λ (n : ℕ). strides < n) (slab_count-whole size) below in
+    get_or-slab_indices (whole_slab size) strides 0 below ∙ slab_index-whole size strides inside
+    ∙ sym (get_or-range_with_len 0 size strides 0 inside ∙ zero-add strides))

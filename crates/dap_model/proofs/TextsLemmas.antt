@@ -13,43 +13,43 @@ use Rattle.dap_model.specs.Xdr.{text_bytes, texts_bytes, text_len, texts_len, xd
 use Rattle.dap_model.proofs.XdrLemmas.{length-text_bytes, length-texts, length-texts_bytes}
 
 -- a byte of a text
-get_or-texts_bytes : (texts : List (List ℕ)) (place offset : ℕ) → place < length texts
-    → offset < text_len (length (get_or texts place []))
-    → get_or (texts_bytes texts) (4 + (texts_len (take place texts) + offset)) 0 ≡ get_or
-    (text_bytes (get_or texts place [])) offset 0
+get_or-texts_bytes : (texts : List (List ℕ)) (index offset : ℕ) → index < length texts
+    → offset < text_len (length (get_or texts index []))
+    → get_or (texts_bytes texts) (4 + (texts_len (take index texts) + offset)) 0 ≡ get_or
+    (text_bytes (get_or texts index [])) offset 0
 unfolding texts_bytes
-get_or-texts_bytes texts place offset within inside =
-    let short : offset < length (text_bytes (get_or texts place [])) =
-    subst (λ (n : ℕ). offset < n) (sym (length-text_bytes (get_or texts place []))) inside in
+get_or-texts_bytes texts index offset within inside =
+    let short : offset < length (text_bytes (get_or texts index [])) =
+    subst (λ (n : ℕ). offset < n) (sym (length-text_bytes (get_or texts index []))) inside in
     get_or-append-add (to_be_bytes w32 (length texts)) (flat_map text_bytes texts)
-    (texts_len (take place texts) + offset) 0
-    ∙ ap (λ (n : ℕ). get_or (flat_map text_bytes texts) (n + offset) 0) (sym (length-texts (take place texts)))
-    ∙ get_or-flat_map text_bytes texts place offset [] 0 within short
+    (texts_len (take index texts) + offset) 0
+    ∙ ap (λ (n : ℕ). get_or (flat_map text_bytes texts) (n + offset) 0) (sym (length-texts (take index texts)))
+    ∙ get_or-flat_map text_bytes texts index offset [] 0 within short
 
 -- the bytes of a text lie in the array
-text_within : (texts : List (List ℕ)) (place offset : ℕ) → place < length texts
-    → offset < text_len (length (get_or texts place []))
-    → 4 + (texts_len (take place texts) + offset) < length (texts_bytes texts)
+text_within : (texts : List (List ℕ)) (index offset : ℕ) → index < length texts
+    → offset < text_len (length (get_or texts index []))
+    → 4 + (texts_len (take index texts) + offset) < length (texts_bytes texts)
 unfolding texts_len
-text_within texts place offset within inside =
+text_within texts index offset within inside =
     let size = λ (text : List ℕ). text_len (length text) in
-    let more = sum_by_more size texts place [] within in
-    let part = sum_by-take-le size texts (place + 1) in
+    let more = sum_by_more size texts index [] within in
+    let part = sum_by-take-le size texts (index + 1) in
     let whole = length-texts_bytes texts in
     omega arith
 
-pub slice_get-texts_bytes : (texts : List (List ℕ)) (place offset : ℕ) → place < length texts
-    → offset < text_len (length (get_or texts place []))
-    → slice_get (texts_bytes texts) (4 + (texts_len (take place texts) + offset)) ≡ slice_get
-    (text_bytes (get_or texts place [])) offset
-slice_get-texts_bytes texts place offset within inside =
-    let short : offset < length (text_bytes (get_or texts place [])) =
-    subst (λ (n : ℕ). offset < n) (sym (length-text_bytes (get_or texts place []))) inside in
-    slice_get-get_or (texts_bytes texts) _ 0 (text_within texts place offset within inside)
-    ∙ ap Some (get_or-texts_bytes texts place offset within inside)
-    ∙ sym (slice_get-get_or (text_bytes (get_or texts place [])) offset 0 short)
+pub slice_get-texts_bytes : (texts : List (List ℕ)) (index offset : ℕ) → index < length texts
+    → offset < text_len (length (get_or texts index []))
+    → slice_get (texts_bytes texts) (4 + (texts_len (take index texts) + offset)) ≡ slice_get
+    (text_bytes (get_or texts index [])) offset
+slice_get-texts_bytes texts index offset within inside =
+    let short : offset < length (text_bytes (get_or texts index [])) =
+    subst (λ (n : ℕ). offset < n) (sym (length-text_bytes (get_or texts index []))) inside in
+    slice_get-get_or (texts_bytes texts) _ 0 (text_within texts index offset within inside)
+    ∙ ap Some (get_or-texts_bytes texts index offset within inside)
+    ∙ sym (slice_get-get_or (text_bytes (get_or texts index [])) offset 0 short)
 
--- texts at the places of slabs are an array
+-- texts that slabs pick are an array
 pub texts_part : (slabs : List Slab) (bits : List ℕ → ℕ) (words : List ℕ → List ℕ) → slabs ≢ []
     → xdr_of Text (values_at Text slabs bits words) ≡ texts_bytes (map words (box_of slabs))
 unfolding xdr_of

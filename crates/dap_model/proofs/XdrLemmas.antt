@@ -40,19 +40,19 @@ length-pieces f width each (x ∷ xs) =
     length-append (f x) (flat_map f xs) ∙ ap₂ (λ (m n : ℕ). m + n) (each x) (length-pieces f width each xs)
     ∙ grind arith
 
-get_or-pieces : (f : ℕ → List ℕ) (width : ℕ) → ((x : ℕ) → length (f x) ≡ width) → (xs : List ℕ) (place offset : ℕ)
-    → place < length xs → offset < width
-    → get_or (flat_map f xs) (place * width + offset) 0 ≡ get_or (f (get_or xs place 0)) offset 0
-get_or-pieces f width each [] place offset within inside = absurd (omega arith)
+get_or-pieces : (f : ℕ → List ℕ) (width : ℕ) → ((x : ℕ) → length (f x) ≡ width) → (xs : List ℕ) (index offset : ℕ)
+    → index < length xs → offset < width
+    → get_or (flat_map f xs) (index * width + offset) 0 ≡ get_or (f (get_or xs index 0)) offset 0
+get_or-pieces f width each [] index offset within inside = absurd (omega arith)
 get_or-pieces f width each (x ∷ xs) zero offset within inside =
     ap (λ (n : ℕ). get_or (f x ++ flat_map f xs) n 0) (omega arith)
     ∙ get_or_append_left (f x) (flat_map f xs) 0 offset (subst (λ (n : ℕ). offset < n) (sym (each x)) inside)
-get_or-pieces f width each (x ∷ xs) (suc place) offset within inside =
+get_or-pieces f width each (x ∷ xs) (suc index) offset within inside =
     let count = each x in
-    let far : suc place * width + offset ≡ length (f x) + (place * width + offset) = grind arith in
+    let far : suc index * width + offset ≡ length (f x) + (index * width + offset) = grind arith in
     ap (λ (n : ℕ). get_or (f x ++ flat_map f xs) n 0) far
-    ∙ get_or-append-add (f x) (flat_map f xs) (place * width + offset) 0
-    ∙ get_or-pieces f width each xs place offset (omega arith) inside
+    ∙ get_or-append-add (f x) (flat_map f xs) (index * width + offset) 0
+    ∙ get_or-pieces f width each xs index offset (omega arith) inside
 
 -- no zero bytes stand after whole words
 no_zeros : (n : ℕ) → zeros_after (4 * n) ≡ []
@@ -109,24 +109,24 @@ length-array_bytes kind numbers =
     ∙ ap (λ (n : ℕ). 8 + n) (length-elements_bytes kind numbers)
 
 -- a byte of an element
-pub get_or-array_bytes : (kind : DapKind) (numbers : List ℕ) (place offset : ℕ) → place < length numbers
+pub get_or-array_bytes : (kind : DapKind) (numbers : List ℕ) (index offset : ℕ) → index < length numbers
     → offset < element_len kind
-    → get_or (array_bytes kind numbers) (8 + (place * element_len kind + offset)) 0 ≡ get_or
-    (element_bytes kind (get_or numbers place 0)) offset 0
+    → get_or (array_bytes kind numbers) (8 + (index * element_len kind + offset)) 0 ≡ get_or
+    (element_bytes kind (get_or numbers index 0)) offset 0
 unfolding array_bytes count_twice
-get_or-array_bytes kind numbers place offset within inside =
+get_or-array_bytes kind numbers index offset within inside =
     let pieces = flat_map (element_bytes kind) numbers in
     let zeros = zeros_after (length numbers * element_len kind) in
-    let at = place * element_len kind + offset in
+    let at = index * element_len kind + offset in
     let count = length-pieces (element_bytes kind) (element_len kind) (length-element_bytes kind) numbers in
     let short : at < length pieces =
     subst (λ (n : ℕ). at < n) (mul_comm (element_len kind) (length numbers) ∙ sym count)
-    (mul-add-lt place (element_len kind) offset (length numbers) within inside) in
+    (mul-add-lt index (element_len kind) offset (length numbers) within inside) in
     get_or-append-add (count_twice (length numbers)) (elements_bytes kind numbers) at 0
     ∙ ap (λ (l : List ℕ). get_or l at 0) (elements_laid kind numbers)
     ∙ get_or_append_left pieces zeros 0 at short
     ∙ get_or-pieces (element_bytes kind) (element_len kind)
-    (length-element_bytes kind) numbers place offset within inside
+    (length-element_bytes kind) numbers index offset within inside
 
 -- the length of a text in XDR
 pub length-text_bytes : (text : List ℕ) → length (text_bytes text) ≡ text_len (length text)
@@ -151,24 +151,24 @@ length-texts_bytes texts =
     ∙ ap (λ (n : ℕ). 4 + n) (length-texts texts)
 
 -- the bytes of an element lie in the array
-pub element_within : (kind : DapKind) (numbers : List ℕ) (place offset : ℕ) → place < length numbers
+pub element_within : (kind : DapKind) (numbers : List ℕ) (index offset : ℕ) → index < length numbers
     → offset < element_len kind
-    → 8 + (place * element_len kind + offset) < length (array_bytes kind numbers)
+    → 8 + (index * element_len kind + offset) < length (array_bytes kind numbers)
 unfolding elements_len
-element_within kind numbers place offset within inside =
-    let below = mul-add-lt place (element_len kind) offset (length numbers) within inside in
+element_within kind numbers index offset within inside =
+    let below = mul-add-lt index (element_len kind) offset (length numbers) within inside in
     let turned = mul_comm (element_len kind) (length numbers) in
     let whole = length-array_bytes kind numbers in
     omega arith
 
 -- a byte of an element, as what stands there
-pub slice_get-array_bytes : (kind : DapKind) (numbers : List ℕ) (place offset : ℕ) → place < length numbers
+pub slice_get-array_bytes : (kind : DapKind) (numbers : List ℕ) (index offset : ℕ) → index < length numbers
     → offset < element_len kind
-    → slice_get (array_bytes kind numbers) (8 + (place * element_len kind + offset)) ≡ slice_get
-    (element_bytes kind (get_or numbers place 0)) offset
-slice_get-array_bytes kind numbers place offset within inside =
-    let element = element_bytes kind (get_or numbers place 0) in
-    let short = subst (λ (n : ℕ). offset < n) (sym (length-element_bytes kind (get_or numbers place 0))) inside in
-    slice_get-get_or (array_bytes kind numbers) _ 0 (element_within kind numbers place offset within inside)
-    ∙ ap Some (get_or-array_bytes kind numbers place offset within inside)
+    → slice_get (array_bytes kind numbers) (8 + (index * element_len kind + offset)) ≡ slice_get
+    (element_bytes kind (get_or numbers index 0)) offset
+slice_get-array_bytes kind numbers index offset within inside =
+    let element = element_bytes kind (get_or numbers index 0) in
+    let short = subst (λ (n : ℕ). offset < n) (sym (length-element_bytes kind (get_or numbers index 0))) inside in
+    slice_get-get_or (array_bytes kind numbers) _ 0 (element_within kind numbers index offset within inside)
+    ∙ ap Some (get_or-array_bytes kind numbers index offset within inside)
     ∙ sym (slice_get-get_or element offset 0 short)

@@ -59,15 +59,15 @@ bytes_determine_array kind first second few less p q e =
     ∙ ap (take 4) e ∙ count_of kind second in
     let same = same_word (length first) (length second) few less counts in
     same_number_lists first second same
-    (λ place within.
-    let inside : place < length second = subst (λ (n : ℕ). place < n) same within in
-    let elements : element_bytes kind (get_or first place 0) ≡ element_bytes kind (get_or second place 0) =
+    (λ index within.
+    let inside : index < length second = subst (λ (n : ℕ). index < n) same within in
+    let elements : element_bytes kind (get_or first index 0) ≡ element_bytes kind (get_or second index 0) =
     same_number_lists _ _
-    (length-element_bytes kind (get_or first place 0) ∙ sym (length-element_bytes kind (get_or second place 0)))
+    (length-element_bytes kind (get_or first index 0) ∙ sym (length-element_bytes kind (get_or second index 0)))
     (λ offset below.
     let short : offset < element_len kind =
-    subst (λ (n : ℕ). offset < n) (length-element_bytes kind (get_or first place 0)) below in
-    sym (get_or-array_bytes kind first place offset within short)
-    ∙ ap (λ (l : List ℕ). get_or l (8 + (place * element_len kind + offset)) 0) e
-    ∙ get_or-array_bytes kind second place offset inside short) in
-    same_element kind (get_or first place 0) (get_or second place 0) (p place 0 within) (q place 0 inside) elements)
+    subst (λ (n : ℕ). offset < n) (length-element_bytes kind (get_or first index 0)) below in
+    sym (get_or-array_bytes kind first index offset within short)
+    ∙ ap (λ (l : List ℕ). get_or l (8 + (index * element_len kind + offset)) 0) e
+    ∙ get_or-array_bytes kind second index offset inside short) in
+    same_element kind (get_or first index 0) (get_or second index 0) (p index 0 within) (q index 0 inside) elements)

@@ -1,4 +1,4 @@
--- The places that slabs pick out of an array (ESE-RFC-004, constraint expressions).
+-- The elements that slabs pick out of an array (ESE-RFC-004, constraint expressions).
 use Rattle.std.specs.Prelude.{◌≡◌, ℕ, ◌+◌, ◌-◌, ◌*◌, ◌/◌, ◌%◌, ◌≤◌, List, [], ◌∷◌, map, nat_le, ◌==◌, if◌then◌else◌}
 use Rattle.std.specs.List.{flat_map, range_with_len}
 use Rattle.nc_model.specs.Layout.{product}
@@ -8,9 +8,9 @@ use Rattle.dap_model.specs.declared.projection.Slab.{Slab}
 unfoldable pub slab_count : Slab → ℕ
 slab_count slab = if nat_le slab.start slab.stop then (slab.stop - slab.start) / slab.stride + 1 else 0
 
--- the index at a place of a slab: that number of strides past the start
+-- the index that lies some strides past a slab's start
 abbrev pub slab_index : Slab → ℕ → ℕ
-slab_index slab place = slab.start + place * slab.stride
+slab_index slab strides = slab.start + strides * slab.stride
 
 -- the indices of a slab: start, start + stride, and so on while at most stop
 unfoldable pub slab_indices : Slab → List ℕ
@@ -25,10 +25,10 @@ box_of (slab ∷ slabs) = flat_map (λ (i : ℕ). map (λ (index : List ℕ). i 
 unfoldable pub box_len : List Slab → ℕ
 box_len slabs = product (map slab_count slabs)
 
--- the index list at a place of a box, by division
+-- the index list of an element of a box, by division
 unfoldable pub index_at : List Slab → ℕ → List ℕ
-index_at [] place = []
-index_at (slab ∷ slabs) place = slab_index slab (place / box_len slabs) ∷ index_at slabs (place % box_len slabs)
+index_at [] element = []
+index_at (slab ∷ slabs) element = slab_index slab (element / box_len slabs) ∷ index_at slabs (element % box_len slabs)
 
 -- the slab of a whole dimension; it has no index where the size is 0
 unfoldable pub whole_slab : ℕ → Slab
@@ -46,7 +46,7 @@ pub record Picks (slab : Slab) (index : ℕ) : Type 0 where
   pub strides : ℕ
   pub whole : index ≡ slab.start + strides * slab.stride
 
--- each slab picks the index at its place
+-- each slab picks the index of its dimension
 abbrev pub EachPicks : List Slab → List ℕ → Type 0
 EachPicks [] [] = Unit {0}
 EachPicks (slab ∷ slabs) (i ∷ index) = Picks slab i × EachPicks slabs index

@@ -26,10 +26,10 @@ is_within size slab = nat_le 1 slab.stride && nat_le slab.start slab.stop && nat
 
 -- the first slab, from this dimension on, that doesn't lie within the size of its dimension
 unfoldable pub range_fault : List ℕ → ℕ → List Dim → List Slab → Option ProjectFault
-range_fault name place [] slabs = None
-range_fault name place (dim ∷ dims) [] = None
-range_fault name place (dim ∷ dims) (slab ∷ slabs) =
-    if is_within dim.size slab then range_fault name (place + 1) dims slabs else Some (SlabRange name place dim.size)
+range_fault name index [] slabs = None
+range_fault name index (dim ∷ dims) [] = None
+range_fault name index (dim ∷ dims) (slab ∷ slabs) =
+    if is_within dim.size slab then range_fault name (index + 1) dims slabs else Some (SlabRange name index dim.size)
 
 -- whether two slabs have the same three numbers
 abbrev pub is_same_slab : Slab → Slab → Bool

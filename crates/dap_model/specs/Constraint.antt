@@ -65,16 +65,16 @@ pub record BeginsConstraint (text : List ℕ) : Type 0 where
   pub clauses : List Clause
   pub spelled : Constrains (text ++ rest) clauses
 
--- the text before the place is a constraint, and `&` stands there
+-- the text before the offset is a constraint, and `&` stands there
 pub record IsSelection (text : List ℕ) (at : ℕ) : Type 0 where
   pub clauses : List Clause
   pub before : Constrains (take at text) clauses
   pub mark : slice_get text at ≡ Some 38
 
--- the text is no constraint and has no selection, and the place is the greatest up to which some constraint begins so
+-- the text is no constraint and has no selection, and the offset is the greatest up to which some constraint begins so
 pub record IsBadConstraint (text : List ℕ) (at : ℕ) : Type 0 where
   pub no_constraint : (clauses : List Clause) → Constrains text clauses → ⊥
-  pub no_selection : (place : ℕ) → IsSelection text place → ⊥
+  pub no_selection : (offset : ℕ) → IsSelection text offset → ⊥
   pub within : at ≤ length text
   pub begun : BeginsConstraint (take at text)
   pub greatest : (more : ℕ) → at < more → more ≤ length text → BeginsConstraint (take more text) → ⊥

@@ -1,4 +1,4 @@
--- Reading a constraint byte by byte, with the place of its fault.
+-- Reading a constraint byte by byte, with the offset of its fault.
 use Rattle.std.specs.Prelude.{ℕ, ◌+◌, ◌-◌, ◌*◌, List, [], ◌∷◌, ◌++◌, length, Bool, true, false, ◌&&◌, ◌==◌, nat_lt, if◌then◌else◌, Option, Some, None, Result, Ok, Err}
 use Rattle.std.specs.Char.{is_ascii_digit}
 use Rattle.std.specs.Option.{option_map, option_map_or}
@@ -101,7 +101,7 @@ clauses_at (after_slab begun) = Some (clauses_of begun)
 abbrev pub may_end : State → Bool
 may_end state = option_map_or (λ clauses. true) (clauses_at state) false
 
--- the fault of a byte at a place, after which no constraint goes on
+-- the fault of a byte at an offset, after which no constraint goes on
 abbrev pub fault_at : State → ℕ → ℕ → CeFault
 fault_at state at byte = if byte == 38 && may_end state then Selection at else BadConstraint at
 
@@ -110,7 +110,7 @@ abbrev pub ended_at : ℕ → Option (List Clause) → Result (List Clause) CeFa
 ended_at at None = Err (BadConstraint at)
 ended_at at (Some clauses) = Ok clauses
 
--- what the rest of a text gives from a place on
+-- what the rest of a text gives from an offset on
 unfoldable pub read_from : State → ℕ → List ℕ → Result (List Clause) CeFault
 read_from state at [] = ended_at at (clauses_at state)
 read_from state at (byte ∷ rest) =

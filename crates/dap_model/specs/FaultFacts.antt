@@ -17,17 +17,17 @@ written_path clause = join_with_byte 46 clause.path
 
 -- the first declaration of a dataset that a path names, or names a part of
 pub record IsNamedBy (decls : List Decl) (path : List (List ℕ)) (decl : Decl) : Type 0 where
-  pub place : ℕ
-  pub decl_is : slice_get decls place ≡ Some decl
+  pub index : ℕ
+  pub decl_is : slice_get decls index ≡ Some decl
   pub names : Names decl path
-  pub first : (before : ℕ) (other : Decl) → before < place → slice_get decls before ≡ Some other → Names other path → ⊥
+  pub first : (before : ℕ) (other : Decl) → before < index → slice_get decls before ≡ Some other → Names other path → ⊥
 
 -- the first of some parts that has a name
 pub record IsPartNamed (parts : List Array) (name : List ℕ) (part : Array) : Type 0 where
-  pub place : ℕ
-  pub part_is : slice_get parts place ≡ Some part
+  pub index : ℕ
+  pub part_is : slice_get parts index ≡ Some part
   pub name_is : part.name ≡ name
-  pub first : (before : ℕ) (other : Array) → before < place → slice_get parts before ≡ Some other → other.name ≢ name
+  pub first : (before : ℕ) (other : Array) → before < index → slice_get parts before ≡ Some other → other.name ≢ name
 
 -- the dimensions of what a path names: those of the declaration, or those of its part of a name
 abbrev pub HasDims : Decl → List (List ℕ) → List Dim → Type 0
@@ -48,21 +48,21 @@ pub record LiesBelow (size : ℕ) (slab : Slab) : Type 0 where
   pub ordered : slab.start ≤ slab.stop
   pub below : slab.stop < size
 
--- each slab lies within the dimension at its place
+-- each slab lies within the dimension at its index
 abbrev pub LieWithin : List Dim → List Slab → Type 0
 LieWithin dims slabs =
-    (place : ℕ) (dim : Dim) (slab : Slab) → slice_get dims place ≡ Some dim → slice_get slabs place ≡ Some slab
+    (index : ℕ) (dim : Dim) (slab : Slab) → slice_get dims index ≡ Some dim → slice_get slabs index ≡ Some slab
     → LiesBelow dim.size slab
 
--- the slab at a place doesn't lie within its dimension, which has this size, and each before it does
-pub record IsFirstOutside (dims : List Dim) (slabs : List Slab) (place size : ℕ) : Type 0 where
+-- the slab at an index doesn't lie within its dimension, which has this size, and each before it does
+pub record IsFirstOutside (dims : List Dim) (slabs : List Slab) (index size : ℕ) : Type 0 where
   pub dim : Dim
   pub slab : Slab
-  pub dim_is : slice_get dims place ≡ Some dim
-  pub slab_is : slice_get slabs place ≡ Some slab
+  pub dim_is : slice_get dims index ≡ Some dim
+  pub slab_is : slice_get slabs index ≡ Some slab
   pub size_is : dim.size ≡ size
   pub outside : LiesBelow size slab → ⊥
-  pub others : (before : ℕ) (dim : Dim) (slab : Slab) → before < place
+  pub others : (before : ℕ) (dim : Dim) (slab : Slab) → before < index
       → slice_get dims before ≡ Some dim → slice_get slabs before ≡ Some slab → LiesBelow dim.size slab
 
 -- an earlier clause gives a part of the declaration other slabs than this one does
@@ -94,15 +94,15 @@ pub record HasOtherRank (decls : List Decl) (clause : Clause) (name : List ℕ) 
   pub some : got ≢ 0
   pub apart : got ≢ rank
 
--- there are as many slabs as dimensions, and the slab at the place is the first outside
-pub record IsOutOfRange (decls : List Decl) (clause : Clause) (name : List ℕ) (place size : ℕ) : Type 0 where
+-- there are as many slabs as dimensions, and the slab at the index is the first outside
+pub record IsOutOfRange (decls : List Decl) (clause : Clause) (name : List ℕ) (index size : ℕ) : Type 0 where
   pub decl : Decl
   pub dims : List Dim
   pub named : IsNamedBy decls clause.path decl
   pub has : HasDims decl clause.path dims
   pub name_is : name ≡ written_path clause
   pub rank : HasRank dims clause
-  pub outside : IsFirstOutside dims clause.slabs place size
+  pub outside : IsFirstOutside dims clause.slabs index size
 
 -- the slabs fit what is named, and an earlier clause gives a part of the declaration other ones
 pub record IsInConflict (decls : List Decl) (earlier : List Clause) (clause : Clause) (name : List ℕ) : Type 0 where
@@ -129,5 +129,5 @@ pub record HasNoClauseFault (decls : List Decl) (earlier : List Clause) (clause 
 abbrev pub HasClauseFault : List Decl → List Clause → Clause → ProjectFault → Type 0
 HasClauseFault decls earlier clause (NoSuchVariable name) = IsUnknown decls clause name
 HasClauseFault decls earlier clause (SlabRank name got rank) = HasOtherRank decls clause name got rank
-HasClauseFault decls earlier clause (SlabRange name place size) = IsOutOfRange decls clause name place size
+HasClauseFault decls earlier clause (SlabRange name index size) = IsOutOfRange decls clause name index size
 HasClauseFault decls earlier clause (SlabConflict name) = IsInConflict decls earlier clause name

@@ -29,11 +29,11 @@ unfoldable pub slabs_of : List Clause → Decl → ℕ → Option (List Slab)
 slabs_of clauses decl part =
     slice_get (filter_map (λ (each : Clause). given_by decl each part) (clauses_for clauses decl)) 0
 
--- a part, by the place of its declaration and its own, with its slabs
+-- a part, by the index of its declaration and its own, with its slabs
 abbrev pub with_slabs : ℕ → ℕ → List Slab → Sent
 with_slabs decl part slabs = record { decl = decl; part = part; slabs = slabs }
 
--- the parts of a declaration that are sent, by its place in the dataset
+-- the parts of a declaration that are sent, by its index in the dataset
 unfoldable pub sent_of : List Clause → ℕ × Decl → List Sent
 sent_of clauses placed =
     filter_map (λ (part : ℕ). option_map (with_slabs placed.0 part) (slabs_of clauses placed.1 part))

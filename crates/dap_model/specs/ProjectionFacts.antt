@@ -72,20 +72,20 @@ pub record FitsPart (decls : List Decl) (sent : Sent) : Type 0 where
   pub decl_is : slice_get decls sent.decl ≡ Some decl
   pub fits : AllZip FitsDim (part_dims decl sent.part) sent.slabs
 
--- the clause at this place has this fault, and no clause before it has one
+-- the clause at this index has this fault, and no clause before it has one
 pub record IsFirstFault (decls : List Decl) (clauses : List Clause) (fault : ProjectFault) : Type 0 where
-  pub place : ℕ
+  pub index : ℕ
   pub clause : Clause
-  pub clause_is : slice_get clauses place ≡ Some clause
-  pub fault_is : clause_fault decls (take place clauses) clause ≡ Some fault
-  pub none_before : (before : ℕ) (other : Clause) → before < place → slice_get clauses before ≡ Some other
+  pub clause_is : slice_get clauses index ≡ Some clause
+  pub fault_is : clause_fault decls (take index clauses) clause ≡ Some fault
+  pub none_before : (before : ℕ) (other : Clause) → before < index → slice_get clauses before ≡ Some other
       → clause_fault decls (take before clauses) other ≡ None
 
 -- no clause has a fault
 abbrev pub HasNoFault : List Decl → List Clause → Type 0
 HasNoFault decls clauses =
-    (place : ℕ) (clause : Clause) → slice_get clauses place ≡ Some clause
-    → clause_fault decls (take place clauses) clause ≡ None
+    (index : ℕ) (clause : Clause) → slice_get clauses index ≡ Some clause
+    → clause_fault decls (take index clauses) clause ≡ None
 
 -- an array that is sent is the part of the dataset with the lengths that the slabs leave
 pub record IsCut (decls : List Decl) (array : Array) (sent : Sent) : Type 0 where

@@ -112,12 +112,12 @@ xdr_of kind (numbers bits) = array_bytes kind bits
 xdr_of kind (text bytes) = text_bytes bytes
 xdr_of kind (texts each) = texts_bytes each
 
--- the numbers at the places of slabs, or one where there is no dimension
+-- the numbers that slabs pick, or one where there is no dimension
 abbrev pub numbers_at : List Slab → (List ℕ → ℕ) → Values
 numbers_at [] bits = number (bits [])
 numbers_at slabs bits = numbers (map bits (box_of slabs))
 
--- the texts at the places of slabs, or one where there is no dimension
+-- the texts that slabs pick, or one where there is no dimension
 abbrev pub texts_at : List Slab → (List ℕ → List ℕ) → Values
 texts_at [] words = text (words [])
 texts_at slabs words = texts (map words (box_of slabs))

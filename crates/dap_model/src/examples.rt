@@ -22,7 +22,7 @@ pub fn slabs()
     ensures turned { slab_indices (record { start = 1; stride = 1; stop = 0 }) ≡ [] }
 {}
 
-/// The box of two slabs, the last index varying fastest, and the place of one of its index lists.
+/// The box of two slabs, the last index varying fastest, and the index list of one of its elements.
 pub fn boxes()
     ensures none { box_of [] ≡ [] ∷ [] }
     ensures rows { box_of (record { start = 0; stride = 2; stop = 2 }
@@ -86,7 +86,7 @@ pub fn constraints()
         } ∷ []) }
 {}
 
-/// Texts that are no constraints, with the place up to which some constraint begins so.
+/// Texts that are no constraints, with the offset up to which some constraint begins so.
 pub fn constraint_faults()
     ensures selection { constraint_of (codes "t&x>1") ≡ Err (CeFault.Selection 1) }
     ensures only_selection { constraint_of (codes "&x>1") ≡ Err (CeFault.Selection 0) }

@@ -4,12 +4,12 @@ ghost use Rattle.dap_model.specs.Code.{ce_code, project_code};
 
 use fm_base::Bytes;
 
-/// What is wrong with the text of a constraint, with a place in it counted from 0.
+/// What is wrong with the text of a constraint, with an offset in it counted from 0.
 #[derive(Clone, Copy)]
 pub enum CeFault {
-    /// Up to this place some constraint begins so, and not up to any later place.
+    /// Up to this offset some constraint begins so, and not up to any later offset.
     BadConstraint(u64),
-    /// A constraint ends at this place and `&` stands there: selections aren't taken.
+    /// A constraint ends at this offset and `&` stands there: selections aren't taken.
     Selection(u64),
 }
 

@@ -3,7 +3,7 @@
 use crate::declaration::Decl;
 use fm_base::{Bytes, List};
 
-/// Some of the places along one dimension: `start`, `start + stride` and so on, up to `stop`.
+/// Some of the indices along one dimension: `start`, `start + stride` and so on, up to `stop`.
 #[derive(Clone, Copy, PartialEq, Eq)]
 pub struct Slab {
     pub start: u64,
@@ -24,7 +24,7 @@ pub struct Projection {
     pub clauses: List<Clause>,
 }
 
-/// A part of a declaration that is sent, with a slab for each of its dimensions. The declaration is named by its place
+/// A part of a declaration that is sent, with a slab for each of its dimensions. The declaration is named by its index
 /// in the dataset; part 0 is its array, and part `i` the `i`-th map from 1.
 #[derive(Drop)]
 pub struct Sent {

@@ -10,55 +10,55 @@ use Rattle.dap_xdr.specs.Content.{data_of, part_data, Content}
 use Rattle.dap_number.specs.Overlay.{overlay, IsPut}
 use Rattle.dap_number.proofs.FrontLemmas.{drop-both, put-behind, put-full, put-long}
 
--- the data of the parts before a place
+-- the data of the parts before an index
 abbrev pub data_before : Content → List Sent → ℕ → List ℕ
-data_before content sent place = data_of content (take place sent)
+data_before content sent index = data_of content (take index sent)
 
 -- the data so far is written, as far as it fits, and `left` bytes of the next part are to be passed over
-pub record DataSoFar (content : Content) (sent : List Sent) (from filled place left : ℕ) (old now : List ℕ)
+pub record DataSoFar (content : Content) (sent : List Sent) (from filled index left : ℕ) (old now : List ℕ)
     : Type 0 where
-  pub put_is : IsPut (drop from (data_before content sent place)) old now filled
-  pub left_is : place < length sent → left ≡ from - length (data_before content sent place)
+  pub put_is : IsPut (drop from (data_before content sent index)) old now filled
+  pub left_is : index < length sent → left ≡ from - length (data_before content sent index)
 
--- the part at a place ends behind an offset, unless it is the last
+-- the part at an index ends behind an offset, unless it is the last
 abbrev pub EndsBehind : Content → List Sent → ℕ → ℕ → Type 0
-EndsBehind content sent from place =
-    place + 1 < length sent → from < length (data_before content sent (place + 1))
+EndsBehind content sent from index =
+    index + 1 < length sent → from < length (data_before content sent (index + 1))
 
 -- one part more
-pub data-more : (content : Content) (sent : List Sent) (place : ℕ) (part : Sent) → place < length sent
-    → part ≡ get_or sent place part
-    → data_before content sent (place + 1) ≡ data_before content sent place ++ part_data content part
+pub data-more : (content : Content) (sent : List Sent) (index : ℕ) (part : Sent) → index < length sent
+    → part ≡ get_or sent index part
+    → data_before content sent (index + 1) ≡ data_before content sent index ++ part_data content part
 unfolding data_of
-data-more content sent place part within is =
-    let next : place + 1 ≡ suc place = omega arith in
+data-more content sent index part within is =
+    let next : index + 1 ≡ suc index = omega arith in
     ap (λ (n : ℕ). flat_map (part_data content) (take n sent)) next
-    ∙ ap (flat_map (part_data content)) (take-suc sent place part within)
-    ∙ flat_map-append (part_data content) (take place sent) (get_or sent place part ∷ [])
-    ∙ ap (λ (l : List ℕ). data_before content sent place ++ l)
-    (append-nil (part_data content (get_or sent place part)) ∙ ap (part_data content) (sym is))
+    ∙ ap (flat_map (part_data content)) (take-suc sent index part within)
+    ∙ flat_map-append (part_data content) (take index sent) (get_or sent index part ∷ [])
+    ∙ ap (λ (l : List ℕ). data_before content sent index ++ l)
+    (append-nil (part_data content (get_or sent index part)) ∙ ap (part_data content) (sym is))
 
--- all data is that of the parts before a place and of those from there on
-pub data-split : (content : Content) (sent : List Sent) (place : ℕ)
-    → data_of content sent ≡ data_before content sent place ++ data_of content (drop place sent)
+-- all data is that of the parts before an index and of those from there on
+pub data-split : (content : Content) (sent : List Sent) (index : ℕ)
+    → data_of content sent ≡ data_before content sent index ++ data_of content (drop index sent)
 unfolding data_of
-data-split content sent place =
-    ap (flat_map (part_data content)) (sym (take-append-drop place sent))
-    ∙ flat_map-append (part_data content) (take place sent) (drop place sent)
+data-split content sent index =
+    ap (flat_map (part_data content)) (sym (take-append-drop index sent))
+    ∙ flat_map-append (part_data content) (take index sent) (drop index sent)
 
 -- the data of all parts
-pub data-whole : (content : Content) (sent : List Sent) (place : ℕ) → length sent ≤ place
-    → data_before content sent place ≡ data_of content sent
-data-whole content sent place past = ap (data_of content) (take_all place sent past)
+pub data-whole : (content : Content) (sent : List Sent) (index : ℕ) → length sent ≤ index
+    → data_before content sent index ≡ data_of content sent
+data-whole content sent index past = ap (data_of content) (take_all index sent past)
 
--- the data before a place is no longer than all data
-pub before-small : (content : Content) (sent : List Sent) (place bound : ℕ) → length (data_of content sent) < bound
-    → length (data_before content sent place) < bound
-before-small content sent place bound small = omega (
+-- the data before an index is no longer than all data
+pub before-small : (content : Content) (sent : List Sent) (index bound : ℕ) → length (data_of content sent) < bound
+    → length (data_before content sent index) < bound
+before-small content sent index bound small = omega (
   arith,
   small,
-  ap length (data-split content sent place),
-  length-append (data_before content sent place) (data_of content (drop place sent)),
+  ap length (data-split content sent index),
+  length-append (data_before content sent index) (data_of content (drop index sent)),
 )
 
 -- before a later part there is no less data
@@ -72,26 +72,26 @@ before-rise content sent i j le = omega (
 )
 
 -- the next part ends behind the offset, too
-pub ends-next : (content : Content) (sent : List Sent) (from place : ℕ) → EndsBehind content sent from place
-    → EndsBehind content sent from (place + 1)
-ends-next content sent from place ends = λ within. omega (
+pub ends-next : (content : Content) (sent : List Sent) (from index : ℕ) → EndsBehind content sent from index
+    → EndsBehind content sent from (index + 1)
+ends-next content sent from index ends = λ within. omega (
   arith,
   ends (omega (arith, within)),
-  before-rise content sent (place + 1) (place + 1 + 1) (omega arith),
+  before-rise content sent (index + 1) (index + 1 + 1) (omega arith),
 )
 
 -- the data of a part is no longer than that of all
-pub part-small : (content : Content) (sent : List Sent) (place bound : ℕ) (part : Sent) → place < length sent
-    → part ≡ get_or sent place part → length (data_of content sent) < bound
+pub part-small : (content : Content) (sent : List Sent) (index bound : ℕ) (part : Sent) → index < length sent
+    → part ≡ get_or sent index part → length (data_of content sent) < bound
     → length (part_data content part) < bound
-part-small content sent place bound part within is small =
+part-small content sent index bound part within is small =
     omega (
       arith,
       small,
-      ap length (data-split content sent (place + 1)),
-      length-append (data_before content sent (place + 1)) (data_of content (drop (place + 1) sent)),
-      ap length (data-more content sent place part within is),
-      length-append (data_before content sent place) (part_data content part),
+      ap length (data-split content sent (index + 1)),
+      length-append (data_before content sent (index + 1)) (data_of content (drop (index + 1) sent)),
+      ap length (data-more content sent index part within is),
+      length-append (data_before content sent index) (part_data content part),
     )
 
 -- nothing is left of the data of a part behind its end
@@ -113,16 +113,16 @@ piece-put bytes old new from count many written = record {
 }
 
 -- the next part, of which nothing is passed over
-pub data-next : (content : Content) (sent : List Sent) (from filled place left count : ℕ) (part : Sent)
+pub data-next : (content : Content) (sent : List Sent) (from filled index left count : ℕ) (part : Sent)
     (old now front back rest : List ℕ)
-    → DataSoFar content sent from filled place left old now → EndsBehind content sent from place → place < length sent
-    → part ≡ get_or sent place part → now ≡ front ++ back → length front ≡ filled
+    → DataSoFar content sent from filled index left old now → EndsBehind content sent from index → index < length sent
+    → part ≡ get_or sent index part → now ≡ front ++ back → length front ≡ filled
     → IsPut (drop left (part_data content part)) back rest count
-    → DataSoFar content sent from (filled + count) (place + 1) 0 old (front ++ rest)
-data-next content sent from filled place left count part old now front back rest so ends within is split long put =
-    let before = data_before content sent place in
-    let more : before ++ part_data content part ≡ data_before content sent (place + 1) =
-    sym (data-more content sent place part within is) in
+    → DataSoFar content sent from (filled + count) (index + 1) 0 old (front ++ rest)
+data-next content sent from filled index left count part old now front back rest so ends within is split long put =
+    let before = data_before content sent index in
+    let more : before ++ part_data content part ≡ data_before content sent (index + 1) =
+    sym (data-more content sent index part within is) in
     let many : filled ≡ min (length old) (length before - from) =
     so.put_is.count_is ∙ ap (λ (m : ℕ). min (length old) m) (length-drop from before) in
     record {
@@ -133,22 +133,22 @@ data-next content sent from filled place left count part old now front back rest
     }
 
 -- where the buffer is full
-pub data-full : (content : Content) (sent : List Sent) (from filled place left : ℕ) (old now : List ℕ)
-    → DataSoFar content sent from filled place left old now → length now ≤ filled
+pub data-full : (content : Content) (sent : List Sent) (from filled index left : ℕ) (old now : List ℕ)
+    → DataSoFar content sent from filled index left old now → length now ≤ filled
     → IsPut (drop from (data_of content sent)) old now filled
-data-full content sent from filled place left old now so full =
+data-full content sent from filled index left old now so full =
     subst (λ (l : List ℕ). IsPut l old now filled)
-    (sym (ap (drop from) (data-split content sent place)
-    ∙ drop-both (data_before content sent place) (data_of content (drop place sent)) from))
-    (put-full (drop from (data_before content sent place)) _ old now filled so.put_is
+    (sym (ap (drop from) (data-split content sent index)
+    ∙ drop-both (data_before content sent index) (data_of content (drop index sent)) from))
+    (put-full (drop from (data_before content sent index)) _ old now filled so.put_is
     (subst (λ (m : ℕ). m ≤ filled) (put-long _ old now filled so.put_is) full))
 
 -- where no part is left
-pub data-done : (content : Content) (sent : List Sent) (from filled place left : ℕ) (old now : List ℕ)
-    → DataSoFar content sent from filled place left old now → length sent ≤ place
+pub data-done : (content : Content) (sent : List Sent) (from filled index left : ℕ) (old now : List ℕ)
+    → DataSoFar content sent from filled index left old now → length sent ≤ index
     → IsPut (drop from (data_of content sent)) old now filled
-data-done content sent from filled place left old now so past =
-    subst (λ (l : List ℕ). IsPut (drop from l) old now filled) (data-whole content sent place past) so.put_is
+data-done content sent from filled index left old now so past =
+    subst (λ (l : List ℕ). IsPut (drop from l) old now filled) (data-whole content sent index past) so.put_is
 
 -- before the first part there is no data
 pub data-none : (content : Content) (sent : List Sent) → length (data_before content sent 0) ≡ 0
@@ -156,28 +156,28 @@ unfolding data_of
 data-none content sent = refl
 
 -- the data with one part more
-pub data-longer : (content : Content) (sent : List Sent) (place len : ℕ) (part : Sent) → place < length sent
-    → part ≡ get_or sent place part → len ≡ length (part_data content part)
-    → length (data_before content sent (place + 1)) ≡ length (data_before content sent place) + len
-data-longer content sent place len part within is len_is = omega (
+pub data-longer : (content : Content) (sent : List Sent) (index len : ℕ) (part : Sent) → index < length sent
+    → part ≡ get_or sent index part → len ≡ length (part_data content part)
+    → length (data_before content sent (index + 1)) ≡ length (data_before content sent index) + len
+data-longer content sent index len part within is len_is = omega (
   arith,
   len_is,
-  ap length (data-more content sent place part within is),
-  length-append (data_before content sent place) (part_data content part),
+  ap length (data-more content sent index part within is),
+  length-append (data_before content sent index) (part_data content part),
 )
 
 -- what is left of the data within a part begins with what is left of the part
-pub data-lent : (content : Content) (sent : List Sent) (place from left : ℕ) (part : Sent) (lent : List ℕ)
-    → place < length sent → part ≡ get_or sent place part
-    → left + length (data_before content sent place) ≡ from → left ≤ length (part_data content part)
+pub data-lent : (content : Content) (sent : List Sent) (index from left : ℕ) (part : Sent) (lent : List ℕ)
+    → index < length sent → part ≡ get_or sent index part
+    → left + length (data_before content sent index) ≡ from → left ≤ length (part_data content part)
     → take (length lent) (drop left (part_data content part)) ≡ lent
     → take (length lent) (drop from (data_of content sent)) ≡ lent
-data-lent content sent place from left part lent within is passed inside front =
-    let before = data_before content sent place in
+data-lent content sent index from left part lent within is passed inside front =
+    let before = data_before content sent index in
     let bytes = part_data content part in
-    let after = data_of content (drop (place + 1) sent) in
+    let after = data_of content (drop (index + 1) sent) in
     let all : data_of content sent ≡ before ++ (bytes ++ after) =
-    data-split content sent (place + 1) ∙ ap (λ (l : List ℕ). l ++ after) (data-more content sent place part within is)
+    data-split content sent (index + 1) ∙ ap (λ (l : List ℕ). l ++ after) (data-more content sent index part within is)
     ∙ append_assoc before bytes after in
     let reached : drop from (data_of content sent) ≡ drop left bytes ++ after =
     ap (drop from) all ∙ ap (λ (n : ℕ). drop n (before ++ (bytes ++ after))) (omega (arith, passed))
@@ -196,13 +196,13 @@ lent-past bytes rest lent left past front =
     rw empty refl
 
 -- what is lent of a part is a front of the data from the offset on
-pub data-lent-any : (content : Content) (sent : List Sent) (place from left : ℕ) (part : Sent) (lent : List ℕ)
-    → place < length sent → part ≡ get_or sent place part → left + length (data_before content sent place) ≡ from
+pub data-lent-any : (content : Content) (sent : List Sent) (index from left : ℕ) (part : Sent) (lent : List ℕ)
+    → index < length sent → part ≡ get_or sent index part → left + length (data_before content sent index) ≡ from
     → take (length lent) (drop left (part_data content part)) ≡ lent
     → take (length lent) (drop from (data_of content sent)) ≡ lent
-data-lent-any content sent place from left part lent within is passed front =
+data-lent-any content sent index from left part lent within is passed front =
     elim (cases_lt left (length (part_data content part))) [
-      | inl inside ↦ data-lent content sent place from left part lent within is passed (omega (arith, inside)) front
+      | inl inside ↦ data-lent content sent index from left part lent within is passed (omega (arith, inside)) front
       | inr past ↦
           lent-past (part_data content part) (drop from (data_of content sent)) lent left (omega (arith, past)) front
     ]

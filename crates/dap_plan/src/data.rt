@@ -28,16 +28,16 @@ pub(crate) fn put_data(
     let begins = laid.begins.as_slice();
     let marks = laid.marks.as_slice();
     let at = part_at(begins, from);
-    let mut place = at.place;
+    let mut index = at.index;
     let mut left = at.left;
     let mut filled = 0;
-    while place < sent.len() && filled < out.len() {
-        let part = &sent[place];
-        let known = marks_at(marks, place);
+    while index < sent.len() && filled < out.len() {
+        let part = &sent[index];
+        let known = marks_at(marks, index);
         let (_, rest) = out.split_at_mut(filled);
         filled += xdr_piece_marked(source, part, known, left, rest);
         left = 0;
-        place += 1;
+        index += 1;
     }
     filled
 }
@@ -51,10 +51,10 @@ pub(crate) fn lent_data<'a>(source: &'a Dataset, sent: &[Sent], laid: &Laid, fro
 {
     let begins = laid.begins.as_slice();
     let at = part_at(begins, from);
-    let place = at.place;
-    if place >= sent.len() {
+    let index = at.index;
+    if index >= sent.len() {
         return &[];
     }
-    let part = &sent[place];
+    let part = &sent[index];
     lent(source, part, at.left)
 }

@@ -15,14 +15,14 @@ use fm_base::{List, NoMemory};
 use fm_dataset::Dataset;
 use std::alloc::Global;
 
-/// Marks in the texts of the part at a place.
+/// Marks in the texts of the part at an index.
 #[derive(Drop)]
 pub struct TextMarks {
-    pub place: usize,
+    pub index: usize,
     pub offsets: List<u64>,
 }
 
-/// Where the data of each part begins, and the marks of the parts that have some, by their places.
+/// Where the data of each part begins, and the marks of the parts that have some, by their indices.
 #[derive(Drop)]
 pub struct Laid {
     pub begins: List<u64>,
@@ -39,7 +39,7 @@ pub struct Layout {
 // A part, and an offset in its data.
 #[derive(Clone, Copy)]
 pub(crate) struct Position {
-    pub place: usize,
+    pub index: usize,
     pub left: u64,
 }
 
@@ -61,14 +61,14 @@ fn short(offset: u128) -> u64
     offset as u64
 }
 
-// Keeps the marks of the part at a place, where there are any.
-fn keep_marks(marks: &mut List<TextMarks>, place: usize, offsets: List<u64>) -> Result<(), NoMemory>
-    ensures { OnOk result (IsKept marks.old place offsets marks.new) }
+// Keeps the marks of the part at an index, where there are any.
+fn keep_marks(marks: &mut List<TextMarks>, index: usize, offsets: List<u64>) -> Result<(), NoMemory>
+    ensures { OnOk result (IsKept marks.old index offsets marks.new) }
 {
     if offsets.is_empty() {
         return Ok(());
     }
-    marks.push(TextMarks { place, offsets })?;
+    marks.push(TextMarks { index, offsets })?;
     Ok(())
 }
 
@@ -87,8 +87,8 @@ pub fn lay_out(alloc: Global, source: &Dataset, sent: &[Sent]) -> Result<Layout,
     for part in sent {
         let marked = xdr_marks(alloc, source, part)?;
         let more = marked.len;
-        let place = begins.len();
-        keep_marks(&mut marks, place, marked.marks)?;
+        let index = begins.len();
+        keep_marks(&mut marks, index, marked.marks)?;
         let begin = short(len);
         begins.push(begin)?;
         len += more;
@@ -99,22 +99,22 @@ pub fn lay_out(alloc: Global, source: &Dataset, sent: &[Sent]) -> Result<Layout,
     })
 }
 
-// How many marked parts stand before a place.
-fn marked_before(marks: &[TextMarks], place: usize) -> usize {
-    marks.partition_point(|one: &TextMarks| -> bool { one.place < place })
+// How many marked parts stand before an index.
+fn marked_before(marks: &[TextMarks], index: usize) -> usize {
+    marks.partition_point(|one: &TextMarks| -> bool { one.index < index })
 }
 
-// The marks of the part at a place: none where it has none.
-pub(crate) fn marks_at(marks: &[TextMarks], place: usize) -> &[u64]
+// The marks of the part at an index: none where it has none.
+pub(crate) fn marks_at(marks: &[TextMarks], index: usize) -> &[u64]
     ensures { (shown : Shown) (sent : Items Part) (part : Part) → AreMarked shown sent marks.now
-        → slice_get sent place ≡ Some part → AreMarksOf shown part result.now }
+        → slice_get sent index ≡ Some part → AreMarksOf shown part result.now }
 {
-    let at = marked_before(marks, place);
+    let at = marked_before(marks, index);
     if at >= marks.len() {
         return &[];
     }
     let one = &marks[at];
-    if one.place != place {
+    if one.index != index {
         return &[];
     }
     one.offsets.as_slice()
@@ -147,16 +147,16 @@ pub(crate) fn part_at(begins: &[u64], from: u64) -> Position
     ensures stands { StandsAt begins.now from result }
 
     // So it ends behind the offset, or is the last of all.
-    ensures last { IsLastBegun begins.now from result.place }
+    ensures last { IsLastBegun begins.now from result.index }
 {
     let begun = begun_at(begins, from);
     if begun == 0 {
         return Position {
-            place: 0,
+            index: 0,
             left: from,
         };
     }
-    let place = begun - 1;
-    let left = behind(begins[place], from);
-    Position { place, left }
+    let index = begun - 1;
+    let left = behind(begins[index], from);
+    Position { index, left }
 }

@@ -1,4 +1,4 @@
--- A walk through the places of a bucket passes over declarations of which a path picks nothing.
+-- A walk through the indices of a bucket passes over declarations of which a path picks nothing.
 use Rattle.std.proofs.Common.{cond, ◌≡◌, ℕ, zero, suc, ◌+◌, ◌<◌, ◌≤◌, ◌-◌, Bool, true, false, List, [], ◌∷◌, ◌++◌, length, take, drop, get_or, set, None, refl, sym, ap, ap₂, ◌∙◌, append_assoc, take-add, arith}
 use Rattle.std.proofs.lemmas.Bool.{cond-false, eq-eqb, true≢false}
 use Rattle.std.proofs.lemmas.List.{drop-drop, drop_all, drop_more, length-drop, length-set, take-append-drop}
@@ -7,7 +7,7 @@ use Rattle.std.specs.Str.{bytes_eq}
 use Rattle.dap_model.specs.Picking.{decl_named, is_picked, name_of, nothing, picked_below, picked_by}
 use Rattle.dap_model.specs.declared.declaration.Decl.{Decl}
 use Rattle.dap_model.specs.declared.projection.Clause.{Clause}
-use Rattle.dap_project.specs.Buckets.{bucket_of, may_pick, places_for, places_of}
+use Rattle.dap_project.specs.Buckets.{bucket_of, may_pick, indices_for, indices_where}
 use Rattle.dap_project.specs.Notes.{note_after, notes_after}
 use Rattle.dap_project.specs.declared.note.Note.{Note}
 use Rattle.dap_project.proofs.NoteLemmas.{note_kept}
@@ -32,39 +32,39 @@ apart count (name ∷ names) decl other = by_name (bytes_eq (name_of decl) name)
         let name_is : name_of decl ≡ name = (bytes_eq-Decides (name_of decl) name).0 same in
         absurd (true≢false (sym (eq-eqb _ _ (ap (bucket_of count) name_is)) ∙ other))
 
--- a place of those that are left, and what is left behind it
-pub record IsNextPlace (test : Decl → Bool) (path : List (List ℕ)) (from : ℕ) (decls : List Decl) (place : ℕ)
+-- an index of those that are left, and what is left behind it
+pub record IsNextIndex (test : Decl → Bool) (path : List (List ℕ)) (from : ℕ) (decls : List Decl) (index : ℕ)
     (rest : List ℕ) : Type 0 where
   pub after : ℕ
-  pub is : place ≡ from + after
+  pub is : index ≡ from + after
   pub within : after < length decls
-  pub rest_is : rest ≡ places_of test (place + 1) (drop (after + 1) decls)
+  pub rest_is : rest ≡ indices_where test (index + 1) (drop (after + 1) decls)
   pub passed : NonePicked path (take after decls)
 
-next_place : (test : Decl → Bool) (path : List (List ℕ))
+next_index : (test : Decl → Bool) (path : List (List ℕ))
     → ((decl : Decl) → test decl ≡ false → is_picked (picked_by decl path) ≡ false)
-    → (from : ℕ) (decls : List Decl) (place : ℕ) (rest : List ℕ) → places_of test from decls ≡ place ∷ rest
-    → IsNextPlace test path from decls place rest
-unfolding places_of
-next_place test path others from [] place rest e = absurd cc
-next_place test path others from (decl ∷ decls) place rest e =
-    by_test (test decl) refl e (next_place test path others (from + 1) decls place rest)
+    → (from : ℕ) (decls : List Decl) (index : ℕ) (rest : List ℕ) → indices_where test from decls ≡ index ∷ rest
+    → IsNextIndex test path from decls index rest
+unfolding indices_where
+next_index test path others from [] index rest e = absurd cc
+next_index test path others from (decl ∷ decls) index rest e =
+    by_test (test decl) refl e (next_index test path others (from + 1) decls index rest)
   where
     one : (n : ℕ) → suc n + 1 ≡ suc (n + 1)
     one n = omega arith
 
     by_test : (b : Bool) → test decl ≡ b
-        → cond b (from ∷ places_of test (from + 1) decls) (places_of test (from + 1) decls) ≡ place ∷ rest
-        → (places_of test (from + 1) decls ≡ place ∷ rest → IsNextPlace test path (from + 1) decls place rest)
-        → IsNextPlace test path from (decl ∷ decls) place rest
+        → cond b (from ∷ indices_where test (from + 1) decls) (indices_where test (from + 1) decls) ≡ index ∷ rest
+        → (indices_where test (from + 1) decls ≡ index ∷ rest → IsNextIndex test path (from + 1) decls index rest)
+        → IsNextIndex test path from (decl ∷ decls) index rest
     by_test true is e later =
-        let first : from ≡ place = cc in
-        let more : places_of test (from + 1) decls ≡ rest = cc in
+        let first : from ≡ index = cc in
+        let more : indices_where test (from + 1) decls ≡ rest = cc in
         record {
           after = 0;
           is = omega (arith, first);
           within = omega arith;
-          rest_is = sym more ∙ ap (λ (n : ℕ). places_of test (n + 1) decls) first;
+          rest_is = sym more ∙ ap (λ (n : ℕ). indices_where test (n + 1) decls) first;
           passed = tt;
         }
     by_test false is e later =
@@ -74,51 +74,51 @@ next_place test path others from (decl ∷ decls) place rest e =
           is = omega (arith, next.is);
           within = omega (arith, next.within);
           rest_is = next.rest_is
-              ∙ ap (λ (n : ℕ). places_of test (place + 1) (drop n (decl ∷ decls))) (sym (one next.after));
+              ∙ ap (λ (n : ℕ). indices_where test (index + 1) (drop n (decl ∷ decls))) (sym (one next.after));
           passed = (others decl is, next.passed);
         }
 
-no_place : (test : Decl → Bool) (path : List (List ℕ))
+no_index : (test : Decl → Bool) (path : List (List ℕ))
     → ((decl : Decl) → test decl ≡ false → is_picked (picked_by decl path) ≡ false)
-    → (from : ℕ) (decls : List Decl) → places_of test from decls ≡ [] → NonePicked path decls
-unfolding places_of
-no_place test path others from [] e = tt
-no_place test path others from (decl ∷ decls) e =
-    by_test (test decl) refl e (no_place test path others (from + 1) decls)
+    → (from : ℕ) (decls : List Decl) → indices_where test from decls ≡ [] → NonePicked path decls
+unfolding indices_where
+no_index test path others from [] e = tt
+no_index test path others from (decl ∷ decls) e =
+    by_test (test decl) refl e (no_index test path others (from + 1) decls)
   where
     by_test : (b : Bool) → test decl ≡ b
-        → cond b (from ∷ places_of test (from + 1) decls) (places_of test (from + 1) decls) ≡ []
-        → (places_of test (from + 1) decls ≡ [] → NonePicked path decls) → NonePicked path (decl ∷ decls)
+        → cond b (from ∷ indices_where test (from + 1) decls) (indices_where test (from + 1) decls) ≡ []
+        → (indices_where test (from + 1) decls ≡ [] → NonePicked path decls) → NonePicked path (decl ∷ decls)
     by_test true is e later = absurd cc
     by_test false is e later = (others decl is, later e)
 
--- the places that are left, of the declarations from a place on
-pub record AreLeft (decls : List Decl) (path : List (List ℕ)) (places : List ℕ) (from : ℕ) : Type 0 where
+-- the indices that are left, of the declarations from an index on
+pub record AreLeft (decls : List Decl) (path : List (List ℕ)) (indices : List ℕ) (from : ℕ) : Type 0 where
   pub within : from ≤ length decls
-  pub are : places ≡ places_of (may_pick (length decls) path) from (drop from decls)
+  pub are : indices ≡ indices_where (may_pick (length decls) path) from (drop from decls)
 
 -- all are left at first
-pub all_left : (decls : List Decl) (path : List (List ℕ)) (places : List ℕ) → places ≡ places_for decls path
-    → AreLeft decls path places 0
-all_left decls path places are = record { within = omega arith; are = are }
+pub all_left : (decls : List Decl) (path : List (List ℕ)) (indices : List ℕ) → indices ≡ indices_for decls path
+    → AreLeft decls path indices 0
+all_left decls path indices are = record { within = omega arith; are = are }
 
--- the place at an index, and what is left behind it
-pub record IsNext (decls : List Decl) (path : List (List ℕ)) (places : List ℕ) (at place from : ℕ) : Type 0 where
+-- the index of a declaration that stands there among some, and what is left behind it
+pub record IsNext (decls : List Decl) (path : List (List ℕ)) (indices : List ℕ) (at index from : ℕ) : Type 0 where
   pub after : ℕ
-  pub is : place ≡ from + after
-  pub within : place < length decls
-  pub left : AreLeft decls path (drop (at + 1) places) (place + 1)
+  pub is : index ≡ from + after
+  pub within : index < length decls
+  pub left : AreLeft decls path (drop (at + 1) indices) (index + 1)
   pub passed : NonePicked path (take after (drop from decls))
 
-pub next : (decls : List Decl) (path : List (List ℕ)) (places : List ℕ) (at d from : ℕ) → at < length places
-    → AreLeft decls path (drop at places) from → IsNext decls path places at (get_or places at d) from
-next decls path places at d from lt are =
-    let place = get_or places at d in
+pub next : (decls : List Decl) (path : List (List ℕ)) (indices : List ℕ) (at d from : ℕ) → at < length indices
+    → AreLeft decls path (drop at indices) from → IsNext decls path indices at (get_or indices at d) from
+next decls path indices at d from lt are =
+    let index = get_or indices at d in
     let test = may_pick (length decls) path in
-    let found = next_place test path (apart (length decls) path) from (drop from decls) place (drop (at + 1) places)
-    (sym are.are ∙ drop_more places at d lt) in
+    let found = next_index test path (apart (length decls) path) from (drop from decls) index (drop (at + 1) indices)
+    (sym are.are ∙ drop_more indices at d lt) in
     let long : length (drop from decls) ≡ length decls - from = length-drop from decls in
-    let whole : from + (found.after + 1) ≡ place + 1 = omega (arith, found.is) in
+    let whole : from + (found.after + 1) ≡ index + 1 = omega (arith, found.is) in
     record {
       after = found.after;
       is = found.is;
@@ -126,18 +126,18 @@ next decls path places at d from lt are =
       left = record {
         within = omega (arith, found.is, found.within, long, are.within);
         are = found.rest_is
-            ∙ ap (places_of test (place + 1)) (drop-drop (found.after + 1) from decls
+            ∙ ap (indices_where test (index + 1)) (drop-drop (found.after + 1) from decls
             ∙ ap (λ (n : ℕ). drop n decls) whole);
       };
       passed = found.passed;
     }
 
--- behind the last place a path picks nothing
-pub none_left : (decls : List Decl) (path : List (List ℕ)) (places : List ℕ) (at from : ℕ) → length places ≤ at
-    → AreLeft decls path (drop at places) from → NonePicked path (drop from decls)
-none_left decls path places at from past are =
-    no_place (may_pick (length decls) path) path (apart (length decls) path) from (drop from decls)
-    (sym are.are ∙ drop_all at places past)
+-- behind the last index a path picks nothing
+pub none_left : (decls : List Decl) (path : List (List ℕ)) (indices : List ℕ) (at from : ℕ) → length indices ≤ at
+    → AreLeft decls path (drop at indices) from → NonePicked path (drop from decls)
+none_left decls path indices at from past are =
+    no_index (may_pick (length decls) path) path (apart (length decls) path) from (drop from decls)
+    (sym are.are ∙ drop_all at indices past)
 
 -- ---- the declaration that a path names
 
@@ -150,21 +150,21 @@ named_passed path (decl ∷ decls) (suc after) none =
     cond-false (is_picked (picked_by decl path)) _ _ none.0 ∙ named_passed path decls after none.1
 
 -- those that the walk passes over are not named
-pub passed_named : (decls : List Decl) (path : List (List ℕ)) (places : List ℕ) (at place from : ℕ)
-    → IsNext decls path places at place from
-    → decl_named (drop from decls) path ≡ decl_named (drop place decls) path
-passed_named decls path places at place from step =
+pub passed_named : (decls : List Decl) (path : List (List ℕ)) (indices : List ℕ) (at index from : ℕ)
+    → IsNext decls path indices at index from
+    → decl_named (drop from decls) path ≡ decl_named (drop index decls) path
+passed_named decls path indices at index from step =
     named_passed path (drop from decls) step.after step.passed
     ∙ ap (λ (l : List Decl). decl_named l path) (drop-drop step.after from decls)
     ∙ ap (λ (n : ℕ). decl_named (drop n decls) path) (sym step.is)
 
 -- nor is one of which it picks nothing
-pub named_further : (decls : List Decl) (path : List (List ℕ)) (place : ℕ) (decl : Decl) → place < length decls
-    → decl ≡ get_or decls place decl → is_picked (picked_by decl path) ≡ false
-    → decl_named (drop place decls) path ≡ decl_named (drop (place + 1) decls) path
+pub named_further : (decls : List Decl) (path : List (List ℕ)) (index : ℕ) (decl : Decl) → index < length decls
+    → decl ≡ get_or decls index decl → is_picked (picked_by decl path) ≡ false
+    → decl_named (drop index decls) path ≡ decl_named (drop (index + 1) decls) path
 unfolding decl_named
-named_further decls path place decl within is fails =
-    ap (λ (l : List Decl). decl_named l path) (left decls place decl within is)
+named_further decls path index decl within is fails =
+    ap (λ (l : List Decl). decl_named l path) (left decls index decl within is)
     ∙ cond-false (is_picked (picked_by decl path)) _ _ fails
 
 pub named_none : (path : List (List ℕ)) (decls : List Decl) → NonePicked path decls
@@ -196,35 +196,35 @@ notes_passed clause (decl ∷ decls) (note ∷ notes) (suc after) within same no
     ap₂ (λ (n : Note) (l : List Note). n ∷ l) (note_kept decl clause note none.0)
     (notes_passed clause decls notes after (omega (arith, within)) (omega (arith, same)) none.1)
 
--- the notes so far, where the places that are left are those of the declarations from a place on
-pub record AreNoted (decls : List Decl) (clause : Clause) (places : List ℕ) (notes old : List Note) : Type 0 where
+-- the notes so far, where the indices that are left are those of the declarations from an index on
+pub record AreNoted (decls : List Decl) (clause : Clause) (indices : List ℕ) (notes old : List Note) : Type 0 where
   pub from : ℕ
-  pub left : AreLeft decls clause.path places from
+  pub left : AreLeft decls clause.path indices from
   pub count : length notes ≡ length decls
   pub noted : take from notes ++ notes_after clause (drop from decls) (drop from notes)
       ≡ notes_after clause decls old
 
-pub first_noted : (decls : List Decl) (clause : Clause) (places : List ℕ) (notes : List Note)
-    → places ≡ places_for decls clause.path → length notes ≡ length decls → AreNoted decls clause places notes notes
-first_noted decls clause places notes are same =
-    record { from = 0; left = all_left decls clause.path places are; count = same; noted = refl }
+pub first_noted : (decls : List Decl) (clause : Clause) (indices : List ℕ) (notes : List Note)
+    → indices ≡ indices_for decls clause.path → length notes ≡ length decls → AreNoted decls clause indices notes notes
+first_noted decls clause indices notes are same =
+    record { from = 0; left = all_left decls clause.path indices are; count = same; noted = refl }
 
-pub noted_here : (decls : List Decl) (clause : Clause) (places : List ℕ) (notes old : List Note) (at d : ℕ)
-    (decl : Decl) (note new : Note) → at < length places → AreNoted decls clause (drop at places) notes old
-    → decl ≡ get_or decls (get_or places at d) decl → note ≡ get_or notes (get_or places at d) note
+pub noted_here : (decls : List Decl) (clause : Clause) (indices : List ℕ) (notes old : List Note) (at d : ℕ)
+    (decl : Decl) (note new : Note) → at < length indices → AreNoted decls clause (drop at indices) notes old
+    → decl ≡ get_or decls (get_or indices at d) decl → note ≡ get_or notes (get_or indices at d) note
     → new ≡ note_after decl clause note
-    → AreNoted decls clause (drop (at + 1) places) (set notes (get_or places at d) new) old
-noted_here decls clause places notes old at d decl note new lt so_far is_decl is_note to =
-    let place = get_or places at d in
+    → AreNoted decls clause (drop (at + 1) indices) (set notes (get_or indices at d) new) old
+noted_here decls clause indices notes old at d decl note new lt so_far is_decl is_note to =
+    let index = get_or indices at d in
     let from = so_far.from in
-    let step = next decls clause.path places at d from lt so_far.left in
+    let step = next decls clause.path indices at d from lt so_far.left in
     let long : length (drop from decls) ≡ length decls - from = length-drop from decls in
     let long_notes : length (drop from notes) ≡ length notes - from = length-drop from notes in
     let passed = notes_passed clause (drop from decls) (drop from notes) step.after
     (omega (arith, step.is, step.within, long)) (omega (arith, long, long_notes, so_far.count)) step.passed in
     let rest = notes_after clause (drop step.after (drop from decls)) (drop step.after (drop from notes)) in
     let up_to_here : take from notes ++ notes_after clause (drop from decls) (drop from notes)
-    ≡ take place notes ++ notes_after clause (drop place decls) (drop place notes) =
+    ≡ take index notes ++ notes_after clause (drop index decls) (drop index notes) =
     ap (λ (l : List Note). take from notes ++ l) passed
     ∙ sym (append_assoc (take from notes) (take step.after (drop from notes)) rest)
     ∙ ap (λ (l : List Note). l ++ rest) (sym (take-add from step.after notes))
@@ -232,19 +232,19 @@ noted_here decls clause places notes old at d decl note new lt so_far is_decl is
     (drop-drop step.after from decls) (drop-drop step.after from notes)
     ∙ ap (λ (n : ℕ). take n notes ++ notes_after clause (drop n decls) (drop n notes)) (sym step.is) in
     record {
-      from = place + 1;
+      from = index + 1;
       left = step.left;
-      count = length-set notes place new ∙ so_far.count;
-      noted = sym (notes_step clause decls notes place decl note new step.within
+      count = length-set notes index new ∙ so_far.count;
+      noted = sym (notes_step clause decls notes index decl note new step.within
           (omega (arith, step.within, so_far.count)) is_decl is_note to)
           ∙ sym up_to_here ∙ so_far.noted;
     }
 
-pub all_noted : (decls : List Decl) (clause : Clause) (places : List ℕ) (notes old : List Note) (at : ℕ)
-    → length places ≤ at → AreNoted decls clause (drop at places) notes old → notes ≡ notes_after clause decls old
-all_noted decls clause places notes old at past so_far =
+pub all_noted : (decls : List Decl) (clause : Clause) (indices : List ℕ) (notes old : List Note) (at : ℕ)
+    → length indices ≤ at → AreNoted decls clause (drop at indices) notes old → notes ≡ notes_after clause decls old
+all_noted decls clause indices notes old at past so_far =
     let from = so_far.from in
-    let none = none_left decls clause.path places at from past so_far.left in
+    let none = none_left decls clause.path indices at from past so_far.left in
     sym (take-append-drop from notes)
     ∙ ap (λ (l : List Note). take from notes ++ l)
     (sym (notes_kept clause (drop from decls) (drop from notes) none))

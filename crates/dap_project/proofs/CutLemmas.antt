@@ -25,26 +25,26 @@ use Rattle.dap_project.proofs.NoteLemmas.{slots_of}
 use Rattle.dap_project.proofs.SentLemmas.{slabs_noted}
 use Rattle.dap_project.proofs.SlotLemmas.{slot_at, slot_from, slot_slabs}
 
--- what holds of each item holds of the one at a place
-at_place : {A : Type 0} (P : A → Type 0) (xs : List A) (place : ℕ) (x : A) → All P xs
-    → slice_get xs place ≡ Some x → P x
-at_place P [] place x all e = absurd cc
-at_place P (y ∷ xs) zero x all e = subst P (same_Some y x e) (all 0 y (omega arith))
-at_place P (y ∷ xs) (suc place) x all e =
-    at_place P xs place x (λ (k : ℕ) d within. all (suc k) d (omega (arith, within))) e
+-- what holds of each item holds of the one at an index
+at_index : {A : Type 0} (P : A → Type 0) (xs : List A) (index : ℕ) (x : A) → All P xs
+    → slice_get xs index ≡ Some x → P x
+at_index P [] index x all e = absurd cc
+at_index P (y ∷ xs) zero x all e = subst P (same_Some y x e) (all 0 y (omega arith))
+at_index P (y ∷ xs) (suc index) x all e =
+    at_index P xs index x (λ (k : ℕ) d within. all (suc k) d (omega (arith, within))) e
 
-whole_at : (dims : List Dim) (place : ℕ) (dim : Dim) (slab : Slab) → slice_get dims place ≡ Some dim
-    → slice_get (whole_slabs dims) place ≡ Some slab → slab ≡ whole_slab dim.size
+whole_at : (dims : List Dim) (index : ℕ) (dim : Dim) (slab : Slab) → slice_get dims index ≡ Some dim
+    → slice_get (whole_slabs dims) index ≡ Some slab → slab ≡ whole_slab dim.size
 unfolding whole_slabs
-whole_at [] place dim slab a b = absurd cc
+whole_at [] index dim slab a b = absurd cc
 whole_at (first ∷ dims) zero dim slab a b =
     sym (same_Some (whole_slab first.size) slab b) ∙ ap (λ (d : Dim). whole_slab d.size) (same_Some first dim a)
-whole_at (first ∷ dims) (suc place) dim slab a b = whole_at dims place dim slab a b
+whole_at (first ∷ dims) (suc index) dim slab a b = whole_at dims index dim slab a b
 
 or_whole_cuts : (dims : List Dim) (slabs : List Slab) → All IsCountable slabs → AreCuts dims (or_whole dims slabs)
-or_whole_cuts dims [] all = λ place dim slab a b. inr (whole_at dims place dim slab a b)
+or_whole_cuts dims [] all = λ index dim slab a b. inr (whole_at dims index dim slab a b)
 or_whole_cuts dims (first ∷ slabs) all =
-    λ place dim slab a b. inl (at_place IsCountable (first ∷ slabs) place slab all b)
+    λ index dim slab a b. inl (at_index IsCountable (first ∷ slabs) index slab all b)
 
 spread_countable : (slabs : List Slab) (part : ℕ) → All IsCountable slabs → All IsCountable (spread slabs part)
 spread_countable slabs zero all = all
@@ -74,11 +74,11 @@ all_for : (clauses : List Clause) (decl : Decl) → All HasCountable clauses →
 all_for [] decl all = All-cons HasCountable (whole_clause decl) [] (All-nil IsCountable) (All-nil HasCountable)
 all_for (clause ∷ clauses) decl all = all
 
-map_at : {A B : Type 0} (f : A → B) (xs : List A) (place : ℕ) (x : A) (y : B) → slice_get xs place ≡ Some x
-    → slice_get (map f xs) place ≡ Some y → y ≡ f x
-map_at f [] place x y a b = absurd cc
+map_at : {A B : Type 0} (f : A → B) (xs : List A) (index : ℕ) (x : A) (y : B) → slice_get xs index ≡ Some x
+    → slice_get (map f xs) index ≡ Some y → y ≡ f x
+map_at f [] index x y a b = absurd cc
 map_at f (z ∷ xs) zero x y a b = sym (same_Some (f z) y b) ∙ ap f (same_Some z x a)
-map_at f (z ∷ xs) (suc place) x y a b = map_at f xs place x y a b
+map_at f (z ∷ xs) (suc index) x y a b = map_at f xs index x y a b
 
 -- the slabs that a part is sent with
 slabs_cut : (clauses : List Clause) (decl : Decl) (part : ℕ) (slabs : List Slab) → All HasCountable clauses
@@ -110,15 +110,15 @@ slots_cut clauses decl all = λ part array slot is_part is_slot.
     let there = subst (λ (l : List Slot). slice_get l part ≡ Some slot)
     (slots_of decl (clauses_for clauses decl)) is_slot in
     let from = slot_at decl 0 part (parts_of decl) (clauses_for clauses decl) slot there in
-    let place : 0 + part ≡ part = omega arith in
+    let same : 0 + part ≡ part = omega arith in
     slot_cut clauses decl part array slot all is_part
-    (from ∙ ap (λ (n : ℕ). slot_from decl n Free (clauses_for clauses decl)) place)
+    (from ∙ ap (λ (n : ℕ). slot_from decl n Free (clauses_for clauses decl)) same)
 
 pub notes_cut : (clauses : List Clause) (decls : List Decl) → All HasCountable clauses
     → AllCanBeCut decls (map (note_for clauses) decls)
-notes_cut clauses decls all = λ place decl note is_decl is_note.
+notes_cut clauses decls all = λ index decl note is_decl is_note.
     subst (λ (n : Note). CanBeCut (parts_of decl) n.slots)
-    (sym (map_at (note_for clauses) decls place decl note is_decl is_note)) (slots_cut clauses decl all)
+    (sym (map_at (note_for clauses) decls index decl note is_decl is_note)) (slots_cut clauses decl all)
 
 -- ---- counts
 

@@ -2,8 +2,8 @@ pub mod BucketLemmas
 pub mod CutLemmas
 pub mod FaultLemmas
 pub mod FilledLemmas
+pub mod IndexLemmas
 pub mod NoteLemmas
-pub mod PlaceLemmas
 pub mod SentLemmas
 pub mod SlotLemmas
 pub mod StepLemmas

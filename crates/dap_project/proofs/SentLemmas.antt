@@ -47,25 +47,25 @@ cut_noted clauses decl part (array ∷ arrays) =
     cons_option (option_map (λ (slabs : List Slab). cut_array slabs array) o) l) (slabs_noted clauses decl part)
     (cut_noted clauses decl (part + 1) arrays)
 
-sent_slots-cons : (place part : ℕ) (slot : Slot) (slots : List Slot)
-    → sent_slots place part (slot ∷ slots)
-    ≡ cons_option (option_map (with_slabs place part) (slot_slabs slot)) (sent_slots place (part + 1) slots)
+sent_slots-cons : (index part : ℕ) (slot : Slot) (slots : List Slot)
+    → sent_slots index part (slot ∷ slots)
+    ≡ cons_option (option_map (with_slabs index part) (slot_slabs slot)) (sent_slots index (part + 1) slots)
 unfolding sent_slots
-sent_slots-cons place part Free slots = refl
-sent_slots-cons place part (Taken slabs mixed) slots = refl
+sent_slots-cons index part Free slots = refl
+sent_slots-cons index part (Taken slabs mixed) slots = refl
 
-sent_noted : (clauses : List Clause) (decl : Decl) (place part : ℕ) (arrays : List Array)
-    → sent_slots place part (slots_from decl part (free_slots arrays) (clauses_for clauses decl))
-    ≡ filter_map (λ (p : ℕ). option_map (with_slabs place p) (slabs_of clauses decl p))
+sent_noted : (clauses : List Clause) (decl : Decl) (index part : ℕ) (arrays : List Array)
+    → sent_slots index part (slots_from decl part (free_slots arrays) (clauses_for clauses decl))
+    ≡ filter_map (λ (p : ℕ). option_map (with_slabs index p) (slabs_of clauses decl p))
     (range_with_len part (length arrays))
 unfolding free_slots sent_slots
-sent_noted clauses decl place part [] = refl
-sent_noted clauses decl place part (array ∷ arrays) =
+sent_noted clauses decl index part [] = refl
+sent_noted clauses decl index part (array ∷ arrays) =
     let slot = slot_from decl part Free (clauses_for clauses decl) in
-    sent_slots-cons place part slot (slots_from decl (part + 1) (free_slots arrays) (clauses_for clauses decl))
-    ∙ ap₂ (λ (o : Option (List Slab)) (l : List Sent). cons_option (option_map (with_slabs place part) o) l)
+    sent_slots-cons index part slot (slots_from decl (part + 1) (free_slots arrays) (clauses_for clauses decl))
+    ∙ ap₂ (λ (o : Option (List Slab)) (l : List Sent). cons_option (option_map (with_slabs index part) o) l)
     (slabs_noted clauses decl part)
-    (sent_noted clauses decl place (part + 1) arrays)
+    (sent_noted clauses decl index (part + 1) arrays)
 
 decl_noted : (clauses : List Clause) (decl : Decl) → noted_decl decl (note_for clauses decl) ≡ decl_sent clauses decl
 unfolding noted_decl decl_sent is_kept cut_parts
@@ -98,15 +98,15 @@ decls_noted clauses (decl ∷ decls) =
           ∙ sym (ap (map (decl_sent clauses)) (cond-false _ _ _ apart))
     ]
 
-parts_noted : (clauses : List Clause) (place : ℕ) (decls : List Decl)
-    → noted_sent place (map (note_for clauses) decls) ≡ flat_map (sent_of clauses) (enumerate_from place decls)
+parts_noted : (clauses : List Clause) (index : ℕ) (decls : List Decl)
+    → noted_sent index (map (note_for clauses) decls) ≡ flat_map (sent_of clauses) (enumerate_from index decls)
 unfolding noted_sent sent_of
-parts_noted clauses place [] = refl
-parts_noted clauses place (decl ∷ decls) =
+parts_noted clauses index [] = refl
+parts_noted clauses index (decl ∷ decls) =
     ap₂ (λ (a b : List Sent). a ++ b)
-    (ap (sent_slots place 0) (slots_of decl (clauses_for clauses decl))
-    ∙ sent_noted clauses decl place 0 (parts_of decl))
-    (parts_noted clauses (place + 1) decls)
+    (ap (sent_slots index 0) (slots_of decl (clauses_for clauses decl))
+    ∙ sent_noted clauses decl index 0 (parts_of decl))
+    (parts_noted clauses (index + 1) decls)
 
 abbrev both : List Decl → List Sent → Projected
 both decls sent = record { decls = decls; sent = sent }

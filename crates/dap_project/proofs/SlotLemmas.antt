@@ -154,16 +154,16 @@ slabs_from decl part slot (clause ∷ clauses) =
     ∙ first-step (given_by decl clause part) slot (filter_map (λ (each : Clause). given_by decl each part) clauses)
 
 -- the slot of a part by its number
-pub slot_at : (decl : Decl) (part place : ℕ) (parts : List Array) (clauses : List Clause) (slot : Slot)
-    → slice_get (slots_from decl part (free_slots parts) clauses) place ≡ Some slot
-    → slot ≡ slot_from decl (part + place) Free clauses
+pub slot_at : (decl : Decl) (part index : ℕ) (parts : List Array) (clauses : List Clause) (slot : Slot)
+    → slice_get (slots_from decl part (free_slots parts) clauses) index ≡ Some slot
+    → slot ≡ slot_from decl (part + index) Free clauses
 unfolding free_slots
-slot_at decl part place [] clauses slot e = absurd cc
+slot_at decl part index [] clauses slot e = absurd cc
 slot_at decl part zero (array ∷ parts) clauses slot e =
     some_is _ _ (sym e) ∙ ap (λ (p : ℕ). slot_from decl p Free clauses) (omega arith)
   where
     some_is : (a b : Slot) → Some a ≡ Some b → a ≡ b
     some_is a b h = cc
-slot_at decl part (suc place) (array ∷ parts) clauses slot e =
-    slot_at decl (part + 1) place parts clauses slot e
+slot_at decl part (suc index) (array ∷ parts) clauses slot e =
+    slot_at decl (part + 1) index parts clauses slot e
     ∙ ap (λ (p : ℕ). slot_from decl p Free clauses) (omega arith)

@@ -75,14 +75,14 @@ cut_step done arrays slots at array slot found within is =
     there (first ∷ arrays) (suc at) array e =
         there arrays at array e ∙ ap (λ (n : ℕ). array ∷ drop n (first ∷ arrays)) (one at)
 
-pub sent_step : (sent : List Sent) (place at : ℕ) (slots : List Slot) (slot : Slot) → at < length slots
+pub sent_step : (sent : List Sent) (index at : ℕ) (slots : List Slot) (slot : Slot) → at < length slots
     → slot ≡ get_or slots at slot
-    → sent ++ sent_slots place at (drop at slots)
-    ≡ (sent ++ sent_of_slot place at slot) ++ sent_slots place (at + 1) (drop (at + 1) slots)
+    → sent ++ sent_slots index at (drop at slots)
+    ≡ (sent ++ sent_of_slot index at slot) ++ sent_slots index (at + 1) (drop (at + 1) slots)
 unfolding sent_slots
-sent_step sent place at slots slot within is =
-    ap (λ l. sent ++ sent_slots place at l) (left slots at slot within is)
-    ∙ sym (append_assoc sent (sent_of_slot place at slot) (sent_slots place (at + 1) (drop (at + 1) slots)))
+sent_step sent index at slots slot within is =
+    ap (λ l. sent ++ sent_slots index at l) (left slots at slot within is)
+    ∙ sym (append_assoc sent (sent_of_slot index at slot) (sent_slots index (at + 1) (drop (at + 1) slots)))
 
 pub noted_step : (sent : List Sent) (at : ℕ) (notes : List Note) (note : Note) → at < length notes
     → note ≡ get_or notes at note
@@ -128,11 +128,11 @@ cut_short done whole arrays slots at past is =
     none (array ∷ arrays) zero e = absurd cc
     none (array ∷ arrays) (suc at) e = none arrays at e
 
-pub sent_end : (done whole : List Sent) (place at : ℕ) (slots : List Slot) → length slots ≤ at
-    → done ++ sent_slots place at (drop at slots) ≡ whole → done ≡ whole
+pub sent_end : (done whole : List Sent) (index at : ℕ) (slots : List Slot) → length slots ≤ at
+    → done ++ sent_slots index at (drop at slots) ≡ whole → done ≡ whole
 unfolding sent_slots
-sent_end done whole place at slots past is =
-    all_of done _ whole is (ap (sent_slots place at) (drop_all at slots past))
+sent_end done whole index at slots past is =
+    all_of done _ whole is (ap (sent_slots index at) (drop_all at slots past))
 
 pub noted_end : (done whole : List Sent) (at : ℕ) (notes : List Note) → length notes ≤ at
     → done ++ noted_sent at (drop at notes) ≡ whole → done ≡ whole
@@ -153,7 +153,7 @@ pub ruleset noted = (noted_step, noted_end)
 
 pub ruleset decls = (decl_step, decls_end)
 
--- the item at a place
+-- the item at an index
 pub item_at : {A : Type 0} (xs : List A) (at : ℕ) (x : A) → at < length xs → x ≡ get_or xs at x
     → slice_get xs at ≡ Some x
 item_at [] at x within is = absurd (omega (arith, within))

@@ -1,4 +1,4 @@
--- The places of declarations, by the codes of their names.
+-- The indices of declarations, by the codes of their names.
 use Rattle.std.specs.Prelude.{◌≡◌, ℕ, ◌+◌, ◌*◌, ◌%◌, ◌<◌, List, [], ◌∷◌, length, Bool, false, ◌==◌, if◌then◌else◌}
 use Rattle.std.specs.List.{slice_index_or}
 use Rattle.dap_model.specs.Picking.{name_of}
@@ -17,23 +17,23 @@ bucket_of count name = code_from 0 name % count
 abbrev pub is_of : ℕ → ℕ → Decl → Bool
 is_of count bucket decl = bucket_of count (name_of decl) == bucket
 
--- the places of the declarations that pass a test, from this place on
-unfoldable pub places_of : (Decl → Bool) → ℕ → List Decl → List ℕ
-places_of test place [] = []
-places_of test place (decl ∷ decls) =
-    if test decl then place ∷ places_of test (place + 1) decls else places_of test (place + 1) decls
+-- the indices of the declarations that pass a test, from this index on
+unfoldable pub indices_where : (Decl → Bool) → ℕ → List Decl → List ℕ
+indices_where test index [] = []
+indices_where test index (decl ∷ decls) =
+    if test decl then index ∷ indices_where test (index + 1) decls else indices_where test (index + 1) decls
 
--- there are as many buckets as declarations, and each has the places of its declarations
+-- there are as many buckets as declarations, and each has the indices of its declarations
 pub record AreBuckets (decls : List Decl) (buckets : List (List ℕ)) : Type 0 where
   pub count : length buckets ≡ length decls
   pub each : (bucket : ℕ) (d : List ℕ) → bucket < length decls
-      → slice_index_or buckets bucket d ≡ places_of (is_of (length decls) bucket) 0 decls
+      → slice_index_or buckets bucket d ≡ indices_where (is_of (length decls) bucket) 0 decls
 
 -- whether a path may pick something of a declaration: its first name is of the declaration's bucket
 abbrev pub may_pick : ℕ → List (List ℕ) → Decl → Bool
 may_pick count [] decl = false
 may_pick count (name ∷ names) decl = is_of count (bucket_of count name) decl
 
--- the places of the declarations of which a path may pick something
-abbrev pub places_for : List Decl → List (List ℕ) → List ℕ
-places_for decls path = places_of (may_pick (length decls) path) 0 decls
+-- the indices of the declarations of which a path may pick something
+abbrev pub indices_for : List Decl → List (List ℕ) → List ℕ
+indices_for decls path = indices_where (may_pick (length decls) path) 0 decls

@@ -32,10 +32,10 @@ HasCountable clause = All IsCountable clause.slabs
 abbrev pub IsCut : ℕ → Slab → Type 0
 IsCut size slab = IsCountable slab ⊎ (slab ≡ whole_slab size)
 
--- each slab is so for the dimension at its place
+-- each slab is so for the dimension at its index
 abbrev pub AreCuts : List Dim → List Slab → Type 0
 AreCuts dims slabs =
-    (place : ℕ) (dim : Dim) (slab : Slab) → slice_get dims place ≡ Some dim → slice_get slabs place ≡ Some slab
+    (index : ℕ) (dim : Dim) (slab : Slab) → slice_get dims index ≡ Some dim → slice_get slabs index ≡ Some slab
     → IsCut dim.size slab
 
 -- the slabs of a slot are so for an array
@@ -43,14 +43,14 @@ abbrev pub IsSlotCut : Array → Slot → Type 0
 IsSlotCut array Free = Unit {0}
 IsSlotCut array (Taken slabs mixed) = AreCuts array.dims slabs
 
--- those of each slot are so for the array at its place
+-- those of each slot are so for the array at its index
 abbrev pub CanBeCut : List Array → List Slot → Type 0
 CanBeCut arrays slots =
-    (place : ℕ) (array : Array) (slot : Slot) → slice_get arrays place ≡ Some array → slice_get slots place ≡ Some slot
+    (index : ℕ) (array : Array) (slot : Slot) → slice_get arrays index ≡ Some array → slice_get slots index ≡ Some slot
     → IsSlotCut array slot
 
--- those of each note are so for the parts of the declaration at its place
+-- those of each note are so for the parts of the declaration at its index
 abbrev pub AllCanBeCut : List Decl → List Note → Type 0
 AllCanBeCut decls notes =
-    (place : ℕ) (decl : Decl) (note : Note) → slice_get decls place ≡ Some decl → slice_get notes place ≡ Some note
+    (index : ℕ) (decl : Decl) (note : Note) → slice_get decls index ≡ Some decl → slice_get notes index ≡ Some note
     → CanBeCut (parts_of decl) note.slots

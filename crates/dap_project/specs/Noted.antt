@@ -22,7 +22,7 @@ cut_slots [] slots = []
 cut_slots (array ∷ arrays) [] = []
 cut_slots (array ∷ arrays) (slot ∷ slots) = cut_of array slot ++ cut_slots arrays slots
 
--- a part whose slot is taken, by the place of its declaration and its own number
+-- a part whose slot is taken, by the index of its declaration and its own number
 abbrev pub sent_of_slot : ℕ → ℕ → Slot → List Sent
 sent_of_slot decl part Free = []
 sent_of_slot decl part (Taken slabs mixed) = with_slabs decl part slabs ∷ []
@@ -46,10 +46,10 @@ noted_decls [] notes = []
 noted_decls (decl ∷ decls) [] = []
 noted_decls (decl ∷ decls) (note ∷ notes) = decl_of decl note ++ noted_decls decls notes
 
--- the parts that are sent, of the declarations from this place on
+-- the parts that are sent, of the declarations from this index on
 unfoldable pub noted_sent : ℕ → List Note → List Sent
-noted_sent place [] = []
-noted_sent place (note ∷ notes) = sent_slots place 0 note.slots ++ noted_sent (place + 1) notes
+noted_sent index [] = []
+noted_sent index (note ∷ notes) = sent_slots index 0 note.slots ++ noted_sent (index + 1) notes
 
 -- what is sent
 abbrev pub noted_all : List Decl → List Note → Projected

@@ -2,13 +2,13 @@
 ghost use Rattle.std.specs.Prelude.{◌≡◌, ◌≤◌, List, All, IfOk, IsTrue, OnOk, length, map};
 ghost use Rattle.dap_model.specs.ClauseFaults as spec;
 ghost use Rattle.dap_model.specs.declared.projection.Clause as clauses;
-ghost use Rattle.dap_project.specs.Buckets.{places_for};
+ghost use Rattle.dap_project.specs.Buckets.{indices_for};
 ghost use Rattle.dap_project.specs.Checks.{Finds, HasCountable, IsCountable};
 ghost use Rattle.dap_project.specs.Notes.{note_of};
 
 use crate::note::{Note, slots_differ};
 use crate::part::picked_dims;
-use crate::picked::{name_of, picked_by, place_named};
+use crate::picked::{index_named, name_of, picked_by};
 use dap_model::{Clause, Decl, ProjectFault, Slab};
 use fm_base::{Bytes, Fail, List, NoMemory};
 use nc_model::Dim;
@@ -123,22 +123,22 @@ fn check_decl(
     check_conflict(alloc, decl, note, clause)
 }
 
-// The first fault of a clause, which may pick something of the declarations at these places alone.
+// The first fault of a clause, which may pick something of the declarations at these indices alone.
 #[tactic(auto, unfolding(dap_model::specs::ClauseFaults::clause_fault))]
 pub(crate) fn check_clause(
     alloc: Global,
     decls: &[Decl],
-    places: &[usize],
+    indices: &[usize],
     notes: &[Note],
     clause: &Clause,
 ) -> Result<(), Fail<ProjectFault>>
     requires count { length notes.now ≡ length decls.now }
-    requires places { places.now ≡ places_for decls.now clause.now.path }
+    requires indices { indices.now ≡ indices_for decls.now clause.now.path }
     ensures fault { (earlier : List clauses.Clause) → notes.now ≡ map (note_of earlier) decls.now
         → Finds (spec.clause_fault decls.now earlier clause.now) result }
     ensures countable { OnOk result (HasCountable clause.now) }
 {
-    match place_named(decls, places, clause.path.as_slice()) {
+    match index_named(decls, indices, clause.path.as_slice()) {
         Some(at) => check_decl(alloc, &decls[at], &notes[at], clause),
         None => {
             let name = path_text(alloc, clause.path.as_slice())?;

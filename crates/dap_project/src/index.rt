@@ -9,7 +9,7 @@ use dap_model::Decl;
 use fm_base::{Bytes, List, NoMemory};
 use std::alloc::Global;
 
-// The places of the declarations of each bucket, rising. The bucket of a name is its code, modulo their number.
+// The indices of the declarations of each bucket, rising. The bucket of a name is its code, modulo their number.
 #[derive(Drop)]
 pub(crate) struct Index {
     pub(crate) buckets: List<List<usize>>,
@@ -39,7 +39,7 @@ fn bucket_of(count: usize, name: &[u8]) -> usize
     code_of(name) % count
 }
 
-// Buckets without places.
+// Buckets without indices.
 fn empty_buckets(alloc: Global, count: usize) -> Result<List<List<usize>>, NoMemory>
     ensures { IfOk result (λ buckets. buckets ≡ replicate count []) }
 {
@@ -50,7 +50,7 @@ fn empty_buckets(alloc: Global, count: usize) -> Result<List<List<usize>>, NoMem
     Ok(buckets)
 }
 
-// Puts the place of each declaration into its bucket.
+// Puts the index of each declaration into its bucket.
 fn fill(decls: &[Decl], buckets: &mut [List<usize>]) -> Result<(), NoMemory>
     requires count { length buckets.old ≡ length decls.now }
     requires empty { buckets.old ≡ replicate (length decls.now) [] }
@@ -73,10 +73,11 @@ impl Index {
         Ok(Index { buckets })
     }
 
-    // The places of the declarations of a name's bucket.
+    // The indices of the declarations of a name's bucket.
     fn bucket(&self, name: &[u8]) -> &[usize]
         ensures { (decls : Items declarations.Decl) → spec.AreBuckets decls self.now.buckets
-            → result.now ≡ spec.places_of (spec.is_of (length decls) (spec.bucket_of (length decls) name.now)) 0 decls }
+            → result.now ≡ spec.indices_where (spec.is_of (length decls) (spec.bucket_of (length decls) name.now)) 0
+            decls }
     {
         let buckets = self.buckets.as_slice();
         if buckets.is_empty() {
@@ -85,10 +86,10 @@ impl Index {
         buckets[bucket_of(buckets.len(), name)].as_slice()
     }
 
-    // The places of the declarations of which a path may pick something, rising.
-    pub(crate) fn places(&self, path: &[Bytes]) -> &[usize]
+    // The indices of the declarations of which a path may pick something, rising.
+    pub(crate) fn indices(&self, path: &[Bytes]) -> &[usize]
         ensures { (decls : Items declarations.Decl) → spec.AreBuckets decls self.now.buckets
-            → result.now ≡ spec.places_for decls path.now }
+            → result.now ≡ spec.indices_for decls path.now }
     {
         match path {
             [name, ..] => self.bucket(name.as_slice()),

@@ -1,7 +1,7 @@
 //! What clauses ask of the declarations of a dataset, noted clause by clause.
 ghost use Rattle.std.specs.Prelude.{◌≡◌, IfOk, OnOk, length, map, None};
 ghost use Rattle.dap_model.specs.Picking as picking;
-ghost use Rattle.dap_project.specs.Buckets.{places_for};
+ghost use Rattle.dap_project.specs.Buckets.{indices_for};
 ghost use Rattle.dap_project.specs.Notes as spec;
 
 use crate::part::part_count;
@@ -115,20 +115,20 @@ pub(crate) fn fresh_notes(alloc: Global, decls: &[Decl]) -> Result<List<Note>, N
     Ok(notes)
 }
 
-// Notes what a clause asks of each declaration. It may pick something of those at these places alone.
+// Notes what a clause asks of each declaration. It may pick something of those at these indices alone.
 pub(crate) fn note_clause(
     alloc: Global,
     decls: &[Decl],
-    places: &[usize],
+    indices: &[usize],
     notes: &mut [Note],
     clause: &Clause,
 ) -> Result<(), NoMemory>
     requires count { length notes.old ≡ length decls.now }
-    requires places { places.now ≡ places_for decls.now clause.now.path }
+    requires indices { indices.now ≡ indices_for decls.now clause.now.path }
     ensures { OnOk result (notes.new ≡ spec.notes_after clause.now decls.now notes.old) }
 {
-    for place in places {
-        notes[*place].add(alloc, &decls[*place], clause)?;
+    for at in indices {
+        notes[*at].add(alloc, &decls[*at], clause)?;
     }
     Ok(())
 }

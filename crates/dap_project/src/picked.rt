@@ -3,7 +3,7 @@ ghost use Rattle.std.specs.Prelude.{◌≡◌, ◌<◌, ◌≤◌, length, Match
 ghost use Rattle.std.specs.List.{position_or_len};
 ghost use Rattle.std.specs.Str.{bytes_eq};
 ghost use Rattle.dap_model.specs.Picking as spec;
-ghost use Rattle.dap_project.specs.Buckets.{places_for};
+ghost use Rattle.dap_project.specs.Buckets.{indices_for};
 ghost use Rattle.dap_project.specs.Notes.{picked_of};
 
 use dap_model::{Array, Decl};
@@ -28,9 +28,9 @@ pub(crate) fn name_of(decl: &Decl) -> &[u8]
     }
 }
 
-// The place of the first of some arrays that has a name, or how many there are.
+// The index of the first of some arrays that has a name, or how many there are.
 fn first_named(name: &[u8], arrays: &[Array]) -> usize
-    ensures place { result ≡ position_or_len (λ part. bytes_eq part.name name.now) arrays.now }
+    ensures index { result ≡ position_or_len (λ part. bytes_eq part.name name.now) arrays.now }
     ensures within { result ≤ length arrays.now }
 {
     let mut left = arrays;
@@ -119,15 +119,15 @@ pub(crate) fn is_every(choice: Choice) -> bool
     }
 }
 
-// The place of the first declaration that a path names, or names a part of, which is one of these.
-pub(crate) fn place_named(decls: &[Decl], places: &[usize], path: &[Bytes]) -> Option<usize>
-    requires { places.now ≡ places_for decls.now path.now }
+// The index of the first declaration that a path names, or names a part of, which is one of these.
+pub(crate) fn index_named(decls: &[Decl], indices: &[usize], path: &[Bytes]) -> Option<usize>
+    requires { indices.now ≡ indices_for decls.now path.now }
     ensures { MatchOption result (spec.decl_named decls.now path.now ≡ None)
         (λ at. (at < length decls.now) × (slice_get decls.now at ≡ spec.decl_named decls.now path.now)) }
 {
-    for place in places {
-        if is_picked(picked_by(&decls[*place], path)) {
-            return Some(*place);
+    for at in indices {
+        if is_picked(picked_by(&decls[*at], path)) {
+            return Some(*at);
         }
     }
     None

@@ -33,9 +33,9 @@ fn add_clause(
     ensures notes { OnOk result (notes.new ≡ notes_after clause.now decls.now notes.old) }
     ensures countable { OnOk result (HasCountable clause.now) }
 {
-    let places = index.places(clause.path.as_slice());
-    check_clause(alloc, decls, places, notes.as_slice(), clause)?;
-    note_clause(alloc, decls, places, notes.items.as_mut_slice(), clause)?;
+    let indices = index.indices(clause.path.as_slice());
+    check_clause(alloc, decls, indices, notes.as_slice(), clause)?;
+    note_clause(alloc, decls, indices, notes.items.as_mut_slice(), clause)?;
     Ok(())
 }
 

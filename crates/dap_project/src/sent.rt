@@ -106,7 +106,7 @@ fn decls_sent(alloc: Global, decls: &[Decl], notes: &[Note]) -> Result<List<Decl
     Ok(sent)
 }
 
-// Adds a part whose slot is taken, by the place of its declaration and its own number.
+// Adds a part whose slot is taken, by the index of its declaration and its own number.
 fn add_part(
     alloc: Global,
     decl: u32,
@@ -132,7 +132,7 @@ fn add_part(
     }
 }
 
-// Adds the parts of a declaration whose slots are taken, by the place of the declaration.
+// Adds the parts of a declaration whose slots are taken, by the index of the declaration.
 #[tactic(auto, using(crate::proofs::StepLemmas::sent))]
 fn add_parts(
     alloc: Global,

@@ -17,9 +17,9 @@ use Rattle.dap_reply.specs.Served.{asked_of, held_bytes, input_of, items_of, mar
 
 -- each mark has the whole length of its reply
 AreWhole : Proto → List Op → List Mark → List Item → ℕ → Type 0
-AreWhole proto ops marks items before = (place : ℕ) (mark : Mark) (item : Item) → slice_get marks place ≡ Some mark
-    → slice_get items place ≡ Some item
-    → mark.sent ≡ length (marked_reply proto ops mark item (before + place + 1))
+AreWhole proto ops marks items before = (index : ℕ) (mark : Mark) (item : Item) → slice_get marks index ≡ Some mark
+    → slice_get items index ≡ Some item
+    → mark.sent ≡ length (marked_reply proto ops mark item (before + index + 1))
 
 whole-script : (proto : Proto) (ops : List Op) (marks : List Mark) (items : List Item) (before : ℕ)
     → AreWhole proto ops marks items before
@@ -31,9 +31,9 @@ whole-script proto ops (mark ∷ marks) [] before whole = refl
 whole-script proto ops (mark ∷ marks) (item ∷ items) before whole =
     let reply = marked_reply proto ops mark item (before + 1) in
     let first = whole 0 mark item refl refl in
-    let others : AreWhole proto ops marks items (before + 1) = λ place next found there is.
+    let others : AreWhole proto ops marks items (before + 1) = λ index next found there is.
     subst (λ n. next.sent ≡ length (marked_reply proto ops next found n)) (omega arith)
-    (whole (suc place) next found there is) in
+    (whole (suc index) next found there is) in
     ap₂ (λ (l r : List ℕ). l ++ r)
     (ap (λ n. take n reply) (first ∙ ap (λ n. length (marked_reply proto ops mark item n)) (omega arith))
     ∙ take_all (length reply) reply (omega arith))
@@ -51,8 +51,8 @@ sent-script : (call : LinkCall) → Served call → call.stop ≢ stops.Ended en
 unfolding AreWhole
 sent-script call served sound =
     whole-script call.proto call.seen_after call.trail (items_of call) call.session.before
-    (λ place mark item there is. ⊎_elim (λ whole. whole) (λ cut. absurd (sound cut.0))
-    (served.writes.whole place mark item there is))
+    (λ index mark item there is. ⊎_elim (λ whole. whole) (λ cut. absurd (sound cut.0))
+    (served.writes.whole index mark item there is))
 
 pub served-script : (call : LinkCall) → Served call → call.stop ≢ stops.Ended ends.LinkFault
     → call.stop ≢ stops.Ended ends.NoMemory → call.written ≡ script_to call

@@ -59,9 +59,9 @@ input_of call = held_bytes call.session ++ call.taken
 abbrev pub items_of : LinkCall → List Item
 items_of call = (heads_of (input_of call)).items
 
--- the number of the reply at a place, from 1
+-- the number of the reply at an index, from 1
 abbrev pub number_at : LinkCall → ℕ → ℕ
-number_at call place = call.session.before + place + 1
+number_at call index = call.session.before + index + 1
 
 -- the reply to an item, with the revision of a mark
 abbrev pub marked_reply : Proto → List Op → Mark → Item → ℕ → List ℕ
@@ -97,12 +97,12 @@ wanted_revisions proto (mark ∷ marks) (item ∷ items) =
     then mark.revision ∷ wanted_revisions proto marks items
     else wanted_revisions proto marks items
 
--- the reply at a place is whole, or it is the last one that was begun and the link failed
+-- the reply at an index is whole, or it is the last one that was begun and the link failed
 abbrev pub IsWholeOrCut : LinkCall → ℕ → Mark → Item → Type 0
-IsWholeOrCut call place mark item =
-    (mark.sent ≡ length (marked_reply call.proto call.seen_after mark item (number_at call place)))
-    ⊎ ((call.stop ≡ stops.Ended ends.LinkFault) × (place + 1 ≡ length call.trail)
-    × (mark.sent ≤ length (marked_reply call.proto call.seen_after mark item (number_at call place))))
+IsWholeOrCut call index mark item =
+    (mark.sent ≡ length (marked_reply call.proto call.seen_after mark item (number_at call index)))
+    ⊎ ((call.stop ≡ stops.Ended ends.LinkFault) × (index + 1 ≡ length call.trail)
+    × (mark.sent ≤ length (marked_reply call.proto call.seen_after mark item (number_at call index))))
 
 -- what was seen only grew, and not at all where the giver of looks stands still; the revisions of the replies never
 -- fall, and lie between what was seen before and after
@@ -116,8 +116,8 @@ pub record SeesMore (call : LinkCall) : Type 0 where
 pub record AnswersInOrder (call : LinkCall) : Type 0 where
   pub few : length call.trail ≤ call.most
   pub read : length call.trail ≤ length (items_of call)
-  pub goes_on : (place : ℕ) (item : Item) → place + 1 < length call.trail → slice_get (items_of call) place ≡ Some item
-      → is_last item (number_at call place) ≡ false
+  pub goes_on : (index : ℕ) (item : Item) → index + 1 < length call.trail → slice_get (items_of call) index ≡ Some item
+      → is_last item (number_at call index) ≡ false
 
 -- the bytes written are those of the replies, each whole but for the last where the link failed; where memory ran out
 -- the text that says so follows, whole unless the link failed too
@@ -125,8 +125,8 @@ pub record WritesReplies (call : LinkCall) : Type 0 where
   pub farewell : List ℕ
   pub written_is : call.written
       ≡ sent_by call.proto call.seen_after call.trail (items_of call) call.session.before ++ farewell
-  pub whole : (place : ℕ) (mark : Mark) (item : Item) → slice_get call.trail place ≡ Some mark
-      → slice_get (items_of call) place ≡ Some item → IsWholeOrCut call place mark item
+  pub whole : (index : ℕ) (mark : Mark) (item : Item) → slice_get call.trail index ≡ Some mark
+      → slice_get (items_of call) index ≡ Some item → IsWholeOrCut call index mark item
   pub only_short : call.stop ≢ stops.Ended ends.NoMemory → farewell ≡ []
   pub front : farewell ≡ take (length farewell) no_memory_reply
   pub said : call.stop ≡ stops.Ended ends.NoMemory → (farewell ≡ no_memory_reply) ⊎ HasFailed call
@@ -149,33 +149,33 @@ asked_of head_too_long = asked.HeadTooLong
 
 -- the reply that was begun last is whole, and a connection ends so after it
 pub record EndsAfterReply (call : LinkCall) (end : End) : Type 0 where
-  pub place : ℕ
+  pub index : ℕ
   pub item : Item
-  pub place_is : place + 1 ≡ length call.trail
-  pub item_is : slice_get (items_of call) place ≡ Some item
-  pub end_is : end_after (asked_of item) (call.session.before + place) ≡ Some end
+  pub index_is : index + 1 ≡ length call.trail
+  pub item_is : slice_get (items_of call) index ≡ Some item
+  pub end_is : end_after (asked_of item) (call.session.before + index) ≡ Some end
 
 -- all requests that were read are answered, and none of the replies was a connection's last
 pub record AnswersAll (call : LinkCall) : Type 0 where
   pub all : length call.trail ≡ length (items_of call)
   pub more : length call.trail < call.most
-  pub goes_on : (place : ℕ) (item : Item) → slice_get (items_of call) place ≡ Some item
-      → is_last item (number_at call place) ≡ false
+  pub goes_on : (index : ℕ) (item : Item) → slice_get (items_of call) index ≡ Some item
+      → is_last item (number_at call index) ≡ false
 
 -- a reply was due: a request that was read has none, fewer were written than were asked for, and none of them was a
 -- connection's last
 pub record LacksReply (call : LinkCall) : Type 0 where
   pub unanswered : length call.trail < length (items_of call)
   pub few : length call.trail < call.most
-  pub goes_on : (place : ℕ) (item : Item) → place < length call.trail → slice_get (items_of call) place ≡ Some item
-      → is_last item (number_at call place) ≡ false
+  pub goes_on : (index : ℕ) (item : Item) → index < length call.trail → slice_get (items_of call) index ≡ Some item
+      → is_last item (number_at call index) ≡ false
 
 -- as many replies were written as were asked for, none of them a connection's last; the session rests, and holds the
 -- bytes after the heads that were answered, which read as what comes after them
 pub record HasEnough (call : LinkCall) : Type 0 where
   pub all : length call.trail ≡ call.most
-  pub goes_on : (place : ℕ) (item : Item) → place < length call.trail → slice_get (items_of call) place ≡ Some item
-      → is_last item (number_at call place) ≡ false
+  pub goes_on : (index : ℕ) (item : Item) → index < length call.trail → slice_get (items_of call) index ≡ Some item
+      → is_last item (number_at call index) ≡ false
   pub rests : IsAtRest call.session_after
   pub held_is : held_bytes call.session_after ≡ bytes_after call.most (input_of call)
   pub left : ReadsTo (input_of call) (take call.most (items_of call)) (held_bytes call.session_after)

@@ -34,28 +34,28 @@ unfolding box_len product
 box_len-append [] back = omega arith
 box_len-append (slab ∷ front) back = ap (λ (n : ℕ). slab_count slab * n) (box_len-append front back) ∙ grind arith
 
--- the index list at a place of two boxes together
-pub index_at-append : (front back : List Slab) (place rest : ℕ) → place < box_len front → rest < box_len back
-    → index_at (front ++ back) (place * box_len back + rest) ≡ index_at front place ++ index_at back rest
+-- the index list of an element of two boxes together
+pub index_at-append : (front back : List Slab) (element rest : ℕ) → element < box_len front → rest < box_len back
+    → index_at (front ++ back) (element * box_len back + rest) ≡ index_at front element ++ index_at back rest
 unfolding box_len product index_at
-index_at-append [] back place rest within below =
-    let none : place ≡ 0 = omega arith in
+index_at-append [] back element rest within below =
+    let none : element ≡ 0 = omega arith in
     ap (λ (n : ℕ). index_at back (n * box_len back + rest)) none ∙ ap (index_at back) (omega arith)
-index_at-append (slab ∷ front) back place rest within below =
+index_at-append (slab ∷ front) back element rest within below =
     let width = box_len front in
     let more = box_len back in
-    let split = split_of (slab_count slab) width place within in
-    let first = place / width in
-    let second = place % width in
+    let split = split_of (slab_count slab) width element within in
+    let first = element / width in
+    let second = element % width in
     let inner : second * more + rest < box_len (front ++ back) =
     subst (λ (n : ℕ). second * more + rest < n) (mul_comm more width ∙ sym (box_len-append front back))
     (mul-add-lt second more rest width split.second below) in
     let apart : (first * width + second) * more + rest ≡ first * (width * more) +
     (second * more + rest) = grind arith in
-    let place_is : place * more + rest ≡ first * box_len (front ++ back) + (second * more + rest) =
+    let element_is : element * more + rest ≡ first * box_len (front ++ back) + (second * more + rest) =
     ap (λ (n : ℕ). n * more + rest) (sym split.whole)
     ∙ apart
     ∙ ap (λ (n : ℕ). first * n + (second * more + rest)) (sym (box_len-append front back)) in
-    ap (index_at (slab ∷ (front ++ back))) place_is
+    ap (index_at (slab ∷ (front ++ back))) element_is
     ∙ index_at-cons slab (front ++ back) first (second * more + rest) inner
     ∙ ap (λ (l : List ℕ). slab_index slab first ∷ l) (index_at-append front back second rest split.second below)

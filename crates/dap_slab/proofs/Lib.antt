@@ -1,4 +1,4 @@
 pub mod CountLemmas
+pub mod ElementLemmas
 pub mod IndexLemmas
-pub mod PlaceLemmas
 pub mod WalkLemmas

@@ -19,16 +19,16 @@ use Rattle.dap_slab.proofs.IndexLemmas.{box_len-pos, box_len-append, index_at-ap
 
 -- an index list on its way to the next: its last indices start again, and the first are as they were
 pub record Carried (front back : List Slab) (index : List ℕ) (next : ℕ) : Type 0 where
-  pub place : ℕ
-  pub within : place < box_len front
-  pub whole : (place + 1) * box_len back ≡ next
-  pub index_is : index ≡ index_at front place ++ index_at back 0
+  pub element : ℕ
+  pub within : element < box_len front
+  pub whole : (element + 1) * box_len back ≡ next
+  pub index_is : index ≡ index_at front element ++ index_at back 0
 
 pub Carried-first : (slabs : List Slab) (index : List ℕ) (next : ℕ) → index ≡ index_at slabs (next - 1) → 1 ≤ next
     → next < box_len slabs → Carried slabs [] index next
 unfolding box_len product index_at
 Carried-first slabs index next same begun more = record {
-  place = next - 1;
+  element = next - 1;
   within = omega arith;
   whole = omega arith;
   index_is = same ∙ sym (append-nil (index_at slabs (next - 1)));
@@ -38,18 +38,18 @@ Carried-first slabs index next same begun more = record {
 pub Carried-last : (slabs : List Slab) (index : List ℕ) (next : ℕ) → next < box_len slabs → Carried [] slabs index next
     → ⊥
 Carried-last slabs index next more s =
-    let one : 1 ≤ s.place + 1 = omega arith in
+    let one : 1 ≤ s.element + 1 = omega arith in
     let least = mul-le-mul_right (box_len slabs) one in
     omega (arith, s.whole)
 
 -- the last slab whose index hasn't started again, and that index
 record AtSlab (front : List Slab) (slab : Slab) (back : List Slab) (index : List ℕ) (next : ℕ) : Type 0 where
-  place : ℕ
+  element : ℕ
   strides : ℕ
-  within : place < box_len front
+  within : element < box_len front
   below : strides < slab_count slab
-  whole : (place * slab_count slab + (strides + 1)) * box_len back ≡ next
-  index_is : index ≡ index_at front place ++ slab_index slab strides ∷ index_at back 0
+  whole : (element * slab_count slab + (strides + 1)) * box_len back ≡ next
+  index_is : index ≡ index_at front element ++ slab_index slab strides ∷ index_at back 0
 
 one_slab : (slab : Slab) (strides : ℕ) → index_at (slab ∷ []) strides ≡ slab_index slab strides ∷ []
 unfolding box_len product index_at
@@ -65,31 +65,32 @@ at_slab : (front : List Slab) (slab : Slab) (back : List Slab) (index : List ℕ
 at_slab front slab back index next s =
     let count = slab_count slab in
     let product_is = box_len-append front (slab ∷ []) ∙ ap (λ (n : ℕ). box_len front * n) (one_count slab) in
-    let split = split_of (box_len front) count s.place (subst (λ (n : ℕ). s.place < n) product_is s.within) in
-    let place = s.place / count in
-    let strides = s.place % count in
-    let place_is : s.place ≡ place * box_len (slab ∷ []) + strides =
-    sym split.whole ∙ ap (λ (n : ℕ). place * n + strides) (sym (one_count slab)) in
+    let split = split_of (box_len front) count s.element (subst (λ (n : ℕ). s.element < n) product_is s.within) in
+    let element = s.element / count in
+    let strides = s.element % count in
+    let element_is : s.element ≡ element * box_len (slab ∷ []) + strides =
+    sym split.whole ∙ ap (λ (n : ℕ). element * n + strides) (sym (one_count slab)) in
     let below : strides < box_len (slab ∷ []) = subst (λ (n : ℕ). strides < n) (sym (one_count slab)) split.second in
-    let front_is : index_at (front ++ slab ∷ []) s.place ≡ index_at front place ++ slab_index slab strides ∷ [] =
-    ap (index_at (front ++ slab ∷ [])) place_is
-    ∙ index_at-append front (slab ∷ []) place strides split.first below
-    ∙ ap (λ (l : List ℕ). index_at front place ++ l) (one_slab slab strides) in
+    let front_is : index_at (front ++ slab ∷ []) s.element ≡ index_at front element ++ slab_index slab strides ∷ [] =
+    ap (index_at (front ++ slab ∷ [])) element_is
+    ∙ index_at-append front (slab ∷ []) element strides split.first below
+    ∙ ap (λ (l : List ℕ). index_at front element ++ l) (one_slab slab strides) in
     record {
-      place = place;
+      element = element;
       strides = strides;
       within = split.first;
       below = split.second;
       whole = ap (λ (n : ℕ). n * box_len back) (omega (arith, split.whole)) ∙ s.whole;
       index_is = s.index_is
           ∙ ap (λ (l : List ℕ). l ++ index_at back 0) front_is
-          ∙ append_assoc (index_at front place) (slab_index slab strides ∷ []) (index_at back 0);
+          ∙ append_assoc (index_at front element) (slab_index slab strides ∷ []) (index_at back 0);
     }
 
 -- where the slab has a further index, the next index list is found
 moved_on : (front : List Slab) (slab : Slab) (back : List Slab) (index : List ℕ) (next : ℕ) → 0 < box_len back
     → (s : AtSlab front slab back index next) → s.strides + 1 < slab_count slab
-    → index_at front s.place ++ slab_index slab (s.strides + 1) ∷ index_at back 0 ≡ index_at (front ++ slab ∷ back) next
+    → index_at front s.element ++ slab_index slab (s.strides + 1) ∷ index_at back 0
+    ≡ index_at (front ++ slab ∷ back) next
 unfolding box_len product
 moved_on front slab back index next some s further =
     let width = box_len back in
@@ -97,31 +98,31 @@ moved_on front slab back index next some s further =
     let inner : (s.strides + 1) * width + 0 < count * width =
     subst (λ (n : ℕ). (s.strides + 1) * width + 0 < n) (mul_comm width count)
     (mul-add-lt (s.strides + 1) width 0 count further some) in
-    let apart : (s.place * count + (s.strides + 1)) * width ≡ s.place * (count * width) +
+    let apart : (s.element * count + (s.strides + 1)) * width ≡ s.element * (count * width) +
     ((s.strides + 1) * width + 0) =
     grind arith in
     sym (ap (index_at (front ++ slab ∷ back)) (sym s.whole ∙ apart)
-    ∙ index_at-append front (slab ∷ back) s.place ((s.strides + 1) * width + 0) s.within inner
-    ∙ ap (λ (l : List ℕ). index_at front s.place ++ l) (index_at-cons slab back (s.strides + 1) 0 some))
+    ∙ index_at-append front (slab ∷ back) s.element ((s.strides + 1) * width + 0) s.within inner
+    ∙ ap (λ (l : List ℕ). index_at front s.element ++ l) (index_at-cons slab back (s.strides + 1) 0 some))
 
 -- where it has none, it starts again, and the slab before it is next
 starts_again : (front : List Slab) (slab : Slab) (back : List Slab) (index : List ℕ) (next : ℕ) → 0 < box_len back
     → (s : AtSlab front slab back index next) → s.strides + 1 ≡ slab_count slab
-    → Carried front (slab ∷ back) (index_at front s.place ++ slab.start ∷ index_at back 0) next
+    → Carried front (slab ∷ back) (index_at front s.element ++ slab.start ∷ index_at back 0) next
 unfolding box_len product
 starts_again front slab back index next some s last =
     let width = box_len back in
     let count = slab_count slab in
-    let apart : (s.place + 1) * (count * width) ≡ (s.place * count + count) * width = grind arith in
+    let apart : (s.element + 1) * (count * width) ≡ (s.element * count + count) * width = grind arith in
     let none : 0 ≡ 0 * width + 0 = omega arith in
     let first : slab_index slab 0 ∷ index_at back 0 ≡ slab.start ∷ index_at back 0 =
     ap (λ (n : ℕ). n ∷ index_at back 0) (omega arith) in
     record {
-      place = s.place;
+      element = s.element;
       within = s.within;
-      whole = apart ∙ ap (λ (n : ℕ). (s.place * count + n) * width) (sym last) ∙ s.whole;
+      whole = apart ∙ ap (λ (n : ℕ). (s.element * count + n) * width) (sym last) ∙ s.whole;
       index_is =
-          ap (λ (l : List ℕ). index_at front s.place ++ l)
+          ap (λ (l : List ℕ). index_at front s.element ++ l)
           (sym (ap (index_at (slab ∷ back)) none ∙ index_at-cons slab back 0 0 some ∙ first));
     }
 
@@ -146,9 +147,9 @@ turn_at : (front : List Slab) (slab : Slab) (back : List Slab) (index : List ℕ
 turn_at front slab back index next has some s =
     let here = slab_index slab s.strides in
     let picks = Picks-slab_index slab s.strides has.stride s.below in
-    let firsts = index_at front s.place in
+    let firsts = index_at front s.element in
     let lasts = index_at back 0 in
-    let many : length firsts ≡ length front = length-index_at front s.place in
+    let many : length firsts ≡ length front = length-index_at front s.element in
     let further : slab_index slab (s.strides + 1) ≡ here + slab.stride = grind arith in
     let read : get_or index (length front) 0 ≡ here =
     ap₂ (λ (l : List ℕ) (n : ℕ). get_or l n 0) s.index_is (sym many ∙ sym (add-zero (length firsts)))
@@ -188,7 +189,7 @@ turn_at front slab back index next has some s =
         | inr last ↦ omega arith
       ]
 
--- one turn of the loop: where all slabs behind the one at a place have started again, so has it, or it is moved on
+-- one turn of the loop: where all slabs behind the one at an index have started again, so has it, or it is moved on
 pub Turn-carried : (slabs : List Slab) (index : List ℕ) (next at : ℕ) → All HasIndex slabs → at < length slabs
     → Carried (take (suc at) slabs) (drop (suc at) slabs) index next
     → Turn slabs index next at (slab_at slabs at) (get_or index at 0)
@@ -220,7 +221,7 @@ Turn-carried slabs index next at each within s =
           (turn.5 (omega (arith, same))));
     }
 
--- the same, where the place is one before
+-- the same, where the index is one before
 pub turn_before : (slabs : List Slab) (index : List ℕ) (next at : ℕ) → All HasIndex slabs → 0 < at → at ≤ length slabs
     → Carried (take at slabs) (drop at slabs) index next
     → Turn slabs index next (at - 1) (slab_at slabs (at - 1)) (get_or index (at - 1) 0)

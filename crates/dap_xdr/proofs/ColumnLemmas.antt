@@ -31,20 +31,20 @@ is-portion shown sent array given rows_are fits is = record {
 }
 
 module _ (column : PartOf) (sent : Sent) (array : Array) (is : IsColumnOf column sent)
-    (portion : IsPortion (portion_of column sent array)) (place : ℕ) (index : List ℕ)
-    (within : place < box_len sent.slabs) (same : index ≡ index_at sent.slabs place) where
-  -- a number or a text at a place is one of the column
+    (portion : IsPortion (portion_of column sent array)) (element : ℕ) (index : List ℕ)
+    (within : element < box_len sent.slabs) (same : index ≡ index_at sent.slabs element) where
+  -- an element, a number or a text, is one of the column
   pub number-asked : array.kind ≢ Text → HasNumber column.shown column.decl column.part index
   number-asked number =
       subst₂ (λ (d p : ℕ). HasNumber column.shown d p index) (sym is.decl_is) (sym is.part_is)
       (has_number column.shown sent.decl sent.part index
-      (has-number (portion_of column sent array) place index portion number within same))
+      (has-number (portion_of column sent array) element index portion number within same))
 
   pub text-asked : array.kind ≡ Text → HasText column.shown column.decl column.part index
   text-asked text =
       subst₂ (λ (d p : ℕ). HasText column.shown d p index) (sym is.decl_is) (sym is.part_is)
       (has_text column.shown sent.decl sent.part index
-      (has-text (portion_of column sent array) place index portion text within same))
+      (has-text (portion_of column sent array) element index portion text within same))
 
   -- texts are short
   pub text-short : array.kind ≡ Text → length (text_of_part column.shown column.decl column.part index) < 2 ^ 32

@@ -1,4 +1,4 @@
--- The bytes of numbers from a place on.
+-- The bytes of numbers from an element on.
 use Rattle.std.proofs.Common.{◌≡◌, ℕ, zero, suc, ◌+◌, ◌-◌, ◌*◌, ◌<◌, List, [], ◌∷◌, ◌++◌, length, map, min, take, drop, sym, ap, ap₂, subst, ◌∙◌, arith}
 use Rattle.std.specs.List.{flat_map}
 use Rattle.std.proofs.Math.Nat.{suc-mul}
@@ -14,48 +14,48 @@ use Rattle.dap_xdr.specs.Portion.{array_of, bits_in, body_of, numbers_from, Port
 use Rattle.dap_number.specs.Overlay.{overlay}
 use Rattle.dap_xdr.specs.Stretch.{AreBytesOf, ArePicked}
 use Rattle.dap_number.proofs.FrontLemmas.{front-more, overlay-front}
-use Rattle.dap_xdr.proofs.PickedLemmas.{drop-place}
+use Rattle.dap_xdr.proofs.PickedLemmas.{drop-element}
 
--- the first numbers from a place on, and those after them
-pub from-split : (n : Portion) (place count : ℕ)
-    → numbers_from n place
-    ≡ flat_map (element_bytes n.array.kind) (map (bits_in n) (take count (drop place (box_of n.sent.slabs))))
-    ++ flat_map (element_bytes n.array.kind) (map (bits_in n) (drop count (drop place (box_of n.sent.slabs))))
+-- the first numbers from an element on, and those after them
+pub from-split : (n : Portion) (element count : ℕ)
+    → numbers_from n element
+    ≡ flat_map (element_bytes n.array.kind) (map (bits_in n) (take count (drop element (box_of n.sent.slabs))))
+    ++ flat_map (element_bytes n.array.kind) (map (bits_in n) (drop count (drop element (box_of n.sent.slabs))))
 unfolding numbers_from
-from-split n place count =
+from-split n element count =
     let f = element_bytes n.array.kind in
     let b = bits_in n in
-    let box = drop place (box_of n.sent.slabs) in
+    let box = drop element (box_of n.sent.slabs) in
     ap (λ (l : List (List ℕ)). flat_map f (map b l)) (sym (take-append-drop count box))
     ∙ ap (flat_map f) (map-append b (take count box) (drop count box))
     ∙ flat_map-append f (map b (take count box)) (map b (drop count box))
 
--- what is written of numbers that are picked from a place on is a front of all from there on
-pub picked-front : (n : Portion) (place skip most count : ℕ) (stored old new : List ℕ)
-    → ArePicked n.array.kind (bits_in n) n.sent.slabs place most stored
+-- what is written of numbers that are picked from an element on is a front of all from there on
+pub picked-front : (n : Portion) (element skip most count : ℕ) (stored old new : List ℕ)
+    → ArePicked n.array.kind (bits_in n) n.sent.slabs element most stored
     → ((numbers : List ℕ) → AreBytesOf n.array.kind numbers stored
     → IsFront (drop skip (flat_map (element_bytes n.array.kind) numbers)) old new count)
-    → IsFront (drop skip (numbers_from n place)) old new count
-picked-front n place skip most count stored old new picked each =
-    subst (λ (l : List ℕ). IsFront (drop skip l) old new count) (sym (from-split n place picked.count))
+    → IsFront (drop skip (numbers_from n element)) old new count
+picked-front n element skip most count stored old new picked each =
+    subst (λ (l : List ℕ). IsFront (drop skip l) old new count) (sym (from-split n element picked.count))
     (front-more _ _ old new skip count (each _ picked.bytes_are))
 
--- what is written of the number at a place is a front of all from there on
-pub one-front : (n : Portion) (place skip count : ℕ) (old : List ℕ)
-    → place < box_len n.sent.slabs
+-- what is written of one number is a front of all from there on
+pub one-front : (n : Portion) (element skip count : ℕ) (old : List ℕ)
+    → element < box_len n.sent.slabs
     → count ≡ min (length old)
-    (length (element_bytes n.array.kind (bits_in n (index_at n.sent.slabs place))) - skip)
-    → IsFront (drop skip (numbers_from n place)) old
-    (overlay (drop skip (element_bytes n.array.kind (bits_in n (index_at n.sent.slabs place)))) old) count
+    (length (element_bytes n.array.kind (bits_in n (index_at n.sent.slabs element))) - skip)
+    → IsFront (drop skip (numbers_from n element)) old
+    (overlay (drop skip (element_bytes n.array.kind (bits_in n (index_at n.sent.slabs element)))) old) count
 unfolding numbers_from
-one-front n place skip count old within is =
+one-front n element skip count old within is =
     let f = element_bytes n.array.kind in
     let b = bits_in n in
-    let one = f (b (index_at n.sent.slabs place)) in
-    let all : numbers_from n place ≡ one ++ numbers_from n (suc place) =
-    ap (λ (l : List (List ℕ)). flat_map f (map b l)) (drop-place n.sent.slabs place within) in
+    let one = f (b (index_at n.sent.slabs element)) in
+    let all : numbers_from n element ≡ one ++ numbers_from n (suc element) =
+    ap (λ (l : List (List ℕ)). flat_map f (map b l)) (drop-element n.sent.slabs element within) in
     subst (λ (l : List ℕ). IsFront (drop skip l) old (overlay (drop skip one) old) count) (sym all)
-    (front-more one (numbers_from n (suc place)) old (overlay (drop skip one) old) skip count
+    (front-more one (numbers_from n (suc element)) old (overlay (drop skip one) old) skip count
     (overlay-front (drop skip one) old count
     (is ∙ ap (λ (m : ℕ). min (length old) m) (sym (length-drop skip one)))))
 
@@ -81,33 +81,33 @@ flat-length f width each (x ∷ xs) =
     ∙ ap₂ (λ (m n : ℕ). m + n) (each x) (flat-length f width each xs)
     ∙ omega (arith, suc-mul (length xs) width)
 
--- the bytes from a later place on are what is left of those from an earlier one
-pub from-later : (n : Portion) (place times skip : ℕ)
-    → drop (times * element_len n.array.kind + skip) (numbers_from n place)
-    ≡ drop skip (numbers_from n (place + times))
+-- the bytes from a later element on are what is left of those from an earlier one
+pub from-later : (n : Portion) (element times skip : ℕ)
+    → drop (times * element_len n.array.kind + skip) (numbers_from n element)
+    ≡ drop skip (numbers_from n (element + times))
 unfolding numbers_from
-from-later n place times skip =
+from-later n element times skip =
     let f = element_bytes n.array.kind in
     let b = bits_in n in
     let w = element_len n.array.kind in
     let box = box_of n.sent.slabs in
-    let numbers = map b (drop place box) in
+    let numbers = map b (drop element box) in
     sym (drop-drop skip (times * w) (flat_map f numbers))
     ∙ ap (drop skip) (flat-drop f w times (length-element_bytes n.array.kind) numbers
-    ∙ ap (flat_map f) (drop-map b times (drop place box))
-    ∙ ap (λ (l : List (List ℕ)). flat_map f (map b l)) (drop-drop times place box))
+    ∙ ap (flat_map f) (drop-map b times (drop element box))
+    ∙ ap (λ (l : List (List ℕ)). flat_map f (map b l)) (drop-drop times element box))
 
--- how many bytes there are from a place on
-pub length-from : (n : Portion) (place : ℕ)
-    → length (numbers_from n place) ≡ (box_len n.sent.slabs - place) * element_len n.array.kind
+-- how many bytes there are from an element on
+pub length-from : (n : Portion) (element : ℕ)
+    → length (numbers_from n element) ≡ (box_len n.sent.slabs - element) * element_len n.array.kind
 unfolding numbers_from
-length-from n place =
+length-from n element =
     let box = box_of n.sent.slabs in
     flat-length (element_bytes n.array.kind) (element_len n.array.kind) (length-element_bytes n.array.kind)
-    (map (bits_in n) (drop place box))
+    (map (bits_in n) (drop element box))
     ∙ ap (λ (m : ℕ). m * element_len n.array.kind)
-    (length-map (drop place box) (bits_in n) ∙ length-drop place box
-    ∙ ap (λ (m : ℕ). m - place) (length-box_of n.sent.slabs))
+    (length-map (drop element box) (bits_in n) ∙ length-drop element box
+    ∙ ap (λ (m : ℕ). m - element) (length-box_of n.sent.slabs))
 
 -- an array is its count twice and its body
 pub array-body : (n : Portion)

@@ -15,7 +15,7 @@ use Rattle.dap_slab.specs.Walking.{HasIndex}
 use Rattle.dap_xdr.specs.Stretch.{extent_before, extent_of, no_extent}
 use Rattle.dap_xdr.proofs.FitLemmas.{as_many}
 
--- each slab fits the dimension at its place
+-- each slab fits its dimension
 pub fits-at : (dims : List Dim) (slabs : List Slab) (at : ℕ) (d : Dim) (s : Slab) → AllZip FitsDim dims slabs
     → at < length slabs → FitsDim (get_or dims at d) (get_or slabs at s)
 fits-at [] [] at d s fits within = absurd (omega arith)
@@ -61,7 +61,7 @@ extent_of-past (dim ∷ dims) [] at fits past = absurd fits
 extent_of-past (dim ∷ dims) (slab ∷ slabs) zero fits past = absurd (omega arith)
 extent_of-past (dim ∷ dims) (slab ∷ slabs) (suc at) fits past = extent_of-past dims slabs at fits.1 (omega arith)
 
--- the extent from one place before, by that from a place on
+-- the extent from one dimension before, by that from a dimension on
 pub extent_of-before : (dims : List Dim) (slabs : List Slab) (at : ℕ) (d : Dim) (s : Slab) → AllZip FitsDim dims slabs
     → 0 < at → at ≤ length slabs
     → extent_of (drop (at - 1) dims) (drop (at - 1) slabs)
@@ -102,7 +102,7 @@ count_within size slab stride within = elim (count_cases slab) [
   | inr f ↦ omega (arith, f.1)
 ]
 
--- the slabs from a place on pick at most as many index lists as the dimensions have from there on
+-- the slabs from a dimension on pick at most as many index lists as the dimensions have from there on
 pub count-most : (dims : List Dim) (slabs : List Slab) → AllZip FitsDim dims slabs
     → (extent_of dims slabs).count ≤ product (sizes_of dims)
 unfolding extent_of product slab_count

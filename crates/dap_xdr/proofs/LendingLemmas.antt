@@ -36,25 +36,25 @@ front-behind xs ys front is =
     take-append-le (length front) xs ys within ∙ is
 
 -- what is left of stored numbers is a front of what is left of all
-pub stored-front : (n : Portion) (from place most passed : ℕ) (stored : List ℕ)
-    → n.array.kind ≢ Int16 → place ≡ from / element_len n.array.kind
-    → ArePicked n.array.kind (bits_in n) n.sent.slabs place most stored
+pub stored-front : (n : Portion) (from element most passed : ℕ) (stored : List ℕ)
+    → n.array.kind ≢ Int16 → element ≡ from / element_len n.array.kind
+    → ArePicked n.array.kind (bits_in n) n.sent.slabs element most stored
     → passed ≡ min (from % element_len n.array.kind) (length stored)
     → take (length (drop passed stored)) (drop from (numbers_from n 0)) ≡ drop passed stored
-stored-front n from place most passed stored other is picked few =
+stored-front n from element most passed stored other is picked few =
     let w = element_len n.array.kind in
-    let numbers = map (bits_in n) (take picked.count (drop place (box_of n.sent.slabs))) in
+    let numbers = map (bits_in n) (take picked.count (drop element (box_of n.sent.slabs))) in
     let same : stored ≡ flat_map (element_bytes n.array.kind) numbers =
     picked.bytes_are.bytes_are ∙ all-same n.array.kind numbers other in
-    let spread : from ≡ place * w + from % w =
+    let spread : from ≡ element * w + from % w =
     sym (div-add-mod' from w) ∙ ap (λ (m : ℕ). m * w + from % w) (sym is) in
-    let left : drop from (numbers_from n 0) ≡ drop (from % w) (numbers_from n place) =
-    ap (λ (m : ℕ). drop m (numbers_from n 0)) spread ∙ from-later n 0 place (from % w)
-    ∙ ap (λ (m : ℕ). drop (from % w) (numbers_from n m)) (zero-add place) in
-    let all = from-split n place picked.count in
+    let left : drop from (numbers_from n 0) ≡ drop (from % w) (numbers_from n element) =
+    ap (λ (m : ℕ). drop m (numbers_from n 0)) spread ∙ from-later n 0 element (from % w)
+    ∙ ap (λ (m : ℕ). drop (from % w) (numbers_from n m)) (zero-add element) in
+    let all = from-split n element picked.count in
     ap (take (length (drop passed stored)))
     (left ∙ ap (drop (from % w)) (all ∙ ap (λ (l : List ℕ). l ++ flat_map (element_bytes n.array.kind)
-    (map (bits_in n) (drop picked.count (drop place (box_of n.sent.slabs))))) (sym same)))
+    (map (bits_in n) (drop picked.count (drop element (box_of n.sent.slabs))))) (sym same)))
     ∙ left-front stored _ (from % w) passed few
 
 -- a front of what is left of the numbers is one of what is left of the array

@@ -19,10 +19,10 @@ pub no-marks : (n : Portion) → AreMarks n []
 no-marks n = λ k below. absurd (omega (arith, below))
 
 -- one more mark
-pub marks-noted : (n : Portion) (old : List ℕ) (every place offset : ℕ) (new : List ℕ) → AreMarks n old
-    → every ≡ spacing (box_len n.sent.slabs) → IsMark n place offset → IsNoted old every place offset new
+pub marks-noted : (n : Portion) (old : List ℕ) (every element offset : ℕ) (new : List ℕ) → AreMarks n old
+    → every ≡ spacing (box_len n.sent.slabs) → IsMark n element offset → IsNoted old every element offset new
     → AreMarks n new
-marks-noted n old every place offset new marks same is noted = elim noted [
+marks-noted n old every element offset new marks same is noted = elim noted [
   | inl stay ↦ subst (AreMarks n) (sym stay) marks
   | inr next ↦ subst (AreMarks n) (sym next.1) (λ k below. elim (cases_lt k (length old)) [
     | inl before ↦

@@ -32,12 +32,12 @@ element_len-most Float32 = omega arith
 element_len-most Float64 = omega arith
 element_len-most Text = omega arith
 
--- `filled` bytes are written over the front of a buffer, and what is left begins at a place among the bytes of a number
-pub record SoFar (n : Portion) (from filled place skip : ℕ) (old now : List ℕ) : Type 0 where
+-- `filled` bytes are written over the front of a buffer, and what is left begins within the bytes of a number
+pub record SoFar (n : Portion) (from filled element skip : ℕ) (old now : List ℕ) : Type 0 where
   pub below : skip < element_len n.array.kind
   pub fits : filled ≤ length old
   pub within : filled ≤ length (drop from (numbers_from n 0))
-  pub left : drop filled (drop from (numbers_from n 0)) ≡ drop skip (numbers_from n place)
+  pub left : drop filled (drop from (numbers_from n 0)) ≡ drop skip (numbers_from n element)
   pub now_is : now ≡ take filled (drop from (numbers_from n 0)) ++ drop filled old
 
 pub so-far-first : (n : Portion) (from : ℕ) (old : List ℕ) → n.array.kind ≢ Text
@@ -56,9 +56,9 @@ so-far-first n from old number =
     }
 
 -- how many bytes a buffer has of which a front is written
-pub so-far-long : (n : Portion) (from filled place skip : ℕ) (old now : List ℕ)
-    → SoFar n from filled place skip old now → length now ≡ length old
-so-far-long n from filled place skip old now so =
+pub so-far-long : (n : Portion) (from filled element skip : ℕ) (old now : List ℕ)
+    → SoFar n from filled element skip old now → length now ≡ length old
+so-far-long n from filled element skip old now so =
     ap length so.now_is
     ∙ length-append (take filled (drop from (numbers_from n 0))) (drop filled old)
     ∙ omega (
@@ -69,17 +69,17 @@ so-far-long n from filled place skip old now so =
     )
 
 -- the next bytes
-pub so-far-more : (n : Portion) (from filled place skip count : ℕ) (old now next : List ℕ)
-    → n.array.kind ≢ Text → SoFar n from filled place skip old now
+pub so-far-more : (n : Portion) (from filled element skip count : ℕ) (old now next : List ℕ)
+    → n.array.kind ≢ Text → SoFar n from filled element skip old now
     → filled + count ≤ length now
-    → count ≤ length (drop skip (numbers_from n place))
-    → next ≡ take filled now ++ (take count (drop skip (numbers_from n place)) ++ drop (filled + count) now)
-    → SoFar n from (filled + count) (place + (skip + count) / element_len n.array.kind)
+    → count ≤ length (drop skip (numbers_from n element))
+    → next ≡ take filled now ++ (take count (drop skip (numbers_from n element)) ++ drop (filled + count) now)
+    → SoFar n from (filled + count) (element + (skip + count) / element_len n.array.kind)
     ((skip + count) % element_len n.array.kind) old next
-so-far-more n from filled place skip count old now next number so fits within written =
+so-far-more n from filled element skip count old now next number so fits within written =
     let w = element_len n.array.kind in
     let all = drop from (numbers_from n 0) in
-    let here = numbers_from n place in
+    let here = numbers_from n element in
     let front = take filled all in
     let long : filled ≡ length front = sym (length-take-le filled all so.within) in
     let spread : skip + count ≡ (skip + count) / w * w + (skip + count) % w = sym (div-add-mod' (skip + count) w) in
@@ -90,11 +90,11 @@ so-far-more n from filled place skip count old now next number so fits within wr
     ∙ drop-append-add front (drop filled old) count ∙ drop-drop count filled old in
     record {
       below = mod_below (skip + count) w (element_len-pos n.array.kind number);
-      fits = omega (arith, fits, so-far-long n from filled place skip old now so);
+      fits = omega (arith, fits, so-far-long n from filled element skip old now so);
       within = omega (arith, so.within, within, ap length so.left, length-drop filled all);
       left = sym (drop-drop count filled all) ∙ ap (drop count) so.left ∙ drop-drop count skip here
           ∙ ap (λ (m : ℕ). drop m here) spread
-          ∙ from-later n place ((skip + count) / w) ((skip + count) % w);
+          ∙ from-later n element ((skip + count) / w) ((skip + count) % w);
       now_is = written
           ∙ ap₂ (λ (l r : List ℕ). l ++ (take count (drop skip here) ++ r)) head tail
           ∙ ap (λ (l : List ℕ). front ++ (take count l ++ drop (filled + count) old)) (sym so.left)
@@ -102,30 +102,30 @@ so-far-more n from filled place skip count old now next number so fits within wr
           ∙ ap (λ (l : List ℕ). l ++ drop (filled + count) old) (sym (take-add filled count all));
     }
 
--- the next place is at most behind the last number
-pub so-far-place : (n : Portion) (place skip count : ℕ) → n.array.kind ≢ Text
-    → place < box_len n.sent.slabs → skip < element_len n.array.kind
-    → count ≤ length (drop skip (numbers_from n place))
-    → place + (skip + count) / element_len n.array.kind ≤ box_len n.sent.slabs
-so-far-place n place skip count number here below within =
+-- the next element is at most behind the last number
+pub so-far-element : (n : Portion) (element skip count : ℕ) → n.array.kind ≢ Text
+    → element < box_len n.sent.slabs → skip < element_len n.array.kind
+    → count ≤ length (drop skip (numbers_from n element))
+    → element + (skip + count) / element_len n.array.kind ≤ box_len n.sent.slabs
+so-far-element n element skip count number here below within =
     let w = element_len n.array.kind in
-    let long = length-from n place in
-    let left = length-drop skip (numbers_from n place) in
-    let some : 1 ≤ box_len n.sent.slabs - place = omega (arith, here) in
-    let one : 1 * w ≤ (box_len n.sent.slabs - place) * w = mul-le-mul_right w some in
-    let few : skip + count ≤ w * (box_len n.sent.slabs - place) =
-    subst (λ (m : ℕ). skip + count ≤ m) (mul_comm (box_len n.sent.slabs - place) w)
+    let long = length-from n element in
+    let left = length-drop skip (numbers_from n element) in
+    let some : 1 ≤ box_len n.sent.slabs - element = omega (arith, here) in
+    let one : 1 * w ≤ (box_len n.sent.slabs - element) * w = mul-le-mul_right w some in
+    let few : skip + count ≤ w * (box_len n.sent.slabs - element) =
+    subst (λ (m : ℕ). skip + count ≤ m) (mul_comm (box_len n.sent.slabs - element) w)
     (omega (arith, one, within, left, long, below)) in
-    let most : (skip + count) / w ≤ box_len n.sent.slabs - place = div-le_of_le-mul w few in
+    let most : (skip + count) / w ≤ box_len n.sent.slabs - element = div-le_of_le-mul w few in
     omega (arith, most, here)
 
 -- where the buffer is full
-pub so-far-full : (n : Portion) (from filled place skip : ℕ) (old now : List ℕ)
-    → SoFar n from filled place skip old now → length now ≤ filled
+pub so-far-full : (n : Portion) (from filled element skip : ℕ) (old now : List ℕ)
+    → SoFar n from filled element skip old now → length now ≤ filled
     → now ≡ overlay (drop from (numbers_from n 0)) old
 unfolding overlay
-so-far-full n from filled place skip old now so full =
-    let long = so-far-long n from filled place skip old now so in
+so-far-full n from filled element skip old now so full =
+    let long = so-far-long n from filled element skip old now so in
     let same : filled ≡ length old = omega (arith, long, full, so.fits) in
     so.now_is
     ∙ ap₂ (λ (m : ℕ) (l : List ℕ). take m (drop from (numbers_from n 0)) ++ l) same
@@ -133,29 +133,29 @@ so-far-full n from filled place skip old now so full =
     ∙ sym (drop_all (length (drop from (numbers_from n 0))) old (omega (arith, so.within, same))))
 
 -- where no number is left
-pub so-far-all : (n : Portion) (from filled place skip : ℕ) (old now : List ℕ)
-    → SoFar n from filled place skip old now → box_len n.sent.slabs ≤ place
+pub so-far-all : (n : Portion) (from filled element skip : ℕ) (old now : List ℕ)
+    → SoFar n from filled element skip old now → box_len n.sent.slabs ≤ element
     → filled ≡ length (drop from (numbers_from n 0))
-so-far-all n from filled place skip old now so past =
-    let gone : 0 ≡ box_len n.sent.slabs - place = omega (arith, past) in
-    let none : length (numbers_from n place) ≡ 0 =
-    length-from n place
+so-far-all n from filled element skip old now so past =
+    let gone : 0 ≡ box_len n.sent.slabs - element = omega (arith, past) in
+    let none : length (numbers_from n element) ≡ 0 =
+    length-from n element
     ∙ subst (λ (m : ℕ). m * element_len n.array.kind ≡ 0) gone (omega arith) in
     omega (
       arith,
       ap length so.left,
       length-drop filled (drop from (numbers_from n 0)),
-      length-drop skip (numbers_from n place),
+      length-drop skip (numbers_from n element),
       none,
       so.within,
     )
 
-pub so-far-done : (n : Portion) (from filled place skip : ℕ) (old now : List ℕ)
-    → SoFar n from filled place skip old now → box_len n.sent.slabs ≤ place
+pub so-far-done : (n : Portion) (from filled element skip : ℕ) (old now : List ℕ)
+    → SoFar n from filled element skip old now → box_len n.sent.slabs ≤ element
     → now ≡ overlay (drop from (numbers_from n 0)) old
 unfolding overlay
-so-far-done n from filled place skip old now so past =
-    let all = so-far-all n from filled place skip old now so past in
+so-far-done n from filled element skip old now so past =
+    let all = so-far-all n from filled element skip old now so past in
     so.now_is
     ∙ ap₂ (λ (l : List ℕ) (m : ℕ). l ++ drop m old)
     (take_all filled (drop from (numbers_from n 0)) (omega (arith, all))

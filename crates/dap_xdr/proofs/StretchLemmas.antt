@@ -23,10 +23,10 @@ extent-count [] (slab ∷ slabs) fits = absurd fits
 extent-count (dim ∷ dims) [] fits = absurd fits
 extent-count (dim ∷ dims) (slab ∷ slabs) fits = ap (λ (n : ℕ). slab_count slab * n) (extent-count dims slabs fits.1)
 
--- a whole slab has each index of its dimension at that place
+-- a whole slab has each index of its dimension, as many strides past its start
 record Whole (size : ℕ) (slab : Slab) : Type 0 where
   count_is : slab_count slab ≡ size
-  index_is : (place : ℕ) → slab_index slab place ≡ place
+  index_is : (strides : ℕ) → slab_index slab strides ≡ strides
 
 whole_of : (size : ℕ) (slab : Slab) → is_whole size slab ≡ true → Whole size slab
 unfolding is_whole
@@ -44,20 +44,20 @@ whole_of size slab whole =
         | inl t ↦ omega (arith, t.1, one, stop)
         | inr f ↦ absurd (omega (arith, f.0, start))
       ];
-      index_is = λ place. ap₂ (λ (m n : ℕ). m + place * n) start stride ∙ omega arith;
+      index_is = λ strides. ap₂ (λ (m n : ℕ). m + strides * n) start stride ∙ omega arith;
     }
 
--- whole slabs pick as many index lists as the dimensions have, each at its own place
+-- whole slabs pick as many index lists as the dimensions have, in the same order
 record AllWhole (dims : List Dim) (slabs : List Slab) : Type 0 where
   count_is : box_len slabs ≡ product (sizes_of dims)
-  rank_is : (place : ℕ) → place < box_len slabs → rank_in (sizes_of dims) (index_at slabs place) ≡ place
+  rank_is : (element : ℕ) → element < box_len slabs → rank_in (sizes_of dims) (index_at slabs element) ≡ element
 
 all_whole : (dims : List Dim) (slabs : List Slab) → AllZip FitsDim dims slabs → (extent_of dims slabs).whole ≡ true
     → AllWhole dims slabs
 unfolding extent_of box_len product rank_in index_at
 all_whole [] [] fits whole = record {
   count_is = refl;
-  rank_is = λ place within. omega (arith, within);
+  rank_is = λ element within. omega (arith, within);
 }
 all_whole [] (slab ∷ slabs) fits whole = absurd fits
 all_whole (dim ∷ dims) [] fits whole = absurd fits
@@ -67,44 +67,45 @@ all_whole (dim ∷ dims) (slab ∷ slabs) fits whole =
     let others = all_whole dims slabs fits.1 both.1 in
     record {
       count_is = ap₂ (λ (m n : ℕ). m * n) one.count_is others.count_is;
-      rank_is = λ place within.
+      rank_is = λ element within.
           let width = box_len slabs in
-          let split = split_of (slab_count slab) width place within in
-          ap₂ (λ (m n : ℕ). m * n + rank_in (sizes_of dims) (index_at slabs (place % width)))
-          (one.index_is (place / width)) (sym others.count_is)
-          ∙ ap (λ (n : ℕ). place / width * width + n) (others.rank_is (place % width) split.second)
+          let split = split_of (slab_count slab) width element within in
+          ap₂ (λ (m n : ℕ). m * n + rank_in (sizes_of dims) (index_at slabs (element % width)))
+          (one.index_is (element / width)) (sym others.count_is)
+          ∙ ap (λ (n : ℕ). element / width * width + n) (others.rank_is (element % width) split.second)
           ∙ split.whole;
     }
 
--- in each turn of `unit` places the array has the numbers one after the other
+-- in each turn of `unit` elements the array has the numbers one after the other
 pub record Stretch (unit : ℕ) (dims : List Dim) (slabs : List Slab) : Type 0 where
   pub times : ℕ
   pub turns : box_len slabs ≡ times * unit
-  pub follows : (place more : ℕ) → place < box_len slabs → more < unit - place % unit
-      → rank_in (sizes_of dims) (index_at slabs (place + more))
-      ≡ rank_in (sizes_of dims) (index_at slabs place) + more
+  pub follows : (element more : ℕ) → element < box_len slabs → more < unit - element % unit
+      → rank_in (sizes_of dims) (index_at slabs (element + more))
+      ≡ rank_in (sizes_of dims) (index_at slabs element) + more
 
 -- what is left of a turn stays within the turns
-pub within_turns : (times unit place more : ℕ) → place < times * unit → more < unit - place % unit
-    → place + more < times * unit
-within_turns times unit place more below short =
+pub within_turns : (times unit element more : ℕ) → element < times * unit → more < unit - element % unit
+    → element + more < times * unit
+within_turns times unit element more below short =
     let some : 0 < unit = omega (arith, short) in
-    let split = div-add-mod' place unit in
-    let turn : place / unit < times = (div-lt_iff_lt-mul {k = unit} {x = place} {y = times} some).1 below in
-    let least : suc (place / unit) * unit ≤ times * unit = mul-le-mul_right unit turn in
+    let split = div-add-mod' element unit in
+    let turn : element / unit < times = (div-lt_iff_lt-mul {k = unit} {x = element} {y = times} some).1 below in
+    let least : suc (element / unit) * unit ≤ times * unit = mul-le-mul_right unit turn in
     omega (arith, split, least)
 
 -- a slab with stride 1 before whole ones
 together : (dim : Dim) (dims : List Dim) (slab : Slab) (slabs : List Slab) → slab.stride ≡ 1 → AllWhole dims slabs
-    → (place : ℕ) → place < box_len (slab ∷ slabs)
-    → rank_in (sizes_of (dim ∷ dims)) (index_at (slab ∷ slabs) place) ≡ slab.start * box_len slabs + place
+    → (element : ℕ) → element < box_len (slab ∷ slabs)
+    → rank_in (sizes_of (dim ∷ dims)) (index_at (slab ∷ slabs) element) ≡ slab.start * box_len slabs + element
 unfolding box_len product rank_in index_at
-together dim dims slab slabs one whole place within =
+together dim dims slab slabs one whole element within =
     let width = box_len slabs in
-    let split = split_of (slab_count slab) width place within in
-    ap₂ (λ (m n : ℕ). (slab.start + place / width * m) * n + rank_in (sizes_of dims) (index_at slabs (place % width)))
+    let split = split_of (slab_count slab) width element within in
+    ap₂ (λ (m n : ℕ).
+    (slab.start + element / width * m) * n + rank_in (sizes_of dims) (index_at slabs (element % width)))
     one (sym whole.count_is)
-    ∙ ap (λ (n : ℕ). (slab.start + place / width * 1) * width + n) (whole.rank_is (place % width) split.second)
+    ∙ ap (λ (n : ℕ). (slab.start + element / width * 1) * width + n) (whole.rank_is (element % width) split.second)
     ∙ grind (arith, split.whole)
 
 stretch_together : (dim : Dim) (dims : List Dim) (slab : Slab) (slabs : List Slab) → slab.stride ≡ 1
@@ -112,11 +113,11 @@ stretch_together : (dim : Dim) (dims : List Dim) (slab : Slab) (slabs : List Sla
 stretch_together dim dims slab slabs one whole = record {
   times = 1;
   turns = omega arith;
-  follows = λ place more within short.
+  follows = λ element more within short.
       let all = box_len (slab ∷ slabs) in
-      let far = within_turns 1 all place more (omega (arith, within)) short in
-      let first = together dim dims slab slabs one whole place within in
-      let last = together dim dims slab slabs one whole (place + more) (omega (arith, far)) in
+      let far = within_turns 1 all element more (omega (arith, within)) short in
+      let first = together dim dims slab slabs one whole element within in
+      let last = together dim dims slab slabs one whole (element + more) (omega (arith, far)) in
       omega (arith, first, last);
 }
 
@@ -126,20 +127,20 @@ unfolding box_len product rank_in index_at
 stretch_apart unit dim dims slab slabs others = record {
   times = slab_count slab * others.times;
   turns = ap (λ (n : ℕ). slab_count slab * n) others.turns ∙ sym (mul_assoc (slab_count slab) others.times unit);
-  follows = λ place more within short.
+  follows = λ element more within short.
       let width = box_len slabs in
-      let split = split_of (slab_count slab) width place within in
-      let q = place / width in
-      let r = place % width in
-      let spread : place ≡ q * others.times * unit + r =
+      let split = split_of (slab_count slab) width element within in
+      let q = element / width in
+      let r = element % width in
+      let spread : element ≡ q * others.times * unit + r =
       sym split.whole ∙ ap (λ (n : ℕ). q * n + r) others.turns
       ∙ ap (λ (n : ℕ). n + r) (sym (mul_assoc q others.times unit)) in
-      let same : place % unit ≡ r % unit =
+      let same : element % unit ≡ r % unit =
       ap (λ (n : ℕ). n % unit) spread ∙ mul-add-mod_self_right (q * others.times) unit r in
       let close : more < unit - r % unit = subst (λ (n : ℕ). more < unit - n) same short in
       let far : r + more < width = subst (λ (n : ℕ). r + more < n) (sym others.turns)
       (within_turns others.times unit r more (subst (λ (n : ℕ). r < n) others.turns split.second) close) in
-      let to : place + more ≡ q * width + (r + more) = omega (arith, split.whole) in
+      let to : element + more ≡ q * width + (r + more) = omega (arith, split.whole) in
       ap (λ (n : ℕ). rank_in (sizes_of (dim ∷ dims)) (index_at (slab ∷ slabs) n)) to
       ∙ ap (rank_in (sizes_of (dim ∷ dims))) (index_at-cons slab slabs q (r + more) far)
       ∙ ap (λ (n : ℕ). slab_index slab q * product (sizes_of dims) + n) (others.follows r more split.second close)
@@ -152,7 +153,7 @@ unfolding extent_of box_len product rank_in index_at
 stretch_of [] [] fits = record {
   times = 1;
   turns = refl;
-  follows = λ place more within short. omega (arith, short);
+  follows = λ element more within short. omega (arith, short);
 }
 stretch_of [] (slab ∷ slabs) fits = absurd fits
 stretch_of (dim ∷ dims) [] fits = absurd fits

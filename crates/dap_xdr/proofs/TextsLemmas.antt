@@ -15,61 +15,61 @@ use Rattle.dap_xdr.specs.Portion.{text_in, texts_of, Portion}
 use Rattle.dap_number.proofs.FrontLemmas.{drop-both, put-behind, put-full, put-long}
 
 -- the texts so far are written, as far as they fit, and `left` bytes are still to be passed over
-pub record TextsSoFar (n : Portion) (from filled place left : ℕ) (old now : List ℕ) : Type 0 where
-  pub put_is : IsPut (drop from (texts_before n place)) old now filled
-  pub left_is : left ≡ from - length (texts_before n place)
+pub record TextsSoFar (n : Portion) (from filled element left : ℕ) (old now : List ℕ) : Type 0 where
+  pub put_is : IsPut (drop from (texts_before n element)) old now filled
+  pub left_is : left ≡ from - length (texts_before n element)
 
 -- one text more
-pub texts-more : (n : Portion) (place : ℕ) → place < box_len n.sent.slabs
-    → texts_before n (place + 1)
-    ≡ texts_before n place ++ text_bytes (text_in n (index_at n.sent.slabs place))
+pub texts-more : (n : Portion) (element : ℕ) → element < box_len n.sent.slabs
+    → texts_before n (element + 1)
+    ≡ texts_before n element ++ text_bytes (text_in n (index_at n.sent.slabs element))
 unfolding texts_before
-texts-more n place within =
+texts-more n element within =
     let box = box_of n.sent.slabs in
     let w = text_in n in
-    let long : place < length box = subst (λ (m : ℕ). place < m) (sym (length-box_of n.sent.slabs)) within in
-    let next : place + 1 ≡ suc place = omega arith in
-    let one : take (place + 1) box ≡ take place box ++ index_at n.sent.slabs place ∷ [] =
-    ap (λ (m : ℕ). take m box) next ∙ take-suc box place [] long
-    ∙ ap (λ (index : List ℕ). take place box ++ index ∷ []) (get_or-box_of n.sent.slabs place [] within) in
+    let long : element < length box = subst (λ (m : ℕ). element < m) (sym (length-box_of n.sent.slabs)) within in
+    let next : element + 1 ≡ suc element = omega arith in
+    let one : take (element + 1) box ≡ take element box ++ index_at n.sent.slabs element ∷ [] =
+    ap (λ (m : ℕ). take m box) next ∙ take-suc box element [] long
+    ∙ ap (λ (index : List ℕ). take element box ++ index ∷ []) (get_or-box_of n.sent.slabs element [] within) in
     ap (λ (l : List ℕ). to_be_bytes w32 (box_len n.sent.slabs) ++ l)
     (ap (λ (l : List (List ℕ)). flat_map text_bytes (map w l)) one
-    ∙ ap (flat_map text_bytes) (map-append w (take place box) (index_at n.sent.slabs place ∷ []))
-    ∙ flat_map-append text_bytes (map w (take place box)) (w (index_at n.sent.slabs place) ∷ [])
-    ∙ ap (λ (l : List ℕ). flat_map text_bytes (map w (take place box)) ++ l)
-    (append-nil (text_bytes (w (index_at n.sent.slabs place)))))
+    ∙ ap (flat_map text_bytes) (map-append w (take element box) (index_at n.sent.slabs element ∷ []))
+    ∙ flat_map-append text_bytes (map w (take element box)) (w (index_at n.sent.slabs element) ∷ [])
+    ∙ ap (λ (l : List ℕ). flat_map text_bytes (map w (take element box)) ++ l)
+    (append-nil (text_bytes (w (index_at n.sent.slabs element)))))
 
--- the texts from a place on
+-- the texts from an element on
 texts_behind : Portion → ℕ → List ℕ
-texts_behind n place = flat_map text_bytes (map (text_in n) (drop place (box_of n.sent.slabs)))
+texts_behind n element = flat_map text_bytes (map (text_in n) (drop element (box_of n.sent.slabs)))
 
--- all texts are those before a place and those from there on
-texts-split : (n : Portion) (place : ℕ)
-    → texts_of n ≡ texts_before n place ++ texts_behind n place
+-- all texts are those before an element and those from there on
+texts-split : (n : Portion) (element : ℕ)
+    → texts_of n ≡ texts_before n element ++ texts_behind n element
 unfolding texts_before texts_behind texts_of texts_bytes
-texts-split n place =
+texts-split n element =
     let box = box_of n.sent.slabs in
     let w = text_in n in
     let many : length (map w box) ≡ box_len n.sent.slabs = length-map box w ∙ length-box_of n.sent.slabs in
     ap₂ (λ (m : ℕ) (l : List ℕ). to_be_bytes w32 m ++ l) many
-    (ap (λ (l : List (List ℕ)). flat_map text_bytes (map w l)) (sym (take-append-drop place box))
-    ∙ ap (flat_map text_bytes) (map-append w (take place box) (drop place box))
-    ∙ flat_map-append text_bytes (map w (take place box)) (map w (drop place box)))
+    (ap (λ (l : List (List ℕ)). flat_map text_bytes (map w l)) (sym (take-append-drop element box))
+    ∙ ap (flat_map text_bytes) (map-append w (take element box) (drop element box))
+    ∙ flat_map-append text_bytes (map w (take element box)) (map w (drop element box)))
 
-texts-none : (n : Portion) (place : ℕ) → box_len n.sent.slabs ≤ place
-    → texts_behind n place ≡ []
+texts-none : (n : Portion) (element : ℕ) → box_len n.sent.slabs ≤ element
+    → texts_behind n element ≡ []
 unfolding texts_behind
-texts-none n place past =
+texts-none n element past =
     ap (λ (l : List (List ℕ)). flat_map text_bytes (map (text_in n) l))
-    (drop_all place (box_of n.sent.slabs) (subst (λ (m : ℕ). m ≤ place) (sym (length-box_of n.sent.slabs)) past))
+    (drop_all element (box_of n.sent.slabs) (subst (λ (m : ℕ). m ≤ element) (sym (length-box_of n.sent.slabs)) past))
 
 -- those before the end are all
-pub texts-whole : (n : Portion) (place : ℕ) → box_len n.sent.slabs ≤ place
-    → texts_before n place ≡ texts_of n
-texts-whole n place past =
-    sym (texts-split n place
-    ∙ ap (λ (l : List ℕ). texts_before n place ++ l) (texts-none n place past)
-    ∙ append-nil (texts_before n place))
+pub texts-whole : (n : Portion) (element : ℕ) → box_len n.sent.slabs ≤ element
+    → texts_before n element ≡ texts_of n
+texts-whole n element past =
+    sym (texts-split n element
+    ∙ ap (λ (l : List ℕ). texts_before n element ++ l) (texts-none n element past)
+    ∙ append-nil (texts_before n element))
 
 -- the texts behind the count are written behind it
 pub texts-start : (n : Portion) (count old mid front back rest : List ℕ) (from first second left : ℕ)
@@ -95,21 +95,21 @@ texts-start n count old mid front back rest from first second left is many writt
     (subst (λ (l : List ℕ). IsPut l back rest second) reached put))
 
 -- what is left behind a mark is what is left of all
-pub texts-from-mark : (n : Portion) (place offset from count : ℕ) (old new : List ℕ) → IsMark n place offset
+pub texts-from-mark : (n : Portion) (element offset from count : ℕ) (old new : List ℕ) → IsMark n element offset
     → offset ≤ from
-    → IsPut (drop (length (texts_before n place) + (from - offset)) (texts_of n)) old new count
+    → IsPut (drop (length (texts_before n element) + (from - offset)) (texts_of n)) old new count
     → IsPut (drop from (texts_of n)) old new count
-texts-from-mark n place offset from count old new mark passed put =
-    let whole : length (texts_before n place) + (from - offset) ≡ from = omega (arith, mark.offset_is, passed) in
+texts-from-mark n element offset from count old new mark passed put =
+    let whole : length (texts_before n element) + (from - offset) ≡ from = omega (arith, mark.offset_is, passed) in
     subst (λ (m : ℕ). IsPut (drop m (texts_of n)) old new count) whole put
 
 -- where a mark is passed over, all before it is
-pub texts-marked : (n : Portion) (from place offset left : ℕ) (old : List ℕ) → IsMark n place offset → offset ≤ from
-    → left ≡ from - offset → TextsSoFar n from 0 place left old old
+pub texts-marked : (n : Portion) (from element offset left : ℕ) (old : List ℕ) → IsMark n element offset → offset ≤ from
+    → left ≡ from - offset → TextsSoFar n from 0 element left old old
 unfolding overlay
-texts-marked n from place offset left old mark passed left_is =
-    let none : drop from (texts_before n place) ≡ [] =
-    drop_all from (texts_before n place) (omega (arith, passed, mark.offset_is)) in
+texts-marked n from element offset left old mark passed left_is =
+    let none : drop from (texts_before n element) ≡ [] =
+    drop_all from (texts_before n element) (omega (arith, passed, mark.offset_is)) in
     record {
       put_is = subst (λ (l : List ℕ). IsPut l old old 0) (sym none)
           (record {
@@ -120,18 +120,18 @@ texts-marked n from place offset left old mark passed left_is =
     }
 
 -- the next text
-pub texts-next : (n : Portion) (from filled place left count next_left : ℕ)
+pub texts-next : (n : Portion) (from filled element left count next_left : ℕ)
     (old now front back rest text : List ℕ)
-    → TextsSoFar n from filled place left old now → place < box_len n.sent.slabs
-    → text ≡ text_in n (index_at n.sent.slabs place)
+    → TextsSoFar n from filled element left old now → element < box_len n.sent.slabs
+    → text ≡ text_in n (index_at n.sent.slabs element)
     → now ≡ front ++ back → length front ≡ filled → IsPut (drop left (text_bytes text)) back rest count
     → next_left ≡ left - text_len (length text)
-    → TextsSoFar n from (filled + count) (place + 1) next_left old (front ++ rest)
-texts-next n from filled place left count next_left old now front back rest text so within is split long put
+    → TextsSoFar n from (filled + count) (element + 1) next_left old (front ++ rest)
+texts-next n from filled element left count next_left old now front back rest text so within is split long put
     passed =
-    let before = texts_before n place in
-    let more : before ++ text_bytes text ≡ texts_before n (place + 1) =
-    ap (λ (l : List ℕ). before ++ text_bytes l) is ∙ sym (texts-more n place within) in
+    let before = texts_before n element in
+    let more : before ++ text_bytes text ≡ texts_before n (element + 1) =
+    ap (λ (l : List ℕ). before ++ text_bytes l) is ∙ sym (texts-more n element within) in
     let many : filled ≡ min (length old) (length before - from) =
     so.put_is.count_is ∙ ap (λ (m : ℕ). min (length old) m) (length-drop from before) in
     record {
@@ -149,19 +149,19 @@ texts-next n from filled place left count next_left old now front back rest text
     }
 
 -- where the buffer is full
-pub texts-full : (n : Portion) (from filled place left : ℕ) (old now : List ℕ)
-    → TextsSoFar n from filled place left old now → length now ≤ filled
+pub texts-full : (n : Portion) (from filled element left : ℕ) (old now : List ℕ)
+    → TextsSoFar n from filled element left old now → length now ≤ filled
     → IsPut (drop from (texts_of n)) old now filled
-texts-full n from filled place left old now so full =
-    let all = texts-split n place in
+texts-full n from filled element left old now so full =
+    let all = texts-split n element in
     subst (λ (l : List ℕ). IsPut l old now filled)
-    (sym (ap (drop from) all ∙ drop-both (texts_before n place) (texts_behind n place) from))
-    (put-full (drop from (texts_before n place)) _ old now filled so.put_is
+    (sym (ap (drop from) all ∙ drop-both (texts_before n element) (texts_behind n element) from))
+    (put-full (drop from (texts_before n element)) _ old now filled so.put_is
     (subst (λ (m : ℕ). m ≤ filled) (put-long _ old now filled so.put_is) full))
 
 -- where no text is left
-pub texts-done : (n : Portion) (from filled place left : ℕ) (old now : List ℕ)
-    → TextsSoFar n from filled place left old now → box_len n.sent.slabs ≤ place
+pub texts-done : (n : Portion) (from filled element left : ℕ) (old now : List ℕ)
+    → TextsSoFar n from filled element left old now → box_len n.sent.slabs ≤ element
     → IsPut (drop from (texts_of n)) old now filled
-texts-done n from filled place left old now so past =
-    subst (λ (l : List ℕ). IsPut (drop from l) old now filled) (texts-whole n place past) so.put_is
+texts-done n from filled element left old now so past =
+    subst (λ (l : List ℕ). IsPut (drop from l) old now filled) (texts-whole n element past) so.put_is

@@ -22,44 +22,44 @@ use Rattle.dap_xdr.proofs.StretchLemmas.{extent-count, within_turns}
 pub record Turning (unit turns pitch : ℕ) (dims : List Dim) (slabs : List Slab) : Type 0 where
   pub times : ℕ
   pub whole : box_len slabs ≡ times * (turns * unit)
-  pub grows : (place k : ℕ) → place < box_len slabs → k < turns - place / unit % turns
-      → rank_in (sizes_of dims) (index_at slabs (place + k * unit))
-      ≡ rank_in (sizes_of dims) (index_at slabs place) + k * pitch
+  pub grows : (element k : ℕ) → element < box_len slabs → k < turns - element / unit % turns
+      → rank_in (sizes_of dims) (index_at slabs (element + k * unit))
+      ≡ rank_in (sizes_of dims) (index_at slabs element) + k * pitch
 
 -- the units that are left of the turns stay within all
-pub record Within (times turns unit place : ℕ) : Type 0 where
+pub record Within (times turns unit element : ℕ) : Type 0 where
   pub unit_some : 0 < unit
   pub turns_some : 0 < turns
-  pub unit_at : place / unit < times * turns
-  pub place_is : place / unit * unit + place % unit ≡ place
+  pub unit_at : element / unit < times * turns
+  pub element_is : element / unit * unit + element % unit ≡ element
 
-pub within_of : (times turns unit place : ℕ) → place < times * (turns * unit) → Within times turns unit place
-within_of times turns zero place below =
+pub within_of : (times turns unit element : ℕ) → element < times * (turns * unit) → Within times turns unit element
+within_of times turns zero element below =
     let one : turns * zero ≡ 0 = omega arith in
     let none : times * (turns * zero) ≡ 0 = ap (λ (n : ℕ). times * n) one ∙ omega arith in
     absurd (omega (arith, below, none))
-within_of times zero (suc unit) place below =
+within_of times zero (suc unit) element below =
     let one : zero * suc unit ≡ 0 = omega arith in
     let none : times * (zero * suc unit) ≡ 0 = ap (λ (n : ℕ). times * n) one ∙ omega arith in
     absurd (omega (arith, below, none))
-within_of times (suc turns) (suc unit) place below = record {
+within_of times (suc turns) (suc unit) element below = record {
   unit_some = omega arith;
   turns_some = omega arith;
-  unit_at = (div-lt_iff_lt-mul {k = suc unit} {x = place} {y = times * suc turns} (omega arith)).1
-      (subst (λ (n : ℕ). place < n) (sym (mul_assoc times (suc turns) (suc unit))) below);
-  place_is = div-add-mod' place (suc unit);
+  unit_at = (div-lt_iff_lt-mul {k = suc unit} {x = element} {y = times * suc turns} (omega arith)).1
+      (subst (λ (n : ℕ). element < n) (sym (mul_assoc times (suc turns) (suc unit))) below);
+  element_is = div-add-mod' element (suc unit);
 }
 
-pub within_turning : (times turns unit place k : ℕ) → place < times * (turns * unit)
-    → k < turns - place / unit % turns → place + k * unit < times * (turns * unit)
-within_turning times turns unit place k below short =
-    let at = within_of times turns unit place below in
-    let last : place / unit + k < times * turns = within_turns times turns (place / unit) k at.unit_at short in
-    let left : place % unit < unit = mod_below place unit at.unit_some in
-    let most : suc (place / unit + k) * unit ≤ times * turns * unit = mul-le-mul_right unit last in
-    let spread : suc (place / unit + k) * unit ≡ place / unit * unit + k * unit + unit = grind arith in
+pub within_turning : (times turns unit element k : ℕ) → element < times * (turns * unit)
+    → k < turns - element / unit % turns → element + k * unit < times * (turns * unit)
+within_turning times turns unit element k below short =
+    let at = within_of times turns unit element below in
+    let last : element / unit + k < times * turns = within_turns times turns (element / unit) k at.unit_at short in
+    let left : element % unit < unit = mod_below element unit at.unit_some in
+    let most : suc (element / unit + k) * unit ≤ times * turns * unit = mul-le-mul_right unit last in
+    let spread : suc (element / unit + k) * unit ≡ element / unit * unit + k * unit + unit = grind arith in
     let whole : times * turns * unit ≡ times * (turns * unit) = mul_assoc times turns unit in
-    omega (arith, at.place_is, left, most, spread, whole)
+    omega (arith, at.element_is, left, most, spread, whole)
 
 -- a quotient, some times the divisor further
 pub quotient : (m unit r : ℕ) → 0 < unit → (m * unit + r) / unit ≡ m + r / unit
@@ -72,9 +72,9 @@ turning_once : (unit : ℕ) (dims : List Dim) (slabs : List Slab) → box_len sl
 turning_once unit dims slabs same = record {
   times = 1;
   whole = omega (arith, same);
-  grows = λ place k within short.
+  grows = λ element k within short.
       let none : k ≡ 0 = omega (arith, short) in
-      let stays : place + k * unit ≡ place = ap (λ (n : ℕ). place + n * unit) none ∙ omega arith in
+      let stays : element + k * unit ≡ element = ap (λ (n : ℕ). element + n * unit) none ∙ omega arith in
       ap (λ (n : ℕ). rank_in (sizes_of dims) (index_at slabs n)) stays ∙ omega arith;
 }
 
@@ -85,18 +85,18 @@ unfolding box_len product rank_in index_at
 turning_begins dim dims slab slabs = record {
   times = 1;
   whole = omega arith;
-  grows = λ place k within short.
+  grows = λ element k within short.
       let width = box_len slabs in
       let size = product (sizes_of dims) in
-      let split = split_of (slab_count slab) width place within in
-      let q = place / width in
-      let r = place % width in
+      let split = split_of (slab_count slab) width element within in
+      let q = element / width in
+      let r = element % width in
       let first : q % slab_count slab ≡ q =
       ap (λ (n : ℕ). n % slab_count slab) (omega arith) ∙ mod-mul-add 0 (slab_count slab) q split.first in
-      let to : place + k * width ≡ (q + k) * width + r = grind (arith, split.whole) in
-      let here : rank_in (sizes_of (dim ∷ dims)) (index_at (slab ∷ slabs) place)
+      let to : element + k * width ≡ (q + k) * width + r = grind (arith, split.whole) in
+      let here : rank_in (sizes_of (dim ∷ dims)) (index_at (slab ∷ slabs) element)
       ≡ (slab.start + q * slab.stride) * size + rank_in (sizes_of dims) (index_at slabs r) = refl in
-      let there : rank_in (sizes_of (dim ∷ dims)) (index_at (slab ∷ slabs) (place + k * width))
+      let there : rank_in (sizes_of (dim ∷ dims)) (index_at (slab ∷ slabs) (element + k * width))
       ≡ (slab.start + (q + k) * slab.stride) * size + rank_in (sizes_of dims) (index_at slabs r) =
       ap (λ (n : ℕ). rank_in (sizes_of (dim ∷ dims)) (index_at (slab ∷ slabs) n)) to
       ∙ ap (rank_in (sizes_of (dim ∷ dims))) (index_at-cons slab slabs (q + k) r split.second) in
@@ -111,25 +111,25 @@ turning_apart unit turns pitch dim dims slab slabs others = record {
   times = slab_count slab * others.times;
   whole = ap (λ (n : ℕ). slab_count slab * n) others.whole
       ∙ sym (mul_assoc (slab_count slab) others.times (turns * unit));
-  grows = λ place k within short.
+  grows = λ element k within short.
       let width = box_len slabs in
-      let split = split_of (slab_count slab) width place within in
-      let q = place / width in
-      let r = place % width in
+      let split = split_of (slab_count slab) width element within in
+      let q = element / width in
+      let r = element % width in
       let inner : r < others.times * (turns * unit) = subst (λ (n : ℕ). r < n) others.whole split.second in
       let some = within_of others.times turns unit r inner in
-      let before : place ≡ q * (others.times * turns) * unit + r =
+      let before : element ≡ q * (others.times * turns) * unit + r =
       sym split.whole ∙ ap (λ (n : ℕ). q * n + r) others.whole ∙ grind arith in
-      let units : place / unit ≡ q * others.times * turns + r / unit =
+      let units : element / unit ≡ q * others.times * turns + r / unit =
       ap (λ (n : ℕ). n / unit) before
       ∙ quotient (q * (others.times * turns)) unit r some.unit_some
       ∙ ap (λ (n : ℕ). n + r / unit) (sym (mul_assoc q others.times turns)) in
-      let same : place / unit % turns ≡ r / unit % turns =
+      let same : element / unit % turns ≡ r / unit % turns =
       ap (λ (n : ℕ). n % turns) units ∙ mul-add-mod_self_right (q * others.times) turns (r / unit) in
       let close : k < turns - r / unit % turns = subst (λ (n : ℕ). k < turns - n) same short in
       let far : r + k * unit < width = subst (λ (n : ℕ). r + k * unit < n) (sym others.whole)
       (within_turning others.times turns unit r k inner close) in
-      let to : place + k * unit ≡ q * width + (r + k * unit) = omega (arith, split.whole) in
+      let to : element + k * unit ≡ q * width + (r + k * unit) = omega (arith, split.whole) in
       ap (λ (n : ℕ). rank_in (sizes_of (dim ∷ dims)) (index_at (slab ∷ slabs) n)) to
       ∙ ap (rank_in (sizes_of (dim ∷ dims))) (index_at-cons slab slabs q (r + k * unit) far)
       ∙ ap (λ (n : ℕ). slab_index slab q * product (sizes_of dims) + n) (others.grows r k split.second close)
@@ -163,41 +163,43 @@ spread-turns start q stride size rank m turns pitch far =
     first ∙ ap (λ (n : ℕ). start * size + rank + (q * n + m * pitch)) (sym far)
     ∙ ap (λ (n : ℕ). start * size + rank + n) last
 
--- what a run of turns picks at a place stands as far behind the first unit as there are turns before it
+-- an element that a run of turns picks stands as far behind the first unit as there are turns before it
 run-rank : (unit turns pitch : ℕ) (dims : List Dim) (slabs : List Slab) → box_len slabs ≡ turns * unit
-    → Turning unit turns pitch dims slabs → (place : ℕ) → place < box_len slabs
-    → rank_in (sizes_of dims) (index_at slabs place)
-    ≡ rank_in (sizes_of dims) (index_at slabs (place % unit)) + place / unit * pitch
-run-rank unit turns pitch dims slabs one others place within =
-    let at = within_of 1 turns unit place (omega (arith, within, one)) in
-    let none : place % unit / unit ≡ 0 =
-    ap (λ (n : ℕ). n / unit) (omega arith) ∙ div-mul-add 0 unit (place % unit) (mod_below place unit at.unit_some) in
-    let first : place % unit / unit % turns ≡ 0 =
+    → Turning unit turns pitch dims slabs → (element : ℕ) → element < box_len slabs
+    → rank_in (sizes_of dims) (index_at slabs element)
+    ≡ rank_in (sizes_of dims) (index_at slabs (element % unit)) + element / unit * pitch
+run-rank unit turns pitch dims slabs one others element within =
+    let at = within_of 1 turns unit element (omega (arith, within, one)) in
+    let none : element % unit / unit ≡ 0 =
+    ap (λ (n : ℕ). n / unit) (omega arith)
+    ∙ div-mul-add 0 unit (element % unit) (mod_below element unit at.unit_some) in
+    let first : element % unit / unit % turns ≡ 0 =
     ap (λ (n : ℕ). n % turns) (none ∙ omega arith) ∙ mod-mul-add 0 turns 0 at.turns_some in
-    let to : place ≡ place % unit + place / unit * unit = omega (arith, at.place_is) in
+    let to : element ≡ element % unit + element / unit * unit = omega (arith, at.element_is) in
     ap (λ (n : ℕ). rank_in (sizes_of dims) (index_at slabs n)) to
-    ∙ others.grows (place % unit) (place / unit) (omega (arith, at.place_is, within)) (omega (arith, at.unit_at, first))
+    ∙ others.grows (element % unit) (element / unit) (omega (arith, at.element_is, within))
+    (omega (arith, at.unit_at, first))
 
 -- the same with a slab before them that goes on
 turn-rank : (unit turns pitch : ℕ) (dim : Dim) (dims : List Dim) (slab : Slab) (slabs : List Slab)
     → box_len slabs ≡ turns * unit → turns * pitch ≡ slab.stride * product (sizes_of dims)
-    → Turning unit turns pitch dims slabs → (place : ℕ) → place < box_len (slab ∷ slabs)
-    → rank_in (sizes_of (dim ∷ dims)) (index_at (slab ∷ slabs) place)
-    ≡ slab.start * product (sizes_of dims) + rank_in (sizes_of dims) (index_at slabs (place % unit))
-    + place / unit * pitch
+    → Turning unit turns pitch dims slabs → (element : ℕ) → element < box_len (slab ∷ slabs)
+    → rank_in (sizes_of (dim ∷ dims)) (index_at (slab ∷ slabs) element)
+    ≡ slab.start * product (sizes_of dims) + rank_in (sizes_of dims) (index_at slabs (element % unit))
+    + element / unit * pitch
 unfolding box_len product rank_in index_at
-turn-rank unit turns pitch dim dims slab slabs one far others place within =
+turn-rank unit turns pitch dim dims slab slabs one far others element within =
     let width = box_len slabs in
     let size = product (sizes_of dims) in
-    let split = split_of (slab_count slab) width place within in
-    let q = place / width in
-    let r = place % width in
+    let split = split_of (slab_count slab) width element within in
+    let q = element / width in
+    let r = element % width in
     let at = within_of 1 turns unit r (omega (arith, split.second, one)) in
-    let before : place ≡ q * turns * unit + r =
+    let before : element ≡ q * turns * unit + r =
     sym split.whole ∙ ap (λ (n : ℕ). q * n + r) one ∙ grind arith in
-    let units : place / unit ≡ q * turns + r / unit =
+    let units : element / unit ≡ q * turns + r / unit =
     ap (λ (n : ℕ). n / unit) before ∙ quotient (q * turns) unit r at.unit_some in
-    let same : place % unit ≡ r % unit =
+    let same : element % unit ≡ r % unit =
     ap (λ (n : ℕ). n % unit) before ∙ mul-add-mod_self_right (q * turns) unit r in
     ap (λ (n : ℕ). (slab.start + q * slab.stride) * size + n) (run-rank unit turns pitch dims slabs one others r
     split.second)
@@ -215,22 +217,22 @@ unfolding box_len product
 turning_on unit turns pitch dim dims slab slabs one far others = record {
   times = 1;
   whole = ap (λ (n : ℕ). slab_count slab * n) one ∙ grind arith;
-  grows = λ place k within short.
+  grows = λ element k within short.
       let all = slab_count slab * turns in
       let size = product (sizes_of dims) in
       let whole : box_len (slab ∷ slabs) ≡ 1 * (all * unit) =
       ap (λ (n : ℕ). slab_count slab * n) one ∙ grind arith in
-      let below : place < 1 * (all * unit) = subst (λ (n : ℕ). place < n) whole within in
-      let at = within_of 1 all unit place below in
-      let further : place + k * unit < box_len (slab ∷ slabs) =
-      subst (λ (n : ℕ). place + k * unit < n) (sym whole) (within_turning 1 all unit place k below short) in
-      let to : place + k * unit ≡ k * unit + place = omega arith in
-      let units : (place + k * unit) / unit ≡ k + place / unit =
-      ap (λ (n : ℕ). n / unit) to ∙ quotient k unit place at.unit_some in
-      let same : (place + k * unit) % unit ≡ place % unit =
-      ap (λ (n : ℕ). n % unit) to ∙ mul-add-mod_self_right k unit place in
-      let here = turn-rank unit turns pitch dim dims slab slabs one far others place within in
-      turn-rank unit turns pitch dim dims slab slabs one far others (place + k * unit) further
+      let below : element < 1 * (all * unit) = subst (λ (n : ℕ). element < n) whole within in
+      let at = within_of 1 all unit element below in
+      let further : element + k * unit < box_len (slab ∷ slabs) =
+      subst (λ (n : ℕ). element + k * unit < n) (sym whole) (within_turning 1 all unit element k below short) in
+      let to : element + k * unit ≡ k * unit + element = omega arith in
+      let units : (element + k * unit) / unit ≡ k + element / unit =
+      ap (λ (n : ℕ). n / unit) to ∙ quotient k unit element at.unit_some in
+      let same : (element + k * unit) % unit ≡ element % unit =
+      ap (λ (n : ℕ). n % unit) to ∙ mul-add-mod_self_right k unit element in
+      let here = turn-rank unit turns pitch dim dims slab slabs one far others element within in
+      turn-rank unit turns pitch dim dims slab slabs one far others (element + k * unit) further
       ∙ ap₂ (λ (m n : ℕ). slab.start * size + rank_in (sizes_of dims) (index_at slabs m) + n * pitch) same units
       ∙ grind arith
       ∙ ap (λ (n : ℕ). n + k * pitch) (sym here);

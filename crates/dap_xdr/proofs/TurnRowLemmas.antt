@@ -80,7 +80,7 @@ bytes-both kind front back first second one two = record {
       ∙ sym (flat_map-append (stored_bytes kind) front back);
 }
 
--- some numbers of a list from a place on, behind the first of them
+-- some numbers of a list from an element on, behind the first of them
 drop-some : {A : Type 0} (xs : List A) (many passed : ℕ)
     → drop passed (take many xs) ≡ take (many - passed) (drop passed xs)
 drop-some xs many passed = elim (cases_lt many passed) [
@@ -93,27 +93,27 @@ drop-some xs many passed = elim (cases_lt many passed) [
       ap (λ (n : ℕ). drop passed (take n xs)) all ∙ drop-take passed (many - passed) xs
 ]
 
--- at a place a unit begins, at least `count` units are left of the turns, and these bytes are those of the array's
+-- at an element a unit begins, at least `count` units are left of the turns, and these bytes are those of the array's
 -- numbers from there on
-pub record RowsAt (array : Array) (slabs : List Slab) (bits : List ℕ → ℕ) (unit turns count place : ℕ) (bytes : List ℕ)
-    : Type 0 where
-  pub within : place < box_len slabs
-  pub begins : place % unit ≡ 0
-  pub few : count ≤ turns - place / unit % turns
+pub record RowsAt (array : Array) (slabs : List Slab) (bits : List ℕ → ℕ) (unit turns count element : ℕ)
+    (bytes : List ℕ) : Type 0 where
+  pub within : element < box_len slabs
+  pub begins : element % unit ≡ 0
+  pub few : count ≤ turns - element / unit % turns
   pub many : ℕ
   pub bytes_are : AreBytesOf array.kind (map bits (take many
-      (drop (rank_in (sizes_of array.dims) (index_at slabs place)) (indices_of (sizes_of array.dims))))) bytes
+      (drop (rank_in (sizes_of array.dims) (index_at slabs element)) (indices_of (sizes_of array.dims))))) bytes
 
 module _ (array : Array) (slabs : List Slab) (bits : List ℕ → ℕ) (fits : AllZip FitsDim array.dims slabs)
     (number : array.kind ≢ Text) (unit turns pitch : ℕ) (stretch : Stretch unit array.dims slabs)
     (turning : Turning unit turns pitch array.dims slabs) where
-  -- the first row is the unit at the place
-  first-row : (count place : ℕ) (bytes : List ℕ) → RowsAt array slabs bits unit turns count place bytes
+  -- the first row is the unit at the element
+  first-row : (count element : ℕ) (bytes : List ℕ) → RowsAt array slabs bits unit turns count element bytes
       → length (take (unit * stored_len array.kind) bytes) ≡ unit * stored_len array.kind
-      → AreBytesOf array.kind (map bits (take unit (drop place (box_of slabs))))
+      → AreBytesOf array.kind (map bits (take unit (drop element (box_of slabs))))
       (take (unit * stored_len array.kind) bytes)
-  first-row count place bytes at whole =
-      let rank = rank_in (sizes_of array.dims) (index_at slabs place) in
+  first-row count element bytes at whole =
+      let rank = rank_in (sizes_of array.dims) (index_at slabs element) in
       let rest = drop rank (indices_of (sizes_of array.dims)) in
       let numbers = map bits (take at.many rest) in
       let long : length bytes ≡ length numbers * stored_len array.kind =
@@ -124,45 +124,46 @@ module _ (array : Array) (slabs : List Slab) (bits : List ℕ → ℕ) (fits : A
       let some : unit ≤ length numbers = cancel-len array.kind unit (length numbers) number there in
       let few : unit ≤ at.many =
       omega (arith, some, length-map (take at.many rest) bits, length-take at.many rest) in
-      let stands : (more : ℕ) → more < unit → Stands array.dims slabs (place + more) (rank + more) =
+      let stands : (more : ℕ) → more < unit → Stands array.dims slabs (element + more) (rank + more) =
       λ more below. (
-      let close : more < unit - place % unit = omega (arith, below, at.begins) in
+      let close : more < unit - element % unit = omega (arith, below, at.begins) in
       record {
-        within = subst (λ (n : ℕ). place + more < n) (sym stretch.turns)
-            (within_turns stretch.times unit place more (subst (λ (n : ℕ). place < n) stretch.turns at.within) close);
-        rank_is = stretch.follows place more at.within close;
+        within = subst (λ (n : ℕ). element + more < n) (sym stretch.turns)
+            (within_turns stretch.times unit element more (subst (λ (n : ℕ). element < n) stretch.turns at.within)
+            close);
+        rank_is = stretch.follows element more at.within close;
       }) in
-      let same : take unit numbers ≡ map bits (take unit (drop place (box_of slabs))) =
+      let same : take unit numbers ≡ map bits (take unit (drop element (box_of slabs))) =
       take-map bits unit (take at.many rest)
-      ∙ ap (map bits) (take-take unit at.many rest few ∙ follow unit array.dims slabs place rank fits stands) in
+      ∙ ap (map bits) (take-take unit at.many rest few ∙ follow unit array.dims slabs element rank fits stands) in
       subst (λ (l : List ℕ). AreBytesOf array.kind l (take (unit * stored_len array.kind) bytes)) same
       (bytes-take array.kind numbers bytes unit at.bytes_are some)
 
   -- the next unit begins one pitch further in the array
-  next-row : (count place : ℕ) (bytes : List ℕ) → RowsAt array slabs bits unit turns (suc (suc count)) place bytes
-      → RowsAt array slabs bits unit turns (suc count) (place + unit) (drop (pitch * stored_len array.kind) bytes)
-  next-row count place bytes at =
-      let rank = rank_in (sizes_of array.dims) (index_at slabs place) in
-      let below : place < turning.times * (turns * unit) =
-      subst (λ (n : ℕ). place < n) turning.whole at.within in
-      let some = within_of turning.times turns unit place below in
-      let short : 1 < turns - place / unit % turns = omega (arith, at.few) in
-      let one : place + 1 * unit ≡ place + unit = omega arith in
-      let unit_at : (place + unit) / unit ≡ place / unit + 1 =
-      ap (λ (n : ℕ). n / unit) (omega arith) ∙ quotient 1 unit place some.unit_some ∙ omega arith in
-      let split = div-add-mod' (place / unit) turns in
-      let turn_at : (place / unit + 1) % turns ≡ place / unit % turns + 1 =
+  next-row : (count element : ℕ) (bytes : List ℕ) → RowsAt array slabs bits unit turns (suc (suc count)) element bytes
+      → RowsAt array slabs bits unit turns (suc count) (element + unit) (drop (pitch * stored_len array.kind) bytes)
+  next-row count element bytes at =
+      let rank = rank_in (sizes_of array.dims) (index_at slabs element) in
+      let below : element < turning.times * (turns * unit) =
+      subst (λ (n : ℕ). element < n) turning.whole at.within in
+      let some = within_of turning.times turns unit element below in
+      let short : 1 < turns - element / unit % turns = omega (arith, at.few) in
+      let one : element + 1 * unit ≡ element + unit = omega arith in
+      let unit_at : (element + unit) / unit ≡ element / unit + 1 =
+      ap (λ (n : ℕ). n / unit) (omega arith) ∙ quotient 1 unit element some.unit_some ∙ omega arith in
+      let split = div-add-mod' (element / unit) turns in
+      let turn_at : (element / unit + 1) % turns ≡ element / unit % turns + 1 =
       ap (λ (n : ℕ). n % turns) (omega (arith, split))
-      ∙ mod-mul-add (place / unit / turns) turns (place / unit % turns + 1) (omega (arith, short)) in
-      let grows : rank_in (sizes_of array.dims) (index_at slabs (place + unit)) ≡ rank + pitch =
+      ∙ mod-mul-add (element / unit / turns) turns (element / unit % turns + 1) (omega (arith, short)) in
+      let grows : rank_in (sizes_of array.dims) (index_at slabs (element + unit)) ≡ rank + pitch =
       ap (λ (n : ℕ). rank_in (sizes_of array.dims) (index_at slabs n)) (sym one)
-      ∙ turning.grows place 1 at.within short ∙ omega arith in
+      ∙ turning.grows element 1 at.within short ∙ omega arith in
       let indices = indices_of (sizes_of array.dims) in
       record {
-        within = subst (λ (n : ℕ). place + unit < n) (sym turning.whole)
+        within = subst (λ (n : ℕ). element + unit < n) (sym turning.whole)
             (subst (λ (n : ℕ). n < turning.times * (turns * unit)) one
-            (within_turning turning.times turns unit place 1 below short));
-        begins = ap (λ (n : ℕ). n % unit) (omega arith) ∙ mul-add-mod_self_right 1 unit place ∙ at.begins;
+            (within_turning turning.times turns unit element 1 below short));
+        begins = ap (λ (n : ℕ). n % unit) (omega arith) ∙ mul-add-mod_self_right 1 unit element ∙ at.begins;
         few = omega (arith, at.few, ap (λ (n : ℕ). n % turns) unit_at, turn_at);
         many = at.many - pitch;
         bytes_are = subst (λ (l : List ℕ). AreBytesOf array.kind l (drop (pitch * stored_len array.kind) bytes))
@@ -173,53 +174,53 @@ module _ (array : Array) (slabs : List Slab) (bits : List ℕ → ℕ) (fits : A
             (bytes-drop array.kind _ bytes pitch at.bytes_are);
       }
 
-  -- rows are the units from a place on, as far as they are whole
-  pub rows-picked : (count place : ℕ) (bytes : List ℕ)
-      → (0 < count → RowsAt array slabs bits unit turns count place bytes)
+  -- rows are the units from an element on, as far as they are whole
+  pub rows-picked : (count element : ℕ) (bytes : List ℕ)
+      → (0 < count → RowsAt array slabs bits unit turns count element bytes)
       → length (rows_in (unit * stored_len array.kind) (pitch * stored_len array.kind) count bytes)
       ≡ count * (unit * stored_len array.kind)
-      → AreBytesOf array.kind (map bits (take (count * unit) (drop place (box_of slabs))))
+      → AreBytesOf array.kind (map bits (take (count * unit) (drop element (box_of slabs))))
       (rows_in (unit * stored_len array.kind) (pitch * stored_len array.kind) count bytes)
   unfolding rows_in
-  rows-picked zero place bytes at whole =
+  rows-picked zero element bytes at whole =
       let none : 0 ≡ zero * unit = omega arith in
-      subst (λ (n : ℕ). AreBytesOf array.kind (map bits (take n (drop place (box_of slabs)))) []) none
+      subst (λ (n : ℕ). AreBytesOf array.kind (map bits (take n (drop element (box_of slabs)))) []) none
       (record { fit = All-nil (AreBitsOf array.kind); bytes_are = refl })
-  rows-picked (suc count) place bytes at whole =
+  rows-picked (suc count) element bytes at whole =
       let row = unit * stored_len array.kind in
       let step = pitch * stored_len array.kind in
-      let box = drop place (box_of slabs) in
+      let box = drop element (box_of slabs) in
       let parts = are_whole row step count bytes whole in
-      let one = first-row (suc count) place bytes (at (omega arith)) parts.first in
-      let others = rows-picked count (place + unit) (drop step bytes) (later count at) parts.others in
+      let one = first-row (suc count) element bytes (at (omega arith)) parts.first in
+      let others = rows-picked count (element + unit) (drop step bytes) (later count at) parts.others in
       let spread : unit + count * unit ≡ suc count * unit = grind arith in
-      let both : map bits (take unit box) ++ map bits (take (count * unit) (drop (place + unit) (box_of slabs)))
+      let both : map bits (take unit box) ++ map bits (take (count * unit) (drop (element + unit) (box_of slabs)))
       ≡ map bits (take (suc count * unit) box) =
       ap (λ (l : List (List ℕ)). map bits (take unit box) ++ map bits (take (count * unit) l))
-      (sym (drop-drop unit place (box_of slabs)))
+      (sym (drop-drop unit element (box_of slabs)))
       ∙ sym (map-append bits (take unit box) (take (count * unit) (drop unit box)))
       ∙ ap (map bits) (sym (take-add unit (count * unit) box) ∙ ap (λ (n : ℕ). take n box) spread) in
       subst (λ (l : List ℕ). AreBytesOf array.kind l (take row bytes ++ rows_in row step count (drop step bytes))) both
       (bytes-both array.kind _ _ (take row bytes) (rows_in row step count (drop step bytes)) one others)
     where
-      later : (count : ℕ) → (0 < suc count → RowsAt array slabs bits unit turns (suc count) place bytes)
-          → 0 < count → RowsAt array slabs bits unit turns count (place + unit)
+      later : (count : ℕ) → (0 < suc count → RowsAt array slabs bits unit turns (suc count) element bytes)
+          → 0 < count → RowsAt array slabs bits unit turns count (element + unit)
           (drop (pitch * stored_len array.kind) bytes)
       later zero at some = absurd (omega (arith, some))
-      later (suc count) at some = next-row count place bytes (at (omega arith))
+      later (suc count) at some = next-row count element bytes (at (omega arith))
 
--- the rows that numbers have from a place on are what slabs pick from there on
-pub rows-of : (n : Portion) (place most : ℕ) (index stored : List ℕ) (rows : Rows) → IsPortion n
-    → n.array.kind ≢ Text → place < box_len n.sent.slabs → index ≡ index_at n.sent.slabs place
+-- the rows that numbers have from an element on are what slabs pick from there on
+pub rows-of : (n : Portion) (element most : ℕ) (index stored : List ℕ) (rows : Rows) → IsPortion n
+    → n.array.kind ≢ Text → element < box_len n.sent.slabs → index ≡ index_at n.sent.slabs element
     → AreStored n.array (bits_in n) index most stored
-    → AreRowsAt n.array.kind (extent_of n.array.dims n.sent.slabs) place rows
-    → PickRows n place rows stored
+    → AreRowsAt n.array.kind (extent_of n.array.dims n.sent.slabs) element rows
+    → PickRows n element rows stored
 unfolding rows_in
-rows-of n place most index stored rows portion number within same are lie = by_count
+rows-of n element most index stored rows portion number within same are lie = by_count
   where
     by_count : (count : ℕ) → count ≤ rows.most
         → length (rows_in rows.row rows.step count stored) ≡ count * rows.row
-        → ArePicked n.array.kind (bits_in n) n.sent.slabs place
+        → ArePicked n.array.kind (bits_in n) n.sent.slabs element
         (count * (extent_of n.array.dims n.sent.slabs).unit) (rows_in rows.row rows.step count stored)
     by_count zero few whole = record {
       count = 0;
@@ -229,7 +230,7 @@ rows-of n place most index stored rows portion number within same are lie = by_c
     by_count (suc count) few whole =
         let extent = extent_of n.array.dims n.sent.slabs in
         let some : 0 < rows.most = omega (arith, few) in
-        let at : RowsAt n.array n.sent.slabs (bits_in n) extent.unit extent.turns (suc count) place stored = record {
+        let at : RowsAt n.array n.sent.slabs (bits_in n) extent.unit extent.turns (suc count) element stored = record {
           within = within;
           begins = lie.begins some;
           few = omega (arith, few, lie.few);
@@ -240,25 +241,26 @@ rows-of n place most index stored rows portion number within same are lie = by_c
         } in
         let picked = rows-picked n.array n.sent.slabs (bits_in n) portion.fits number extent.unit extent.turns
         extent.pitch (stretch_of n.array.dims n.sent.slabs portion.fits)
-        (turning_of n.array.dims n.sent.slabs portion.fits) (suc count) place stored (λ _. at)
+        (turning_of n.array.dims n.sent.slabs portion.fits) (suc count) element stored (λ _. at)
         (subst₂ (λ (row step : ℕ). length (rows_in row step (suc count) stored) ≡ suc count * row) (lie.row_is some)
         (lie.step_is some) whole) in
         record {
           count = suc count * extent.unit;
           few = omega arith;
           bytes_are = subst₂ (λ (row step : ℕ). AreBytesOf n.array.kind (map (bits_in n) (take
-              (suc count * extent.unit) (drop place (box_of n.sent.slabs)))) (rows_in row step (suc count) stored))
+              (suc count * extent.unit) (drop element (box_of n.sent.slabs)))) (rows_in row step (suc count) stored))
               (sym (lie.row_is some)) (sym (lie.step_is some)) picked;
         }
 
 -- there may be no rows
-pub no-rows : (n : Portion) (place : ℕ) (stored : List ℕ) (rows : Rows) → rows.most ≡ 0 → PickRows n place rows stored
+pub no-rows : (n : Portion) (element : ℕ) (stored : List ℕ) (rows : Rows) → rows.most ≡ 0
+    → PickRows n element rows stored
 unfolding rows_in
-no-rows n place stored rows none = by_count
+no-rows n element stored rows none = by_count
   where
     by_count : (count : ℕ) → count ≤ rows.most
         → length (rows_in rows.row rows.step count stored) ≡ count * rows.row
-        → ArePicked n.array.kind (bits_in n) n.sent.slabs place
+        → ArePicked n.array.kind (bits_in n) n.sent.slabs element
         (count * (extent_of n.array.dims n.sent.slabs).unit) (rows_in rows.row rows.step count stored)
     by_count zero few whole = record {
       count = 0;
@@ -267,11 +269,11 @@ no-rows n place stored rows none = by_count
     }
     by_count (suc count) few whole = absurd (omega (arith, few, none))
 
--- from a place on some units are left of the turns
-pub some-turns : (n : Portion) (place : ℕ) → IsPortion n → place < box_len n.sent.slabs
+-- from an element on some units are left of the turns
+pub some-turns : (n : Portion) (element : ℕ) → IsPortion n → element < box_len n.sent.slabs
     → 0 < (extent_of n.array.dims n.sent.slabs).turns
-some-turns n place portion within =
+some-turns n element portion within =
     let extent = extent_of n.array.dims n.sent.slabs in
     let turning = turning_of n.array.dims n.sent.slabs portion.fits in
-    (within_of turning.times extent.turns extent.unit place
-    (subst (λ (m : ℕ). place < m) turning.whole within)).turns_some
+    (within_of turning.times extent.turns extent.unit element
+    (subst (λ (m : ℕ). element < m) turning.whole within)).turns_some

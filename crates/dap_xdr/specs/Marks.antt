@@ -13,16 +13,16 @@ use Rattle.dap_xdr.specs.Datasets.{content_of}
 use Rattle.dap_xdr.specs.declared.len.Marked.{Marked}
 use Rattle.dap_xdr.specs.Portion.{text_in, texts_of, Portion}
 
--- how many texts there are, and the texts before a place
+-- how many texts there are, and the texts before an element
 unfoldable pub texts_before : Portion → ℕ → List ℕ
-texts_before n place =
+texts_before n element =
     to_be_bytes w32 (box_len n.sent.slabs)
-    ++ flat_map text_bytes (map (text_in n) (take place (box_of n.sent.slabs)))
+    ++ flat_map text_bytes (map (text_in n) (take element (box_of n.sent.slabs)))
 
 -- a text begins at this offset, or the last one ends there
-pub record IsMark (n : Portion) (place offset : ℕ) : Type 0 where
-  pub within : place ≤ box_len n.sent.slabs
-  pub offset_is : offset ≡ length (texts_before n place)
+pub record IsMark (n : Portion) (element offset : ℕ) : Type 0 where
+  pub within : element ≤ box_len n.sent.slabs
+  pub offset_is : offset ≡ length (texts_before n element)
 
 -- how many texts there are from one mark to the next: 1,024, and more where there are over 8 million, so that few more
 -- than 8,192 marks suffice
@@ -41,7 +41,7 @@ AreMarksOf shown sent marks =
 
 -- an offset is added to the marks where its text is the next that is marked, or the marks stay
 abbrev pub IsNoted : List ℕ → ℕ → ℕ → ℕ → List ℕ → Type 0
-IsNoted old every place offset new = (new ≡ old) ⊎ ((place ≡ length old * every) × (new ≡ old ++ offset ∷ []))
+IsNoted old every element offset new = (new ≡ old) ⊎ ((element ≡ length old * every) × (new ≡ old ++ offset ∷ []))
 
 -- how many bytes an array of texts takes, and marks in it
 pub record IsMarked (n : Portion) (marked : Marked) : Type 0 where

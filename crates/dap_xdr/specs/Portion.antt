@@ -35,10 +35,10 @@ data_in n = array_data (content_of n.shown) n.sent n.array
 abbrev pub bits_in : Portion → List ℕ → ℕ
 bits_in n = (content_of n.shown).bits n.sent.decl n.sent.part
 
--- the bytes of the numbers that are sent from a place on
+-- the bytes of the numbers that are sent from an element on
 unfoldable pub numbers_from : Portion → ℕ → List ℕ
-numbers_from n place =
-    flat_map (element_bytes n.array.kind) (map (bits_in n) (drop place (box_of n.sent.slabs)))
+numbers_from n element =
+    flat_map (element_bytes n.array.kind) (map (bits_in n) (drop element (box_of n.sent.slabs)))
 
 -- their bytes, and zero bytes up to a multiple of four
 unfoldable pub body_of : Portion → List ℕ

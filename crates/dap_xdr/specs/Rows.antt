@@ -31,17 +31,17 @@ pub record ArePut (kind : DapKind) (rows : Rows) (stored old new : List ℕ) (fi
   pub front : (numbers : List ℕ) → AreBytesOf kind numbers (rows_in rows.row rows.step count stored)
       → IsFront (flat_map (element_bytes kind) numbers) old new filled
 
--- rows of what stands in a file are what slabs pick from a place on
+-- rows of what stands in a file are what slabs pick from an element on
 abbrev pub PickRows : Portion → ℕ → Rows → List ℕ → Type 0
-PickRows n place rows stored =
+PickRows n element rows stored =
     (count : ℕ) → count ≤ rows.most → length (rows_in rows.row rows.step count stored) ≡ count * rows.row
-    → ArePicked n.array.kind (bits_in n) n.sent.slabs place
+    → ArePicked n.array.kind (bits_in n) n.sent.slabs element
     (count * (extent_of n.array.dims n.sent.slabs).unit) (rows_in rows.row rows.step count stored)
 
--- the rows that numbers of a kind have from a place on are the units that are left of the turns; there are none within
--- a unit
-pub record AreRowsAt (kind : DapKind) (extent : Extent) (place : ℕ) (rows : Rows) : Type 0 where
-  pub few : rows.most ≤ turns_at extent place
-  pub begins : 0 < rows.most → place % extent.unit ≡ 0
+-- the rows that numbers of a kind have from an element on are the units that are left of the turns; there are none
+-- within a unit
+pub record AreRowsAt (kind : DapKind) (extent : Extent) (element : ℕ) (rows : Rows) : Type 0 where
+  pub few : rows.most ≤ turns_at extent element
+  pub begins : 0 < rows.most → element % extent.unit ≡ 0
   pub row_is : 0 < rows.most → rows.row ≡ extent.unit * stored_len kind
   pub step_is : 0 < rows.most → rows.step ≡ extent.pitch * stored_len kind

@@ -43,12 +43,12 @@ pub record AreStored (array : Array) (bits : List ℕ → ℕ) (index : List ℕ
   pub bytes_are : AreBytesOf array.kind
       (map bits (take count (drop (rank_in (array_lengths array) index) (indices_of (array_lengths array))))) bytes
 
--- the bytes are those of at most `most` of the numbers that slabs pick, from a place on
-pub record ArePicked (kind : DapKind) (bits : List ℕ → ℕ) (slabs : List Slab) (place most : ℕ) (bytes : List ℕ)
+-- the bytes are those of at most `most` of the numbers that slabs pick, from an element on
+pub record ArePicked (kind : DapKind) (bits : List ℕ → ℕ) (slabs : List Slab) (element most : ℕ) (bytes : List ℕ)
     : Type 0 where
   pub count : ℕ
   pub few : count ≤ most
-  pub bytes_are : AreBytesOf kind (map bits (take count (drop place (box_of slabs)))) bytes
+  pub bytes_are : AreBytesOf kind (map bits (take count (drop element (box_of slabs)))) bytes
 
 -- a slab is the whole of a dimension of this size
 unfoldable pub is_whole : ℕ → Slab → Bool
@@ -106,10 +106,10 @@ extent_of [] slabs = no_extent
 extent_of (dim ∷ dims) [] = no_extent
 extent_of (dim ∷ dims) (slab ∷ slabs) = extent_before dim.size slab (extent_of dims slabs)
 
--- how many of what slabs pick stand together in the array from a place on
+-- how many of what slabs pick stand together in the array from an element on
 abbrev pub left_at : List Dim → List Slab → ℕ → ℕ
-left_at dims slabs place = (extent_of dims slabs).unit - place % (extent_of dims slabs).unit
+left_at dims slabs element = (extent_of dims slabs).unit - element % (extent_of dims slabs).unit
 
--- how many units are left of the turns from a place on
+-- how many units are left of the turns from an element on
 abbrev pub turns_at : Extent → ℕ → ℕ
-turns_at extent place = extent.turns - place / extent.unit % extent.turns
+turns_at extent element = extent.turns - element / extent.unit % extent.turns

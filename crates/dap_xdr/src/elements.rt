@@ -12,65 +12,65 @@ use crate::rows::put_rows;
 use crate::stored::put_stored;
 use dap_number::{element_len, put_element};
 
-// The place of a number among those that are sent, and how many of its bytes are passed over.
+// One of the numbers that are sent, and how many of its bytes are passed over.
 #[derive(Clone, Copy)]
 pub(crate) struct Position {
-    place: u64,
+    element: u64,
     skip: u64,
 }
 
-// Writes numbers from a position on, as they stand in a file: maybe nothing. The index list of its place stands in
+// Writes numbers from a position on, as they stand in a file: maybe nothing. The index list of its element stands in
 // `index`.
 fn put_in_place(part: &Part, at: Position, out: &mut [u8], index: &[u64]) -> usize
     requires number { part.now.array.kind ≢ DapKind.Text }
-    requires place { at.place < box_len part.now.sent.slabs }
+    requires element { at.element < box_len part.now.sent.slabs }
     requires room { 0 < length out.old }
-    requires index { index.now ≡ index_at part.now.sent.slabs at.place }
-    ensures { IsFront (drop at.skip (numbers_from part.now at.place)) out.old out.new result }
+    requires index { index.now ≡ index_at part.now.sent.slabs at.element }
+    ensures { IsFront (drop at.skip (numbers_from part.now at.element)) out.old out.new result }
 {
-    let stored = part.raw(at.place, index, out.len() as u64);
+    let stored = part.raw(at.element, index, out.len() as u64);
     put_stored(part.kind(), stored, at.skip, out)
 }
 
 // Writes whole rows from a position on, at the beginning of a number, as they stand in a file: maybe none. The index
-// list of its place stands in `index`.
+// list of its element stands in `index`.
 fn put_turns(part: &Part, at: Position, out: &mut [u8], index: &[u64]) -> usize
     requires number { part.now.array.kind ≢ DapKind.Text }
-    requires place { at.place < box_len part.now.sent.slabs }
+    requires element { at.element < box_len part.now.sent.slabs }
     requires begins { at.skip ≡ 0 }
-    requires index { index.now ≡ index_at part.now.sent.slabs at.place }
-    ensures { IsFront (drop at.skip (numbers_from part.now at.place)) out.old out.new result }
+    requires index { index.now ≡ index_at part.now.sent.slabs at.element }
+    ensures { IsFront (drop at.skip (numbers_from part.now at.element)) out.old out.new result }
 {
-    let (stored, rows) = part.rows(at.place, index);
+    let (stored, rows) = part.rows(at.element, index);
     put_rows(part.kind(), stored, rows, out)
 }
 
-// Writes the number at a position. The index list of its place stands in `index`.
+// Writes the number at a position. The index list of its element stands in `index`.
 fn put_first(part: &Part, at: Position, out: &mut [u8], index: &[u64]) -> usize
     requires number { part.now.array.kind ≢ DapKind.Text }
-    requires place { at.place < box_len part.now.sent.slabs }
+    requires element { at.element < box_len part.now.sent.slabs }
     requires skip { at.skip < element_len part.now.array.kind }
     requires room { 0 < length out.old }
-    requires index { index.now ≡ index_at part.now.sent.slabs at.place }
+    requires index { index.now ≡ index_at part.now.sent.slabs at.element }
     ensures some { 1 ≤ result }
-    ensures front { IsFront (drop at.skip (numbers_from part.now at.place)) out.old out.new
+    ensures front { IsFront (drop at.skip (numbers_from part.now at.element)) out.old out.new
         result }
 {
-    let bits = part.bits(at.place, index);
+    let bits = part.bits(at.element, index);
     put_element(part.kind(), bits, at.skip, out)
 }
 
-// Writes numbers from a position on that stand together, or one number: at least one byte. The index list of its place
-// stands in `index`.
+// Writes numbers from a position on that stand together, or one number: at least one byte. The index list of its
+// element stands in `index`.
 #[tactic(auto, using(dap_number::proofs::FrontLemmas::nothing))]
 fn put_stretch(part: &Part, at: Position, out: &mut [u8], index: &[u64]) -> usize
     requires number { part.now.array.kind ≢ DapKind.Text }
-    requires place { at.place < box_len part.now.sent.slabs }
+    requires element { at.element < box_len part.now.sent.slabs }
     requires skip { at.skip < element_len part.now.array.kind }
     requires room { 0 < length out.old }
-    requires index { index.now ≡ index_at part.now.sent.slabs at.place }
+    requires index { index.now ≡ index_at part.now.sent.slabs at.element }
     ensures some { 1 ≤ result }
-    ensures front { IsFront (drop at.skip (numbers_from part.now at.place)) out.old out.new result }
+    ensures front { IsFront (drop at.skip (numbers_from part.now at.element)) out.old out.new result }
 {
     let count = put_in_place(part, at, out, index);
     if count > 0 {
@@ -80,16 +80,16 @@ fn put_stretch(part: &Part, at: Position, out: &mut [u8], index: &[u64]) -> usiz
 }
 
 // Writes whole rows from a position on, or what stands together there, or one number: at least one byte. The index list
-// of its place stands in `index`.
+// of its element stands in `index`.
 #[tactic(auto, using(dap_number::proofs::FrontLemmas::nothing))]
 fn put_longest(part: &Part, at: Position, out: &mut [u8], index: &[u64]) -> usize
     requires number { part.now.array.kind ≢ DapKind.Text }
-    requires place { at.place < box_len part.now.sent.slabs }
+    requires element { at.element < box_len part.now.sent.slabs }
     requires skip { at.skip < element_len part.now.array.kind }
     requires room { 0 < length out.old }
-    requires index { index.now ≡ index_at part.now.sent.slabs at.place }
+    requires index { index.now ≡ index_at part.now.sent.slabs at.element }
     ensures some { 1 ≤ result }
-    ensures front { IsFront (drop at.skip (numbers_from part.now at.place)) out.old out.new result }
+    ensures front { IsFront (drop at.skip (numbers_from part.now at.element)) out.old out.new result }
 {
     if !part.is_stored() {
         return put_first(part, at, out, index);
@@ -107,15 +107,15 @@ fn put_longest(part: &Part, at: Position, out: &mut [u8], index: &[u64]) -> usiz
 // The same behind the first `filled` bytes of the buffer.
 fn put_more(part: &Part, at: Position, filled: usize, out: &mut [u8], index: &[u64]) -> usize
     requires number { part.now.array.kind ≢ DapKind.Text }
-    requires place { at.place < box_len part.now.sent.slabs }
+    requires element { at.element < box_len part.now.sent.slabs }
     requires skip { at.skip < element_len part.now.array.kind }
     requires room { filled < length out.old }
-    requires index { index.now ≡ index_at part.now.sent.slabs at.place }
+    requires index { index.now ≡ index_at part.now.sent.slabs at.element }
     ensures some { 1 ≤ result }
     ensures fits { filled + result ≤ length out.old }
-    ensures within { result ≤ length (drop at.skip (numbers_from part.now at.place)) }
+    ensures within { result ≤ length (drop at.skip (numbers_from part.now at.element)) }
     ensures bytes { out.new ≡ take filled out.old
-        ++ (take result (drop at.skip (numbers_from part.now at.place)) ++ drop (filled + result)
+        ++ (take result (drop at.skip (numbers_from part.now at.element)) ++ drop (filled + result)
         out.old) }
 {
     let (_, rest) = out.split_at_mut(filled);
@@ -133,18 +133,18 @@ pub(crate) fn put_elements(part: &Part, from: u64, out: &mut [u8], index: &mut [
     ensures index { length index.new ≡ length index.old }
 {
     let width = element_len(part.kind());
-    let mut place = from / width;
+    let mut element = from / width;
     let mut skip = from % width;
     let mut filled = 0;
-    part.begin_at(place, index);
-    while place < part.count() && filled < out.len() {
-        let count = put_more(part, Position { place, skip }, filled, out, index);
+    part.begin_at(element, index);
+    while element < part.count() && filled < out.len() {
+        let count = put_more(part, Position { element, skip }, filled, out, index);
         let passed = skip + count as u64;
-        let next = place + passed / width;
+        let next = element + passed / width;
         skip = passed % width;
         filled += count;
-        part.move_on(place, next, index);
-        place = next;
+        part.move_on(element, next, index);
+        element = next;
     }
     filled
 }

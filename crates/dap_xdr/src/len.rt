@@ -25,7 +25,7 @@ pub struct Marked {
     pub marks: List<u64>,
 }
 
-// How many bytes the texts from a place up to another take. The buffer `index` has room for an index list.
+// How many bytes the texts from an element up to another take. The buffer `index` has room for an index list.
 fn texts_len(part: &Part, from: u64, to: u64, index: &mut [u64]) -> u128
     requires text { part.now.array.kind ≡ DapKind.Text }
     requires index { length index.old ≡ length part.now.sent.slabs }
@@ -37,31 +37,31 @@ fn texts_len(part: &Part, from: u64, to: u64, index: &mut [u64]) -> u128
 {
     let mut len = 0;
     part.begin_at(from, index);
-    for place in from..to {
-        let text = part.text(place, index);
+    for element in from..to {
+        let text = part.text(element, index);
         len += u128::from(text_len(text.len() as u64));
-        part.go_on_to(place + 1, index);
+        part.go_on_to(element + 1, index);
     }
     len
 }
 
-// Whether the text at a place is the next of the marks at a spacing, and its offset fits in one.
-fn is_next(marks: &List<u64>, every: u64, place: u64, offset: u128) -> bool
-    ensures next { IsTrue result → place ≡ length marks.now * every }
+// Whether a text is the next of the marks at a spacing, and its offset fits in one.
+fn is_next(marks: &List<u64>, every: u64, element: u64, offset: u128) -> bool
+    ensures next { IsTrue result → element ≡ length marks.now * every }
     ensures fits { IsTrue result → offset < 2 ^ 64 }
 {
     let next = u128::from(marks.len() as u64) * u128::from(every);
-    if u128::from(place) != next {
+    if u128::from(element) != next {
         return false;
     }
     offset <= u128::from(u64::MAX)
 }
 
-// Notes the offset of the text at a place, where that is the next of the marks at a spacing.
-fn mark(marks: &mut List<u64>, every: u64, place: u64, offset: u128) -> Result<(), NoMemory>
-    ensures { OnOk result (IsNoted marks.old every place offset marks.new) }
+// Notes the offset of a text, where that is the next of the marks at a spacing.
+fn mark(marks: &mut List<u64>, every: u64, element: u64, offset: u128) -> Result<(), NoMemory>
+    ensures { OnOk result (IsNoted marks.old every element offset marks.new) }
 {
-    if !is_next(marks, every, place, offset) {
+    if !is_next(marks, every, element, offset) {
         return Ok(());
     }
     let small = offset as u64;
@@ -80,12 +80,12 @@ fn mark_texts(alloc: Global, part: &Part, index: &mut [u64]) -> Result<Marked, N
     let every = spacing(count);
     let mut marks = List::new(alloc);
     let mut len = 4;
-    let mut place = 0;
-    while place < count {
-        mark(&mut marks, every, place, len)?;
-        let next = place + every.min(count - place);
-        len += texts_len(part, place, next, index);
-        place = next;
+    let mut element = 0;
+    while element < count {
+        mark(&mut marks, every, element, len)?;
+        let next = element + every.min(count - element);
+        len += texts_len(part, element, next, index);
+        element = next;
     }
     Ok(Marked { len, marks })
 }

@@ -18,12 +18,12 @@ fn lent_numbers<'a>(part: &Part<'a, '_>, from: u64, index: &mut [u64]) -> &'a [u
     ensures { take (length result.now) (drop from (numbers_from part.now 0)) ≡ result.now }
 {
     let width = element_len(part.kind());
-    let place = from / width;
-    if place >= part.count() {
+    let element = from / width;
+    if element >= part.count() {
         return &[];
     }
-    part.put_index(place, index);
-    let stored = part.raw(place, index, u64::MAX);
+    part.put_index(element, index);
+    let stored = part.raw(element, index, u64::MAX);
     let skip = (from % width).min(stored.len() as u64);
     let (_, rest) = stored.split_at(skip as usize);
     rest
@@ -66,9 +66,9 @@ fn lent_any<'a>(part: &Part<'a, '_>, from: u64) -> &'a [u8]
     lent_array(part, from, &mut [0; MAX_RANK])
 }
 
-/// Lends a stretch of a part's data from a place on that stands in a file as it is sent: of an array of bytes, or of
+/// Lends a stretch of a part's data from an offset on that stands in a file as it is sent: of an array of bytes, or of
 /// numbers of four or eight bytes, as far as its last slabs are whole and a file has them together. It may be empty,
-/// and is a front of the data from that place on. It takes no memory. The caller has a part of the dataset with slabs
+/// and is a front of the data from that offset on. It takes no memory. The caller has a part of the dataset with slabs
 /// that fit it.
 pub fn lent<'a>(set: &'a Dataset, sent: &Sent, from: u64) -> &'a [u8]
     requires { IsSomeAnd (array_in (content_of set.now).decls sent.now.decl sent.now.part) (FitsArray sent.now) }

@@ -119,53 +119,53 @@ impl<'a, 'b> Part<'a, 'b> {
         }
     }
 
-    // Writes the index list at a place.
+    // Writes the index list of an element.
     #[tactic(auto, using(crate::proofs::ExtentLemmas::have_strides))]
-    pub fn put_index(&self, place: u64, index: &mut [u64])
-        requires place { place < box_len self.now.sent.slabs }
+    pub fn put_index(&self, element: u64, index: &mut [u64])
+        requires element { element < box_len self.now.sent.slabs }
         requires room { length index.old ≡ length self.now.sent.slabs }
-        ensures { index.new ≡ index_at self.now.sent.slabs place }
+        ensures { index.new ≡ index_at self.now.sent.slabs element }
     {
-        put_index(self.sent.slabs.as_slice(), self.count(), place, index);
+        put_index(self.sent.slabs.as_slice(), self.count(), element, index);
     }
 
-    // Whether a number or a text is sent at a place.
-    pub fn has_place(&self, place: u64) -> bool
-        ensures within { IsTrue result → place < box_len self.now.sent.slabs }
-        ensures all { place < box_len self.now.sent.slabs → IsTrue result }
-        ensures few { IsTrue result → place + 1 < 2 ^ 64 }
+    // Whether an element is one of those that are sent.
+    pub fn has_element(&self, element: u64) -> bool
+        ensures within { IsTrue result → element < box_len self.now.sent.slabs }
+        ensures all { element < box_len self.now.sent.slabs → IsTrue result }
+        ensures few { IsTrue result → element + 1 < 2 ^ 64 }
     {
-        place < self.count()
+        element < self.count()
     }
 
-    // Writes the index list at a place, where there is one.
-    pub fn begin_at(&self, place: u64, index: &mut [u64])
+    // Writes the index list of an element, where there is one.
+    pub fn begin_at(&self, element: u64, index: &mut [u64])
         requires { length index.old ≡ length self.now.sent.slabs }
-        ensures index { place < box_len self.now.sent.slabs → index.new ≡ index_at self.now.sent.slabs place }
+        ensures index { element < box_len self.now.sent.slabs → index.new ≡ index_at self.now.sent.slabs element }
         ensures room { length index.new ≡ length index.old }
     {
-        if !self.has_place(place) {
+        if !self.has_element(element) {
             return;
         }
-        self.put_index(place, index);
+        self.put_index(element, index);
     }
 
-    // Moves the index list before a place on to the place, where there is one. It takes no division.
-    pub fn go_on_to(&self, place: u64, index: &mut [u64])
-        requires begun { 1 ≤ place }
-        requires before { index.old ≡ index_at self.now.sent.slabs (place - 1) }
-        ensures index { place < box_len self.now.sent.slabs → index.new ≡ index_at self.now.sent.slabs place }
+    // Moves the index list of the element before on to this one, where there is one. It takes no division.
+    pub fn go_on_to(&self, element: u64, index: &mut [u64])
+        requires begun { 1 ≤ element }
+        requires before { index.old ≡ index_at self.now.sent.slabs (element - 1) }
+        ensures index { element < box_len self.now.sent.slabs → index.new ≡ index_at self.now.sent.slabs element }
         ensures room { length index.new ≡ length index.old }
     {
-        if !self.has_place(place) {
+        if !self.has_element(element) {
             return;
         }
-        advance(self.sent.slabs.as_slice(), index, place);
+        advance(self.sent.slabs.as_slice(), index, element);
     }
 
-    // Moves the index list of a place on to a later place, where there is one. It takes no division to the next place.
+    // Moves the index list of an element on to a later one, where there is one. It takes no division to the next one.
     pub fn move_on(&self, from: u64, to: u64, index: &mut [u64])
-        requires place { from < box_len self.now.sent.slabs }
+        requires element { from < box_len self.now.sent.slabs }
         requires before { index.old ≡ index_at self.now.sent.slabs from }
         requires room { length index.old ≡ length self.now.sent.slabs }
         ensures index { to < box_len self.now.sent.slabs → index.new ≡ index_at self.now.sent.slabs to }
@@ -178,33 +178,33 @@ impl<'a, 'b> Part<'a, 'b> {
         self.begin_at(to, index);
     }
 
-    // The bits of the number at a place, whose index list stands in `index`.
-    pub fn bits(&self, place: u64, index: &[u64]) -> u64
+    // The bits of an element, whose index list stands in `index`.
+    pub fn bits(&self, element: u64, index: &[u64]) -> u64
         requires number { self.now.array.kind ≢ DapKind.Text }
-        requires place { place < box_len self.now.sent.slabs }
-        requires index { index.now ≡ index_at self.now.sent.slabs place }
+        requires element { element < box_len self.now.sent.slabs }
+        requires index { index.now ≡ index_at self.now.sent.slabs element }
         ensures exact { result ≡ bits_in self.now index.now }
         ensures width { AreBitsOf self.now.array.kind result }
     {
         self.column.bits(index)
     }
 
-    // How many numbers from a place on stand together in the array.
-    fn left(&self, place: u64) -> u64
-        requires place { place < box_len self.now.sent.slabs }
-        ensures exact { result ≡ left_at self.now.array.dims self.now.sent.slabs place }
+    // How many numbers from an element on stand together in the array.
+    fn left(&self, element: u64) -> u64
+        requires element { element < box_len self.now.sent.slabs }
+        ensures exact { result ≡ left_at self.now.array.dims self.now.sent.slabs element }
         ensures some { 1 ≤ result }
         ensures portion { IsPortion self.now }
     {
-        self.extent.unit - place % self.extent.unit
+        self.extent.unit - element % self.extent.unit
     }
 
-    // Numbers of the array from a place on, as they stand in a file: at most `most`, maybe none. Their index list
+    // Numbers of the array from an element on, as they stand in a file: at most `most`, maybe none. Their index list
     // stands in `index`.
-    pub fn stored(&self, place: u64, index: &[u64], most: u64) -> &'a [u8]
+    pub fn stored(&self, element: u64, index: &[u64], most: u64) -> &'a [u8]
         requires number { self.now.array.kind ≢ DapKind.Text }
-        requires place { place < box_len self.now.sent.slabs }
-        requires index { index.now ≡ index_at self.now.sent.slabs place }
+        requires element { element < box_len self.now.sent.slabs }
+        requires index { index.now ≡ index_at self.now.sent.slabs element }
         ensures { AreStored self.now.array (bits_in self.now) index.now most result.now }
     {
         if !self.column.is_stored() {
@@ -214,39 +214,39 @@ impl<'a, 'b> Part<'a, 'b> {
         lent
     }
 
-    // Numbers that are sent from a place on, as they stand in a file: at most `most`, maybe none. Their index list
+    // Numbers that are sent from an element on, as they stand in a file: at most `most`, maybe none. Their index list
     // stands in `index`.
-    pub fn raw(&self, place: u64, index: &[u64], most: u64) -> &'a [u8]
+    pub fn raw(&self, element: u64, index: &[u64], most: u64) -> &'a [u8]
         requires number { self.now.array.kind ≢ DapKind.Text }
-        requires place { place < box_len self.now.sent.slabs }
-        requires index { index.now ≡ index_at self.now.sent.slabs place }
-        ensures { ArePicked self.now.array.kind (bits_in self.now) self.now.sent.slabs place most result.now }
+        requires element { element < box_len self.now.sent.slabs }
+        requires index { index.now ≡ index_at self.now.sent.slabs element }
+        ensures { ArePicked self.now.array.kind (bits_in self.now) self.now.sent.slabs element most result.now }
     {
-        let most = most.min(self.left(place));
-        self.stored(place, index, most)
+        let most = most.min(self.left(element));
+        self.stored(element, index, most)
     }
 
-    // What stands in a file from a place on, and the rows in it that are sent: maybe none. The index list of the place
-    // stands in `index`.
-    pub fn rows(&self, place: u64, index: &[u64]) -> (&'a [u8], Rows)
+    // What stands in a file from an element on, and the rows in it that are sent: maybe none. Its index list stands in
+    // `index`.
+    pub fn rows(&self, element: u64, index: &[u64]) -> (&'a [u8], Rows)
         requires number { self.now.array.kind ≢ DapKind.Text }
-        requires place { place < box_len self.now.sent.slabs }
-        requires index { index.now ≡ index_at self.now.sent.slabs place }
-        ensures { PickRows self.now place result.1 result.0.now }
+        requires element { element < box_len self.now.sent.slabs }
+        requires index { index.now ≡ index_at self.now.sent.slabs element }
+        ensures { PickRows self.now element result.1 result.0.now }
     {
-        let rows = rows_at(self.array.kind, self.extent, place);
+        let rows = rows_at(self.array.kind, self.extent, element);
         if rows.most == 0 {
             return (b"".as_slice(), rows);
         }
-        let stored = self.stored(place, index, u64::MAX);
+        let stored = self.stored(element, index, u64::MAX);
         (stored, rows)
     }
 
-    // The text at a place, whose index list stands in `index`.
-    pub fn text(&self, place: u64, index: &[u64]) -> &'a [u8]
+    // The text of an element, whose index list stands in `index`.
+    pub fn text(&self, element: u64, index: &[u64]) -> &'a [u8]
         requires text { self.now.array.kind ≡ DapKind.Text }
-        requires place { place < box_len self.now.sent.slabs }
-        requires index { index.now ≡ index_at self.now.sent.slabs place }
+        requires element { element < box_len self.now.sent.slabs }
+        requires index { index.now ≡ index_at self.now.sent.slabs element }
         ensures exact { result.now ≡ text_in self.now index.now }
         ensures short { length result.now < 2 ^ 32 }
     {

@@ -34,30 +34,30 @@ fn stored_len(kind: DapKind, count: u64) -> u64
     }
 }
 
-// Whether a place is the first of a unit, and what follows is near enough to be counted in bytes.
-fn has_rows(extent: Extent, place: u64) -> bool
+// Whether an element is the first of a unit, and what follows is near enough to be counted in bytes.
+fn has_rows(extent: Extent, element: u64) -> bool
     requires { 0 < extent.unit }
-    ensures begins { IsTrue result → place % extent.unit ≡ 0 }
+    ensures begins { IsTrue result → element % extent.unit ≡ 0 }
     ensures unit { IsTrue result → extent.unit ≤ 1_152_921_504_606_846_976 }
     ensures pitch { IsTrue result → extent.pitch ≤ 1_152_921_504_606_846_976 }
 {
-    place % extent.unit == 0 && extent.unit <= FAR && extent.pitch <= FAR
+    element % extent.unit == 0 && extent.unit <= FAR && extent.pitch <= FAR
 }
 
-// The rows that numbers of a kind have from a place on, where the place is the first of a unit; else none.
-pub(crate) fn rows_at(kind: DapKind, extent: Extent, place: u64) -> Rows
+// The rows that numbers of a kind have from an element on, where the element is the first of a unit; else none.
+pub(crate) fn rows_at(kind: DapKind, extent: Extent, element: u64) -> Rows
     requires unit { 0 < extent.unit }
     requires turns { 0 < extent.turns }
-    ensures { AreRowsAt kind extent place result }
+    ensures { AreRowsAt kind extent element result }
 {
-    if !has_rows(extent, place) {
+    if !has_rows(extent, element) {
         return Rows {
             row: 0,
             step: 0,
             most: 0,
         };
     }
-    let most = extent.turns - place / extent.unit % extent.turns;
+    let most = extent.turns - element / extent.unit % extent.turns;
     let row = stored_len(kind, extent.unit);
     let step = stored_len(kind, extent.pitch);
     Rows {

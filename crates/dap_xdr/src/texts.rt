@@ -31,18 +31,24 @@ fn marks_before(marks: &[u64], from: u64) -> usize
     0
 }
 
-// Writes texts from a place on, of whose bytes `passed` are passed over, as many bytes as fit. The buffer `index` has
-// room for an index list.
-fn put_texts_from(part: &Part, place: u64, passed: u64, out: &mut [u8], index: &mut [u64]) -> usize
+// Writes texts from an element on, of whose bytes `passed` are passed over, as many bytes as fit. The buffer `index`
+// has room for an index list.
+fn put_texts_from(
+    part: &Part,
+    element: u64,
+    passed: u64,
+    out: &mut [u8],
+    index: &mut [u64],
+) -> usize
     requires text { part.now.array.kind ≡ DapKind.Text }
     requires index { length index.old ≡ length part.now.sent.slabs }
-    requires place { place ≤ box_len part.now.sent.slabs }
-    ensures { IsPut (drop (length (texts_before part.now place) + passed) (texts_of part.now)) out.old out.new
+    requires element { element ≤ box_len part.now.sent.slabs }
+    ensures { IsPut (drop (length (texts_before part.now element) + passed) (texts_of part.now)) out.old out.new
         result }
 {
     let mut filled = 0;
     let mut left = passed;
-    let mut next = place;
+    let mut next = element;
     part.begin_at(next, index);
     while next < part.count() && filled < out.len() {
         let text = part.text(next, index);
@@ -72,8 +78,8 @@ fn put_texts_marked(
     requires behind { get_or marks.now last 0 ≤ from }
     ensures { IsPut (drop from (texts_of part.now)) out.old out.new result }
 {
-    let place = last as u64 * spacing(part.count());
-    put_texts_from(part, place, from - marks[last], out, index)
+    let element = last as u64 * spacing(part.count());
+    put_texts_from(part, element, from - marks[last], out, index)
 }
 
 // Writes an array of texts from an offset on, as many bytes as fit. The texts from the last mark before that offset are

@@ -49,29 +49,29 @@ impl Endings {
             return;
         }
         let until = ending.until();
-        if let Ok(place) = self.table.insert(ending) {
-            self.times.put(place, second_after(until));
+        if let Ok(key) = self.table.insert(ending) {
+            self.times.put(key, second_after(until));
         }
     }
 
-    // Drops what has come of the connection at a place, and closes it where that was the last.
-    pub fn go_on(&mut self, place: usize, now: u64) {
-        let Some(ending) = self.table.get_mut(place) else {
+    // Drops what has come of the connection of a key, and closes it where that was the last.
+    pub fn go_on(&mut self, key: usize, now: u64) {
+        let Some(ending) = self.table.get_mut(key) else {
             return;
         };
         if ending.drop_more(now) {
-            self.table.try_remove(place);
+            self.table.try_remove(key);
             return;
         }
         let until = ending.until();
-        self.times.put(place, second_after(until));
+        self.times.put(key, second_after(until));
     }
 
     // Closes the connections whose time is over.
     pub fn close_due(&mut self, now: u64) {
         for _ in 0..u64::MAX {
             match self.times.pop(second_of(now)) {
-                Some(place) => self.go_on(place, now),
+                Some(key) => self.go_on(key, now),
                 None => return,
             }
         }

@@ -13,8 +13,9 @@ use crate::paths::folder_path;
 use crate::patience::Patience;
 use crate::stops::Stops;
 use crate::telling::Tell;
-use dev_traits::{Door, Failed, Inbox, Opener};
-use fm_base::{Fail, List, NoMemory};
+use dev_std::{RealFiles, StdLink, StdSink};
+use dev_traits::{Door, Failed, Inbox, Machine, OpenGate};
+use fm_base::{Bytes, Fail, List, NoMemory};
 use std::alloc::Global;
 use std::fs::File;
 use std::marker::Send;
@@ -211,7 +212,7 @@ where
     }
 }
 
-impl<R, T> Opener for RealOpener<R, T>
+impl<R, T> Machine for RealOpener<R, T>
 where
     R: rt::Files + rt::Clock + Net + AllocGlobal + Clone + Drop + Send,
     R::File: Lockable,
@@ -222,6 +223,14 @@ where
     type I = FolderInbox<R, T>;
 
     type C = RealClock<R, T>;
+
+    type F = RealFiles<R>;
+
+    type L = StdLink;
+
+    type S = StdSink;
+
+    type G = OpenGate;
 
     ghost shown = { λ opener. record { held = None; faults = opener.faults } };
 

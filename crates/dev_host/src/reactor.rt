@@ -74,7 +74,7 @@ impl Reactor {
                     self.open = if told.is_over { None } else { Some(key) };
                     return Some(key);
                 }
-                Watched::Ending(place) => self.endings.go_on(place, self.now),
+                Watched::Ending(key) => self.endings.go_on(key, self.now),
                 Watched::Listener => self.entry.wake(),
             }
         }

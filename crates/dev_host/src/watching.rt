@@ -16,7 +16,7 @@ pub enum Watched {
     Listener,
     /// the link of a key
     Link(usize),
-    /// the connection at a place of those that have ended
+    /// the connection of a key, of those that have ended
     Ending(usize),
 }
 
@@ -26,7 +26,7 @@ impl Watched {
         match self {
             Watched::Listener => Token(0),
             Watched::Link(key) => Token(key.saturating_mul(2).saturating_add(1)),
-            Watched::Ending(place) => Token(place.saturating_mul(2).saturating_add(2)),
+            Watched::Ending(key) => Token(key.saturating_mul(2).saturating_add(2)),
         }
     }
 

@@ -5,22 +5,22 @@ ghost use Rattle.dev_std.specs.Process.{is_errors, names_once};
 use crate::opener::RealOpener;
 use crate::telling::Teller;
 use dev_std::{RealFiles, StdLink, StdSink, StdStream};
-use dev_traits::{Files, Link, OpenGate, Opener, Sink, World};
+use dev_traits::{Devices, Files, Link, Machine, OpenGate, Sink, World};
 use fm_base::{Bytes, List};
 
 /// What opens the machine's sockets, folders and clock.
 pub type HostOpener = RealOpener<HostRuntime, Teller<HostRuntime>>;
 
 /// The world of a process: the machine's sockets, folders, clock and files, and the standard streams.
-pub type HostWorld = World<HostOpener, RealFiles<HostRuntime>, StdLink, StdSink, OpenGate>;
+pub type HostWorld = World<HostOpener>;
 
 /// The world of a run with these words: what opens the machine's doors, inboxes and clocks, its files, standard input
 /// and output as the link, and the sink that `StdStream::of_words` picks. Nothing is open, and no call has failed.
 pub fn host_world(rt: HostRuntime, words: &List<Bytes>) -> HostWorld
-    ensures opener { (⟦<HostOpener as Opener>⟧.shown result.opener).faults ≡ 0 }
-    ensures doors { result.doors ≡ [] }
-    ensures inboxes { result.inboxes ≡ [] }
-    ensures clocks { result.clocks ≡ [] }
+    ensures opener { (⟦<HostOpener as Machine>⟧.shown result.opener).faults ≡ 0 }
+    ensures doors { result.devices.doors ≡ [] }
+    ensures inboxes { result.devices.inboxes ≡ [] }
+    ensures clocks { result.devices.clocks ≡ [] }
     ensures files { (⟦<RealFiles<HostRuntime> as Files>⟧.shown result.files).faults ≡ 0 }
     ensures link { (⟦<StdLink as Link>⟧.shown result.link).faults ≡ 0 }
     ensures sink { (⟦<StdSink as Sink>⟧.shown result.sink).faults ≡ 0 }
@@ -28,9 +28,7 @@ pub fn host_world(rt: HostRuntime, words: &List<Bytes>) -> HostWorld
 {
     World {
         opener: RealOpener::new(rt, Teller::new(rt, rt.stderr(), is_quiet(words.as_slice()))),
-        doors: List::new(rt.alloc()),
-        inboxes: List::new(rt.alloc()),
-        clocks: List::new(rt.alloc()),
+        devices: Devices::none(rt.alloc()),
         files: RealFiles::new(rt),
         link: StdLink::new(rt.stdin(), rt.stdout()),
         sink: StdSink::new(StdStream::of_words(words.as_slice(), rt.stdout(), rt.stderr())),

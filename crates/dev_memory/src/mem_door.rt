@@ -32,7 +32,7 @@ pub struct MemDoor {
     events: List<DoorEvent>,
     event: usize,
     calls: Calls,
-    ghost places: { length left + vec_len keys ≤ vec_capacity keys },
+    ghost key_room: { length left + vec_len keys ≤ vec_capacity keys },
     ghost room: { length left + vec_len keys + vec_len given ≤ vec_capacity given },
     ghost fresh: { All (λ link. IsFresh (⟦<PausedLink as Link>⟧.shown link)) left },
 }

@@ -1,4 +1,4 @@
-//! An opener in memory.
+//! A machine in memory.
 ghost use Rattle.std.specs.Prelude.{◌≡◌, [], All, IfOk, OnErr, OnOk, Some, option_map};
 ghost use Rattle.dev_traits.specs.Cause.{HasReadCause};
 ghost use Rattle.dev_traits.specs.Opener.{IsNextDoor, IsNextInbox, Stock, after_door, after_inbox, opener_lines};
@@ -8,12 +8,15 @@ use crate::first::take_first;
 use crate::lines::Lines;
 use crate::mem_clock::MemClock;
 use crate::mem_door::MemDoor;
+use crate::mem_files::MemFiles;
 use crate::mem_inbox::MemInbox;
-use dev_traits::{Clock, Door, DoorAsked, Failed, Inbox, Opener};
+use crate::mem_link::MemLink;
+use crate::mem_sink::MemSink;
+use dev_traits::{Clock, Door, DoorAsked, Failed, Inbox, Machine, OpenGate};
 use fm_base::{Bytes, Fail, List};
 use std::alloc::Global;
 
-/// An opener in memory, with the doors, inboxes and clocks that it gives. Without a further door or inbox it fails;
+/// A machine in memory, with the doors, inboxes and clocks that it opens. Without a further door or inbox it fails;
 /// without a further clock it gives one without moments. It keeps its lines, as long as memory lasts.
 #[derive(Drop)]
 pub struct MemOpener {
@@ -39,7 +42,7 @@ impl MemOpener {
     ) -> MemOpener
         requires doors { All (λ door. (⟦<MemDoor as Door>⟧.shown door).faults ≡ 0) doors }
         requires inboxes { All (λ inbox. (⟦<MemInbox as Inbox>⟧.shown inbox).faults ≡ 0) inboxes }
-        ensures shown { ⟦<MemOpener as Opener>⟧.shown result ≡ record {
+        ensures shown { ⟦<MemOpener as Machine>⟧.shown result ≡ record {
           held = Some (record { doors = doors; inboxes = inboxes; clocks = clocks; lines = Some [] });
           faults = 0;
         } }
@@ -57,7 +60,7 @@ impl MemOpener {
     /// The lines, in order, where none was lost.
     pub fn lines(&self) -> Option<&[Bytes]>
         ensures { option_map (λ lines. lines.now) result
-            ≡ opener_lines (⟦<MemOpener as Opener>⟧.shown self.now).held }
+            ≡ opener_lines (⟦<MemOpener as Machine>⟧.shown self.now).held }
     {
         match &self.lines.told {
             Some(lines) => Some(lines.as_slice()),
@@ -71,11 +74,11 @@ impl MemOpener {
     // The next door, opened with this, where the call isn't to fail.
     fn next_door(&mut self, asked: DoorAsked) -> Result<MemDoor, Fail<Failed>>
         ensures next { IfOk result (IsNextDoor ⟦<MemDoor as Door>⟧.shown self.old.doors asked) }
-        ensures opened { OnOk result ((⟦<MemOpener as Opener>⟧.shown self.new).held
-            ≡ after_door (⟦<MemOpener as Opener>⟧.shown self.old).held) }
+        ensures opened { OnOk result ((⟦<MemOpener as Machine>⟧.shown self.new).held
+            ≡ after_door (⟦<MemOpener as Machine>⟧.shown self.old).held) }
         ensures fresh { IfOk result (λ door. (⟦<MemDoor as Door>⟧.shown door).faults ≡ 0) }
-        ensures err { OnErr result ((⟦<MemOpener as Opener>⟧.shown self.new).held
-            ≡ (⟦<MemOpener as Opener>⟧.shown self.old).held) }
+        ensures err { OnErr result ((⟦<MemOpener as Machine>⟧.shown self.new).held
+            ≡ (⟦<MemOpener as Machine>⟧.shown self.old).held) }
         ensures cause { HasReadCause self.old.calls.faults self.new.calls.faults result }
     {
         match take_first(&mut self.doors) {
@@ -87,11 +90,11 @@ impl MemOpener {
     // The next inbox, opened with this folder, where the call isn't to fail.
     fn next_inbox(&mut self, folder: Bytes) -> Result<MemInbox, Fail<Failed>>
         ensures next { IfOk result (IsNextInbox ⟦<MemInbox as Inbox>⟧.shown self.old.inboxes folder) }
-        ensures opened { OnOk result ((⟦<MemOpener as Opener>⟧.shown self.new).held
-            ≡ after_inbox (⟦<MemOpener as Opener>⟧.shown self.old).held) }
+        ensures opened { OnOk result ((⟦<MemOpener as Machine>⟧.shown self.new).held
+            ≡ after_inbox (⟦<MemOpener as Machine>⟧.shown self.old).held) }
         ensures fresh { IfOk result (λ inbox. (⟦<MemInbox as Inbox>⟧.shown inbox).faults ≡ 0) }
-        ensures err { OnErr result ((⟦<MemOpener as Opener>⟧.shown self.new).held
-            ≡ (⟦<MemOpener as Opener>⟧.shown self.old).held) }
+        ensures err { OnErr result ((⟦<MemOpener as Machine>⟧.shown self.new).held
+            ≡ (⟦<MemOpener as Machine>⟧.shown self.old).held) }
         ensures cause { HasReadCause self.old.calls.faults self.new.calls.faults result }
     {
         match take_first(&mut self.inboxes) {
@@ -101,12 +104,20 @@ impl MemOpener {
     }
 }
 
-impl Opener for MemOpener {
+impl Machine for MemOpener {
     type D = MemDoor;
 
     type I = MemInbox;
 
     type C = MemClock;
+
+    type F = MemFiles;
+
+    type L = MemLink;
+
+    type S = MemSink;
+
+    type G = OpenGate;
 
     ghost shown = { λ opener. record {
       held = Some (record {

@@ -5,7 +5,7 @@ use crate::mem_link::MemLink;
 use crate::pauses::Pauses;
 use dev_traits::{Failed, Link, Sent, Taken};
 
-/// A link in memory whose takes and puts would wait at some places.
+/// A link in memory whose takes and puts would wait at some offsets.
 #[derive(Drop)]
 pub struct PausedLink {
     pub link: MemLink,

@@ -9,8 +9,8 @@ pub record WorldShown : Type 0 where
   pub sink : SinkShown
 
 -- the same, by what each of these devices shows
-abbrev pub world_shown : {O F L S G D I C M : Type 0} → (F → FilesShown) → (L → LinkShown) → (S → SinkShown)
-    → World O F L S G D I C M → WorldShown
+abbrev pub world_shown : {M D I C F L S G K : Type 0} → (F → FilesShown) → (L → LinkShown) → (S → SinkShown)
+    → World M D I C F L S G K → WorldShown
 world_shown files link sink world = record {
   files = files world.files;
   link = link world.link;

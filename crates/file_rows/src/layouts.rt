@@ -20,7 +20,7 @@ fn put_fault(fault: FormatFault, out: &mut Said) {
 pub fn put_layout(alloc: Global, bytes: &[u8], out: &mut Said) {
     match read_sound(alloc, bytes) {
         Ok(file) => {
-            put_places(&file, out);
+            put_offsets(&file, out);
             drop(file);
         }
         Err(Fail::NoMemory) => out.run_short(),
@@ -28,7 +28,7 @@ pub fn put_layout(alloc: Global, bytes: &[u8], out: &mut Said) {
     }
 }
 
-fn put_places(file: &FileView<'_>, out: &mut Said) {
+fn put_offsets(file: &FileView<'_>, out: &mut Said) {
     out.put_number("", file.layout().recsize());
     out.put(" bytes a record");
     for (number, var) in file.header().vars.as_slice().iter().enumerate() {

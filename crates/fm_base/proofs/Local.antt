@@ -9,7 +9,7 @@ use Rattle.fm_base.proofs.ListLemmas.{agree_less, agree_drop, Agree}
 
 -- Where the faults of a kind of parser stand. `ahead` bytes are looked at after those that are taken. A fault stands at
 -- an offset; it is that of a field that is cut short there, or later, or that of a field of this size which isn't.
-pub record Places (E : Type 0) : Type 1 where
+pub record Offsets (E : Type 0) : Type 1 where
   pub ahead : ℕ
   pub Stands : E → ℕ → Type 0
   pub IsCut : ℕ → E → Type 0
@@ -28,16 +28,16 @@ pub after_none : (at : ℕ) (rest : List ℕ) → input at rest ≡ after 0 (inp
 after_none at rest = let offset : at ≡ at + 0 = omega arith in ap (λ (n : ℕ). input n rest) offset
 
 -- reading gets past this offset, unless another fault stands before it
-abbrev pub Beyond : {A E : Type 0} → Places E → ℕ → Outcome A E → Type 0
+abbrev pub Beyond : {A E : Type 0} → Offsets E → ℕ → Outcome A E → Type 0
 Beyond P n (Ok read) = n ≤ read.1.at
 Beyond P n (Err fault) = P.Later n fault
 
-pub beyond_less : {A E : Type 0} (P : Places E) (m n : ℕ) (r : Outcome A E) → m ≤ n → Beyond P n r → Beyond P m r
+pub beyond_less : {A E : Type 0} (P : Offsets E) (m n : ℕ) (r : Outcome A E) → m ≤ n → Beyond P n r → Beyond P m r
 beyond_less P m n (Ok read) less h = omega arith
 beyond_less P m n (Err fault) less h = P.later_less m n fault less h
 
 -- what was read is read of all bytes that begin with those that were looked at
-pub record Taken {A E : Type 0} (P : Places E) (p : Parser A E) (at : ℕ) (rest : List ℕ) (a : A)
+pub record Taken {A E : Type 0} (P : Offsets E) (p : Parser A E) (at : ℕ) (rest : List ℕ) (a : A)
     (j : Input) : Type 0 where
   pub count : ℕ
   pub input_is : j ≡ after count (input at rest)
@@ -46,7 +46,7 @@ pub record Taken {A E : Type 0} (P : Places E) (p : Parser A E) (at : ℕ) (rest
       → p (input at other) ≡ Ok (a, after count (input at other))
 
 -- the field at fault lies whole in the bytes, and all bytes with the same up to its end have the fault
-pub record IsWhole {A E : Type 0} (P : Places E) (p : Parser A E) (at : ℕ) (rest : List ℕ) (fault : E)
+pub record IsWhole {A E : Type 0} (P : Offsets E) (p : Parser A E) (at : ℕ) (rest : List ℕ) (fault : E)
     (count size : ℕ) : Type 0 where
   pub wide : P.ahead ≤ size
   pub within : count + size ≤ length rest + P.ahead
@@ -55,7 +55,7 @@ pub record IsWhole {A E : Type 0} (P : Places E) (p : Parser A E) (at : ℕ) (re
   pub again : (other : List ℕ) → Agree (count + size) rest other → p (input at other) ≡ Err fault
 
 -- the field at fault is cut short, as in all bytes with the same before it that end as early, and in no longer ones
-pub record IsShort {A E : Type 0} (P : Places E) (p : Parser A E) (at : ℕ) (rest : List ℕ) (fault : E)
+pub record IsShort {A E : Type 0} (P : Offsets E) (p : Parser A E) (at : ℕ) (rest : List ℕ) (fault : E)
     (count size : ℕ) : Type 0 where
   pub blind : P.ahead ≡ 0
   pub within : count ≤ length rest
@@ -66,14 +66,14 @@ pub record IsShort {A E : Type 0} (P : Places E) (p : Parser A E) (at : ℕ) (re
       → Beyond P (at + (count + size)) (p (input at other))
 
 -- how reading failed: the bytes before the field at fault, and those of the field
-pub record Failed {A E : Type 0} (P : Places E) (p : Parser A E) (at : ℕ) (rest : List ℕ) (fault : E) : Type 0 where
+pub record Failed {A E : Type 0} (P : Offsets E) (p : Parser A E) (at : ℕ) (rest : List ℕ) (fault : E) : Type 0 where
   pub count : ℕ
   pub size : ℕ
   pub some : 0 < size
   pub why : IsWhole P p at rest fault count size ⊎ IsShort P p at rest fault count size
 
 -- a parser depends on no other bytes
-pub record Local {A E : Type 0} (P : Places E) (p : Parser A E) : Type 0 where
+pub record Local {A E : Type 0} (P : Offsets E) (p : Parser A E) : Type 0 where
   pub takes : (at : ℕ) (rest : List ℕ) (a : A) (j : Input) → p (input at rest) ≡ Ok (a, j) → Taken P p at rest a j
   pub fails : (at : ℕ) (rest : List ℕ) (fault : E) → p (input at rest) ≡ Err fault → Failed P p at rest fault
   pub forward : (at : ℕ) (rest : List ℕ) → Beyond P at (p (input at rest))
@@ -98,7 +98,7 @@ pub fault_is : {A E : Type 0} (x y : E) → failed {A = A} x ≡ failed y → x 
 fault_is x y e = cc
 
 -- the same failure of a parser that returns the same, by the bytes that the failure depends on
-pub refit : {A B E : Type 0} {P : Places E} {p : Parser A E} {q : Parser B E} {at : ℕ} {rest : List ℕ} {fault : E}
+pub refit : {A B E : Type 0} {P : Offsets E} {p : Parser A E} {q : Parser B E} {at : ℕ} {rest : List ℕ} {fault : E}
     → ((n : ℕ) (other : List ℕ) → P.ahead ≤ n → Agree n rest other → p (input at other) ≡ Err fault
     → q (input at other) ≡ Err fault)
     → ((n m : ℕ) (other : List ℕ) → P.ahead ≤ n → Agree n rest other → Beyond P m (p (input at other))
@@ -130,14 +130,14 @@ refit fails beyond f = record {
 }
 
 -- what comes after a step is as far on as the step
-pub beyond_then : {A B E : Type 0} (P : Places E) (n : ℕ) (r : Outcome A E) (q : A → Parser B E)
+pub beyond_then : {A B E : Type 0} (P : Offsets E) (n : ℕ) (r : Outcome A E) (q : A → Parser B E)
     → ((a : A) (at : ℕ) (rest : List ℕ) → Beyond P at (q a (input at rest)))
     → Beyond P n r → Beyond P n (and_then r q)
 beyond_then P n (Ok x) q fq h = beyond_less P n x.1.at (q x.0 x.1) h (fq x.0 x.1.at x.1.rest)
 beyond_then P n (Err fault) q fq h = h
 
 -- a step after one that was taken
-after_takes : {A B E : Type 0} {P : Places E} (p : Parser A E) (q : A → Parser B E) (at : ℕ) (rest : List ℕ) (a : A)
+after_takes : {A B E : Type 0} {P : Offsets E} (p : Parser A E) (q : A → Parser B E) (at : ℕ) (rest : List ℕ) (a : A)
     (j : Input) (b : B) (k : Input)
     (t : Taken P p at rest a j) → Taken P (q a) (at + t.count) (drop t.count rest) b k → Taken P (p >>= q) at rest b k
 after_takes {B = B} {P = P} p q at rest a j b k t u = record {
@@ -154,8 +154,8 @@ after_takes {B = B} {P = P} p q at rest a j b k t u = record {
       ∙ ap (λ (i : Input). done {A = B × Input} (b, i)) (after_after t.count u.count at other);
 }
 
-pub after_fails : {A B E : Type 0} {P : Places E} (p : Parser A E) (q : A → Parser B E) (at : ℕ) (rest : List ℕ) (a : A)
-    (j : Input) (fault : E)
+pub after_fails : {A B E : Type 0} {P : Offsets E} (p : Parser A E) (q : A → Parser B E) (at : ℕ) (rest : List ℕ)
+    (a : A) (j : Input) (fault : E)
     (t : Taken P p at rest a j) → Failed P (q a) (at + t.count) (drop t.count rest) fault
     → Failed P (p >>= q) at rest fault
 after_fails {P = P} p q at rest a j fault t f =
@@ -209,7 +209,7 @@ after_fails {P = P} p q at rest a j fault t f =
       ];
     }
 
-pub Local-then : {A B E : Type 0} {P : Places E} {p : Parser A E} {q : A → Parser B E} → Local P p
+pub Local-then : {A B E : Type 0} {P : Offsets E} {p : Parser A E} {q : A → Parser B E} → Local P p
     → ((a : A) → Local P (q a)) → Local P (p >>= q)
 Local-then {A} {B} {E} {P} {p} {q} lp lq = record {
   takes = λ at rest b k e. elim (stepped (p (input at rest)) q (Ok (b, k)) e) [

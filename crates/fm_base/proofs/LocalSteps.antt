@@ -4,9 +4,9 @@ use Rattle.fm_base.specs.Input.{Input}
 use Rattle.fm_base.specs.Parser.{Parser, pure}
 use Rattle.fm_base.proofs.Exact.{input, done, ok_pair}
 use Rattle.fm_base.proofs.ListLemmas.{agree_less, Agree}
-use Rattle.fm_base.proofs.Local.{Places, Beyond, Taken, Failed, Local, after_none, refit}
+use Rattle.fm_base.proofs.Local.{Offsets, Beyond, Taken, Failed, Local, after_none, refit}
 
-pub Local-pure : {A E : Type 0} {P : Places E} (x : A) → Local P (pure x)
+pub Local-pure : {A E : Type 0} {P : Offsets E} (x : A) → Local P (pure x)
 Local-pure {A = A} x = record {
   takes = λ at rest a j e.
       let k = ok_pair x a (input at rest) j e in
@@ -22,7 +22,7 @@ Local-pure {A = A} x = record {
 }
 
 -- one parser or the other, by the bytes that are looked at
-pub Local-cond : {A E : Type 0} {P : Places E} {p q : Parser A E} (test : Input → Bool)
+pub Local-cond : {A E : Type 0} {P : Offsets E} {p q : Parser A E} (test : Input → Bool)
     → ((at : ℕ) (xs ys : List ℕ) → Agree P.ahead xs ys → test (input at xs) ≡ test (input at ys))
     → Local P p → Local P q → Local P (λ i. cond (test i) (p i) (q i))
 Local-cond {A} {E} {P} {p} {q} test looks lp lq = record {
@@ -70,7 +70,7 @@ Local-cond {A} {E} {P} {p} {q} test looks lp lq = record {
     forward_by at rest b = (local b).forward at rest
 
 -- the same of a parser that returns the same
-pub Local-same : {A E : Type 0} {P : Places E} {p q : Parser A E}
+pub Local-same : {A E : Type 0} {P : Offsets E} {p q : Parser A E}
     → ((at : ℕ) (rest : List ℕ) → p (input at rest) ≡ q (input at rest)) → Local P p → Local P q
 Local-same {P = P} same lp = record {
   takes = λ at rest a j e.

@@ -6,7 +6,7 @@ use Rattle.std.proofs.Math.Seq.{take-append-add}
 use Rattle.fm_base.specs.Input.{Input}
 use Rattle.fm_base.specs.Parser.{Parser, ◌>>=◌, pure}
 use Rattle.fm_base.proofs.Exact.{input, ExactOn, IsOfParts, Took, Then, Is, onto, took_then, bind_ok, Exact-pure}
-use Rattle.fm_base.proofs.Local.{Places, Local, Local-then, stepped, fault_is}
+use Rattle.fm_base.proofs.Local.{Offsets, Local, Local-then, stepped, fault_is}
 use Rattle.fm_base.proofs.LocalSteps.{Local-pure}
 
 -- some text that is spelled so
@@ -36,7 +36,7 @@ example_then first second = record {
 }
 
 -- some text that is spelled so begins with what stands before a fault
-pub record Begun {A E : Type 0} (P : Places E) (S : List ℕ → A → Type 0) (at : ℕ) (rest : List ℕ)
+pub record Begun {A E : Type 0} (P : Offsets E) (S : List ℕ → A → Type 0) (at : ℕ) (rest : List ℕ)
     (fault : E) : Type 0 where
   pub count : ℕ
   pub stands : P.Stands fault (at + count)
@@ -45,7 +45,7 @@ pub record Begun {A E : Type 0} (P : Places E) (S : List ℕ → A → Type 0) (
   pub more : List ℕ
   pub begins : some.text ≡ take count rest ++ more
 
-pub begun_as : {A B E : Type 0} {P : Places E} {S : List ℕ → A → Type 0} {T : List ℕ → B → Type 0} (f : A → B) {at : ℕ}
+pub begun_as : {A B E : Type 0} {P : Offsets E} {S : List ℕ → A → Type 0} {T : List ℕ → B → Type 0} (f : A → B) {at : ℕ}
     {rest : List ℕ} {fault : E}
     → ((text : List ℕ) (a : A) → S text a → T text (f a)) → Begun P S at rest fault → Begun P T at rest fault
 begun_as f to b = record {
@@ -58,7 +58,7 @@ begun_as f to b = record {
 }
 
 -- nothing was read yet
-pub begun_here : {A E : Type 0} {P : Places E} {S : List ℕ → A → Type 0} (at : ℕ) (rest : List ℕ) (fault : E)
+pub begun_here : {A E : Type 0} {P : Offsets E} {S : List ℕ → A → Type 0} (at : ℕ) (rest : List ℕ) (fault : E)
     → Example S → P.Stands fault at → Begun P S at rest fault
 begun_here {P = P} at rest fault some stands = record {
   count = 0;
@@ -70,7 +70,7 @@ begun_here {P = P} at rest fault some stands = record {
 }
 
 -- what stands before a fault are the first bytes of that text
-pub begun_same : {A E : Type 0} {P : Places E} {S : List ℕ → A → Type 0} {at : ℕ} {rest : List ℕ} {fault : E}
+pub begun_same : {A E : Type 0} {P : Offsets E} {S : List ℕ → A → Type 0} {at : ℕ} {rest : List ℕ} {fault : E}
     (b : Begun P S at rest fault) → take b.count rest ≡ take b.count b.some.text
 begun_same {rest = rest} b =
     let size : length (take b.count rest) ≡ b.count = let fits = b.within in
@@ -78,7 +78,7 @@ begun_same {rest = rest} b =
     sym (ap (λ (l : List ℕ). take b.count l) b.begins ∙ take_at (take b.count rest) b.more b.count size)
 
 -- the first of two parts fails
-first_begun : {A B E : Type 0} {P : Places E} (S : List ℕ → A → Type 0) (T : A → List ℕ → B → Type 0) (at : ℕ)
+first_begun : {A B E : Type 0} {P : Offsets E} (S : List ℕ → A → Type 0) (T : A → List ℕ → B → Type 0) (at : ℕ)
     (rest : List ℕ) (fault : E)
     (b : Begun P S at rest fault) → Example (T b.some.a) → Begun P (Then S T) at rest fault
 first_begun S T at rest fault b next = record {
@@ -91,7 +91,7 @@ first_begun S T at rest fault b next = record {
 }
 
 -- the second part fails, after one that was taken
-pub second_begun : {A B E : Type 0} {P : Places E} (S : List ℕ → A → Type 0) (T : A → List ℕ → B → Type 0) (at : ℕ)
+pub second_begun : {A B E : Type 0} {P : Offsets E} (S : List ℕ → A → Type 0) (T : A → List ℕ → B → Type 0) (at : ℕ)
     (rest : List ℕ) (a : A) (j : Input) (fault : E)
     (t : Took S (input at rest) a j) → Begun P (T a) j.at j.rest fault → Begun P (Then S T) at rest fault
 second_begun {P = P} S T at rest a j fault t b =
@@ -110,7 +110,7 @@ second_begun {P = P} S T at rest a j fault t b =
     }
 
 -- a parser of a part of such inputs
-pub record Part {A E : Type 0} (P : Places E) (Of : List ℕ → Type 0) (S : List ℕ → A → Type 0)
+pub record Part {A E : Type 0} (P : Offsets E) (Of : List ℕ → Type 0) (S : List ℕ → A → Type 0)
     (p : Parser A E) : Type 0 where
   pub local : Local P p
   pub takes : (i : Input) (a : A) (j : Input) → Of i.rest → p i ≡ Ok (a, j) → Took S i a j
@@ -118,7 +118,7 @@ pub record Part {A E : Type 0} (P : Places E) (Of : List ℕ → Type 0) (S : Li
   pub some : Example S
 
 -- all faults stand where the part begins
-pub Part-leaf : {A E : Type 0} {P : Places E} {Of : List ℕ → Type 0} {S : List ℕ → A → Type 0} {p : Parser A E}
+pub Part-leaf : {A E : Type 0} {P : Offsets E} {Of : List ℕ → Type 0} {S : List ℕ → A → Type 0} {p : Parser A E}
     → Local P p → ((i : Input) (a : A) (j : Input) → Of i.rest → p i ≡ Ok (a, j) → Took S i a j) → Example S
     → ((at : ℕ) (rest : List ℕ) (fault : E) → p (input at rest) ≡ Err fault → P.Stands fault at) → Part P Of S p
 Part-leaf lp takes some here = record {
@@ -128,7 +128,7 @@ Part-leaf lp takes some here = record {
   some = some;
 }
 
-pub Part-pure : {A E : Type 0} {P : Places E} {Of : List ℕ → Type 0} (x : A) → Part P Of (Is x) (pure x)
+pub Part-pure : {A E : Type 0} {P : Offsets E} {Of : List ℕ → Type 0} (x : A) → Part P Of (Is x) (pure x)
 Part-pure {E = E} {Of = Of} x = record {
   local = Local-pure x;
   takes = let exact : ExactOn {E = E} Of (Is x) _ (pure x) = Exact-pure x in exact.takes;
@@ -137,7 +137,7 @@ Part-pure {E = E} {Of = Of} x = record {
 }
 
 -- the same part, said otherwise
-pub Part-as : {A E : Type 0} {P : Places E} {Of : List ℕ → Type 0} {S T : List ℕ → A → Type 0} {p : Parser A E}
+pub Part-as : {A E : Type 0} {P : Offsets E} {Of : List ℕ → Type 0} {S T : List ℕ → A → Type 0} {p : Parser A E}
     → ((text : List ℕ) (a : A) → S text a → T text a) → Part P Of S p → Part P Of T p
 Part-as to part = record {
   local = part.local;
@@ -148,7 +148,7 @@ Part-as to part = record {
 }
 
 -- one part and then another
-pub Part-then : {A B E : Type 0} {P : Places E} {Of : List ℕ → Type 0} {S : List ℕ → A → Type 0}
+pub Part-then : {A B E : Type 0} {P : Offsets E} {Of : List ℕ → Type 0} {S : List ℕ → A → Type 0}
     {T : A → List ℕ → B → Type 0} {p : Parser A E} {q : A → Parser B E} → IsOfParts Of → Part P Of S p
     → ((a : A) → Part P Of (T a) (q a)) → Part P Of (Then S T) (p >>= q)
 Part-then {A} {B} {E} {P} {Of} {S} {T} {p} {q} parts first next = record {
@@ -174,7 +174,7 @@ Part-then {A} {B} {E} {P} {Of} {S} {T} {p} {q} parts first next = record {
     left i a j t of = parts.back t.text j.rest (subst Of t.split of)
 
 -- one part or the other, by the bytes that are looked at
-pub Part-cond : {A E : Type 0} {P : Places E} {Of : List ℕ → Type 0} {S T : List ℕ → A → Type 0} {p q : Parser A E}
+pub Part-cond : {A E : Type 0} {P : Offsets E} {Of : List ℕ → Type 0} {S T : List ℕ → A → Type 0} {p q : Parser A E}
     (test : Input → Bool) → Local P (λ i. cond (test i) (p i) (q i)) → Part P Of S p → Part P Of T q
     → Part P Of (λ text a. S text a ⊎ T text a) (λ i. cond (test i) (p i) (q i))
 Part-cond {A} {E} {P} {Of} {S} {T} {p} {q} test lp first second = record {

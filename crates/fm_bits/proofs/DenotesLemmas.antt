@@ -15,11 +15,11 @@ use Rattle.std.proofs.lemmas.Nat.{mul-pow, pow-add, div-add-mod'}
 use Rattle.nc_model.specs.Pattern.{with_sign}
 use Rattle.fm_bits.specs.Denotes.{DenotesDecimal, DenotesHexadecimal, DenotesMagnitude, after_point}
 use Rattle.fm_bits.specs.Digits.{fixed_digits}
-use Rattle.fm_bits.specs.Text.{whole_text, decimals_text, hex_text, hex_fraction, hex_len, exponent_text, high_place, magnitude_text}
+use Rattle.fm_bits.specs.Text.{whole_text, decimals_text, hex_text, hex_fraction, hex_len, exponent_text, high_index, magnitude_text}
 use Rattle.fm_bits.proofs.DigitLemmas.{length-fixed_digits}
 use Rattle.fm_bits.proofs.FormLemmas.{Form, whole, decimals, hexadecimal, form_of}
 use Rattle.fm_bits.proofs.HexLemmas.{abs-add, hex_fraction-none, hex_fraction-some, one_alone}
-use Rattle.fm_bits.proofs.OddLemmas.{high_place_is, hex_number, two_pow-mul_four}
+use Rattle.fm_bits.proofs.OddLemmas.{high_index_is, hex_number, two_pow-mul_four}
 use Rattle.fm_bits.proofs.TextLemmas.{IsSmall}
 
 -- a digit writes its own value
@@ -131,21 +131,21 @@ record Fraction (odd : ℕ) : Type 0 where
   back : List ℕ
   digits : AllDigits 16 back
   text_is : hex_fraction odd ≡ after_point back
-  number : (16 ^ length back + digits_value 16 back) * 2 ^ high_place odd ≡ odd * 16 ^ length back
+  number : (16 ^ length back + digits_value 16 back) * 2 ^ high_index odd ≡ odd * 16 ^ length back
 
 fraction_of : (odd : ℕ) → odd % 2 ≡ 1 → odd < 2 ^ 64 → Fraction odd
 fraction_of odd p small =
-    elim (cases_eq (high_place odd) 0) [
+    elim (cases_eq (high_index odd) 0) [
       | inl z ↦
           let one : odd ≡ 1 = one_alone odd p small z in
-          let unit : 2 ^ high_place odd ≡ 1 = ap (λ x. 2 ^ x) z in
+          let unit : 2 ^ high_index odd ≡ 1 = ap (λ x. 2 ^ x) z in
           record { back = []; digits = tt; text_is = hex_fraction-none odd z; number = omega (arith, one, unit) }
       | inr n ↦
-          let w = high_place odd in
+          let w = high_index odd in
           let h = hex_len w in
           let k = 4 * h - w in
           let number = odd * 2 ^ k in
-          let high = high_place_is odd (omega arith) small in
+          let high = high_index_is odd (omega arith) small in
           let fits : w ≤ 4 * h = omega arith in
           let range = hex_number odd w h fits high.1 high.2 in
           let some : 0 < h = omega arith in
@@ -179,8 +179,8 @@ hex_denotes : (odd : ℕ) (e : ℤ) → odd % 2 ≡ 1 → odd < 2 ^ 64 → unsig
 unfolding hex_text exponent_text
 hex_denotes odd e p small low =
     let f = fraction_of odd p small in
-    let w = high_place odd in
-    let high = high_place_is odd (omega arith) small in
+    let w = high_index odd in
+    let high = high_index_is odd (omega arith) small in
     let size : unsigned_abs (e +ℤ pos w) < 10 ^ 64 = omega (arith, abs-add e w, high.0) in
     let exponent = e +ℤ pos w in
     record {

@@ -44,7 +44,7 @@ pub bits_of_fields-of_bits : (w f n : ℕ) → n < 2 * 2 ^ (w + f)
     → n ≡ bits_of_fields w f (nat_le (2 ^ (w + f)) n) (n / 2 ^ f % 2 ^ w) (n % 2 ^ f)
 bits_of_fields-of_bits w f n small =
     let rest = λ (y : ℕ). y + n / 2 ^ f % 2 ^ w * 2 ^ f + n % 2 ^ f in
-    let place : 2 ^ (w + f) ≡ 2 ^ f * 2 ^ w = pow-add 2 w f ∙ mul_comm (2 ^ w) (2 ^ f) in
+    let powers : 2 ^ (w + f) ≡ 2 ^ f * 2 ^ w = pow-add 2 w f ∙ mul_comm (2 ^ w) (2 ^ f) in
     elim (cases_lt n (2 ^ (w + f))) [
       | inl t ↦
           let none : n / (2 ^ f * 2 ^ w) ≡ 0 = div-eq_of_lt (omega arith) in

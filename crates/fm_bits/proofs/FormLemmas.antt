@@ -4,7 +4,7 @@ use Rattle.std.specs.Fmt.{decimal}
 use Rattle.std.proofs.lemmas.Bool.{cases_Bool, cond-true, cond-false, and_parts, ltb-true, lt-ltb}
 use Rattle.std.proofs.lemmas.List.{append_assoc}
 use Rattle.fm_bits.specs.Digits.{fixed_digits}
-use Rattle.fm_bits.specs.Text.{magnitude_text, whole_text, decimals_text, hex_text, hex_fraction, exponent_text, high_place}
+use Rattle.fm_bits.specs.Text.{magnitude_text, whole_text, decimals_text, hex_text, hex_fraction, exponent_text, high_index}
 
 -- odd, or 0 with the exponent 0
 abbrev pub Reduced : ℕ → ℤ → Type 0
@@ -45,8 +45,8 @@ unfolding decimals_text
 decimals_cut odd k = append_assoc (decimal (odd / 2 ^ k)) (46 ∷ []) (fixed_digits 10 k (odd * 5 ^ k))
 
 pub hex_cut : (odd : ℕ) (e : ℤ)
-    → hex_text odd e ≡ 48 ∷ 120 ∷ 49 ∷ (hex_fraction odd ++ 112 ∷ exponent_text (e +ℤ pos (high_place odd)))
+    → hex_text odd e ≡ 48 ∷ 120 ∷ 49 ∷ (hex_fraction odd ++ 112 ∷ exponent_text (e +ℤ pos (high_index odd)))
 unfolding hex_text
 hex_cut odd e =
     ap (λ (x : List ℕ). 48 ∷ 120 ∷ 49 ∷ x)
-    (append_assoc (hex_fraction odd) (112 ∷ []) (exponent_text (e +ℤ pos (high_place odd))))
+    (append_assoc (hex_fraction odd) (112 ∷ []) (exponent_text (e +ℤ pos (high_index odd))))

@@ -4,7 +4,7 @@ use Rattle.std.proofs.Math.Nat.{pow-zero, pow-suc, mul-pos, mul-le-mul_right, mu
 use Rattle.std.proofs.lemmas.Nat.{leading_top, pow_pos, pow-add, div-add-mod'}
 use Rattle.std.specs.Int.{w64, trailing_zeros}
 use Rattle.fm_base.proofs.NumberLemmas.{two_pow_divides}
-use Rattle.fm_bits.specs.Text.{high_place}
+use Rattle.fm_bits.specs.Text.{high_index}
 
 -- one more factor of two
 mul-two_pow_suc : (a i : ℕ) → a * 2 ^ suc i ≡ 2 * (a * 2 ^ i)
@@ -37,14 +37,14 @@ reduced_injective a b i j (inr p) (inl q) e =
 reduced_injective a b i j (inr p) (inr q) e = (p.0 ∙ sym q.0, cc)
 
 -- the highest bit
-pub high_place_is : (a : ℕ) → 0 < a → a < 2 ^ 64
-    → (high_place a ≤ 63) × (2 ^ high_place a ≤ a) × (a < 2 * 2 ^ high_place a)
-unfolding high_place
-high_place_is a some small =
+pub high_index_is : (a : ℕ) → 0 < a → a < 2 ^ 64
+    → (high_index a ≤ 63) × (2 ^ high_index a ≤ a) × (a < 2 * 2 ^ high_index a)
+unfolding high_index
+high_index_is a some small =
     let top = leading_top 64 a some small in
-    let at : high_place a ≡ top.0 = omega (arith, top.1) in
-    let low : 2 ^ high_place a ≤ a = omega (arith, top.2, ap (λ x. 2 ^ x) at) in
-    let high : a < 2 * 2 ^ high_place a = omega (arith, top.3, pow-suc 2 top.0, ap (λ x. 2 ^ x) at) in
+    let at : high_index a ≡ top.0 = omega (arith, top.1) in
+    let low : 2 ^ high_index a ≤ a = omega (arith, top.2, ap (λ x. 2 ^ x) at) in
+    let high : a < 2 * 2 ^ high_index a = omega (arith, top.3, pow-suc 2 top.0, ap (λ x. 2 ^ x) at) in
     (omega (arith, top.1), low, high)
 
 -- a power of five keeps an odd number odd

@@ -56,7 +56,7 @@ pub decimals_injective : (a b j k : ℕ) → a < 2 ^ 64 → b < 2 ^ 64 → decim
 decimals_injective a b j k p q e =
     let cut = λ (x y : ℕ) (h : decimals_text a x ≡ decimals_text b y).
     point_injective (a / 2 ^ x) (b / 2 ^ y) _ _ (sym (decimals_cut a x) ∙ h ∙ decimals_cut b y) in
-    let places : j ≡ k = sym (length-fixed_digits 10 j (a * 5 ^ j)) ∙ ap length (cut j k e).1
+    let counts : j ≡ k = sym (length-fixed_digits 10 j (a * 5 ^ j)) ∙ ap length (cut j k e).1
     ∙ length-fixed_digits 10 k (b * 5 ^ k) in
-    let parts = cut j j (e ∙ ap (λ x. decimals_text b x) (sym places)) in
-    (same_decimals a b j p q parts.0 parts.1, places)
+    let parts = cut j j (e ∙ ap (λ x. decimals_text b x) (sym counts)) in
+    (same_decimals a b j p q parts.0 parts.1, counts)

@@ -18,9 +18,9 @@ whole_text n = decimal n ++ codes ".0"
 unfoldable pub decimals_text : ℕ → ℕ → List ℕ
 decimals_text odd k = decimal (odd / 2 ^ k) ++ codes "." ++ fixed_digits 10 k (odd * 5 ^ k)
 
--- the place of the highest bit of a number below 2^64
-unfoldable pub high_place : ℕ → ℕ
-high_place n = 63 - leading_zeros w64 n
+-- the index of the highest bit of a number below 2^64
+unfoldable pub high_index : ℕ → ℕ
+high_index n = 63 - leading_zeros w64 n
 
 -- how many hexadecimal digits this number of bits takes
 abbrev pub hex_len : ℕ → ℕ
@@ -29,7 +29,7 @@ hex_len width = (width + 3) / 4
 -- the bits below the highest, filled up with zeros to whole digits, after a point; nothing where there are none
 unfoldable pub hex_fraction : ℕ → List ℕ
 hex_fraction odd =
-    let width = high_place odd in
+    let width = high_index odd in
     if width == 0 then [] else (codes "." ++ fixed_digits 16 (hex_len width) (odd * 2 ^ (4 * hex_len width - width)))
 
 -- an exponent, always with its sign
@@ -38,7 +38,7 @@ exponent_text e = (if is_negative e then codes "-" else codes "+") ++ decimal (u
 
 -- odd * 2^e as 1.f * 2^E
 unfoldable pub hex_text : ℕ → ℤ → List ℕ
-hex_text odd e = codes "0x1" ++ hex_fraction odd ++ codes "p" ++ exponent_text (e +ℤ pos (high_place odd))
+hex_text odd e = codes "0x1" ++ hex_fraction odd ++ codes "p" ++ exponent_text (e +ℤ pos (high_index odd))
 
 -- the greatest number of decimals
 abbrev pub MAX_DECIMALS : ℕ

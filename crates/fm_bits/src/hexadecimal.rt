@@ -1,6 +1,6 @@
 //! Numbers in the hexadecimal form: `0x1.`, a fraction, `p` and an exponent of two.
 ghost use Rattle.std.specs.Prelude.{◌≡◌, ◌++◌, ◌<◌, OnOk, pos, ◌+ℤ◌};
-ghost use Rattle.fm_bits.specs.Text.{exponent_text, hex_fraction, hex_text, high_place};
+ghost use Rattle.fm_bits.specs.Text.{exponent_text, hex_fraction, hex_text, high_index};
 
 use crate::digits::{put_count, put_digits};
 use fm_base::{Bytes, NoMemory};
@@ -23,16 +23,16 @@ pub(crate) fn put_hexadecimal(
 }
 
 // The exponent of the highest bit of the number `odd * 2^exponent`.
-#[tactic(auto, unfolding(crate::specs::Text::high_place))]
+#[tactic(auto, unfolding(crate::specs::Text::high_index))]
 fn high_exponent(odd: u64, exponent: i32) -> i64
     requires { 0 < odd }
-    ensures { result ≡ exponent +ℤ pos (high_place odd) }
+    ensures { result ≡ exponent +ℤ pos (high_index odd) }
 {
     i64::from(exponent) + i64::from(63 - odd.leading_zeros())
 }
 
 // Writes what stands below the highest bit, in whole digits, and a point before it.
-#[tactic(auto, unfolding(crate::specs::Text::hex_fraction, crate::specs::Text::high_place))]
+#[tactic(auto, unfolding(crate::specs::Text::hex_fraction, crate::specs::Text::high_index))]
 fn put_fraction(odd: u64, out: &mut Bytes) -> Result<(), NoMemory>
     requires { 0 < odd }
     ensures { OnOk result (out.new ≡ out.old ++ hex_fraction odd) }

@@ -5,7 +5,7 @@ use Rattle.std.proofs.lemmas.List.{drop-map}
 use Rattle.std.proofs.lemmas.Option.{slice_get_within}
 use Rattle.nc_model.specs.declared.kind.Kind.{Kind}
 use Rattle.nc_model.specs.Kind.{size_of}
-use Rattle.nc_model.specs.Layout.{element, place_of, product, rank_in}
+use Rattle.nc_model.specs.Layout.{element, offset_of, product, rank_in}
 use Rattle.fm_model.specs.declared.loaded.Loaded.{Loaded}
 use Rattle.fm_model.specs.declared.loaded.Slot.{Slot}
 use Rattle.fm_model.specs.declared.proto.Proto.{Proto}
@@ -15,32 +15,32 @@ use Rattle.fm_model.specs.Load.{Fits}
 use Rattle.fm_model.specs.LoadVars.{slot_in, slotted_vars, IsSlotOf, LiesWithin}
 use Rattle.fm_model.specs.Prototype.{lengths_of}
 use Rattle.fm_model.proofs.LoadLemmas.{IsTaken-load_of}
-use Rattle.fm_model.proofs.PlaceLemmas.{place_of-slot}
+use Rattle.fm_model.proofs.OffsetLemmas.{offset_of-slot}
 use Rattle.fm_model.proofs.SlotLemmas.{slots_count, slots_each}
 use Rattle.fm_model.proofs.WithinLemmas.{slots_within}
-use Rattle.fm_dataset.specs.Kept.{slot_place, HasBlock, HasSlotIn, IsBlock, LiesInFile}
+use Rattle.fm_dataset.specs.Kept.{slot_offset, HasBlock, HasSlotIn, IsBlock, LiesInFile}
 use Rattle.fm_dataset.specs.Values.{element_along, element_fixed, element_in, element_of}
 use Rattle.fm_dataset.proofs.ItemLemmas.{zip_at}
 
 -- an element by a slot is that by the file's own layout
-pub element-slot : (proto : Proto) (file : Loaded) (var : ProtoVar) (slot : Slot) (n place : ℕ) (rest : List ℕ)
+pub element-slot : (proto : Proto) (file : Loaded) (var : ProtoVar) (slot : Slot) (n index : ℕ) (rest : List ℕ)
     → Fits file proto → slice_get (slotted_vars proto) n ≡ Some var → slice_get file.slots n ≡ Some slot
-    → element_in file var.name (place ∷ rest) ≡ take (size_of var.kind) (drop (slot_place proto var slot place rest)
+    → element_in file var.name (index ∷ rest) ≡ take (size_of var.kind) (drop (slot_offset proto var slot index rest)
     file.content)
 unfolding element_in element
-element-slot proto file var slot n place rest fits e d =
+element-slot proto file var slot n index rest fits e d =
     let t = IsTaken-load_of file.name file.content proto file fits in
     let is = zip_at (IsSlotOf proto t.header t.axis) (slotted_vars proto) file.slots n var slot
     (slots_each file proto t.header t.axis fits t.header_is t.axis_is) e d in
     let found : Slot = slot_in t.header t.axis is.var in
-    let place_is : place_of t.header is.var (place ∷ rest) ≡ slot_place proto var slot place rest =
-    place_of-slot t.header t.axis is.var place rest is.along
-    ∙ ap (λ (l : List ℕ). found.begin + place * found.step + size_of is.var.kind * rank_in l rest) is.lengths
+    let offset_is : offset_of t.header is.var (index ∷ rest) ≡ slot_offset proto var slot index rest =
+    offset_of-slot t.header t.axis is.var index rest is.along
+    ∙ ap (λ (l : List ℕ). found.begin + index * found.step + size_of is.var.kind * rank_in l rest) is.lengths
     ∙ ap (λ (k : Kind).
-    found.begin + place * found.step + size_of k * rank_in (drop 1 (lengths_of proto var.dims)) rest) is.kind_is
-    ∙ ap (λ (s : Slot). s.begin + place * s.step + size_of var.kind * rank_in (drop 1 (lengths_of proto var.dims)) rest)
+    found.begin + index * found.step + size_of k * rank_in (drop 1 (lengths_of proto var.dims)) rest) is.kind_is
+    ∙ ap (λ (s : Slot). s.begin + index * s.step + size_of var.kind * rank_in (drop 1 (lengths_of proto var.dims)) rest)
     (sym is.slot_is) in
-    rw (t.header_is, is.named, is.kind_is, place_is) refl
+    rw (t.header_is, is.named, is.kind_is, offset_is) refl
 
 module _ (proto : Proto) (row : Row) (var : ProtoVar) (number : ℕ) (has : HasSlotIn proto row var number) where
   -- the file has the slot
@@ -50,22 +50,22 @@ module _ (proto : Proto) (row : Row) (var : ProtoVar) (number : ℕ) (has : HasS
       let count = slots_count row.file proto has.row_is.fits in
       omega arith
 
-  -- what lies at the row's place of a slot lies within the content
+  -- what lies at the row's index of a slot lies within the content
   pub row_within : (slot : Slot) → slice_get row.file.slots number ≡ Some slot
-      → slot.begin + row.place * slot.step + size_of var.kind * product (drop 1 (lengths_of proto var.dims))
+      → slot.begin + row.index * slot.step + size_of var.kind * product (drop 1 (lengths_of proto var.dims))
       ≤ length row.file.content
   row_within slot e =
       zip_at (LiesWithin proto (length row.file.times) (length row.file.content)) (slotted_vars proto) row.file.slots
-      number var slot (slots_within row.file proto has.sound has.row_is.fits) has.slotted e row.place
-      (slice_get_within row.file.times row.place row.valid has.row_is.time_is)
+      number var slot (slots_within row.file proto has.sound has.row_is.fits) has.slotted e row.index
+      (slice_get_within row.file.times row.index row.valid has.row_is.time_is)
 
-  -- where a slot's data begins at the row's place lie the row's elements
+  -- where a slot's data begins at the row's index lie the row's elements
   pub lies_in_file : (slot : Slot) (bytes : List ℕ) (begin : ℕ) → slice_get row.file.slots number ≡ Some slot
-      → bytes ≡ row.file.content → begin ≡ slot.begin + row.place * slot.step → LiesInFile proto row var bytes begin
+      → bytes ≡ row.file.content → begin ≡ slot.begin + row.index * slot.step → LiesInFile proto row var bytes begin
   lies_in_file slot bytes begin e bytes_are begin_is = record {
     within = rw (bytes_are, begin_is) (row_within slot e);
     each = λ rest. rw (bytes_are, begin_is)
-        (element-slot proto row.file var slot number row.place rest has.row_is.fits has.slotted e);
+        (element-slot proto row.file var slot number row.index rest has.row_is.fits has.slotted e);
   }
 
 -- a block in the file of the row that an index list picks

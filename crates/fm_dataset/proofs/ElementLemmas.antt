@@ -38,10 +38,10 @@ some_block proto rows var number index has = by_time var.timed refl
         (slot_there proto row var number slotted) in
         record {
           bytes = row.file.content;
-          begin = slot.begin + row.place * slot.step;
-          is = block_along proto rows var row index row.file.content (slot.begin + row.place * slot.step) timed there
+          begin = slot.begin + row.index * slot.step;
+          is = block_along proto rows var row index row.file.content (slot.begin + row.index * slot.step) timed there
               (lies_in_file proto row var number slotted slot row.file.content
-              (slot.begin + row.place * slot.step) found refl refl);
+              (slot.begin + row.index * slot.step) found refl refl);
         }
 
     by_time : (b : Bool) → var.timed ≡ b → SomeBlock proto rows var index

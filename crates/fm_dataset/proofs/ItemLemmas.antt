@@ -1,10 +1,10 @@
--- Items of lists by their places.
+-- Items of lists by their indices.
 use Rattle.std.proofs.Common.{◌≡◌, ℕ, zero, suc, ◌+◌, ◌<◌, List, [], ◌∷◌, ◌++◌, length, map, take, get_or, Some, ap, sym, subst, ◌∙◌}
 use Rattle.std.specs.List.{slice_get, AllZip}
 use Rattle.std.proofs.lemmas.List.{map-append, take_more}
 use Rattle.std.proofs.lemmas.Option.{none-some, same_Some}
 
--- what holds of two lists item by item holds of the items at one place
+-- what holds of two lists item by item holds of the items at one index
 pub zip_at : {A B : Type 0} (R : A → B → Type 0) (xs : List A) (ys : List B) (n : ℕ) (x : A) (y : B)
     → AllZip R xs ys → slice_get xs n ≡ Some x → slice_get ys n ≡ Some y → R x y
 zip_at R [] ys n x y all e d = absurd (none-some x e)

@@ -93,7 +93,7 @@ rows_along proto count var timed = rw timed refl
 -- a value along the axis is in the file of its row
 pub value_along : (proto : Proto) (shown : List Row) (var : ProtoVar) (row : Row) (n : ℕ) (rest : List ℕ)
     → var.timed ≡ true → slice_get shown n ≡ Some row
-    → element_of proto shown var (n ∷ rest) ≡ element_in row.file var.name (row.place ∷ rest)
+    → element_of proto shown var (n ∷ rest) ≡ element_in row.file var.name (row.index ∷ rest)
 unfolding element_of element_along
 value_along proto shown var row n rest timed there = rw (timed, there) refl
 
@@ -105,5 +105,5 @@ latest_run files row n there =
     record {
       held = HasHeldFile-rows files Best row held;
       best = IsBest-row files row held;
-      cell = (cell_both files row.run row.valid row.file row.place).0 ((Contains-rows files Best row).0 held).0;
+      cell = (cell_both files row.run row.valid row.file row.index).0 ((Contains-rows files Best row).0 held).0;
     }

@@ -17,7 +17,7 @@ use Rattle.fm_model.proofs.Members.{Each, Each-in, each_from_All, In}
 use Rattle.fm_model.proofs.WithinLemmas.{dim_named, not_along}
 use Rattle.fm_dataset.specs.Declarations.{array_dims, dim_at}
 use Rattle.fm_dataset.specs.Values.{row_dims}
-use Rattle.fm_dataset.proofs.NameLemmas.{one_place}
+use Rattle.fm_dataset.proofs.NameLemmas.{one_index}
 
 pub Each-take : {A : Type 0} (P : A → Type 0) (n : ℕ) (xs : List A) → Each P xs → Each P (take n xs)
 Each-take P zero xs each = tt
@@ -93,7 +93,7 @@ module _ (proto : Proto) (sound : IsSound proto) where
       at dim is =
           let axis = dim_named proto.dims proto.axis sound.id sound.named in
           let differs : dim.name ≡ proto.axis → ⊥ = λ e. other
-          (one_place (λ (d : Dim). d.name) proto.dims sound.id id axis.0 dim sound.dim_names axis.1 is
+          (one_index (λ (d : Dim). d.name) proto.dims sound.id id axis.0 dim sound.dim_names axis.1 is
           (axis.2 ∙ sym e)) in
           let some : 1 ≤ dim.size = Each-in (λ (d : Dim). (d.name ≡ proto.axis → ⊥) → 0 < d.size) dim proto.dims
           (each_from_All (λ (d : Dim). (d.name ≡ proto.axis → ⊥) → 0 < d.size) proto.dims sound.lengths)

@@ -14,7 +14,7 @@ use Rattle.fm_dataset.specs.Declarations.{array_dims, array_of, dims_in}
 use Rattle.fm_dataset.specs.Values.{indices_from, indices_in_row, left_in_row, shape_of_array}
 use Rattle.fm_dataset.proofs.IndexLemmas.{lengths_are}
 
--- the items of lists of one length, from a place in one of them on
+-- the items of lists of one length, from an index in one of them on
 drop_blocks : {A : Type 0} (g : ℕ → List A) (whole : ℕ) → ((i : ℕ) → length (g i) ≡ whole) → (a n i r : ℕ) → i < n
     → r ≤ whole
     → drop (i * whole + r) (flat_map g (range_with_len a n))

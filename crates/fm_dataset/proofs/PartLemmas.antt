@@ -28,7 +28,7 @@ slice_get-after (x ∷ xs) ys (suc n) past =
     let same : n - length xs ≡ suc n - suc (length xs) = omega arith in
     slice_get-after xs ys n (omega arith) ∙ ap (slice_get ys) same
 
--- where each item gives something, what it gives stands at its place
+-- where each item gives something, what it gives stands at its index
 filter_map-at : {A B : Type 0} (f : A → Option B) (xs : List A) (n : ℕ) → length (filter_map f xs) ≡ length xs
     → slice_get (filter_map f xs) n ≡ option_and_then f (slice_get xs n)
 filter_map-at f [] n full = refl

@@ -107,13 +107,13 @@ text_pieces element index within shape bytes begin first len first_is len_is lon
     let back : List ℕ = drop (length within) shape in
     flat_map_all (λ more. element (index ++ more))
     (λ more. take 1 (drop (begin + len * first + 1 * rank_in back more) bytes))
-    (λ more. each more ∙ ap (λ n. take 1 (drop n bytes)) (place more)) (indices_of back)
+    (λ more. each more ∙ ap (λ n. take 1 (drop n bytes)) (offset more)) (indices_of back)
     ∙ elements_at bytes (begin + len * first) 1 back
     ∙ ap (λ n. take n (drop (begin + len * first) bytes)) (count len_is)
   where
-    place : (more : List ℕ) → begin + 1 * rank_in shape (within ++ more)
+    offset : (more : List ℕ) → begin + 1 * rank_in shape (within ++ more)
         ≡ begin + len * first + 1 * rank_in (drop (length within) shape) more
-    place more =
+    offset more =
         let front : List ℕ = take (length within) shape in
         let back : List ℕ = drop (length within) shape in
         let both : rank_in shape (within ++ more) ≡ rank_in front within * product back + rank_in back more =

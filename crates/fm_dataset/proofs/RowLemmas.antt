@@ -14,17 +14,17 @@ use Rattle.fm_dataset.specs.Rows.{AreRows, IsRowOf}
 row_instants : (proto : Proto) (row : Row) → IsSound proto → IsRowOf proto row → HasInstants row
 row_instants proto row sound is =
     let fit = IsFit-from_Fits row.file proto sound is.fits in
-    let within = slice_get_within row.file.times row.place row.valid is.time_is in
+    let within = slice_get_within row.file.times row.index row.valid is.time_is in
     record {
-      valid = subst IsInstant (get_or_from_slice_get row.file.times row.place row.valid row.valid is.time_is)
-          (All-get_or IsInstant row.file.times row.place row.valid within fit.instants);
+      valid = subst IsInstant (get_or_from_slice_get row.file.times row.index row.valid row.valid is.time_is)
+          (All-get_or IsInstant row.file.times row.index row.valid within fit.instants);
       run = subst IsInstant is.run_is fit.run;
     }
 
 pub instants : (proto : Proto) (rows : List Row) → IsSound proto → AreRows proto rows → All HasInstants rows
 instants proto rows sound are = λ k d below. row_instants proto (get_or rows k d) sound (are.each k d below)
 
--- those of the row at a place are
+-- those of the row at an index are
 pub instants_at : (rows : List Row) (n : ℕ) (row : Row) → All HasInstants rows → slice_get rows n ≡ Some row
     → HasInstants row
 instants_at rows n row all there =

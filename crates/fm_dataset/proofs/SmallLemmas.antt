@@ -26,7 +26,7 @@ use Rattle.fm_dataset.proofs.CountLemmas.{count_fits}
 use Rattle.fm_dataset.proofs.IndexLemmas.{lengths_are}
 use Rattle.fm_dataset.proofs.TableLemmas.{slot_found}
 use Rattle.fm_dataset.proofs.LongLemmas.{IsLong, long_dims, front_few, others_of, IsFront, front_of, long_row, Each-take}
-use Rattle.fm_dataset.proofs.NameLemmas.{one_place, place_in}
+use Rattle.fm_dataset.proofs.NameLemmas.{one_index, held_index}
 use Rattle.fm_dataset.proofs.PrototypeLimits.{limits, HasLimit}
 
 -- an array with these dimensions is small
@@ -49,13 +49,13 @@ module _ (proto : Proto) (sound : IsSound proto) where
     axis_alone : is_axis_of proto var ≡ true → drop 1 var.dims ≡ []
     axis_alone is =
         let axis = in_from_Any (IsAxis proto sound.id) proto.vars sound.axis in
-        let found = place_in axis.0 proto.vars axis.1 in
+        let found = held_index axis.0 proto.vars axis.1 in
         let named : axis.0.name ≡ var.name =
         axis.2.name_is ∙ sym ((bytes_eq-Decides var.name proto.axis).0 is) in
-        let place = one_place (λ (v : ProtoVar). v.name) proto.vars found.0 number axis.0 var sound.var_names found.1
+        let index = one_index (λ (v : ProtoVar). v.name) proto.vars found.0 number axis.0 var sound.var_names found.1
         there named in
         let same : axis.0 ≡ var =
-        same_Some axis.0 var (sym found.1 ∙ ap (slice_get proto.vars) place ∙ there) in
+        same_Some axis.0 var (sym found.1 ∙ ap (slice_get proto.vars) index ∙ there) in
         ap (λ (v : ProtoVar). drop 1 v.dims) (sym same) ∙ ap (drop 1) axis.2.dims_are
 
     module _ (rows : List Row) (rows_are : AreRows proto rows) (timed : var.timed ≡ true) where
@@ -69,7 +69,7 @@ module _ (proto : Proto) (sound : IsSound proto) where
           let found = slice_get-get_or row.file.slots (slot_number proto number) (record { begin = 0; step = 0 })
           (slot_there proto row var (slot_number proto number) slotted) in
           let within = row_within proto row var (slot_number proto number) slotted slot found in
-          let few = count_fits var.kind (slot.begin + row.place * slot.step)
+          let few = count_fits var.kind (slot.begin + row.index * slot.step)
           (product (drop 1 (lengths_of proto var.dims))) (length row.file.content) within in
           omega (arith, few, is.small)
 

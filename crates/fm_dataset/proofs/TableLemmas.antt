@@ -54,7 +54,7 @@ pub slot_found : (proto : Proto) (n : ℕ) (var : ProtoVar) → slice_get proto.
 unfolding slotted_vars slot_number
 slot_found proto n var e has = passing_at (has_slot proto) proto.vars n var e has
 
--- what holds of each number by its place holds with one more number
+-- what holds of each number by its index holds with one more number
 pub each_push : (P : ℕ → ℕ → Type 0) (xs new : List ℕ) (x n : ℕ) → new ≡ xs ++ x ∷ [] → length xs ≡ n
     → ((k : ℕ) → k < n → P k (get_or xs k 0)) → P n x → (k : ℕ) → k < n + 1 → P k (get_or new k 0)
 each_push P xs new x n new_is long each here =

@@ -61,9 +61,9 @@ pub record HasInstants (row : Row) : Type 0 where
   pub run : IsInstant row.run
 
 -- where an element of a variable along the axis begins, by its slot
-abbrev pub slot_place : Proto → ProtoVar → Slot → ℕ → List ℕ → ℕ
-slot_place proto var slot place rest =
-    slot.begin + place * slot.step + size_of var.kind * rank_in (drop 1 (lengths_of proto var.dims)) rest
+abbrev pub slot_offset : Proto → ProtoVar → Slot → ℕ → List ℕ → ℕ
+slot_offset proto var slot index rest =
+    slot.begin + index * slot.step + size_of var.kind * rank_in (drop 1 (lengths_of proto var.dims)) rest
 
 -- a variable has a slot of this number in the file of a row of the prototype's collection
 pub record HasSlotIn (proto : Proto) (row : Row) (var : ProtoVar) (number : ℕ) : Type 0 where
@@ -71,11 +71,11 @@ pub record HasSlotIn (proto : Proto) (row : Row) (var : ProtoVar) (number : ℕ)
   pub row_is : IsRowOf proto row
   pub slotted : slice_get (slotted_vars proto) number ≡ Some var
 
--- the elements that a variable has in a row's file, at the row's place, lie one after another in these bytes from this
--- place on
+-- the elements that a variable has in a row's file, at the row's index, lie one after another in these bytes from this
+-- offset on
 pub record LiesInFile (proto : Proto) (row : Row) (var : ProtoVar) (bytes : List ℕ) (begin : ℕ) : Type 0 where
   pub within : begin + size_of var.kind * product (drop 1 (lengths_of proto var.dims)) ≤ length bytes
-  pub each : (rest : List ℕ) → element_in row.file var.name (row.place ∷ rest) ≡ take (size_of var.kind)
+  pub each : (rest : List ℕ) → element_in row.file var.name (row.index ∷ rest) ≡ take (size_of var.kind)
       (drop (begin + size_of var.kind * rank_in (drop 1 (lengths_of proto var.dims)) rest) bytes)
 
 -- a variable is one of a prototype's and isn't the axis; where it lies along the axis, it has a slot of this number,
@@ -88,7 +88,7 @@ pub record HasBlock (proto : Proto) (rows : List Row) (var : ProtoVar) (number :
   pub row_there : var.timed ≡ true → slice_index index 0 < length rows
 
 -- the elements of a variable that an index list's row has, or all of one without time, lie one after another in these
--- bytes from this place on
+-- bytes from this offset on
 pub record IsBlock (proto : Proto) (rows : List Row) (var : ProtoVar) (index bytes : List ℕ)
     (begin : ℕ) : Type 0 where
   pub within : begin + size_of var.kind * product (row_shape proto var) ≤ length bytes

@@ -9,12 +9,12 @@ use Rattle.fm_model.specs.Load.{Fits}
 use Rattle.fm_model.specs.Rows.{HasHeldFile}
 
 -- a row is of a file that fits the prototype and is within the limit, with the file's run, and with the time at its
--- place as its valid time
+-- index as its valid time
 pub record IsRowOf (proto : Proto) (row : Row) : Type 0 where
   pub fits : Fits row.file proto
   pub small : length row.file.content ≤ MAX_BYTES
   pub run_is : row.file.run ≡ row.run
-  pub time_is : slice_get row.file.times row.place ≡ Some row.valid
+  pub time_is : slice_get row.file.times row.index ≡ Some row.valid
 
 -- there are 1 to 262,144 rows, each of the prototype's collection
 pub record AreRows (proto : Proto) (rows : List Row) : Type 0 where
@@ -26,4 +26,4 @@ pub record AreRows (proto : Proto) (rows : List Row) : Type 0 where
 pub record IsOfLatestRun (files : List Loaded) (row : Row) : Type 0 where
   pub held : HasHeldFile files row
   pub best : IsBest files row.valid None row.run
-  pub cell : IsCell files row.run row.valid row.file row.place
+  pub cell : IsCell files row.run row.valid row.file row.index

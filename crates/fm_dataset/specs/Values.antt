@@ -60,10 +60,10 @@ element_in file name index = result_unwrap_or (do
   var ← file_var header name
   Ok (element file.content header var index)) []
 
--- an element of a variable along the axis: the first index picks a row, and the others are those at its place
+-- an element of a variable along the axis: the first index picks a row, and the others are those at its index
 unfoldable pub element_along : List Row → ProtoVar → List ℕ → List ℕ
 element_along rows var index =
-    option_map_or (λ (row : Row). element_in row.file var.name (row.place ∷ drop 1 index))
+    option_map_or (λ (row : Row). element_in row.file var.name (row.index ∷ drop 1 index))
     (slice_get rows (slice_index index 0)) []
 
 -- an element of a variable without time, which the prototype has

@@ -20,23 +20,23 @@ fn slot_at(slots: &[Slot], number: usize) -> Slot
     slots[number]
 }
 
-// The row at a place.
-fn row_at(rows: &Rows, place: usize) -> &Row
-    requires { place < length rows.now }
-    ensures { slice_get rows.now place ≡ Some result.now }
+// The row at an index.
+fn row_at(rows: &Rows, index: usize) -> &Row
+    requires { index < length rows.now }
+    ensures { slice_get rows.now index ≡ Some result.now }
 {
-    match rows.get(place) {
+    match rows.get(index) {
         None => unreachable!(),
         Some(row) => row,
     }
 }
 
-// Where a slot's data begins at a place among the times, within a length.
-fn begin_in(slot: Slot, place: u64, len: u64) -> u64
-    requires { slot.begin + place * slot.step ≤ len }
-    ensures { result ≡ slot.begin + place * slot.step }
+// Where a slot's data begins at an index among the times, within a length.
+fn begin_in(slot: Slot, index: u64, len: u64) -> u64
+    requires { slot.begin + index * slot.step ≤ len }
+    ensures { result ≡ slot.begin + index * slot.step }
 {
-    slot.begin + place * slot.step
+    slot.begin + index * slot.step
 }
 
 // Where the elements of a variable along the axis lie in the file of a row.
@@ -47,7 +47,7 @@ fn block_in_file<'a>(proto: &Proto, row: &'a Row, var: &ProtoVar, number: usize)
     let file = row.file.get();
     let slot = slot_at(file.slots.as_slice(), number);
     let bytes = file.content.as_slice();
-    let begin = begin_in(slot, u64::from(row.place), bytes.len() as u64);
+    let begin = begin_in(slot, u64::from(row.index), bytes.len() as u64);
     Block { bytes, begin }
 }
 

@@ -12,8 +12,8 @@ use fm_rows::Rows;
 use std::alloc::Global;
 
 /// The dataset of a view: its rows over a prototype, under a label. The caller has 1 to 262,144 rows, each of a file
-/// that fits the prototype, of at most 3,221,225,472 bytes, with that file's run, a place among its times, and the time
-/// at that place as valid time.
+/// that fits the prototype, of at most 3,221,225,472 bytes, with that file's run, an index among its times, and the
+/// time at that index as valid time.
 ///
 /// The rows are moved, in pages that others may share, and the prototype is shared; it takes memory and time for the
 /// declarations alone.

@@ -106,7 +106,7 @@ impl<'a> Column<'a> {
     ///
     /// The axis gives the valid time of the row that the first index picks, or its run in the dataset of a constant
     /// forecast time; the runs and the offsets are those of the rows. Another variable along the axis has the element
-    /// of the variable of its name in the row's file, at the row's place and the other indices; one without time has
+    /// of the variable of its name in the row's file, at the row's index and the other indices; one without time has
     /// the prototype's.
     #[tactic(auto, unfolding(crate::specs::Values::bits_of))]
     pub fn bits(&self, index: &[u64]) -> u64

@@ -34,8 +34,8 @@ fn is_coordinate_of(proto: &Proto, id: usize, var: &ProtoVar) -> bool
 fn repeats(ids: &[u32]) -> bool
     ensures { result ≡ spec.repeats ids.now }
 {
-    for (place, id) in ids.iter().enumerate() {
-        let (_, others) = ids.split_at(place + 1);
+    for (index, id) in ids.iter().enumerate() {
+        let (_, others) = ids.split_at(index + 1);
         if lies_along(*id, others) {
             return true;
         }

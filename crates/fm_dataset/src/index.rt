@@ -59,8 +59,8 @@ pub(crate) fn rank(proto: &Proto, ids: &[u32], index: &[u64], most: u64) -> u64
     ensures { result ≡ rank_in (map (length_at proto.now) ids.now) index.now }
 {
     let mut rank = 0;
-    for (place, id) in ids.iter().enumerate() {
-        rank = rank * length_at(proto, *id) + index[place];
+    for (at, id) in ids.iter().enumerate() {
+        rank = rank * length_at(proto, *id) + index[at];
     }
     rank
 }

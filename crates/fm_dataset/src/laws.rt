@@ -42,13 +42,13 @@ pub fn a_part_declares_the_variable_of_its_values()
         → IsPart shown.proto (length shown.rows) decl part array }
 {}
 
-/// Each value along the axis is in the file of its row, at the row's place and the other indices. In the best time
+/// Each value along the axis is in the file of its row, at the row's index and the other indices. In the best time
 /// series that file is the last of the latest run that has the row's valid time.
 pub fn a_value_is_in_the_file_of_its_row()
     ensures any { (proto : Proto) (shown : List Row) (var : ProtoVar) (row : Row) (n : ℕ)
         (rest : List ℕ) → var.timed ≡ true → slice_get shown n ≡ Some row
         → element_of proto shown var (n ∷ rest)
-        ≡ element_in row.file var.name (row.place ∷ rest) }
+        ≡ element_in row.file var.name (row.index ∷ rest) }
     ensures best { (files : List Loaded) (row : Row) (n : ℕ) →
         slice_get (rows files Best) n ≡ Some row → IsOfLatestRun files row }
 {}

@@ -15,11 +15,11 @@ pub(crate) fn var_at(vars: &[ProtoVar], number: usize) -> Option<&ProtoVar>
     vars.get(number)
 }
 
-// The number of a dimension at a place.
-fn dim_of(ids: &[u32], place: usize) -> Option<u32>
-    ensures { result ≡ slice_get ids.now place }
+// The number of a dimension at an index.
+fn dim_of(ids: &[u32], index: usize) -> Option<u32>
+    ensures { result ≡ slice_get ids.now index }
 {
-    ids.get(place).copied()
+    ids.get(index).copied()
 }
 
 // The number of the variable that is a part of a declaration, or one past the last where there is none.
@@ -42,11 +42,11 @@ pub(crate) fn number_of_part(proto: &Proto, coordinates: &[usize], decl: u32, pa
     }
 }
 
-// The number at a place, or 0 past the last.
-pub(crate) fn number_at(numbers: &[usize], place: usize) -> usize
-    ensures { result ≡ slice_index numbers.now place }
+// The number at an index, or 0 past the last.
+pub(crate) fn number_at(numbers: &[usize], index: usize) -> usize
+    ensures { result ≡ slice_index numbers.now index }
 {
-    match numbers.get(place) {
+    match numbers.get(index) {
         None => 0,
         Some(number) => *number,
     }

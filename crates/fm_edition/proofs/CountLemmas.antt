@@ -28,7 +28,7 @@ unfolding best_row row_at
 is_some-best_row files least valid = by_best (best files valid least) refl
   where
     own : ℤ → Option Row
-    own run = option_map (λ (found : Loaded × ℕ). record { valid = valid; run = run; file = found.0; place = found.1 })
+    own run = option_map (λ (found : Loaded × ℕ). record { valid = valid; run = run; file = found.0; index = found.1 })
         (cell files run valid)
 
     by_best : (o : Option ℤ) → best files valid least ≡ o → is_some (option_and_then own o) ≡ is_some o

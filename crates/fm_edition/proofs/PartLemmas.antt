@@ -7,7 +7,7 @@ use Rattle.std.specs.Cmp.{signed_Decides}
 use Rattle.std.proofs.lemmas.Bool.{and_parts, both_ways}
 use Rattle.std.proofs.lemmas.List.Elements.{All-filter}
 use Rattle.fm_model.specs.declared.loaded.Loaded.{Loaded}
-use Rattle.fm_model.specs.Cell.{best, cell, has_cell, has_time, last_such, place_of_time, times_of, times_of_run, HasCell, HasTimeFrom}
+use Rattle.fm_model.specs.Cell.{best, cell, has_cell, has_time, last_such, index_of_time, times_of, times_of_run, HasCell, HasTimeFrom}
 use Rattle.fm_model.proofs.BestLemmas.{IsBest-from_best, best-from_IsBest, no_best_both}
 use Rattle.fm_model.proofs.CellLemmas.{in-has}
 use Rattle.fm_model.proofs.Members.{All-from_each, Any-from_in, Each-from_in, In-filter, in_filter, in_from_Any, in_from_Contains}
@@ -38,7 +38,7 @@ last_such-filter {A} test selects has (x ∷ xs) = by_tests (selects x) (test x)
 -- the files by a valid time have its cells
 pub cell-part : (files : List Loaded) (run valid : ℤ) → cell (part Time files valid) run valid ≡ cell files run valid
 unfolding cell part selects has_cell
-cell-part files run valid = ap (option_map (λ file. (file, place_of_time valid file)))
+cell-part files run valid = ap (option_map (λ file. (file, index_of_time valid file)))
     (last_such-filter (has_cell run valid) (has_time valid)
     (λ file has. (and_parts (int_eq file.run run) (has_time valid file) has).1) files)
 

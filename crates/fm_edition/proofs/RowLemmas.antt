@@ -25,7 +25,7 @@ unfolding best_row row_at
 best_row-part files valid least = rw (best-part files valid least) (by_best (best files valid least))
   where
     row : Loaded × ℕ → ℤ → Row
-    row found run = record { valid = valid; run = run; file = found.0; place = found.1 }
+    row found run = record { valid = valid; run = run; file = found.0; index = found.1 }
 
     own : ℤ → Option Row
     own run = option_map (λ (found : Loaded × ℕ). row found run) (cell (part Time files valid) run valid)

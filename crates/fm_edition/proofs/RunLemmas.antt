@@ -9,7 +9,7 @@ use Rattle.std.proofs.lemmas.List.{length-map}
 use Rattle.fm_model.specs.declared.limit.TheConstants.{MAX_FILES}
 use Rattle.fm_model.specs.declared.loaded.Loaded.{Loaded}
 use Rattle.fm_model.specs.declared.row.Row.{Row}
-use Rattle.fm_model.specs.Cell.{cell, has_cell, has_time, place_of_time, runs_of, HasCell}
+use Rattle.fm_model.specs.Cell.{cell, has_cell, has_time, index_of_time, runs_of, HasCell}
 use Rattle.fm_model.specs.Collection.{tally, IsWithin}
 use Rattle.fm_model.specs.LoadTimes.{IsInstant}
 use Rattle.fm_model.specs.Rows.{row_at}
@@ -29,7 +29,7 @@ use Rattle.fm_edition.proofs.TallyLemmas.{bounds}
 -- the files of a run have its cells
 cell-part_of_run : (files : List Loaded) (run valid : ℤ) → cell (part Run files run) run valid ≡ cell files run valid
 unfolding cell part selects has_cell
-cell-part_of_run files run valid = ap (option_map (λ file. (file, place_of_time valid file)))
+cell-part_of_run files run valid = ap (option_map (λ file. (file, index_of_time valid file)))
     (last_such-filter (has_cell run valid) (λ (f : Loaded). int_eq f.run run)
     (λ file has. (and_parts (int_eq file.run run) (has_time valid file) has).0) files)
 
@@ -39,7 +39,7 @@ unfolding row_at
 row_at-part files run valid = ap (option_map row) (cell-part_of_run files run valid)
   where
     row : Loaded × ℕ → Row
-    row found = record { valid = valid; run = run; file = found.0; place = found.1 }
+    row found = record { valid = valid; run = run; file = found.0; index = found.1 }
 
 -- the rows of all entries are those of an offset
 pub rows-at_offset : (files : List Loaded) (seconds : ℤ) (pages : Pages) → AreParts Run files pages

@@ -29,7 +29,7 @@ pub(crate) fn push_row(
             valid,
             run,
             file: file.share()?,
-            place: index,
+            index,
         }),
         None => Ok(()),
     }

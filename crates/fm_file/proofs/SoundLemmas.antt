@@ -13,7 +13,7 @@ use Rattle.nc_model.specs.Layout.{layout_fault}
 use Rattle.nc_model.specs.Reading.{header_or_fault}
 use Rattle.nc_model.specs.Sound.{sound_header}
 use Rattle.nc_layout.specs.Faults.{layout_or_fault}
-use Rattle.nc_layout.specs.Places.{LaidOut}
+use Rattle.nc_layout.specs.LaidOut.{LaidOut}
 use Rattle.nc_layout.proofs.ReadLemmas.{layout_fault-none, layout_fault-some}
 
 -- what holds of each fault holds of a result's

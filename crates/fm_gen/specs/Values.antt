@@ -6,7 +6,7 @@ use Rattle.fm_gen.specs.Fields.{word}
 unfoldable pub next : ℕ → ℕ
 next x = (1664525 * x + 1013904223) % 2 ^ 32
 
--- the number n places after a number of the sequence
+-- the n-th number after a number of the sequence
 unfoldable pub number_after : ℕ → ℕ → ℕ
 number_after x zero = x
 number_after x (suc n) = next (number_after x n)

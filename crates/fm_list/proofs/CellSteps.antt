@@ -7,7 +7,7 @@ use Rattle.std.proofs.lemmas.Bool.Decides.{nat_tests}
 use Rattle.std.proofs.lemmas.List.{take_more}
 use Rattle.std.proofs.lemmas.Option.{none-some, same_Some}
 use Rattle.fm_model.specs.declared.loaded.Loaded.{Loaded}
-use Rattle.fm_model.specs.Cell.{cell, has_cell, has_time, last_such, place_of_time}
+use Rattle.fm_model.specs.Cell.{cell, has_cell, has_time, last_such, index_of_time}
 use Rattle.fm_model.proofs.LastLemmas.{last_such-is, no_value}
 use Rattle.fm_list.specs.Found.{cell_in}
 
@@ -53,27 +53,27 @@ cell_in-other_run run valid file e = rw e refl
 
 pub cell_in-own_run : (run valid : ℤ) (file : Loaded) → int_eq file.run run ≡ true → cell_in run valid file
     ≡ position (λ time. int_eq time valid) file.times
-unfolding cell_in has_cell has_time place_of_time
+unfolding cell_in has_cell has_time index_of_time
 cell_in-own_run run valid file e = rw (e, below_length (λ time. int_eq time valid) file.times) refl
 
 -- the cell of a file, by the time's index in it
 found_parts : (run valid : ℤ) (file : Loaded) (index : ℕ) → cell_in run valid file ≡ Some index
-    → (has_cell run valid file ≡ true) × (place_of_time valid file ≡ index)
+    → (has_cell run valid file ≡ true) × (index_of_time valid file ≡ index)
 unfolding cell_in
 found_parts run valid file index e = by_test (has_cell run valid file) refl e
   where
-    by_test : (b : Bool) → has_cell run valid file ≡ b → cond b (Some (place_of_time valid file)) None ≡ Some index
-        → (has_cell run valid file ≡ true) × (place_of_time valid file ≡ index)
-    by_test true is e = (is, same_Some (place_of_time valid file) index e)
+    by_test : (b : Bool) → has_cell run valid file ≡ b → cond b (Some (index_of_time valid file)) None ≡ Some index
+        → (has_cell run valid file ≡ true) × (index_of_time valid file ≡ index)
+    by_test true is e = (is, same_Some (index_of_time valid file) index e)
     by_test false is e = absurd (none-some index e)
 
 lacks_cell : (run valid : ℤ) (file : Loaded) → cell_in run valid file ≡ None → has_cell run valid file ≡ false
 unfolding cell_in
 lacks_cell run valid file e = by_test (has_cell run valid file) refl e
   where
-    by_test : (b : Bool) → has_cell run valid file ≡ b → cond b (Some (place_of_time valid file)) None ≡ None
+    by_test : (b : Bool) → has_cell run valid file ≡ b → cond b (Some (index_of_time valid file)) None ≡ None
         → has_cell run valid file ≡ false
-    by_test true is e = absurd (no_value (place_of_time valid file) e)
+    by_test true is e = absurd (no_value (index_of_time valid file) e)
     by_test false is e = is
 
 -- the file at which the walk stops has the cell

@@ -1,5 +1,5 @@
 //! What an operation takes out of some files and adds to them.
-ghost use Rattle.std.specs.Prelude.{◌≡◌, ◌++◌, IfOk, OnOk, filter};
+ghost use Rattle.std.specs.Prelude.{◌≡◌, ◌++◌, IfOk, OnErr, OnOk, filter, length, take};
 ghost use Rattle.fm_list.specs.Change as spec;
 
 use crate::placed::Placed;
@@ -34,7 +34,8 @@ pub fn kept(alloc: Global, files: &[Placed], op: &Op) -> Result<List<Placed>, No
 
 /// Adds the files that an operation takes out of some.
 pub fn push_gone(gone: &mut List<Placed>, files: &[Placed], op: &Op) -> Result<(), NoMemory>
-    ensures { OnOk result (gone.new ≡ gone.old ++ spec.gone files.now op.now) }
+    ensures ok { OnOk result (gone.new ≡ gone.old ++ spec.gone files.now op.now) }
+    ensures err { OnErr result (take (length gone.old) gone.new ≡ gone.old) }
 {
     for file in files {
         if !keeps(op, file.get()) {

@@ -44,13 +44,13 @@ pub fn shares_run(files: &[Placed], others: &[Placed]) -> bool
     others.iter().any(|other| has_run(files, other.run()))
 }
 
-// An index of a valid time among some times: the place where it may stand, or what a search finds. Where the times
+// An index of a valid time among some times: a guess where it stands there, or what a search finds. Where the times
 // don't rise, a search may find none.
-fn searched(times: &[i64], place: usize, valid: i64) -> Option<usize>
+fn searched(times: &[i64], guess: usize, valid: i64) -> Option<usize>
     ensures { IfSome result (λ index. slice_get times.now index ≡ Some valid) }
 {
-    if place < times.len() && times[place] == valid {
-        return Some(place);
+    if guess < times.len() && times[guess] == valid {
+        return Some(guess);
     }
     match times.binary_search(&valid) {
         Ok(index) => Some(index),
@@ -66,11 +66,11 @@ fn walked(times: &[i64], valid: i64) -> Option<usize>
 }
 
 // The first index of a valid time among times that differ. A walk finds what a search may not.
-fn index_of(times: &[i64], place: usize, valid: i64) -> Option<usize>
+fn index_of(times: &[i64], guess: usize, valid: i64) -> Option<usize>
     requires { AllPairs (λ time other. time ≢ other) times.now }
     ensures { result ≡ position (λ time. int_eq time valid) times.now }
 {
-    if let Some(index) = searched(times, place, valid) {
+    if let Some(index) = searched(times, guess, valid) {
         return Some(index);
     }
     walked(times, valid)
@@ -85,7 +85,7 @@ fn index_in(file: &Placed, run: i64, valid: i64) -> Option<u32>
     if own != run {
         return None;
     }
-    match index_of(file.get().times.as_slice(), file.place(), valid) {
+    match index_of(file.get().times.as_slice(), file.index(), valid) {
         Some(index) => Some(index as u32),
         None => None,
     }

@@ -37,7 +37,7 @@ pub fn best_among(files: &[Placed], valid: i64, least: Option<i64>) -> Option<i6
     greatest
 }
 
-// Some files, and one more where it is found by an instant. Where its times rise, the time stands at its place among
+// Some files, and one more where it is found by an instant. Where its times rise, the time stands at its index among
 // its own instants.
 fn with_selected(
     mut files: List<Placed>,
@@ -51,8 +51,8 @@ fn with_selected(
 {
     match index_among(own, key) {
         None => Ok(files),
-        Some(place) => {
-            files.push(Placed::new(file.share()?, place))?;
+        Some(index) => {
+            files.push(Placed::new(file.share()?, index))?;
             Ok(files)
         }
     }

@@ -1,4 +1,4 @@
-//! A file beside its run, and beside the place of one of its times, so that a look-up finds them where it looks.
+//! A file beside its run, and beside the index of one of its times, so that a look-up finds them where it looks.
 
 use fm_base::{Arc, NoMemory};
 use fm_model::Loaded;
@@ -9,7 +9,7 @@ use std::marker::Model;
 pub struct Placed {
     file: Arc<Loaded>,
     run: i64,
-    place: usize,
+    index: usize,
 }
 
 impl Model for Placed {
@@ -27,11 +27,11 @@ impl Placed {
     ghost use Rattle.std.specs.Prelude.{◌≡◌, IfOk};
 
     /// A file, and where a time may stand.
-    pub fn new(file: Arc<Loaded>, place: usize) -> Placed
+    pub fn new(file: Arc<Loaded>, index: usize) -> Placed
         ensures { result ≡ file }
     {
         let run = file.get().run;
-        Placed { file, run, place }
+        Placed { file, run, index }
     }
 
     /// The file.
@@ -54,8 +54,8 @@ impl Placed {
     }
 
     // Where a time may stand. Whoever asks looks whether it does.
-    pub(crate) fn place(&self) -> usize {
-        self.place
+    pub(crate) fn index(&self) -> usize {
+        self.index
     }
 
     /// One more owner of the file.
@@ -66,7 +66,7 @@ impl Placed {
         Ok(Placed {
             file,
             run: self.run,
-            place: self.place,
+            index: self.index,
         })
     }
 }

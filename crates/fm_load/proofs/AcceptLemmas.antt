@@ -174,8 +174,8 @@ not_below n = grind (arith, nat_tests)
 bytes-accepted : (name bytes : List ℕ) → same_bytes name bytes bytes ≡ Ok tt
 unfolding same_bytes
 bytes-accepted name bytes =
-    ap (λ place. refuse_if (nat_lt place (length bytes))
-    (GridDiffers name place (slice_index bytes place) (slice_index bytes place))) (all_common bytes)
+    ap (λ index. refuse_if (nat_lt index (length bytes))
+    (GridDiffers name index (slice_index bytes index) (slice_index bytes index))) (all_common bytes)
     ∙ ap (λ other. refuse_if other
     (GridDiffers name (length bytes) (slice_index bytes (length bytes)) (slice_index bytes (length bytes))))
     (not_below (length bytes))

@@ -3,7 +3,7 @@ use Rattle.std.specs.Prelude.{◌≡◌, ℕ, ◌<◌, [], ◌∷◌}
 use Rattle.nc_model.specs.declared.header.NcVar.{NcVar}
 use Rattle.nc_model.specs.Layout.{shape_of, size_at}
 use Rattle.fm_model.specs.Variable.{dim_of_axis}
-use Rattle.nc_layout.specs.Places.{IsVar, LaidOut}
+use Rattle.nc_layout.specs.LaidOut.{IsVar, LaidOut}
 
 -- the variable of this number is this one, and lies along one dimension alone, whose length is this count
 pub record IsAxis (laid : LaidOut) (number : ℕ) (var : NcVar) (count : ℕ) : Type 0 where

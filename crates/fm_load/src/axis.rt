@@ -4,7 +4,7 @@ ghost use Rattle.fm_base.specs.Answer.{AnswersAs};
 ghost use Rattle.nc_model.specs.Layout.{record_size};
 ghost use Rattle.fm_model.specs.LoadAxis as spec;
 ghost use Rattle.fm_model.specs.declared.limit.TheConstants.{MAX_FILE_BYTES};
-ghost use Rattle.nc_layout.specs.Places.{IsVar};
+ghost use Rattle.nc_layout.specs.LaidOut.{IsVar};
 
 use fm_base::{Bytes, Fail, fault_as};
 use fm_file::{is_coordinate, read_sound, var_number};

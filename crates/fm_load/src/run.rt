@@ -2,7 +2,7 @@
 ghost use Rattle.std.specs.Prelude.{◌≡◌, IfOk, map};
 ghost use Rattle.fm_base.specs.Answer.{Answers};
 ghost use Rattle.fm_model.specs.LoadTimes as spec;
-ghost use Rattle.nc_layout.specs.Places.{IsVar};
+ghost use Rattle.nc_layout.specs.LaidOut.{IsVar};
 
 use crate::lengths::has_one_element;
 use crate::units::{file_units, from_epoch, is_instant, seconds_at};

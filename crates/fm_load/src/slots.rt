@@ -5,7 +5,7 @@ ghost use Rattle.nc_model.specs.Layout.{record_size};
 ghost use Rattle.fm_load.specs.Axis.{IsAxis};
 ghost use Rattle.fm_model.specs.LoadVars as spec;
 ghost use Rattle.fm_model.specs.Variable.{dim_of_axis, stands_first_alone};
-ghost use Rattle.nc_layout.specs.Places.{IsVar};
+ghost use Rattle.nc_layout.specs.LaidOut.{IsVar};
 
 use crate::axis::{Axis, file_var};
 use crate::grid::same_grid;

@@ -3,7 +3,7 @@ ghost use Rattle.std.specs.Prelude.{◌≡◌};
 ghost use Rattle.fm_base.specs.Answer.{Answers};
 ghost use Rattle.nc_model.specs.Layout.{IsIndex, shape_of};
 ghost use Rattle.fm_model.specs.LoadTimes as spec;
-ghost use Rattle.nc_layout.specs.Places.{IsVar};
+ghost use Rattle.nc_layout.specs.LaidOut.{IsVar};
 
 use fm_base::Fail;
 use fm_bits::{pattern_at, whole_seconds};

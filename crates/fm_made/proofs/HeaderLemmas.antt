@@ -8,7 +8,7 @@ use Rattle.nc_model.specs.declared.header.Header.{Header as FileHeader}
 use Rattle.nc_model.specs.declared.fault.FormatFault.TheVariants.{OfHeader, OfLayout}
 use Rattle.fm_base.specs.Chain.{◌>>=◌, ◌>>◌, refuse, fault_as}
 use Rattle.nc_model.specs.Format.{IsBytes, is_name_text, has_name, has_record_dim}
-use Rattle.nc_model.specs.Layout.{product, vsize, record_size, rank_in, place_of, first_too_large, first_outside, layout_fault}
+use Rattle.nc_model.specs.Layout.{product, vsize, record_size, rank_in, offset_of, first_too_large, first_outside, layout_fault}
 use Rattle.nc_model.specs.Reading.{word as word_at, long_word, count, padded, name_at, kind_at, items_from, tag_at, list_count, list_at, dim_size, dim_at, attr_at, rank_at, names_record_dim, dim_id_at, begin_at, var_at, version_at, numrecs_at, header_at, header_or_fault}
 use Rattle.nc_model.specs.Sound.{sound_header}
 use Rattle.nc_model.proofs.HeaderLaws.{HeaderOf-from_read, read-from_HeaderOf}
@@ -124,7 +124,7 @@ read_made seed k =
     ∙ read_before (grid ++ (grid ++ records))
 
 no_fault : layout_fault made_header 17240 ≡ None
-unfolding product vsize record_size rank_in place_of first_too_large first_outside layout_fault names_record_dim
+unfolding product vsize record_size rank_in offset_of first_too_large first_outside layout_fault names_record_dim
 no_fault = refl
 
 -- the header of each made file, which has no fault

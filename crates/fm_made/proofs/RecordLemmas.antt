@@ -2,7 +2,7 @@
 use Rattle.std.proofs.Common.{◌≡◌, ℕ, zero, suc, ◌+◌, ◌*◌, ◌<◌, ◌≤◌, ◌⊎◌, inl, inr, List, [], ◌∷◌, ◌++◌, length, take, drop, refl, sym, ap, ◌∙◌, arith, append_assoc}
 use Rattle.std.proofs.Math.Seq.{drop-append-add, take-append_seam}
 use Rattle.std.proofs.lemmas.List.{append-nil, drop-append-le, drop-drop, drop_at}
-use Rattle.nc_model.specs.Layout.{element, elements_of, indices_of, place_of, product, rank_in, record_size, vsize}
+use Rattle.nc_model.specs.Layout.{element, elements_of, indices_of, offset_of, product, rank_in, record_size, vsize}
 use Rattle.nc_model.specs.Reading.{names_record_dim}
 use Rattle.fm_gen.specs.Fields.{word, counted, dim_text, attr_text, shape_text, var_front, var_end}
 use Rattle.fm_gen.specs.File.{dims_text, time_text, lat_text, lon_text, v_text, vars_text, header_text, made_file}
@@ -15,14 +15,14 @@ use Rattle.fm_made.proofs.HeaderLemmas.{front, length-front, length-records_text
 lat_before : (rest : List ℕ) → elements_of (header_text ++ steps_text 8 ++ steps_text 8 ++ rest) made_header lat_var
     ≡ steps_text 8
 unfolding word counted dim_text attr_text shape_text var_front var_end dims_text time_text lat_text lon_text v_text
-    vars_text header_text steps_text element elements_of indices_of place_of product rank_in record_size vsize
+    vars_text header_text steps_text element elements_of indices_of offset_of product rank_in record_size vsize
     names_record_dim
 lat_before rest = refl
 
 lon_before : (rest : List ℕ) → elements_of (header_text ++ steps_text 8 ++ steps_text 8 ++ rest) made_header lon_var
     ≡ steps_text 8
 unfolding word counted dim_text attr_text shape_text var_front var_end dims_text time_text lat_text lon_text v_text
-    vars_text header_text steps_text element elements_of indices_of place_of product rank_in record_size vsize
+    vars_text header_text steps_text element elements_of indices_of offset_of product rank_in record_size vsize
     names_record_dim
 lon_before rest = refl
 
@@ -67,9 +67,9 @@ record_stands seed k j (suc n) below =
           }
     ]
 
-place_of-time : (j : ℕ) → place_of made_header time_var (j ∷ []) ≡ 340 + j * 260 + 4 * 0
-unfolding place_of product rank_in record_size vsize names_record_dim
-place_of-time j = refl
+offset_of-time : (j : ℕ) → offset_of made_header time_var (j ∷ []) ≡ 340 + j * 260 + 4 * 0
+unfolding offset_of product rank_in record_size vsize names_record_dim
+offset_of-time j = refl
 
 -- the bytes of time j are those of its number
 pub element-time : (seed k j : ℕ) → j < 65
@@ -80,8 +80,8 @@ element-time seed k j below =
     let words = word (time_of k j) in
     let values = values_text (number_at seed k (64 * j)) 64 in
     let long = length-front in
-    let place : 340 + j * 260 + 4 * 0 ≡ length front + 260 * j = omega (arith, long) in
-    ap (λ (n : ℕ). take 4 (drop n (made_file seed k))) (place_of-time j ∙ place)
+    let offset : 340 + j * 260 + 4 * 0 ≡ length front + 260 * j = omega (arith, long) in
+    ap (λ (n : ℕ). take 4 (drop n (made_file seed k))) (offset_of-time j ∙ offset)
     ∙ ap (λ (l : List ℕ). take 4 (drop (length front + 260 * j) l)) (parted seed k)
     ∙ ap (take 4) (drop-append-add front (records_text seed k 65) (260 * j) ∙ at.here
     ∙ append_assoc words values at.rest)
@@ -119,9 +119,9 @@ value_stands x m (suc n) below =
           }
     ]
 
-place_of-v : (j a b : ℕ) → place_of made_header v_var (j ∷ a ∷ b ∷ []) ≡ 344 + j * 260 + 4 * (a * 8 + (b * 1 + 0))
-unfolding place_of product rank_in record_size vsize names_record_dim
-place_of-v j a b = refl
+offset_of-v : (j a b : ℕ) → offset_of made_header v_var (j ∷ a ∷ b ∷ []) ≡ 344 + j * 260 + 4 * (a * 8 + (b * 1 + 0))
+unfolding offset_of product rank_in record_size vsize names_record_dim
+offset_of-v j a b = refl
 
 -- value m of record j, by the bytes from the record on
 value-of_record : (seed k j m : ℕ) (rest : List ℕ) → m < 64
@@ -152,9 +152,9 @@ element-v seed k j a b below first second =
     let at = record_stands seed k j 65 below in
     let m : ℕ = 8 * a + b in
     let long = length-front in
-    let place : 344 + j * 260 + 4 * (a * 8 + (b * 1 + 0)) ≡ length front + (260 * j + (4 + 4 * m)) =
+    let offset : 344 + j * 260 + 4 * (a * 8 + (b * 1 + 0)) ≡ length front + (260 * j + (4 + 4 * m)) =
     omega (arith, long) in
-    ap (λ (n : ℕ). take 4 (drop n (made_file seed k))) (place_of-v j a b ∙ place)
+    ap (λ (n : ℕ). take 4 (drop n (made_file seed k))) (offset_of-v j a b ∙ offset)
     ∙ ap (λ (l : List ℕ). take 4 (drop (length front + (260 * j + (4 + 4 * m))) l)) (parted seed k)
     ∙ ap (take 4) (drop-append-add front (records_text seed k 65) (260 * j + (4 + 4 * m))
     ∙ sym (drop-drop (4 + 4 * m) (260 * j) (records_text seed k 65)) ∙ ap (drop (4 + 4 * m)) at.here)

@@ -52,7 +52,7 @@ given : {A : Type 0} (o : Option A) (x d : A) → o ≡ Some x → unwrap_or o d
 given None x d is = absurd cc
 given (Some y) x d is = same_Some y x is
 
--- the time at a place of the list
+-- the time at an index of the list
 pub time_in : (k j : ℕ) (t : ℤ) → slice_get (times_of k 65) j ≡ Some t → (j < 65) × (t ≡ pos (time_of k j))
 time_in k j t is =
     let within = slice_get_within (times_of k 65) j t is in

@@ -8,7 +8,7 @@ use Rattle.std.proofs.lemmas.Bool.{and_parts, and_from, both_ways, cases_order, 
 use Rattle.std.proofs.lemmas.Option.{none-some, same_Some, some_pair_parts}
 use Rattle.fm_base.proofs.OptionLemmas.{mapped_some, mapped_none}
 use Rattle.fm_model.specs.declared.loaded.Loaded.{Loaded}
-use Rattle.fm_model.specs.Cell.{last_such, has_time, has_cell, place_of_time, cell, HasCell, IsCell}
+use Rattle.fm_model.specs.Cell.{last_such, has_time, has_cell, index_of_time, cell, HasCell, IsCell}
 use Rattle.fm_model.proofs.Members.{In, Each, Contains-from_in, in_from_Contains, In-append_right, Each-in, Each-weaker, All-from_each, each_from_All}
 use Rattle.fm_model.proofs.LastLemmas.{none_passes, last_such-none, last_such-is, is_last}
 
@@ -108,14 +108,14 @@ index_is valid times index e first = elim (cases_order (position_or_len (λ time
 
 pub IsCell-from_cell : (files : List Loaded) (run valid : ℤ) (file : Loaded) (index : ℕ)
     → cell files run valid ≡ Some (file, index) → IsCell files run valid file index
-unfolding cell place_of_time
+unfolding cell index_of_time
 IsCell-from_cell files run valid file index e =
-    let found = mapped_some (λ (f : Loaded). (f, place_of_time valid f)) (last_such (has_cell run valid) files)
+    let found = mapped_some (λ (f : Loaded). (f, index_of_time valid f)) (last_such (has_cell run valid) files)
     (file, index) e in
-    let parts = some_pair_parts found.0 file (place_of_time valid found.0) index (ap Some found.2) in
+    let parts = some_pair_parts found.0 file (index_of_time valid found.0) index (ap Some found.2) in
     let last = is_last (has_cell run valid) files file (found.1 ∙ ap Some parts.0) in
     let has = HasCell-from_test run valid file last.passes in
-    let at : position_or_len (λ time. int_eq time valid) file.times ≡ index = ap (place_of_time valid) (sym parts.0)
+    let at : position_or_len (λ time. int_eq time valid) file.times ≡ index = ap (index_of_time valid) (sym parts.0)
     ∙ parts.1 in
     record {
       before = last.before;
@@ -131,7 +131,7 @@ IsCell-from_cell files run valid file index e =
 
 pub cell-from_IsCell : (files : List Loaded) (run valid : ℤ) (file : Loaded) (index : ℕ)
     → IsCell files run valid file index → cell files run valid ≡ Some (file, index)
-unfolding cell place_of_time
+unfolding cell index_of_time
 cell-from_IsCell files run valid file index c =
     let has : HasCell run valid file = record {
       run_is = c.run_is;
@@ -156,7 +156,7 @@ unfolding cell
 none_from_no_cell files run valid e =
     Each-weaker _ _ (lack-from_test run valid) files
     (none_passes (has_cell run valid) files
-    (mapped_none (λ (f : Loaded). (f, place_of_time valid f)) (last_such (has_cell run valid) files) e))
+    (mapped_none (λ (f : Loaded). (f, index_of_time valid f)) (last_such (has_cell run valid) files) e))
 
 no_cell_from_none : (files : List Loaded) (run valid : ℤ) → Each (λ file. ¬ HasCell run valid file) files
     → cell files run valid ≡ None

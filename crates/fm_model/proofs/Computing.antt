@@ -1,7 +1,7 @@
 -- What the check computes in worked examples: `unfolding(..::NAME)` opens all that NAME opens.
 use Rattle.nc_model.specs.Calendar.{day_number, moment_of}
 use Rattle.nc_model.specs.Format.{is_name_text, has_name, has_record_dim}
-use Rattle.nc_model.specs.Layout.{element, elements_of, indices_of, place_of, product, rank_in, vsize, record_size, first_too_large, first_outside, layout_fault}
+use Rattle.nc_model.specs.Layout.{element, elements_of, indices_of, offset_of, product, rank_in, vsize, record_size, first_too_large, first_outside, layout_fault}
 use Rattle.fm_base.specs.Name.{is_name_byte}
 use Rattle.nc_model.specs.Pattern.{finite, value_of_fields}
 use Rattle.nc_model.specs.Reading.{names_record_dim, word, long_word, count, padded, name_at, kind_at, items_from, tag_at, list_count, list_at, dim_size, dim_at, attr_at, rank_at, dim_id_at, begin_at, var_at, version_at, numrecs_at, header_at, header_or_fault}
@@ -10,7 +10,7 @@ use Rattle.nc_model.specs.Stamp.{stamp_form, stamp_of, mark_of}
 use Rattle.nc_model.specs.Units.{is_proleptic, is_gregorian, is_before_gregorian, in_calendar, units_of}
 use Rattle.nc_model.specs.UnitsReading.{end_at, byte_at, letter_at, many_at, some_at, digits_at, number_at, is_same_word, is_second, is_minute, is_hour, is_day, seconds_per, unit_at, day_at, dashed_day_at, joined_day_at, after_year_at, date_at, fraction_at, second_at, past_hour_at, time_of_day_at, colon_minute_at, zone_minute_at, shift_at, zone_after, distance_at, zone_at, last_zone_at, clock_at, after_date_at, units_at, written_or_fault}
 use Rattle.fm_model.specs.Attribute.{attr_text, has_text, text_of, trimmed}
-use Rattle.fm_model.specs.Cell.{best, cell, has_cell, has_least_offset, has_time, is_usable, place_of_time, runs_of, times_of, times_of_run}
+use Rattle.fm_model.specs.Cell.{best, cell, has_cell, has_least_offset, has_time, is_usable, index_of_time, runs_of, times_of, times_of_run}
 use Rattle.fm_model.specs.Collection.{after_op, coll, kept_from, without}
 use Rattle.fm_model.specs.Computed.{chars, is_utf8, encode_utf8, count_trailing_zeros, day_count, days_from_civil, days_of_months, days_of_years}
 use Rattle.fm_model.specs.Load.{load_of}
@@ -26,7 +26,7 @@ use Rattle.fm_model.specs.Variable.{axis_of, has_standard_name, is_axis, is_coor
 -- the layout of a file
 unfoldable pub layouts : Unit {0}
 unfolding
-    element elements_of indices_of place_of product rank_in vsize record_size first_too_large first_outside
+    element elements_of indices_of offset_of product rank_in vsize record_size first_too_large first_outside
     layout_fault names_record_dim
 layouts = tt
 
@@ -91,6 +91,6 @@ collections = tt
 -- the rows of a view
 unfoldable pub views : Unit {0}
 unfolding
-    best cell has_cell has_least_offset has_time is_usable place_of_time runs_of times_of times_of_run insert_once
+    best cell has_cell has_least_offset has_time is_usable index_of_time runs_of times_of times_of_run insert_once
     rising best_row row_at rows
 views = tt

@@ -13,8 +13,8 @@ pub mod KeptLemmas
 pub mod LastLemmas
 pub mod LoadLemmas
 pub mod Members
+pub mod OffsetLemmas
 pub mod PackingLemmas
-pub mod PlaceLemmas
 pub mod ProtoLemmas
 pub mod RetractLemmas
 pub mod RisingLemmas

@@ -21,17 +21,17 @@ use Rattle.fm_model.proofs.RisingLemmas.{Above}
 pub record IsRowAt (files : List Loaded) (run valid : ℤ) (row : Row) : Type 0 where
   pub run_is : row.run ≡ run
   pub valid_is : row.valid ≡ valid
-  pub cell_is : cell files row.run row.valid ≡ Some (row.file, row.place)
+  pub cell_is : cell files row.run row.valid ≡ Some (row.file, row.index)
 
 pub IsRowAt-from_row_at : (files : List Loaded) (run valid : ℤ) (row : Row) → row_at files run valid ≡ Some row
     → IsRowAt files run valid row
 unfolding row_at
 IsRowAt-from_row_at files run valid row e =
-    let found = mapped_some (λ (c : Loaded × ℕ). record { valid = valid; run = run; file = c.0; place = c.1 })
+    let found = mapped_some (λ (c : Loaded × ℕ). record { valid = valid; run = run; file = c.0; index = c.1 })
     (cell files run valid) row e in
     subst (IsRowAt files run valid) found.2 (record { run_is = refl; valid_is = refl; cell_is = found.1 })
 
-pub row_at-from_cell : (files : List Loaded) (row : Row) → cell files row.run row.valid ≡ Some (row.file, row.place)
+pub row_at-from_cell : (files : List Loaded) (row : Row) → cell files row.run row.valid ≡ Some (row.file, row.index)
     → row_at files row.run row.valid ≡ Some row
 unfolding row_at
 row_at-from_cell files row e = rw e refl
@@ -97,12 +97,12 @@ Rises-rows files view = AllPairs-from_each Above (map (instant_in view) (rows fi
 -- a row stands for its cell, and the view shows it
 abbrev pub IsShown : List Loaded → ViewName → Row → Type 0
 IsShown files view row = (cell files row.run row.valid ≡ Some
-    (row.file, row.place)) × Shows files view row.run row.valid
+    (row.file, row.index)) × Shows files view row.run row.valid
 
 -- a row of a best time series stands for its cell, and is from the best run
 shown_from_best : (files : List Loaded) (least : Option ℤ) (row : Row)
     → In row (filter_map (best_row files least) (times_of files))
-    → (cell files row.run row.valid ≡ Some (row.file, row.place)) × (best files row.valid least ≡ Some row.run)
+    → (cell files row.run row.valid ≡ Some (row.file, row.index)) × (best files row.valid least ≡ Some row.run)
 shown_from_best files least row h =
     let found = in_filter_map (best_row files least) row (times_of files) h in
     let is = IsBestRow-from_best_row files least found.0 row found.2 in
@@ -126,7 +126,7 @@ shown_from_in files (Forecast valid) row h =
     (is.cell_is, is.valid_is)
 
 best_from_shown : (files : List Loaded) (least : Option ℤ) (row : Row)
-    → cell files row.run row.valid ≡ Some (row.file, row.place)
+    → cell files row.run row.valid ≡ Some (row.file, row.index)
     → best files row.valid least ≡ Some row.run → In row (filter_map (best_row files least) (times_of files))
 unfolding best_row
 best_from_shown files least row e is =
@@ -220,10 +220,10 @@ pub HasHeldFile-rows : (files : List Loaded) (view : ViewName) (row : Row) → C
     → HasHeldFile files row
 HasHeldFile-rows files view row c =
     let shown = (Contains-rows files view row).0 c in
-    let is = IsCell-from_cell files row.run row.valid row.file row.place shown.0 in
+    let is = IsCell-from_cell files row.run row.valid row.file row.index shown.0 in
     record {
       held = Contains-from_in row.file files
-          (held-from_cell files row.run row.valid row.file row.place is);
+          (held-from_cell files row.run row.valid row.file row.index is);
       run_is = is.run_is;
       time_is = is.time_is;
     }

@@ -4,7 +4,7 @@ use Rattle.std.specs.Prelude.{replicate}
 use Rattle.std.proofs.lemmas.Int.{ints}
 use Rattle.nc_model.specs.Format.{is_name_text, has_name, has_record_dim}
 use Rattle.fm_base.specs.Name.{is_name_byte}
-use Rattle.nc_model.specs.Layout.{product, vsize, record_size, rank_in, place_of, element, indices_of, elements_of, first_too_large, first_outside, layout_fault}
+use Rattle.nc_model.specs.Layout.{product, vsize, record_size, rank_in, offset_of, element, indices_of, elements_of, first_too_large, first_outside, layout_fault}
 use Rattle.nc_model.specs.Reading.{word, long_word, count, padded, name_at, kind_at, items_from, tag_at, list_count, list_at, dim_size, dim_at, attr_at, rank_at, names_record_dim, dim_id_at, begin_at, var_at, version_at, numrecs_at, header_at, header_or_fault}
 use Rattle.fm_model.specs.Attribute.{trimmed, attr_text, text_of, has_text}
 use Rattle.fm_model.specs.Computed.{chars, is_utf8, encode_utf8}
@@ -29,7 +29,7 @@ IsSite-site = record {
 }
 
 made_a : proto_of file_a site ≡ Ok proto_a
-unfolding is_name_text has_name has_record_dim is_name_byte product vsize record_size rank_in place_of element
+unfolding is_name_text has_name has_record_dim is_name_byte product vsize record_size rank_in offset_of element
     indices_of
     elements_of first_too_large first_outside layout_fault word long_word count padded name_at kind_at items_from tag_at
     list_count list_at dim_size dim_at attr_at rank_at names_record_dim dim_id_at begin_at var_at version_at numrecs_at

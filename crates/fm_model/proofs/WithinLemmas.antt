@@ -13,7 +13,7 @@ use Rattle.nc_model.specs.declared.header.Dim.{Dim}
 use Rattle.nc_model.specs.declared.header.Header.{Header as FileHeader}
 use Rattle.nc_model.specs.declared.header.NcVar.{NcVar}
 use Rattle.nc_model.specs.Kind.{size_of}
-use Rattle.nc_model.specs.Layout.{elements_of, end_of, place_of, product, rank_in, shape_of, size_at}
+use Rattle.nc_model.specs.Layout.{elements_of, end_of, offset_of, product, rank_in, shape_of, size_at}
 use Rattle.nc_model.specs.Spelling.{AreDistinct}
 use Rattle.nc_model.proofs.EndLaws.{EndsWithin, ends_within, length-elements_of, rank_in-last}
 use Rattle.fm_base.proofs.ChainLemmas.{ok_or_ok}
@@ -33,7 +33,7 @@ use Rattle.fm_model.proofs.GridLemmas.{IsGridBegun}
 use Rattle.fm_model.proofs.HeaderLemmas.{file_has_data}
 use Rattle.fm_model.proofs.LoadLemmas.{IsTaken, IsTaken-load_of}
 use Rattle.fm_model.proofs.Members.{In, Each, Each-in, Each-from_in, All-from_each, each_from_All, in_filter}
-use Rattle.fm_model.proofs.PlaceLemmas.{place_of-slot}
+use Rattle.fm_model.proofs.OffsetLemmas.{offset_of-slot}
 use Rattle.fm_model.proofs.SlotLemmas.{begun_grids, slots_each}
 use Rattle.fm_model.proofs.TimeLemmas.{times_count}
 
@@ -80,9 +80,9 @@ within_slot bytes header axis var first others k ends dims alone below some =
     subst (λ (l : List ℕ). 0 < product l) (sym shape)
     (positive_product (size_at header first) (product (map (size_at header) others)) (omega arith) some) in
     let last : List ℕ = map (λ n. n - 1) (map (size_at header) others) in
-    let offset = place_of-slot header axis var (size_at header first - 1) last alone in
-    let end : end_of header var ≡ place_of header var ((size_at header first - 1) ∷ last) + size_of var.kind =
-    ap (λ (l : List ℕ). place_of header var (map (λ n. n - 1) l) + size_of var.kind) shape in
+    let offset = offset_of-slot header axis var (size_at header first - 1) last alone in
+    let end : end_of header var ≡ offset_of header var ((size_at header first - 1) ∷ last) + size_of var.kind =
+    ap (λ (l : List ℕ). offset_of header var (map (λ n. n - 1) l) + size_of var.kind) shape in
     let begin : ℕ = (slot_in header axis var).begin in
     let step : ℕ = (slot_in header axis var).step in
     let rank = ap (λ (l : List ℕ). begin + (size_at header first - 1) * step + size_of var.kind * rank_in

@@ -33,12 +33,12 @@ unfoldable pub has_cell : ℤ → ℤ → Loaded → Bool
 has_cell run valid file = int_eq file.run run && has_time valid file
 
 -- the index of a valid time among a file's times
-unfoldable pub place_of_time : ℤ → Loaded → ℕ
-place_of_time valid file = position_or_len (λ time. int_eq time valid) file.times
+unfoldable pub index_of_time : ℤ → Loaded → ℕ
+index_of_time valid file = position_or_len (λ time. int_eq time valid) file.times
 
 -- the cell of a run and a valid time: the last file of that run with that time, and the time's index in it
 unfoldable pub cell : List Loaded → ℤ → ℤ → Option (Loaded × ℕ)
-cell files run valid = option_map (λ file. (file, place_of_time valid file)) (last_such (has_cell run valid) files)
+cell files run valid = option_map (λ file. (file, index_of_time valid file)) (last_such (has_cell run valid) files)
 
 -- whether a valid time lies at least the least offset after a run, where one is given
 unfoldable pub has_least_offset : Option ℤ → ℤ → ℤ → Bool

@@ -34,7 +34,7 @@ midnight_part = file_of (codes "gfs_0000_part.nc") (pos 0) (pos 64800 ∷ [])
 
 -- the row of a file at an index
 abbrev pub row_of : Loaded → ℤ → ℕ → Row
-row_of file valid index = record { valid = valid; run = file.run; file = file; place = index }
+row_of file valid index = record { valid = valid; run = file.run; file = file; index = index }
 
 -- a site whose epoch is 2020-01-01T00:00:00Z
 abbrev pub site : Site

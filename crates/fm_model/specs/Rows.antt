@@ -11,7 +11,7 @@ use Rattle.fm_model.specs.Cell.{runs_of, times_of, times_of_run, cell, best}
 
 -- the row of a run and a valid time, where they have a cell
 unfoldable pub row_at : List Loaded → ℤ → ℤ → Option Row
-row_at files run valid = option_map (λ found. record { valid = valid; run = run; file = found.0; place = found.1 })
+row_at files run valid = option_map (λ found. record { valid = valid; run = run; file = found.0; index = found.1 })
     (cell files run valid)
 
 -- the row of a valid time in a best time series, from the best run
@@ -48,4 +48,4 @@ Shows files (Forecast only) run valid = valid ≡ only
 pub record HasHeldFile (files : List Loaded) (row : Row) : Type 0 where
   pub held : Contains files row.file
   pub run_is : row.file.run ≡ row.run
-  pub time_is : slice_get row.file.times row.place ≡ Some row.valid
+  pub time_is : slice_get row.file.times row.index ≡ Some row.valid

@@ -3,14 +3,14 @@
 use crate::loaded::Loaded;
 use fm_base::Arc;
 
-/// A row of a view: the data of the run's file for the valid time, at index `place` of the file's times. Instants are
-/// seconds from the collection's epoch.
+/// A row of a view: the data of the run's file for the valid time, which stands at `index` among the file's times.
+/// Instants are seconds from the collection's epoch.
 #[derive(Drop)]
 pub struct Row {
     pub valid: i64,
     pub run: i64,
     pub file: Arc<Loaded>,
-    pub place: u32,
+    pub index: u32,
 }
 
 /// The best time series, the best time series with a least offset in seconds, or the dataset of a run, of a constant

@@ -15,7 +15,7 @@ pub record ArePages (pages : List Page) (len : ℕ) : Type 0 where
       → (slice_index_or pages i d).start ≡ length (rows_in (take i pages))
   pub whole : len ≡ length (rows_in pages)
 
--- the pages up to a number of them begin at or before a place, and those behind them after it
+-- the pages up to a number of them begin at or before an index, and those behind them after it
 abbrev pub AreBegun : List Page → ℕ → ℕ → Type 0
-AreBegun pages place begun = IsPartitionPoint (λ (p : Page). nat_le p.start place ≡ true)
-    (λ (p : Page). nat_le p.start place ≡ false) pages begun
+AreBegun pages index begun = IsPartitionPoint (λ (p : Page). nat_le p.start index ≡ true)
+    (λ (p : Page). nat_le p.start index ≡ false) pages begun

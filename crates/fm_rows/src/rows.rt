@@ -23,25 +23,25 @@ pub struct Rows {
     len: usize,
 }
 
-// How many pages begin at or before a place.
-fn begun_at(pages: &[Page], place: usize) -> usize
+// How many pages begin at or before an index.
+fn begun_at(pages: &[Page], index: usize) -> usize
     requires { IsNonDecreasingBy (λ page. page.start) pages.now }
     ensures bound { result ≤ length pages.now }
-    ensures begun { AreBegun pages.now place result }
+    ensures begun { AreBegun pages.now index result }
 {
     pages.partition_point(
         |page: &Page| -> bool
-            ensures { result ≡ nat_le page.now.start place }
-        { page.start <= place },
+            ensures { result ≡ nat_le page.now.start index }
+        { page.start <= index },
     )
 }
 
-// The row at a place of a page.
-fn row_at(rows: &[Row], place: usize) -> Option<&Row>
-    ensures found { IfSome result (λ row. slice_get rows.now place ≡ Some row.now) }
-    ensures none { IsNone result → slice_get rows.now place ≡ None }
+// The row at an index of a page.
+fn row_at(rows: &[Row], index: usize) -> Option<&Row>
+    ensures found { IfSome result (λ row. slice_get rows.now index ≡ Some row.now) }
+    ensures none { IsNone result → slice_get rows.now index ≡ None }
 {
-    rows.get(place)
+    rows.get(index)
 }
 
 impl Model for Rows {
@@ -98,7 +98,7 @@ impl Rows {
         self.push_stretch(Stretch::whole(page))
     }
 
-    /// Adds the rows of a page from one place up to another. It takes no memory for them. An `Err` changes nothing.
+    /// Adds the rows of a page from one index up to another. It takes no memory for them. An `Err` changes nothing.
     pub fn push_part(
         &mut self,
         page: Arc<List<Row>>,
@@ -127,18 +127,18 @@ impl Rows {
         self.len == 0
     }
 
-    /// The row at a place. `None` where there are no more than `place` rows. It takes as many steps as the number of
+    /// The row at an index. `None` where there are no more than `index` rows. It takes as many steps as the number of
     /// pages has binary digits.
-    pub fn get(&self, place: usize) -> Option<&Row>
-        ensures found { IfSome result (λ row. slice_get self.now place ≡ Some row.now) }
-        ensures none { IsNone result → slice_get self.now place ≡ None }
+    pub fn get(&self, index: usize) -> Option<&Row>
+        ensures found { IfSome result (λ row. slice_get self.now index ≡ Some row.now) }
+        ensures none { IsNone result → slice_get self.now index ≡ None }
     {
         let pages = self.pages.as_slice();
-        let begun = begun_at(pages, place);
+        let begun = begun_at(pages, index);
         if begun == 0 {
             return None;
         }
         let page = &pages[begun - 1];
-        row_at(page.rows.get(), place - page.start)
+        row_at(page.rows.get(), index - page.start)
     }
 }

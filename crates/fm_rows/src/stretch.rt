@@ -4,7 +4,7 @@ use fm_base::{Arc, List};
 use fm_model::Row;
 use std::marker::Model;
 
-// Some rows of a list that others may share, from one place up to another. A clause sees the rows alone.
+// Some rows of a list that others may share, from one index up to another. A clause sees the rows alone.
 #[derive(Drop)]
 pub(crate) struct Stretch {
     list: Arc<List<Row>>,
@@ -35,7 +35,7 @@ impl Stretch {
         Stretch { list, from: 0, to }
     }
 
-    // The rows from one place up to another.
+    // The rows from one index up to another.
     pub(crate) fn part(list: Arc<List<Row>>, from: usize, to: usize) -> Stretch
         requires order { from ≤ to }
         requires within { to ≤ length list }

@@ -15,11 +15,11 @@ fn row_of(edition: &Edition, run: i64, valid: i64) -> Result<Option<Row>, NoMemo
     ensures { IfOk result (λ row. row ≡ row_at edition.now.files run valid) }
 {
     match edition.cell(run, valid) {
-        Some((file, place)) => Ok(Some(Row {
+        Some((file, index)) => Ok(Some(Row {
             valid,
             run,
             file: file.share()?,
-            place,
+            index,
         })),
         None => Ok(None),
     }

@@ -9,8 +9,8 @@ use Rattle.nc_model.specs.declared.header.Header.{Header}
 use Rattle.nc_model.specs.declared.header.NcVar.{NcVar}
 use Rattle.nc_model.specs.Kind.{size_of}
 use Rattle.nc_model.specs.Layout.{product, rank_in, indices_of, is_record_var, fixed_shape, vsize, element, elements_of}
-use Rattle.nc_layout.specs.Places.{part_begin, part_count}
-use Rattle.nc_layout.proofs.HeaderLemmas.{shape_of-fixed, shape_of-record, place_of-part}
+use Rattle.nc_layout.specs.LaidOut.{part_begin, part_count}
+use Rattle.nc_layout.proofs.HeaderLemmas.{shape_of-fixed, shape_of-record, offset_of-part}
 use Rattle.nc_layout.proofs.OrderLemmas.{flat_map_all, map-rank_in, range-append}
 use Rattle.nc_array.specs.Parts.{part_bytes}
 
@@ -54,7 +54,7 @@ unfolding element elements_of indices_of vsize
 elements_of-parts bytes header var = by_case (is_record_var header var) refl
   where
     moved : {at to : ℕ} → at ≡ to → take (size_of var.kind) (drop at bytes) ≡ take (size_of var.kind) (drop to bytes)
-    moved e = ap (λ place. take (size_of var.kind) (drop place bytes)) e
+    moved e = ap (λ offset. take (size_of var.kind) (drop offset bytes)) e
 
     by_case : (b : Bool) → is_record_var header var ≡ b
         → elements_of bytes header var
@@ -66,12 +66,12 @@ elements_of-parts bytes header var = by_case (is_record_var header var) refl
         (range_with_len 0 header.numrecs)
         ∙ flat_map_all _ _ (λ i.
         flat_map-map (element bytes header var) (λ (index : List ℕ). i ∷ index) (indices_of fixed)
-        ∙ flat_map_all _ _ (λ index. moved (place_of-part header var (i ∷ index) ∙ rw is refl)) (indices_of fixed)
+        ∙ flat_map_all _ _ (λ index. moved (offset_of-part header var (i ∷ index) ∙ rw is refl)) (indices_of fixed)
         ∙ elements_at bytes (part_begin header var i) (size_of var.kind) fixed) (range_with_len 0 header.numrecs)
     by_case false is =
         let fixed = fixed_shape header var in
         ap (λ shape. flat_map (element bytes header var) (indices_of shape)) (shape_of-fixed header var is)
-        ∙ flat_map_all _ _ (λ index. moved (place_of-part header var index ∙ rw is refl)) (indices_of fixed)
+        ∙ flat_map_all _ _ (λ index. moved (offset_of-part header var index ∙ rw is refl)) (indices_of fixed)
         ∙ elements_at bytes (part_begin header var 0) (size_of var.kind) fixed
         ∙ sym (append-nil (part_bytes bytes header var 0))
 

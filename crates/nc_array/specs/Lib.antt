@@ -1,3 +1,3 @@
 pub mod File
 pub mod Parts
-pub use Rattle.nc_layout.specs.Places
+pub use Rattle.nc_layout.specs.LaidOut

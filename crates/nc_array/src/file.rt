@@ -3,7 +3,7 @@ ghost use Rattle.std.specs.Prelude.{◌≡◌, ◌++◌, ◌<◌, None, OnOk, On
 ghost use Rattle.nc_model.specs.Layout.{element, elements_of, layout_fault};
 ghost use Rattle.nc_array.specs.Parts.{part_bytes};
 ghost use Rattle.nc_layout.specs.Faults.{CanLayOut};
-ghost use Rattle.nc_layout.specs.Places.{HasElement, IsVar, part_count};
+ghost use Rattle.nc_layout.specs.LaidOut.{HasElement, IsVar, part_count};
 
 use fm_base::{Bytes, NoMemory};
 use nc_layout::Layout;
@@ -91,7 +91,7 @@ impl<'a> FileView<'a> {
             → result.now ≡ element self.now.bytes self.now.layout.header var index.now }
     {
         let size = self.layout.var(number).kind.size();
-        let offset = self.layout.place(number, index);
+        let offset = self.layout.offset(number, index);
         let (_, rest) = self.bytes.split_at(offset as usize);
         let (found, _) = rest.split_at(usize::from(size));
         found

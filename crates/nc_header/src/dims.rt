@@ -26,10 +26,10 @@ fn has_record_dim(dims: &[Dim]) -> bool
 fn read_size(reader: &mut Reader<'_>, found: &[Dim]) -> Result<u32, Fail<HeaderFault>>
     ensures { Reads (λ size. size) (spec.dim_size found.now reader.old) result reader.new }
 {
-    let place = reader.at();
+    let offset = reader.at();
     let size = reader.count()?;
     if size == 0 && has_record_dim(found) {
-        return Err(Fail::Fault(HeaderFault::TwoRecordDims(place)));
+        return Err(Fail::Fault(HeaderFault::TwoRecordDims(offset)));
     }
     Ok(size)
 }

@@ -1,7 +1,7 @@
 //! Laws of the first fault of a header.
 ghost use Rattle.std.specs.Prelude.{◌≡◌, ℕ, List, Err};
 ghost use Rattle.nc_model.specs.declared.fault.HeaderFault.{HeaderFault};
-ghost use Rattle.nc_model.specs.FaultPlaces.{IsFaultOf};
+ghost use Rattle.nc_model.specs.FaultOffsets.{IsFaultOf};
 ghost use Rattle.nc_model.specs.Format.{IsBytes};
 ghost use Rattle.nc_model.specs.Reading.{header_or_fault};
 

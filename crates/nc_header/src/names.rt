@@ -41,14 +41,14 @@ pub(crate) fn read_name<'a, T: Named>(
     ensures { Reads (λ name. name.now)
         (spec.name_at (map T.name_of found.now) reader.old) result reader.new }
 {
-    let place = reader.at();
+    let offset = reader.at();
     let len = reader.count()?;
     let name = reader.padded(u64::from(len))?;
     if !is_name(name) {
-        return Err(Fail::Fault(HeaderFault::BadName(place)));
+        return Err(Fail::Fault(HeaderFault::BadName(offset)));
     }
     if found.has(name) {
-        return Err(Fail::Fault(HeaderFault::RepeatedName(place)));
+        return Err(Fail::Fault(HeaderFault::RepeatedName(offset)));
     }
     Ok(name)
 }

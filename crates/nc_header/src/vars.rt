@@ -25,13 +25,13 @@ fn read_dim_id(
 ) -> Result<u32, Fail<HeaderFault>>
     ensures { Reads (λ id. id) (spec.dim_id_at dims.now found.now reader.old) result reader.new }
 {
-    let place = reader.at();
+    let offset = reader.at();
     let id = reader.word()?;
     if dims.len() as u64 <= u64::from(id) {
-        return Err(Fail::Fault(HeaderFault::BadDimId(place)));
+        return Err(Fail::Fault(HeaderFault::BadDimId(offset)));
     }
     if !found.is_empty() && dims[id as usize].size == 0 {
-        return Err(Fail::Fault(HeaderFault::RecordNotFirst(place)));
+        return Err(Fail::Fault(HeaderFault::RecordNotFirst(offset)));
     }
     Ok(id)
 }

@@ -7,12 +7,12 @@ use Rattle.std.proofs.lemmas.Nat.{mul-le}
 use Rattle.nc_model.specs.declared.header.Header.{Header}
 use Rattle.nc_model.specs.declared.header.NcVar.{NcVar}
 use Rattle.nc_model.specs.Kind.{size_of}
-use Rattle.nc_model.specs.Layout.{rank_in, is_record_var, shape_of, fixed_shape, vsize, record_vars, record_size, place_of, IsIndex}
+use Rattle.nc_model.specs.Layout.{rank_in, is_record_var, shape_of, fixed_shape, vsize, record_vars, record_size, offset_of, IsIndex}
 use Rattle.nc_layout.specs.Kept.{part_of, index_in_part}
 use Rattle.nc_layout.specs.Meaning.{AreApart}
-use Rattle.nc_layout.specs.Places.{part_begin, part_count}
+use Rattle.nc_layout.specs.LaidOut.{part_begin, part_count}
 use Rattle.nc_layout.proofs.EndLemmas.{element-within}
-use Rattle.nc_layout.proofs.HeaderLemmas.{place_of-part, index-part, same_part}
+use Rattle.nc_layout.proofs.HeaderLemmas.{offset_of-part, index-part, same_part}
 use Rattle.nc_layout.proofs.OrderLemmas.{same_rank}
 use Rattle.nc_layout.proofs.RecordLemmas.{padded_vsize, lone_vsize, of_one, of_others}
 
@@ -84,12 +84,12 @@ next-part header number var i j there before below = by_case (is_record_var head
     by_case false none below = absurd (omega arith)
 
 -- no two elements of a variable of a header share a byte
-pub place_of-apart : (header : Header) (number : ℕ) (var : NcVar) (index other : List ℕ)
+pub offset_of-apart : (header : Header) (number : ℕ) (var : NcVar) (index other : List ℕ)
     → slice_get header.vars number ≡ Some var
     → IsIndex (shape_of header var) index → IsIndex (shape_of header var) other → index ≢ other
-    → AreApart (size_of var.kind) (place_of header var index) (place_of header var other)
-place_of-apart header number var index other there is also ne =
-    rw (place_of-part header var index, place_of-part header var other)
+    → AreApart (size_of var.kind) (offset_of header var index) (offset_of header var other)
+offset_of-apart header number var index other there is also ne =
+    rw (offset_of-part header var index, offset_of-part header var other)
     (elim (cases_order (part_of header var index) (part_of header var other)) [
       | inl same ↦
           rw same (moved _ _ _ _
@@ -112,8 +112,8 @@ place_of-apart header number var index other there is also ne =
         × IsIndex (fixed_shape header var) (index_in_part header var other)
     others = index-part header var other also
 
-    moved : (size by place last : ℕ) → AreApart size place last → AreApart size (by + place) (by + last)
-    moved size by place last (inl before) = inl (omega arith)
-    moved size by place last (inr after) = inr (omega arith)
+    moved : (size by offset last : ℕ) → AreApart size offset last → AreApart size (by + offset) (by + last)
+    moved size by offset last (inl before) = inl (omega arith)
+    moved size by offset last (inr after) = inr (omega arith)
 
-pub ruleset aparts = (place_of-apart)
+pub ruleset aparts = (offset_of-apart)

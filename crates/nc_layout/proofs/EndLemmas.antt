@@ -7,12 +7,12 @@ use Rattle.std.proofs.lemmas.Nat.{mul-le}
 use Rattle.nc_model.specs.declared.header.Header.{Header}
 use Rattle.nc_model.specs.declared.header.NcVar.{NcVar}
 use Rattle.nc_model.specs.Kind.{size_of}
-use Rattle.nc_model.specs.Layout.{product, rank_in, is_record_var, shape_of, fixed_shape, vsize, record_size, place_of, last_index, end_of, has_elements, IsIndex}
+use Rattle.nc_model.specs.Layout.{product, rank_in, is_record_var, shape_of, fixed_shape, vsize, record_size, offset_of, last_index, end_of, has_elements, IsIndex}
 use Rattle.nc_layout.specs.Kept.{HasLengths, end_if_any, part_of, index_in_part}
-use Rattle.nc_layout.specs.Places.{part_begin, part_count}
-use Rattle.nc_layout.proofs.HeaderLemmas.{shape_of-fixed, shape_of-record, place_of-part, index-part}
+use Rattle.nc_layout.specs.LaidOut.{part_begin, part_count}
+use Rattle.nc_layout.proofs.HeaderLemmas.{shape_of-fixed, shape_of-record, offset_of-part, index-part}
 use Rattle.nc_layout.proofs.ProductLemmas.{product-pos}
-use Rattle.nc_model.proofs.EndLaws.{rank_in-last, rank_in-lt, place_of-le-end_of}
+use Rattle.nc_model.proofs.EndLaws.{rank_in-last, rank_in-lt, offset_of-le-end_of}
 
 times_last : (size rank whole : ℕ) → rank + 1 ≡ whole → size * rank + size ≡ size * whole
 times_last size rank whole e = rw (← e) (omega arith)
@@ -38,7 +38,7 @@ pub last-part : (header : Header) (var : NcVar) → HasLengths header var
     → end_of header var ≡ part_begin header var (part_count header var - 1) + vsize header var
 unfolding vsize
 last-part header var all =
-    let place = place_of-part header var (last_index header var) in
+    let start = offset_of-part header var (last_index header var) in
     let last = last-index header var in
     let at = ap (part_begin header var) last.0 in
     let offset = ap (λ rest. size_of var.kind * rank_in (fixed_shape header var) rest) last.1 in
@@ -94,4 +94,4 @@ element-within header var index is =
     (product (fixed_shape header var)) (omega arith) (omega arith) in
     omega arith
 
-pub ruleset ends = (end_if_any-some, end_if_any-none, place_of-le-end_of)
+pub ruleset ends = (end_if_any-some, end_if_any-none, offset_of-le-end_of)

@@ -11,14 +11,14 @@ use Rattle.nc_model.specs.declared.header.Header.{Header}
 use Rattle.nc_model.specs.declared.header.NcVar.{NcVar}
 use Rattle.nc_model.specs.Format.{is_record_dim}
 use Rattle.nc_model.specs.Kind.{size_of}
-use Rattle.nc_model.specs.Layout.{size_in, size_at, is_record_var, shape_of, fixed_shape, record_size, rank_in, place_of, IsIndex}
+use Rattle.nc_model.specs.Layout.{size_in, size_at, is_record_var, shape_of, fixed_shape, record_size, rank_in, offset_of, IsIndex}
 use Rattle.nc_model.specs.Reading.{names_record_dim}
 use Rattle.nc_model.specs.Spelling.{IsSoundVar, NamesNoRecord}
 use Rattle.nc_layout.specs.Faults.{CanLayOut}
 use Rattle.nc_layout.specs.Kept.{HasLengths, part_of, index_in_part}
-use Rattle.nc_layout.specs.Places.{part_begin, part_count}
+use Rattle.nc_layout.specs.LaidOut.{part_begin, part_count}
 
--- the record dimension has as many places as there are records
+-- the record dimension is as long as there are records
 size_at-record : (header : Header) (id : ℕ) → names_record_dim header.dims id ≡ true → size_at header id
     ≡ header.numrecs
 unfolding names_record_dim
@@ -46,11 +46,11 @@ shape_of-record header var is = at var.dims refl
         rw is (rw some (ap (λ n. n ∷ map (size_at header) ids) (size_at-record header id named)))
 
 -- an element lies in its part, at the number of its index list there
-pub place_of-part : (header : Header) (var : NcVar) (index : List ℕ) → place_of header var index
+pub offset_of-part : (header : Header) (var : NcVar) (index : List ℕ) → offset_of header var index
     ≡ part_begin header var (part_of header var index)
     + size_of var.kind * rank_in (fixed_shape header var) (index_in_part header var index)
-unfolding place_of
-place_of-part header var index = by_case (is_record_var header var)
+unfolding offset_of
+offset_of-part header var index = by_case (is_record_var header var)
   where
     begin : ℕ
     begin = var.begin

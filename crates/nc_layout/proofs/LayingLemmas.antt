@@ -8,7 +8,7 @@ use Rattle.fm_base.specs.Answer.{Answers}
 use Rattle.nc_model.specs.Layout.{first_too_large, first_outside, layout_fault}
 use Rattle.nc_layout.specs.Faults.{fault_or, layout_or_fault}
 use Rattle.nc_layout.specs.Kept.{vsizes_of}
-use Rattle.nc_layout.specs.Places.{LaidOut}
+use Rattle.nc_layout.specs.LaidOut.{LaidOut}
 use Rattle.nc_layout.proofs.MeaningLemmas.{All-small}
 
 pub fault_or-none : {A : Type 0} (o : Option LayoutFault) (value found : A) → fault_or o value ≡ Ok found → o ≡ None

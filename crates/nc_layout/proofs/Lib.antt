@@ -4,8 +4,8 @@ pub mod EndLemmas
 pub mod HeaderLemmas
 pub mod LayingLemmas
 pub mod MeaningLemmas
+pub mod OffsetLemmas
 pub mod OrderLemmas
-pub mod PlaceLemmas
 pub mod ProductLemmas
 pub mod RankLemmas
 pub mod ReadLemmas

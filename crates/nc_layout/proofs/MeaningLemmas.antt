@@ -46,11 +46,11 @@ first_outside-is header len n (var ∷ vars) =
 -- the first variable with a fault, among those from a number on, and none before it
 record IsFirst (Good : NcVar → Type 0) (fault_at : ℕ → NcVar → Option LayoutFault) (from : ℕ) (vars : List NcVar)
     (fault : LayoutFault) : Type 0 where
-  place : ℕ
+  index : ℕ
   var : NcVar
-  there : slice_get vars place ≡ Some var
-  bad : fault_at (from + place) var ≡ Some fault
-  before : All Good (take place vars)
+  there : slice_get vars index ≡ Some var
+  bad : fault_at (from + index) var ≡ Some fault
+  before : All Good (take index vars)
 
 -- all variables are good, or one is the first with a fault
 first_fault-says : (Good : NcVar → Type 0) (fault_at : ℕ → NcVar → Option LayoutFault)
@@ -67,16 +67,16 @@ first_fault-says Good fault_at good from (var ∷ vars) =
         → MatchOption (option_or here later) (All Good (var ∷ vars)) (IsFirst Good fault_at from (var ∷ vars))
     at (Some fault) is later more =
         let same : from ≡ from + 0 = omega arith in
-        record { place = 0; var = var; there = refl; bad = rw (← same) is; before = All-nil Good }
+        record { index = 0; var = var; there = refl; bad = rw (← same) is; before = All-nil Good }
     at None is None more = All-cons Good var vars (good from var is) more
     at None is (Some fault) more =
-        let same : from + suc more.place ≡ from + 1 + more.place = omega arith in
+        let same : from + suc more.index ≡ from + 1 + more.index = omega arith in
         record {
-          place = suc more.place;
+          index = suc more.index;
           var = more.var;
           there = more.there;
           bad = rw same more.bad;
-          before = All-cons Good var (take more.place vars) (good from var is) more.before;
+          before = All-cons Good var (take more.index vars) (good from var is) more.before;
         }
 
 cond_none : (b : Bool) (fault : LayoutFault) → cond b (Some fault) None ≡ None → b ≡ false
@@ -108,8 +108,8 @@ outside header len var is = at (has_elements header var) refl is
 large_says : (header : Header) (len : ℕ) (fault : LayoutFault)
     → IsFirst (IsSmall header) (too_large_at header) 0 header.vars fault → Says header len fault
 large_says header len fault first =
-    let same : 0 + first.place ≡ first.place = omega arith in
-    let bad = cond_some (ltb (2 ^ 40) (vsize header first.var)) (TooLarge first.place) fault (rw same at first.bad) in
+    let same : 0 + first.index ≡ first.index = omega arith in
+    let bad = cond_some (ltb (2 ^ 40) (vsize header first.var)) (TooLarge first.index) fault (rw same at first.bad) in
     subst (Says header len) bad.1 (record {
       var = first.var;
       numbered = first.there;
@@ -120,8 +120,8 @@ large_says header len fault first =
 outside_says : (header : Header) (len : ℕ) (fault : LayoutFault) → All (IsSmall header) header.vars
     → IsFirst (EndsWithin header len) (outside_at header len) 0 header.vars fault → Says header len fault
 outside_says header len fault small first =
-    let same : 0 + first.place ≡ first.place = omega arith in
-    let bad = cond_some (is_outside header len first.var) (DataOutside first.place (end_of header first.var) len) fault
+    let same : 0 + first.index ≡ first.index = omega arith in
+    let bad = cond_some (is_outside header len first.var) (DataOutside first.index (end_of header first.var) len) fault
     (rw same at first.bad) in
     let past = outside header len first.var bad.0 in
     subst (Says header len) bad.1 (

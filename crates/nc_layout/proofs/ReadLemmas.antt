@@ -7,7 +7,7 @@ use Rattle.nc_model.specs.declared.header.NcVar.{NcVar}
 use Rattle.nc_model.specs.Spelling.{HeaderOf, SpellsList}
 use Rattle.nc_model.specs.Layout.{shape_of, layout_fault, IsIndex}
 use Rattle.nc_layout.specs.Faults.{CanLayOut, layout_or_fault}
-use Rattle.nc_layout.specs.Places.{LaidOut, IsVar, HasElement, HasDim, HasPart, part_count}
+use Rattle.nc_layout.specs.LaidOut.{LaidOut, IsVar, HasElement, HasDim, HasPart, part_count}
 use Rattle.nc_layout.proofs.LayingLemmas.{fault_or-none, fault_or-some}
 
 few_items : {A : Type 0} (tag : ℕ) (S : List ℕ → A → Type 0) (text : List ℕ) (items : List A)

@@ -5,11 +5,11 @@ use Rattle.nc_model.specs.declared.header.Dim.{Dim}
 use Rattle.nc_model.specs.declared.header.Header.{Header}
 use Rattle.nc_model.specs.declared.header.NcVar.{NcVar}
 use Rattle.nc_model.specs.declared.kind.Kind.TheVariants.{Char, Float, Int, Short}
-use Rattle.nc_model.specs.Layout.{shape_of, place_of, indices_of}
+use Rattle.nc_model.specs.Layout.{shape_of, offset_of, indices_of}
 
 -- the offsets of all elements of a variable, in row-major order
-abbrev pub places_of : Header → NcVar → List ℕ
-places_of header var = map (place_of header var) (indices_of (shape_of header var))
+abbrev pub offsets_of : Header → NcVar → List ℕ
+offsets_of header var = map (offset_of header var) (indices_of (shape_of header var))
 
 -- a variable of 16-bit numbers with one element in each record
 abbrev pub short_at : ℕ → NcVar

@@ -4,7 +4,7 @@ use Rattle.nc_model.specs.declared.fault.LayoutFault.{LayoutFault}
 use Rattle.nc_model.specs.declared.header.Header.{Header}
 use Rattle.nc_model.specs.Layout.{layout_fault}
 use Rattle.nc_model.specs.Spelling.{IsSound}
-use Rattle.nc_layout.specs.Places.{LaidOut}
+use Rattle.nc_layout.specs.LaidOut.{LaidOut}
 
 -- what a reader of headers ensures: the header is sound, and its variables can be numbered with four bytes
 pub record CanLayOut (header : Header) : Type 0 where

@@ -1,4 +1,4 @@
-pub mod Places
+pub mod LaidOut
 pub mod Faults
 pub mod Meaning
 pub mod Kept

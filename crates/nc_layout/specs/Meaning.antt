@@ -44,4 +44,4 @@ Says header len (DataOutside number end length) = IsFirstOutside header len numb
 
 -- `size` bytes at one of these offsets and `size` bytes at the other have none in common
 abbrev pub AreApart : ℕ → ℕ → ℕ → Type 0
-AreApart size place other = (place + size ≤ other) ⊎ (other + size ≤ place)
+AreApart size offset other = (offset + size ≤ other) ⊎ (other + size ≤ offset)

@@ -2,7 +2,7 @@
 ghost use Rattle.std.specs.Prelude.{◌≡◌, map};
 ghost use Rattle.nc_model.specs.Layout.{size_at, is_record_var, fixed_shape};
 ghost use Rattle.nc_model.specs.Reading.{names_record_dim};
-ghost use Rattle.nc_layout.specs.Places.{part_count};
+ghost use Rattle.nc_layout.specs.LaidOut.{part_count};
 
 use nc_model::{Dim, Header, NcVar};
 

@@ -5,7 +5,7 @@ ghost use Rattle.std.specs.Prelude.{◌≡◌, ◌<◌, ◌≤◌, [], ◌∷◌
 ghost use Rattle.nc_model.specs.declared.fault.LayoutFault.TheVariants.{TooLarge, DataOutside};
 ghost use Rattle.nc_model.specs.Layout.{record_size, layout_fault};
 ghost use Rattle.nc_layout.specs.Examples.{
-  places_of,
+  offsets_of,
   short_at,
   one_short,
   two_shorts,
@@ -19,14 +19,14 @@ ghost use Rattle.nc_layout.specs.Examples.{
 /// A variable of 16-bit numbers that alone has records isn't padded.
 pub fn one_short_variable()
     ensures size { record_size one_short ≡ 2 }
-    ensures places { places_of one_short (short_at 100) ≡ 100 ∷ 102 ∷ 104 ∷ [] }
+    ensures offsets { offsets_of one_short (short_at 100) ≡ 100 ∷ 102 ∷ 104 ∷ [] }
 {}
 
 /// Two variables of 16-bit numbers with records are both padded.
 pub fn two_short_variables()
     ensures size { record_size two_shorts ≡ 8 }
-    ensures first { places_of two_shorts (short_at 100) ≡ 100 ∷ 108 ∷ 116 ∷ [] }
-    ensures second { places_of two_shorts (short_at 104) ≡ 104 ∷ 112 ∷ 120 ∷ [] }
+    ensures first { offsets_of two_shorts (short_at 100) ≡ 100 ∷ 108 ∷ 116 ∷ [] }
+    ensures second { offsets_of two_shorts (short_at 104) ≡ 104 ∷ 112 ∷ 120 ∷ [] }
 {}
 
 /// A file of 352 bytes, cut to another length: the times end at 336, and the field at the file's end.
@@ -46,6 +46,6 @@ pub fn files_that_claim_much()
 /// A variable of which there is no record has no element, so it lies in a file of any length.
 pub fn variable_without_elements(len: u64)
     ensures size { record_size no_record ≡ 2 }
-    ensures places { places_of no_record (short_at 100) ≡ [] }
+    ensures offsets { offsets_of no_record (short_at 100) ≡ [] }
     ensures lies { layout_fault no_record len ≡ None }
 {}

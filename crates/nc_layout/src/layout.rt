@@ -1,10 +1,10 @@
 //! A layout, and what it returns.
 ghost use Rattle.std.specs.Prelude.{◌≡◌, ◌+◌, ◌<◌, ◌≤◌, None, length, slice_index};
 ghost use Rattle.nc_model.specs.Kind.{size_of};
-ghost use Rattle.nc_model.specs.Layout.{shape_of, vsize, record_size, place_of, layout_fault};
+ghost use Rattle.nc_model.specs.Layout.{shape_of, vsize, record_size, offset_of, layout_fault};
 
 use crate::dims::{part_count_of, size_at};
-use crate::elements::{part_begin_of, place_of};
+use crate::elements::{offset_of, part_begin_of};
 use fm_base::List;
 use nc_model::{Header, NcVar};
 use std::marker::Model;
@@ -20,7 +20,7 @@ pub struct Layout {
 }
 
 impl Model for Layout {
-    ghost use Rattle.nc_layout.specs.Places.{LaidOut};
+    ghost use Rattle.nc_layout.specs.LaidOut.{LaidOut};
     ghost use Rattle.nc_layout.specs.Kept.{IsLaidOut};
 
     ghost Value = { LaidOut };
@@ -32,7 +32,7 @@ impl Model for Layout {
 
 impl Layout {
     ghost use Rattle.nc_layout.specs.Faults.{CanLayOut};
-    ghost use Rattle.nc_layout.specs.Places.{
+    ghost use Rattle.nc_layout.specs.LaidOut.{
       HasDim,
       HasElement,
       HasPart,
@@ -76,14 +76,14 @@ impl Layout {
     }
 
     /// The offset in the file of the first byte of an element. All of its bytes lie in the file.
-    pub fn place(&self, var: u32, index: &[u64]) -> u64
+    pub fn offset(&self, var: u32, index: &[u64]) -> u64
         requires { HasElement self.now var index.now }
         ensures exact { (v : _) → IsVar self.now var v
-            → result ≡ place_of self.now.header v index.now }
+            → result ≡ offset_of self.now.header v index.now }
         ensures within { (v : _) → IsVar self.now var v
             → result + size_of v.kind ≤ self.now.len }
     {
-        place_of(
+        offset_of(
             &self.header,
             self.len,
             self.record_size,

@@ -15,7 +15,7 @@ use Rattle.nc_model.specs.declared.fault.LayoutFault.TheVariants.{DataOutside}
 use Rattle.nc_model.specs.declared.header.Header.{Header}
 use Rattle.nc_model.specs.declared.header.NcVar.{NcVar}
 use Rattle.nc_model.specs.Kind.{size_of}
-use Rattle.nc_model.specs.Layout.{IsIndex, product, rank_in, is_record_var, shape_of, record_size, place_of, element, indices_of, elements_of, end_of, is_outside, first_too_large, first_outside, layout_fault}
+use Rattle.nc_model.specs.Layout.{IsIndex, product, rank_in, is_record_var, shape_of, record_size, offset_of, element, indices_of, elements_of, end_of, is_outside, first_too_large, first_outside, layout_fault}
 use Rattle.fm_base.proofs.NumberLemmas.{factors}
 
 last_turn : (m whole rank : ℕ) → rank + 1 ≡ whole → m * whole + rank + 1 ≡ (m + 1) * whole
@@ -72,10 +72,10 @@ offset_by-le false begin recsize size (n ∷ shape) (i ∷ index) is =
     omega arith
 
 -- no element ends past the last
-pub place_of-le-end_of : (header : Header) (var : NcVar) (index : List ℕ) → IsIndex (shape_of header var) index
-    → place_of header var index + size_of var.kind ≤ end_of header var
-unfolding place_of
-place_of-le-end_of header var index is =
+pub offset_of-le-end_of : (header : Header) (var : NcVar) (index : List ℕ) → IsIndex (shape_of header var) index
+    → offset_of header var index + size_of var.kind ≤ end_of header var
+unfolding offset_of
+offset_of-le-end_of header var index is =
     let last = offset_by-le (is_record_var header var) var.begin (record_size header) (size_of var.kind)
     (shape_of header var) index is in
     omega arith
@@ -156,5 +156,5 @@ length-elements_of bytes header var ends = length_row (element bytes header var)
     (λ index is.
     let below = rank_in-lt (shape_of header var) index is in
     let end = ends (omega (arith, below)) in
-    let last = place_of-le-end_of header var index is in
-    whole_slice (size_of var.kind) (place_of header var index) bytes (omega (arith, end, last)))
+    let last = offset_of-le-end_of header var index is in
+    whole_slice (size_of var.kind) (offset_of header var index) bytes (omega (arith, end, last)))

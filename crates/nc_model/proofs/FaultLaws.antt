@@ -7,7 +7,7 @@ use Rattle.std.proofs.lemmas.List.{take_at, drop_at}
 use Rattle.nc_model.specs.declared.fault.HeaderFault.{HeaderFault}
 use Rattle.nc_model.specs.declared.fault.HeaderFault.TheVariants.{BadMagic, BadVersion, Truncated, BadTag, BadCount, BadName, BadType, BadDimId, TwoRecordDims, RecordNotFirst, RepeatedName, Streaming}
 use Rattle.nc_model.specs.declared.header.Header.{Header}
-use Rattle.nc_model.specs.FaultPlaces.{IsSettled, IsPastEnd, Begins, IsFaultAt, IsFaultOf}
+use Rattle.nc_model.specs.FaultOffsets.{IsSettled, IsPastEnd, Begins, IsFaultAt, IsFaultOf}
 use Rattle.nc_model.specs.Format.{IsBytes}
 use Rattle.fm_base.specs.Input.{Input, whole}
 use Rattle.fm_base.specs.Parser.{Outcome, value_of}
@@ -18,7 +18,7 @@ use Rattle.fm_base.proofs.ListLemmas.{agree_less, Agree}
 use Rattle.fm_base.proofs.Local.{after, Beyond, Taken, IsWhole, Failed, after_fails, failed, fault_is, stepped}
 use Rattle.fm_base.proofs.Parts.{Begun, begun_as, begun_same, second_begun}
 use Rattle.nc_model.proofs.HeaderBegun.{after_version, AfterVersion, header_text, part_after_version}
-use Rattle.nc_model.proofs.HeaderFaults.{places, IsCutAt}
+use Rattle.nc_model.proofs.HeaderFaults.{offsets, IsCutAt}
 use Rattle.nc_model.proofs.HeaderLaws.{read-from_HeaderOf}
 use Rattle.nc_model.proofs.HeaderParts.{SpellsVersion, Exact-version_at}
 use Rattle.nc_model.proofs.Steps.{ExactBytes, IsOfParts-bytes}
@@ -26,7 +26,7 @@ use Rattle.nc_model.proofs.Steps.{ExactBytes, IsOfParts-bytes}
 -- what is read exactly, whatever follows it, depends on what was taken
 Taken-exact : {A : Type 0} {S : List ℕ → A → Type 0} {p : HeaderParser A} → Exact S Anything p
     → (at : ℕ) (rest : List ℕ) (a : A) (j : Input)
-    → Took S (input at rest) a j → Taken places p at rest a j
+    → Took S (input at rest) a j → Taken offsets p at rest a j
 Taken-exact {A} {S} {p} ep at rest a j t =
     let n : ℕ = length t.text in
     let front : take n rest ≡ t.text = ap (take n) t.split ∙ take_at t.text j.rest n refl in
@@ -45,8 +45,8 @@ Taken-exact {A} {S} {p} ep at rest a j t =
 
 -- how a header fails after its version: what settles the fault, and what stands before it
 record FailsLater (bytes : List ℕ) (fault : HeaderFault) : Type 0 where
-  settled : Failed places header_at 0 bytes fault
-  begun : Begun places SpellsHeader 0 bytes fault
+  settled : Failed offsets header_at 0 bytes fault
+  begun : Begun offsets SpellsHeader 0 bytes fault
 
 -- a header fails in its version, or after it
 header_fails : (bytes : List ℕ) (fault : HeaderFault) → IsBytes bytes → header_at (whole bytes) ≡ Err fault
@@ -86,7 +86,7 @@ unfolding header_or_fault
 fault-header_at bytes fault e = ap value_of e
 
 -- a fault of another field than one that is cut short
-settled : (bytes : List ℕ) (fault : HeaderFault) → Failed places header_at 0 bytes fault
+settled : (bytes : List ℕ) (fault : HeaderFault) → Failed offsets header_at 0 bytes fault
     → ((n : ℕ) → IsCutAt n fault → ⊥)
     → IsSettled bytes fault
 settled bytes fault f uncut = elim f.why [
@@ -103,14 +103,14 @@ settled bytes fault f uncut = elim f.why [
   | inr c ↦ absurd (uncut (0 + f.count) c.fault_is)
 ]
   where
-    again : IsWhole places header_at 0 bytes fault f.count f.size → (other : List ℕ)
+    again : IsWhole offsets header_at 0 bytes fault f.count f.size → (other : List ℕ)
         → take (0 + f.count + f.size) other ≡ take (0 + f.count + f.size) bytes → header_or_fault other ≡ Err fault
     again w other agree =
         let sum : 0 + f.count + f.size ≡ f.count + f.size = omega arith in
         fault-header_at other fault (w.again other (sym (subst (λ (n : ℕ). take n other ≡ take n bytes) sum agree)))
 
 -- a field that is cut short
-past_end : (bytes : List ℕ) (offset : ℕ) → Failed places header_at 0 bytes (Truncated offset) → IsPastEnd bytes offset
+past_end : (bytes : List ℕ) (offset : ℕ) → Failed offsets header_at 0 bytes (Truncated offset) → IsPastEnd bytes offset
 past_end bytes offset f = elim f.why [
   | inl w ↦ let no = w.uncut (offset + 1) in absurd (omega arith)
   | inr c ↦
@@ -125,14 +125,14 @@ past_end bytes offset f = elim f.why [
         long = λ other agree goes_on e.
             let beyond = c.long other (sym (subst (λ (n : ℕ). take n other ≡ take n bytes) here agree)) (omega arith) in
             let later : 0 + (f.count + f.size) ≤ offset =
-            subst (λ (r : Outcome Header HeaderFault). Beyond places (0 + (f.count + f.size)) r)
+            subst (λ (r : Outcome Header HeaderFault). Beyond offsets (0 + (f.count + f.size)) r)
             (header_at-fault other (Truncated offset) e) beyond in
             absurd (omega arith);
       }
 ]
 
 -- what stands before the field at fault begins a header
-begins_at : (bytes : List ℕ) (fault : HeaderFault) (offset : ℕ) (b : Begun places SpellsHeader 0 bytes fault)
+begins_at : (bytes : List ℕ) (fault : HeaderFault) (offset : ℕ) (b : Begun offsets SpellsHeader 0 bytes fault)
     → offset ≡ 0 + b.count → Begins bytes offset
 begins_at bytes fault offset b here =
     let same : offset ≡ b.count = omega arith in
@@ -145,13 +145,13 @@ begins_at bytes fault offset b here =
     }
 
 -- a field after the version that is at fault, at this offset
-field_fault : (bytes : List ℕ) (fault : HeaderFault) (offset : ℕ) (b : Begun places SpellsHeader 0 bytes fault)
+field_fault : (bytes : List ℕ) (fault : HeaderFault) (offset : ℕ) (b : Begun offsets SpellsHeader 0 bytes fault)
     → offset ≡ 0 + b.count
-    → Failed places header_at 0 bytes fault → ((n : ℕ) → IsCutAt n fault → ⊥) → IsFaultAt bytes fault offset
+    → Failed offsets header_at 0 bytes fault → ((n : ℕ) → IsCutAt n fault → ⊥) → IsFaultAt bytes fault offset
 field_fault bytes fault offset b here f uncut = (begins_at bytes fault offset b here, settled bytes fault f uncut)
 
-after_version_fault : (bytes : List ℕ) (fault : HeaderFault) → Begun places SpellsHeader 0 bytes fault
-    → Failed places header_at 0 bytes fault → IsFaultOf bytes fault
+after_version_fault : (bytes : List ℕ) (fault : HeaderFault) → Begun offsets SpellsHeader 0 bytes fault
+    → Failed offsets header_at 0 bytes fault → IsFaultOf bytes fault
 after_version_fault bytes BadMagic b f = absurd b.stands
 after_version_fault bytes (BadVersion version) b f = absurd b.stands
 after_version_fault bytes (Truncated at) b f = (begins_at bytes (Truncated at) at b b.stands, past_end bytes at f)

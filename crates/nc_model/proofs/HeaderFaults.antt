@@ -4,13 +4,13 @@ use Rattle.std.proofs.Common.{◌≡◌, ◌⊎◌, inl, inr, ℕ, ◌+◌, ◌<
 use Rattle.std.proofs.lemmas.Bool.{ltb-false, le-ltb, ltb-true, lt-ltb}
 use Rattle.nc_model.specs.declared.fault.HeaderFault.{HeaderFault}
 use Rattle.nc_model.specs.declared.fault.HeaderFault.TheVariants.{Truncated}
-use Rattle.nc_model.specs.FaultPlaces.{StandsAt}
+use Rattle.nc_model.specs.FaultOffsets.{StandsAt}
 use Rattle.fm_base.specs.Input.{Input}
 use Rattle.fm_base.specs.Parser.{Outcome, and_then, ◌>>=◌, pure, unless, known}
 use Rattle.nc_model.specs.Reading.{HeaderParser, field}
 use Rattle.fm_base.proofs.Exact.{input, ok_pair}
 use Rattle.fm_base.proofs.ListLemmas.{agree_less, Agree}
-use Rattle.fm_base.proofs.Local.{Places, Beyond, Local, after, failed, fault_is, Local-then}
+use Rattle.fm_base.proofs.Local.{Offsets, Beyond, Local, after, failed, fault_is, Local-then}
 use Rattle.fm_base.proofs.LocalSteps.{Local-pure}
 
 -- a field that is cut short stands at this offset or later
@@ -32,8 +32,8 @@ abbrev pub IsUncut : HeaderFault → Type 0
 IsUncut fault = (n : ℕ) → IsCutLater n fault
 
 -- the faults of a header; nothing is looked at beyond a field
-abbrev pub places : Places HeaderFault
-places = record {
+abbrev pub offsets : Offsets HeaderFault
+offsets = record {
   ahead = 0;
   Stands = StandsAt;
   IsCut = IsCutAt;
@@ -68,7 +68,7 @@ field_again n at other long = rw (le-ltb (length other) n long) refl
 length_agrees : (n : ℕ) (rest other : List ℕ) → n ≤ length rest → Agree n rest other → n ≤ length other
 length_agrees n rest other within same = omega (arith, length-take n rest, length-take n other, ap length same)
 
-pub Local-field : (n : ℕ) → Local places (field n)
+pub Local-field : (n : ℕ) → Local offsets (field n)
 Local-field n = record {
   takes = λ at rest a j e.
       let k = field_by (ltb (length rest) n) (Truncated at) (take n rest) a (after n (input at rest)) j e in
@@ -103,7 +103,7 @@ Local-field n = record {
 }
   where
     by_length : (at : ℕ) (rest : List ℕ) (b : Bool)
-        → Beyond places at (cond b (failed {A = List ℕ} (Truncated at)) (Ok (take n rest, after n (input at rest))))
+        → Beyond offsets at (cond b (failed {A = List ℕ} (Truncated at)) (Ok (take n rest, after n (input at rest))))
     by_length at rest true = omega arith
     by_length at rest false = omega arith
 
@@ -123,7 +123,7 @@ leaf_map {A} {B} p g lp at rest fault e = by_outcome (p (input at rest)) refl e
 
 -- a field of a byte or more
 pub record OneField {A : Type 0} (p : HeaderParser A) : Type 0 where
-  pub local : Local places p
+  pub local : Local offsets p
   pub leaf : IsLeaf p
   pub moves : Advances p
 
@@ -138,14 +138,14 @@ OneField-field n some = record {
 }
 
 pub advances_then : {A B : Type 0} (p : HeaderParser A) (q : A → HeaderParser B) → Advances p
-    → ((a : A) → Local places (q a)) → Advances (p >>= q)
+    → ((a : A) → Local offsets (q a)) → Advances (p >>= q)
 advances_then {A} {B} p q moves lq at rest b k e = by_first (p (input at rest)) refl e
   where
     by_first : (r : Outcome A HeaderFault) → p (input at rest) ≡ r → and_then r q ≡ Ok (b, k) → at < k.at
     by_first (Err fault) is f = absurd cc
     by_first (Ok x) is f =
         let first = moves at rest x.0 x.1 is in
-        let later : x.1.at ≤ k.at = subst (λ (r : Outcome B HeaderFault). Beyond places x.1.at r) f
+        let later : x.1.at ≤ k.at = subst (λ (r : Outcome B HeaderFault). Beyond offsets x.1.at r) f
         ((lq x.0).forward x.1.at x.1.rest) in
         omega arith
 

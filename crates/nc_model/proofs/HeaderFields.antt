@@ -14,13 +14,13 @@ use Rattle.fm_base.proofs.Exact.{Took, Then, Such, Is, onto}
 use Rattle.fm_base.proofs.Local.{Local, Local-then}
 use Rattle.fm_base.proofs.LocalSteps.{Local-pure}
 use Rattle.fm_base.proofs.Parts.{Example, Part, Part-leaf, Part-as, Part-then, Part-pure}
-use Rattle.nc_model.proofs.HeaderFaults.{places, OneField, OneField-field, OneField-map, IsLeaf, leaf_field, leaf_map, Local-field, Decides, Decides-unless, Decides-known, Decides-then}
+use Rattle.nc_model.proofs.HeaderFaults.{offsets, OneField, OneField-field, OneField-map, IsLeaf, leaf_field, leaf_map, Local-field, Decides, Decides-unless, Decides-known, Decides-then}
 use Rattle.nc_model.proofs.HeaderTests.{OneField-tested}
 use Rattle.nc_model.proofs.Steps.{ExactBytes, IsOfParts-bytes, Through}
 
 -- a part of a header
 abbrev pub HeaderPart : {A : Type 0} → (List ℕ → A → Type 0) → HeaderParser A → Type 0
-HeaderPart S p = Part places IsBytes S p
+HeaderPart S p = Part offsets IsBytes S p
 
 -- what a parser reads is spelled so
 pub takes_as : {A : Type 0} {S T : List ℕ → A → Type 0} {p : HeaderParser A}
@@ -75,7 +75,7 @@ field_count = OneField-tested (λ at n. unless (nat_le (2 ^ 31) n) (BadCount at)
 pub example_count : Example SpellsCount
 example_count = record { text = to_be_bytes w32 0; a = 0; spelled = record { small = omega arith; text_is = refl } }
 
-pub Local-padded : (len : ℕ) → Local places (padded len)
+pub Local-padded : (len : ℕ) → Local offsets (padded len)
 unfolding padded
 Local-padded len = Local-then (Local-field (padded_len len)) (λ bytes. Local-pure _)
 

@@ -8,7 +8,7 @@ use Rattle.std.proofs.lemmas.Bool.{ltb-true}
 use Rattle.std.proofs.lemmas.Str.{IsUtf8-from_ascii, is_utf8-from_IsUtf8}
 use Rattle.nc_model.specs.declared.fault.HeaderFault.{HeaderFault}
 use Rattle.nc_model.specs.declared.fault.HeaderFault.TheVariants.{Truncated}
-use Rattle.nc_model.specs.FaultPlaces.{StandsAt}
+use Rattle.nc_model.specs.FaultOffsets.{StandsAt}
 use Rattle.nc_model.specs.Format.{IsBytes, padded_len, is_barred, is_name_text}
 use Rattle.fm_base.specs.Input.{Input}
 use Rattle.fm_base.specs.Parser.{Outcome, and_then, ◌>>=◌, pure}
@@ -19,7 +19,7 @@ use Rattle.fm_base.proofs.Local.{failed, fault_is, Local-then}
 use Rattle.fm_base.proofs.LocalSteps.{Local-same}
 use Rattle.fm_base.proofs.Parts.{Example, Begun, Part-as, Part-pure, begun_as, begun_here, second_begun}
 use Rattle.nc_model.proofs.Fields.{Exact-count, Exact-name_at}
-use Rattle.nc_model.proofs.HeaderFaults.{places, advances_then}
+use Rattle.nc_model.proofs.HeaderFaults.{offsets, advances_then}
 use Rattle.nc_model.proofs.HeaderFields.{HeaderPart, takes_as, such, field_part, part_then, field_count, Local-padded, leaf_padded, example_padded, field_tag, field_list_count, tested_name, Decides-name}
 use Rattle.nc_model.proofs.HeaderTests.{Local-tested}
 use Rattle.nc_model.proofs.Lists.{Adds, SpellsTag, SpellsListCount, list_spelled, Exact-tag_at, Exact-list_count}
@@ -109,19 +109,19 @@ empty_fits i fault e = by_length (ltb (length i.rest) (padded_len 0)) refl e
     by_length false is f = absurd cc
 
 name_text_begun : (len at : ℕ) (rest : List ℕ) (fault : HeaderFault) → padded len (input at rest) ≡ Err fault
-    → Begun places (NameText len) at rest fault
+    → Begun offsets (NameText len) at rest fault
 name_text_begun zero at rest fault e = absurd (empty_fits (input at rest) fault e)
 name_text_begun (suc n) at rest fault e =
     begun_here at rest fault (example_name_text n) (leaf_padded (suc n) at rest fault e)
 
 name_begun : (found : List (List ℕ)) (at : ℕ) (rest : List ℕ) (fault : HeaderFault) → IsBytes rest
-    → name_at found (input at rest) ≡ Err fault → Begun places SpellsName at rest fault
+    → name_at found (input at rest) ≡ Err fault → Begun offsets SpellsName at rest fault
 unfolding name_at
 name_begun found at rest fault fits e = by_count (count (input at rest)) refl e
   where
     by_padded : (len : ℕ) (j : Input) → Took SpellsCount (input at rest) len j → (r : Outcome (List ℕ) HeaderFault)
         → padded len j ≡ r
-        → and_then r (tested_name found at) ≡ Err fault → Begun places SpellsName at rest fault
+        → and_then r (tested_name found at) ≡ Err fault → Begun offsets SpellsName at rest fault
     by_padded len j t (Err first) is f =
         let same : first ≡ fault = fault_is {A = List ℕ} first fault f in
         begun_as (λ name. name) name_text (second_begun SpellsCount NameText at rest len j fault t
@@ -133,7 +133,7 @@ name_begun found at rest fault fits e = by_count (count (input at rest)) refl e
     ]
 
     by_count : (r : Outcome ℕ HeaderFault) → count (input at rest) ≡ r
-        → and_then r (λ len. padded len >>= tested_name found at) ≡ Err fault → Begun places SpellsName at rest fault
+        → and_then r (λ len. padded len >>= tested_name found at) ≡ Err fault → Begun offsets SpellsName at rest fault
     by_count (Err first) is f = begun_here at rest fault example_name
         (subst (λ (y : HeaderFault). StandsAt y at) (fault_is {A = List ℕ} first fault f)
         (field_count.leaf at rest first is))

@@ -1,19 +1,19 @@
 -- A field and a test of its value, whose fault stands where the field begins, is a field.
 use Rattle.std.proofs.Common.{◌≡◌, inl, inr, ℕ, ◌+◌, ◌<◌, List, Ok, Err, refl, sym, ap, subst, ◌∙◌, arith}
 use Rattle.nc_model.specs.declared.fault.HeaderFault.{HeaderFault}
-use Rattle.nc_model.specs.FaultPlaces.{StandsAt}
+use Rattle.nc_model.specs.FaultOffsets.{StandsAt}
 use Rattle.fm_base.specs.Input.{Input}
 use Rattle.fm_base.specs.Parser.{Outcome, and_then, ◌>>=◌, located}
 use Rattle.nc_model.specs.Reading.{HeaderParser}
 use Rattle.fm_base.proofs.Exact.{input, ok_pair}
 use Rattle.fm_base.proofs.ListLemmas.{agree_less}
 use Rattle.fm_base.proofs.Local.{Beyond, Taken, Failed, Local, after, failed, fault_is, refit}
-use Rattle.nc_model.proofs.HeaderFaults.{places, IsUncut, Advances, OneField, Decides}
+use Rattle.nc_model.proofs.HeaderFaults.{offsets, IsUncut, Advances, OneField, Decides}
 
 -- what was read of a field whose value passes
 value_taken : {A B : Type 0} {p : HeaderParser A} (f : ℕ → A → HeaderParser B) (at : ℕ) (rest : List ℕ) (a : A)
-    (i : Input) (b : B) (j : Input) → Taken places p at rest a i → (c : B) → ((k : Input) → f at a k ≡ Ok (c, k))
-    → f at a i ≡ Ok (b, j) → Taken places (located (λ at. p >>= f at)) at rest b j
+    (i : Input) (b : B) (j : Input) → Taken offsets p at rest a i → (c : B) → ((k : Input) → f at a k ≡ Ok (c, k))
+    → f at a i ≡ Ok (b, j) → Taken offsets (located (λ at. p >>= f at)) at rest b j
 value_taken {B = B} f at rest a i b j t c good e =
     let same = ok_pair c b i j (sym (good i) ∙ e) in
     record {
@@ -27,8 +27,8 @@ value_taken {B = B} f at rest a i b j t c good e =
 
 -- a field whose value doesn't pass
 value_failed : {A B : Type 0} {p : HeaderParser A} (f : ℕ → A → HeaderParser B) (at : ℕ) (rest : List ℕ) (a : A)
-    (i : Input) (fault : HeaderFault) → Taken places p at rest a i → at < i.at → StandsAt fault at → IsUncut fault
-    → ((k : Input) → f at a k ≡ Err fault) → Failed places (located (λ at. p >>= f at)) at rest fault
+    (i : Input) (fault : HeaderFault) → Taken offsets p at rest a i → at < i.at → StandsAt fault at → IsUncut fault
+    → ((k : Input) → f at a k ≡ Err fault) → Failed offsets (located (λ at. p >>= f at)) at rest fault
 value_failed f at rest a i fault t moved stands uncut bad =
     let end : i.at ≡ at + t.count = ap (λ (k : Input). k.at) t.input_is in
     let here : at ≡ at + 0 = omega arith in
@@ -47,8 +47,8 @@ value_failed f at rest a i fault t moved stands uncut bad =
       });
     }
 
-pub Local-tested : {A B : Type 0} {p : HeaderParser A} (f : ℕ → A → HeaderParser B) → Local places p → Advances p
-    → ((at : ℕ) (a : A) → Decides at (f at a)) → Local places (located (λ at. p >>= f at))
+pub Local-tested : {A B : Type 0} {p : HeaderParser A} (f : ℕ → A → HeaderParser B) → Local offsets p → Advances p
+    → ((at : ℕ) (a : A) → Decides at (f at a)) → Local offsets (located (λ at. p >>= f at))
 Local-tested {A} {B} {p} f lp moves df = record {
   takes = λ at rest b j e. takes_by at rest b j (p (input at rest)) refl e;
   fails = λ at rest fault e. fails_by at rest fault (p (input at rest)) refl e;
@@ -58,7 +58,7 @@ Local-tested {A} {B} {p} f lp moves df = record {
     whole : HeaderParser B
     whole = located (λ at. p >>= f at)
 
-    beyond_test : (n at : ℕ) (r : Outcome A HeaderFault) → Beyond places n r → Beyond places n (and_then r (f at))
+    beyond_test : (n at : ℕ) (r : Outcome A HeaderFault) → Beyond offsets n r → Beyond offsets n (and_then r (f at))
     beyond_test n at (Err fault) h = h
     beyond_test n at (Ok x) h = elim (df at x.0) [
       | inl good ↦ rw (good.1 x.1) h
@@ -66,7 +66,7 @@ Local-tested {A} {B} {p} f lp moves df = record {
     ]
 
     takes_by : (at : ℕ) (rest : List ℕ) (b : B) (j : Input) (r : Outcome A HeaderFault) → p (input at rest) ≡ r
-        → and_then r (f at) ≡ Ok (b, j) → Taken places whole at rest b j
+        → and_then r (f at) ≡ Ok (b, j) → Taken offsets whole at rest b j
     takes_by at rest b j (Err fault) is e = absurd cc
     takes_by at rest b j (Ok x) is e = elim (df at x.0) [
       | inl good ↦ value_taken f at rest x.0 x.1 b j (lp.takes at rest x.0 x.1 is) good.0 good.1 e
@@ -74,7 +74,7 @@ Local-tested {A} {B} {p} f lp moves df = record {
     ]
 
     fails_by : (at : ℕ) (rest : List ℕ) (fault : HeaderFault) (r : Outcome A HeaderFault) → p (input at rest) ≡ r
-        → and_then r (f at) ≡ Err fault → Failed places whole at rest fault
+        → and_then r (f at) ≡ Err fault → Failed offsets whole at rest fault
     fails_by at rest fault (Err first) is e =
         let same : first ≡ fault = fault_is {A = B} first fault e in
         refit (λ n other wide agree h. ap (λ r. and_then r (f at)) h)
@@ -83,7 +83,7 @@ Local-tested {A} {B} {p} f lp moves df = record {
     fails_by at rest fault (Ok x) is e = elim (df at x.0) [
       | inl good ↦ let no = sym (good.1 x.1) ∙ e in absurd cc
       | inr bad ↦
-          subst (λ (y : HeaderFault). Failed places whole at rest y)
+          subst (λ (y : HeaderFault). Failed offsets whole at rest y)
           (fault_is {A = B} bad.0 fault (sym (bad.3 x.1) ∙ e))
           (value_failed f at rest x.0 x.1 bad.0 (lp.takes at rest x.0 x.1 is) (moves at rest x.0 x.1 is)
           bad.1 bad.2 bad.3)

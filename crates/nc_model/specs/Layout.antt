@@ -67,8 +67,8 @@ rank_in (n ∷ shape) [] = 0
 rank_in (n ∷ shape) (i ∷ index) = i * product shape + rank_in shape index
 
 -- the offset in the file of the first byte of an element
-unfoldable pub place_of : Header → NcVar → List ℕ → ℕ
-place_of header var index =
+unfoldable pub offset_of : Header → NcVar → List ℕ → ℕ
+offset_of header var index =
     if is_record_var header var
     then var.begin + slice_index index 0 * record_size header
     + size_of var.kind * rank_in (fixed_shape header var) (drop 1 index)
@@ -76,7 +76,7 @@ place_of header var index =
 
 -- the bytes of an element
 unfoldable pub element : List ℕ → Header → NcVar → List ℕ → List ℕ
-element bytes header var index = take (size_of var.kind) (drop (place_of header var index) bytes)
+element bytes header var index = take (size_of var.kind) (drop (offset_of header var index) bytes)
 
 -- all index lists of an array of this shape, in row-major order
 unfoldable pub indices_of : List ℕ → List (List ℕ)
@@ -94,7 +94,7 @@ last_index header var = map (λ n. n - 1) (shape_of header var)
 
 -- where the last element ends, of a variable that has one
 abbrev pub end_of : Header → NcVar → ℕ
-end_of header var = place_of header var (last_index header var) + size_of var.kind
+end_of header var = offset_of header var (last_index header var) + size_of var.kind
 
 -- whether a variable has an element
 abbrev pub has_elements : Header → NcVar → Bool

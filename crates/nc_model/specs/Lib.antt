@@ -1,6 +1,6 @@
 pub mod Calendar
 pub mod Code
-pub mod FaultPlaces
+pub mod FaultOffsets
 pub mod Format
 pub mod Instant
 pub mod Kind

@@ -103,10 +103,10 @@ impl<'a> Reader<'a> {
     pub fn count(&mut self) -> Result<u32, Fail<HeaderFault>>
         ensures { Reads (λ n. n) (spec.count self.old) result self.new }
     {
-        let place = self.at;
+        let offset = self.at;
         let count = self.word()?;
         if COUNT_LIMIT <= count {
-            return Err(Fail::Fault(HeaderFault::BadCount(place)));
+            return Err(Fail::Fault(HeaderFault::BadCount(offset)));
         }
         Ok(count)
     }
@@ -134,13 +134,13 @@ impl<'a> Reader<'a> {
     pub fn numrecs(&mut self) -> Result<u32, Fail<HeaderFault>>
         ensures { Reads (λ n. n) (spec.numrecs_at self.old) result self.new }
     {
-        let place = self.at;
+        let offset = self.at;
         let count = self.word()?;
         if count == STREAMING {
             return Err(Fail::Fault(HeaderFault::Streaming));
         }
         if COUNT_LIMIT <= count {
-            return Err(Fail::Fault(HeaderFault::BadCount(place)));
+            return Err(Fail::Fault(HeaderFault::BadCount(offset)));
         }
         Ok(count)
     }
@@ -150,10 +150,10 @@ impl<'a> Reader<'a> {
     pub fn tag(&mut self, tag: u32) -> Result<u32, Fail<HeaderFault>>
         ensures { Reads (λ n. n) (spec.tag_at tag self.old) result self.new }
     {
-        let place = self.at;
+        let offset = self.at;
         let found = self.word()?;
         if found != tag && found != 0 {
-            return Err(Fail::Fault(HeaderFault::BadTag(place)));
+            return Err(Fail::Fault(HeaderFault::BadTag(offset)));
         }
         Ok(found)
     }
@@ -163,10 +163,10 @@ impl<'a> Reader<'a> {
     pub fn list_count(&mut self, tag: u32) -> Result<u32, Fail<HeaderFault>>
         ensures { Reads (λ n. n) (spec.list_count tag self.old) result self.new }
     {
-        let place = self.at;
+        let offset = self.at;
         let count = self.word()?;
         if COUNT_LIMIT <= count || tag == 0 && count != 0 {
-            return Err(Fail::Fault(HeaderFault::BadCount(place)));
+            return Err(Fail::Fault(HeaderFault::BadCount(offset)));
         }
         Ok(count)
     }
@@ -176,9 +176,9 @@ impl<'a> Reader<'a> {
     pub fn kind(&mut self) -> Result<Kind, Fail<HeaderFault>>
         ensures { Reads (λ kind. kind) (spec.kind_at self.old) result self.new }
     {
-        let place = self.at;
+        let offset = self.at;
         let code = self.word()?;
-        kind_of(code).ok_or(Fail::Fault(HeaderFault::BadType(place)))
+        kind_of(code).ok_or(Fail::Fault(HeaderFault::BadType(offset)))
     }
 
     /// Takes the rank of a variable.
@@ -186,10 +186,10 @@ impl<'a> Reader<'a> {
     pub fn rank(&mut self) -> Result<u32, Fail<HeaderFault>>
         ensures { Reads (λ n. n) (spec.rank_at self.old) result self.new }
     {
-        let place = self.at;
+        let offset = self.at;
         let rank = self.word()?;
         if MAX_RANK < rank {
-            return Err(Fail::Fault(HeaderFault::BadCount(place)));
+            return Err(Fail::Fault(HeaderFault::BadCount(offset)));
         }
         Ok(rank)
     }

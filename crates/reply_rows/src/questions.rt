@@ -137,14 +137,14 @@ fn put_cell(edition: &Edition, epoch: i64, words: &str, out: &mut Said) -> Resul
     let (run, valid) = words.split_once(' ').unwrap_or((words, ""));
     let (run, valid) = (read_moment(epoch, run)?, read_moment(epoch, valid)?);
     match edition.cell(run, valid) {
-        Some((file, index)) => put_place(file.get(), index, out),
+        Some((file, index)) => put_file_and_index(file.get(), index, out),
         None => out.put("none"),
     }
     Ok(())
 }
 
 // Puts the name of a file and the index of a time in it.
-fn put_place(file: &Loaded, index: u32, out: &mut Said) {
+fn put_file_and_index(file: &Loaded, index: u32, out: &mut Said) {
     out.put_shown(file.name.as_slice());
     out.put_number(" ", index);
 }
@@ -228,5 +228,5 @@ fn put_row(alloc: Global, epoch: i64, row: &Row, out: &mut Said) {
     out.put(" ");
     put_moment(alloc, epoch, row.run, out);
     out.put(" ");
-    put_place(row.file.get(), row.place, out);
+    put_file_and_index(row.file.get(), row.index, out);
 }

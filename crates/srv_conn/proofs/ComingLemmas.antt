@@ -23,7 +23,7 @@ use Rattle.srv_conn.specs.DoorTurns.{after_turns, IsTurn, Tag, Turn}
 use Rattle.srv_conn.specs.Out.{IsOut, came_at}
 use Rattle.srv_conn.specs.Sight.{IsBehind, Sight}
 use Rattle.srv_conn.proofs.BeginLemmas.{behind-itself, behind-on}
-use Rattle.srv_conn.proofs.DoorLemmas.{apart-more, held-later, numbers-below, place-later, turns-later}
+use Rattle.srv_conn.proofs.DoorLemmas.{apart-more, held-later, numbers-below, index-later, turns-later}
 use Rattle.srv_conn.proofs.FreshLemmas.{fresh-rests}
 use Rattle.srv_conn.proofs.HallLemmas.{capped-more, looks-more, numbered, numbered-other, numbered-same, short-more}
 use Rattle.srv_conn.proofs.Serving.{Serving-start}
@@ -101,7 +101,7 @@ module _ {L : Type 0} {shown : L → LinkShown} {proto : Proto} {still : Bool} w
       tags' = at.tags ++ tagged number more
 
       keeps : (n : ℕ) (x : L) → slice_get at.came n ≡ Some x → slice_get came' n ≡ Some x
-      keeps n x is = place-later at.came (link ∷ []) n x is
+      keeps n x is = index-later at.came (link ∷ []) n x is
 
       this : (one : Connection L) → one ≡ connection
           → IsHeld shown proto still came' at.turns tags' sight sight'' number one
@@ -202,7 +202,7 @@ module _ {L : Type 0} {shown : L → LinkShown} {proto : Proto} {still : Bool} w
       came' = at.came ++ link ∷ []
 
       keeps : (n : ℕ) (x : L) → slice_get at.came n ≡ Some x → slice_get came' n ≡ Some x
-      keeps n x is = place-later at.came (link ∷ []) n x is
+      keeps n x is = index-later at.came (link ∷ []) n x is
 
       same : (key : ℕ) → get hall'.links key ≡ get hall.links key
       same key = ap (λ (l : List (Option (Connection L))). slice_index_or l key None) slots

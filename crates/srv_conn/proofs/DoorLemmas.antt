@@ -14,10 +14,10 @@ use Rattle.srv_conn.specs.Sight.{IsBehind, Sight}
 use Rattle.srv_conn.proofs.BeginLemmas.{behind-on}
 use Rattle.srv_conn.proofs.TagLemmas.{looks_of-other, tagged}
 
--- an item is at its place also where others follow
-pub place-later : {A : Type 0} (xs ys : List A) (n : ℕ) (x : A) → slice_get xs n ≡ Some x
+-- an item keeps its index where others follow
+pub index-later : {A : Type 0} (xs ys : List A) (n : ℕ) (x : A) → slice_get xs n ≡ Some x
     → slice_get (xs ++ ys) n ≡ Some x
-place-later xs ys n x is = slice_get-append xs ys n (slice_get_within xs n x is) ∙ is
+index-later xs ys n x is = slice_get-append xs ys n (slice_get_within xs n x is) ∙ is
 
 -- one turn more, of a number that none has
 pub apart-more : {L : Type 0} (turns : List (Turn L)) (turn : Turn L) → AreApart turns

@@ -217,6 +217,7 @@ module _ {L : Type 0} {shown : L → LinkShown} {proto : Proto} {still : Bool} w
     each = at.each;
     once = at.once;
     all = omega (arith, at.all, none);
+    below = at.below;
     looks_are = at.looks_are;
     grows = at.behind.grows;
     door_is = at.door_is

@@ -146,9 +146,9 @@ serves-whole proto still start now after asked most end s few asking w =
     (λ others items. (
       ap (λ (x : State). x.phase) w.session_is ∙ ends-on now.session asked end w.end_is,
       ends-reply _ asked now.session.before end (sym w.end_is) (record {
-        place = length now.trail;
+        index = length now.trail;
         item = item_of_turn now asked;
-        place_is = sym (ap length w.replies.trail_is ∙ length-append now.trail (w.mark ∷ []));
+        index_is = sym (ap length w.replies.trail_is ∙ length-append now.trail (w.mark ∷ []));
         item_is = ap (λ (l : List Item). slice_get l (length now.trail)) items
             ∙ seam s.done (item_of_turn now asked) others (length now.trail) s.begun.count;
         end_is = ap (λ (a : Asked). end_after a (start.session.before + length now.trail))

@@ -28,10 +28,10 @@ whole-unless call served sound index mark item there is =
 
 -- the reply after which a connection ends is its last
 last-there : (call : LinkCall) (end : End) (a : EndsAfterReply call end)
-    → is_last a.item (number_at call a.place) ≡ false → ⊥
+    → is_last a.item (number_at call a.index) ≡ false → ⊥
 last-there call end a goes =
-    let last : is_last a.item (number_at call a.place) ≡ true =
-    last-ends a.item (call.session.before + a.place) ∙ ap is_some a.end_is in
+    let last : is_last a.item (number_at call a.index) ≡ true =
+    last-ends a.item (call.session.before + a.index) ∙ ap is_some a.end_is in
     cc
 
 -- a request that is read is answered
@@ -46,7 +46,7 @@ reached call sound ample index item below is goes = by_stop
 
     after_reply : (end : End) → EndsAfterReply call end → index < length call.trail
     after_reply end a = ⊎_elim (λ here. here)
-        (λ past. absurd (last-there call end a (goes a.place a.item (omega (arith, past, a.place_is)) a.item_is)))
+        (λ past. absurd (last-there call end a (goes a.index a.item (omega (arith, past, a.index_is)) a.item_is)))
         (cases_lt index (length call.trail))
 
     by_end : (end : End) → EndsBy call end → stops.Ended end ≡ call.stop → index < length call.trail

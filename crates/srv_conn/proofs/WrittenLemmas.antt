@@ -46,7 +46,7 @@ sent-at proto ops (m ∷ marks) (i ∷ items) before (suc index) mark item at is
           ∙ ap (λ (l : List ℕ). l ++ rest.0) (sym (append_assoc first front reply)),
     )
 
--- a whole reply is written at its place
+-- a whole reply is written behind those before it
 written-at : (call : LinkCall) → Served call → (index : ℕ) (mark : Mark) (item : Item)
     → slice_get call.trail index ≡ Some mark → slice_get (items_of call) index ≡ Some item
     → mark.sent ≡ length (marked_reply call.proto call.seen_after mark item (number_at call index))

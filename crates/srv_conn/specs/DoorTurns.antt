@@ -1,5 +1,5 @@
 -- The links of a door, served all at once.
-use Rattle.std.specs.Prelude.{⊤, ◌≡◌, ◌≢◌, ℕ, ◌≤◌, All, Bool, true, false, List, [], ◌∷◌, ◌++◌, length, map, filter, take, drop, nat_eq, slice_get, Option, Some, None, IfSome, MatchOption}
+use Rattle.std.specs.Prelude.{⊤, ◌≡◌, ◌≢◌, ℕ, ◌<◌, ◌≤◌, All, Bool, true, false, List, [], ◌∷◌, ◌++◌, length, map, filter, take, drop, nat_eq, slice_get, Option, Some, None, IfSome, MatchOption}
 use Rattle.fm_model.specs.declared.op.Op.{Op}
 use Rattle.fm_model.specs.declared.proto.Proto.{Proto}
 use Rattle.dev_traits.specs.Shown.{LinkShown}
@@ -96,8 +96,9 @@ pub record ServesEach {L : Type 0} (shown : L → LinkShown) (proto : Proto) (st
   pub came : List L
   -- their turns, in the order in which they ended
   pub turns : List (Turn L)
-  -- the looks, each with the number of its link
+  -- the looks, each with the number of its link, which is one of those that came
   pub tags : List Tag
+  pub below : All (λ tag. tag.number < length came) tags
   pub came_is : IfSome door (λ doorway. came ≡ take (length came) doorway.left)
   pub unused : All (λ link. IsFresh (shown link)) came
   pub each : All (IsTurn shown proto still came tags sight sight') turns

@@ -83,9 +83,10 @@ fn put_next<L: Link>(
     if lent.len() >= LONG || lent.len() as u64 == plan.len() - from {
         return put_front(link, lent, limit);
     }
-    let count = plan.piece(from, room);
-    let (piece, _) = room.split_at(count);
-    put_front(link, piece, limit)
+    let (part, _) = room.split_at_mut(limit.min(room.len()));
+    let count = plan.piece(from, part);
+    let (piece, _) = part.split_at(count);
+    link.put(piece)
 }
 
 /// Sends the next bytes of a reply, of which `sent` have gone. Where all have, the session is told.

@@ -28,7 +28,7 @@ pub fn a_reply_that_is_begun_is_whole_unless_the_link_fails()
 /// A well-formed request gets data. Where no call of the link failed and memory didn't run out, a request that was
 /// read, up to the one after which the connection ends, has its reply over the collection of one moment. Where it is a
 /// GET or HEAD without a body for a view with rows, whose constraint names what is there, and the body is within the
-/// limit, the bytes written at its place are a head with status 200 and, but to HEAD, that body.
+/// limit, the bytes written for it are a head with status 200 and, but to HEAD, that body.
 #[tactic(auto, using(crate::proofs::WrittenLemmas::data_laws))]
 pub fn a_well_formed_request_gets_data()
     ensures { (call : LinkCall) → Served call → ¬ (HasFailed call) → call.stop ≢ Ended NoMemory

@@ -1,16 +1,15 @@
-//! An attempt to publish at a desk, under its lock.
+//! An attempt to publish at a desk.
 ghost use Rattle.std.specs.Prelude.{◌≡◌, length};
 ghost use Rattle.pub_look.specs.History.{Continues};
 ghost use Rattle.pub_snap.specs.Rule.{longer};
 ghost use Rattle.srv_ingest.specs.Attempts.{HeldAt, OnlyLearnt, Tried};
 
 use crate::change::Change;
-use crate::seat::Seat;
 use fm_model::Tally;
 use pub_look::Look;
 use pub_snap::{Desk, Name, Pass, Share};
 use std::alloc::Global;
-use std::sync::{MutexGuard, Wait};
+use std::sync::Wait;
 
 /// The outcome of an attempt to publish an operation.
 #[derive(Clone, Copy)]
@@ -23,9 +22,9 @@ pub(crate) enum Attempt {
     Short,
 }
 
-// Asks a desk for a change, once it has all that the pass has seen. Then `held` is what is held after the change.
+/// Asks a desk for a change, once it has all that the pass has seen. Then `held` is what is held after the change.
 #[tactic(auto, using(crate::proofs::AttemptLemmas::attempts, crate::proofs::HeldLemmas::helds))]
-fn try_at<N: Name, R: Wait, C: Change>(
+pub(crate) fn try_once<N: Name, R: Wait, C: Change>(
     rt: &R,
     alloc: Global,
     desk: &mut Desk<N>,
@@ -62,34 +61,4 @@ fn learn<N: Name>(pass: &mut Pass<N>, desk: &Desk<N>) -> Attempt
     let receipt = desk.receipt();
     pass.learn(&receipt);
     Attempt::Done(receipt.revision())
-}
-
-/// Asks the desk of a seat for a change, under its lock. The seat then says what is held after it.
-pub(crate) fn try_once<N: Name, R: Wait, C: Change>(
-    rt: &R,
-    alloc: Global,
-    seat: &mut Seat<'_, N>,
-    change: &C,
-) -> Attempt
-    requires { C.fits change.now N.proto }
-    ensures tried { Tried (C.operation change.now) seat.old.pass.now seat.new.pass.now
-        seat.old.share.now seat.new.share.now result }
-    ensures held { HeldAt seat.new.pass.now.seen seat.new.held result }
-    ensures learnt { OnlyLearnt seat.old.pass.now seat.new.pass.now }
-    ensures same { (seat.new.pass.ghost_name ≡ seat.old.pass.ghost_name)
-        × (seat.new.share.ghost_name ≡ seat.old.share.ghost_name) }
-{
-    let desk = seat.desk;
-    let mut guard = desk.lock(rt);
-    let attempt = try_at(
-        rt,
-        alloc,
-        &mut guard,
-        seat.pass,
-        seat.share,
-        &mut seat.held,
-        change,
-    );
-    MutexGuard::unlock(guard);
-    attempt
 }

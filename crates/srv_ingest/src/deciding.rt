@@ -9,7 +9,7 @@ use fm_base::NoMemory;
 use pub_look::Look;
 use pub_snap::{Name, Pass};
 use std::alloc::Global;
-use std::sync::Wait;
+use std::sync::{MutexGuard, Wait};
 
 // Looks whether nothing is to be done, and returns that verdict. `None` where something is.
 fn look_for<N: Name, C: Change>(alloc: Global, pass: &mut Pass<N>, change: &C) -> Option<C::Verdict>
@@ -24,29 +24,8 @@ fn look_for<N: Name, C: Change>(alloc: Global, pass: &mut Pass<N>, change: &C) -
     }
 }
 
-// Asks once for a change, and then looks whether nothing is to be done. `None` where neither gave a verdict.
-fn decide_once<N: Name, R: Wait, C: Change>(
-    rt: &R,
-    alloc: Global,
-    seat: &mut Seat<'_, N>,
-    change: &C,
-) -> Option<C::Verdict>
-    requires { C.fits change.now N.proto }
-    ensures verdict { IfSome result (C.judges change.now seat.new.pass.now.seen) }
-    ensures decides { Decides seat.old.pass.now seat.new.pass.now seat.old.share.now seat.new.share.now
-        (numbers_by C.number_of result) (numbers_by C.look_of result) }
-    ensures held { HeldAfter seat.new.pass.now.seen seat.new.held (numbers_by C.number_of result) }
-    ensures same { (seat.new.pass.ghost_name ≡ seat.old.pass.ghost_name)
-        × (seat.new.share.ghost_name ≡ seat.old.share.ghost_name) }
-{
-    match try_once(rt, alloc, seat, change) {
-        Attempt::Done(number) => Some(change.when_done(number)),
-        Attempt::Short => Some(change.when_short()),
-        Attempt::Again => look_for(alloc, seat.pass, change),
-    }
-}
-
-/// Asks for a change until it is made, or a look shows that nothing is to be done, or memory runs out.
+/// Asks the desk of a seat for a change, under its lock, until it is made, or a look shows that nothing is to be done,
+/// or memory runs out. The seat then says what is held after the change.
 pub(crate) fn decide<N: Name, R: Wait, C: Change>(
     rt: &R,
     alloc: Global,
@@ -62,8 +41,26 @@ pub(crate) fn decide<N: Name, R: Wait, C: Change>(
         × (seat.new.share.ghost_name ≡ seat.old.share.ghost_name) }
 {
     for _ in rt.forever() {
-        if let Some(verdict) = decide_once(rt, alloc, seat, change) {
-            return verdict;
+        let desk = seat.desk;
+        let mut guard = desk.lock(rt);
+        let attempt = try_once(
+            rt,
+            alloc,
+            &mut guard,
+            seat.pass,
+            seat.share,
+            &mut seat.held,
+            change,
+        );
+        MutexGuard::unlock(guard);
+        match attempt {
+            Attempt::Done(number) => return change.when_done(number),
+            Attempt::Short => return change.when_short(),
+            Attempt::Again => {
+                if let Some(verdict) = look_for(alloc, seat.pass, change) {
+                    return verdict;
+                }
+            }
         }
     }
     unreachable!()

@@ -1,12 +1,13 @@
 //! The file under a name.
-ghost use Rattle.std.specs.Prelude.{◌≡◌, IfOk, option_map};
+ghost use Rattle.std.specs.Prelude.{◌≡◌, IfErr, IfOk, option_map};
 ghost use Rattle.fm_base.specs.Answer.{Answers};
+ghost use Rattle.fm_base.specs.declared.fail.Fail.TheVariants as fails;
 ghost use Rattle.fm_model.specs.Load.{Fits};
 ghost use Rattle.dev_traits.specs.Files.{KeepsLimit};
 ghost use Rattle.srv_ingest.specs.Verdicts.{file_or_refusal, taken_back, verdict_of};
 
 use dev_traits::{Found, Verdict};
-use fm_base::Fail;
+use fm_base::{Arc, Fail};
 use fm_load::load;
 use fm_model::{LoadFault, Loaded, MAX_FILE_BYTES, Proto};
 use std::alloc::Global;
@@ -41,6 +42,17 @@ impl Refusal {
     }
 }
 
+// The same file, which may be shared.
+fn shared(alloc: Global, file: Loaded) -> Result<Arc<Loaded>, Fail<Refusal>>
+    ensures ok { IfOk result (λ shared. shared ≡ file) }
+    ensures err { IfErr result (λ fail. fail ≡ fails.NoMemory) }
+{
+    match Arc::new(alloc, file) {
+        Ok(file) => Ok(file),
+        Err(_) => Err(Fail::NoMemory),
+    }
+}
+
 /// The file under a name, or why there is none.
 #[tactic(auto, unfolding(crate::specs::Verdicts::file_or_refusal))]
 pub(crate) fn file_of(
@@ -48,7 +60,7 @@ pub(crate) fn file_of(
     name: &[u8],
     found: Found,
     proto: &Proto,
-) -> Result<Loaded, Fail<Refusal>>
+) -> Result<Arc<Loaded>, Fail<Refusal>>
     requires { KeepsLimit MAX_FILE_BYTES found }
     ensures exact { Answers (file_or_refusal proto.now name.now found) result }
     ensures fits { IfOk result (λ file. Fits file proto.now) }
@@ -57,7 +69,7 @@ pub(crate) fn file_of(
         Found::Absent => Err(Fail::Fault(Refusal::Absent)),
         Found::TooLong(_) => Err(Fail::Fault(Refusal::TooLong)),
         Found::Content(bytes) => match load(alloc, name, bytes, proto) {
-            Ok(file) => Ok(file),
+            Ok(file) => shared(alloc, file),
             Err(Fail::NoMemory) => Err(Fail::NoMemory),
             Err(Fail::Fault(fault)) => Err(Fail::Fault(Refusal::Fault(fault))),
         },

@@ -1,16 +1,7 @@
 //! The turn of one name.
-ghost use Rattle.std.specs.Prelude.{◌≡◌, ◌⊎◌, ◌+◌, ◌≤◌, Ok as Good};
-ghost use Rattle.dev_traits.specs.declared.inbox.Verdict.TheVariants as verdicts;
-ghost use Rattle.fm_model.specs.Load.{Fits};
-ghost use Rattle.srv_ingest.specs.Attempts.{
-  Decides,
-  FindsVerdict,
-  HeldAfter,
-  looked_number,
-  published_number,
-};
+ghost use Rattle.std.specs.Prelude.{◌≡◌, ◌+◌, ◌≤◌};
+ghost use Rattle.srv_ingest.specs.Attempts.{FindsVerdict};
 ghost use Rattle.srv_ingest.specs.Turns.{NextName, TakesNext, operations};
-ghost use Rattle.srv_ingest.specs.Verdicts.{IsVerdictOnFile};
 
 use crate::changes::{Putting, Retracting};
 use crate::deciding::decide;
@@ -20,31 +11,10 @@ use crate::report::{IngestEnd, IngestReport, count_published, count_settled};
 use crate::seat::Seat;
 use dev_traits::{Arrival, Failed, Inbox, Verdict};
 use fm_base::{Arc, Bytes, Fail};
-use fm_model::{Loaded, MAX_FILE_BYTES, Proto};
+use fm_model::{MAX_FILE_BYTES, Proto};
 use pub_snap::Name;
 use std::alloc::Global;
 use std::sync::Wait;
-
-// The verdict on a file that is to come to the collection.
-fn publish_file<N: Name, R: Wait>(
-    rt: &R,
-    alloc: Global,
-    seat: &mut Seat<'_, N>,
-    file: Loaded,
-) -> Verdict
-    requires { Fits file N.proto }
-    ensures verdict { (result ≡ verdicts.Short) ⊎ IsVerdictOnFile seat.new.pass.now.seen (Good file) result }
-    ensures decides { Decides seat.old.pass.now seat.new.pass.now seat.old.share.now seat.new.share.now
-        (published_number result) (looked_number result) }
-    ensures held { HeldAfter seat.new.pass.now.seen seat.new.held (published_number result) }
-    ensures same { (seat.new.pass.ghost_name ≡ seat.old.pass.ghost_name)
-        × (seat.new.share.ghost_name ≡ seat.old.share.ghost_name) }
-{
-    let Ok(file) = Arc::new(alloc, file) else {
-        return Verdict::Short;
-    };
-    decide(rt, alloc, seat, &Putting { file })
-}
 
 // The verdict on a name that arrived, and its line: its file comes to the collection, or the file that it names is
 // taken back. An `Err` says that the inbox failed before there was a verdict.
@@ -74,7 +44,7 @@ fn verdict_on<N: Name, R: Wait, I: Inbox>(
     };
     match file_of(alloc, name, found, proto.get()) {
         Ok(file) => {
-            let verdict = publish_file(rt, alloc, seat, file);
+            let verdict = decide(rt, alloc, seat, &Putting { file });
             note_put(inbox, name, seat.held, verdict);
             Ok(verdict)
         }

@@ -74,12 +74,12 @@ pub record Finds (input : List ℕ) (before : ℕ) (call : LinkCall) : Type 0 wh
 ended-last : {input : List ℕ} {before : ℕ} (call : LinkCall) (end : LinkEnd) → Finds input before call
     → EndsAfterReply call end → HasLast input (before + length call.trail)
 ended-last {input} {before} call end finds after = record {
-  index = before + after.place;
+  index = before + after.index;
   item = after.item;
-  below = omega (arith, after.place_is);
-  item_is = Reads-there after.place after.item finds.reads after.item_is;
-  last_is = ap (λ (n : ℕ). is_last after.item (n + after.place + 1)) (sym finds.counted)
-      ∙ last-ends after.item (call.session.before + after.place) ∙ ap is_some after.end_is;
+  below = omega (arith, after.index_is);
+  item_is = Reads-there after.index after.item finds.reads after.item_is;
+  last_is = ap (λ (n : ℕ). is_last after.item (n + after.index + 1)) (sym finds.counted)
+      ∙ last-ends after.item (call.session.before + after.index) ∙ ap is_some after.end_is;
 }
 
 -- where the link stopped short of its replies, no request was left for them

@@ -8,7 +8,7 @@ use Rattle.fm_model.specs.declared.proto.Proto.{Proto}
 use Rattle.srv_ingest.specs.declared.report.ExpireReport.{ExpireReport}
 use Rattle.srv_ingest.specs.Expires.{AreAll, SettledMoment}
 use Rattle.srv_words.specs.declared.job.Serving.{Serving}
-use Rattle.srv_workers.specs.declared.outcome.Devices.{Devices}
+use Rattle.dev_traits.specs.declared.world.Devices.{Devices}
 use Rattle.srv_workers.specs.declared.outcome.Outcome.{Outcome}
 use Rattle.srv_workers.specs.Runs.{IsClockRun, Run}
 use Rattle.srv_serve.specs.Devices.{kept_for, OpensDevices}

@@ -17,11 +17,11 @@ revisions marks = map (λ (mark : Mark). mark.revision) marks
 
 -- each reply is whole, or it is the last one and the link failed
 abbrev pub AreWholeOrCut : Type 0 → Proto → List Op → List Mark → List Item → ℕ → Type 0
-AreWholeOrCut Failed proto ops marks items before = (place : ℕ) (mark : Mark) (item : Item)
-    → slice_get marks place ≡ Some mark → slice_get items place ≡ Some item
-    → (mark.sent ≡ length (marked_reply proto ops mark item (before + place + 1)))
-    ⊎ (Failed × (place + 1 ≡ length marks)
-    × (mark.sent ≤ length (marked_reply proto ops mark item (before + place + 1))))
+AreWholeOrCut Failed proto ops marks items before = (index : ℕ) (mark : Mark) (item : Item)
+    → slice_get marks index ≡ Some mark → slice_get items index ≡ Some item
+    → (mark.sent ≡ length (marked_reply proto ops mark item (before + index + 1)))
+    ⊎ (Failed × (index + 1 ≡ length marks)
+    × (mark.sent ≤ length (marked_reply proto ops mark item (before + index + 1))))
 
 -- these are the first bytes of a script, and all of them unless the link failed
 pub record IsFront (Failed : Type 0) (script bytes : List ℕ) : Type 0 where
@@ -55,12 +55,12 @@ front-cut Failed reply script count failed within = record {
 later-replies : (Failed : Type 0) (proto : Proto) (ops : List Op) (mark : Mark) (marks : List Mark) (item : Item)
     (items : List Item) (before : ℕ) → AreWholeOrCut Failed proto ops (mark ∷ marks) (item ∷ items) before
     → AreWholeOrCut Failed proto ops marks items (before + 1)
-later-replies Failed proto ops mark marks item items before each place next found there is =
-    let number : before + suc place + 1 ≡ before + 1 + place + 1 = omega arith in
-    elim (each (suc place) next found there is) [
+later-replies Failed proto ops mark marks item items before each index next found there is =
+    let number : before + suc index + 1 ≡ before + 1 + index + 1 = omega arith in
+    elim (each (suc index) next found there is) [
       | inl whole ↦ inl (subst (λ (n : ℕ). next.sent ≡ length (marked_reply proto ops next found n)) number whole)
       | inr cut ↦
-          let last : suc place + 1 ≡ suc (length marks) = cut.1 in
+          let last : suc index + 1 ≡ suc (length marks) = cut.1 in
           inr (
             cut.0,
             omega (arith, last),

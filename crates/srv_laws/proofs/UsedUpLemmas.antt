@@ -16,7 +16,7 @@ use Rattle.srv_ingest.specs.declared.report.IngestEnd.{IngestEnd}
 use Rattle.srv_ingest.specs.declared.report.IngestEnd.TheVariants as inbox_ends
 use Rattle.srv_ingest.specs.declared.report.IngestReport.{IngestReport}
 use Rattle.srv_words.specs.declared.job.Serving.{Serving}
-use Rattle.srv_workers.specs.declared.outcome.Devices.{Devices}
+use Rattle.dev_traits.specs.declared.world.Devices.{Devices}
 use Rattle.srv_workers.specs.declared.outcome.Outcome.{Outcome}
 use Rattle.srv_workers.specs.Runs.{AreRuns, IsDoorRun, IsInboxRun, Run}
 use Rattle.srv_alone.specs.declared.end.End.{End}

@@ -114,7 +114,7 @@ in_row seed n view row there =
     let file = in_files seed n row.file (in_from_Contains row.file (files_of seed n) has.held) in
     let time = in_times file.0 65 row.valid
     (subst (λ (f : Loaded). In row.valid f.times) (sym file.2)
-    (in_from_slice_get row.file.times row.place row.valid has.time_is)) in
+    (in_from_slice_get row.file.times row.index row.valid has.time_is)) in
     (file.0, time.0, file.1, time.1, ap (λ (f : Loaded). f.run) file.2 ∙ has.run_is, time.2)
 
 -- a view has a row of a run and a time that it shows
@@ -131,7 +131,7 @@ In-row seed n k j view below within shows =
     } in
     let found = value-from_some (cell files run valid)
     (cell-from_file files run valid (held_file seed k) (In-files seed n k below) has) in
-    let row : Row = record { valid = valid; run = run; file = found.0.0; place = found.0.1 } in
+    let row : Row = record { valid = valid; run = run; file = found.0.0; index = found.0.1 } in
     (row, in_from_Contains row (rows files view) ((Contains-rows files view row).1 (found.1, shows)), refl)
 
 -- the offset 0 has a row of each run

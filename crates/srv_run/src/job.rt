@@ -9,7 +9,7 @@ ghost use Rattle.srv_alone.specs.Once.{RunsOnce};
 ghost use Rattle.srv_run.specs.Run as spec;
 ghost use Rattle.srv_serve.specs.Stage.{LeavesDevices, shows, stage_of};
 
-use dev_traits::{Door, Files, Gate, Link, Opener, Sink, World};
+use dev_traits::{Door, Machine, World};
 use fm_base::{Bytes, Fail, List};
 use fm_model::Site;
 use srv_alone::{End, check, load, once, report};
@@ -21,18 +21,18 @@ use std::sync::Wait;
 use std::thread::Threads;
 
 // Runs `once`.
-fn do_steps<O: Opener, F: Files, L: Link, S: Sink, G: Gate>(
+fn do_steps<M: Machine>(
     alloc: Global,
     site: Site,
     path: &[u8],
     steps: &[Step],
-    world: &mut World<O, F, L, S, G>,
+    world: &mut World<M>,
 ) -> End
-    requires blocks { L.blocks }
+    requires blocks { M.L.blocks }
     requires site { IsSite site }
-    ensures runs { let shown = world_shown F.shown L.shown S.shown in
+    ensures runs { let shown = world_shown M.F.shown M.L.shown M.S.shown in
         RunsOnce site path.now steps.now result (shown world.old) (shown world.new) }
-    ensures leaves { let stage = stage_of O.shown F.shown L.shown S.shown in
+    ensures leaves { let stage = stage_of M.shown M.F.shown M.L.shown M.S.shown in
         LeavesDevices (stage world.old) (stage world.new) }
 {
     let World {
@@ -45,47 +45,34 @@ fn do_steps<O: Opener, F: Files, L: Link, S: Sink, G: Gate>(
 }
 
 // Runs `check`.
-fn check_path<O: Opener, F: Files, L: Link, S: Sink, G: Gate>(
-    alloc: Global,
-    path: &[u8],
-    world: &mut World<O, F, L, S, G>,
-) -> End
-    ensures runs { let shown = world_shown F.shown L.shown S.shown in
+fn check_path<M: Machine>(alloc: Global, path: &[u8], world: &mut World<M>) -> End
+    ensures runs { let shown = world_shown M.F.shown M.L.shown M.S.shown in
         spec.RunsCheck path.now result (shown world.old) (shown world.new) }
-    ensures leaves { let stage = stage_of O.shown F.shown L.shown S.shown in
+    ensures leaves { let stage = stage_of M.shown M.F.shown M.L.shown M.S.shown in
         LeavesDevices (stage world.old) (stage world.new) }
 {
     check(alloc, &mut world.files, &mut world.sink, path)
 }
 
 // Runs `load`.
-fn load_files<O: Opener, F: Files, L: Link, S: Sink, G: Gate>(
-    alloc: Global,
-    seed: u32,
-    files: u32,
-    world: &mut World<O, F, L, S, G>,
-) -> End
+fn load_files<M: Machine>(alloc: Global, seed: u32, files: u32, world: &mut World<M>) -> End
     requires some { 0 < files }
     requires few { files ≤ 400 }
-    ensures runs { let shown = world_shown F.shown L.shown S.shown in
+    ensures runs { let shown = world_shown M.F.shown M.L.shown M.S.shown in
         spec.RunsLoad seed files result (shown world.old) (shown world.new) }
-    ensures leaves { let stage = stage_of O.shown F.shown L.shown S.shown in
+    ensures leaves { let stage = stage_of M.shown M.F.shown M.L.shown M.S.shown in
         LeavesDevices (stage world.old) (stage world.new) }
 {
     load(alloc, &mut world.sink, seed, files)
 }
 
 // Does a job that waits for nobody.
-fn do_alone<O: Opener, F: Files, L: Link, S: Sink, G: Gate>(
-    alloc: Global,
-    job: Job,
-    world: &mut World<O, F, L, S, G>,
-) -> End
-    requires blocks { L.blocks }
+fn do_alone<M: Machine>(alloc: Global, job: Job, world: &mut World<M>) -> End
+    requires blocks { M.L.blocks }
     requires job { IsJob job }
     requires alone { spec.IsAlone job }
-    ensures { let stage = stage_of O.shown F.shown L.shown S.shown in
-        spec.DoesJob (shows O.D.shown O.D.L.shown O.I.shown O.C.shown) (Some job) result
+    ensures { let stage = stage_of M.shown M.F.shown M.L.shown M.S.shown in
+        spec.DoesJob (shows M.D.shown M.D.L.shown M.I.shown M.C.shown) (Some job) result
         (stage world.old) (stage world.new) }
 {
     match job {
@@ -95,30 +82,6 @@ fn do_alone<O: Opener, F: Files, L: Link, S: Sink, G: Gate>(
         Job::Check { path } => check_path(alloc, path.as_slice(), world),
         Job::Load { seed, files } => load_files(alloc, seed, files, world),
         Job::Serve(_) => unreachable!(),
-    }
-}
-
-// Does a job.
-fn do_job<R: Threads + Wait + Sync, O: Opener, F: Files, L: Link, S: Sink, G: Gate + Sync>(
-    rt: &R,
-    alloc: Global,
-    job: Job,
-    world: &mut World<O, F, L, S, G>,
-) -> End
-where
-    O::D: Send,
-    O::I: Send,
-    O::C: Send,
-    <O::D as Door>::L: Send,
-    requires blocks { L.blocks }
-    requires job { IsJob job }
-    ensures { let stage = stage_of O.shown F.shown L.shown S.shown in
-        spec.DoesJob (shows O.D.shown O.D.L.shown O.I.shown O.C.shown) (Some job) result
-        (stage world.old) (stage world.new) }
-{
-    match job {
-        Job::Serve(serving) => serve(rt, alloc, &serving, world),
-        job => do_alone(alloc, job, world),
     }
 }
 
@@ -167,12 +130,9 @@ pub(crate) fn command_or_end(
 }
 
 // Reports an end at which no file is named, and returns it.
-fn say<O: Opener, F: Files, L: Link, S: Sink, G: Gate>(
-    world: &mut World<O, F, L, S, G>,
-    end: End,
-) -> End
+fn say<M: Machine>(world: &mut World<M>, end: End) -> End
     ensures end { result ≡ end }
-    ensures says { let stage = stage_of O.shown F.shown L.shown S.shown in
+    ensures says { let stage = stage_of M.shown M.F.shown M.L.shown M.S.shown in
         spec.Says end (stage world.old) (stage world.new) }
 {
     report(&mut world.sink, end, b"");
@@ -180,17 +140,17 @@ fn say<O: Opener, F: Files, L: Link, S: Sink, G: Gate>(
 }
 
 // Does the job that was found, which waits for nobody, or says why there is none. Returns the status of the program.
-pub(crate) fn do_found_alone<O: Opener, F: Files, L: Link, S: Sink, G: Gate>(
+pub(crate) fn do_found_alone<M: Machine>(
     alloc: Global,
     found: Result<Job, End>,
-    world: &mut World<O, F, L, S, G>,
+    world: &mut World<M>,
 ) -> u8
-    requires blocks { L.blocks }
+    requires blocks { M.L.blocks }
     requires job { IfOk found IsJob }
     requires alone { IfOk found spec.IsAlone }
-    ensures { let stage = stage_of O.shown F.shown L.shown S.shown in
+    ensures { let stage = stage_of M.shown M.F.shown M.L.shown M.S.shown in
         (job : Option Work) → spec.IsJobOrEnd job found
-        → spec.Runs (shows O.D.shown O.D.L.shown O.I.shown O.C.shown) job result
+        → spec.Runs (shows M.D.shown M.D.L.shown M.I.shown M.C.shown) job result
         (stage world.old) (stage world.new) }
 {
     let end = match found {
@@ -201,28 +161,28 @@ pub(crate) fn do_found_alone<O: Opener, F: Files, L: Link, S: Sink, G: Gate>(
 }
 
 // Does the job that was found, or says why there is none. Returns the status of the program.
-pub(crate) fn do_found<
-    R: Threads + Wait + Sync,
-    O: Opener,
-    F: Files,
-    L: Link,
-    S: Sink,
-    G: Gate + Sync,
->(rt: &R, alloc: Global, found: Result<Job, End>, world: &mut World<O, F, L, S, G>) -> u8
+pub(crate) fn do_found<R: Threads + Wait + Sync, M: Machine>(
+    rt: &R,
+    alloc: Global,
+    found: Result<Job, End>,
+    world: &mut World<M>,
+) -> u8
 where
-    O::D: Send,
-    O::I: Send,
-    O::C: Send,
-    <O::D as Door>::L: Send,
-    requires blocks { L.blocks }
+    M::D: Send,
+    M::I: Send,
+    M::C: Send,
+    M::G: Sync,
+    <M::D as Door>::L: Send,
+    requires blocks { M.L.blocks }
     requires job { IfOk found IsJob }
-    ensures { let stage = stage_of O.shown F.shown L.shown S.shown in
+    ensures { let stage = stage_of M.shown M.F.shown M.L.shown M.S.shown in
         (job : Option Work) → spec.IsJobOrEnd job found
-        → spec.Runs (shows O.D.shown O.D.L.shown O.I.shown O.C.shown) job result
+        → spec.Runs (shows M.D.shown M.D.L.shown M.I.shown M.C.shown) job result
         (stage world.old) (stage world.new) }
 {
     let end = match found {
-        Ok(job) => do_job(rt, alloc, job, world),
+        Ok(Job::Serve(serving)) => serve(rt, alloc, &serving, world),
+        Ok(job) => do_alone(alloc, job, world),
         Err(end) => say(world, end),
     };
     end.status()

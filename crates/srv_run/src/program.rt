@@ -7,7 +7,7 @@ ghost use Rattle.srv_run.specs.Run as spec;
 ghost use Rattle.srv_serve.specs.Stage.{shows, stage_of};
 
 use crate::job::{command_or_end, do_found, do_found_alone, job_or_end};
-use dev_traits::{Door, Files, Gate, Link, Opener, Sink, World};
+use dev_traits::{Door, Machine, World};
 use fm_base::{Bytes, List};
 use srv_alone::End;
 use srv_words::{Command, reason_of};
@@ -18,16 +18,16 @@ use std::sync::Wait;
 use std::thread::Threads;
 
 // Runs a command that waits for nobody but the devices.
-fn run_alone<O: Opener, F: Files, L: Link, S: Sink, G: Gate>(
+fn run_alone<M: Machine>(
     alloc: Global,
     words: &List<Bytes>,
     command: Command,
-    world: &mut World<O, F, L, S, G>,
+    world: &mut World<M>,
 ) -> u8
-    requires blocks { L.blocks }
+    requires blocks { M.L.blocks }
     requires alone { command ≡ commands.Serve → ⊥ }
-    ensures { let stage = stage_of O.shown F.shown L.shown S.shown in
-        spec.Ends (shows O.D.shown O.D.L.shown O.I.shown O.C.shown)
+    ensures { let stage = stage_of M.shown M.F.shown M.L.shown M.S.shown in
+        spec.Ends (shows M.D.shown M.D.L.shown M.I.shown M.C.shown)
         (spec.only command (job_of words.now)) result (stage world.old) (stage world.new) }
 {
     let found = command_or_end(alloc, words, command);
@@ -57,14 +57,10 @@ fn run_alone<O: Opener, F: Files, L: Link, S: Sink, G: Gate>(
 /// | 11 | `input ended` | exactly where the link ended before an `ask` had its replies |
 ///
 /// The first step that isn't done ends the run. A line that can't be written changes no status.
-pub fn run_once<O: Opener, F: Files, L: Link, S: Sink, G: Gate>(
-    alloc: Global,
-    words: &List<Bytes>,
-    world: &mut World<O, F, L, S, G>,
-) -> u8
-    requires blocks { L.blocks }
-    ensures { let stage = stage_of O.shown F.shown L.shown S.shown in
-        spec.Ends (shows O.D.shown O.D.L.shown O.I.shown O.C.shown)
+pub fn run_once<M: Machine>(alloc: Global, words: &List<Bytes>, world: &mut World<M>) -> u8
+    requires blocks { M.L.blocks }
+    ensures { let stage = stage_of M.shown M.F.shown M.L.shown M.S.shown in
+        spec.Ends (shows M.D.shown M.D.L.shown M.I.shown M.C.shown)
         (spec.only commands.Once (job_of words.now)) result (stage world.old) (stage world.new) }
 {
     run_alone(alloc, words, Command::Once, world)
@@ -84,14 +80,10 @@ pub fn run_once<O: Opener, F: Files, L: Link, S: Sink, G: Gate>(
 /// | 10 | `no file FILE`, `too long FILE LEN` | exactly where the path has no file, or one of over 536,870,912 bytes |
 ///
 /// A line of another status that can't be written changes no status. The link isn't used.
-pub fn run_check<O: Opener, F: Files, L: Link, S: Sink, G: Gate>(
-    alloc: Global,
-    words: &List<Bytes>,
-    world: &mut World<O, F, L, S, G>,
-) -> u8
-    requires blocks { L.blocks }
-    ensures { let stage = stage_of O.shown F.shown L.shown S.shown in
-        spec.Ends (shows O.D.shown O.D.L.shown O.I.shown O.C.shown)
+pub fn run_check<M: Machine>(alloc: Global, words: &List<Bytes>, world: &mut World<M>) -> u8
+    requires blocks { M.L.blocks }
+    ensures { let stage = stage_of M.shown M.F.shown M.L.shown M.S.shown in
+        spec.Ends (shows M.D.shown M.D.L.shown M.I.shown M.C.shown)
         (spec.only commands.Check (job_of words.now)) result (stage world.old) (stage world.new) }
 {
     run_alone(alloc, words, Command::Check, world)
@@ -111,14 +103,10 @@ pub fn run_check<O: Opener, F: Files, L: Link, S: Sink, G: Gate>(
 /// the dataset of the first run, of the offset 0, and of the forecast at the last run; S is the sum of the bytes of
 /// their data modulo 2^32. A line of another status that can't be written changes no status. No file is read, nor is
 /// the link used.
-pub fn run_load<O: Opener, F: Files, L: Link, S: Sink, G: Gate>(
-    alloc: Global,
-    words: &List<Bytes>,
-    world: &mut World<O, F, L, S, G>,
-) -> u8
-    requires blocks { L.blocks }
-    ensures { let stage = stage_of O.shown F.shown L.shown S.shown in
-        spec.Ends (shows O.D.shown O.D.L.shown O.I.shown O.C.shown)
+pub fn run_load<M: Machine>(alloc: Global, words: &List<Bytes>, world: &mut World<M>) -> u8
+    requires blocks { M.L.blocks }
+    ensures { let stage = stage_of M.shown M.F.shown M.L.shown M.S.shown in
+        spec.Ends (shows M.D.shown M.D.L.shown M.I.shown M.C.shown)
         (spec.only commands.Load (job_of words.now)) result (stage world.old) (stage world.new) }
 {
     run_alone(alloc, words, Command::Load, world)
@@ -147,20 +135,21 @@ pub fn run_load<O: Opener, F: Files, L: Link, S: Sink, G: Gate>(
 /// and times that the collection holds at the end, and V the operations that were published, P + T + E of them. The
 /// first worker that didn't end well gives the status: doors come before inboxes, and these before the clock. A line
 /// of another status that can't be written changes no status. The devices stand in the world as they were left.
-pub fn run_serve<R: Threads + Wait + Sync, O: Opener, F: Files, L: Link, S: Sink, G: Gate + Sync>(
+pub fn run_serve<R: Threads + Wait + Sync, M: Machine>(
     rt: &R,
     alloc: Global,
     words: &List<Bytes>,
-    world: &mut World<O, F, L, S, G>,
+    world: &mut World<M>,
 ) -> u8
 where
-    O::D: Send,
-    O::I: Send,
-    O::C: Send,
-    <O::D as Door>::L: Send,
-    requires blocks { L.blocks }
-    ensures { let stage = stage_of O.shown F.shown L.shown S.shown in
-        spec.Ends (shows O.D.shown O.D.L.shown O.I.shown O.C.shown)
+    M::D: Send,
+    M::I: Send,
+    M::C: Send,
+    M::G: Sync,
+    <M::D as Door>::L: Send,
+    requires blocks { M.L.blocks }
+    ensures { let stage = stage_of M.shown M.F.shown M.L.shown M.S.shown in
+        spec.Ends (shows M.D.shown M.D.L.shown M.I.shown M.C.shown)
         (spec.only commands.Serve (job_of words.now)) result (stage world.old) (stage world.new) }
 {
     let found = command_or_end(alloc, words, Command::Serve);
@@ -169,20 +158,21 @@ where
 
 /// Does what the words ask for, without the program's own name, reports how it ended, and returns the status of the
 /// program: as the call of the command that the words name, whose other calls have the same answers for bad words.
-pub fn run<R: Threads + Wait + Sync, O: Opener, F: Files, L: Link, S: Sink, G: Gate + Sync>(
+pub fn run<R: Threads + Wait + Sync, M: Machine>(
     rt: &R,
     alloc: Global,
     words: &List<Bytes>,
-    world: &mut World<O, F, L, S, G>,
+    world: &mut World<M>,
 ) -> u8
 where
-    O::D: Send,
-    O::I: Send,
-    O::C: Send,
-    <O::D as Door>::L: Send,
-    requires blocks { L.blocks }
-    ensures { let stage = stage_of O.shown F.shown L.shown S.shown in
-        spec.Ends (shows O.D.shown O.D.L.shown O.I.shown O.C.shown)
+    M::D: Send,
+    M::I: Send,
+    M::C: Send,
+    M::G: Sync,
+    <M::D as Door>::L: Send,
+    requires blocks { M.L.blocks }
+    ensures { let stage = stage_of M.shown M.F.shown M.L.shown M.S.shown in
+        spec.Ends (shows M.D.shown M.D.L.shown M.I.shown M.C.shown)
         (job_of words.now) result (stage world.old) (stage world.new) }
 {
     let found = job_or_end(alloc, words);
@@ -201,22 +191,24 @@ fn told(alloc: Global, words: &List<Bytes>, status: u8) -> Option<String> {
 
 /// As [`run`], for a process that ends with the status; and a second line for a person where the words are bad: which
 /// word is faulty, and why. No clause speaks of that text.
-pub fn run_process<R: Threads + Wait + Sync, O: Opener, F: Files, L: Link, S: Sink, G: Gate + Sync>(
+pub fn run_process<R: Threads + Wait + Sync, M: Machine>(
     rt: &R,
     alloc: Global,
     words: &List<Bytes>,
-    world: &mut World<O, F, L, S, G>,
+    world: &mut World<M>,
 ) -> (ExitCode, Option<String>)
 where
-    O::D: Send,
-    O::I: Send,
-    O::C: Send,
-    <O::D as Door>::L: Send,
-    requires blocks { L.blocks }
-    ensures { let stage = stage_of O.shown F.shown L.shown S.shown in
-        spec.Ends (shows O.D.shown O.D.L.shown O.I.shown O.C.shown)
+    M::D: Send,
+    M::I: Send,
+    M::C: Send,
+    M::G: Sync,
+    <M::D as Door>::L: Send,
+    requires blocks { M.L.blocks }
+    ensures { let stage = stage_of M.shown M.F.shown M.L.shown M.S.shown in
+        spec.Ends (shows M.D.shown M.D.L.shown M.I.shown M.C.shown)
         (job_of words.now) (exit_status result.0) (stage world.old) (stage world.new) }
 {
-    let status = run(rt, alloc, words, world);
+    let found = job_or_end(alloc, words);
+    let status = do_found(rt, alloc, found, world);
     (ExitCode::from(status), told(alloc, words, status))
 }

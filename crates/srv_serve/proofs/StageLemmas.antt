@@ -5,7 +5,7 @@ use Rattle.fm_base.specs.declared.fail.Fail.TheVariants.{NoMemory, Fault}
 use Rattle.dev_traits.specs.Cause.{count_after}
 use Rattle.dev_traits.specs.Opener.{Stock}
 use Rattle.srv_words.specs.declared.job.Serving.{Serving}
-use Rattle.srv_workers.specs.declared.outcome.Devices.{Devices}
+use Rattle.dev_traits.specs.declared.world.Devices.{Devices}
 use Rattle.srv_alone.specs.declared.end.End.TheVariants.{DoorFault, InboxFault}
 use Rattle.srv_serve.specs.Devices.{door_request, OpensDevices, StopsAt}
 use Rattle.srv_serve.specs.Opening.{end_of, OpensClock, OpensDoors, OpensInboxes}

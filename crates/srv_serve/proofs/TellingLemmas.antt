@@ -4,7 +4,7 @@ use Rattle.dev_traits.specs.Lines.{Notes, Tells}
 use Rattle.dev_traits.specs.Opener.{opener_lines, OpenerShown, with_opener_lines}
 use Rattle.dev_traits.proofs.TellLemmas.{Tells-one}
 use Rattle.srv_words.specs.declared.job.Serving.{Serving}
-use Rattle.srv_workers.specs.declared.outcome.Devices.{Devices}
+use Rattle.dev_traits.specs.declared.world.Devices.{Devices}
 use Rattle.srv_serve.specs.Devices.{AreAllOpened}
 use Rattle.srv_serve.specs.Telling.{serving_line, TellsServing}
 

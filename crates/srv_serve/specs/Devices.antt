@@ -4,7 +4,7 @@ use Rattle.dev_traits.specs.Cause.{one_more}
 use Rattle.dev_traits.specs.declared.door.DoorAsked.{DoorAsked}
 use Rattle.dev_traits.specs.Opener.{Stock}
 use Rattle.srv_words.specs.declared.job.Serving.{Serving}
-use Rattle.srv_workers.specs.declared.outcome.Devices.{Devices}
+use Rattle.dev_traits.specs.declared.world.Devices.{Devices}
 use Rattle.srv_alone.specs.declared.end.End.{End}
 use Rattle.srv_alone.specs.declared.end.End.TheVariants.{NoMemory, DoorFault, InboxFault}
 use Rattle.srv_serve.specs.Opening.{OpensClock, OpensDoors, OpensInboxes}

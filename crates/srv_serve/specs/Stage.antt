@@ -7,7 +7,7 @@ use Rattle.dev_traits.specs.Door.{DoorShown}
 use Rattle.dev_traits.specs.Inbox.{InboxShown}
 use Rattle.dev_traits.specs.Opener.{OpenerShown}
 use Rattle.dev_traits.specs.World.{WorldShown, world_shown}
-use Rattle.srv_workers.specs.declared.outcome.Devices.{Devices}
+use Rattle.dev_traits.specs.declared.world.Devices.{Devices}
 
 -- what doors, their links, inboxes and clocks show
 pub record Shows (D I C L : Type 0) : Type 0 where
@@ -27,12 +27,12 @@ pub record Stage (D I C : Type 0) : Type 0 where
   pub devices : Devices D I C
 
 -- the same, by what the opener, the files, the link and the sink of a world show
-abbrev pub stage_of : {O F L S G D I C M : Type 0} → (O → OpenerShown D I C) → (F → FilesShown) → (L → LinkShown)
-    → (S → SinkShown) → World O F L S G D I C M → Stage D I C
+abbrev pub stage_of : {M D I C F L S G K : Type 0} → (M → OpenerShown D I C) → (F → FilesShown) → (L → LinkShown)
+    → (S → SinkShown) → World M D I C F L S G K → Stage D I C
 stage_of opener files link sink world = record {
   outside = world_shown files link sink world;
   opener = opener world.opener;
-  devices = record { doors = world.doors; inboxes = world.inboxes; clocks = world.clocks };
+  devices = world.devices;
 }
 
 -- The opener and the devices are as before.

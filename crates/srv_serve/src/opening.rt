@@ -6,31 +6,30 @@ ghost use Rattle.srv_serve.specs.Devices as devices;
 ghost use Rattle.srv_serve.specs.Opening as spec;
 ghost use Rattle.srv_serve.specs.Stage.{shows};
 
-use dev_traits::{Failed, Opener};
+use dev_traits::{Failed, Machine, Opened};
 use fm_base::{Bytes, Fail, List, NoMemory};
 use srv_alone::End;
 use srv_words::Serving;
-use srv_workers::Devices;
 use std::alloc::Global;
 
 // Opens `count` doors at an address for `connections` links each. Room for all is made first, so each opened door
 // stands in the list, also where a further one isn't opened.
 #[tactic(auto, using(crate::proofs::OpeningLemmas::doors))]
-pub(crate) fn open_doors<O: Opener>(
+pub(crate) fn open_doors<M: Machine>(
     alloc: Global,
-    opener: &mut O,
-    doors: &mut List<O::D>,
+    opener: &mut M,
+    doors: &mut List<M::D>,
     address: &[u8],
     connections: u32,
     count: u32,
 ) -> Result<(), Fail<Failed>>
     requires empty { doors.old ≡ [] }
     requires some { 0 < count }
-    ensures opens { spec.OpensDoors O.D.shown (record { address = address.now; connections = connections })
-        (O.shown opener.old).held (O.shown opener.new).held doors.new }
+    ensures opens { spec.OpensDoors M.D.shown (record { address = address.now; connections = connections })
+        (M.shown opener.old).held (M.shown opener.new).held doors.new }
     ensures all { OnOk result (length doors.new ≡ count) }
     ensures short { OnErr result (length doors.new < count) }
-    ensures cause { HasReadCause (O.shown opener.old).faults (O.shown opener.new).faults result }
+    ensures cause { HasReadCause (M.shown opener.old).faults (M.shown opener.new).faults result }
 {
     doors.items.reserve(count as usize)?;
     for _number in 0..count {
@@ -42,19 +41,19 @@ pub(crate) fn open_doors<O: Opener>(
 
 // Opens the inboxes of the folders. Room for all is made first.
 #[tactic(auto, using(crate::proofs::OpeningLemmas::inboxes))]
-pub(crate) fn open_inboxes<O: Opener>(
+pub(crate) fn open_inboxes<M: Machine>(
     alloc: Global,
-    opener: &mut O,
-    inboxes: &mut List<O::I>,
+    opener: &mut M,
+    inboxes: &mut List<M::I>,
     folders: &[Bytes],
 ) -> Result<(), Fail<Failed>>
     requires empty { inboxes.old ≡ [] }
     requires some { 0 < length folders.now }
-    ensures opens { spec.OpensInboxes O.I.shown folders.now (O.shown opener.old).held (O.shown opener.new).held
+    ensures opens { spec.OpensInboxes M.I.shown folders.now (M.shown opener.old).held (M.shown opener.new).held
         inboxes.new }
     ensures all { OnOk result (length inboxes.new ≡ length folders.now) }
     ensures short { OnErr result (length inboxes.new < length folders.now) }
-    ensures cause { HasReadCause (O.shown opener.old).faults (O.shown opener.new).faults result }
+    ensures cause { HasReadCause (M.shown opener.old).faults (M.shown opener.new).faults result }
 {
     inboxes.items.reserve(folders.len())?;
     for folder in folders {
@@ -65,16 +64,16 @@ pub(crate) fn open_inboxes<O: Opener>(
 }
 
 // Opens the clock where runs are kept for a time. Room for it is made first.
-fn open_clock<O: Opener>(
-    opener: &mut O,
-    clocks: &mut List<O::C>,
+fn open_clock<M: Machine>(
+    opener: &mut M,
+    clocks: &mut List<M::C>,
     serving: &Serving,
 ) -> Result<(), NoMemory>
     requires { clocks.old ≡ [] }
-    ensures opens { spec.OpensClock O.C.shown serving.now.ticks (O.shown opener.old).held (O.shown opener.new).held
+    ensures opens { spec.OpensClock M.C.shown serving.now.ticks (M.shown opener.old).held (M.shown opener.new).held
         clocks.new }
     ensures all { OnOk result (length clocks.new ≡ devices.clocks_for serving.now.keep) }
-    ensures calm { (O.shown opener.new).faults ≡ (O.shown opener.old).faults }
+    ensures calm { (M.shown opener.new).faults ≡ (M.shown opener.old).faults }
 {
     if serving.keep.is_some() {
         clocks.items.reserve(1)?;
@@ -95,20 +94,20 @@ fn end_of(fail: Fail<Failed>, end: End) -> End
 
 // Opens all devices of a server. Where that stops short, the opened ones stand in their lists.
 #[tactic(auto, using(crate::proofs::StageLemmas::stages))]
-pub(crate) fn open_devices<O: Opener>(
+pub(crate) fn open_devices<M: Machine>(
     alloc: Global,
-    opener: &mut O,
+    opener: &mut M,
     serving: &Serving,
-    opened: &mut Devices<O::D, O::I, O::C>,
+    opened: &mut Opened<M>,
 ) -> Result<(), End>
     requires serving { IsServing serving.now }
     requires none { opened.old ≡ record { doors = []; inboxes = []; clocks = [] } }
-    ensures opens { devices.OpensDevices (shows O.D.shown O.D.L.shown O.I.shown O.C.shown) serving.now
-        (O.shown opener.old).held (O.shown opener.new).held opened.new }
+    ensures opens { devices.OpensDevices (shows M.D.shown M.D.L.shown M.I.shown M.C.shown) serving.now
+        (M.shown opener.old).held (M.shown opener.new).held opened.new }
     ensures all { OnOk result
-        (devices.AreAllOpened serving.now opened.new (O.shown opener.old).faults (O.shown opener.new).faults) }
+        (devices.AreAllOpened serving.now opened.new (M.shown opener.old).faults (M.shown opener.new).faults) }
     ensures stops { IfErr result
-        (devices.StopsAt serving.now opened.new (O.shown opener.old).faults (O.shown opener.new).faults) }
+        (devices.StopsAt serving.now opened.new (M.shown opener.old).faults (M.shown opener.new).faults) }
 {
     let address = serving.listen.as_slice();
     let doors = &mut opened.doors;

@@ -9,12 +9,12 @@ ghost use Rattle.srv_serve.specs.Stage.{shows, stage_of};
 use crate::closing::close;
 use crate::opening::open_devices;
 use crate::telling::tell_serving;
-use dev_traits::{Door, Files, Gate, Link, Opener, Sink, World};
-use fm_base::{Arc, Bytes, List, NoMemory};
+use dev_traits::{Devices, Door, Files, Machine, Opened, World};
+use fm_base::{Arc, Bytes, NoMemory};
 use fm_model::{Proto, Site};
 use srv_alone::{End, read_prototype, report};
 use srv_words::Serving;
-use srv_workers::{Devices, Outcome, can_start, run_workers};
+use srv_workers::{Outcome, can_start, run_workers};
 use std::alloc::Global;
 use std::marker::{Send, Sync};
 use std::sync::Wait;
@@ -45,36 +45,6 @@ fn read_shared<F: Files>(alloc: Global, files: &mut F, serving: &Serving) -> Res
     Ok(Arc::new(alloc, proto)?)
 }
 
-// Opens all devices, tells so, and has workers run over them.
-fn open_and_run<R: Threads + Wait + Sync, O: Opener, G: Gate + Sync>(
-    rt: &R,
-    alloc: Global,
-    serving: &Serving,
-    proto: &Arc<Proto>,
-    opener: &mut O,
-    gate: &G,
-    devices: &mut Devices<O::D, O::I, O::C>,
-) -> Result<Outcome, End>
-where
-    O::D: Send,
-    O::I: Send,
-    O::C: Send,
-    <O::D as Door>::L: Send,
-    requires serving { IsServing serving.now }
-    requires proto { IsPrototype proto.now }
-    requires none { devices.old ≡ record { doors = []; inboxes = []; clocks = [] } }
-    ensures run { IfOk result (spec.HasRun (shows O.D.shown O.D.L.shown O.I.shown O.C.shown) serving.now proto.now
-        (O.shown opener.old) (O.shown opener.new) devices.new) }
-    ensures stopped { IfErr result (spec.HasStopped (shows O.D.shown O.D.L.shown O.I.shown O.C.shown) serving.now
-        (O.shown opener.old) (O.shown opener.new) devices.new) }
-{
-    open_devices(alloc, opener, serving, devices)?;
-    tell_serving(alloc, opener, serving)?;
-    let keep = serving.keep.unwrap_or(0);
-    let outcome = run_workers(rt, alloc, proto, keep, gate, devices)?;
-    Ok(outcome)
-}
-
 // How many threads a run needs beside its own: it has a worker for each device.
 fn threads_for(serving: &Serving) -> usize {
     let doors = serving.workers as usize;
@@ -85,106 +55,75 @@ fn threads_for(serving: &Serving) -> usize {
     workers.saturating_sub(1)
 }
 
-// Opens all devices and has workers run over them, each in a thread of its own. Where one can't be started, nothing is
-// opened: a worker that waits for another one would leave its links waiting.
-fn run_in_threads<R: Threads + Wait + Sync, O: Opener, G: Gate + Sync>(
+// Opens all devices, tells so, and has workers run over them, each in a thread of its own. Where one can't be started,
+// nothing is opened: a worker that waits for another one would leave its links waiting.
+fn run_in_threads<R: Threads + Wait + Sync, M: Machine>(
     rt: &R,
     alloc: Global,
     serving: &Serving,
     proto: &Arc<Proto>,
-    opener: &mut O,
-    gate: &G,
-    devices: &mut Devices<O::D, O::I, O::C>,
+    opener: &mut M,
+    gate: &M::G,
+    devices: &mut Opened<M>,
 ) -> Result<Outcome, End>
 where
-    O::D: Send,
-    O::I: Send,
-    O::C: Send,
-    <O::D as Door>::L: Send,
+    M::D: Send,
+    M::I: Send,
+    M::C: Send,
+    M::G: Sync,
+    <M::D as Door>::L: Send,
     requires serving { IsServing serving.now }
     requires proto { IsPrototype proto.now }
     requires none { devices.old ≡ record { doors = []; inboxes = []; clocks = [] } }
-    ensures run { IfOk result (spec.HasRun (shows O.D.shown O.D.L.shown O.I.shown O.C.shown) serving.now proto.now
-        (O.shown opener.old) (O.shown opener.new) devices.new) }
-    ensures stopped { IfErr result (spec.HasStopped (shows O.D.shown O.D.L.shown O.I.shown O.C.shown) serving.now
-        (O.shown opener.old) (O.shown opener.new) devices.new) }
+    ensures run { IfOk result (spec.HasRun (shows M.D.shown M.D.L.shown M.I.shown M.C.shown) serving.now proto.now
+        (M.shown opener.old) (M.shown opener.new) devices.new) }
+    ensures stopped { IfErr result (spec.HasStopped (shows M.D.shown M.D.L.shown M.I.shown M.C.shown) serving.now
+        (M.shown opener.old) (M.shown opener.new) devices.new) }
 {
     if !can_start(rt, threads_for(serving)) {
         return Err(End::NoMemory);
     }
-    open_and_run(rt, alloc, serving, proto, opener, gate, devices)
-}
-
-// The devices of a run before any is opened.
-fn no_devices<D, I, C>(alloc: Global) -> Devices<D, I, C>
-    ensures { result ≡ record { doors = []; inboxes = []; clocks = [] } }
-{
-    Devices {
-        doors: List::new(alloc),
-        inboxes: List::new(alloc),
-        clocks: List::new(alloc),
-    }
-}
-
-// Serves over a prototype, and returns the end.
-#[tactic(auto, using(crate::proofs::RunLemmas::few))]
-fn serve_over<R: Threads + Wait + Sync, O: Opener, F: Files, L: Link, S: Sink, G: Gate + Sync>(
-    rt: &R,
-    alloc: Global,
-    serving: &Serving,
-    proto: &Arc<Proto>,
-    world: &mut World<O, F, L, S, G>,
-) -> End
-where
-    O::D: Send,
-    O::I: Send,
-    O::C: Send,
-    <O::D as Door>::L: Send,
-    requires serving { IsServing serving.now }
-    requires proto { IsPrototype proto.now }
-    ensures serves { let stage = stage_of O.shown F.shown L.shown S.shown in
-        spec.ServesDevices (shows O.D.shown O.D.L.shown O.I.shown O.C.shown) serving.now proto.now
-        (stage world.old) (stage world.new) result }
-    ensures files { F.shown world.new.files ≡ F.shown world.old.files }
-    ensures link { L.shown world.new.link ≡ L.shown world.old.link }
-{
-    let mut devices = no_devices(alloc);
-    let opener = &mut world.opener;
-    let ran = run_in_threads(rt, alloc, serving, proto, opener, &world.gate, &mut devices);
-    world.doors = devices.doors;
-    world.inboxes = devices.inboxes;
-    world.clocks = devices.clocks;
-    match ran {
-        Ok(outcome) => close(&mut world.sink, &outcome),
-        Err(end) => {
-            report(&mut world.sink, end, b"");
-            end
-        }
-    }
+    open_devices(alloc, opener, serving, devices)?;
+    tell_serving(alloc, opener, serving)?;
+    let keep = serving.keep.unwrap_or(0);
+    let outcome = run_workers::<R, M>(rt, alloc, proto, keep, gate, devices)?;
+    Ok(outcome)
 }
 
 /// Runs `serve`: reads the prototype, opens all devices and has a worker run over each, all at once, and writes what
 /// they did, or reports how the run ended. It waits for all workers.
-pub fn serve<R: Threads + Wait + Sync, O: Opener, F: Files, L: Link, S: Sink, G: Gate + Sync>(
+#[tactic(auto, using(crate::proofs::RunLemmas::few))]
+pub fn serve<R: Threads + Wait + Sync, M: Machine>(
     rt: &R,
     alloc: Global,
     serving: &Serving,
-    world: &mut World<O, F, L, S, G>,
+    world: &mut World<M>,
 ) -> End
 where
-    O::D: Send,
-    O::I: Send,
-    O::C: Send,
-    <O::D as Door>::L: Send,
+    M::D: Send,
+    M::I: Send,
+    M::C: Send,
+    M::G: Sync,
+    <M::D as Door>::L: Send,
     requires { IsServing serving.now }
-    ensures { let stage = stage_of O.shown F.shown L.shown S.shown in
-        spec.RunsServe (shows O.D.shown O.D.L.shown O.I.shown O.C.shown) serving.now result
+    ensures { let stage = stage_of M.shown M.F.shown M.L.shown M.S.shown in
+        spec.RunsServe (shows M.D.shown M.D.L.shown M.I.shown M.C.shown) serving.now result
         (stage world.old) (stage world.new) }
 {
-    match read_shared(alloc, &mut world.files, serving) {
-        Ok(proto) => serve_over(rt, alloc, serving, &proto, world),
+    let proto = match read_shared(alloc, &mut world.files, serving) {
+        Ok(proto) => proto,
         Err(end) => {
             report(&mut world.sink, end, serving.proto.as_slice());
+            return end;
+        }
+    };
+    world.devices = Devices::none(alloc);
+    let opener = &mut world.opener;
+    let devices = &mut world.devices;
+    match run_in_threads(rt, alloc, serving, &proto, opener, &world.gate, devices) {
+        Ok(outcome) => close(&mut world.sink, &outcome),
+        Err(end) => {
+            report(&mut world.sink, end, b"");
             end
         }
     }

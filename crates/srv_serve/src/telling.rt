@@ -2,7 +2,7 @@
 ghost use Rattle.std.specs.Prelude.{◌≡◌, IfOk, OnErr, OnOk};
 ghost use Rattle.srv_serve.specs.Telling as spec;
 
-use dev_traits::Opener;
+use dev_traits::Machine;
 use fm_base::{Bytes, List, NoMemory};
 use itoa::Buffer;
 use srv_words::Serving;
@@ -21,9 +21,9 @@ fn folders_text(alloc: Global, folders: &[Bytes]) -> Result<Bytes, NoMemory>
 }
 
 // Tells an opener that all is open that the words ask for.
-fn tell_with<O: Opener>(opener: &mut O, serving: &Serving, folders: &[u8])
+fn tell_with<M: Machine>(opener: &mut M, serving: &Serving, folders: &[u8])
     requires { folders.now ≡ spec.folders_text serving.now.inboxes }
-    ensures { spec.TellsServing serving.now (O.shown opener.old) (O.shown opener.new) }
+    ensures { spec.TellsServing serving.now (M.shown opener.old) (M.shown opener.new) }
 {
     let mut digits = Buffer::new();
     opener.note(&[
@@ -38,14 +38,14 @@ fn tell_with<O: Opener>(opener: &mut O, serving: &Serving, folders: &[u8])
     ]);
 }
 
-/// Tells an opener that all is open that the words ask for.
-pub(crate) fn tell_serving<O: Opener>(
+// The same, where memory suffices for the line.
+pub(crate) fn tell_serving<M: Machine>(
     alloc: Global,
-    opener: &mut O,
+    opener: &mut M,
     serving: &Serving,
 ) -> Result<(), NoMemory>
-    ensures ok { OnOk result (spec.TellsServing serving.now (O.shown opener.old) (O.shown opener.new)) }
-    ensures err { OnErr result (O.shown opener.new ≡ O.shown opener.old) }
+    ensures ok { OnOk result (spec.TellsServing serving.now (M.shown opener.old) (M.shown opener.new)) }
+    ensures err { OnErr result (M.shown opener.new ≡ M.shown opener.old) }
 {
     let folders = folders_text(alloc, serving.inboxes.as_slice())?;
     tell_with(opener, serving, folders.as_slice());

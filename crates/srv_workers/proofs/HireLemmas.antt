@@ -13,7 +13,7 @@ use Rattle.pub_look.specs.History.{History}
 use Rattle.pub_snap.specs.Opening.{unused}
 use Rattle.srv_ingest.specs.declared.report.ExpireReport.{ExpireReport}
 use Rattle.srv_ingest.specs.declared.report.IngestReport.{IngestReport}
-use Rattle.srv_workers.specs.declared.outcome.Devices.{Devices}
+use Rattle.dev_traits.specs.declared.world.Devices.{Devices}
 use Rattle.srv_workers.specs.declared.outcome.Outcome.{Outcome}
 use Rattle.srv_workers.specs.declared.parts.Parts.{Parts}
 use Rattle.srv_workers.specs.declared.task.Task.{Task}

@@ -3,7 +3,7 @@ use Rattle.std.specs.Prelude.{◌≡◌, ℕ, List, length, sum}
 use Rattle.std.specs.List.{filter_map}
 use Rattle.fm_model.specs.declared.op.Op.{Op}
 use Rattle.fm_model.specs.Collection.{coll, tally}
-use Rattle.srv_workers.specs.declared.outcome.Devices.{Devices}
+use Rattle.dev_traits.specs.declared.world.Devices.{Devices}
 use Rattle.srv_workers.specs.declared.outcome.Outcome.{Outcome}
 use Rattle.srv_workers.specs.declared.task.Task.{Task}
 use Rattle.srv_workers.specs.Tasks.{clock_of, clock_told, door_of, door_told, inbox_of, inbox_told, share_of}

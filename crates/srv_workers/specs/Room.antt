@@ -1,7 +1,7 @@
 -- All room that a run needs.
 use Rattle.std.specs.Prelude.{◌≡◌, ℕ, ◌+◌, ◌≤◌, [], length, replicate}
 use Rattle.fm_model.specs.declared.proto.Proto.{Proto}
-use Rattle.srv_workers.specs.declared.outcome.Devices.{Devices}
+use Rattle.dev_traits.specs.declared.world.Devices.{Devices}
 use Rattle.srv_workers.specs.declared.room.Room.{Room}
 use Rattle.srv_workers.specs.Parts.{IsEmpty}
 

@@ -6,9 +6,10 @@ ghost use Rattle.srv_workers.specs.Close.{Closes};
 ghost use Rattle.srv_workers.specs.Parts.{HasRoom, IsEmpty};
 ghost use Rattle.srv_workers.specs.Tasks.{share_of};
 
-use crate::outcome::{Devices, Outcome};
+use crate::outcome::Outcome;
 use crate::parts::{DeskParts, take_apart};
 use crate::task::DeskWorker;
+use dev_traits::Devices;
 use fm_base::List;
 use pub_snap::{Desk, Name};
 use std::sync::Wait;

@@ -17,6 +17,6 @@ mod threads;
 mod work;
 mod workers;
 
-pub use outcome::{Devices, Outcome};
+pub use outcome::Outcome;
 pub use threads::can_start;
 pub use workers::run_workers;

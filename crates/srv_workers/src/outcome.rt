@@ -1,17 +1,9 @@
-//! The devices of a run, and the outcome of its workers.
+//! The outcome of the workers of a run.
 
 use fm_base::List;
 use fm_model::Tally;
 use srv_conn::DoorReport;
 use srv_ingest::{ExpireReport, IngestReport};
-
-/// The doors, the inboxes and the clocks of a run.
-#[derive(Drop)]
-pub struct Devices<D, I, C> {
-    pub doors: List<D>,
-    pub inboxes: List<I>,
-    pub clocks: List<C>,
-}
 
 /// The outcome of all workers: the report of each, in the order of the devices, the tally at the end, and the number of
 /// operations published.

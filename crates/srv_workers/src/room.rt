@@ -2,11 +2,11 @@
 ghost use Rattle.std.specs.Prelude.{◌+◌, ◌<◌, ◌^◌, IfOk, length};
 ghost use Rattle.srv_workers.specs.Room.{IsRoomFor};
 
-use crate::outcome::Devices;
 use crate::own::copies_of;
 use crate::parts::{DeskParts, room_for};
 use crate::slots::{Slots, pair_with_room};
 use crate::task::{DeskTask, DeskWorker};
+use dev_traits::Devices;
 use fm_base::{Arc, List, NoMemory};
 use fm_model::Proto;
 use pub_snap::Name;

@@ -2,9 +2,9 @@
 ghost use Rattle.std.specs.Prelude.{◌≡◌, ◌+◌, ◌-◌, ◌≤◌, ◌^◌, ◌<◌, [], length, replicate, All};
 ghost use Rattle.srv_workers.specs.Tasks.{Adds};
 
-use crate::outcome::Devices;
 use crate::slots::{Slots, take_off};
 use crate::task::{NO_LINKS, NO_MOMENTS, NO_NAMES, Task};
+use dev_traits::Devices;
 use fm_base::List;
 use pub_snap::{Name, Share};
 

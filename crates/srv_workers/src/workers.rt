@@ -1,24 +1,23 @@
 //! All workers of a run, from the opening of the desk to its close.
 ghost use Rattle.std.specs.Prelude.{◌≡◌, ◌≤◌, ◌+◌, ◌<◌, ◌^◌, [], IfOk, OnErr, length, replicate};
-ghost use Rattle.fm_edition.specs.Log.{IsLog};
 ghost use Rattle.fm_model.specs.Site.{IsPrototype};
 ghost use Rattle.pub_snap.specs.Opening.{IsNamed, unused};
-ghost use Rattle.srv_workers.specs.Done.{HaveWorked, IsHired};
-ghost use Rattle.srv_workers.specs.Room.{device_count, IsRoomFor};
+ghost use Rattle.srv_workers.specs.Done.{IsHired};
+ghost use Rattle.srv_workers.specs.Room.{device_count};
 ghost use Rattle.srv_workers.specs.Runs.{RanTogether};
 
 use crate::close::close_over;
-use crate::outcome::{Devices, Outcome};
+use crate::outcome::Outcome;
 use crate::room::{Room, room_of};
 use crate::shift::work_and_learn;
 use crate::slots::Slots;
 use crate::staff::staff_of;
 use crate::task::{DeskTask, DeskWorker};
 use crate::tasks::tasks_of;
-use dev_traits::{Clock, Door, Gate, Inbox};
+use dev_traits::{Devices, Door, Machine, Opened};
 use fm_base::{Arc, List, NoMemory};
 use fm_model::Proto;
-use pub_snap::{Blank, Desk, Name, Pass, Share, prepare};
+use pub_snap::{Blank, Name, Pass, Share, prepare};
 use std::alloc::Global;
 use std::marker::Brand;
 use std::sync::Wait;
@@ -46,100 +45,32 @@ fn hire<D: Drop, I: Drop, C: Drop, N: Name>(
     staff_of(tasks, passes, protos, staff)
 }
 
-// Has the workers do their tasks and learn the log, and gives them back with the desk.
-fn work_by<
-    R: Threads + Wait + Sync,
-    D: Door + Send,
-    I: Inbox + Send,
-    C: Clock + Send,
-    G: Gate + Sync,
-    N: Name + Send + Sync,
->(
-    rt: &R,
-    alloc: Global,
-    desk: Desk<N>,
-    keep: u32,
-    gate: &G,
-    staff: List<DeskWorker<D, I, C, N>>,
-) -> (Desk<N>, List<DeskWorker<D, I, C, N>>)
-where
-    D::L: Send,
-    requires { 0 < length staff }
-    ensures done { HaveWorked D.shown D.L.shown I.shown C.shown N.proto keep result.0 staff result.1 }
-    ensures sound { IsLog N.proto result.0 }
-{
-    let mut staff = staff;
-    let workers = staff.items.as_mut_slice();
-    let desk = work_and_learn(rt, alloc, desk, keep, gate, workers);
-    (desk, staff)
-}
-
-// Runs workers over a desk that is open, and closes it. It takes no memory but what the workers ask for.
+// Runs workers over a desk that is opened under a name, and closes it. Once it is open this takes no memory but what
+// the workers ask for.
 #[tactic(auto, using(crate::proofs::HireLemmas::hires))]
-fn run_open<
-    R: Threads + Wait + Sync,
-    D: Door + Drop + Send,
-    I: Inbox + Drop + Send,
-    C: Clock + Drop + Send,
-    G: Gate + Sync,
-    N: Name + Send + Sync,
->(
-    rt: &R,
-    alloc: Global,
-    opened: (Desk<N>, List<Pass<N>>, List<Share<N>>),
-    room: Room<D, I, C, N>,
-    keep: u32,
-    gate: &G,
-    devices: &mut Devices<D, I, C>,
-) -> Outcome
-where
-    D::L: Send,
-    requires some { 1 ≤ length devices.old.doors }
-    requires few { length devices.old.doors < 2 ^ 32 }
-    requires passes { opened.1 ≡ replicate (device_count devices.old) (unused N.proto) }
-    requires shares { opened.2 ≡ replicate (length devices.old.inboxes + length devices.old.clocks) 0 }
-    requires parts { length devices.old.inboxes + length devices.old.clocks ≡ N.parts }
-    requires room { IsRoomFor devices.old N.proto room }
-    ensures { RanTogether D.shown D.L.shown I.shown C.shown N.proto keep devices.old devices.new result }
-{
-    let (desk, passes, shares) = opened;
-    let Room {
-        tasks,
-        staff,
-        parts,
-        protos,
-    } = room;
-    let staff = hire(devices, passes, shares, protos, tasks, staff);
-    let (desk, staff) = work_by(rt, alloc, desk, keep, gate, staff);
-    close_over(rt, desk, staff, parts, devices)
-}
-
-// Runs workers over a desk that is opened under a name.
-fn run_named<
-    R: Threads + Wait + Sync,
-    D: Door + Drop + Send,
-    I: Inbox + Drop + Send,
-    C: Clock + Drop + Send,
-    G: Gate + Sync,
-    N: Name + Send + Sync,
->(
+fn run_over<R: Threads + Wait + Sync, M: Machine, N: Name + Send + Sync>(
     rt: &R,
     alloc: Global,
     blank: Blank,
     proto: &Arc<Proto>,
     keep: u32,
-    gate: &G,
-    devices: &mut Devices<D, I, C>,
+    gate: &M::G,
+    devices: &mut Opened<M>,
 ) -> Result<Outcome, NoMemory>
 where
-    D::L: Send,
+    M::D: Send,
+    M::I: Send,
+    M::C: Send,
+    M::G: Sync,
+    <M::D as Door>::L: Send,
     requires named { IsNamed blank N.book N.name N.proto N.parts }
     requires proto { blank.proto ≡ proto.now }
     requires passes { blank.passes ≡ device_count devices.old }
     requires shares { blank.shares ≡ length devices.old.inboxes + length devices.old.clocks }
     requires some { 1 ≤ length devices.old.doors }
     requires few { device_count devices.old < 2 ^ 32 }
-    ensures ran { IfOk result (RanTogether D.shown D.L.shown I.shown C.shown proto.now keep devices.old devices.new) }
+    ensures ran { IfOk result
+        (RanTogether M.D.shown M.D.L.shown M.I.shown M.C.shown proto.now keep devices.old devices.new) }
     ensures none { OnErr result (devices.new ≡ devices.old) }
 {
     let room = match room_of(alloc, devices, proto) {
@@ -149,45 +80,53 @@ where
             return Err(NoMemory);
         }
     };
-    match blank.open::<N>(alloc) {
-        Ok(opened) => Ok(run_open(rt, alloc, opened, room, keep, gate, devices)),
+    let (desk, passes, shares) = match blank.open::<N>(alloc) {
+        Ok(opened) => opened,
         Err(NoMemory) => {
             drop(room);
-            Err(NoMemory)
+            return Err(NoMemory);
         }
-    }
+    };
+    let Room {
+        tasks,
+        staff,
+        parts,
+        protos,
+    } = room;
+    let staff = hire(devices, passes, shares, protos, tasks, staff);
+    let (desk, staff) = work_and_learn(rt, alloc, desk, keep, gate, staff);
+    Ok(close_over(rt, desk, staff, parts, devices))
 }
 
 /// Opens a desk over a prototype, and has a worker for each device, all at once: each door is served, what arrives in
 /// each inbox is taken in, and at each moment of a clock the runs go that are more than `keep` seconds old. It waits
 /// for all workers. Then each learns the whole log, the desk is closed, and the devices are given back. Where memory
 /// runs out before the desk is open, no worker runs, and the devices are as they were.
-pub fn run_workers<
-    R: Threads + Wait + Sync,
-    D: Door + Drop + Send,
-    I: Inbox + Drop + Send,
-    C: Clock + Drop + Send,
-    G: Gate + Sync,
->(
+pub fn run_workers<R: Threads + Wait + Sync, M: Machine>(
     rt: &R,
     alloc: Global,
     proto: &Arc<Proto>,
     keep: u32,
-    gate: &G,
-    devices: &mut Devices<D, I, C>,
+    gate: &M::G,
+    devices: &mut Opened<M>,
 ) -> Result<Outcome, NoMemory>
 where
-    D::L: Send,
+    M::D: Send,
+    M::I: Send,
+    M::C: Send,
+    M::G: Sync,
+    <M::D as Door>::L: Send,
     requires proto { IsPrototype proto.now }
     requires doors { (1 ≤ length devices.old.doors) × (length devices.old.doors ≤ 16) }
     requires inboxes { (1 ≤ length devices.old.inboxes) × (length devices.old.inboxes ≤ 8) }
     requires clocks { length devices.old.clocks ≤ 1 }
-    ensures ran { IfOk result (RanTogether D.shown D.L.shown I.shown C.shown proto.now keep devices.old devices.new) }
+    ensures ran { IfOk result
+        (RanTogether M.D.shown M.D.L.shown M.I.shown M.C.shown proto.now keep devices.old devices.new) }
     ensures none { OnErr result (devices.new ≡ devices.old) }
 {
     let shares = devices.inboxes.len() + devices.clocks.len();
     let passes = devices.doors.len() + shares;
     let shared = proto.share()?;
     let blank = prepare(alloc, shared, passes as u32, shares as u32)?;
-    run_named::<R, D, I, C, G, Brand>(rt, alloc, blank, proto, keep, gate, devices)
+    run_over::<R, M, Brand>(rt, alloc, blank, proto, keep, gate, devices)
 }

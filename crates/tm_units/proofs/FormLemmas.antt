@@ -3,7 +3,7 @@ use Rattle.std.proofs.Common.{◌≡◌, ℕ, ◌+◌, ◌<◌, ◌≤◌, false
 use Rattle.std.proofs.lemmas.List.{drop_more, drop_all}
 use Rattle.nc_model.specs.Stamp.{begins_in_form, is_like}
 
--- the bytes at one place, and those after it
+-- the bytes at one offset, and those after it
 pub begins_in_form-turn : (form text : List ℕ) (i : ℕ) → i < length form → i < length text
     → begins_in_form (drop i form) (drop i text)
     ≡ (is_like (get_or form i 0) (get_or text i 0) && begins_in_form (drop (i + 1) form) (drop (i + 1) text))

@@ -7,13 +7,13 @@ use Rattle.nc_model.specs.UnitsReading.{UnitsParser as Parser}
 use Rattle.nc_model.specs.UnitsRanges.{Out, EitherOut, OutAfter}
 use Rattle.fm_base.specs.Parser.{and_then, ◌>>=◌, pure}
 use Rattle.fm_base.proofs.Exact.{input, Took, Exact, Anything, Then, Is, IsOfParts-anything, bind_ok, took_then, again_then, Exact-pure}
-use Rattle.fm_base.proofs.Local.{Places, Beyond, beyond_then, stepped, fault_is}
+use Rattle.fm_base.proofs.Local.{Offsets, Beyond, beyond_then, stepped, fault_is}
 use Rattle.fm_base.proofs.LocalSteps.{Local-same}
 use Rattle.fm_base.proofs.Parts.{Part, Part-as, Part-then, Part-pure}
 
 -- a text goes wrong at its fault, and each parser looks at the byte after those that it takes, or at the end
-abbrev pub places : Places ℕ
-places = record {
+abbrev pub offsets : Offsets ℕ
+offsets = record {
   ahead = 1;
   Stands = λ bad offset. bad ≡ offset;
   IsCut = λ offset bad. ⊥;
@@ -35,15 +35,15 @@ by_exact ep = record { takes = λ i a j e. ep.takes i a j tt e; again = ep.again
 -- a value is out of its range here, and the form doesn't end before it
 pub record IsOutAt {A : Type 0} (O : Out) (form : Parser A) (at : ℕ) (rest : List ℕ) (bad : ℕ) : Type 0 where
   pub offset : ℕ
-  pub place_is : bad ≡ at + offset
+  pub bad_is : bad ≡ at + offset
   pub out : O offset rest
-  pub beyond : Beyond places bad (form (input at rest))
+  pub beyond : Beyond offsets bad (form (input at rest))
 
 -- `S` is what is spelled, by `false` in form alone; `P` is what may follow, and `O` which value is out of its range
 pub record Lawful {A : Type 0} (S : Bool → List ℕ → A → Type 0) (P : A → List ℕ → Type 0) (O : Out)
     (p : Bool → Parser A) : Type 0 where
   pub exact : (strict : Bool) → ExactBy (S strict) P (p strict)
-  pub form : Part places Anything (S false) (p false)
+  pub form : Part offsets Anything (S false) (p false)
   pub same : (i : Input) (x : A × Input) → p true i ≡ Ok x → p false i ≡ Ok x
   pub fails : (at : ℕ) (rest : List ℕ) (bad : ℕ) → p true (input at rest) ≡ Err bad
       → (p false (input at rest) ≡ Err bad) ⊎ IsOutAt O (p false) at rest bad
@@ -55,7 +55,7 @@ NoOut offset text = ⊥
 
 -- a parser without ranges
 pub Lawful-plain : {A : Type 0} {S : List ℕ → A → Type 0} {P : A → List ℕ → Type 0} {p : Parser A} → ExactBy S P p
-    → Part places Anything S p → Lawful (λ strict. S) P NoOut (λ strict. p)
+    → Part offsets Anything S p → Lawful (λ strict. S) P NoOut (λ strict. p)
 Lawful-plain ep part = record {
   exact = λ strict. ep;
   form = part;
@@ -115,7 +115,7 @@ Lawful-outs to from law = record {
     | inl form ↦ inl form
     | inr o ↦ inr (record {
       offset = o.offset;
-      place_is = o.place_is;
+      bad_is = o.bad_is;
       out = to o.offset rest o.out;
       beyond = o.beyond;
     })
@@ -143,9 +143,9 @@ Lawful-same same law = record {
     | inl form ↦ inl (sym (same false (input at rest)) ∙ form)
     | inr o ↦ inr (record {
       offset = o.offset;
-      place_is = o.place_is;
+      bad_is = o.bad_is;
       out = o.out;
-      beyond = subst (λ r. Beyond places bad r) (same false (input at rest)) o.beyond;
+      beyond = subst (λ r. Beyond offsets bad r) (same false (input at rest)) o.beyond;
     })
   ];
   refuses = λ at rest offset out. sym (same true (input at rest)) ∙ law.refuses at rest offset out;
@@ -189,11 +189,11 @@ Lawful-then {A} {B} {S} {T} {P} {Q} {O} {U} {p} {q} first next follows awaits = 
     | inr o ↦
         let text = (first.exact true).again at o.front o.back o.value o.first
         (awaits o.value o.front o.back o.left o.first o.next) in
-        let place : at + length o.front + o.left ≡ at + offset = let is = o.offset_is in omega arith in
+        let here : at + length o.front + o.left ≡ at + offset = let is = o.offset_is in omega arith in
         ap (λ (l : List ℕ). and_then (p true (input at l)) (λ a. q a true)) o.text_is
         ∙ ap (λ r. and_then r (λ a. q a true)) text
         ∙ (next o.value).refuses (at + length o.front) o.back o.left o.next
-        ∙ ap (λ (n : ℕ). Err n) place
+        ∙ ap (λ (n : ℕ). Err n) here
   ];
 }
   where
@@ -206,9 +206,9 @@ Lawful-then {A} {B} {S} {T} {P} {Q} {O} {U} {p} {q} first next follows awaits = 
       | inl form ↦ inl (ap (λ r. and_then r (λ a. q a false)) form)
       | inr o ↦ inr (record {
         offset = o.offset;
-        place_is = o.place_is;
+        bad_is = o.bad_is;
         out = inl o.out;
-        beyond = beyond_then places bad (p false (input at rest)) (λ a. q a false)
+        beyond = beyond_then offsets bad (p false (input at rest)) (λ a. q a false)
             (λ a at rest. (next a).form.local.forward at rest) o.beyond;
       })
     ]
@@ -224,7 +224,7 @@ Lawful-then {A} {B} {S} {T} {P} {Q} {O} {U} {p} {q} first next follows awaits = 
           | inl ends ↦ inl (form ∙ ends)
           | inr o ↦ inr (record {
             offset = length t.text + o.offset;
-            place_is = let is = o.place_is in let from = t.offset in omega arith;
+            bad_is = let is = o.bad_is in let from = t.offset in omega arith;
             out = inr (record {
               value = a;
               front = t.text;
@@ -235,7 +235,7 @@ Lawful-then {A} {B} {S} {T} {P} {Q} {O} {U} {p} {q} first next follows awaits = 
               text_is = t.split;
               offset_is = refl;
             });
-            beyond = subst (λ r. Beyond places bad r) (sym form) o.beyond;
+            beyond = subst (λ r. Beyond offsets bad r) (sym form) o.beyond;
           })
         ]
 

@@ -11,7 +11,7 @@ use Rattle.fm_base.proofs.ListLemmas.{Agree}
 use Rattle.fm_base.proofs.Local.{Beyond, Local, fault_is}
 use Rattle.fm_base.proofs.LocalSteps.{Local-pure, Local-cond}
 use Rattle.fm_base.proofs.Parts.{Part-leaf, Part-cond}
-use Rattle.tm_units.proofs.Lawful.{places, IsOutAt, Lawful, NoOut, Lawful-plain, Lawful-pure, Lawful-as, Lawful-before, Lawful-outs, Lawful-same, after_nothing}
+use Rattle.tm_units.proofs.Lawful.{offsets, IsOutAt, Lawful, NoOut, Lawful-plain, Lawful-pure, Lawful-as, Lawful-before, Lawful-outs, Lawful-same, after_nothing}
 
 -- the next byte passes in each text that begins with the same one
 pub agree_first : (test : ℕ → Bool) (at : ℕ) (xs ys : List ℕ) → Agree 1 xs ys
@@ -87,18 +87,18 @@ Lawful-cond {A} {S} {T} {P} {O} {U} {p} {q} test looks first second begins other
       | inl form ↦ inl (chosen false (input at rest) true is ∙ form)
       | inr o ↦ inr (record {
         offset = o.offset;
-        place_is = o.place_is;
+        bad_is = o.bad_is;
         out = inl o.out;
-        beyond = subst (λ r. Beyond places bad r) (sym (chosen false (input at rest) true is)) o.beyond;
+        beyond = subst (λ r. Beyond offsets bad r) (sym (chosen false (input at rest) true is)) o.beyond;
       })
     ]
     fails_by at rest bad false is e = elim (second.fails at rest bad e) [
       | inl form ↦ inl (chosen false (input at rest) false is ∙ form)
       | inr o ↦ inr (record {
         offset = o.offset;
-        place_is = o.place_is;
+        bad_is = o.bad_is;
         out = inr o.out;
-        beyond = subst (λ r. Beyond places bad r) (sym (chosen false (input at rest) false is)) o.beyond;
+        beyond = subst (λ r. Beyond offsets bad r) (sym (chosen false (input at rest) false is)) o.beyond;
       })
     ]
 
@@ -170,7 +170,7 @@ Lawful-unless_ended {S = S} missing law some outs =
     (λ at offset rest none. absurd none) (λ at offset rest out. outs offset rest out)))
 
 -- the text goes wrong here, whatever it is
-pub Local-here : {A : Type 0} → Local {A = A} places (λ i. Err i.at)
+pub Local-here : {A : Type 0} → Local {A = A} offsets (λ i. Err i.at)
 Local-here {A} = record {
   takes = λ at rest a j e. absurd cc;
   fails = λ at rest bad e.
@@ -199,10 +199,10 @@ end_by : {A : Type 0} (x : A) (i : Input) (a : A) (j : Input) (b : Bool)
 end_by x i a j true e = ok_pair x a i j e
 end_by x i a j false e = absurd cc
 
-end_place : {A : Type 0} (x : A) (i : Input) (bad : ℕ) (b : Bool)
+end_offset : {A : Type 0} (x : A) (i : Input) (bad : ℕ) (b : Bool)
     → cond b (done {A = A × Input} (x, i)) (Err i.at) ≡ Err bad → bad ≡ i.at
-end_place x i bad true e = absurd cc
-end_place {A} x i bad false e = sym (fault_is {A = A} i.at bad e)
+end_offset x i bad true e = absurd cc
+end_offset {A} x i bad false e = sym (fault_is {A = A} i.at bad e)
 
 pub Lawful-at_end : {A : Type 0} (x : A)
     → Lawful (λ strict. IsEnd x) (λ a. AtEnd) NoOut (λ strict i. cond (has_ended i) (Ok (x, i)) (Err i.at))
@@ -214,7 +214,7 @@ Lawful-at_end {A} x = Lawful-plain (record {
       ∙ none_again x a at text rest (sym s.1) s.0;
 }) (Part-leaf (Local-cond has_ended agree_ended (Local-pure x) Local-here) (λ i a j of e. takes i a j e)
     (record { text = []; a = x; spelled = (refl, refl) })
-    (λ at rest bad e. end_place x (input at rest) bad (has_ended (input at rest)) e))
+    (λ at rest bad e. end_offset x (input at rest) bad (has_ended (input at rest)) e))
   where
     takes : (i : Input) (a : A) (j : Input) → cond (has_ended i) (done {A = A × Input} (x, i)) (Err i.at) ≡ Ok (a, j)
         → Took (IsEnd x) i a j

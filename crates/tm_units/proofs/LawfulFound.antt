@@ -8,7 +8,7 @@ use Rattle.fm_base.proofs.Exact.{input, ExactOn, Anything, Finds, done, bind_ok,
 use Rattle.fm_base.proofs.Local.{Beyond, Stepped, stepped, failed, fault_is}
 use Rattle.fm_base.proofs.OptionLemmas.{cases_Option}
 use Rattle.fm_base.proofs.Parts.{Part}
-use Rattle.tm_units.proofs.Lawful.{places, IsOutAt, Lawful, Seq}
+use Rattle.tm_units.proofs.Lawful.{offsets, IsOutAt, Lawful, Seq}
 
 -- a part, and what its value stands for
 abbrev pub found_at : {A B : Type 0} → Parser A → (A → Option B) → Parser B
@@ -26,7 +26,7 @@ pub record IsFinding {A B : Type 0} (S : Bool → List ℕ → A → Type 0) (En
 pub Lawful-found : {A B : Type 0} {S : Bool → List ℕ → A → Type 0} {Ends : A → List ℕ → Type 0} {O : Out}
     {p : Bool → Parser A} (f : Bool → A → Option B) (Wrong : A → Type 0) → Lawful S Ends O p
     → IsFinding S Ends O p f Wrong
-    → Part places Anything (Seq S (λ a strict. Finds (f strict a)) false) (found_at (p false) (f false))
+    → Part offsets Anything (Seq S (λ a strict. Finds (f strict a)) false) (found_at (p false) (f false))
     → Lawful (Seq S (λ a strict. Finds (f strict a))) (λ b rest. (a : A) → Ends a rest)
     (EitherOut O (IsWrong (S true) Ends Wrong)) (λ strict. found_at (p strict) (f strict))
 Lawful-found {A} {B} {S} {Ends} {O} {p} f Wrong law finding part = record {
@@ -54,12 +54,12 @@ Lawful-found {A} {B} {S} {Ends} {O} {p} f Wrong law finding part = record {
   refuses = λ at rest offset out. elim out [
     | inl first ↦ ap (λ (r : Outcome A). and_then r (λ a. known at (f true a))) (law.refuses at rest offset first)
     | inr o ↦
-        let place : at ≡ at + offset = let zero = o.here in omega arith in
+        let here : at ≡ at + offset = let zero = o.here in omega arith in
         ap (λ (l : List ℕ). found_at (p true) (f true) (input at l)) o.text_is
         ∙ ap (λ (r : Outcome A). and_then r (λ a. known at (f true a)))
         ((law.exact true).again at o.front o.more o.value o.spelled o.ends)
         ∙ ap (λ (g : Option B). known at g (input (at + length o.front) o.more)) (finding.none o.value o.wrong)
-        ∙ ap (λ (n : ℕ). Err n) place
+        ∙ ap (λ (n : ℕ). Err n) here
   ];
 }
   where
@@ -77,9 +77,9 @@ Lawful-found {A} {B} {S} {Ends} {O} {p} f Wrong law finding part = record {
     form : Parser B
     form = found_at (p false) (f false)
 
-    beyond_here : (at : ℕ) (rest : List ℕ) (bad : ℕ) → at ≡ bad → Beyond places bad (form (input at rest))
+    beyond_here : (at : ℕ) (rest : List ℕ) (bad : ℕ) → at ≡ bad → Beyond offsets bad (form (input at rest))
     beyond_here at rest bad same =
-        subst (λ (n : ℕ). Beyond places n (form (input at rest))) same (part.local.forward at rest)
+        subst (λ (n : ℕ). Beyond offsets n (form (input at rest))) same (part.local.forward at rest)
 
     first_fails : (at : ℕ) (rest : List ℕ) (bad : ℕ) → p true (input at rest) ≡ Err bad
         → (form (input at rest) ≡ Err bad) ⊎ IsOutAt (EitherOut O (IsWrong (S true) Ends Wrong)) form at rest bad
@@ -87,10 +87,10 @@ Lawful-found {A} {B} {S} {Ends} {O} {p} f Wrong law finding part = record {
       | inl ends ↦ inl (ap (λ (r : Outcome A). and_then r (λ a. known at (f false a))) ends)
       | inr o ↦ inr (record {
         offset = o.offset;
-        place_is = o.place_is;
+        bad_is = o.bad_is;
         out = inl o.out;
         beyond = beyond_here at rest bad
-            (let zero = finding.here o.offset rest o.out in let place = o.place_is in omega arith);
+            (let zero = finding.here o.offset rest o.out in let is = o.bad_is in omega arith);
       })
     ]
 
@@ -102,18 +102,18 @@ Lawful-found {A} {B} {S} {Ends} {O} {p} f Wrong law finding part = record {
           let no : done {A = B × Input} (found.0, s.j) ≡ Err bad =
           sym (ap (λ (g : Option B). known at g s.j) found.1) ∙ s.second in absurd cc
       | inl none ↦
-          let place : at ≡ bad =
+          let here : at ≡ bad =
           fault_is {A = B} at bad (sym (ap (λ (g : Option B). known at g s.j) none) ∙ s.second) in
           elim (finding.wrong s.a none) [
             | inl missing ↦
                 inl (ap (λ (r : Outcome A). and_then r (λ a. known at (f false a)))
                 (law.same (input at rest) (s.a, s.j) s.first)
-                ∙ ap (λ (g : Option B). known at g s.j) missing ∙ ap (λ (n : ℕ). Err n) place)
+                ∙ ap (λ (g : Option B). known at g s.j) missing ∙ ap (λ (n : ℕ). Err n) here)
             | inr wrong ↦
                 let t = (law.exact true).takes (input at rest) s.a s.j s.first in
                 inr (record {
                   offset = 0;
-                  place_is = omega arith;
+                  bad_is = omega arith;
                   out = inr (record {
                     value = s.a;
                     front = t.text;
@@ -124,7 +124,7 @@ Lawful-found {A} {B} {S} {Ends} {O} {p} f Wrong law finding part = record {
                     wrong = wrong;
                     text_is = t.split;
                   });
-                  beyond = beyond_here at rest bad place;
+                  beyond = beyond_here at rest bad here;
                 })
           ]
     ]

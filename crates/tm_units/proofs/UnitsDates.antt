@@ -12,7 +12,7 @@ use Rattle.nc_model.specs.UnitsReading.{next_passes, digits_at, day_of, day_at, 
 use Rattle.nc_model.specs.UnitsSpelling.{SpellsNumberWithin, SpellsDigits, SpellsDay, SpellsDashedDay, SpellsAfterYear, SpellsDate}
 use Rattle.fm_base.proofs.Exact.{input, Anything, Stops, Finds, IsOfParts-anything, onto}
 use Rattle.fm_base.proofs.Parts.{Part, Part-as, Part-then, Part-pure}
-use Rattle.tm_units.proofs.Lawful.{places, Lawful, Seq, Lawful-then, Lawful-as, Lawful-before, Lawful-outs}
+use Rattle.tm_units.proofs.Lawful.{offsets, Lawful, Seq, Lawful-then, Lawful-as, Lawful-before, Lawful-outs}
 use Rattle.tm_units.proofs.LawfulChoices.{Lawful-digit_follows}
 use Rattle.tm_units.proofs.LawfulFound.{found_at, Lawful-found}
 use Rattle.tm_units.proofs.UnitsBegins.{whole_test, stops_at, After, out_after_begins, Lawful-after_byte, number_begins, digit_before, digit_first, digit_whole, out_number_begins}
@@ -72,7 +72,7 @@ digits_ended fewest at rest digits j e =
     (subst (λ (d : List ℕ). EndsDigits 2 d (drop (digits_of 2 rest) rest)) r.digits_are (digits_end 2 rest))
 
 form_day : (fewest year month : ℕ) → fewest ≤ 2
-    → Part places Anything (TheDay fewest year month false)
+    → Part offsets Anything (TheDay fewest year month false)
     (found_at (digits_at false fewest 2 1 31) (λ digits. day_of false year month (number_of digits)))
 form_day fewest year month wide =
     Part-then {T = λ digits. Finds (day_of false year month (number_of digits))} IsOfParts-anything

@@ -13,7 +13,7 @@ use Rattle.fm_base.proofs.ListLemmas.{agree_less, Agree}
 use Rattle.fm_base.proofs.Local.{Local, Beyond, fault_is}
 use Rattle.fm_base.proofs.Parts.{Part}
 use Rattle.tm_units.proofs.InstantLemmas.{and_parts}
-use Rattle.tm_units.proofs.Lawful.{places}
+use Rattle.tm_units.proofs.Lawful.{offsets}
 use Rattle.tm_units.proofs.UnitsDigits.{checked, checked-few, digits_of, digits_is, AreIn, digits_cases, digits_read, Exact-digits}
 use Rattle.tm_units.proofs.UnitsRuns.{run_passes}
 use Rattle.tm_units.proofs.UnitsTerms.{fails_after, prefix_agree_within, short}
@@ -98,7 +98,7 @@ form_cases fewest most low high at rest = elim (digits_cases false fewest most l
 
 -- too few digits
 record AreFew (fewest most low high at : ℕ) (rest : List ℕ) (bad : ℕ) : Type 0 where
-  place : bad ≡ at + digits_of most rest
+  bad_is : bad ≡ at + digits_of most rest
   below : length (take (digits_of most rest) rest) < fewest
   few_is : ltb (length (take (digits_of most rest) rest)) fewest ≡ true
 
@@ -109,13 +109,13 @@ form_few fewest most low high at rest bad e =
   where
     by_few : (few : Bool) → AreIn false fewest most low high at rest few → AreFew fewest most low high at rest bad
     by_few true few = record {
-      place = sym (fault_is {A = List ℕ} (at + digits_of most rest) bad (sym few.said ∙ e));
+      bad_is = sym (fault_is {A = List ℕ} (at + digits_of most rest) bad (sym few.said ∙ e));
       below = ltb-true _ _ few.few_is;
       few_is = few.few_is;
     }
     by_few false good = let no = sym e ∙ good.said in absurd cc
 
-pub form_local : (fewest most low high : ℕ) → Local places (digits_at false fewest most low high)
+pub form_local : (fewest most low high : ℕ) → Local offsets (digits_at false fewest most low high)
 form_local fewest most low high = record {
   takes = λ at rest digits j e.
       let r = digits_read false fewest most low high at rest digits j e in
@@ -134,20 +134,20 @@ form_local fewest most low high = record {
   fails = λ at rest bad e.
       let few = form_few fewest most low high at rest bad e in
       let count = digits_of most rest in
-      fails_after (digits_at false fewest most low high) at rest bad count few.place (short is_ascii_digit most rest)
+      fails_after (digits_at false fewest most low high) at rest bad count few.bad_is (short is_ascii_digit most rest)
       (λ other same. digits_same false fewest most low high at rest other same
       ∙ checked-few false fewest low high at (take count rest) (past count (input at other)) true refl few.few_is
-      ∙ ap (λ (n : ℕ). Err n) (sym few.place));
+      ∙ ap (λ (n : ℕ). Err n) (sym few.bad_is));
   forward = λ at rest. let c = form_cases fewest most low high at rest in by_few at rest c.0 c.1;
 }
   where
     by_few : (at : ℕ) (rest : List ℕ) (few : Bool) → AreIn false fewest most low high at rest few
-        → Beyond places at (digits_at false fewest most low high (input at rest))
-    by_few at rest true few = subst (λ r. Beyond places at r) (sym few.said) (omega arith)
-    by_few at rest false good = subst (λ r. Beyond places at r) (sym good.said) (omega arith)
+        → Beyond offsets at (digits_at false fewest most low high (input at rest))
+    by_few at rest true few = subst (λ r. Beyond offsets at r) (sym few.said) (omega arith)
+    by_few at rest false good = subst (λ r. Beyond offsets at r) (sym good.said) (omega arith)
 
 pub form_digits : (fewest most low high : ℕ) → fewest ≤ most
-    → Part places Anything (SpellsDigits false fewest most low high) (digits_at false fewest most low high)
+    → Part offsets Anything (SpellsDigits false fewest most low high) (digits_at false fewest most low high)
 form_digits fewest most low high wide = record {
   local = form_local fewest most low high;
   takes = λ i digits j of e. (Exact-digits false fewest most low high).takes i digits j e;
@@ -157,7 +157,7 @@ form_digits fewest most low high wide = record {
       let below = few.below in
       record {
         count = digits_of most rest;
-        stands = few.place;
+        stands = few.bad_is;
         within = short is_ascii_digit most rest;
         some = record {
           text = digits ++ replicate (fewest - length digits) 48;

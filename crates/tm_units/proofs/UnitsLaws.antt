@@ -16,7 +16,7 @@ use Rattle.fm_base.proofs.ChainLemmas.{same_Ok}
 use Rattle.fm_base.proofs.ListLemmas.{agree_less}
 use Rattle.fm_base.proofs.Local.{Beyond, fault_is}
 use Rattle.fm_base.proofs.Parts.{begun_same}
-use Rattle.tm_units.proofs.Lawful.{places}
+use Rattle.tm_units.proofs.Lawful.{offsets}
 use Rattle.tm_units.proofs.UnitsReadings.{Lawful-units}
 use Rattle.tm_units.proofs.UnitsSpelled.{spelled_read, read_spelled}
 
@@ -35,16 +35,16 @@ calendar_settles text calendar w s =
     by_tests true false false ea eb ec = rw (ea, eb, ec) (w, s, rw (ea, eb, ec) refl)
 
 -- a text that is spelled doesn't go wrong
-not_wrong : (strict : Bool) (other : List ℕ) (units : Written) (place : ℕ) → SpellsUnits strict other units
-    → units_at strict (whole other) ≡ Err place → ⊥
-not_wrong strict other units place s e = let no = sym (spelled_read strict other units s) ∙ e in absurd cc
+not_wrong : (strict : Bool) (other : List ℕ) (units : Written) (offset : ℕ) → SpellsUnits strict other units
+    → units_at strict (whole other) ≡ Err offset → ⊥
+not_wrong strict other units offset s e = let no = sym (spelled_read strict other units s) ∙ e in absurd cc
 
 -- where the form goes wrong in reading, it ends
-form_ends : (text : List ℕ) (place : ℕ) → units_at false (whole text) ≡ Err place → EndsForm place text
-form_ends text place e =
-    let b = Lawful-units.form.fails 0 text place tt e in
-    let begun : b.count ≡ place = let is = b.stands in omega arith in
-    let f = Lawful-units.form.local.fails 0 text place e in
+form_ends : (text : List ℕ) (offset : ℕ) → units_at false (whole text) ≡ Err offset → EndsForm offset text
+form_ends text offset e =
+    let b = Lawful-units.form.fails 0 text offset tt e in
+    let begun : b.count ≡ offset = let is = b.stands in omega arith in
+    let f = Lawful-units.form.local.fails 0 text offset e in
     record {
       begun = record {
         other = b.some.text;
@@ -55,16 +55,16 @@ form_ends text place e =
       };
       nowhere = λ other units s same. elim f.why [
         | inl w ↦
-            let here : f.count ≡ place = let is = w.stands in omega arith in
+            let here : f.count ≡ offset = let is = w.stands in omega arith in
             let within = w.within in
             let one = w.uncut in
-            not_wrong false other units place s (w.again other
-            (agree_less (f.count + f.size) (suc place) text other (omega arith) (sym same)))
+            not_wrong false other units offset s (w.again other
+            (agree_less (f.count + f.size) (suc offset) text other (omega arith) (sym same)))
         | inr short ↦ absurd short.fault_is
       ];
     }
 
--- no text ends its form at two places
+-- no text ends its form at two offsets
 form_ends_once : (text : List ℕ) (m n : ℕ) → EndsForm m text → EndsForm n text → m < n → ⊥
 form_ends_once text m n one other less =
     let begun = other.begun in
@@ -72,81 +72,81 @@ form_ends_once text m n one other less =
     (agree_less (suc m) n begun.other text (omega arith) begun.same)
 
 -- where the form ends, reading it goes wrong
-ends_form : (text : List ℕ) (place : ℕ) → EndsForm place text → units_at false (whole text) ≡ Err place
-ends_form text place ends = by_reading (units_at false (whole text)) refl
+ends_form : (text : List ℕ) (offset : ℕ) → EndsForm offset text → units_at false (whole text) ≡ Err offset
+ends_form text offset ends = by_reading (units_at false (whole text)) refl
   where
-    by_reading : (r : Outcome Written) → units_at false (whole text) ≡ r → r ≡ Err place
+    by_reading : (r : Outcome Written) → units_at false (whole text) ≡ r → r ≡ Err offset
     by_reading (Ok x) is = absurd (ends.nowhere text x.0 (read_spelled false text x.0 x.1 is) refl)
     by_reading (Err bad) is =
         let other = form_ends text bad is in
-        elim (cases_lt bad place) [
-          | inl less ↦ absurd (form_ends_once text bad place other ends less)
-          | inr more ↦ elim (cases_lt place bad) [
-            | inl less ↦ absurd (form_ends_once text place bad ends other less)
-            | inr same ↦ let is : bad ≡ place = omega arith in ap (λ (n : ℕ). Err n) is
+        elim (cases_lt bad offset) [
+          | inl less ↦ absurd (form_ends_once text bad offset other ends less)
+          | inr more ↦ elim (cases_lt offset bad) [
+            | inl less ↦ absurd (form_ends_once text offset bad ends other less)
+            | inr same ↦ let is : bad ≡ offset = omega arith in ap (λ (n : ℕ). Err n) is
           ]
         ]
 
 -- a value out of its range is where reading goes wrong
-out_fails : (text : List ℕ) (place : ℕ) → OutUnits place text → units_at true (whole text) ≡ Err place
-out_fails text place out =
-    let here : 0 + place ≡ place = omega arith in
-    Lawful-units.refuses 0 text place out ∙ ap (λ (n : ℕ). Err n) here
+out_fails : (text : List ℕ) (offset : ℕ) → OutUnits offset text → units_at true (whole text) ≡ Err offset
+out_fails text offset out =
+    let here : 0 + offset ≡ offset = omega arith in
+    Lawful-units.refuses 0 text offset out ∙ ap (λ (n : ℕ). Err n) here
 
--- where reading goes wrong, the text does, and at no place before
-wrong_first : (text : List ℕ) (place : ℕ) → units_at true (whole text) ≡ Err place → GoesWrongFirst place text
-wrong_first text place e = elim (Lawful-units.fails 0 text place e) [
+-- where reading goes wrong, the text does, and at no offset before
+wrong_first : (text : List ℕ) (offset : ℕ) → units_at true (whole text) ≡ Err offset → GoesWrongFirst offset text
+wrong_first text offset e = elim (Lawful-units.fails 0 text offset e) [
   | inl form ↦ record {
-    wrong = inl (form_ends text place form);
+    wrong = inl (form_ends text offset form);
     first = λ before less w. elim w [
-      | inl ends ↦ form_ends_once text before place ends (form_ends text place form) less
+      | inl ends ↦ form_ends_once text before offset ends (form_ends text offset form) less
       | inr out ↦ no_out before less out
     ];
   }
   | inr o ↦
-      let here : o.offset ≡ place = let is = o.place_is in omega arith in
+      let here : o.offset ≡ offset = let is = o.bad_is in omega arith in
       record {
         wrong = inr (subst (λ (n : ℕ). OutUnits n text) here o.out);
         first = λ before less w. elim w [
           | inl ends ↦
-              let later : place ≤ before =
-              subst (λ r. Beyond places place r) (ends_form text before ends) o.beyond in
+              let later : offset ≤ before =
+              subst (λ r. Beyond offsets offset r) (ends_form text before ends) o.beyond in
               absurd (omega arith)
           | inr out ↦ no_out before less out
         ];
       }
 ]
   where
-    no_out : (before : ℕ) → before < place → OutUnits before text → ⊥
+    no_out : (before : ℕ) → before < offset → OutUnits before text → ⊥
     no_out before less out =
-        let same : before ≡ place = fault_is {A = Written} before place (sym (out_fails text before out) ∙ e) in
+        let same : before ≡ offset = fault_is {A = Written} before offset (sym (out_fails text before out) ∙ e) in
         absurd (omega arith)
 
 -- a text goes wrong first where reading does
-first_wrong : (text : List ℕ) (place : ℕ) → GoesWrongFirst place text → units_at true (whole text) ≡ Err place
-first_wrong text place w = by_reading (units_at true (whole text)) refl
+first_wrong : (text : List ℕ) (offset : ℕ) → GoesWrongFirst offset text → units_at true (whole text) ≡ Err offset
+first_wrong text offset w = by_reading (units_at true (whole text)) refl
   where
-    by_reading : (r : Outcome Written) → units_at true (whole text) ≡ r → r ≡ Err place
+    by_reading : (r : Outcome Written) → units_at true (whole text) ≡ r → r ≡ Err offset
     by_reading (Ok x) is = elim w.wrong [
       | inl ends ↦
-          let no = sym (Lawful-units.same (whole text) x is) ∙ ends_form text place ends in absurd cc
-      | inr out ↦ sym is ∙ out_fails text place out
+          let no = sym (Lawful-units.same (whole text) x is) ∙ ends_form text offset ends in absurd cc
+      | inr out ↦ sym is ∙ out_fails text offset out
     ]
     by_reading (Err bad) is =
         let other = wrong_first text bad is in
-        elim (cases_lt bad place) [
+        elim (cases_lt bad offset) [
           | inl less ↦ absurd (w.first bad less other.wrong)
-          | inr more ↦ elim (cases_lt place bad) [
-            | inl less ↦ absurd (other.first place less w.wrong)
-            | inr same ↦ let is : bad ≡ place = omega arith in ap (λ (n : ℕ). Err n) is
+          | inr more ↦ elim (cases_lt offset bad) [
+            | inl less ↦ absurd (other.first offset less w.wrong)
+            | inr same ↦ let is : bad ≡ offset = omega arith in ap (λ (n : ℕ). Err n) is
           ]
         ]
 
 -- a word that is no unit is out of its range
-unit_out : (text : List ℕ) (place : ℕ) → IsWrongUnit place text → OutUnits place text
-unit_out text place w = record {
-  value = place;
-  front = replicate place 32;
+unit_out : (text : List ℕ) (offset : ℕ) → IsWrongUnit offset text → OutUnits offset text
+unit_out text offset w = record {
+  value = offset;
+  front = replicate offset 32;
   back = w.word ++ w.more;
   left = 0;
   first = refl;
@@ -161,7 +161,7 @@ unit_out text place w = record {
     text_is = refl;
   });
   text_is = w.text_is;
-  offset_is = let size = length-replicate {A = ℕ} place 32 in omega (arith, size);
+  offset_is = let size = length-replicate {A = ℕ} offset 32 in omega (arith, size);
 }
 
 -- a text that is read as units spells them
@@ -174,7 +174,7 @@ written-from_read text w e = by_reading (units_at true (whole text)) refl e
     by_reading (Ok x) is k =
         subst (λ (v : Written). SpellsUnits true text v) (same_Ok {E = UnitsFault} x.0 w k)
         (read_spelled true text x.0 x.1 is)
-    by_reading (Err place) is k = absurd cc
+    by_reading (Err offset) is k = absurd cc
 
 -- a text that spells units is read as those
 pub read-from_written : (text : List ℕ) (w : Written) → SpellsUnits true text w → written_or_fault text ≡ Ok w
@@ -183,25 +183,25 @@ read-from_written text w s =
     ap (λ (r : Outcome Written). fault_as BadUnits (value_of r)) (spelled_read true text w s)
 
 -- a text that is refused goes wrong there first
-pub wrong-from_refused : (text : List ℕ) (place : ℕ) → written_or_fault text ≡ Err (BadUnits place)
-    → GoesWrongFirst place text
+pub wrong-from_refused : (text : List ℕ) (offset : ℕ) → written_or_fault text ≡ Err (BadUnits offset)
+    → GoesWrongFirst offset text
 unfolding written_or_fault
-wrong-from_refused text place e = by_reading (units_at true (whole text)) refl e
+wrong-from_refused text offset e = by_reading (units_at true (whole text)) refl e
   where
     by_reading : (r : Outcome Written) → units_at true (whole text) ≡ r
-        → fault_as BadUnits (value_of r) ≡ Err (BadUnits place) → GoesWrongFirst place text
+        → fault_as BadUnits (value_of r) ≡ Err (BadUnits offset) → GoesWrongFirst offset text
     by_reading (Ok x) is k = absurd cc
-    by_reading (Err bad) is k = let same : bad ≡ place = cc in
+    by_reading (Err bad) is k = let same : bad ≡ offset = cc in
         subst (λ (n : ℕ). GoesWrongFirst n text) same (wrong_first text bad is)
 
--- a text that goes wrong first at a place is refused there
-pub refused-from_wrong : (text : List ℕ) (place : ℕ) → GoesWrongFirst place text
-    → written_or_fault text ≡ Err (BadUnits place)
+-- a text that goes wrong first at an offset is refused there
+pub refused-from_wrong : (text : List ℕ) (offset : ℕ) → GoesWrongFirst offset text
+    → written_or_fault text ≡ Err (BadUnits offset)
 unfolding written_or_fault
-refused-from_wrong text place w =
-    ap (λ (r : Outcome Written). fault_as BadUnits (value_of r)) (first_wrong text place w)
+refused-from_wrong text offset w =
+    ap (λ (r : Outcome Written). fault_as BadUnits (value_of r)) (first_wrong text offset w)
 
--- a text goes wrong first at one place
+-- a text goes wrong first at one offset
 pub wrong_once : (text : List ℕ) (one other : ℕ) → GoesWrongFirst one text → GoesWrongFirst other text → one ≡ other
 wrong_once text one other w v =
     fault_is {A = Written} one other (sym (first_wrong text one w) ∙ first_wrong text other v)
@@ -214,7 +214,7 @@ units_settle text calendar = by_reading (units_at true (whole text)) refl
     by_reading : (r : Outcome Written) → units_at true (whole text) ≡ r
         → Settles text calendar (fault_as BadUnits (value_of r) >>= in_calendar calendar)
     by_reading (Ok x) is = calendar_settles text calendar x.0 (read_spelled true text x.0 x.1 is)
-    by_reading (Err place) is = (wrong_first text place is, λ w s. not_wrong true text w place s is)
+    by_reading (Err offset) is = (wrong_first text offset is, λ w s. not_wrong true text w offset s is)
 
 -- what is spelled is read
 pub units_of-spelled : (text : List ℕ) (calendar : Option (List ℕ)) (w : Written) → SpellsUnits true text w
@@ -224,18 +224,18 @@ units_of-spelled text calendar w s =
     ap (λ (r : Result Written UnitsFault). r >>= in_calendar calendar) (read-from_written text w s)
 
 -- a text is refused where it goes wrong first
-pub units_of-wrong_first : (text : List ℕ) (calendar : Option (List ℕ)) (place : ℕ) → GoesWrongFirst place text
-    → units_of text calendar ≡ Err (BadUnits place)
+pub units_of-wrong_first : (text : List ℕ) (calendar : Option (List ℕ)) (offset : ℕ) → GoesWrongFirst offset text
+    → units_of text calendar ≡ Err (BadUnits offset)
 unfolding units_of
-units_of-wrong_first text calendar place w =
-    ap (λ (r : Result Written UnitsFault). r >>= in_calendar calendar) (refused-from_wrong text place w)
+units_of-wrong_first text calendar offset w =
+    ap (λ (r : Result Written UnitsFault). r >>= in_calendar calendar) (refused-from_wrong text offset w)
 
 -- an unknown unit is refused at its first letter
-pub units_of-wrong_unit : (text : List ℕ) (calendar : Option (List ℕ)) (place : ℕ) → IsWrongUnit place text
-    → units_of text calendar ≡ Err (BadUnits place)
+pub units_of-wrong_unit : (text : List ℕ) (calendar : Option (List ℕ)) (offset : ℕ) → IsWrongUnit offset text
+    → units_of text calendar ≡ Err (BadUnits offset)
 unfolding units_of written_or_fault
-units_of-wrong_unit text calendar place w =
+units_of-wrong_unit text calendar offset w =
     ap (λ (r : Outcome Written). fault_as BadUnits (value_of r) >>= in_calendar calendar)
-    (out_fails text place (unit_out text place w))
+    (out_fails text offset (unit_out text offset w))
 
 pub ruleset units_laws = (units_settle, units_of-spelled)

@@ -12,7 +12,7 @@ use Rattle.nc_model.specs.UnitsReading.{past, digits_at, number_at}
 use Rattle.nc_model.specs.UnitsSpelling.{SpellsNumberWithin, SpellsDigits}
 use Rattle.fm_base.proofs.Exact.{input, Stops, Anything, Is, done, onto}
 use Rattle.fm_base.proofs.Local.{Beyond, fault_is}
-use Rattle.tm_units.proofs.Lawful.{places, IsOutAt, Lawful, Seq, Lawful-pure, Lawful-as, Lawful-before, Lawful-first, Lawful-map}
+use Rattle.tm_units.proofs.Lawful.{offsets, IsOutAt, Lawful, Seq, Lawful-pure, Lawful-as, Lawful-before, Lawful-first, Lawful-map}
 use Rattle.tm_units.proofs.UnitsDigits.{is_out, checked-out, checked-few, digits_of, digits_is, AreOut, AreIn, digits_cases, digits_read, digits_count, digits_checked, Exact-digits}
 use Rattle.tm_units.proofs.UnitsForms.{digits_size, digits_end, form_local, form_digits}
 use Rattle.tm_units.proofs.UnitsRuns.{run_passes}
@@ -62,13 +62,13 @@ Lawful-digits fewest most low high some wide = record {
       ∙ ap₂ (λ (d : List ℕ) (k : Input). done {A = List ℕ × Input} (d, k)) r.digits_are r.input_is;
   fails = λ at rest bad e. elim (digits_cases true fewest most low high at rest) [
     | inl out ↦
-        let place : at ≡ bad = fault_is {A = List ℕ} at bad (sym out.said ∙ e) in
+        let start : at ≡ bad = fault_is {A = List ℕ} at bad (sym out.said ∙ e) in
         elim (cases_lt 0 (digits_of most rest)) [
           | inl there ↦ inr (record {
             offset = 0;
-            place_is = omega arith;
+            bad_is = omega arith;
             out = out_here fewest most low high at rest out there;
-            beyond = subst (λ (n : ℕ). Beyond places n (digits_at false fewest most low high (input at rest))) place
+            beyond = subst (λ (n : ℕ). Beyond offsets n (digits_at false fewest most low high (input at rest))) start
                 ((form_local fewest most low high).forward at rest);
           })
           | inr none ↦
@@ -88,11 +88,11 @@ Lawful-digits fewest most low high some wide = record {
         | inl below ↦ or_left _ _ (lt-ltb _ _ below)
         | inr above ↦ or_right _ _ (lt-ltb _ _ above)
       ]) in
-      let place : at ≡ at + offset = let here = o.here in omega arith in
+      let start : at ≡ at + offset = let here = o.here in omega arith in
       ap (λ (l : List ℕ). digits_at true fewest most low high (input at l)) o.text_is
       ∙ digits_checked true fewest most low high at front o.more count
       ∙ checked-out true fewest low high at front (input (at + length front) o.more) out
-      ∙ ap (λ (n : ℕ). Err n) place;
+      ∙ ap (λ (n : ℕ). Err n) start;
 }
   where
     form_is : (at : ℕ) (rest : List ℕ) → ltb (length (take (digits_of most rest) rest)) fewest ≡ true

@@ -13,22 +13,22 @@ use Rattle.fm_base.proofs.ListLemmas.{agree_less, Agree}
 use Rattle.fm_base.proofs.Local.{Taken, Failed, Local, Beyond, Local-then}
 use Rattle.fm_base.proofs.LocalSteps.{Local-pure}
 use Rattle.fm_base.proofs.Parts.{Example, Part-leaf}
-use Rattle.tm_units.proofs.Lawful.{places, by_exact, Lawful, NoOut, Lawful-plain, Lawful-pure, Lawful-as, Lawful-first}
+use Rattle.tm_units.proofs.Lawful.{offsets, by_exact, Lawful, NoOut, Lawful-plain, Lawful-pure, Lawful-as, Lawful-first}
 use Rattle.tm_units.proofs.LawfulChoices.{agree_first, Local-here}
 use Rattle.tm_units.proofs.UnitsRuns.{One, one_at, IsByte, IsLetter, AreLetters, Repeats, RepeatsSome, Exact-one, Exact-many, Exact-some, same_letters, letters_same, no_word, no_letters}
 
 -- a fault after `count` bytes, by those and the next one
 pub fails_after : {A : Type 0} (p : Parser A) (at : ℕ) (rest : List ℕ) (bad count : ℕ) → bad ≡ at + count
     → count ≤ length rest → ((other : List ℕ) → Agree (suc count) rest other → p (input at other) ≡ Err bad)
-    → Failed places p at rest bad
-fails_after p at rest bad count place within again = record {
+    → Failed offsets p at rest bad
+fails_after p at rest bad count here within again = record {
   count = count;
   size = 1;
   some = omega arith;
   why = inl (record {
     wide = omega arith;
     within = omega arith;
-    stands = place;
+    stands = here;
     uncut = refl;
     again = λ other same. again other (agree_less (suc count) (count + 1) rest other (omega arith) same);
   });
@@ -72,7 +72,7 @@ prefix_agree_within test most xs ys e =
 pub short : (test : ℕ → Bool) (most : ℕ) (xs : List ℕ) → prefix_len test (take most xs) ≤ length xs
 short test most xs = let within = prefix_len-le-length test (take most xs) in omega (arith, length-take most xs)
 
-Local-many : (byte : ℕ) → Local places (many_at byte)
+Local-many : (byte : ℕ) → Local offsets (many_at byte)
 unfolding many_at
 Local-many byte = record {
   takes = λ at rest n j e.
@@ -108,9 +108,9 @@ unfolding some_at many_at
 Lawful-some byte = Lawful-plain (by_exact (Exact-some byte))
     (Part-leaf (Local-then (Local-many byte) (λ count. local_unless (count == 0) count))
     (λ i n j of e. (Exact-some byte).takes i n j tt e)
-    (record { text = byte ∷ []; a = 1; spelled = (omega arith, refl) }) some_place)
+    (record { text = byte ∷ []; a = 1; spelled = (omega arith, refl) }) some_offset)
   where
-    local_unless : (bad : Bool) (x : ℕ) → Local places (located (λ at. unless bad at x))
+    local_unless : (bad : Bool) (x : ℕ) → Local offsets (located (λ at. unless bad at x))
     local_unless true x = Local-here
     local_unless false x = Local-pure x
 
@@ -120,21 +120,21 @@ Lawful-some byte = Lawful-plain (by_exact (Exact-some byte))
         omega arith
     by_count at count bad i false is e = absurd cc
 
-    some_place : (at : ℕ) (rest : List ℕ) (bad : ℕ) → some_at byte (input at rest) ≡ Err bad → bad ≡ at
-    some_place at rest bad e =
+    some_offset : (at : ℕ) (rest : List ℕ) (bad : ℕ) → some_at byte (input at rest) ≡ Err bad → bad ≡ at
+    some_offset at rest bad e =
         by_count at (prefix_len (λ other. other == byte) rest) bad
         (past (prefix_len (λ other. other == byte) rest) (input at rest))
         (prefix_len (λ other. other == byte) rest == 0) refl e
 
 -- one byte that passes
 one_taken : (test : ℕ → Bool) (at : ℕ) (rest : List ℕ) (unit : Unit {0}) (j : Input)
-    → one_at test (input at rest) ≡ Ok (unit, j) → Taken places (one_at test) at rest unit j
+    → one_at test (input at rest) ≡ Ok (unit, j) → Taken offsets (one_at test) at rest unit j
 one_taken test at [] unit j e = absurd cc
 one_taken test at (x ∷ rest) unit j e = by_test test at x rest unit j (test x) refl e
   where
     by_test : (test : ℕ → Bool) (at x : ℕ) (rest : List ℕ) (unit : Unit {0}) (j : Input) (b : Bool) → test x ≡ b
         → cond b (done {A = Unit {0} × Input} (tt, past 1 (input at (x ∷ rest)))) (Err at) ≡ Ok (unit, j)
-        → Taken places (one_at test) at (x ∷ rest) unit j
+        → Taken offsets (one_at test) at (x ∷ rest) unit j
     by_test test at x rest unit j true is e =
         let k = ok_pair tt unit (past 1 (input at (x ∷ rest))) j e in
         record {
@@ -148,10 +148,10 @@ one_taken test at (x ∷ rest) unit j e = by_test test at x rest unit j (test x)
         }
     by_test test at x rest unit j false is e = absurd cc
 
-one_place : (test : ℕ → Bool) (at : ℕ) (rest : List ℕ) (bad : ℕ) (b : Bool)
+one_offset : (test : ℕ → Bool) (at : ℕ) (rest : List ℕ) (bad : ℕ) (b : Bool)
     → cond b (done {A = Unit {0} × Input} (tt, past 1 (input at rest))) (Err at) ≡ Err bad → (b ≡ false) × (bad ≡ at)
-one_place test at rest bad true e = absurd cc
-one_place test at rest bad false e = (refl, cc)
+one_offset test at rest bad true e = absurd cc
+one_offset test at rest bad false e = (refl, cc)
 
 pub Lawful-one : (test : ℕ → Bool) → Example (One test)
     → Lawful (λ strict. One test) (λ u. Anything) NoOut (λ strict. one_at test)
@@ -162,17 +162,17 @@ Lawful-one test some = Lawful-plain (by_exact (Exact-one test))
       forward = λ at rest. by_test at (next_passes test (input at rest)) rest;
     })
     (λ i unit j of e. (Exact-one test).takes i unit j tt e) some
-    (λ at rest bad e. (one_place test at rest bad (next_passes test (input at rest)) e).1))
+    (λ at rest bad e. (one_offset test at rest bad (next_passes test (input at rest)) e).1))
   where
     by_test : (at : ℕ) (b : Bool) (rest : List ℕ)
-        → Beyond places at (cond b (done {A = Unit {0} × Input} (tt, past 1 (input at rest))) (Err at))
+        → Beyond offsets at (cond b (done {A = Unit {0} × Input} (tt, past 1 (input at rest))) (Err at))
     by_test at true rest = omega arith
     by_test at false rest = omega arith
 
     fails : (at : ℕ) (rest : List ℕ) (bad : ℕ) → one_at test (input at rest) ≡ Err bad
-        → Failed places (one_at test) at rest bad
+        → Failed offsets (one_at test) at rest bad
     fails at rest bad e =
-        let k = one_place test at rest bad (next_passes test (input at rest)) e in
+        let k = one_offset test at rest bad (next_passes test (input at rest)) e in
         fails_after (one_at test) at rest bad 0 (let here = k.1 in omega arith) (omega arith)
         (λ other same. ap (λ (b : Bool). cond b (done {A = Unit {0} × Input} (tt, past 1 (input at other))) (Err at))
         (sym (agree_first test at rest other (agree_less 1 (suc 0) rest other (omega arith) same)) ∙ k.0)

@@ -16,7 +16,7 @@ use Rattle.fm_base.proofs.ListLemmas.{agree_less, Agree}
 use Rattle.fm_base.proofs.Local.{Local, Local-then, fault_is}
 use Rattle.fm_base.proofs.LocalSteps.{Local-pure, Local-cond, Local-same}
 use Rattle.fm_base.proofs.Parts.{Example, Part, begun_here}
-use Rattle.tm_units.proofs.Lawful.{places, by_exact, Lawful, NoOut, Seq, Lawful-plain, Lawful-as, Lawful-before, Lawful-outs}
+use Rattle.tm_units.proofs.Lawful.{offsets, by_exact, Lawful, NoOut, Seq, Lawful-plain, Lawful-as, Lawful-before, Lawful-outs}
 use Rattle.tm_units.proofs.LawfulChoices.{agree_first, Local-here}
 use Rattle.tm_units.proofs.LawfulFound.{found_at, Lawful-found}
 use Rattle.tm_units.proofs.UnitsForms.{full_or_ends}
@@ -106,7 +106,7 @@ word_again at rest other same =
     ∙ prefix_agree is_ascii_alphabetic rest other same)
     ∙ ap (λ (l : List ℕ). done {A = List ℕ × Input} (l, past count (input at other))) (sym front)
 
-Local-word : Local places word_at
+Local-word : Local offsets word_at
 Local-word = record {
   takes = λ at rest word j e.
       let count = letters_of rest in
@@ -224,7 +224,7 @@ chosen_is at (x ∷ rest) = by_letter (is_ascii_alphabetic x) refl
         ∙ sym (ap (λ (w : List ℕ). known at (unit_of false w) j) word)
     by_letter false is = rw is refl
 
-form_unit : Part places Anything (TheUnit false) (found_at word_at (unit_of false))
+form_unit : Part offsets Anything (TheUnit false) (found_at word_at (unit_of false))
 form_unit = record {
   local = Local-same chosen_is (Local-cond (next_passes is_ascii_alphabetic) (agree_first is_ascii_alphabetic)
       (Local-then Local-word (λ word. Local-pure (unwrap_or (seconds_per word) 0))) Local-here);

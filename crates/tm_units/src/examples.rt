@@ -6,7 +6,7 @@ use nc_model::UnitsFault;
 
 /// Offsets of faults at the unit. A word counts whole: the longest run of letters.
 #[tactic(auto, unfolding(crate::proofs::Computing::texts))]
-pub fn unit_places()
+pub fn unit_offsets()
     ensures unknown_word_at_the_end { units_of (codes "da") None ≡ Err (UnitsFault.BadUnits 0) }
     ensures longer_than_a_unit { units_of (codes "  dayss since 2020-1-1") None
         ≡ Err (UnitsFault.BadUnits 2) }
@@ -15,7 +15,7 @@ pub fn unit_places()
 /// Offsets of faults in the date. A number is the longest run of digits, of four for a year and of two else, and its
 /// range is checked whatever follows.
 #[tactic(auto, unfolding(crate::proofs::Computing::texts))]
-pub fn date_places()
+pub fn date_offsets()
     ensures month_0_at_the_end { units_of (codes "days since 2020-0") None
         ≡ Err (UnitsFault.BadUnits 16) }
     ensures month_of_three_digits { units_of (codes "days since 2020-001-01") None
@@ -29,7 +29,7 @@ pub fn date_places()
 
 /// Offsets of faults in a date without dashes. After four digits a fifth begins the month.
 #[tactic(auto, unfolding(crate::proofs::Computing::texts))]
-pub fn joined_date_places()
+pub fn joined_date_offsets()
     ensures fifth_digit_0 { units_of (codes "days since 20240") None
         ≡ Err (UnitsFault.BadUnits 15) }
     ensures month_of_one_digit { units_of (codes "days since 20241") None
@@ -56,7 +56,7 @@ pub fn joined_date_places()
 
 /// Offsets of faults in a time, which may be its hour alone.
 #[tactic(auto, unfolding(crate::proofs::Computing::texts))]
-pub fn time_places()
+pub fn time_offsets()
     ensures hour_24 { units_of (codes "days since 2020-1-1 24:00") None
         ≡ Err (UnitsFault.BadUnits 20) }
     ensures minute_without_a_colon { units_of (codes "days since 2020-1-1 12 00") None
@@ -69,7 +69,7 @@ pub fn time_places()
 
 /// Offsets of faults in a zone. After a sign one or two digits are the hours, and a third begins the minutes.
 #[tactic(auto, unfolding(crate::proofs::Computing::texts))]
-pub fn zone_places()
+pub fn zone_offsets()
     ensures gmt_cut { units_of (codes "days since 2020-1-1 12:00 GM") None
         ≡ Err (UnitsFault.BadUnits 28) }
     ensures gmt_misspelled { units_of (codes "days since 2020-1-1 12:00 GTM") None
@@ -98,7 +98,7 @@ pub fn zone_places()
 
 /// Offsets of faults in a zone without its sign, which stands after a gap alone.
 #[tactic(auto, unfolding(crate::proofs::Computing::texts))]
-pub fn shift_places()
+pub fn shift_offsets()
     ensures shift_without_a_gap { units_of (codes "days since 2020-1-1 12:000:00") None
         ≡ Err (UnitsFault.BadUnits 25) }
     ensures shift_of_hours_alone { units_of (codes "days since 2020-1-1 0:0 1") None

@@ -10,7 +10,7 @@ use std::marker::Model;
 
 // The text goes wrong at this offset.
 #[derive(Clone, Copy)]
-pub(crate) struct BadPlace {
+pub(crate) struct BadOffset {
     pub(crate) at: u64,
 }
 
@@ -144,23 +144,23 @@ impl<'a> Scanner<'a> {
 
     // Passes over the end of the text.
     #[tactic(auto, unfolding(nc_model::specs::UnitsReading::end_at))]
-    pub(crate) fn end(&mut self) -> Result<(), BadPlace>
+    pub(crate) fn end(&mut self) -> Result<(), BadOffset>
         ensures { Reads (λ u. u) (spec.end_at self.old) result self.new }
     {
         if self.has_ended() {
             Ok(())
         } else {
-            Err(BadPlace { at: self.at })
+            Err(BadOffset { at: self.at })
         }
     }
 
     // Passes over this byte.
     #[tactic(auto, unfolding(nc_model::specs::UnitsReading::byte_at))]
-    pub(crate) fn byte(&mut self, byte: u8) -> Result<(), BadPlace>
+    pub(crate) fn byte(&mut self, byte: u8) -> Result<(), BadOffset>
         ensures { Reads (λ u. u) (spec.byte_at byte self.old) result self.new }
     {
         if !self.next_is(byte) {
-            return Err(BadPlace { at: self.at });
+            return Err(BadOffset { at: self.at });
         }
         self.take(1);
         Ok(())
@@ -168,11 +168,11 @@ impl<'a> Scanner<'a> {
 
     // Passes over this letter in either case.
     #[tactic(auto, unfolding(nc_model::specs::UnitsReading::letter_at))]
-    pub(crate) fn letter(&mut self, letter: u8) -> Result<(), BadPlace>
+    pub(crate) fn letter(&mut self, letter: u8) -> Result<(), BadOffset>
         ensures { Reads (λ u. u) (spec.letter_at letter self.old) result self.new }
     {
         if !self.next_is_letter(letter) {
-            return Err(BadPlace { at: self.at });
+            return Err(BadOffset { at: self.at });
         }
         self.take(1);
         Ok(())
@@ -190,12 +190,12 @@ impl<'a> Scanner<'a> {
 
     // The same, where it stands there at least once.
     #[tactic(auto, unfolding(nc_model::specs::UnitsReading::some_at))]
-    pub(crate) fn some(&mut self, byte: u8) -> Result<usize, BadPlace>
+    pub(crate) fn some(&mut self, byte: u8) -> Result<usize, BadOffset>
         ensures { Reads (λ n. n) (spec.some_at byte self.old) result self.new }
     {
         let count = self.many(byte);
         if count == 0 {
-            return Err(BadPlace { at: self.at });
+            return Err(BadOffset { at: self.at });
         }
         Ok(count)
     }

@@ -6,7 +6,7 @@ ghost use Rattle.tm_units.specs.Scanning.{Reads};
 
 use crate::form::number_of;
 use crate::number::{Digits, digits_in, letters, number};
-use crate::scanner::{BadPlace, Scanner};
+use crate::scanner::{BadOffset, Scanner};
 
 const HOUR: Digits = Digits {
     fewest: 1,
@@ -31,7 +31,7 @@ const MINUTE_OF_ZONE: Digits = Digits {
 
 // Passes over a point and zeros, where there is a point.
 #[tactic(auto, unfolding(nc_model::specs::UnitsReading::fraction_at))]
-fn fraction(scanner: &mut Scanner<'_>) -> Result<usize, BadPlace>
+fn fraction(scanner: &mut Scanner<'_>) -> Result<usize, BadOffset>
     ensures { Reads (λ n. n) (spec.fraction_at scanner.old) result scanner.new }
 {
     if !scanner.next_is(b'.') {
@@ -43,7 +43,7 @@ fn fraction(scanner: &mut Scanner<'_>) -> Result<usize, BadPlace>
 
 // Reads the second of a time, 0 where it is left out.
 #[tactic(auto, unfolding(nc_model::specs::UnitsReading::second_at))]
-fn second(scanner: &mut Scanner<'_>) -> Result<u32, BadPlace>
+fn second(scanner: &mut Scanner<'_>) -> Result<u32, BadOffset>
     ensures read { Reads (λ n. n) (spec.second_at true scanner.old) result scanner.new }
     ensures range { IfOk result (λ n. n ≤ 59) }
 {
@@ -58,7 +58,7 @@ fn second(scanner: &mut Scanner<'_>) -> Result<u32, BadPlace>
 
 // Reads the minute and the second of a time as seconds, 0 where they are left out.
 #[tactic(auto, unfolding(nc_model::specs::UnitsReading::past_hour_at))]
-fn past_hour(scanner: &mut Scanner<'_>) -> Result<u32, BadPlace>
+fn past_hour(scanner: &mut Scanner<'_>) -> Result<u32, BadOffset>
     ensures read { Reads (λ n. n) (spec.past_hour_at true scanner.old) result scanner.new }
     ensures range { IfOk result (λ n. n < 3600) }
 {
@@ -73,7 +73,7 @@ fn past_hour(scanner: &mut Scanner<'_>) -> Result<u32, BadPlace>
 
 // Reads a time of day as the seconds from midnight.
 #[tactic(auto, unfolding(nc_model::specs::UnitsReading::time_of_day_at))]
-fn time(scanner: &mut Scanner<'_>) -> Result<u32, BadPlace>
+fn time(scanner: &mut Scanner<'_>) -> Result<u32, BadOffset>
     ensures read { Reads (λ n. n) (spec.time_of_day_at true scanner.old) result scanner.new }
     ensures range { IfOk result (λ n. n < 86_400) }
 {
@@ -84,7 +84,7 @@ fn time(scanner: &mut Scanner<'_>) -> Result<u32, BadPlace>
 
 // Reads the minutes of a zone after a colon.
 #[tactic(auto, unfolding(nc_model::specs::UnitsReading::colon_minute_at))]
-fn colon_minute(scanner: &mut Scanner<'_>) -> Result<u32, BadPlace>
+fn colon_minute(scanner: &mut Scanner<'_>) -> Result<u32, BadOffset>
     ensures read { Reads (λ n. n) (spec.colon_minute_at true scanner.old) result scanner.new }
     ensures range { IfOk result (λ n. n ≤ 59) }
 {
@@ -95,7 +95,7 @@ fn colon_minute(scanner: &mut Scanner<'_>) -> Result<u32, BadPlace>
 // Reads the minutes of a zone after the digits of its hours, 0 where they are left out. After two digits a third
 // begins the minutes.
 #[tactic(auto, unfolding(nc_model::specs::UnitsReading::zone_minute_at))]
-fn zone_minute(scanner: &mut Scanner<'_>, hours: &[u8]) -> Result<u32, BadPlace>
+fn zone_minute(scanner: &mut Scanner<'_>, hours: &[u8]) -> Result<u32, BadOffset>
     ensures read { Reads (λ n. n) (spec.zone_minute_at true hours.now scanner.old) result scanner.new }
     ensures range { IfOk result (λ n. n ≤ 59) }
 {
@@ -110,7 +110,7 @@ fn zone_minute(scanner: &mut Scanner<'_>, hours: &[u8]) -> Result<u32, BadPlace>
 
 // Reads the hours and minutes of a zone as seconds.
 #[tactic(auto, unfolding(nc_model::specs::UnitsReading::distance_at))]
-fn distance(scanner: &mut Scanner<'_>) -> Result<u32, BadPlace>
+fn distance(scanner: &mut Scanner<'_>) -> Result<u32, BadOffset>
     ensures read { Reads (λ n. n) (spec.distance_at true scanner.old) result scanner.new }
     ensures range { IfOk result (λ n. n < 86_400) }
 {
@@ -121,7 +121,7 @@ fn distance(scanner: &mut Scanner<'_>) -> Result<u32, BadPlace>
 
 // Reads a zone to the east that has no sign.
 #[tactic(auto, unfolding(nc_model::specs::UnitsReading::shift_at))]
-fn shift(scanner: &mut Scanner<'_>) -> Result<i32, BadPlace>
+fn shift(scanner: &mut Scanner<'_>) -> Result<i32, BadOffset>
     ensures read { Reads (λ n. n) (spec.shift_at true scanner.old) result scanner.new }
     ensures range { IfOk result (λ z. IsWithin 86_399 z) }
 {
@@ -132,7 +132,7 @@ fn shift(scanner: &mut Scanner<'_>) -> Result<i32, BadPlace>
 
 // Reads a zone without a sign: a word for UTC.
 #[tactic(auto, unfolding(nc_model::specs::UnitsReading::zone_at))]
-fn zone_word(scanner: &mut Scanner<'_>) -> Result<i32, BadPlace>
+fn zone_word(scanner: &mut Scanner<'_>) -> Result<i32, BadOffset>
     requires east { spec.next_is 43 scanner.old ≡ false }
     requires west { spec.next_is 45 scanner.old ≡ false }
     ensures read { Reads (λ n. n) (spec.zone_at true scanner.old) result scanner.new }
@@ -152,7 +152,7 @@ fn zone_word(scanner: &mut Scanner<'_>) -> Result<i32, BadPlace>
 
 // Reads a zone as the seconds by which its clocks are ahead of UTC.
 #[tactic(auto, unfolding(nc_model::specs::UnitsReading::zone_at))]
-fn zone(scanner: &mut Scanner<'_>) -> Result<i32, BadPlace>
+fn zone(scanner: &mut Scanner<'_>) -> Result<i32, BadOffset>
     ensures read { Reads (λ n. n) (spec.zone_at true scanner.old) result scanner.new }
     ensures range { IfOk result (λ z. IsWithin 86_399 z) }
 {
@@ -169,7 +169,7 @@ fn zone(scanner: &mut Scanner<'_>) -> Result<i32, BadPlace>
 
 // Reads a zone, which may lack its sign after a gap.
 #[tactic(auto, unfolding(nc_model::specs::UnitsReading::zone_after))]
-fn zone_after(scanner: &mut Scanner<'_>, gap: usize) -> Result<i32, BadPlace>
+fn zone_after(scanner: &mut Scanner<'_>, gap: usize) -> Result<i32, BadOffset>
     ensures read { Reads (λ n. n) (spec.zone_after true gap scanner.old) result scanner.new }
     ensures range { IfOk result (λ z. IsWithin 86_399 z) }
 {
@@ -182,7 +182,7 @@ fn zone_after(scanner: &mut Scanner<'_>, gap: usize) -> Result<i32, BadPlace>
 
 // Reads a zone up to the end of the text, UTC where it is left out.
 #[tactic(auto, unfolding(nc_model::specs::UnitsReading::last_zone_at))]
-fn last_zone(scanner: &mut Scanner<'_>) -> Result<i32, BadPlace>
+fn last_zone(scanner: &mut Scanner<'_>) -> Result<i32, BadOffset>
     ensures read { Reads (λ n. n) (spec.last_zone_at true scanner.old) result scanner.new }
     ensures range { IfOk result (λ z. IsWithin 86_399 z) }
 {
@@ -198,7 +198,7 @@ fn last_zone(scanner: &mut Scanner<'_>) -> Result<i32, BadPlace>
 
 // Reads a time and its zone up to the end of the text, as the seconds from the midnight in UTC that begins its date.
 #[tactic(auto, unfolding(nc_model::specs::UnitsReading::clock_at))]
-fn clock(scanner: &mut Scanner<'_>) -> Result<i32, BadPlace>
+fn clock(scanner: &mut Scanner<'_>) -> Result<i32, BadOffset>
     ensures { Reads (λ n. n) (spec.clock_at true scanner.old) result scanner.new }
 {
     let time = time(scanner)?;
@@ -208,7 +208,7 @@ fn clock(scanner: &mut Scanner<'_>) -> Result<i32, BadPlace>
 
 // Reads what follows a date up to the end of the text, which is midnight in UTC where there is no time.
 #[tactic(auto, unfolding(nc_model::specs::UnitsReading::after_date_at))]
-pub(crate) fn after_date(scanner: &mut Scanner<'_>) -> Result<i32, BadPlace>
+pub(crate) fn after_date(scanner: &mut Scanner<'_>) -> Result<i32, BadOffset>
     ensures { Reads (λ n. n) (spec.after_date_at true scanner.old) result scanner.new }
 {
     if scanner.next_is_letter(b't') {
@@ -220,7 +220,7 @@ pub(crate) fn after_date(scanner: &mut Scanner<'_>) -> Result<i32, BadPlace>
         return Ok(0);
     }
     if gap == 0 {
-        return Err(BadPlace { at: scanner.at() });
+        return Err(BadOffset { at: scanner.at() });
     }
     clock(scanner)
 }

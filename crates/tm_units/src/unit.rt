@@ -3,7 +3,7 @@ ghost use Rattle.std.specs.Prelude.{◌≡◌, true};
 ghost use Rattle.nc_model.specs.UnitsReading as spec;
 ghost use Rattle.tm_units.specs.Scanning.{Reads};
 
-use crate::scanner::{BadPlace, Scanner};
+use crate::scanner::{BadOffset, Scanner};
 
 // Whether two words are the same but for the case of their letters.
 #[tactic(auto, unfolding(nc_model::specs::UnitsReading::is_same_word))]
@@ -76,10 +76,10 @@ fn seconds_per(word: &[u8]) -> Option<u32>
 
 // Reads the word of a unit, which is the longest run of letters.
 #[tactic(auto, unfolding(nc_model::specs::UnitsReading::unit_at))]
-pub(crate) fn unit(scanner: &mut Scanner<'_>) -> Result<u32, BadPlace>
+pub(crate) fn unit(scanner: &mut Scanner<'_>) -> Result<u32, BadOffset>
     ensures { Reads (λ n. n) (spec.unit_at true scanner.old) result scanner.new }
 {
-    let place = scanner.at();
+    let offset = scanner.at();
     let word = scanner.letters();
-    seconds_per(word).ok_or(BadPlace { at: place })
+    seconds_per(word).ok_or(BadOffset { at: offset })
 }

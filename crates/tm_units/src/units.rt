@@ -9,7 +9,7 @@ ghost use Rattle.tm_units.specs.Scanning.{Reads};
 
 use crate::date::date;
 use crate::number::letters;
-use crate::scanner::{BadPlace, Scanner};
+use crate::scanner::{BadOffset, Scanner};
 use crate::time::after_date;
 use crate::unit::{is_same_word, unit};
 use jiff::civil::Date;
@@ -28,7 +28,7 @@ struct Written {
 
 // Reads units of time up to the end of the text.
 #[tactic(auto, unfolding(nc_model::specs::UnitsReading::units_at))]
-fn read_written(scanner: &mut Scanner<'_>) -> Result<Written, BadPlace>
+fn read_written(scanner: &mut Scanner<'_>) -> Result<Written, BadOffset>
     ensures { Reads (λ w. record { per = w.per; day = w.day; seconds = w.seconds })
         (units_at true scanner.old) result scanner.new }
 {
@@ -117,7 +117,7 @@ fn units_of(text: &[u8], calendar: Option<&[u8]>) -> Result<Units, UnitsFault>
 pub fn read_units(text: &[u8], calendar: Option<&[u8]>) -> Result<Units, UnitsFault>
     ensures value { result ≡ spec.units_of text.now (option_map (λ text. text.now) calendar.entry) }
 
-    // Units are those that the text spells. A text with a bad place spells none and goes wrong there first, and a
+    // Units are those that the text spells. A text with a bad offset spells none and goes wrong there first, and a
     // calendar is refused only beside a text that spells units.
     ensures settled { spec.Settles text.now (option_map (λ text. text.now) calendar.entry) result }
 
@@ -125,13 +125,13 @@ pub fn read_units(text: &[u8], calendar: Option<&[u8]>) -> Result<Units, UnitsFa
     ensures spelled { (written : _) → SpellsUnits true text.now written
         → result ≡ spec.in_calendar (option_map (λ text. text.now) calendar.entry) written }
 
-    // A text is refused where it goes wrong first: at no other place, and for no calendar.
-    ensures wrong { (place : _) → GoesWrongFirst place text.now
-        → result ≡ Err (UnitsFault.BadUnits place) }
+    // A text is refused where it goes wrong first: at no other offset, and for no calendar.
+    ensures wrong { (offset : _) → GoesWrongFirst offset text.now
+        → result ≡ Err (UnitsFault.BadUnits offset) }
 
     // A word that is no unit, where the unit stands, is refused at its first letter.
-    ensures unit { (place : _) → IsWrongUnit place text.now
-        → result ≡ Err (UnitsFault.BadUnits place) }
+    ensures unit { (offset : _) → IsWrongUnit offset text.now
+        → result ≡ Err (UnitsFault.BadUnits offset) }
 {
     units_of(text, calendar)
 }

@@ -16,21 +16,21 @@ pub fn slab_picks(slab: Slab, index: u64)
     ensures count { length (slab_indices slab) ≡ slab_count slab }
 {}
 
-/// The index lists of a box are those whose indices are each picked by the slab at their place, and there are as many
-/// as the product of the counts of the slabs.
+/// The index lists of a box are those whose indices are each picked by the slab of their dimension, and there are as
+/// many as the product of the counts of the slabs.
 pub fn box_picks(slabs: &[Slab], index: &[u64])
     requires { All HasStride slabs.now }
     ensures indices { Contains (box_of slabs.now) index.now ↔ EachPicks slabs.now index.now }
     ensures count { length (box_of slabs.now) ≡ box_len slabs.now }
 {}
 
-/// The index list at a place of a box is found by division, and no two places have the same.
-pub fn box_places(slabs: &[Slab])
+/// The index list of an element of a box is found by division, and no two elements have the same.
+pub fn box_elements(slabs: &[Slab])
     requires { All HasStride slabs.now }
-    ensures found { (place : ℕ) → place < box_len slabs.now
-        → slice_get (box_of slabs.now) place ≡ Some (index_at slabs.now place) }
-    ensures distinct { (place other : ℕ) → place < box_len slabs.now → other < box_len slabs.now
-        → index_at slabs.now place ≡ index_at slabs.now other → place ≡ other }
+    ensures found { (element : ℕ) → element < box_len slabs.now
+        → slice_get (box_of slabs.now) element ≡ Some (index_at slabs.now element) }
+    ensures distinct { (element other : ℕ) → element < box_len slabs.now → other < box_len slabs.now
+        → index_at slabs.now element ≡ index_at slabs.now other → element ≡ other }
 {}
 
 /// The box of whole dimensions is all index lists of the array.

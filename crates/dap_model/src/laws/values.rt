@@ -20,9 +20,9 @@ pub fn number_layout(kind: DapKind, bits: u64)
 pub fn array_layout(kind: DapKind, numbers: &[u64])
     ensures length { length (array_bytes kind numbers.now)
         ≡ 8 + elements_len kind (length numbers.now) }
-    ensures element { (place offset : ℕ) → place < length numbers.now → offset < element_len kind
-        → slice_get (array_bytes kind numbers.now) (8 + (place * element_len kind + offset))
-        ≡ slice_get (element_bytes kind (slice_index numbers.now place)) offset }
+    ensures element { (index offset : ℕ) → index < length numbers.now → offset < element_len kind
+        → slice_get (array_bytes kind numbers.now) (8 + (index * element_len kind + offset))
+        ≡ slice_get (element_bytes kind (slice_index numbers.now index)) offset }
 {}
 
 /// No two arrays of a kind have the same bytes.
@@ -42,11 +42,11 @@ pub fn part_layout(kind: DapKind, slabs: &[Slab])
     ensures length { (bits : List ℕ → ℕ) (words : List ℕ → List ℕ)
         → length (xdr_of kind (values_at kind slabs.now bits words))
         ≡ 8 + elements_len kind (box_len slabs.now) }
-    ensures element { (bits : List ℕ → ℕ) (words : List ℕ → List ℕ) (place offset : ℕ)
-        → place < box_len slabs.now → offset < element_len kind
+    ensures element { (bits : List ℕ → ℕ) (words : List ℕ → List ℕ) (element offset : ℕ)
+        → element < box_len slabs.now → offset < element_len kind
         → slice_get (xdr_of kind (values_at kind slabs.now bits words))
-        (8 + (place * element_len kind + offset))
-        ≡ slice_get (element_bytes kind (bits (index_at slabs.now place))) offset }
+        (8 + (element * element_len kind + offset))
+        ≡ slice_get (element_bytes kind (bits (index_at slabs.now element))) offset }
 {}
 
 /// A text takes four bytes and its own with zero bytes up to a multiple of four.
@@ -57,10 +57,10 @@ pub fn text_layout(text: &[u8])
 /// An array of texts takes four bytes and those of its texts, each after those before it.
 pub fn texts_layout(texts: &[Bytes])
     ensures length { length (texts_bytes texts.now) ≡ 4 + texts_len texts.now }
-    ensures text { (place offset : ℕ) → place < length texts.now
-        → offset < text_len (length (slice_index_or texts.now place []))
-        → slice_get (texts_bytes texts.now) (4 + (texts_len (take place texts.now) + offset))
-        ≡ slice_get (text_bytes (slice_index_or texts.now place [])) offset }
+    ensures text { (index offset : ℕ) → index < length texts.now
+        → offset < text_len (length (slice_index_or texts.now index []))
+        → slice_get (texts_bytes texts.now) (4 + (texts_len (take index texts.now) + offset))
+        ≡ slice_get (text_bytes (slice_index_or texts.now index [])) offset }
 {}
 
 /// The texts of a part are an array of one for each index list that its slabs pick.

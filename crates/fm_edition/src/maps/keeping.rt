@@ -15,7 +15,7 @@ fn keeps(row: &Row, least: Option<i64>) -> bool
     keeps_least_offset(least, row.run, row.valid)
 }
 
-// Adds the rows of a page from one place up to another, if there are any. None is made or copied.
+// Adds the rows of a page from one index up to another, if there are any. None is made or copied.
 fn push_between(rows: &mut Rows, kept: &PageRows, from: usize, to: usize) -> Result<(), NoMemory>
     requires order { from ≤ to }
     requires within { to ≤ length kept.now.rows }

@@ -7,7 +7,7 @@ ghost use Rattle.nc_model.specs.declared.header.Header.{Header as FileHeader};
 ghost use Rattle.nc_model.specs.declared.header.NcVar.{NcVar};
 ghost use Rattle.nc_model.specs.declared.units.Units.{Units as TimeUnits};
 ghost use Rattle.nc_model.specs.Kind.{size_of};
-ghost use Rattle.nc_model.specs.Layout.{place_of, rank_in, shape_of, size_at};
+ghost use Rattle.nc_model.specs.Layout.{offset_of, rank_in, shape_of, size_at};
 ghost use Rattle.fm_model.specs.declared.loaded.Loaded.{Loaded};
 ghost use Rattle.fm_model.specs.declared.proto.Proto.{Proto};
 ghost use Rattle.fm_model.specs.declared.proto.ProtoVar.{ProtoVar};
@@ -103,7 +103,7 @@ pub fn a_fit_file_has_the_same_grid()
 pub fn slots_say_where_elements_lie()
     ensures { (header : FileHeader) (axis var : NcVar) (k : ℕ) (index : List ℕ) →
         IsTrue (stands_first_alone (dim_of_axis axis) var.dims)
-        → place_of header var (k ∷ index)
+        → offset_of header var (k ∷ index)
         ≡ (slot_in header axis var).begin + k * (slot_in header axis var).step
         + size_of var.kind * rank_in (drop 1 (shape_of header var)) index }
 {}

@@ -19,7 +19,7 @@ pub fn rows_rise()
 pub fn rows_are_the_cells_shown()
     ensures { (files : List Loaded) (view : ViewName) (row : Row) →
         Contains (rows files view) row
-        ↔ ((cell files row.run row.valid ≡ Some (row.file, row.place))
+        ↔ ((cell files row.run row.valid ≡ Some (row.file, row.index))
         × Shows files view row.run row.valid) }
 {}
 

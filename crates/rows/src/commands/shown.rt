@@ -53,7 +53,7 @@ fn put_device(device: &str, number: usize, out: &mut Said) {
 }
 
 fn put_doors(world: &MemWorld, out: &mut Said) {
-    for (number, door) in world.doors.as_slice().iter().enumerate() {
+    for (number, door) in world.devices.doors.as_slice().iter().enumerate() {
         put_device("-- door ", number, out);
         put_links(door.given(), out);
     }
@@ -67,12 +67,12 @@ fn put_links(links: &[PausedLink], out: &mut Said) {
 }
 
 fn put_verdicts(world: &MemWorld, out: &mut Said) {
-    for (number, inbox) in world.inboxes.as_slice().iter().enumerate() {
+    for (number, inbox) in world.devices.inboxes.as_slice().iter().enumerate() {
         out.put_number("-- inbox ", number);
         out.put_debug(": ", inbox.verdicts());
         out.put("\n");
     }
-    for (number, clock) in world.clocks.as_slice().iter().enumerate() {
+    for (number, clock) in world.devices.clocks.as_slice().iter().enumerate() {
         out.put_number("-- clock ", number);
         out.put_debug(": ", clock.verdicts());
         out.put("\n");
@@ -82,11 +82,11 @@ fn put_verdicts(world: &MemWorld, out: &mut Said) {
 fn put_told(world: &MemWorld, out: &mut Said) {
     out.put("-- lines of the server\n");
     put_lines(world.opener.lines(), out);
-    for (number, inbox) in world.inboxes.as_slice().iter().enumerate() {
+    for (number, inbox) in world.devices.inboxes.as_slice().iter().enumerate() {
         put_device("-- lines of inbox ", number, out);
         put_lines(inbox.lines(), out);
     }
-    for (number, clock) in world.clocks.as_slice().iter().enumerate() {
+    for (number, clock) in world.devices.clocks.as_slice().iter().enumerate() {
         put_device("-- lines of clock ", number, out);
         put_lines(clock.lines(), out);
     }

@@ -9,12 +9,12 @@ use super::linked::Linked;
 use dev_memory::{
     Entry, MemClock, MemDoor, MemFiles, MemInbox, MemLink, MemOpener, MemSink, PausedLink, Pauses,
 };
-use dev_traits::{Door, Inbox, Link, OpenGate, World};
+use dev_traits::{Devices, Door, Inbox, Link, OpenGate, World};
 use fm_base::{Bytes, List, NoMemory};
 use std::alloc::Global;
 
 /// A world in memory.
-pub type MemWorld = World<MemOpener, MemFiles, MemLink, MemSink, OpenGate>;
+pub type MemWorld = World<MemOpener>;
 
 // Links to come, none of which was used.
 #[derive(Drop)]
@@ -229,9 +229,7 @@ pub fn world_of(alloc: Global, given: &Given) -> Result<MemWorld, NoMemory> {
     let ((opener, files), (link, sink)) = both(served, own)?;
     Ok(World {
         opener,
-        doors: List::new(alloc),
-        inboxes: List::new(alloc),
-        clocks: List::new(alloc),
+        devices: Devices::none(alloc),
         files,
         link,
         sink,

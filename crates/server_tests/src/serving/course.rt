@@ -1,8 +1,8 @@
 //! An inbox, a gate and a clock that act in turn: a verdict, a link, and so on, and then the moments.
 ghost use Rattle.std.specs.Prelude.{None};
 
-use dev_memory::{MemClock, MemDoor, MemInbox, MemOpener};
-use dev_traits::{Arrival, Clock, Expiry, Failed, Found, Gate, Inbox, Opener, Place, Verdict};
+use dev_memory::{MemClock, MemDoor, MemFiles, MemInbox, MemLink, MemOpener, MemSink};
+use dev_traits::{Arrival, Clock, Expiry, Failed, Found, Gate, Inbox, Machine, Place, Verdict};
 use fm_base::{Bytes, Fail};
 use std::alloc::Global;
 use std::sync::atomic::{AtomicU64, Ordering};
@@ -145,23 +145,31 @@ impl<'a> Clock for LateClock<'a> {
     }
 }
 
-// An opener in memory whose inboxes tell and whose clocks are late. It says nothing of what it holds.
+// A machine in memory whose inboxes tell and whose clocks are late. It says nothing of what it holds.
 #[derive(Drop)]
 pub(crate) struct CountedOpener<'a> {
     pub(crate) opener: MemOpener,
     pub(crate) course: &'a Course,
 }
 
-impl<'a> Opener for CountedOpener<'a> {
+impl<'a> Machine for CountedOpener<'a> {
     type D = MemDoor;
 
     type I = CountedInbox<'a>;
 
     type C = LateClock<'a>;
 
+    type F = MemFiles;
+
+    type L = MemLink;
+
+    type S = MemSink;
+
+    type G = InStep<'a>;
+
     ghost shown = { λ opener. record {
       held = None;
-      faults = (⟦<MemOpener as Opener>⟧.shown opener.opener).faults;
+      faults = (⟦<MemOpener as Machine>⟧.shown opener.opener).faults;
     } };
 
     fn faults(&self) -> u64 {

@@ -7,7 +7,7 @@ use super::texts::STRUCTURE;
 use dev_memory::{
     MemClock, MemDoor, MemFiles, MemInbox, MemLink, MemOpener, MemSink, PausedLink, Pauses,
 };
-use dev_traits::{Door, Gate, Inbox, Link, OpenGate, Opener, World};
+use dev_traits::{Devices, Door, Inbox, Link, Machine, OpenGate, World};
 use fm_base::{Bytes, List};
 use srv_run::run;
 use std::alloc::Global;
@@ -119,24 +119,19 @@ fn sink(rt: &impl Abort, alloc: Global) -> MemSink {
 }
 
 // Runs the words over devices, and says what is left.
-pub(crate) fn ran<R: Threads + Wait + Abort + Sync, O: Opener<D = MemDoor> + Drop, G: Gate + Drop>(
-    rt: &R,
-    alloc: Global,
-    words: &str,
-    opener: O,
-    link: MemLink,
-    gate: G,
-) -> Left
+pub(crate) fn ran<
+    R: Threads + Wait + Abort + Sync,
+    M: Machine<D = MemDoor, F = MemFiles, L = MemLink, S = MemSink> + Drop,
+>(rt: &R, alloc: Global, words: &str, opener: M, link: MemLink, gate: M::G) -> Left
 where
-    O::I: Send + Drop,
-    O::C: Send + Drop,
+    M::I: Send,
+    M::C: Send,
+    M::G: Sync,
 {
     let words = words_of(rt, alloc, words);
     let mut world = World {
         opener,
-        doors: List::new(alloc),
-        inboxes: List::new(alloc),
-        clocks: List::new(alloc),
+        devices: Devices::none(alloc),
         files: MemFiles::new(two_files(rt, alloc), List::new(alloc)),
         link,
         sink: sink(rt, alloc),
@@ -147,8 +142,8 @@ where
         status,
         output: copy_of(rt, alloc, world.link.output()),
         line: copy_of(rt, alloc, world.sink.bytes()),
-        doors: world.doors.len(),
-        replies: replies_of(rt, alloc, world.doors.as_slice()),
+        doors: world.devices.doors.len(),
+        replies: replies_of(rt, alloc, world.devices.doors.as_slice()),
     }
 }
 

@@ -1,11 +1,13 @@
 //! A gate at which two connections have to meet, and which notes what passes.
+ghost use Rattle.std.specs.Prelude.{None};
 
 use super::course::Course;
 use super::given::{Left, asking_door, link_of, opener_of, ran};
-use dev_traits::{Gate, Place};
-use fm_base::{Bytes, List};
+use dev_memory::{MemClock, MemDoor, MemFiles, MemInbox, MemLink, MemOpener, MemSink};
+use dev_traits::{Failed, Gate, Machine, Place};
+use fm_base::{Bytes, Fail, List};
 use std::alloc::Global;
-use std::marker::Sync;
+use std::marker::{PhantomData, Sync};
 use std::process::Abort;
 use std::sync::Wait;
 use std::sync::atomic::{AtomicU64, Ordering};
@@ -67,6 +69,59 @@ impl<'a> Gate for Meeting<'a> {
     }
 }
 
+// A machine in memory with this gate. It says nothing of what it holds.
+#[derive(Drop)]
+struct MeetingOpener<'a> {
+    opener: MemOpener,
+    of: PhantomData<Meeting<'a>>,
+}
+
+impl<'a> Machine for MeetingOpener<'a> {
+    type D = MemDoor;
+
+    type I = MemInbox;
+
+    type C = MemClock;
+
+    type F = MemFiles;
+
+    type L = MemLink;
+
+    type S = MemSink;
+
+    type G = Meeting<'a>;
+
+    ghost shown = { λ opener. record {
+      held = None;
+      faults = (⟦<MemOpener as Machine>⟧.shown opener.opener).faults;
+    } };
+
+    fn faults(&self) -> u64 {
+        self.opener.faults()
+    }
+
+    fn door(
+        &mut self,
+        alloc: Global,
+        address: &[u8],
+        connections: u32,
+    ) -> Result<MemDoor, Fail<Failed>> {
+        self.opener.door(alloc, address, connections)
+    }
+
+    fn inbox(&mut self, alloc: Global, folder: &[u8]) -> Result<MemInbox, Fail<Failed>> {
+        self.opener.inbox(alloc, folder)
+    }
+
+    fn clock(&mut self, ticks: u32) -> MemClock {
+        self.opener.clock(ticks)
+    }
+
+    fn note(&mut self, line: &[&[u8]]) {
+        self.opener.note(line);
+    }
+}
+
 // Serves two doors, to each of which two links come, with a gate.
 fn served<R: Threads + Wait + Abort + Sync>(rt: &R, alloc: Global, gate: Meeting<'_>) -> Left {
     let mut doors = List::new(alloc);
@@ -74,6 +129,10 @@ fn served<R: Threads + Wait + Abort + Sync>(rt: &R, alloc: Global, gate: Meeting
     doors.push(asking_door(rt, alloc)).expect(rt, "memory");
     let opener = opener_of(rt, alloc, doors, "", List::new(alloc));
     let link = link_of(rt, alloc, b"", 0, 0);
+    let opener = MeetingOpener {
+        opener,
+        of: PhantomData,
+    };
     ran(rt, alloc, TWO, opener, link, gate)
 }
 

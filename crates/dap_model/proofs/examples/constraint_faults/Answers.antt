@@ -1,4 +1,4 @@
--- The example texts have these faults at these places, by computing.
+-- The example texts have these faults at these offsets, by computing.
 use Rattle.std.proofs.Common.{refl}
 use Rattle.fm_base.specs.Name.{is_name_byte}
 use Rattle.dap_model.specs.Constraint.{slab_of}

@@ -19,7 +19,7 @@ returns c =
     let sent = c.args.sent.now in
     let at = c.part_at-at.result in
     let are = subst (AreBegins shown sent) (sym c.as_slice-begins.ensures) c.requires.laid.begins_are in
-    data-lent-any (content_of shown) sent at.place c.args.from at.left c.index-sent-place.result c.lent.result.now
-    (omega (arith, c.if-place-sent.false)) c.index-sent-place.is
+    data-lent-any (content_of shown) sent at.index c.args.from at.left c.index-sent-index.result c.lent.result.now
+    (omega (arith, c.if-index-sent.false)) c.index-sent-index.is
     (stands-from shown sent c.as_slice-begins.result.now c.args.from at are c.requires.small
     c.part_at-at.ensures.stands) c.lent.ensures

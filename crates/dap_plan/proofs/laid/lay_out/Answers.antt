@@ -34,9 +34,9 @@ loop-part-preserved c =
     let part = c.part-item.result in
     let more = data-longer (content_of shown) sent c.loop-part.part-index c.in_ok-marked.marked.len part
     c.loop-part-test.true c.part-item.is c.in_ok-marked.ensures.len in
-    let place : c.len-place.result ≡ c.loop-part.part-index = omega (arith, c.len-place.ensures, so.count) in
-    let at : slice_get sent c.len-place.result ≡ Some part =
-    ap (slice_get sent) place ∙ slice_get-get_or sent c.loop-part.part-index part c.loop-part-test.true
+    let index : c.len-index.result ≡ c.loop-part.part-index = omega (arith, c.len-index.ensures, so.count) in
+    let at : slice_get sent c.len-index.result ≡ Some part =
+    ap (slice_get sent) index ∙ slice_get-get_or sent c.loop-part.part-index part c.loop-part-test.true
     ∙ ap Some (sym c.part-item.is) in
     record {
       len_is = omega (arith, so.len_is, more);
@@ -46,7 +46,7 @@ loop-part-preserved c =
       begins_are = subst (AreBegins shown sent) (sym c.in_ok-push.ensures.ok)
           (begins-more shown sent c.loop-part.begins c.loop-part.part-index c.short-begin.result so.begins_are so.count
           (λ fits. c.short-begin.ensures (omega (arith, so.len_is, fits)) ∙ so.len_is));
-      marks_are = marks-kept shown sent c.loop-part.marks c.keep_marks.new.marks c.len-place.result
+      marks_are = marks-kept shown sent c.loop-part.marks c.keep_marks.new.marks c.len-index.result
           c.in_ok-marked.marked.marks part so.marks_are c.in_ok-keep_marks.ensures at c.in_ok-marked.ensures.marks;
     }
 

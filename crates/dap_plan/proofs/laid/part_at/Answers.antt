@@ -1,4 +1,4 @@
--- The part at the place is the last that begins at or before the offset, or all begin after it.
+-- The part at the index is the last that begins at or before the offset, or all begin after it.
 use Rattle.std.proofs.Common.{◌-◌, get_or, inl, inr, refl, arith}
 use Rattle.std.proofs.lemmas.Option.{slice_get-get_or}
 use Rattle.dap_plan.proofs.LaidLemmas.{begun-part, last-begun}

@@ -1,7 +1,7 @@
 -- A slab more lies within its dimension.
 use Rattle.std.proofs.Common.{arith, sym, ◌∙◌}
 use Rattle.dap_model.specs.ClauseFaults.{path_text}
-use Rattle.dap_project.proofs.PlaceLemmas.{all_countable, more_countable, range_end, range_step}
+use Rattle.dap_project.proofs.IndexLemmas.{all_countable, more_countable, range_end, range_step}
 use Rattle.dap_project.proofs.check.check_range.Goals as goal
 
 pub loop-at-preserved : goal.loop-at-preserved

@@ -1,4 +1,4 @@
--- The slabs before the place lie within their dimensions.
+-- The slabs before the index lie within their dimensions.
 use Rattle.std.proofs.Common.{◌≡◌, All, take, drop}
 use Rattle.dap_model.specs.ClauseFaults.{path_text, range_fault}
 use Rattle.dap_project.specs.Checks.{IsCountable}

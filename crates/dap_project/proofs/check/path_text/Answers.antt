@@ -1,6 +1,6 @@
 -- A name more, after a dot unless it is the first.
 use Rattle.std.proofs.Common.{List, ℕ, ◌++◌, ap, ◌∙◌}
-use Rattle.dap_project.proofs.PlaceLemmas.{dotted, first_name}
+use Rattle.dap_project.proofs.IndexLemmas.{dotted, first_name}
 use Rattle.dap_project.proofs.check.path_text.Goals as goal
 use Rattle.dap_project.proofs.check.path_text.Goals.{then-at-gt0+in_ok-append, else-at-gt0}
 

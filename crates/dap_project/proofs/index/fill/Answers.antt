@@ -1,4 +1,4 @@
--- One more place is in its bucket.
+-- One more index is in its bucket.
 use Rattle.std.proofs.Common.{ap, arith, sym, ◌∙◌, ◌++◌, ◌∷◌, [], List, ℕ, length}
 use Rattle.dap_model.specs.Picking.{name_of}
 use Rattle.dap_project.specs.Buckets.{bucket_of}

@@ -1,4 +1,4 @@
--- The buckets have the places so far.
+-- The buckets have the indices so far.
 use Rattle.dap_project.proofs.FilledLemmas.{AreFilled}
 use Rattle.dap_project.proofs.index.fill.Given as goal
 

@@ -2,7 +2,7 @@
 use Rattle.std.proofs.Common.{ℕ, ap, arith, replicate, ◌∙◌}
 use Rattle.dap_model.specs.Picking.{parts_of}
 use Rattle.dap_project.specs.declared.slot.Slot.TheVariants.{Free}
-use Rattle.dap_project.proofs.PlaceLemmas.{all_free}
+use Rattle.dap_project.proofs.IndexLemmas.{all_free}
 use Rattle.dap_project.proofs.note.free_slots.Goals as goal
 
 pub returns : goal.returns

@@ -2,7 +2,7 @@
 use Rattle.std.proofs.Common.{◌++◌, ◌∷◌, [], List, ap₂, ◌∙◌}
 use Rattle.dap_project.specs.Notes.{fresh_note}
 use Rattle.dap_project.specs.declared.note.Note.{Note}
-use Rattle.dap_project.proofs.PlaceLemmas.{map_up_to}
+use Rattle.dap_project.proofs.IndexLemmas.{map_up_to}
 use Rattle.dap_project.proofs.note.fresh_notes.Goals as goal
 
 pub loop-decl-preserved : goal.loop-decl-preserved

@@ -1,7 +1,7 @@
--- The notes of the places so far are noted.
+-- The notes of the indices so far are noted.
 use Rattle.std.proofs.Common.{drop}
 use Rattle.dap_project.proofs.BucketLemmas.{AreNoted}
 use Rattle.dap_project.proofs.note.note_clause.Given as goal
 
-abbrev pub invariant-loop-place : goal.invariant-loop-place
-invariant-loop-place l = AreNoted l.decls l.clause (drop l.place-index l.places) l.notes l.fn.notes
+abbrev pub invariant-loop-at : goal.invariant-loop-at
+invariant-loop-at l = AreNoted l.decls l.clause (drop l.at-index l.indices) l.notes l.fn.notes

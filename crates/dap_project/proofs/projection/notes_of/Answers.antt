@@ -7,7 +7,7 @@ use Rattle.dap_project.specs.Checks.{HasCountable}
 use Rattle.dap_project.specs.Notes.{note_of, notes_after}
 use Rattle.dap_project.proofs.FaultLemmas.{fails_at, no_fault_at, none_left}
 use Rattle.dap_project.proofs.NoteLemmas.{notes_after-map, notes_of-none}
-use Rattle.dap_project.proofs.PlaceLemmas.{up_to}
+use Rattle.dap_project.proofs.IndexLemmas.{up_to}
 use Rattle.dap_project.proofs.projection.notes_of.Goals as goal
 
 pub loop-clause-init : goal.loop-clause-init

@@ -1,4 +1,4 @@
--- The declarations so far are sent, and those from the place on are left.
+-- The declarations so far are sent, and those from the index on are left.
 use Rattle.std.proofs.Common.{◌≡◌, ◌++◌, drop}
 use Rattle.dap_project.specs.Noted.{noted_decls}
 use Rattle.dap_project.proofs.sent.decls_sent.Given as goal

@@ -1,4 +1,4 @@
--- The parts of the declarations so far are sent, and those from the place on are left.
+-- The parts of the declarations so far are sent, and those from the index on are left.
 use Rattle.std.proofs.Common.{◌≡◌, ◌++◌, drop}
 use Rattle.dap_project.specs.Noted.{noted_sent}
 use Rattle.dap_project.proofs.sent.parts_sent.Given as goal

@@ -1,4 +1,4 @@
--- The slabs before the place are those of whole dimensions.
+-- The slabs before the index are those of whole dimensions.
 use Rattle.std.proofs.Common.{◌≡◌, drop}
 use Rattle.std.specs.Cmp.Lexicographic.{pointwise}
 use Rattle.dap_model.specs.ClauseFaults.{is_same_slab}

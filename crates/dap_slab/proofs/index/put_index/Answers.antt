@@ -1,45 +1,45 @@
--- Each turn is one of `PlaceTurn`.
+-- Each turn is one of `ElementTurn`.
 use Rattle.std.proofs.Common.{ℕ, List, ◌/◌, ◌%◌, set, ◌+◌, ◌++◌, take, drop, refl, sym, ap, ap₂, ◌∙◌, arith}
 use Rattle.std.proofs.lemmas.List.{length-set, take_all, drop_all, append-nil}
 use Rattle.dap_model.specs.declared.projection.Slab.{Slab}
 use Rattle.dap_model.specs.Box.{index_at}
-use Rattle.dap_slab.proofs.PlaceLemmas.{place_turn}
+use Rattle.dap_slab.proofs.ElementLemmas.{element_turn}
 use Rattle.dap_slab.proofs.index.put_index.Goals as goal
 
 pub slab_count-others-requires-clause-few : goal.slab_count-others-requires-clause-few
 slab_count-others-requires-clause-few c =
-    let turn = place_turn c.args.slabs.now c.loop-at.at c.loop-at.others c.loop-at.rest c.loop-at.index _
+    let turn = element_turn c.args.slabs.now c.loop-at.at c.loop-at.others c.loop-at.rest c.loop-at.index _
     c.loop-at-test.true c.loop-at.invariant.0 c.loop-at.invariant.1 c.loop-at.invariant.2 refl in
     omega (arith, turn.few)
 
 pub nonzero_div-others : goal.nonzero_div-others
 nonzero_div-others c =
-    let turn = place_turn c.args.slabs.now c.loop-at.at c.loop-at.others c.loop-at.rest c.loop-at.index
+    let turn = element_turn c.args.slabs.now c.loop-at.at c.loop-at.others c.loop-at.rest c.loop-at.index
     c.slab_count-others.result c.loop-at-test.true c.loop-at.invariant.0 c.loop-at.invariant.1 c.loop-at.invariant.2
     c.slab_count-others.ensures in
     omega (arith, turn.some, c.slab_count-others.ensures)
 
 pub nonzero_div-rest : goal.nonzero_div-rest
 nonzero_div-rest c =
-    (place_turn c.args.slabs.now c.loop-at.at c.loop-at.others c.loop-at.rest c.loop-at.index
+    (element_turn c.args.slabs.now c.loop-at.at c.loop-at.others c.loop-at.rest c.loop-at.index
     c.slab_count-others.result c.loop-at-test.true c.loop-at.invariant.0 c.loop-at.invariant.1 c.loop-at.invariant.2
     c.slab_count-others.ensures).positive
 
-pub index_in-requires-clause-place : goal.index_in-requires-clause-place
-index_in-requires-clause-place c =
-    (place_turn c.args.slabs.now c.loop-at.at c.loop-at.others c.loop-at.rest c.loop-at.index
+pub index_in-requires-clause-strides : goal.index_in-requires-clause-strides
+index_in-requires-clause-strides c =
+    (element_turn c.args.slabs.now c.loop-at.at c.loop-at.others c.loop-at.rest c.loop-at.index
     c.slab_count-others.result c.loop-at-test.true c.loop-at.invariant.0 c.loop-at.invariant.1 c.loop-at.invariant.2
-    c.slab_count-others.ensures).place
+    c.slab_count-others.ensures).strides
 
 pub nonzero_rem-rest : goal.nonzero_rem-rest
 nonzero_rem-rest c =
-    (place_turn c.args.slabs.now c.loop-at.at c.loop-at.others c.loop-at.rest c.loop-at.index
+    (element_turn c.args.slabs.now c.loop-at.at c.loop-at.others c.loop-at.rest c.loop-at.index
     c.slab_count-others.result c.loop-at-test.true c.loop-at.invariant.0 c.loop-at.invariant.1 c.loop-at.invariant.2
     c.slab_count-others.ensures).positive
 
 pub loop-at-preserved : goal.loop-at-preserved
 loop-at-preserved c =
-    let turn = place_turn c.args.slabs.now c.loop-at.at c.loop-at.others c.loop-at.rest c.loop-at.index
+    let turn = element_turn c.args.slabs.now c.loop-at.at c.loop-at.others c.loop-at.rest c.loop-at.index
     c.slab_count-others.result c.loop-at-test.true c.loop-at.invariant.0 c.loop-at.invariant.1 c.loop-at.invariant.2
     c.slab_count-others.ensures in
     let next = c.loop-at.others / c.slab_count-others.result in (

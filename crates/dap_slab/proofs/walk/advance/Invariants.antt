@@ -1,4 +1,4 @@
--- The slabs from a place on have started again, and the indices before it are as they were.
+-- The slabs from an index on have started again, and the indices before it are as they were.
 use Rattle.std.proofs.Common.{◌≡◌, ◌≤◌, length, take, drop}
 use Rattle.dap_slab.proofs.WalkLemmas.{Carried}
 use Rattle.dap_slab.proofs.walk.advance.Given as goal

@@ -1,4 +1,4 @@
--- The number at the place is the first of what is left.
+-- The element is the first of what is left.
 use Rattle.std.proofs.Common.{◌≡◌, ℕ, ◌-◌, List, drop, length, min, sym, ap, ap₂, subst, ◌∙◌, arith}
 use Rattle.dap_model.specs.Box.{index_at}
 use Rattle.dap_model.specs.Xdr.{element_bytes, element_len}
@@ -19,10 +19,10 @@ pub returns-clause-front : goal.returns-clause-front
 returns-clause-front c =
     let n = c.args.part.now in
     let one : element_bytes c.kind.result c.bits-bits.result
-    ≡ element_bytes n.array.kind (bits_in n (index_at n.sent.slabs c.args.at.place)) =
+    ≡ element_bytes n.array.kind (bits_in n (index_at n.sent.slabs c.args.at.element)) =
     ap₂ element_bytes c.kind.ensures (c.bits-bits.ensures.exact ∙ ap (bits_in n) c.requires.index) in
-    subst (λ (new : List ℕ). IsFront (drop c.args.at.skip (numbers_from n c.args.at.place)) c.args.out.now new
+    subst (λ (new : List ℕ). IsFront (drop c.args.at.skip (numbers_from n c.args.at.element)) c.args.out.now new
     c.put_element.result)
     (sym (c.put_element.ensures.bytes ∙ ap (λ (l : List ℕ). overlay (drop c.args.at.skip l) c.args.out.now) one))
-    (one-front n c.args.at.place c.args.at.skip c.put_element.result c.args.out.now c.requires.place
+    (one-front n c.args.at.element c.args.at.skip c.put_element.result c.args.out.now c.requires.element
     (c.put_element.ensures.count ∙ ap (λ (l : List ℕ). min (length c.args.out.now) (length l - c.args.at.skip)) one))

@@ -10,7 +10,7 @@ use Rattle.dap_xdr.proofs.elements.put_in_place.Goals as goal
 
 pub returns : goal.returns
 returns c =
-    picked-front c.args.part.now c.args.at.place c.args.at.skip
+    picked-front c.args.part.now c.args.at.element c.args.at.skip
     (length c.args.out.now) c.put_stored.result c.raw-stored.result.now c.args.out.now
     c.put_stored.new.out c.raw-stored.ensures
     (subst (λ (kind : DapKind). (numbers : List ℕ) → AreBytesOf kind numbers c.raw-stored.result.now

@@ -12,7 +12,7 @@ returns c =
     let n = c.args.part.now in
     let put = subst (λ (kind : DapKind). ArePut kind c.rows.result.1 c.rows.result.0.now c.args.out.now
     c.put_rows.new.out c.put_rows.result) c.kind.ensures c.put_rows.ensures in
-    subst (λ (skip : ℕ). IsFront (drop skip (numbers_from n c.args.at.place)) c.args.out.now c.put_rows.new.out
+    subst (λ (skip : ℕ). IsFront (drop skip (numbers_from n c.args.at.element)) c.args.out.now c.put_rows.new.out
     c.put_rows.result) (sym c.requires.begins)
-    (picked-front n c.args.at.place 0 _ c.put_rows.result _ c.args.out.now c.put_rows.new.out
+    (picked-front n c.args.at.element 0 _ c.put_rows.result _ c.args.out.now c.put_rows.new.out
     (c.rows.ensures put.count put.few put.whole) put.front)

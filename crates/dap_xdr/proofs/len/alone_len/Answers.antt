@@ -9,7 +9,7 @@ use Rattle.dap_xdr.proofs.len.alone_len.Goals as goal
 pub text-requires : goal.text-requires
 text-requires c =
     let one = alone c.args.part.now.sent.slabs c.requires in
-    record { text = sym c.kind.ensures ∙ c.in-Text.is; place = one.within; index = one.index_is }
+    record { text = sym c.kind.ensures ∙ c.in-Text.is; element = one.within; index = one.index_is }
 
 pub returns-in-Text : goal.returns-in-Text
 returns-in-Text c =

@@ -7,5 +7,5 @@ returns-clause-next c = λ holds.
     let same : c.from-3.result ≡ c.from.result * c.from-2.result = omega arith in
     let many : c.from.result ≡ length c.args.marks.now = omega arith in
     let each : c.from-2.result ≡ c.args.every = omega arith in
-    let here : c.args.place ≡ c.from-3.result = omega arith in
+    let here : c.args.element ≡ c.from-3.result = omega arith in
     here ∙ same ∙ ap₂ (λ (a b : ℕ). a * b) many each

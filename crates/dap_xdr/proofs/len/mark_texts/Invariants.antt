@@ -4,13 +4,13 @@ use Rattle.dap_model.specs.Box.{box_len}
 use Rattle.dap_xdr.specs.Marks.{texts_before, AreMarks}
 use Rattle.dap_xdr.proofs.len.mark_texts.Given as goal
 
-abbrev pub decreases-loop-place : goal.decreases-loop-place
-decreases-loop-place l = box_len l.part.sent.slabs - l.place
+abbrev pub decreases-loop-element : goal.decreases-loop-element
+decreases-loop-element l = box_len l.part.sent.slabs - l.element
 
-abbrev pub invariant-loop-place : goal.invariant-loop-place
-invariant-loop-place l =
+abbrev pub invariant-loop-element : goal.invariant-loop-element
+invariant-loop-element l =
     (length l.index ≡ length l.fn.index)
-    × (l.len ≡ length (texts_before l.part l.place))
+    × (l.len ≡ length (texts_before l.part l.element))
     × AreMarks l.part l.marks
-    × (l.place ≤ box_len l.part.sent.slabs)
-    × (l.len ≤ 4 + l.place * 8589934592)
+    × (l.element ≤ box_len l.part.sent.slabs)
+    × (l.len ≤ 4 + l.element * 8589934592)

@@ -4,9 +4,9 @@ use Rattle.dap_model.specs.Box.{box_len, index_at}
 use Rattle.dap_xdr.specs.Marks.{texts_before}
 use Rattle.dap_xdr.proofs.len.texts_len.Given as goal
 
-abbrev pub invariant-loop-place : goal.invariant-loop-place
-invariant-loop-place l =
+abbrev pub invariant-loop-element : goal.invariant-loop-element
+invariant-loop-element l =
     (length l.index ≡ length l.fn.index)
-    × (l.place < box_len l.part.sent.slabs → l.index ≡ index_at l.part.sent.slabs l.place)
-    × (length (texts_before l.part l.from) + l.len ≡ length (texts_before l.part l.place))
-    × (l.len ≤ (l.place - l.from) * 8589934592)
+    × (l.element < box_len l.part.sent.slabs → l.index ≡ index_at l.part.sent.slabs l.element)
+    × (length (texts_before l.part l.from) + l.len ≡ length (texts_before l.part l.element))
+    × (l.len ≤ (l.element - l.from) * 8589934592)

@@ -8,8 +8,8 @@ use Rattle.dap_xdr.proofs.LendingLemmas.{stored-front}
 use Rattle.dap_xdr.proofs.SoFarLemmas.{element_len-pos}
 use Rattle.dap_xdr.proofs.lending.lent_numbers.Goals as goal
 
-pub nonzero_div-place : goal.nonzero_div-place
-nonzero_div-place c =
+pub nonzero_div-element : goal.nonzero_div-element
+nonzero_div-element c =
     subst (λ (m : ℕ). 0 < m) (sym c.element_len-width.ensures) (element_len-pos c.kind.result
     (subst (λ (kind : DapKind). kind ≢ Text) (sym c.kind.ensures) c.requires.number))
 

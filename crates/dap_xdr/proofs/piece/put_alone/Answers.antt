@@ -10,12 +10,12 @@ use Rattle.dap_xdr.proofs.piece.put_alone.Goals as goal
 pub text-requires : goal.text-requires
 text-requires c =
     let one = alone c.args.part.now.sent.slabs c.requires.alone in
-    record { text = sym c.kind.ensures ∙ c.in-Text.is; place = one.within; index = one.index_is }
+    record { text = sym c.kind.ensures ∙ c.in-Text.is; element = one.within; index = one.index_is }
 
 pub bits-requires : goal.bits-requires
 bits-requires c =
     let one = alone c.args.part.now.sent.slabs c.requires.alone in
-    record { number = λ e. c.in_default.not-Text (c.kind.ensures ∙ e); place = one.within; index = one.index_is }
+    record { number = λ e. c.in_default.not-Text (c.kind.ensures ∙ e); element = one.within; index = one.index_is }
 
 pub returns-in-Text : goal.returns-in-Text
 returns-in-Text c =

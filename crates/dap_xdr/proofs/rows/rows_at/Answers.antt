@@ -1,11 +1,11 @@
--- A place in the turns is below their end.
+-- An element in the turns is below their end.
 use Rattle.std.proofs.Common.{◌/◌, arith}
 use Rattle.std.proofs.lemmas.Nat.{mod_below}
 use Rattle.dap_xdr.proofs.rows.rows_at.Goals as goal
 
 pub overflow_sub-most : goal.overflow_sub-most
 overflow_sub-most c =
-    omega (arith, mod_below (c.args.place / c.args.extent.unit) c.args.extent.turns c.requires.turns)
+    omega (arith, mod_below (c.args.element / c.args.extent.unit) c.args.extent.turns c.requires.turns)
 
 pub stored_len-row-requires : goal.stored_len-row-requires
 stored_len-row-requires c = c.has_rows.ensures.unit c.if-not-has_rows.false

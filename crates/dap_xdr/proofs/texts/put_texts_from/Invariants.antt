@@ -11,4 +11,4 @@ decreases-loop-next l = box_len l.part.sent.slabs - l.next
 abbrev pub invariant-loop-next : goal.invariant-loop-next
 invariant-loop-next l =
     (l.next < box_len l.part.sent.slabs → l.index ≡ index_at l.part.sent.slabs l.next)
-    × TextsSoFar l.part (length (texts_before l.part l.place) + l.passed) l.filled l.next l.left l.fn.out l.out
+    × TextsSoFar l.part (length (texts_before l.part l.element) + l.passed) l.filled l.next l.left l.fn.out l.out

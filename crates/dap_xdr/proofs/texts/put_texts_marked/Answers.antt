@@ -5,15 +5,15 @@ use Rattle.dap_xdr.specs.Marks.{spacing, IsMark}
 use Rattle.dap_xdr.proofs.TextsLemmas.{texts-from-mark}
 use Rattle.dap_xdr.proofs.texts.put_texts_marked.Goals as goal
 
-pub overflow_mul-place : goal.overflow_mul-place
-overflow_mul-place c =
+pub overflow_mul-element : goal.overflow_mul-element
+overflow_mul-element c =
     let same : c.args.last * c.spacing.result ≡ c.args.last * spacing (box_len c.args.part.now.sent.slabs) =
     ap (λ n. c.args.last * n) (c.spacing.ensures.value ∙ ap spacing c.count.ensures) in
     let mark = c.requires.marks c.args.last c.requires.last in
     omega (arith, same, mark.within, c.count.ensures)
 
-pub put_texts_from-requires-clause-place : goal.put_texts_from-requires-clause-place
-put_texts_from-requires-clause-place c =
+pub put_texts_from-requires-clause-element : goal.put_texts_from-requires-clause-element
+put_texts_from-requires-clause-element c =
     let same : c.args.last * c.spacing.result ≡ c.args.last * spacing (box_len c.args.part.now.sent.slabs) =
     ap (λ n. c.args.last * n) (c.spacing.ensures.value ∙ ap spacing c.count.ensures) in
     let mark = c.requires.marks c.args.last c.requires.last in

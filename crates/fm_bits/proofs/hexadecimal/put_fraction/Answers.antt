@@ -3,14 +3,14 @@ use Rattle.std.proofs.Common.{◌≡◌, ℕ, ◌+◌, ◌-◌, ◌*◌, ◌/◌
 use Rattle.std.proofs.lemmas.Bool.{cond-false, ne_eqb}
 use Rattle.std.proofs.lemmas.List.{append_assoc}
 use Rattle.fm_bits.specs.Digits.{fixed_digits}
-use Rattle.fm_bits.specs.Text.{hex_fraction, high_place}
+use Rattle.fm_bits.specs.Text.{hex_fraction, high_index}
 use Rattle.fm_bits.proofs.Powers.{hex_digits_fit}
 use Rattle.fm_bits.proofs.hexadecimal.put_fraction.Goals as goal
 
 pub returns : goal.returns
-unfolding hex_fraction high_place
+unfolding hex_fraction high_index
 returns c =
-    let width = high_place c.args.odd in
+    let width = high_index c.args.odd in
     let count = (width + 3) / 4 in
     let digits = λ (n : ℕ). fixed_digits 16 count n in
     let whole : (c.from.result * 2 ^ (4 * count - width)) % 2 ^ 128 ≡ c.args.odd * 2 ^ (4 * count - width) =

@@ -2,5 +2,5 @@ use Rattle.std.proofs.Common.{◌≡◌, drop}
 use Rattle.fm_dataset.specs.Declarations.{repeats}
 use Rattle.fm_dataset.proofs.grid.repeats.Given as goal
 
-abbrev pub invariant-loop-place : goal.invariant-loop-place
-invariant-loop-place l = repeats (drop l.place l.ids) ≡ repeats l.ids
+abbrev pub invariant-loop-index : goal.invariant-loop-index
+invariant-loop-index l = repeats (drop l.index l.ids) ≡ repeats l.ids

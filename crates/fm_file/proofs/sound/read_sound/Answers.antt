@@ -5,7 +5,7 @@ use Rattle.fm_base.specs.Answer.{Answers}
 use Rattle.nc_model.specs.Reading.{header_or_fault}
 use Rattle.nc_model.specs.Spelling.{HeaderOf}
 use Rattle.nc_layout.specs.Faults.{layout_or_fault}
-use Rattle.nc_layout.specs.Places.{LaidOut}
+use Rattle.nc_layout.specs.LaidOut.{LaidOut}
 use Rattle.nc_layout.proofs.ReadLemmas.{CanLayOut-from_HeaderOf, layout_fault-none}
 use Rattle.fm_file.proofs.SizeLemmas.{record_size-small}
 use Rattle.fm_file.proofs.SoundLemmas.{ForFault-all, header-refused, header-sound, layout-refused, ok-before, passed-on}

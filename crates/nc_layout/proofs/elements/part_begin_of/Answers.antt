@@ -1,5 +1,5 @@
 use Rattle.std.proofs.Common.{arith}
-use Rattle.nc_layout.proofs.PlaceLemmas.{part-within}
+use Rattle.nc_layout.proofs.OffsetLemmas.{part-within}
 use Rattle.nc_layout.proofs.elements.part_begin_of.Goals as goal
 
 pub overflow_mul-result : goal.overflow_mul-result

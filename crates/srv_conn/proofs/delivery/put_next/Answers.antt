@@ -8,18 +8,18 @@ use Rattle.srv_conn.proofs.delivery.put_next.Goals as goal
 pub returns-clause-within : goal.returns-clause-within
 returns-clause-within g c =
     let bytes = drop c.args.from (bytes_of c.args.plan.now) in
-    within-piece c.put_front-2.result bytes c.split_at.result.0.now
-    (room-front bytes c.args.room.now c.piece-count.new.out c.split_at.result.0.now c.piece-count.result
+    within-piece c.put.result bytes c.split_at.result.0.now
+    (room-front bytes c.split_at_mut-part.result.0.now c.piece-count.new.out c.split_at.result.0.now c.piece-count.result
     (omega (arith, c.piece-count.ensures.count, length-drop c.args.from (bytes_of c.args.plan.now)))
     c.piece-count.ensures.bytes c.split_at.ensures.front)
-    c.put_front-2.ensures.within
+    c.put.ensures.within
 
 pub returns-clause-put : goal.returns-clause-put
 returns-clause-put g c =
     let bytes = drop c.args.from (bytes_of c.args.plan.now) in
-    put-piece c.put_front-2.result bytes c.split_at.result.0.now (g.L.Link.shown c.args.link.now).held
-    (g.L.Link.shown c.put_front-2.new.link).held
-    (room-front bytes c.args.room.now c.piece-count.new.out c.split_at.result.0.now c.piece-count.result
+    put-piece c.put.result bytes c.split_at.result.0.now (g.L.Link.shown c.args.link.now).held
+    (g.L.Link.shown c.put.new.self).held
+    (room-front bytes c.split_at_mut-part.result.0.now c.piece-count.new.out c.split_at.result.0.now c.piece-count.result
     (omega (arith, c.piece-count.ensures.count, length-drop c.args.from (bytes_of c.args.plan.now)))
     c.piece-count.ensures.bytes c.split_at.ensures.front)
-    c.put_front-2.ensures.within c.put_front-2.ensures.put
+    c.put.ensures.within c.put.ensures.put

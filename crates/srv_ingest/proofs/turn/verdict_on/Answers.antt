@@ -18,8 +18,8 @@ pub returns-in-Ok-file_of-clause-finds : goal.returns-in-Ok-file_of-clause-finds
 returns-in-Ok-file_of-clause-finds g c =
     let exact = rw c.get.ensures at c.in-Ok-file_of.ensures.exact in
     let none : None ≡ taken_back c.args.name.now = c.in_default.ensures in
-    DecidesName-file _ _ none c.in-Ok.ensures.found exact c.publish_file-verdict.ensures.verdict
-    c.publish_file-verdict.ensures.decides c.publish_file-verdict.ensures.held c.fetch.ensures.same
+    DecidesName-file _ _ none c.in-Ok.ensures.found exact c.decide-verdict-in-Ok-file_of.ensures.verdict
+    c.decide-verdict-in-Ok-file_of.ensures.decides c.decide-verdict-in-Ok-file_of.ensures.held c.fetch.ensures.same
     c.in-Ok.ensures.cause c.note_put.ensures
 
 pub returns-in-Err-NoMemory-file_of-clause-finds : goal.returns-in-Err-NoMemory-file_of-clause-finds

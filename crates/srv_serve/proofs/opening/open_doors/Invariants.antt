@@ -5,9 +5,9 @@ use Rattle.srv_serve.proofs.opening.open_doors.Given as goal
 
 abbrev pub invariant-loop-number : goal.invariant-loop-number
 invariant-loop-number g l = record {
-  opens : OpensDoors g.O.D.Door.shown (record { address = l.address; connections = l.connections })
-      (g.O.Opener.shown l.fn.opener).held (g.O.Opener.shown l.opener).held l.doors-inside.items.items;
+  opens : OpensDoors g.M.D.Door.shown (record { address = l.address; connections = l.connections })
+      (g.M.Machine.shown l.fn.opener).held (g.M.Machine.shown l.opener).held l.doors-inside.items.items;
   count : length l.doors-inside.items.items ≡ l._number;
   room : vec_len l.doors-inside.items + (l.count - l._number) ≤ vec_capacity l.doors-inside.items;
-  faults : (g.O.Opener.shown l.opener).faults ≡ (g.O.Opener.shown l.fn.opener).faults;
+  faults : (g.M.Machine.shown l.opener).faults ≡ (g.M.Machine.shown l.fn.opener).faults;
 }

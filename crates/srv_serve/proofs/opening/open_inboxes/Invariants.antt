@@ -5,9 +5,9 @@ use Rattle.srv_serve.proofs.opening.open_inboxes.Given as goal
 
 abbrev pub invariant-loop-folder : goal.invariant-loop-folder
 invariant-loop-folder g l = record {
-  opens : OpensInboxes g.O.I.Inbox.shown l.folders
-      (g.O.Opener.shown l.fn.opener).held (g.O.Opener.shown l.opener).held l.inboxes-inside.items.items;
+  opens : OpensInboxes g.M.I.Inbox.shown l.folders
+      (g.M.Machine.shown l.fn.opener).held (g.M.Machine.shown l.opener).held l.inboxes-inside.items.items;
   count : length l.inboxes-inside.items.items ≡ l.folder-index;
   room : vec_len l.inboxes-inside.items + (length l.folders - l.folder-index) ≤ vec_capacity l.inboxes-inside.items;
-  faults : (g.O.Opener.shown l.opener).faults ≡ (g.O.Opener.shown l.fn.opener).faults;
+  faults : (g.M.Machine.shown l.opener).faults ≡ (g.M.Machine.shown l.fn.opener).faults;
 }

@@ -1,4 +1,4 @@
--- What follows a slab needs nothing of the place.
+-- What follows a slab needs nothing of the offset.
 use Rattle.dap_ce.proofs.reader.Reader.after_slab.Goals as goal
 
 pub returns-then-byte-eq91-clause-fits : goal.returns-then-byte-eq91-clause-fits

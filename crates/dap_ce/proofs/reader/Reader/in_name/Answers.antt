@@ -14,7 +14,7 @@ returns-then-is_name_byte-clause-step c =
     subst (λ (phase : Phase). step_name begun (drop c.args.from (take at text)) (get_or text at 0)
     ≡ Some (state_in begun (take (at + 1) text) phase))
     (sym c.requires.phase)
-    (step_name-more begun text c.args.from at c.requires.begun c.requires.place (sym c.if-is_name_byte.ensures))
+    (step_name-more begun text c.args.from at c.requires.begun c.requires.offset (sym c.if-is_name_byte.ensures))
 
 pub returns-then-byte-ne44-clause-step : goal.returns-then-byte-ne44-clause-step
 returns-then-byte-ne44-clause-step c =

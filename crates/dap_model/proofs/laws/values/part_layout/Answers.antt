@@ -1,4 +1,4 @@
--- The values of a part are an array of the numbers at its places.
+-- The values of a part are an array of the numbers that its slabs pick.
 use Rattle.std.proofs.Common.{◌+◌, ◌*◌, ◌<◌, ◌∙◌, ap, length, map, subst, sym, slice_get}
 use Rattle.dap_model.specs.Box.{box_of}
 use Rattle.dap_model.specs.Xdr.{element_bytes, element_len, elements_len}
@@ -15,11 +15,11 @@ returns c =
           ap length (array_at kind slabs bits words c.requires.number c.requires.dims)
           ∙ length-array_bytes kind (map bits (box_of slabs))
           ∙ ap (λ n. 8 + elements_len kind n) (length-numbers slabs bits);
-      element = λ bits words place offset below inside.
+      element = λ bits words element offset below inside.
           let numbers = map bits (box_of slabs) in
-          let within = subst (λ n. place < n) (sym (length-numbers slabs bits)) below in
-          ap (λ l. slice_get l (8 + (place * element_len kind + offset)))
+          let within = subst (λ n. element < n) (sym (length-numbers slabs bits)) below in
+          ap (λ l. slice_get l (8 + (element * element_len kind + offset)))
           (array_at kind slabs bits words c.requires.number c.requires.dims)
-          ∙ slice_get-array_bytes kind numbers place offset within inside
-          ∙ ap (λ n. slice_get (element_bytes kind n) offset) (get_or-numbers slabs bits place below);
+          ∙ slice_get-array_bytes kind numbers element offset within inside
+          ∙ ap (λ n. slice_get (element_bytes kind n) offset) (get_or-numbers slabs bits element below);
     }

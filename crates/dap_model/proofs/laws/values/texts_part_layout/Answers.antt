@@ -1,4 +1,4 @@
--- The texts of a part are an array of the texts at its places.
+-- The texts of a part are an array of the texts that its slabs pick.
 use Rattle.dap_model.proofs.TextsLemmas.{texts_part}
 use Rattle.dap_model.proofs.laws.values.texts_part_layout.Goals as goal
 

@@ -1,4 +1,4 @@
--- Without declarations there are no places.
+-- Without declarations there are no indices.
 use Rattle.std.proofs.Common.{◌≡◌, ap, length, sym, ◌∙◌}
 use Rattle.std.proofs.lemmas.Bool.{eqb-true}
 use Rattle.dap_project.specs.Buckets.{bucket_of, is_of}

@@ -1,4 +1,4 @@
--- The index list at a place lies within the dimensions.
+-- The index list of an element lies within the dimensions.
 use Rattle.std.proofs.Common.{◌≡◌, ◌≢◌, ◌<◌, ◌∙◌, ℕ, sym, ap, ap₂, subst}
 use Rattle.dap_model.specs.Box.{box_len, index_at}
 use Rattle.dap_model.specs.declared.declaration.DapKind.TheVariants.{Text}
@@ -11,9 +11,9 @@ use Rattle.dap_xdr.proofs.part.Part.bits.Goals as goal
 pub bits-requires : goal.bits-requires
 bits-requires c =
     let n = c.self.inside in
-    number-asked n.column n.sent.now n.array.now c.self.invariant.0 c.self.invariant.1 c.args.place c.args.index.now
-    (subst (λ (p : Portion). c.args.place < box_len p.sent.slabs) (sym c.self.view_is) c.requires.place)
-    (subst (λ (p : Portion). c.args.index.now ≡ index_at p.sent.slabs c.args.place) (sym c.self.view_is)
+    number-asked n.column n.sent.now n.array.now c.self.invariant.0 c.self.invariant.1 c.args.element c.args.index.now
+    (subst (λ (p : Portion). c.args.element < box_len p.sent.slabs) (sym c.self.view_is) c.requires.element)
+    (subst (λ (p : Portion). c.args.index.now ≡ index_at p.sent.slabs c.args.element) (sym c.self.view_is)
     c.requires.index)
     (subst (λ (p : Portion). p.array.kind ≢ Text) (sym c.self.view_is) c.requires.number)
 
@@ -30,7 +30,7 @@ returns-clause-width c =
     let n = c.self.inside in
     subst (λ (p : Portion). AreBitsOf p.array.kind c.bits.result) c.self.view_is
     (c.bits.ensures.width n.array.now
-    (array-is n.column n.sent.now n.array.now c.self.invariant.0 c.self.invariant.1 c.args.place c.args.index.now
-    (subst (λ (p : Portion). c.args.place < box_len p.sent.slabs) (sym c.self.view_is) c.requires.place)
-    (subst (λ (p : Portion). c.args.index.now ≡ index_at p.sent.slabs c.args.place) (sym c.self.view_is)
+    (array-is n.column n.sent.now n.array.now c.self.invariant.0 c.self.invariant.1 c.args.element c.args.index.now
+    (subst (λ (p : Portion). c.args.element < box_len p.sent.slabs) (sym c.self.view_is) c.requires.element)
+    (subst (λ (p : Portion). c.args.index.now ≡ index_at p.sent.slabs c.args.element) (sym c.self.view_is)
     c.requires.index)))

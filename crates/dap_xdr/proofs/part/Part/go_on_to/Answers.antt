@@ -13,28 +13,28 @@ advance-requires-clause-slabs c =
     let same = ap (λ (n : Portion). box_len n.sent.slabs) c.self.view_is in
     rw c.as_slice.ensures (have-indices slabs
     (have_strides c.self.inside.array.now.dims slabs c.self.invariant.1.fits)
-    (omega (arith, same, c.has_place.ensures.within c.if-not-has_place.false)))
+    (omega (arith, same, c.has_element.ensures.within c.if-not-has_element.false)))
 
 pub advance-requires-clause-index : goal.advance-requires-clause-index
 advance-requires-clause-index c =
     rw c.as_slice.ensures
-    (subst (λ (n : Portion). c.args.index.now ≡ index_at n.sent.slabs (c.args.place - 1)) (sym c.self.view_is)
+    (subst (λ (n : Portion). c.args.index.now ≡ index_at n.sent.slabs (c.args.element - 1)) (sym c.self.view_is)
     c.requires.before)
 
 pub advance-requires-clause-more : goal.advance-requires-clause-more
 advance-requires-clause-more c =
-    rw c.as_slice.ensures (subst (λ (n : Portion). c.args.place < box_len n.sent.slabs) (sym c.self.view_is)
-    (c.has_place.ensures.within c.if-not-has_place.false))
+    rw c.as_slice.ensures (subst (λ (n : Portion). c.args.element < box_len n.sent.slabs) (sym c.self.view_is)
+    (c.has_element.ensures.within c.if-not-has_element.false))
 
 pub advance-requires-clause-room : goal.advance-requires-clause-room
-advance-requires-clause-room c = c.has_place.ensures.few c.if-not-has_place.false
+advance-requires-clause-room c = c.has_element.ensures.few c.if-not-has_element.false
 
-pub returns-then-not-has_place-clause-index : goal.returns-then-not-has_place-clause-index
-returns-then-not-has_place-clause-index c = λ below.
-    absurd (true≢false (sym (c.has_place.ensures.all below) ∙ c.if-not-has_place.true))
+pub returns-then-not-has_element-clause-index : goal.returns-then-not-has_element-clause-index
+returns-then-not-has_element-clause-index c = λ below.
+    absurd (true≢false (sym (c.has_element.ensures.all below) ∙ c.if-not-has_element.true))
 
 pub returns-clause-index : goal.returns-clause-index
 returns-clause-index c = λ below.
     c.advance.ensures.index
-    ∙ ap (λ (slabs : List Slab). index_at slabs c.args.place) c.as_slice.ensures
-    ∙ ap (λ (n : Portion). index_at n.sent.slabs c.args.place) c.self.view_is
+    ∙ ap (λ (slabs : List Slab). index_at slabs c.args.element) c.as_slice.ensures
+    ∙ ap (λ (n : Portion). index_at n.sent.slabs c.args.element) c.self.view_is

@@ -1,4 +1,4 @@
--- A place is below the end of its turn.
+-- An element is below the end of its turn.
 use Rattle.std.proofs.Common.{◌%◌, ◌-◌, ◌<◌, sym, ap, ◌∙◌, subst, arith}
 use Rattle.dap_model.specs.Box.{box_len}
 use Rattle.dap_xdr.specs.Portion.{IsPortion, Portion}
@@ -9,24 +9,24 @@ use Rattle.dap_xdr.proofs.part.Part.left.Goals as goal
 
 pub nonzero_rem-result : goal.nonzero_rem-result
 nonzero_rem-result c =
-    (left_of _ _ c.args.place c.self.invariant.1 c.self.invariant.2
-    (subst (λ (n : Portion). c.args.place < box_len n.sent.slabs) (sym c.self.view_is) c.requires.place)).some
+    (left_of _ _ c.args.element c.self.invariant.1 c.self.invariant.2
+    (subst (λ (n : Portion). c.args.element < box_len n.sent.slabs) (sym c.self.view_is) c.requires.element)).some
 
 pub overflow_sub-result : goal.overflow_sub-result
 overflow_sub-result c =
-    let left = left_of _ _ c.args.place c.self.invariant.1 c.self.invariant.2
-    (subst (λ (n : Portion). c.args.place < box_len n.sent.slabs) (sym c.self.view_is) c.requires.place) in
+    let left = left_of _ _ c.args.element c.self.invariant.1 c.self.invariant.2
+    (subst (λ (n : Portion). c.args.element < box_len n.sent.slabs) (sym c.self.view_is) c.requires.element) in
     omega (arith, left.below)
 
 pub returns-clause-exact : goal.returns-clause-exact
 returns-clause-exact c =
-    ap (λ (e : Extent). e.unit - c.args.place % e.unit) c.self.invariant.2
-    ∙ ap (λ (n : Portion). left_at n.array.dims n.sent.slabs c.args.place) c.self.view_is
+    ap (λ (e : Extent). e.unit - c.args.element % e.unit) c.self.invariant.2
+    ∙ ap (λ (n : Portion). left_at n.array.dims n.sent.slabs c.args.element) c.self.view_is
 
 pub returns-clause-some : goal.returns-clause-some
 returns-clause-some c =
-    let left = left_of _ _ c.args.place c.self.invariant.1 c.self.invariant.2
-    (subst (λ (n : Portion). c.args.place < box_len n.sent.slabs) (sym c.self.view_is) c.requires.place) in
+    let left = left_of _ _ c.args.element c.self.invariant.1 c.self.invariant.2
+    (subst (λ (n : Portion). c.args.element < box_len n.sent.slabs) (sym c.self.view_is) c.requires.element) in
     omega (arith, left.below)
 
 pub returns-clause-portion : goal.returns-clause-portion

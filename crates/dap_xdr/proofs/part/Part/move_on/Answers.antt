@@ -1,4 +1,4 @@
--- The next place is reached from the one before it.
+-- The next element is reached from the one before it.
 use Rattle.std.proofs.Common.{◌≡◌, ℕ, subst, arith}
 use Rattle.dap_model.specs.Box.{index_at}
 use Rattle.dap_xdr.proofs.part.Part.move_on.Goals as goal

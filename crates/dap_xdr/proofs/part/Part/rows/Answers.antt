@@ -11,26 +11,26 @@ use Rattle.dap_xdr.proofs.part.Part.rows.Goals as goal
 
 pub rows_at-rows-requires-clause-unit : goal.rows_at-rows-requires-clause-unit
 rows_at-rows-requires-clause-unit c =
-    (left_of _ _ c.args.place c.self.invariant.1 c.self.invariant.2
-    (subst (λ (n : Portion). c.args.place < box_len n.sent.slabs) (sym c.self.view_is) c.requires.place)).some
+    (left_of _ _ c.args.element c.self.invariant.1 c.self.invariant.2
+    (subst (λ (n : Portion). c.args.element < box_len n.sent.slabs) (sym c.self.view_is) c.requires.element)).some
 
 pub rows_at-rows-requires-clause-turns : goal.rows_at-rows-requires-clause-turns
 rows_at-rows-requires-clause-turns c =
     subst (λ (e : Extent). 0 < e.turns) (sym c.self.invariant.2)
-    (some-turns _ c.args.place c.self.invariant.1
-    (subst (λ (n : Portion). c.args.place < box_len n.sent.slabs) (sym c.self.view_is) c.requires.place))
+    (some-turns _ c.args.element c.self.invariant.1
+    (subst (λ (n : Portion). c.args.element < box_len n.sent.slabs) (sym c.self.view_is) c.requires.element))
 
 pub returns-then-rows-eq0 : goal.returns-then-rows-eq0
 returns-then-rows-eq0 c =
-    no-rows c.args.self.now c.args.place c.as_slice.result.now c.rows_at-rows.result c.if-rows-eq0.true
+    no-rows c.args.self.now c.args.element c.as_slice.result.now c.rows_at-rows.result c.if-rows-eq0.true
 
 pub returns : goal.returns
 returns c =
     let n = c.args.self.now in
-    let lie = subst (λ (p : Portion). AreRowsAt p.array.kind (extent_of p.array.dims p.sent.slabs) c.args.place
+    let lie = subst (λ (p : Portion). AreRowsAt p.array.kind (extent_of p.array.dims p.sent.slabs) c.args.element
     c.rows_at-rows.result) c.self.view_is
-    (subst (λ (e : Extent). AreRowsAt c.self.inside.array.now.kind e c.args.place c.rows_at-rows.result)
+    (subst (λ (e : Extent). AreRowsAt c.self.inside.array.now.kind e c.args.element c.rows_at-rows.result)
     c.self.invariant.2 c.rows_at-rows.ensures) in
-    rows-of n c.args.place _ c.args.index.now c.stored-stored.result.now c.rows_at-rows.result
-    (subst IsPortion c.self.view_is c.self.invariant.1) c.requires.number c.requires.place c.requires.index
+    rows-of n c.args.element _ c.args.index.now c.stored-stored.result.now c.rows_at-rows.result
+    (subst IsPortion c.self.view_is c.self.invariant.1) c.requires.number c.requires.element c.requires.index
     c.stored-stored.ensures lie

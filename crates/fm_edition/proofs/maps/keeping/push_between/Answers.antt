@@ -1,4 +1,4 @@
--- Between one place and itself there is no row.
+-- Between one index and itself there is no row.
 use Rattle.std.proofs.Common.{OnOk, ◌≡◌, ◌++◌, [], List, ap, sym, ◌∙◌, subst, take, drop, length, arith}
 use Rattle.std.proofs.lemmas.List.{append-nil, drop_all, length-take}
 use Rattle.fm_model.specs.declared.row.Row.{Row}

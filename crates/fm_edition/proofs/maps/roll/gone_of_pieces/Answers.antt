@@ -17,7 +17,7 @@ loop-piece-preserved c =
     let more = gone-more_pieces op c.args.pieces.now c.loop-piece.piece-index c.piece-item.result
     c.loop-piece-test.true in
     let files_is = c.as_slice.ensures ∙ c.get.ensures ∙ c.piece-item.is in
-    c.in_ok-push_gone.ensures ∙ ap (λ l. l ++ gone c.as_slice.result.now op) c.loop-piece.invariant
+    c.in_ok-push_gone.ensures.ok ∙ ap (λ l. l ++ gone c.as_slice.result.now op) c.loop-piece.invariant
     ∙ ap (λ files. before ++ gone files op) files_is ∙ sym more
 
 pub returns : goal.returns

@@ -1,4 +1,4 @@
--- The rows before the second place, without those before the first.
+-- The rows before the second index, without those before the first.
 use Rattle.std.proofs.Common.{drop, take, length, ap, ◌∙◌, arith}
 use Rattle.fm_rows.proofs.stretch.Stretch.get.Goals as goal
 

@@ -1,4 +1,4 @@
--- The distance of the places is the number of rows.
+-- The distance of the indices is the number of rows.
 use Rattle.std.proofs.Common.{◌-◌, length, take, ap, arith}
 use Rattle.std.proofs.lemmas.List.{length-drop, length-take}
 use Rattle.fm_rows.proofs.stretch.Stretch.len.Goals as goal

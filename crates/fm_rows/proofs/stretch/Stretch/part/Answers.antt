@@ -1,4 +1,4 @@
--- Rows from one place up to another.
+-- Rows from one index up to another.
 use Rattle.fm_rows.proofs.stretch.Stretch.part.Goals as goal
 
 pub invariant_of-result : goal.invariant_of-result

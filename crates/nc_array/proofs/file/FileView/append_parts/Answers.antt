@@ -1,6 +1,6 @@
 use Rattle.std.proofs.Common.{◌≡◌, ◌++◌, sym, ap, ◌∙◌, append_assoc, arith}
 use Rattle.std.specs.List.{flat_map, range_with_len, slice_get}
-use Rattle.nc_layout.specs.Places.{part_count}
+use Rattle.nc_layout.specs.LaidOut.{part_count}
 use Rattle.nc_array.specs.File.{File}
 use Rattle.nc_array.specs.Parts.{part_bytes}
 use Rattle.nc_array.proofs.PartLemmas.{elements_of-parts, flat_map-range_more}

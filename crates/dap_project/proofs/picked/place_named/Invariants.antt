@@ -1,9 +1,0 @@
--- No declaration before those that are left is named.
-use Rattle.std.proofs.Common.{◌≡◌, ℕ, drop}
-use Rattle.dap_model.specs.Picking.{decl_named}
-use Rattle.dap_project.proofs.BucketLemmas.{AreLeft}
-use Rattle.dap_project.proofs.picked.place_named.Given as goal
-
-abbrev pub invariant-loop-place : goal.invariant-loop-place
-invariant-loop-place l = (from : ℕ) × AreLeft l.decls l.path (drop l.place-index l.places) from
-    × (decl_named (drop from l.decls) l.path ≡ decl_named l.decls l.path)
