@@ -13,7 +13,7 @@ fn link_of(rt: &impl Abort, alloc: Global, input: &[u8], room: usize) -> MemLink
     MemLink::new(alloc, input, room, List::new(alloc)).expect(rt, "memory")
 }
 
-// Whether a link gives what these calls are to give, so many of them fail, and it then has put these bytes.
+// Whether a link gives what these calls are to give and then has put these bytes. `faults` is how many of them fail.
 fn gives(link: MemLink, calls: &[Call<'_>], put: &[u8], faults: u64) -> bool {
     let mut link = link;
     let gives = gives_all(&mut link, calls) && link.output() == put && link.faults() == faults;

@@ -9,7 +9,8 @@ pub returns-clause-within : goal.returns-clause-within
 returns-clause-within g c =
     let bytes = drop c.args.from (bytes_of c.args.plan.now) in
     within-piece c.put.result bytes c.split_at.result.0.now
-    (room-front bytes c.split_at_mut-part.result.0.now c.piece-count.new.out c.split_at.result.0.now c.piece-count.result
+    (room-front bytes c.split_at_mut-part.result.0.now c.piece-count.new.out c.split_at.result.0.now
+    c.piece-count.result
     (omega (arith, c.piece-count.ensures.count, length-drop c.args.from (bytes_of c.args.plan.now)))
     c.piece-count.ensures.bytes c.split_at.ensures.front)
     c.put.ensures.within
@@ -19,7 +20,8 @@ returns-clause-put g c =
     let bytes = drop c.args.from (bytes_of c.args.plan.now) in
     put-piece c.put.result bytes c.split_at.result.0.now (g.L.Link.shown c.args.link.now).held
     (g.L.Link.shown c.put.new.self).held
-    (room-front bytes c.split_at_mut-part.result.0.now c.piece-count.new.out c.split_at.result.0.now c.piece-count.result
+    (room-front bytes c.split_at_mut-part.result.0.now c.piece-count.new.out c.split_at.result.0.now
+    c.piece-count.result
     (omega (arith, c.piece-count.ensures.count, length-drop c.args.from (bytes_of c.args.plan.now)))
     c.piece-count.ensures.bytes c.split_at.ensures.front)
     c.put.ensures.within c.put.ensures.put
