@@ -7,7 +7,10 @@ import time
 
 # What a reader takes once a second, what its system holds, and the bytes of a segment, as over a network.
 # With the segments of the loopback device the system would hold some megabytes of each reply.
-TAKEN, ROOM, SEGMENT = 20_480, 65_536, 1448
+TAKEN, ROOM, SEGMENT = 20_480, 131_072, 1448
+
+# From which hundredth of a second on it is counted what a reader takes.
+GROWN = 200
 
 # What a link drips, a byte each five seconds, and after how many seconds its end is waited for no more. By then no head
 # is whole.
@@ -63,8 +66,10 @@ class Readers:
             if count is None:
                 self.lost.add(number)
                 continue
-            self.turns += 1
-            self.bytes += count
+            # What a system lets come grows in the first seconds of a connection.
+            if tick >= GROWN:
+                self.turns += 1
+                self.bytes += count
 
 
 class Drippers:

@@ -45,6 +45,13 @@ def stop(process):
             process.wait()
 
 
+def of_unit():
+    """What the unit docs/fmrcd@.service sets for the C library, by name."""
+    with open(os.path.join(TOP, "docs", "fmrcd@.service")) as unit:
+        words = [word for line in unit if line.startswith("Environment=") for word in line[12:].split()]
+    return dict(word.split("=", 1) for word in words if word.startswith(("MALLOC_", "GLIBC_")))
+
+
 class Server:
     """A program that serves one folder; `proto` is the content of its prototype, and `error` takes its lines."""
 
@@ -57,8 +64,7 @@ class Server:
             file.write(proto)
         self.port = port or free_port()
         line = [program, "serve", "--name", collection, "--proto", name, "--listen", "127.0.0.1:%d" % self.port]
-        # As docs/fmrcd@.service does it.
-        given = dict(os.environ, MALLOC_MMAP_THRESHOLD_="1048576")
+        given = dict(os.environ, **of_unit())
         self.process = subprocess.Popen(line + ["--workers", str(workers), self.inbox], env=given, stderr=error)
         atexit.register(stop, self.process)
         wait_for(self.port, self.process, "the server")

@@ -2,10 +2,10 @@
 # Tries bodies that say for large input that memory ran out, and two that go wrong once it does. Each meets its
 # contract, so no proof refuses it, and running has to. The work is done on a copy of the tree, where one body after the
 # other is put in. The rows, the tests of server_tests and tests/limits.sh are run, all unproved, until one of them
-# refuses it. Three bodies show only where memory is refused: bench/out_of_memory.sh or bench/refused_publisher.sh runs
-# them first, which proves them, and they are tried only by their names. Before any body all has to pass without one. It
-# says for each body what refused it. The status is 1 where nothing did, and where a body can't be put in any more or
-# doesn't compile.
+# refuses it. Three bodies show only where memory is refused. They are tried only by their names, and first by
+# bench/out_of_memory.sh or bench/refused_publisher.sh, which want a proof; the libraries that `make build` or
+# `rt check` left in the tree are used. Before any body all has to pass without one. It says for each body what refused
+# it. The status is 1 where nothing did, and where a body can't be put in any more or doesn't compile.
 # Use: bench/planted_memory.sh [BODY..]; by default those that need no proof, which takes some hours.
 set -eu
 . "$(dirname "$0")/common.sh"
@@ -13,6 +13,7 @@ make_folder
 cd "$top"
 mkdir "$folder/tree"
 # shellcheck disable=SC2046  # a file a word
-tar -cf - HANDLES crates.txt $(git ls-files crates bench) | tar -xf - -C "$folder/tree"
+tar -cf - HANDLES crates.txt $(git ls-files crates bench) $(ls -d crates/*/out/rlib 2> "$folder/none" || true) |
+    tar -xf - -C "$folder/tree"
 git init -q "$folder/tree"
 python3 -B bench/planted_memory.py "$top" "$folder" "$@"

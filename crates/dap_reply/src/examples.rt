@@ -20,8 +20,10 @@ pub fn no_rows()
 
 /// The head of a structure text of 369 bytes, over a collection that one operation left.
 pub fn head_of_a_structure_text()
-    ensures { length (head_text (record { status = Fine; kind = Structure; len = 369; revision = 1; last = false }))
-        ≡ 171 }
+    ensures { head_text (record { status = Fine; kind = Structure; len = 369; revision = 1; last = false })
+        ≡ codes "HTTP/1.1 200 OK\r\nXDODS-Server: dods/3.2\r\nContent-Description: dods_dds\r\n"
+        ++ codes "Content-Type: text/plain\r\nX-Collection-Revision: 1\r\n"
+        ++ codes "Content-Length: 369\r\nConnection: keep-alive\r\n\r\n" }
 {}
 
 /// The head of a reply with data, which is a connection's last.
