@@ -9,9 +9,6 @@ import time
 # With the segments of the loopback device the system would hold some megabytes of each reply.
 TAKEN, ROOM, SEGMENT = 20_480, 131_072, 1448
 
-# From which hundredth of a second on it is counted what a reader takes.
-GROWN = 200
-
 # What a link drips, a byte each five seconds, and after how many seconds its end is waited for no more. By then no head
 # is whole.
 DRIPS, LATEST = b"GET /thredds/dodsC/", 40.0
@@ -66,10 +63,8 @@ class Readers:
             if count is None:
                 self.lost.add(number)
                 continue
-            # What a system lets come grows in the first seconds of a connection.
-            if tick >= GROWN:
-                self.turns += 1
-                self.bytes += count
+            self.turns += 1
+            self.bytes += count
 
 
 class Drippers:
