@@ -59,6 +59,7 @@ safety:
 
 # Each target below runs the program by the line of its name. The program is built first where PROGRAM names none.
 LINES = package installs exits clients recipes proxy page restart faults limits memory fuzz day beside many speed first
+LINES += cluster
 BUILT = $(or $(PROGRAM),$(SERVER)/out/fmrcd)
 
 .PHONY: $(LINES)
@@ -71,8 +72,9 @@ package = package/build.sh $(BUILT)
 # Installs the package in a fresh system, serves there, and removes it.
 installs = tests/package.sh $(BUILT)
 
-# Runs the program as a person would, and compares exit statuses and lines; and serves more clients than descriptors.
-exits = tests/exits.sh $(BUILT) && bench/few_descriptors.sh $(BUILT)
+# Runs the program as a person would, and compares exit statuses and lines; reads replies back by `pull`; and serves
+# more clients than descriptors.
+exits = tests/exits.sh $(BUILT) && tests/pull.sh $(BUILT) && bench/few_descriptors.sh $(BUILT)
 
 # Reads from the program by the clients that users have, which it installs from the machine's Debian registry.
 clients = clients/clients.sh $(BUILT)
@@ -106,6 +108,10 @@ fuzz = bench/fuzz.sh $(BUILT) $(SECONDS)
 # Runs four servers through a day of some minutes, with clients and faults.
 MINUTES ?= 60
 day = bench/day.sh $(BUILT) $(MINUTES)
+
+# Tries what feeds several servers from one spool. Then three servers are fed so behind nginx, with clients and faults,
+# and one to three of them are measured.
+cluster = tests/feed.sh && bench/cluster.sh $(BUILT)
 
 # Measures the program beside nginx, which sends files of the same bytes.
 beside = bench/beside_nginx.sh $(BUILT)

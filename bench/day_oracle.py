@@ -9,9 +9,13 @@ import time
 from classic import EPOCH, FLOAT, Classic, Variable, axis
 from serve_replies import name_of
 
-TIMES, STEP = 8, 60
-FORM = Classic([("time", 0), ("y", 32), ("x", 32)], [axis(), Variable("v", FLOAT, [0, 1, 2])], records=TIMES)
+# A file has at least so many times, so many seconds apart, and begins with one of the first ones after its run.
+TIMES, STEP, FIRSTS = 8, 60, 6
+SIDE = 32
+DIMENSIONS, VARIABLES = [("time", 0), ("y", SIDE), ("x", SIDE)], [axis(), Variable("v", FLOAT, [0, 1, 2])]
 TARGET = b"/thredds/dodsC/gfs/gfs_best.ncd.dods?time,time_run"
+
+NO_ROWS = 404, b'Error {\n    code = 37;\n    message = "no rows";\n};\n'
 
 # For how many seconds a run is kept, the seconds between two looks of the clock, and what is added for a busy machine.
 KEEP, TICK, SLACK = 3600, 60, 15
@@ -21,9 +25,37 @@ LINE = re.compile(r"\S+ (published|retracted|not held|expired before) (\S+) revi
 BESIDE = re.compile(r"\S+ (serving|failing|working|passed over) ")
 
 
+def times_of(run, shift):
+    """The valid times of the file of a run. The shift says by how many steps the first comes after it, and by how many
+    times there are more than the least."""
+    first = run + STEP * (shift % FIRSTS)
+    return range(first, first + STEP * (TIMES + shift // FIRSTS), STEP)
+
+
 def content_of(run, shift):
-    """The file of a run, whose first time is `shift` steps after it."""
-    return FORM.content([EPOCH + run + STEP * (shift + number) for number in range(TIMES)])
+    """The file of a run, with this shift."""
+    times = times_of(run, shift)
+    form = Classic(DIMENSIONS, VARIABLES, records=len(times))
+    made, cells = bytearray(form.content([EPOCH + valid for valid in times])), cells_of(run, shift)
+    for number in range(len(times)):
+        place = form.begins["v"] + form.record * number
+        made[place:place + len(cells)] = cells
+    return bytes(made)
+
+
+def cells_of(run, shift):
+    """The values of `v` at each time of a file: each is a number that few other files have."""
+    return struct.pack(">f", run // STEP % 10_000 * 100 + shift) * SIDE**2
+
+
+def rows_in(held):
+    """How many times held files have together."""
+    return sum(len(times_of(run, shift)) for run, shift in held.items())
+
+
+def best_of(held):
+    """The run that each valid time of the best series is taken from."""
+    return {valid: run for run in sorted(held) for valid in times_of(run, held[run])}
 
 
 def run_of(name):
@@ -37,14 +69,10 @@ def kept(held, cutoff):
 
 
 def reply_of(held):
-    """The status and the body of the best series over held files, which are the first times of each run."""
-    best = {}
-    for run in sorted(held):
-        for number in range(TIMES):
-            best[run + STEP * (held[run] + number)] = run
+    """The status and the body of the best series over held files, which are the shift of each run."""
+    best = best_of(held)
     if not best:
-        text = b'Error {\n    code = 37;\n    message = "no rows";\n};\n'
-        return 404, text
+        return NO_ROWS
     count = len(best)
     lines = b"    Int32 time[time = %d];\n    Int32 time_run[time = %d];\n" % (count, count)
     return 200, b"Dataset {\n" + lines + b"} gfs_best.ncd;\nData:\n" + array(sorted(best)) + array(
@@ -122,14 +150,18 @@ class Log:
         if word != "published" and held == before:
             self.fail("revision %d: nothing went" % number)
         if word == "published":
-            held[what] = more[0]
-            if more[1:] != (len(held), TIMES * len(held)):
+            held[what] = self.published(what, more[0], more[2] - rows_in(held))
+            if more[1:] != (len(held), rows_in(held)):
                 self.fail("revision %d: %d files, and the line says %r" % (number, len(held), more[1:]))
         self.states.append(held)
         self.replies.append(reply_of(held))
         waiting, self.waiting = self.waiting, []
         for revision, reply in waiting:
             self.compare(revision, reply)
+
+    def published(self, _run, brought, _times):
+        """The shift of the file that was published, which has so many times."""
+        return brought
 
     def saw(self, revision, reply):
         """A client got a reply at a revision."""
@@ -138,10 +170,14 @@ class Log:
 
     def compare(self, revision, reply):
         """Compares a reply with the one at its revision, or lets it wait for the line, which may come later."""
-        if revision >= len(self.replies) and not self.last:
+        if revision >= len(self.states) and not self.last:
             self.waiting.append((revision, reply))
-        elif reply != (self.replies + [self.last])[min(revision, len(self.replies))]:
+        elif not self.is_right(revision, reply):
             self.fail("revision %d of %d: status %d, %r" % (revision, len(self.replies), reply[0], reply[1][-60:]))
+
+    def is_right(self, revision, reply):
+        """Whether a reply is the one at its revision."""
+        return reply == (self.replies + [self.last])[min(revision, len(self.replies))]
 
     def end(self):
         """The server was killed, and its lines were read. Runs may have gone at that moment without a line."""

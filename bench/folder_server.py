@@ -15,9 +15,10 @@ class Ended(Exception):
 class FolderServer:
     """A server of the collection `gfs` over folders that are there; `limits` is called before it starts."""
 
-    def __init__(self, program, proto, inboxes, options=(), limits=None, port=None, error=subprocess.DEVNULL):
-        self.port = port or free_port()
-        words = [program, "serve", "--name", "gfs", "--proto", proto, "--listen", "127.0.0.1:%d" % self.port]
+    def __init__(self, program, proto, inboxes, options=(), limits=None, port=None, error=subprocess.DEVNULL,
+                 host="127.0.0.1"):
+        self.host, self.port = host, port or free_port()
+        words = [program, "serve", "--name", "gfs", "--proto", proto, "--listen", "%s:%d" % (host, self.port)]
         self.process = subprocess.Popen(words + list(options) + list(inboxes), stdout=subprocess.PIPE, stderr=error,
                                         preexec_fn=limits)
         atexit.register(self.kill)
@@ -32,7 +33,7 @@ class FolderServer:
         until = time.monotonic() + seconds
         while True:
             try:
-                return Link(socket.create_connection(("127.0.0.1", self.port), timeout=60.0))
+                return Link(socket.create_connection((self.host, self.port), timeout=60.0))
             except OSError:
                 if self.process.poll() is not None or time.monotonic() > until:
                     raise Ended("the server doesn't listen: %s" % self.process.poll()) from None
@@ -53,6 +54,8 @@ class Link:
     def __init__(self, sock):
         self.sock = sock
         self.stream = sock.makefile("rb", 1 << 16)
+        # The fields of the last reply, by their names in small letters.
+        self.fields = {}
 
     def send(self, text):
         self.sock.sendall(text)
@@ -67,16 +70,17 @@ class Link:
             if line in (b"\r\n", b""):
                 break
             key, _, value = line.partition(b": ")
-            fields[key] = value.strip()
-        length = 0 if bodiless else int(fields.get(b"Content-Length", b"0"))
+            fields[key.lower()] = value.strip()
+        length = 0 if bodiless else int(fields.get(b"content-length", b"0"))
         body = self.stream.read(length)
         if line == b"" or len(body) != length:
             raise Ended("a reply was cut: %r" % (status + body[:40]))
-        revision = int(fields.get(b"X-Collection-Revision", b"-1"))
+        self.fields = fields
+        revision = int(fields.get(b"x-collection-revision", b"-1"))
         return int(status.split()[1]), revision, body
 
     def ask(self, method, target):
-        self.send(b"%s %s HTTP/1.1\r\n\r\n" % (method, target))
+        self.send(b"%s %s HTTP/1.1\r\nHost: localhost\r\n\r\n" % (method, target))
         return self.reply(method == b"HEAD")
 
     def close(self):

@@ -16,13 +16,13 @@ def free_port():
         return free.getsockname()[1]
 
 
-def wait_for(port, process, what):
+def wait_for(port, process, what, host="127.0.0.1"):
     """Waits until something listens at a port."""
     for _ in range(500):
         if process.poll() is not None:
             sys.exit("%s ended with %d" % (what, process.returncode))
         with socket.socket() as link:
-            if link.connect_ex(("127.0.0.1", port)) == 0:
+            if link.connect_ex((host, port)) == 0:
                 return
         time.sleep(0.02)
     sys.exit("%s doesn't listen" % what)
@@ -86,6 +86,17 @@ class Server:
 
     def resident(self):
         return resident(self.process)
+
+
+def settings_of(name, own):
+    """A file of docs, with texts of this run in the place of its own, each of which stands there once."""
+    with open(os.path.join(TOP, "docs", name)) as file:
+        text = file.read()
+    for old, new in own.items():
+        if text.count(old) != 1:
+            sys.exit("docs/%s has %d times %r" % (name, text.count(old), old))
+        text = text.replace(old, new)
+    return text
 
 
 MAIN = """%(user)sdaemon off; pid %(folder)s/pid; error_log %(folder)s/error.log; worker_processes %(processes)d;

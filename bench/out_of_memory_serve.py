@@ -18,6 +18,8 @@ ASKED = [head(b".dds"), b"GET " + BEST + b".dods?time HTTP/1.1\r\nConnection: cl
 PUBLISHED = "published 1 retracted 0 expired 0 held 1 rows 3 revision 1\n"
 WHOLE = "published 2 retracted 1 expired 0 held 1 rows 3 revision 3\n"
 NONE = "gfs_20240101_1200.nc"
+# How many more requests for memory than the first run made are refused.
+MORE = 20
 # Where the files may lie; one that wasn't taken can't be taken back.
 RIGHT = {FIRST: ("done", "taken", "later"), FIRST + ".retract": ("done", "later", "refused"), LATER: ("done", "later"),
          NONE: ("refused", "later")}
@@ -109,9 +111,10 @@ def arrivals():
 
 def server_requests_are_refused():
     """Each request for memory of a server that takes a file, takes it back, takes another and refuses one is refused in
-    turn. Each of the four is once the one for which memory ran out."""
+    turn. Each of the four is once the one for which memory ran out. As threads meet otherwise, a run may make more
+    requests than the first: so some more are counted."""
     call, statuses, last, short = 0, {}, 1, set()
-    while call <= last:
+    while call <= last + MORE:
         inbox = inbox_of(arrivals())
         status, said = end_of(begin(call, inbox, ONE), come_and_go)
         if call == 0:

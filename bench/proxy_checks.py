@@ -12,7 +12,7 @@ import threading
 import time
 
 import large_files
-from local_server import TOP, Nginx, Server, free_port, stop
+from local_server import TOP, Nginx, Server, free_port, settings_of, stop
 from serve_replies import APART, HOUR, file_of, name_of, reply_of, target_of
 
 # The workers of a server.
@@ -24,6 +24,7 @@ PAUSE = 7
 
 # What nginx adds or says for its own connection.
 OWN = {"Date", "Server", "Connection", "Vary", "Access-Control-Allow-Origin", "Access-Control-Expose-Headers"}
+OWN.add("X-Collection-Server")
 
 BEST = "/thredds/dodsC/gfs/gfs_best.ncd"
 RUN = "/thredds/dodsC/gfs/runs/gfs_RUN_2020-01-01T00:00:00Z"
@@ -58,8 +59,6 @@ def log_in(folder):
 
 def site_of(gfs, waves, port, secure, folder):
     """docs/nginx.conf with two servers, and the ports and the folder of this run."""
-    with open(os.path.join(TOP, "docs", "nginx.conf")) as file:
-        site = file.read()
     tls = "listen 127.0.0.1:%d ssl; ssl_certificate %s/cert.pem; ssl_certificate_key %s/key.pem;"
     own = {
         "server 127.0.0.1:8080;": "server 127.0.0.1:%d;" % gfs.port,
@@ -69,11 +68,7 @@ def site_of(gfs, waves, port, secure, folder):
         "access_log /var/log/nginx/fmrcd.log ": "access_log %s " % log_in(folder),
         "root /usr/share/fmrcd/web;": "root %s;" % os.path.join(TOP, "web"),
     }
-    for old, new in own.items():
-        if site.count(old) != 1:
-            sys.exit("docs/nginx.conf has %d times %r" % (site.count(old), old))
-        site = site.replace(old, new)
-    return site
+    return settings_of("nginx.conf", own)
 
 
 def make_certificate(folder):
@@ -158,7 +153,7 @@ def check_added(nginx, folder, revision):
         shown = fields["Access-Control-Expose-Headers"] or ""
         if fields["Access-Control-Allow-Origin"] != "*" or "X-Collection-Revision" not in shown:
             fail("%s: other sites aren't let in: %r" % (asked, fields.items()))
-    wanted = r'127.0.0.1 \[\S+\] "GET %s HTTP/1.1" %d [0-9]+ [0-9.]+ %d \S+'
+    wanted = r'127.0.0.1 \[\S+\] "GET %s HTTP/1.1" %d [0-9]+ [0-9.]+ %d \S+ 127.0.0.1:[0-9]+'
     patterns = [wanted % (re.escape(asked), status, revision) for asked, status in ((target, 200), (refused, 400))]
     lines = last_lines(folder, patterns)
     for line, pattern in zip(lines, patterns):

@@ -25,15 +25,21 @@ put_compressed() {
 }
 
 put 755 "$program" usr/bin/fmrcd
-put 755 "$top/package/fmrcd-bring-back" usr/bin/fmrcd-bring-back
-put 644 "$top/docs/fmrcd@.service" usr/lib/systemd/system/fmrcd@.service
+for script in fmrcd-bring-back fmrcd-feed; do
+    put 755 "$top/package/$script" "usr/bin/$script"
+done
+for unit in fmrcd@.service fmrcd-feed@.service; do
+    put 644 "$top/docs/$unit" "usr/lib/systemd/system/$unit"
+done
 put 644 "$top/package/fmrcd.bash" usr/share/bash-completion/completions/fmrcd
-put 644 "$top/docs/nginx.conf" usr/share/fmrcd/nginx.conf
+for settings in nginx.conf nginx-cluster.conf haproxy.cfg rsyncd.conf; do
+    put 644 "$top/docs/$settings" "usr/share/fmrcd/$settings"
+done
 put 644 "$top/web/index.html" usr/share/fmrcd/web/index.html
 for page in "$top"/package/man/*.1; do
     put_compressed "$page" "usr/share/man/man1/$(basename "$page").gz"
 done
-for page in docs/OPERATING.md docs/USING.md docs/CLIENTS.md; do
+for page in docs/OPERATING.md docs/CLUSTER.md docs/USING.md docs/CLIENTS.md; do
     put 644 "$top/$page" "usr/share/doc/fmrcd/$(basename "$page")"
 done
 put 644 "$top/package/copyright" usr/share/doc/fmrcd/copyright

@@ -78,7 +78,7 @@ once="once --name gfs --proto $sample put:$sample ask:1"
 
 # Texts that are asked for.
 shows "the help" "Usage: fmrcd <COMMAND>" --help
-for command in serve once check load; do
+for command in serve once twod extract pull check load; do
     shows "the help of $command" "Usage: fmrcd $command" "$command" --help
 done
 version=$(sed -n 's/^## \([0-9][0-9.]*\).*/\1/p' "$top/CHANGELOG.md" | head -n 1)
@@ -92,7 +92,7 @@ run "a sound file" 0 "ok CDF-1 dims 3 vars 4 records 3" "" "$folder/none" check 
 run "a file cut short" 3 "refused $folder/cut.nc code 14" "" "$folder/none" check "$folder/cut.nc"
 run "check without a file" 2 "bad words" "$no_file" "$folder/none" check
 tells "check without a file on a terminal" "$no_file" check
-run "no words" 2 "bad words" "fmrcd: a command is missing: serve, once, check or load; see 'fmrcd --help'" "$folder/none"
+run "no words" 2 "bad words" "fmrcd: a command is missing: serve, once, twod, extract, pull, check or load; see 'fmrcd --help'" "$folder/none"
 run "a file that isn't there" 10 "no file $folder/absent" "" "$folder/none" check "$folder/absent"
 run "a file of 512 MiB" 3 "refused $folder/most.nc code 1" "" "$folder/none" check "$folder/most.nc"
 run "a file over 512 MiB" 10 "too long $folder/long.nc 536870913" "" "$folder/none" check "$folder/long.nc"
@@ -136,6 +136,36 @@ run "a first word that isn't text" 2 "bad words" "fmrcd: word 1 isn't UTF-8 text
 tells "a word that isn't text on a terminal" "$no_text" check "$(printf '\377')"
 run "a word of 100,000 bytes" 2 "bad words" "*" "$folder/none" "$(head -c 100000 /dev/zero | tr '\0' a)"
 [ "$(wc -c < "$folder/err")" -lt 300 ] || { echo "a word of 100,000 bytes: a long line"; failures=$((failures + 1)); }
+
+# `twod` writes its view to standard output and reports to standard error.
+twod="twod --name gfs --proto $sample --service dds"
+# shellcheck disable=SC2086
+{
+run "a two-dimensional view" 0 "~} gfs_fmrc;" "" "$folder/request" $twod "put:$sample"
+run "a two-dimensional view without a run" 3 "" "refused twod code 37" "$folder/none" $twod expire:2024-01-01T00:00:00Z
+run "twod with a request" 2 "" "bad words" "$folder/request" $twod "put:$sample" ask:1
+"$program" $twod "put:$sample" > /dev/full 2> "$folder/err"; status=$?; : > "$folder/out"
+compare "a full device for a two-dimensional view" $status 9 "" "link fault"
+}
+
+# `extract` writes its file to standard output and reports to standard error. A file that is made of all of a view is one
+# that `check` takes.
+extract="extract --name gfs --proto $sample --view gfs_best.ncd --format"
+# shellcheck disable=SC2086
+{
+run "a view as a file" 0 "*" "" "$folder/request" $extract 2 "put:$sample"
+cp "$folder/out" "$folder/view.nc"
+run "a check of a view as a file" 0 "ok CDF-2 dims 3 vars 6 records 0" "" "$folder/none" check "$folder/view.nc"
+run "a view as a file without a run" 3 "" "refused extract code 37" "$folder/none" $extract 1 expire:2024-01-01T00:00:00Z
+run "extract with a request" 2 "" "bad words" "$folder/request" $extract 1 "put:$sample" ask:1
+"$program" $extract 1 "put:$sample" > /dev/full 2> "$folder/err"; status=$?; : > "$folder/out"
+compare "a full device for a view as a file" $status 9 "" "link fault"
+}
+
+# `pull` reports to standard output.
+run "a server that isn't there" 9 "link fault" "" "$folder/none" pull --connect 127.0.0.1:1 /x
+run "an address that is none" 9 "link fault" "" "$folder/none" pull --connect nowhere /x
+run "pull without a target" 2 "bad words" "*" "$folder/none" pull --connect 127.0.0.1:1
 
 # `serve` reports to standard output, and tells what happens on standard error. Its inbox stops at once, and its one
 # worker ends after one connection.

@@ -42,7 +42,7 @@ inside dpkg --verify fmrcd
     fail "it says the version $(inside fmrcd --version)"
 cmp "$program" "$root/usr/bin/fmrcd"
 inside dpkg -L fmrcd > "$folder/files"
-for name in fmrcd fmrcd-serve fmrcd-once fmrcd-check fmrcd-load fmrcd-bring-back; do
+for name in fmrcd fmrcd-serve fmrcd-once fmrcd-twod fmrcd-pull fmrcd-check fmrcd-load fmrcd-bring-back fmrcd-feed; do
     zcat "$root/usr/share/man/man1/$name.1.gz" | grep -q '^\.Dt' || fail "no page of $name"
 done
 bash -n "$root/usr/share/bash-completion/completions/fmrcd"

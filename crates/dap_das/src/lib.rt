@@ -11,4 +11,5 @@ mod number;
 mod text;
 
 pub use attributes::{axis_attributes, offset_attributes, run_attributes};
+pub use number::value_count;
 pub use text::das_text_of;

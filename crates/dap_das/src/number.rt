@@ -7,9 +7,9 @@ use fm_bits::{pattern_at, text_of};
 use nc_model::Kind;
 use std::alloc::Global;
 
-// How many values of a kind some bytes are.
+/// How many values of a kind some bytes are.
 #[tactic(auto, using(crate::proofs::Numbers::some_size))]
-pub(crate) fn value_count(kind: Kind, values: &[u8]) -> usize
+pub fn value_count(kind: Kind, values: &[u8]) -> usize
     ensures { result ≡ spec.value_count kind values.now }
 {
     values.len() / usize::from(kind.size())

@@ -13,7 +13,7 @@ use Rattle.dap_model.specs.Picking.{name_of, parts_of, part_dims, given_by}
 use Rattle.dap_model.specs.Projection.{with_slabs, slabs_of, sent_of, all_sent}
 use Rattle.dap_model.specs.ProjectionFacts.{AreNamedApart, IsGridded, StandsBefore, IsAsked, IsWhole, FitsDim, FitsPart}
 use Rattle.dap_model.proofs.ProjectionAgreeLemmas.{Sound, Sound-from_none, decl_named-is, picked_if_given, Faultless, Faultless-first, slabs_of-given, given-slabs_of}
-use Rattle.dap_model.proofs.ProjectionFitLemmas.{whole_slabs-fit, given-fit}
+use Rattle.dap_model.proofs.ProjectionFitLemmas.{given-fit, given-pick, whole_slabs-fit, whole_slabs-pick, Picks}
 use Rattle.dap_model.proofs.WholeClauseLemmas.{slabs_of-all}
 use Rattle.dap_model.proofs.ListLemmas.{Has, Has-slice_get, Has-from_contains, contains_from_Has, Has-flat_map, Source-flat_map, Has-filter_map, Source-filter_map, within_range, Has-range, slice_get-numbered, Has-numbered}
 use Rattle.dap_model.proofs.OrderLemmas.{Ordered, Ordered-from_pairs, Ordered-filter_map, Ordered-flat_map, Ordered-range, Ordered-numbered}
@@ -197,3 +197,19 @@ FitsPart-sent decls (x ∷ clauses) sent apart gridded none s =
           given-fit s.decl at.earlier given.0 sent.part sent.slabs
           (All-contains IsGridded decls s.decl gridded (contains_from_Has decls s.decl has)) s.within at.sound given.2;
     }
+
+-- and they pick an index of each dimension that isn't empty
+pub Picks-sent : (decls : List Decl) (clauses : List Clause) (sent : Sent) → AreNamedApart decls
+    → All IsGridded decls → Faultless decls [] clauses → (s : PartSent decls clauses sent)
+    → AllZip Picks (part_dims s.decl sent.part) sent.slabs
+Picks-sent decls [] sent apart gridded none s =
+    subst (AllZip Picks (part_dims s.decl sent.part))
+    (same_Some _ _ (sym (slabs_of-all s.decl sent.part) ∙ s.slabs_are)) (whole_slabs-pick (part_dims s.decl sent.part))
+Picks-sent decls (x ∷ clauses) sent apart gridded none s =
+    let given = given-slabs_of x clauses s.decl sent.part sent.slabs s.slabs_are in
+    let has = Has-slice_get decls sent.decl s.decl s.decl_is in
+    let at =
+    sound_at decls [] (x ∷ clauses) s.decl given.0 sent.part sent.slabs
+    (Ordered-from_pairs _ decls apart) has none given.1 given.2 in
+    given-pick s.decl at.earlier given.0 sent.part sent.slabs
+    (All-contains IsGridded decls s.decl gridded (contains_from_Has decls s.decl has)) s.within at.sound given.2

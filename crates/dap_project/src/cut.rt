@@ -29,12 +29,13 @@ fn cut_dim(alloc: Global, dim: &Dim, slab: Slab) -> Result<Dim, NoMemory>
     Ok(Dim { name, size })
 }
 
-// Dimensions as long as their slabs have indices.
-fn cut_dims(alloc: Global, dims: &[Dim], slabs: &[Slab]) -> Result<List<Dim>, NoMemory>
+/// Dimensions as long as their slabs have indices. The caller has slabs that can be cut from them.
+pub fn cut_dims(alloc: Global, dims: &[Dim], slabs: &[Slab]) -> Result<List<Dim>, NoMemory>
     requires { AreCuts dims.now slabs.now }
     ensures { IfOk result (λ cut. cut ≡ map spec.cut_dim (zip dims.now slabs.now)) }
 {
-    let mut cut = List::new(alloc);
+    let items = Vec::with_capacity(alloc, dims.len())?;
+    let mut cut = List { items };
     let mut at = 0;
     while at < dims.len() && at < slabs.len() {
         cut.push(cut_dim(alloc, &dims[at], slabs[at])?)?;

@@ -43,7 +43,8 @@ fn bucket_of(count: usize, name: &[u8]) -> usize
 fn empty_buckets(alloc: Global, count: usize) -> Result<List<List<usize>>, NoMemory>
     ensures { IfOk result (λ buckets. buckets ≡ replicate count []) }
 {
-    let mut buckets = List::new(alloc);
+    let items = Vec::with_capacity(alloc, count)?;
+    let mut buckets = List { items };
     for _bucket in 0..count {
         buckets.push(List::new(alloc))?;
     }

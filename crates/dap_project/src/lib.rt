@@ -13,4 +13,5 @@ mod slabs;
 mod slot;
 mod whole;
 
+pub use cut::cut_dims;
 pub use projection::project;

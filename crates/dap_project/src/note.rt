@@ -20,13 +20,15 @@ pub(crate) struct Note {
     pub(crate) slots: List<Slot>,
 }
 
-// Slots of parts that no clause has named.
+// Slots of parts that no clause has named, without room for more.
 #[tactic(auto, unfolding(crate::specs::Notes::free_slots))]
 fn free_slots(alloc: Global, decl: &Decl) -> Result<List<Slot>, NoMemory>
     ensures { IfOk result (λ slots. slots ≡ spec.free_slots (picking.parts_of decl.now)) }
 {
-    let mut slots = List::new(alloc);
-    for _part in 0..part_count(decl) {
+    let count = part_count(decl);
+    let items = Vec::with_capacity(alloc, count)?;
+    let mut slots = List { items };
+    for _part in 0..count {
         slots.push(Slot::Free)?;
     }
     Ok(slots)
@@ -108,7 +110,8 @@ impl Note {
 pub(crate) fn fresh_notes(alloc: Global, decls: &[Decl]) -> Result<List<Note>, NoMemory>
     ensures { IfOk result (λ notes. notes ≡ map spec.fresh_note decls.now) }
 {
-    let mut notes = List::new(alloc);
+    let items = Vec::with_capacity(alloc, decls.len())?;
+    let mut notes = List { items };
     for decl in decls {
         notes.push(Note::fresh(alloc, decl)?)?;
     }

@@ -30,13 +30,14 @@ fn add_cut(
     }
 }
 
-// The parts of a declaration whose slots are taken, as arrays.
+// The parts of a declaration whose slots are taken, as arrays, with room for as many as there are slots.
 #[tactic(auto, using(crate::proofs::StepLemmas::cuts))]
 fn cut_parts(alloc: Global, decl: &Decl, slots: &[Slot]) -> Result<List<Array>, NoMemory>
     requires { CanBeCut (parts_of decl.now) slots.now }
     ensures { IfOk result (λ parts. parts ≡ spec.cut_slots (parts_of decl.now) slots.now) }
 {
-    let mut parts = List::new(alloc);
+    let items = Vec::with_capacity(alloc, slots.len())?;
+    let mut parts = List { items };
     for part in 0..slots.len() {
         let Some(array) = part_of(decl, part) else {
             return Ok(parts);

@@ -39,7 +39,8 @@ fn whole_slab(size: u64) -> Slab
 fn whole_slabs(alloc: Global, dims: &[Dim]) -> Result<List<Slab>, NoMemory>
     ensures { IfOk result (λ slabs. slabs ≡ spec.whole_slabs dims.now) }
 {
-    let mut slabs = List::new(alloc);
+    let items = Vec::with_capacity(alloc, dims.len())?;
+    let mut slabs = List { items };
     for dim in dims {
         slabs.push(whole_slab(dim.size))?;
     }

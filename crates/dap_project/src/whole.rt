@@ -13,10 +13,11 @@ use std::alloc::Global;
 fn whole_clause(alloc: Global, decl: &Decl) -> Result<Clause, NoMemory>
     ensures { IfOk result (λ clause. clause ≡ whole_clause decl.now) }
 {
-    let mut path = List::new(alloc);
-    path.push(Bytes::copy_of(alloc, name_of(decl))?)?;
+    let name = Bytes::copy_of(alloc, name_of(decl))?;
+    let mut items = Vec::with_capacity(alloc, 1)?;
+    items.push(name)?;
     Ok(Clause {
-        path,
+        path: List { items },
         slabs: List::new(alloc),
     })
 }
@@ -38,7 +39,8 @@ fn whole_note(alloc: Global, decl: &Decl) -> Result<Note, NoMemory>
 pub(crate) fn whole_notes(alloc: Global, decls: &[Decl]) -> Result<List<Note>, NoMemory>
     ensures { IfOk result (λ notes. notes ≡ map (note_for []) decls.now) }
 {
-    let mut notes = List::new(alloc);
+    let items = Vec::with_capacity(alloc, decls.len())?;
+    let mut notes = List { items };
     for decl in decls {
         notes.push(whole_note(alloc, decl)?)?;
     }

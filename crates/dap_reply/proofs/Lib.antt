@@ -3,6 +3,7 @@ pub mod FewLemmas
 pub mod FieldCosts
 pub mod HeaderCosts
 pub mod LimitLemmas
+pub mod ManyLemmas
 pub mod MapLemmas
 pub mod MessageLemmas
 pub mod NameLemmas

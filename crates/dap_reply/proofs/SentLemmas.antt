@@ -35,7 +35,7 @@ use Rattle.dap_reply.proofs.MapLemmas.{gridded}
 use Rattle.dap_reply.proofs.NameLemmas.{named-apart}
 
 -- a part that is there, with slabs that fit it
-part-fits : (decls : List Decl) (clauses : List Clause) (sent : Sent) → PartSent decls clauses sent
+pub part-fits : (decls : List Decl) (clauses : List Clause) (sent : Sent) → PartSent decls clauses sent
     → FitsPart decls sent → IsSomeAnd (array_in decls sent.decl sent.part) (FitsArray sent)
 unfolding array_in
 part-fits decls clauses sent part fits = ⊎_elim there past (slice_get_cases (parts_of part.decl) sent.part).1
@@ -83,11 +83,11 @@ not-ok {A} {E} same = subst is_value same tt
     is_value (Err fault) = Unit {0}
 
 -- the clauses of a constraint for which something is sent
-record HasClauses (decls : List Decl) (projected : Projected) : Type 0 where
-  clauses : List Clause
-  projected_is : projection_of decls clauses ≡ Ok projected
+pub record HasClauses (decls : List Decl) (projected : Projected) : Type 0 where
+  pub clauses : List Clause
+  pub projected_is : projection_of decls clauses ≡ Ok projected
 
-clauses-of : (decls : List Decl) (constraint : List ℕ) (projected : Projected)
+pub clauses-of : (decls : List Decl) (constraint : List ℕ) (projected : Projected)
     → projected_of decls constraint ≡ Ok projected → HasClauses decls projected
 unfolding projected_of
 clauses-of decls constraint projected is = by_asked (asked_by constraint) is

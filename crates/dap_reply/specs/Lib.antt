@@ -1,6 +1,7 @@
 pub use Rattle.dap_plan.specs.Parts
 pub mod Asked
 pub mod Body
+pub mod Collections
 pub mod Fault
 pub mod Head
 pub mod Kind
@@ -9,4 +10,5 @@ pub mod Planned
 pub mod Reply
 pub mod Script
 pub mod Served
+pub mod ServedMany
 pub mod WellFormed

@@ -41,9 +41,9 @@ fn count_rows(alloc: Global, edition: &Edition, target: &Target) -> Result<u64, 
     }
 }
 
-// The dataset of a target, whose view has rows.
+/// The dataset of a target's view, or the fault where the view has no row.
 #[tactic(auto, unfolding(crate::specs::Body::some_shown))]
-fn dataset_asked(
+pub fn dataset_asked(
     alloc: Global,
     edition: &Edition,
     target: &Target,
@@ -57,12 +57,16 @@ fn dataset_asked(
     }
 }
 
-// What is sent of declarations for the constraint of a target.
+/// What is sent of declarations for a constraint, or the first fault.
 #[tactic(auto, unfolding(crate::specs::Body::projected_of))]
-fn projected_of(alloc: Global, decls: &[Decl], target: &Target) -> Result<Projected, Fail<DapFault>>
-    ensures { Answers (projected_of decls.now target.now.constraint) result }
+pub fn projected_of(
+    alloc: Global,
+    decls: &[Decl],
+    constraint: &[u8],
+) -> Result<Projected, Fail<DapFault>>
+    ensures { Answers (projected_of decls.now constraint.now) result }
 {
-    let asked = read_constraint(alloc, target.constraint.as_slice());
+    let asked = read_constraint(alloc, constraint);
     let asked = fault_as(asked, DapFault::Constraint)?;
     fault_as(project(alloc, decls, &asked), DapFault::Projection)
 }
@@ -114,7 +118,7 @@ fn structure_by(alloc: Global, target: &Target, decls: &List<Decl>) -> Result<Bo
     if target.constraint.is_empty() {
         return structure_body(alloc, target, decls);
     }
-    let projected = projected_of(alloc, decls.as_slice(), target)?;
+    let projected = projected_of(alloc, decls.as_slice(), target.constraint.as_slice())?;
     structure_body(alloc, target, &projected.decls)
 }
 
@@ -236,7 +240,11 @@ fn dataset_sent(alloc: Global, target: &Target, source: Dataset) -> Result<Body,
 {
     // Few parts are sent, and each is one of the dataset, since the prototype is that of a file.
     let _proto = source.proto();
-    match projected_of(alloc, source.decls().as_slice(), target) {
+    match projected_of(
+        alloc,
+        source.decls().as_slice(),
+        target.constraint.as_slice(),
+    ) {
         Ok(projected) => projected_sent(alloc, target, source, projected),
         Err(fail) => {
             drop(source);

@@ -1,5 +1,5 @@
 //! What a reader believes of replies, each as the contract of a call that does nothing.
-ghost use Rattle.std.specs.Prelude.{◌≡◌, ◌≢◌, ◌⊎◌, ◌+◌, ◌<◌, ◌≤◌, ◌++◌, ℕ, [], Bool, Err, List, All, drop, false, filter, is_some, length, map, take, true};
+ghost use Rattle.std.specs.Prelude.{◌≡◌, ◌≢◌, ◌⊎◌, ◌↔◌, ◌+◌, ◌<◌, ◌≤◌, ◌++◌, ℕ, [], Bool, Err, List, All, drop, false, filter, is_some, length, map, take, true};
 ghost use Rattle.fm_base.specs.Chain.{fault_as};
 ghost use Rattle.fm_model.specs.declared.loaded.Loaded.{Loaded};
 ghost use Rattle.fm_model.specs.declared.site.Site.{Site};
@@ -31,6 +31,7 @@ ghost use Rattle.web_session.specs.State.{end_after, end_of_input};
 ghost use Rattle.dap_reply.specs.declared.served.Mark.{Mark};
 ghost use Rattle.dap_reply.specs.declared.served.Stop.{Stop};
 ghost use Rattle.dap_reply.specs.Served.{asked_of, held_bytes, input_of, items_of, HasFailed, LinkCall, Served};
+ghost use Rattle.dap_reply.specs.ServedMany.{as_many, ServedMany};
 
 /// What a connection is sent for more replies begins with what it is sent for fewer, and goes on with the replies to
 /// the items after them.
@@ -169,4 +170,9 @@ pub fn an_end_of_input_says_what_is_left()
 pub fn a_last_reply_ends_its_link()
     ensures { (item : Item) (before : ℕ) →
         is_last item (before + 1) ≡ is_some (end_after (asked_of item) before) }
+{}
+
+/// A link of one collection is served exactly where it is served as a link of several.
+pub fn a_link_of_one_collection_is_served_as_one_of_several()
+    ensures { (call : LinkCall) → Served call ↔ ServedMany (as_many call) }
 {}

@@ -15,7 +15,7 @@ mod served;
 mod status;
 mod wanted;
 
-pub use asked::MAX_BODY;
+pub use asked::{MAX_BODY, dataset_asked, projected_of};
 pub use body::{Answer, Body, BodyKind};
 pub use dap_plan::Plan;
 pub use fault::DapFault;

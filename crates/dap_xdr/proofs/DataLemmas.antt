@@ -20,7 +20,7 @@ pub data-of : (n : Portion) → IsPortion n → data_in n ≡ part_data (content
 unfolding part_data
 data-of n portion = sym (ap (λ found. option_map_or (array_data (content_of n.shown) n.sent) found []) portion.part_is)
 
-values-numbers : (kind : DapKind) (slabs : List Slab) (bits : List ℕ → ℕ) (words : List ℕ → List ℕ) → kind ≢ Text
+pub values-numbers : (kind : DapKind) (slabs : List Slab) (bits : List ℕ → ℕ) (words : List ℕ → List ℕ) → kind ≢ Text
     → values_at kind slabs bits words ≡ numbers_at slabs bits
 values-numbers Byte slabs bits words number = refl
 values-numbers Int16 slabs bits words number = refl
@@ -51,12 +51,12 @@ pub alone : (slabs : List Slab) → slabs ≡ [] → Alone slabs
 unfolding box_len product index_at
 alone slabs none = subst Alone (sym none) (record { within = omega arith; index_is = refl })
 
-many-numbers : (slabs : List Slab) (bits : List ℕ → ℕ) → slabs ≢ [] → numbers_at slabs bits ≡ Values.numbers (map bits
+pub many-numbers : (slabs : List Slab) (bits : List ℕ → ℕ) → slabs ≢ [] → numbers_at slabs bits ≡ Values.numbers (map bits
     (box_of slabs))
 many-numbers [] bits many = absurd (many refl)
 many-numbers (slab ∷ slabs) bits many = refl
 
-many-texts : (slabs : List Slab) (words : List ℕ → List ℕ) → slabs ≢ [] → texts_at slabs words ≡ Values.texts (map
+pub many-texts : (slabs : List Slab) (words : List ℕ → List ℕ) → slabs ≢ [] → texts_at slabs words ≡ Values.texts (map
     words (box_of slabs))
 many-texts [] words many = absurd (many refl)
 many-texts (slab ∷ slabs) words many = refl

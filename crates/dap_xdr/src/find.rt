@@ -10,9 +10,9 @@ use dap_model::{Array, Decl, Sent};
 use dap_slab::part_of;
 use fm_dataset::Dataset;
 
-// The array of what is sent.
+/// The array of what is sent. The caller has a part of the declarations with slabs that fit it.
 #[tactic(auto, unfolding(crate::specs::Content::array_in))]
-fn array_in<'a>(decls: &'a [Decl], sent: &Sent) -> &'a Array
+pub fn array_in<'a>(decls: &'a [Decl], sent: &Sent) -> &'a Array
     requires { IsSomeAnd (array_in decls.now sent.now.decl sent.now.part) (FitsArray sent.now) }
     ensures { array_in decls.now sent.now.decl sent.now.part ≡ Some result.now }
 {
@@ -23,8 +23,8 @@ fn array_in<'a>(decls: &'a [Decl], sent: &Sent) -> &'a Array
     array
 }
 
-// The array of what is sent of a dataset.
-pub(crate) fn array_of<'a>(set: &'a Dataset, sent: &Sent) -> &'a Array
+/// The array of what is sent of a dataset. The caller has a part of the dataset with slabs that fit it.
+pub fn array_of<'a>(set: &'a Dataset, sent: &Sent) -> &'a Array
     requires part { IsSomeAnd (array_in (content_of set.now).decls sent.now.decl sent.now.part) (FitsArray sent.now) }
     requires prototype { IsPrototype set.now.proto }
     requires rows { AreRows set.now.proto set.now.rows }

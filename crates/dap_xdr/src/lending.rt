@@ -2,11 +2,12 @@
 ghost use Rattle.std.specs.Prelude.{◌≡◌, ◌≢◌, ◌≤◌, ◌-◌, [], drop, length, take, IsSomeAnd};
 ghost use Rattle.dap_model.specs.declared.declaration.DapKind.{DapKind as Kind};
 ghost use Rattle.dap_xdr.specs.Content.{array_in, part_data, FitsArray};
-ghost use Rattle.dap_xdr.specs.Datasets.{content_of};
-ghost use Rattle.dap_xdr.specs.Portion.{data_in, numbers_from};
+ghost use Rattle.dap_xdr.specs.Datasets.{content_of, IsStretchOf};
+ghost use Rattle.dap_xdr.specs.Portion.{bits_in, data_in, numbers_from};
+ghost use Rattle.dap_xdr.specs.Stretch.{ArePicked};
 
 use crate::part::{FEW, MAX_RANK, Part};
-use dap_model::Sent;
+use dap_model::{DapKind, Sent};
 use dap_number::element_len;
 use fm_dataset::Dataset;
 
@@ -85,4 +86,35 @@ pub fn lent<'a>(set: &'a Dataset, sent: &Sent, from: u64) -> &'a [u8]
         return lent_few(&part, from);
     }
     lent_any(&part, from)
+}
+
+// Numbers that are sent from an element on, as far as they stand together in a file: none of an array of many
+// dimensions.
+#[tactic(auto, using(crate::proofs::LendingLemmas::none))]
+fn stretch_in<'a>(part: &Part<'a, '_>, element: u64) -> &'a [u8]
+    requires { part.now.array.kind ≢ Kind.Text }
+    ensures { ArePicked part.now.array.kind (bits_in part.now) part.now.sent.slabs element
+        18_446_744_073_709_551_615 result.now }
+{
+    if part.rank() > FEW || element >= part.count() {
+        return &[];
+    }
+    let mut room = [0; FEW];
+    let (index, _) = room.split_at_mut(part.rank());
+    part.put_index(element, index);
+    part.raw(element, index, u64::MAX)
+}
+
+/// Lends numbers that are sent of a part, from an element on, as they stand in a netCDF file: as far as its last slabs
+/// are whole and a file has them together. It may be empty, and is for texts and for arrays of more than 8 dimensions.
+/// It takes no memory. The caller has a part of the dataset with slabs that fit it.
+pub fn stretch<'a>(set: &'a Dataset, sent: &Sent, element: u64) -> &'a [u8]
+    requires { IsSomeAnd (array_in (content_of set.now).decls sent.now.decl sent.now.part) (FitsArray sent.now) }
+    ensures { IsStretchOf set.now sent.now element result.now }
+{
+    let part = Part::new(set, sent);
+    match part.kind() {
+        DapKind::Text => &[],
+        _ => stretch_in(&part, element),
+    }
 }

@@ -16,7 +16,9 @@ mod text;
 mod texts;
 mod widen;
 
+pub use find::{array_in, array_of};
 pub use fit::fits;
 pub use len::{Marked, xdr_len, xdr_marks};
-pub use lending::lent;
+pub use lending::{lent, stretch};
 pub use piece::{xdr_piece, xdr_piece_marked};
+pub use text::{put_text, text_len};

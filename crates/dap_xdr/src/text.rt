@@ -15,8 +15,8 @@ fn put_padded(text: &[u8], from: u64, out: &mut [u8]) -> usize
     count + put_zeros(len, from.saturating_sub(len), rest)
 }
 
-// Writes a text as XDR from an offset on: its length, its bytes, and zero bytes up to a multiple of four.
-pub(crate) fn put_text(text: &[u8], from: u64, out: &mut [u8]) -> usize
+/// Writes a text as XDR from an offset on: its length, its bytes, and zero bytes up to a multiple of four.
+pub fn put_text(text: &[u8], from: u64, out: &mut [u8]) -> usize
     ensures { IsPut (drop from (text_bytes text.now)) out.old out.new result }
 {
     let count = put(&count_bytes(text.len() as u64), from, out);
@@ -24,8 +24,8 @@ pub(crate) fn put_text(text: &[u8], from: u64, out: &mut [u8]) -> usize
     count + put_padded(text, from.saturating_sub(4), rest)
 }
 
-// How many bytes a text of this length takes.
-pub(crate) fn text_len(len: u64) -> u64
+/// How many bytes a text of this length takes.
+pub fn text_len(len: u64) -> u64
     requires { len < 2 ^ 32 }
     ensures { result ≡ text_len len }
 {

@@ -16,7 +16,7 @@ use std::time::Duration;
 use std::{rt, thread};
 
 // For how many milliseconds nothing is looked for where nothing arrived.
-const PAUSE: u64 = 200;
+const PAUSE: u64 = 125;
 
 impl<R: rt::Files + rt::Clock + Drop, T: Tell + Drop> FolderInbox<R, T> {
     // What arrives next.

@@ -4,6 +4,7 @@ ghost use Rattle.std.specs.Prelude.{◌≡◌, None, IfOk};
 use crate::bound::{Bound, bind, bound_at, shared, unopened};
 use crate::clock::RealClock;
 use crate::descriptors::connections_left;
+use crate::dial::TcpDial;
 use crate::door::TcpDoor;
 use crate::failing::{counted_fault, fail_of};
 use crate::inbox::FolderInbox;
@@ -231,6 +232,8 @@ where
     type S = StdSink;
 
     type G = OpenGate;
+
+    type N = TcpDial<HostRuntime>;
 
     ghost shown = { λ opener. record { held = None; faults = opener.faults } };
 

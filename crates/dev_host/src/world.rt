@@ -1,12 +1,17 @@
 //! The world of a process.
 ghost use Rattle.std.specs.Prelude.{◌≡◌, []};
-ghost use Rattle.dev_std.specs.Process.{is_errors, names_once};
+ghost use Rattle.dev_std.specs.Process.{is_errors, names_sender};
 
+use crate::dial::TcpDial;
 use crate::opener::RealOpener;
 use crate::telling::Teller;
 use dev_std::{RealFiles, StdLink, StdSink, StdStream};
-use dev_traits::{Devices, Files, Link, Machine, OpenGate, Sink, World};
+use dev_traits::{Devices, Dial, Files, Link, Machine, OpenGate, Sink, World};
 use fm_base::{Bytes, List};
+use std::time::Duration;
+
+/// For how many seconds a run waits for a peer that it dialled, at each call.
+const PATIENCE: u64 = 30;
 
 /// What opens the machine's sockets, folders and clock.
 pub type HostOpener = RealOpener<HostRuntime, Teller<HostRuntime>>;
@@ -15,7 +20,8 @@ pub type HostOpener = RealOpener<HostRuntime, Teller<HostRuntime>>;
 pub type HostWorld = World<HostOpener>;
 
 /// The world of a run with these words: what opens the machine's doors, inboxes and clocks, its files, standard input
-/// and output as the link, and the sink that `StdStream::of_words` picks. Nothing is open, and no call has failed.
+/// and output as the link, the sink that `StdStream::of_words` picks, and a dialer. Nothing is open, and no call has
+/// failed.
 pub fn host_world(rt: HostRuntime, words: &List<Bytes>) -> HostWorld
     ensures opener { (⟦<HostOpener as Machine>⟧.shown result.opener).faults ≡ 0 }
     ensures doors { result.devices.doors ≡ [] }
@@ -24,7 +30,8 @@ pub fn host_world(rt: HostRuntime, words: &List<Bytes>) -> HostWorld
     ensures files { (⟦<RealFiles<HostRuntime> as Files>⟧.shown result.files).faults ≡ 0 }
     ensures link { (⟦<StdLink as Link>⟧.shown result.link).faults ≡ 0 }
     ensures sink { (⟦<StdSink as Sink>⟧.shown result.sink).faults ≡ 0 }
-    ensures stream { is_errors result.sink.output ≡ names_once words.now }
+    ensures dial { (⟦<TcpDial<HostRuntime> as Dial>⟧.shown result.dial).faults ≡ 0 }
+    ensures stream { is_errors result.sink.output ≡ names_sender words.now }
 {
     World {
         opener: RealOpener::new(rt, Teller::new(rt, rt.stderr(), is_quiet(words.as_slice()))),
@@ -33,6 +40,7 @@ pub fn host_world(rt: HostRuntime, words: &List<Bytes>) -> HostWorld
         link: StdLink::new(rt.stdin(), rt.stdout()),
         sink: StdSink::new(StdStream::of_words(words.as_slice(), rt.stdout(), rt.stderr())),
         gate: OpenGate,
+        dial: TcpDial::new(rt, Duration::from_secs(PATIENCE)),
     }
 }
 

@@ -1,1 +1,2 @@
+mod DialLemmas
 mod FirstLemmas

@@ -1,1 +1,2 @@
+pub mod Dialling
 pub mod Memory

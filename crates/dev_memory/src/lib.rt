@@ -5,6 +5,7 @@ mod calls;
 mod first;
 mod lines;
 mod mem_clock;
+mod mem_dial;
 mod mem_door;
 mod mem_files;
 mod mem_inbox;
@@ -17,6 +18,7 @@ mod room;
 
 pub use calls::Calls;
 pub use mem_clock::MemClock;
+pub use mem_dial::MemDial;
 pub use mem_door::{DoorEvent, MemDoor};
 pub use mem_files::{Entry, MemFiles, look_up};
 pub use mem_inbox::MemInbox;

@@ -7,6 +7,7 @@ use crate::calls::Calls;
 use crate::first::take_first;
 use crate::lines::Lines;
 use crate::mem_clock::MemClock;
+use crate::mem_dial::MemDial;
 use crate::mem_door::MemDoor;
 use crate::mem_files::MemFiles;
 use crate::mem_inbox::MemInbox;
@@ -118,6 +119,8 @@ impl Machine for MemOpener {
     type S = MemSink;
 
     type G = OpenGate;
+
+    type N = MemDial;
 
     ghost shown = { λ opener. record {
       held = Some (record {

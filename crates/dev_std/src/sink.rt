@@ -1,7 +1,8 @@
 //! A writer as a sink, and which standard stream reports go to.
 ghost use Rattle.std.specs.Prelude.{◌≡◌, ◌≤◌, ℕ, length, take, None, OnOk, OnErr};
 ghost use Rattle.std.specs.Io.KnownBytes.{Appends};
-ghost use Rattle.dev_std.specs.Process.{is_errors, names_once};
+ghost use Rattle.dev_std.specs.Process as spec;
+ghost use Rattle.dev_std.specs.Process.{is_errors, names_sender};
 ghost use Rattle.dev_traits.specs.Cause.{HasCause};
 
 use crate::stream::{counted, write_whole};
@@ -57,14 +58,22 @@ pub enum StdStream {
 /// A sink whose bytes go to a standard stream.
 pub type StdSink = StreamSink<StdStream>;
 
+// Whether a word names a command that sends bytes over the link, which is standard output.
+#[tactic(auto, unfolding(crate::specs::Process::is_sender))]
+pub(crate) fn is_sender(word: &[u8]) -> bool
+    ensures { result ≡ spec.is_sender word.now }
+{
+    word == b"once".as_slice() || word == b"twod".as_slice() || word == b"extract".as_slice()
+}
+
 impl StdStream {
-    /// The stream of the reports of a run: standard error where the first word is `once`, whose replies go to standard
-    /// output, and else standard output.
+    /// The stream of the reports of a run: standard error where the first word is `once`, `twod` or `extract`, whose
+    /// bytes go to standard output, and else standard output.
     pub fn of_words(words: &[Bytes], output: Stdout, errors: Stderr) -> StdStream
-        ensures { is_errors result ≡ names_once words.now }
+        ensures { is_errors result ≡ names_sender words.now }
     {
         match words {
-            [first, ..] if first.as_slice() == b"once".as_slice() => StdStream::Errors(errors),
+            [first, ..] if is_sender(first.as_slice()) => StdStream::Errors(errors),
             _ => StdStream::Output(output),
         }
     }

@@ -1,10 +1,12 @@
 pub mod Cause
 pub mod Clock
+pub mod Dial
 pub mod Door
 pub mod Files
 pub mod Inbox
 pub mod Lines
 pub mod Link
+pub mod Moved
 pub mod Opener
 pub mod Shown
 pub mod Sink

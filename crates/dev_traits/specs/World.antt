@@ -9,8 +9,8 @@ pub record WorldShown : Type 0 where
   pub sink : SinkShown
 
 -- the same, by what each of these devices shows
-abbrev pub world_shown : {M D I C F L S G K : Type 0} → (F → FilesShown) → (L → LinkShown) → (S → SinkShown)
-    → World M D I C F L S G K → WorldShown
+abbrev pub world_shown : {M D I C F L S G N K P : Type 0} → (F → FilesShown) → (L → LinkShown) → (S → SinkShown)
+    → World M D I C F L S G N K P → WorldShown
 world_shown files link sink world = record {
   files = files world.files;
   link = link world.link;

@@ -32,7 +32,7 @@ pub enum Coming<L> {
 /// it. A link that was stepped either rests, and is watched again, or is given back. Where the door failed, no link
 /// comes any more, and those that are out go on.
 pub trait Door: Send {
-    type L: Link + Drop;
+    type L: Link + Drop + Send;
 
     /// The links left to come, how many are out and those that were given back, where they are known, and how
     /// many calls have failed.

@@ -1,8 +1,10 @@
-//! The outside as traits: files that are read, links to a peer, sinks for reports, and what a server is given beside
-//! them: doors through which links come, inboxes in which files arrive, clocks, gates, and what opens them.
+//! The outside as traits: files that are read, links to a peer, dialers that give them, sinks for reports, and what a
+//! server is given beside them: doors through which links come, inboxes in which files arrive, clocks, gates, and what
+//! opens them.
 #![tactic(auto)]
 
 mod clock;
+mod dial;
 mod door;
 mod faults;
 mod files;
@@ -15,6 +17,7 @@ mod whole;
 mod world;
 
 pub use clock::{Clock, Expiry};
+pub use dial::Dial;
 pub use door::{Coming, Door, DoorAsked};
 pub use faults::{Failed, count_fault};
 pub use files::{Files, Found};

@@ -16,6 +16,7 @@ ghost use Rattle.dev_traits.specs.Opener.{
 };
 
 use crate::clock::Clock;
+use crate::dial::Dial;
 use crate::door::Door;
 use crate::faults::Failed;
 use crate::files::Files;
@@ -25,15 +26,16 @@ use crate::link::Link;
 use crate::sink::Sink;
 use fm_base::Fail;
 use std::alloc::Global;
+use std::marker::{Send, Sync};
 
 /// What a run stands on: the types of all its devices, and what opens doors, inboxes and clocks. What it opens has had
-/// no failed call.
+/// no failed call, and goes to a thread of its own.
 pub trait Machine {
-    type D: Door + Drop;
+    type D: Door + Drop + Send;
 
-    type I: Inbox + Drop;
+    type I: Inbox + Drop + Send;
 
-    type C: Clock + Drop;
+    type C: Clock + Drop + Send;
 
     type F: Files + Drop;
 
@@ -43,7 +45,10 @@ pub trait Machine {
     type S: Sink + Drop;
 
     /// The gate that each door passes.
-    type G: Gate + Drop;
+    type G: Gate + Drop + Sync;
+
+    /// What leads a run that opens no door to a peer by its address.
+    type N: Dial + Drop;
 
     /// What it will give and the lines, where that is known, and how many calls have failed.
     ghost shown: { Self → OpenerShown Self.D Self.I Self.C };

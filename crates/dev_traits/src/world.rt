@@ -30,7 +30,7 @@ impl<D, I, C> Devices<D, I, C> {
 pub type Opened<M> = Devices<<M as Machine>::D, <M as Machine>::I, <M as Machine>::C>;
 
 /// The outside of a run: the opener of doors, inboxes and clocks, the devices that are open, the files, the link, the
-/// sink of reports, and the gate that each door passes.
+/// sink of reports, the gate that each door passes, and the dialer.
 #[derive(Drop)]
 pub struct World<M: Machine> {
     pub opener: M,
@@ -39,4 +39,5 @@ pub struct World<M: Machine> {
     pub link: M::L,
     pub sink: M::S,
     pub gate: M::G,
+    pub dial: M::N,
 }

@@ -3,6 +3,7 @@
 
 mod calls;
 mod clocks;
+mod dials;
 mod doors;
 mod echoing;
 mod ends;

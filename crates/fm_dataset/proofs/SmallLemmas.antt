@@ -74,7 +74,7 @@ module _ (proto : Proto) (sound : IsSound proto) where
           omega (arith, few, is.small)
 
       -- the elements of one row of a variable along the axis are few
-      row_few : product (lengths_of proto (drop 1 var.dims)) ≤ MAX_BYTES
+      pub row_few : product (lengths_of proto (drop 1 var.dims)) ≤ MAX_BYTES
       unfolding product
       row_few = by_axis (is_axis_of proto var) refl
         where

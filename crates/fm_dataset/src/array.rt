@@ -95,12 +95,13 @@ pub(crate) fn after_first(ids: &[u32]) -> &[u32]
     }
 }
 
-// The dimensions of a variable's array.
+// The dimensions of a variable's array, without room for more.
 #[tactic(auto, unfolding(crate::specs::Declarations::dims_in))]
 fn dims_in(alloc: Global, proto: &Proto, count: u64, var: &ProtoVar) -> Result<List<Dim>, NoMemory>
     ensures { IfOk result (λ dims. dims ≡ spec.dims_in proto.now count var.now) }
 {
-    let mut dims = List::new(alloc);
+    let items = Vec::with_capacity(alloc, array_dims(var).len())?;
+    let mut dims = List { items };
     if var.timed {
         dims.push(rows_dim(alloc, proto, count)?)?;
         put_dims(alloc, proto, after_first(array_dims(var)), &mut dims)?;

@@ -100,11 +100,12 @@ fn put_seconds(
     decls.push(seconds_of_rows(alloc, proto, count, name)?)
 }
 
-// The declarations of the variables.
+// The declarations of the variables, with room for those of the runs and the offsets.
 fn decls_of_vars(alloc: Global, proto: &Proto, count: u64) -> Result<List<Decl>, NoMemory>
     ensures { IfOk result (λ decls. decls ≡ map (spec.decl_of proto.now count) proto.now.vars) }
 {
-    let mut decls = List::new(alloc);
+    let items = Vec::with_capacity(alloc, proto.vars.len().saturating_add(2))?;
+    let mut decls = List { items };
     for var in proto.vars.as_slice() {
         decls.push(decl_of(alloc, proto, count, var)?)?;
     }

@@ -21,3 +21,4 @@ pub use build::dataset;
 pub use column::Column;
 pub use declare::decls;
 pub use shown::Dataset;
+pub use time::bits_of_seconds;

@@ -9,8 +9,8 @@ use crate::index::first_of;
 use fm_model::{Row, ViewName};
 use fm_rows::Rows;
 
-// The bits of whole seconds.
-fn bits_of_seconds(seconds: i64) -> u64
+/// The bits of whole seconds, in 32 bits.
+pub fn bits_of_seconds(seconds: i64) -> u64
     requires low { neg_ℤ (pos 2_147_483_648) ≤ℤ seconds }
     requires high { seconds <ℤ pos 2_147_483_648 }
     ensures value { result ≡ cast_unsigned w32 seconds }

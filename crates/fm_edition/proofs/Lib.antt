@@ -3,7 +3,6 @@ pub mod BestLemmas
 pub mod ChangeLemmas
 pub mod CountLemmas
 pub mod EditionLemmas
-pub mod PageLemmas
 pub mod EntryLemmas
 pub mod IndexLemmas
 pub mod KeepLemmas
@@ -12,8 +11,10 @@ pub mod LeastLemmas
 pub mod LeastSteps
 pub mod NameLemmas
 pub mod OrderLemmas
+pub mod PageLemmas
 pub mod PartLemmas
 pub mod PieceLemmas
+pub mod RisingLemmas
 pub mod RowLemmas
 pub mod RunLemmas
 pub mod TallyLemmas

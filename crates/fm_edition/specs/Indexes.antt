@@ -16,10 +16,10 @@ use Rattle.fm_model.specs.Rows.{best_row, row_at}
 use Rattle.fm_list.specs.declared.by.By.{By}
 use Rattle.fm_list.specs.declared.by.By.TheVariants.{Run, Time, Name}
 use Rattle.fm_list.specs.Code.{code_of}
-use Rattle.fm_list.specs.Selected.{part, part_after, AreSound, HaveTime}
+use Rattle.fm_list.specs.Selected.{part, part_after, runs_rise, AreSound, HaveTime}
 use Rattle.fm_edition.specs.declared.maps.index.Index.{Index}
 use Rattle.fm_edition.specs.declared.maps.wanted.Wanted.{Wanted}
-use Rattle.fm_edition.specs.declared.maps.wanted.Wanted.TheVariants.{Best, After, At}
+use Rattle.fm_edition.specs.declared.maps.wanted.Wanted.TheVariants.{Best, Newest, After, At}
 use Rattle.fm_edition.specs.Held.{Held, IsEdition}
 use Rattle.fm_edition.specs.Kept.{KeptRows}
 
@@ -95,6 +95,7 @@ entries_of pages = entries_in pages.entries
 -- offset in seconds, or that at a valid time
 abbrev pub entry_row : Wanted → ℤ × List Loaded → Option Row
 entry_row (Best least) entry = best_row entry.1 least entry.0
+entry_row (Newest least) entry = best_row entry.1 least entry.0
 entry_row (After seconds) entry = row_at entry.1 entry.0 (entry.0 +ℤ seconds)
 entry_row (At valid) entry = row_at entry.1 entry.0 valid
 
@@ -115,9 +116,18 @@ abbrev pub each_one : List (ℤ × List Loaded) → Bool
 each_one [] = true
 each_one (entry ∷ entries) = is_one entry.1 && each_one entries
 
+-- whether the runs of each instant's files rise
+abbrev pub each_rises : List (ℤ × List Loaded) → Bool
+each_rises [] = true
+each_rises (entry ∷ entries) = runs_rise entry.1 && each_rises entries
+
 -- what is kept of a page
 abbrev pub page_rows : BTreeMap ℤ (List Loaded) → KeptRows
-page_rows page = record { rows = filter_map kept_row page.entries; alone = each_one page.entries }
+page_rows page = record {
+  rows = filter_map kept_row page.entries;
+  alone = each_one page.entries;
+  rising = each_rises page.entries;
+}
 
 -- what is kept of the rows of the best time series, page by page
 abbrev pub RowPages : Type 0
@@ -144,6 +154,7 @@ pub record IsTimed (entry : ℤ × List Loaded) : Type 0 where
 -- what is asked of an instant and its files before the row that is wanted of them is made
 abbrev pub IsReady : Wanted → ℤ × List Loaded → Type 0
 IsReady (Best least) entry = IsTimed entry
+IsReady (Newest least) entry = IsTimed entry × (runs_rise entry.1 ≡ true)
 IsReady (After seconds) entry = AreSound entry.1
 IsReady (At valid) entry = AreSound entry.1
 

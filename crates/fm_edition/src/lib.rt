@@ -10,4 +10,5 @@ mod row;
 
 pub use fm_list::keeps_least_offset;
 pub use fm_model::{Full, Tally, Which};
+pub use instants::{append, in_order};
 pub use maps::Edition;

@@ -1,12 +1,15 @@
 -- The best run of some files and one more.
-use Rattle.std.proofs.Common.{◌≡◌, true, List, [], ◌∷◌, ◌++◌, Option, Some, None, ℤ, ◌≤ℤ◌, refl, sym, subst, ◌∙◌, inl, inr, arith}
-use Rattle.std.specs.Prelude.{Any}
+use Rattle.std.proofs.Common.{◌≡◌, Bool, true, false, List, [], ◌∷◌, ◌++◌, Option, Some, None, ℤ, ◌≤ℤ◌, refl, sym, ap, subst, ◌∙◌, inl, inr, arith}
+use Rattle.std.specs.Prelude.{All, Any, is_some}
+use Rattle.std.specs.List.{list_any}
+use Rattle.std.proofs.lemmas.Bool.{true≢false}
 use Rattle.std.proofs.lemmas.Int.{ints}
+use Rattle.std.proofs.lemmas.List.Folds.{list_any-from_Any, Any-from_list_any}
 use Rattle.fm_model.specs.declared.loaded.Loaded.{Loaded}
 use Rattle.fm_model.specs.Cell.{best, has_least_offset, has_time, HasCell, HasLeastOffset, HasTimeFrom}
 use Rattle.fm_model.proofs.BestLemmas.{IsBest-from_best, best-from_IsBest, best-from_file, no_best_both, offset_from_test, offset_test, value-from_some}
 use Rattle.fm_model.proofs.CellLemmas.{has-in}
-use Rattle.fm_model.proofs.Members.{Each-push, In-append_left, In-append_right, In-append_cases, Contains-from_in, in_from_Contains, All-from_each, each_from_All, Any-from_in, in_from_Any}
+use Rattle.fm_model.proofs.Members.{Each-push, Each-in, Each-from_in, In-append_left, In-append_right, In-append_cases, Contains-from_in, in_from_Contains, All-from_each, each_from_All, Any-from_in, in_from_Any}
 
 -- what the tests say
 pub HasTimeFrom-from_tests : (valid : ℤ) (least : Option ℤ) (file : Loaded) → has_least_offset least file.run valid
@@ -108,3 +111,27 @@ best-raised files file valid least has above = best-from_IsBest (files ++ file �
   where
     at_most : (a b : ℤ) → a ≡ b → a ≤ℤ b
     at_most a b e = omega (arith, ints)
+
+-- of files that have a valid time some run is the best exactly where one of them keeps the least offset
+pub some_best : (files : List Loaded) (valid : ℤ) (least : Option ℤ)
+    → All (λ (file : Loaded). has_time valid file ≡ true) files
+    → list_any (λ (file : Loaded). has_least_offset least file.run valid) files ≡ is_some (best files valid least)
+unfolding has_time
+some_best files valid least have = by_test (list_any late files) refl
+  where
+    late : Loaded → Bool
+    late file = has_least_offset least file.run valid
+
+    by_test : (b : Bool) → list_any late files ≡ b → list_any late files ≡ is_some (best files valid least)
+    by_test true is =
+        let file = in_from_Any (λ (f : Loaded). late f ≡ true) files (Any-from_list_any late files is) in
+        let has = Each-in (λ (f : Loaded). has_time valid f ≡ true) file.0 files
+        (each_from_All (λ (f : Loaded). has_time valid f ≡ true) files have) file.1 in
+        is ∙ sym (best-from_file files valid least file.0 file.1 (has-in valid file.0.times has)
+        (offset_from_test least file.0.run valid file.2))
+    by_test false is =
+        let none = (no_best_both files valid least).1 (All-from_each (λ f. ¬ HasTimeFrom valid least f) files
+        (Each-from_in (λ f. ¬ HasTimeFrom valid least f) files (λ file held has.
+        true≢false (sym (list_any-from_Any late files
+        (Any-from_in (λ (f : Loaded). late f ≡ true) file files held (late-from valid least file has))) ∙ is)))) in
+        is ∙ sym (ap is_some none)

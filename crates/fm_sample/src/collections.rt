@@ -43,7 +43,7 @@ fn put(alloc: Global, edition: &mut Edition, name: &[u8], file: File) -> Result<
     Ok(())
 }
 
-/// The first collection: the runs of 2024-01-01T00:00:00Z and 06:00 of the file of `nc_sample`.
+/// The first collection: the runs of 2024-01-01T00:00:00Z and 06:00 of the file of `src/sample.rt`.
 pub fn runs(alloc: Global) -> Result<Edition, Fail<Untaken>> {
     collection(
         alloc,

@@ -1,14 +1,14 @@
 //! Small files, as words of four bytes. Those of the second collection were written by a program outside of this
 //! repository from the values that stand over them.
 
+use crate::sample::{SAMPLE, bytes_of};
 use fm_base::{Bytes, NoMemory};
-use nc_sample::{SAMPLE, bytes_of};
 use std::alloc::Global;
 
 /// A file.
 #[derive(Clone, Copy)]
 pub enum File {
-    /// The run of 2024-01-01T00:00:00Z of the first collection: the file of `nc_sample`.
+    /// The run of 2024-01-01T00:00:00Z of the first collection: the file of `src/sample.rt`.
     Sample,
     /// The same without its last record.
     SampleCut,
@@ -38,7 +38,7 @@ impl File {
     }
 }
 
-// The file of `nc_sample` with two records.
+// `SAMPLE` with two records.
 #[rattlefmt::skip]
 static SAMPLE_CUT: [u32; 83] = [
     0x4344_4601, 0x0000_0002, 0x0000_000a, 0x0000_0003, 0x0000_0004, 0x7469_6d65, 0x0000_0000, 0x0000_0003,
@@ -54,7 +54,7 @@ static SAMPLE_CUT: [u32; 83] = [
     0x40c0_0000, 0x40e0_0000, 0x4100_0000,
 ];
 
-// The file of `nc_sample` with the times 06, 12 and 18 of that day, and the numbers from 17 to 28.
+// `SAMPLE` with the times 06, 12 and 18 of that day, and the numbers from 17 to 28.
 #[rattlefmt::skip]
 static LATER: [u32; 88] = [
     0x4344_4601, 0x0000_0003, 0x0000_000a, 0x0000_0003, 0x0000_0004, 0x7469_6d65, 0x0000_0000, 0x0000_0003,

@@ -5,6 +5,7 @@ mod collections;
 mod edition;
 mod files;
 mod its_proto;
+mod sample;
 mod untaken;
 
 pub use collections::{collection, kinds, runs};

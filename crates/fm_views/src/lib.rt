@@ -11,4 +11,5 @@ mod view;
 
 pub use counting::row_count;
 pub use dataset::shown;
+pub use runs::rows_of_run;
 pub use view::{NoRows, rows};

@@ -36,9 +36,9 @@ fn push_some(rows: &mut List<Row>, row: Option<Row>) -> Result<(), NoMemory>
     }
 }
 
-// One row for each valid time of a run.
+/// One row for each valid time of a run.
 #[tactic(auto, using(fm_edition::proofs::WalkLemmas::one_more))]
-pub(crate) fn rows_of_run(alloc: Global, edition: &Edition, run: i64) -> Result<List<Row>, NoMemory>
+pub fn rows_of_run(alloc: Global, edition: &Edition, run: i64) -> Result<List<Row>, NoMemory>
     ensures { IfOk result (λ rows.
         rows ≡ filter_map (row_at edition.now.files run) (times_of_run edition.now.files run)) }
 {

@@ -3,7 +3,7 @@
 use row_text::Row;
 
 // The keys of a row that opens a collection, and of one that goes on from another.
-const OPENS: [&str; 12] = [
+const OPENS: [&str; 13] = [
     "prototype",
     "epoch",
     "put",
@@ -11,6 +11,7 @@ const OPENS: [&str; 12] = [
     "expire",
     "retract",
     "ask",
+    "twod",
     "target",
     "request",
     "stream",
@@ -18,9 +19,9 @@ const OPENS: [&str; 12] = [
     "lent",
 ];
 
-const GOES_ON: [&str; 11] = [
-    "given", "put", "puts", "expire", "retract", "ask", "target", "request", "stream", "data",
-    "lent",
+const GOES_ON: [&str; 12] = [
+    "given", "put", "puts", "expire", "retract", "ask", "twod", "target", "request", "stream",
+    "data", "lent",
 ];
 
 /// Whether a row opens a collection.

@@ -12,6 +12,7 @@ mod questions;
 mod replies;
 mod requests;
 mod steps;
+mod twod;
 
 use fm_base::Fail;
 use row_text::{Answers, File, Row, Said, Text, put_rows};

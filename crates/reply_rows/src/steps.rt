@@ -6,6 +6,7 @@ use super::moments::read_moment;
 use super::operations::{put_asked, put_many, put_one};
 use super::replies::put_planned;
 use super::requests::{Wanted, first_of, get, plan_for};
+use super::twod::put_twod;
 use dap_reply::Plan;
 use fm_base::Fail;
 use pub_look::Plain;
@@ -117,7 +118,7 @@ impl Steps {
         out: &mut Said,
     ) -> Result<(), Fail<Wrong>> {
         match key {
-            "put" | "puts" | "expire" | "retract" | "ask" => {
+            "put" | "puts" | "expire" | "retract" | "ask" | "twod" => {
                 out.begin_line();
                 self.put_line(alloc, files, key, value, out)
             }
@@ -191,6 +192,7 @@ impl Steps {
                 put_done(self.plain.expire(alloc, cutoff), out);
             }
             "retract" => put_done(self.plain.retract(alloc, value.as_bytes()), out),
+            "twod" => return put_twod(alloc, &mut self.plain, value, out),
             _ => return put_asked(alloc, &mut self.plain, self.epoch, value, out),
         }
         Ok(())

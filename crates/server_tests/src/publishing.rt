@@ -3,8 +3,8 @@
 
 mod course;
 mod desk;
-mod files;
+pub mod files;
 mod probe;
 mod race;
 mod receipts;
-mod sampled;
+pub mod sampled;

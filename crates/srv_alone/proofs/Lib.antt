@@ -1,4 +1,5 @@
 pub mod AskLemmas
+pub mod ChangeLemmas
 pub mod OnceLemmas
 pub mod PieceLemmas
 pub mod ReadingLemmas

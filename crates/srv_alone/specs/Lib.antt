@@ -1,4 +1,5 @@
 pub mod Check
+pub mod Collect
 pub mod Load
 pub mod Once
 pub mod Publishing

@@ -4,7 +4,7 @@ use Rattle.dev_traits.specs.Cause.{one_more}
 use Rattle.dev_traits.specs.Shown.{SinkShown}
 use Rattle.dev_traits.specs.Sink.{after_append}
 use Rattle.srv_alone.specs.declared.end.End.{End}
-use Rattle.srv_alone.specs.declared.end.End.TheVariants.{Done, BadWords, Refused, NoMemory, FileFault, SinkFault, LinkFault, DoorFault, InboxFault, NoFile, TooLong, InputEnded}
+use Rattle.srv_alone.specs.declared.end.End.TheVariants.{Done, BadWords, Refused, NoMemory, FileFault, SinkFault, LinkFault, DoorFault, InboxFault, NoFile, TooLong, InputEnded, BadReply}
 
 -- the status of a program that ended so
 abbrev pub status_of : End → ℕ
@@ -20,6 +20,7 @@ status_of LinkFault = 9
 status_of NoFile = 10
 status_of (TooLong len) = 10
 status_of InputEnded = 11
+status_of (BadReply code) = 12
 
 unfoldable pub refused_line : List ℕ → ℕ → List ℕ
 refused_line path code = codes "refused " ++ path ++ codes " code " ++ decimal code ++ codes "\n"
@@ -30,9 +31,9 @@ too_long_line path len = codes "too long " ++ path ++ codes " " ++ decimal len +
 unfoldable pub file_fault_line : List ℕ → List ℕ
 file_fault_line path = codes "file fault " ++ path ++ codes "\n"
 
--- the line of a device that failed, by its word and its number
-unfoldable pub device_line : List ℕ → ℕ → List ℕ
-device_line word number = word ++ decimal number ++ codes "\n"
+-- the line of a word and a number
+unfoldable pub number_line : List ℕ → ℕ → List ℕ
+number_line word number = word ++ decimal number ++ codes "\n"
 
 unfoldable pub no_file_line : List ℕ → List ℕ
 no_file_line path = codes "no file " ++ path ++ codes "\n"
@@ -46,11 +47,12 @@ line_of NoMemory path = codes "no memory\n"
 line_of FileFault path = file_fault_line path
 line_of SinkFault path = []
 line_of LinkFault path = codes "link fault\n"
-line_of (DoorFault number) path = device_line (codes "door fault ") number
-line_of (InboxFault number) path = device_line (codes "inbox fault ") number
+line_of (DoorFault number) path = number_line (codes "door fault ") number
+line_of (InboxFault number) path = number_line (codes "inbox fault ") number
 line_of NoFile path = no_file_line path
 line_of (TooLong len) path = too_long_line path len
 line_of InputEnded path = codes "input ended\n"
+line_of (BadReply code) path = number_line (codes "bad reply code ") code
 
 -- All of the bytes were appended to a sink, or the first n of them where it failed.
 abbrev pub Appends : {X E : Type 0} → List ℕ → Option (List ℕ) → Option (List ℕ) → Result X E → Type 0

@@ -1,5 +1,5 @@
 //! The command that does steps on a collection, and serves it on one connection.
-ghost use Rattle.std.specs.Prelude.{◌≡◌, ◌≤◌, ◌⊎◌, IfErr, IfOk, OnOk, length};
+ghost use Rattle.std.specs.Prelude.{◌≡◌, ◌⊎◌, IfErr, IfOk, OnOk};
 ghost use Rattle.fm_model.specs.Site.{IsPrototype, IsSite};
 ghost use Rattle.web_session.specs.State.{fresh};
 ghost use Rattle.srv_alone.specs.Once as spec;
@@ -59,6 +59,29 @@ fn service_over(alloc: Global, proto: Proto) -> Result<Service, NoMemory>
     }
 }
 
+// The collection over the prototype at a path and a connection at its start, or how the run ends at that file.
+#[tactic(auto, using(crate::proofs::OnceLemmas::runs))]
+pub(crate) fn service_of<F: Files>(
+    alloc: Global,
+    files: &mut F,
+    site: Site,
+    path: &[u8],
+) -> Result<Service, End>
+    requires { IsSite site }
+    ensures opens { IfOk result (λ service. spec.Opens site path.now (F.shown files.old) service.proto) }
+    ensures plain { IfOk result (λ service. service.plain ≡ spec.opened service.proto) }
+    ensures session { IfOk result (λ service. service.session ≡ fresh) }
+    ensures rests { IfOk result (λ service. RestsUnlessEnded service.session) }
+    ensures same { OnOk result (F.shown files.new ≡ F.shown files.old) }
+    ensures ends { IfErr result (spec.EndsOpening site path.now (F.shown files.old) (F.shown files.new)) }
+{
+    let proto = read_prototype(alloc, files, site, path)?;
+    match service_over(alloc, proto) {
+        Ok(service) => Ok(service),
+        Err(NoMemory) => Err(End::NoMemory),
+    }
+}
+
 // The path of the file that a step reads.
 fn step_path(step: &Step) -> &[u8]
     ensures { result.now ≡ path_of step.now }
@@ -71,7 +94,7 @@ fn step_path(step: &Step) -> &[u8]
 
 // Does the steps in their order up to the first that isn't done, and returns how that ends and the path of its file.
 #[tactic(auto, using(crate::proofs::StepLemmas::steps))]
-fn do_steps<'a, F: Files, L: Link>(
+pub(crate) fn do_steps<'a, F: Files, L: Link>(
     alloc: Global,
     service: &mut Service,
     steps: &'a [Step],
@@ -110,12 +133,9 @@ fn run_steps<'a, F: Files, L: Link>(
         ⊎ spec.EndsAtPrototype site path.entry.now (F.shown files.old) (F.shown files.new)
         (L.shown link.old) (L.shown link.new) result.0 result.1.now }
 {
-    let proto = match read_prototype(alloc, files, site, path) {
-        Ok(proto) => proto,
+    let mut service = match service_of(alloc, files, site, path) {
+        Ok(service) => service,
         Err(end) => return (end, path),
-    };
-    let Ok(mut service) = service_over(alloc, proto) else {
-        return (End::NoMemory, path);
     };
     let ended = do_steps(alloc, &mut service, steps, files, link);
     drop(service);

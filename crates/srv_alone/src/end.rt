@@ -31,6 +31,8 @@ pub enum End {
     TooLong(u64),
     /// The link ended before a step had its replies.
     InputEnded,
+    /// A reply that was pulled has a fault, with its number.
+    BadReply(u16),
 }
 
 // The number of the refusal of a file for which a collection has no room.
@@ -53,6 +55,7 @@ impl End {
             End::LinkFault => 9,
             End::NoFile | End::TooLong(_) => 10,
             End::InputEnded => 11,
+            End::BadReply(_) => 12,
         }
     }
 }

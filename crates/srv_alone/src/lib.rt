@@ -1,7 +1,9 @@
-//! The commands that one thread does alone, `once`, `check` and `load`; how a run ends, and the line that says so.
+//! The commands that one thread does alone, `once`, `check` and `load`; the collection that steps leave; how a run
+//! ends, and the line that says so.
 #![tactic(auto)]
 
 mod checking;
+mod collecting;
 mod doing;
 mod end;
 mod loading;
@@ -11,6 +13,7 @@ mod reporting;
 mod service;
 
 pub use checking::check;
+pub use collecting::collect;
 pub use doing::{once, read_prototype};
 pub use end::End;
 pub use loading::load;

@@ -69,10 +69,10 @@ fn put_file_fault<S: Sink>(sink: &mut S, path: &[u8]) -> Result<(), Failed>
     put_pieces(sink, &[b"file fault ".as_slice(), path, b"\n".as_slice()])
 }
 
-// Writes the line of a device that failed, by its word and its number.
-#[tactic(auto, unfolding(crate::specs::Report::device_line))]
-fn put_device<S: Sink>(sink: &mut S, word: &[u8], number: u32) -> Result<(), Failed>
-    ensures put { Appends (spec.device_line word.now number) (S.shown sink.old).held (S.shown sink.new).held result }
+// Writes the line of a word and a number.
+#[tactic(auto, unfolding(crate::specs::Report::number_line))]
+fn put_number<S: Sink>(sink: &mut S, word: &[u8], number: u32) -> Result<(), Failed>
+    ensures put { Appends (spec.number_line word.now number) (S.shown sink.old).held (S.shown sink.new).held result }
     ensures cause { HasCause (S.shown sink.old).faults (S.shown sink.new).faults result }
 {
     let mut digits = Buffer::new();
@@ -102,11 +102,12 @@ fn put_line<S: Sink>(sink: &mut S, end: End, path: &[u8]) -> Result<(), Failed>
         End::NoMemory => sink.put(b"no memory\n"),
         End::FileFault => put_file_fault(sink, path),
         End::LinkFault => sink.put(b"link fault\n"),
-        End::DoorFault(number) => put_device(sink, b"door fault ", number),
-        End::InboxFault(number) => put_device(sink, b"inbox fault ", number),
+        End::DoorFault(number) => put_number(sink, b"door fault ", number),
+        End::InboxFault(number) => put_number(sink, b"inbox fault ", number),
         End::NoFile => put_no_file(sink, path),
         End::TooLong(len) => put_too_long(sink, path, len),
         End::InputEnded => sink.put(b"input ended\n"),
+        End::BadReply(code) => put_number(sink, b"bad reply code ", u32::from(code)),
     }
 }
 

@@ -1,7 +1,5 @@
 -- What was done so far on a link, after one action more.
 use Rattle.std.proofs.Common.{◌≡◌, ◌<◌, ◌≤◌, ◌⊎◌, inl, inr, ⊎_elim, ℕ, List, [], ◌∷◌, length, take, drop, Bool, Option, Some, None, refl, sym, ap, ap₂, subst, ◌∙◌, arith, length-append}
-use Rattle.fm_model.specs.declared.op.Op.{Op}
-use Rattle.fm_model.specs.declared.proto.Proto.{Proto}
 use Rattle.dev_traits.specs.Cause.{one_more}
 use Rattle.dev_traits.specs.Link.{after_put, Wire}
 use Rattle.dev_traits.specs.Shown.{LinkShown}
@@ -11,6 +9,7 @@ use Rattle.web_session.specs.declared.phase.Phase.TheVariants.{Asking}
 use Rattle.web_session.specs.State.{end_after, replied, State}
 use Rattle.dap_reply.specs.declared.served.Mark.{Mark}
 use Rattle.dap_reply.specs.declared.served.Stop.TheVariants as stops
+use Rattle.dap_reply.specs.Collections.{Collections, Views}
 use Rattle.dap_reply.specs.Head.{no_memory_reply}
 use Rattle.dap_reply.specs.Parts.{bytes_of, Parts as Plan}
 use Rattle.srv_conn.specs.declared.acting.Acted.{Acted}
@@ -18,10 +17,9 @@ use Rattle.srv_conn.specs.declared.acting.Acted.TheVariants as acts
 use Rattle.srv_conn.specs.declared.doing.Doing.{Doing}
 use Rattle.srv_conn.specs.declared.doing.Doing.TheVariants as does
 use Rattle.srv_conn.specs.Acts.{doing_after, ActsIn, IsBroken, IsDone, IsOngoing, IsParted, IsReading, IsSame, Notes, Parts, Reads, SaysMore, Sends, SendsMore, Stand}
-use Rattle.srv_conn.specs.Serves.{moment_of, Moment, Serves}
+use Rattle.srv_conn.specs.ServesMany.{point_of, Point, ServesMany}
 use Rattle.srv_conn.specs.SoFar.{Parting, Sending, Serving, SoFar}
 use Rattle.srv_conn.specs.Turn.{reply_of_turn, IsCut, IsShort, IsWhole}
-use Rattle.srv_conn.proofs.BeginLemmas.{looks-at}
 use Rattle.srv_conn.proofs.Exits.{serves-none}
 use Rattle.srv_conn.proofs.GoingOn.{Serving-goes}
 use Rattle.srv_conn.proofs.LastReply.{serves-cut, serves-whole}
@@ -37,53 +35,53 @@ same-link before after s = ap₂ link_of s.held_is s.faults_are
     link_of held faults = record { held = held; faults = faults }
 
 -- a fact of a moment holds where its link, its session and its marks are the same
-moved-same : (P : Moment → Type 0) (before after : LinkShown) (session session' : State) (seen : List Op)
-    (looks : List ℕ) (trail trail' : List Mark) → IsSame before after → session' ≡ session → trail' ≡ trail
-    → P (moment_of before seen looks session trail) → P (moment_of after seen looks session' trail')
-moved-same P before after session session' seen looks trail trail' same session_is trail_is holds =
-    subst (λ (marks : List Mark). P (moment_of after seen looks session' marks)) (sym trail_is)
-    (subst (λ (s : State). P (moment_of after seen looks s trail)) (sym session_is)
-    (subst (λ (l : LinkShown). P (moment_of l seen looks session trail)) (sym (same-link before after same)) holds))
+moved-same : (P : Point → Type 0) (before after : LinkShown) (session session' : State) (views : Views)
+    (trail trail' : List Mark) → IsSame before after → session' ≡ session → trail' ≡ trail
+    → P (point_of before views session trail) → P (point_of after views session' trail')
+moved-same P before after session session' views trail trail' same session_is trail_is holds =
+    subst (λ (marks : List Mark). P (point_of after views session' marks)) (sym trail_is)
+    (subst (λ (s : State). P (point_of after views s trail)) (sym session_is)
+    (subst (λ (l : LinkShown). P (point_of l views session trail)) (sym (same-link before after same)) holds))
 
-module _ {proto : Proto} {still : Bool} {start : Moment} {most : ℕ} where
+module _ {them : Collections} {start : Point} {most : ℕ} where
   -- ---- while requests are read
 
-  read-goes : (before after : LinkShown) (session session' : State) (seen : List Op) (looks : List ℕ)
+  read-goes : (before after : LinkShown) (session session' : State) (views : Views)
       (trail trail' : List Mark) (acted : Acted)
-      → Serving proto still start (moment_of before seen looks session trail) × (length trail ≤ most)
+      → Serving them start (point_of before views session trail) × (length trail ≤ most)
       → Reads before after session session' acted → Notes acted trail trail' → IsOngoing acted
-      → Serving proto still start (moment_of after seen looks session' trail') × (length trail' ≤ most)
-  read-goes before after session session' seen looks trail trail' acts.Moved s r notes goes =
-      subst (λ (marks : List Mark). Serving proto still start (moment_of after seen looks session' marks)
+      → Serving them start (point_of after views session' trail') × (length trail' ≤ most)
+  read-goes before after session session' views trail trail' acts.Moved s r notes goes =
+      subst (λ (marks : List Mark). Serving them start (point_of after views session' marks)
       × (length marks ≤ most)) (sym notes) (
-        Serving-takes proto still start (moment_of before seen looks session trail) after session' r.taken s.0 r.takes,
+        Serving-takes them start (point_of before views session trail) after session' r.taken s.0 r.takes,
         s.1,
       )
-  read-goes before after session session' seen looks trail trail' (acts.Asks asked) s r notes goes =
-      moved-same (λ (m : Moment). Serving proto still start m × (length m.trail ≤ most)) before after session session'
-      seen looks trail trail' r.0 r.1 notes s
-  read-goes before after session session' seen looks trail trail' (acts.Sent count total) s r notes goes = absurd r
-  read-goes before after session session' seen looks trail trail' acts.Finished s r notes goes = absurd r
-  read-goes before after session session' seen looks trail trail' acts.Later s r notes goes =
-      moved-same (λ (m : Moment). Serving proto still start m × (length m.trail ≤ most)) before after session session'
-      seen looks trail trail' r.0 r.1 notes s
-  read-goes before after session session' seen looks trail trail' (acts.Ended end) s r notes goes = absurd goes
+  read-goes before after session session' views trail trail' (acts.Asks asked) s r notes goes =
+      moved-same (λ (m : Point). Serving them start m × (length m.trail ≤ most)) before after session session'
+      views trail trail' r.0 r.1 notes s
+  read-goes before after session session' views trail trail' (acts.Sent count total) s r notes goes = absurd r
+  read-goes before after session session' views trail trail' acts.Finished s r notes goes = absurd r
+  read-goes before after session session' views trail trail' acts.Later s r notes goes =
+      moved-same (λ (m : Point). Serving them start m × (length m.trail ≤ most)) before after session session'
+      views trail trail' r.0 r.1 notes s
+  read-goes before after session session' views trail trail' (acts.Ended end) s r notes goes = absurd goes
 
   -- ---- while a reply is sent
 
-  send-more : (before after : LinkShown) (session session' : State) (seen : List Op) (looks : List ℕ)
+  send-more : (before after : LinkShown) (session session' : State) (views : Views)
       (trail trail' : List Mark) (bytes : List ℕ) (sent sent' count total : ℕ)
-      → Sending proto still start (moment_of before seen looks session trail) most bytes sent
+      → Sending them start (point_of before views session trail) most bytes sent
       → SendsMore before after session session' bytes sent sent' count total
       → Notes (acts.Sent count total) trail trail'
-      → Sending proto still start (moment_of after seen looks session' trail') most bytes sent'
-  send-more before after session session' seen looks trail trail' bytes sent sent' count total s r notes = record {
+      → Sending them start (point_of after views session' trail') most bytes sent'
+  send-more before after session session' views trail trail' bytes sent sent' count total s r notes = record {
     before = s.before;
     asked = s.asked;
     asks = s.asks;
     mark = record s.mark { sent = total };
     replies = record {
-      looks = looks-at refl refl s.replies.looks;
+      looks = s.replies.looks;
       trail_is = notes s.before.trail s.mark s.replies.trail_is;
       revision_is = s.replies.revision_is;
       put_is = r.link.put_is ∙ ap (after_put (take count (drop sent bytes))) put
@@ -100,23 +98,23 @@ module _ {proto : Proto} {still : Bool} {start : Moment} {most : ℕ} where
     where
       put : before.held ≡ after_put (take sent bytes) s.before.link.held
       put = s.replies.put_is
-          ∙ ap (λ (n : ℕ). after_put (take n (reply_of_turn proto s.before (moment_of before seen looks session trail)
+          ∙ ap (λ (n : ℕ). after_put (take n (reply_of_turn them s.before (point_of before views session trail)
           s.asked s.mark)) s.before.link.held) s.sent_is
           ∙ ap (λ (l : List ℕ). after_put (take sent l) s.before.link.held) (sym s.bytes_are)
 
   -- a reply that is whole
-  whole-of : (before after : LinkShown) (session session' : State) (seen : List Op) (looks : List ℕ)
+  whole-of : (before after : LinkShown) (session session' : State) (views : Views)
       (trail : List Mark) (bytes : List ℕ) (sent : ℕ) (end : Option End)
-      (s : Sending proto still start (moment_of before seen looks session trail) most bytes sent)
+      (s : Sending them start (point_of before views session trail) most bytes sent)
       → IsDone before after session session' bytes sent end
-      → IsWhole proto still s.before (moment_of after seen looks session' trail) s.asked end
-  whole-of before after session session' seen looks trail bytes sent end s d =
+      → IsWhole them s.before (point_of after views session' trail) s.asked end
+  whole-of before after session session' views trail bytes sent end s d =
       let phase : session.phase ≡ Asking s.asked = ap (λ (x : State). x.phase) s.session_is ∙ s.asks.asking in
       let told = d.told s.asked phase in
       record {
         mark = s.mark;
         replies = record {
-          looks = looks-at refl refl s.replies.looks;
+          looks = s.replies.looks;
           trail_is = s.replies.trail_is;
           revision_is = s.replies.revision_is;
           put_is = d.link.held_is ∙ s.replies.put_is;
@@ -128,15 +126,15 @@ module _ {proto : Proto} {still : Bool} {start : Moment} {most : ℕ} where
       }
 
   -- a reply that the link cut
-  cut-of : (before after : LinkShown) (session session' : State) (seen : List Op) (looks : List ℕ)
+  cut-of : (before after : LinkShown) (session session' : State) (views : Views)
       (trail : List Mark) (bytes : List ℕ) (sent : ℕ) (end : End)
-      (s : Sending proto still start (moment_of before seen looks session trail) most bytes sent)
+      (s : Sending them start (point_of before views session trail) most bytes sent)
       → IsBroken before after session' end
-      → IsCut proto still s.before (moment_of after seen looks session' trail) s.asked (Some end)
-  cut-of before after session session' seen looks trail bytes sent end s b = record {
+      → IsCut them s.before (point_of after views session' trail) s.asked (Some end)
+  cut-of before after session session' views trail bytes sent end s b = record {
     mark = s.mark;
     replies = record {
-      looks = looks-at refl refl s.replies.looks;
+      looks = s.replies.looks;
       trail_is = s.replies.trail_is;
       revision_is = s.replies.revision_is;
       put_is = b.link.held_is ∙ s.replies.put_is;
@@ -148,68 +146,69 @@ module _ {proto : Proto} {still : Bool} {start : Moment} {most : ℕ} where
   }
 
   -- the session reads again after a reply
-  done-goes : (before after : LinkShown) (session session' : State) (seen : List Op) (looks : List ℕ)
+  done-goes : (before after : LinkShown) (session session' : State) (views : Views)
       (trail : List Mark) (bytes : List ℕ) (sent : ℕ)
-      → Sending proto still start (moment_of before seen looks session trail) most bytes sent
+      → Sending them start (point_of before views session trail) most bytes sent
       → IsDone before after session session' bytes sent None
-      → Serving proto still start (moment_of after seen looks session' trail) × (length trail ≤ most)
-  done-goes before after session session' seen looks trail bytes sent s d = (
-    Serving-goes proto still start s.before (moment_of after seen looks session' trail) s.asked s.asks.serving
-        s.asks.asking (whole-of before after session session' seen looks trail bytes sent None s d),
+      → Serving them start (point_of after views session' trail) × (length trail ≤ most)
+  done-goes before after session session' views trail bytes sent s d = (
+    Serving-goes them start s.before (point_of after views session' trail) s.asked s.asks.serving
+        s.asks.asking (whole-of before after session session' views trail bytes sent None s d),
     omega (arith, s.asks.few, ap length s.replies.trail_is, length-append s.before.trail (s.mark ∷ [])),
   )
 
-  send-ends : (before after : LinkShown) (session session' : State) (seen : List Op) (looks : List ℕ)
+  send-ends : (before after : LinkShown) (session session' : State) (views : Views)
       (trail : List Mark) (bytes : List ℕ) (sent : ℕ) (end : End)
-      → Sending proto still start (moment_of before seen looks session trail) most bytes sent
+      → Sending them start (point_of before views session trail) most bytes sent
       → IsDone before after session session' bytes sent (Some end) ⊎ IsBroken before after session' end
-      → Serves proto still start (moment_of after seen looks session' trail) most (stops.Ended end)
-  send-ends before after session session' seen looks trail bytes sent end s why =
+      → ServesMany them start (point_of after views session' trail) most (stops.Ended end)
+  send-ends before after session session' views trail bytes sent end s why =
       ⊎_elim
-      (λ done. serves-whole proto still start s.before (moment_of after seen looks session' trail) s.asked most end
+      (λ done. serves-whole them start s.before (point_of after views session' trail) s.asked most end
       s.asks.serving s.asks.few s.asks.asking
-      (whole-of before after session session' seen looks trail bytes sent (Some end) s done))
-      (λ broken. serves-cut proto still start s.before (moment_of after seen looks session' trail) s.asked most end
+      (whole-of before after session session' views trail bytes sent (Some end) s done))
+      (λ broken. serves-cut them start s.before (point_of after views session' trail) s.asked most end
       s.asks.serving s.asks.few s.asks.asking
-      (cut-of before after session session' seen looks trail bytes sent end s broken)) why
+      (cut-of before after session session' views trail bytes sent end s broken)) why
 
   -- an action on a reply leaves it, or the session reads again
-  reply-goes : (before after : Stand) (seen : List Op) (looks : List ℕ) (trail trail' : List Mark)
+  reply-goes : (before after : Stand) (views : Views) (trail trail' : List Mark)
       (plan : Plan) (sent sent' : ℕ) (acted : Acted)
-      → Sending proto still start (moment_of before.link seen looks before.session trail) most (bytes_of plan) sent
+      → Sending them start (point_of before.link views before.session trail) most (bytes_of plan) sent
       → Sends before.link after.link before.session after.session (bytes_of plan) sent sent' acted
       → Notes acted trail trail' → IsOngoing acted
-      → SoFar proto still start (moment_of after.link seen looks after.session trail') most
+      → SoFar them start (point_of after.link views after.session trail') most
       (doing_after plan sent' acted)
-  reply-goes before after seen looks trail trail' plan sent sent' acts.Moved s r notes goes = absurd r
-  reply-goes before after seen looks trail trail' plan sent sent' (acts.Asks asked) s r notes goes = absurd r
-  reply-goes before after seen looks trail trail' plan sent sent' (acts.Sent count total) s r notes goes =
-      send-more before.link after.link before.session after.session seen looks trail trail' (bytes_of plan) sent sent'
+  reply-goes before after views trail trail' plan sent sent' acts.Moved s r notes goes = absurd r
+  reply-goes before after views trail trail' plan sent sent' (acts.Asks asked) s r notes goes = absurd r
+  reply-goes before after views trail trail' plan sent sent' (acts.Sent count total) s r notes goes =
+      send-more before.link after.link before.session after.session views trail trail' (bytes_of plan) sent sent'
       count total s r notes
-  reply-goes before after seen looks trail trail' plan sent sent' acts.Finished s r notes goes =
-      subst (λ (marks : List Mark). Serving proto still start (moment_of after.link seen looks after.session marks)
+  reply-goes before after views trail trail' plan sent sent' acts.Finished s r notes goes =
+      subst (λ (marks : List Mark). Serving them start (point_of after.link views after.session marks)
       × (length marks ≤ most)) (sym notes)
-      (done-goes before.link after.link before.session after.session seen looks trail (bytes_of plan) sent s r.1)
-  reply-goes before after seen looks trail trail' plan sent sent' acts.Later s r notes goes =
-      subst (Sending proto still start (moment_of after.link seen looks after.session trail') most (bytes_of plan))
+      (done-goes before.link after.link before.session after.session views trail (bytes_of plan) sent s r.1)
+  reply-goes before after views trail trail' plan sent sent' acts.Later s r notes goes =
+      subst (Sending them start (point_of after.link views after.session trail') most (bytes_of plan))
       (sym r.2)
-      (moved-same (λ (m : Moment). Sending proto still start m most (bytes_of plan) sent) before.link after.link
-      before.session after.session seen looks trail trail' r.0 r.1 notes s)
-  reply-goes before after seen looks trail trail' plan sent sent' (acts.Ended end) s r notes goes = absurd goes
+      (moved-same (λ (m : Point). Sending them start m most (bytes_of plan) sent) before.link after.link
+      before.session after.session views trail trail' r.0 r.1 notes s)
+  reply-goes before after views trail trail' plan sent sent' (acts.Ended end) s r notes goes = absurd goes
 
   -- ---- where memory ran out
 
-  say-more : (before after : LinkShown) (session : State) (seen : List Op) (looks : List ℕ) (trail : List Mark)
-      (said said' : ℕ) → Parting proto still start (moment_of before seen looks session trail) most said
+  say-more : (before after : LinkShown) (session : State) (views : Views) (trail : List Mark)
+      (said said' : ℕ) → Parting them start (point_of before views session trail) most said
       → SaysMore before after said said'
-      → Parting proto still start (moment_of after seen looks session trail) most said'
-  say-more before after session seen looks trail said said' s r = record {
+      → Parting them start (point_of after views session trail) most said'
+  say-more before after session views trail said said' s r = record {
     before = s.before;
     asked = s.asked;
     asks = s.asks;
-    grows = s.grows;
-    stays = s.stays;
+    number = s.number;
+    behind = s.behind;
     looks_are = s.looks_are;
+    others = s.others;
     trail_is = s.trail_is;
     within = r.within;
     put_is = r.link.put_is ∙ ap (after_put (take r.count (drop said no_memory_reply))) s.put_is
@@ -220,15 +219,15 @@ module _ {proto : Proto} {still : Bool} {start : Moment} {most : ℕ} where
   }
 
   -- the text is whole, or a front of it where the link failed
-  short-of : (before after : LinkShown) (session : State) (seen : List Op) (looks : List ℕ) (trail : List Mark)
+  short-of : (before after : LinkShown) (session : State) (views : Views) (trail : List Mark)
       (said said' : ℕ) (end : End)
-      (s : Parting proto still start (moment_of before seen looks session trail) most said)
+      (s : Parting them start (point_of before views session trail) most said)
       → IsParted before after said said' end
-      → IsShort still s.before (moment_of after seen looks session trail) (Some end)
-  short-of before after session seen looks trail said said' end s p = record {
-    grows = s.grows;
-    stays = s.stays;
+      → IsShort them s.before (point_of after views session trail) s.number (Some end)
+  short-of before after session views trail said said' end s p = record {
+    behind = s.behind;
     looks_are = s.looks_are;
+    others = s.others;
     trail_is = s.trail_is;
     said = said;
     within = s.within;
@@ -239,59 +238,59 @@ module _ {proto : Proto} {still : Bool} {start : Moment} {most : ℕ} where
     end_is = ap Some p.end_is;
   }
 
-  text-goes : (before after : Stand) (seen : List Op) (looks : List ℕ) (trail trail' : List Mark)
+  text-goes : (before after : Stand) (views : Views) (trail trail' : List Mark)
       (said said' : ℕ) (acted : Acted)
-      → Parting proto still start (moment_of before.link seen looks before.session trail) most said
+      → Parting them start (point_of before.link views before.session trail) most said
       → after.session ≡ before.session → Parts before.link after.link said said' acted
       → Notes acted trail trail' → IsOngoing acted
-      → Parting proto still start (moment_of after.link seen looks after.session trail') most said'
-  text-goes before after seen looks trail trail' said said' acts.Moved s is r notes goes =
-      subst (λ (marks : List Mark). Parting proto still start (moment_of after.link seen looks after.session marks)
+      → Parting them start (point_of after.link views after.session trail') most said'
+  text-goes before after views trail trail' said said' acts.Moved s is r notes goes =
+      subst (λ (marks : List Mark). Parting them start (point_of after.link views after.session marks)
       most said') (sym notes)
-      (subst (λ (x : State). Parting proto still start (moment_of after.link seen looks x trail) most said') (sym is)
-      (say-more before.link after.link before.session seen looks trail said said' s r))
-  text-goes before after seen looks trail trail' said said' (acts.Asks asked) s is r notes goes = absurd r
-  text-goes before after seen looks trail trail' said said' (acts.Sent count total) s is r notes goes = absurd r
-  text-goes before after seen looks trail trail' said said' acts.Finished s is r notes goes = absurd r
-  text-goes before after seen looks trail trail' said said' acts.Later s is r notes goes =
-      subst (Parting proto still start (moment_of after.link seen looks after.session trail') most) (sym r.1)
-      (moved-same (λ (m : Moment). Parting proto still start m most said) before.link after.link before.session
-      after.session seen looks trail trail' r.0 is notes s)
-  text-goes before after seen looks trail trail' said said' (acts.Ended end) s is r notes goes = absurd goes
+      (subst (λ (x : State). Parting them start (point_of after.link views x trail) most said') (sym is)
+      (say-more before.link after.link before.session views trail said said' s r))
+  text-goes before after views trail trail' said said' (acts.Asks asked) s is r notes goes = absurd r
+  text-goes before after views trail trail' said said' (acts.Sent count total) s is r notes goes = absurd r
+  text-goes before after views trail trail' said said' acts.Finished s is r notes goes = absurd r
+  text-goes before after views trail trail' said said' acts.Later s is r notes goes =
+      subst (Parting them start (point_of after.link views after.session trail') most) (sym r.1)
+      (moved-same (λ (m : Point). Parting them start m most said) before.link after.link before.session
+      after.session views trail trail' r.0 is notes s)
+  text-goes before after views trail trail' said said' (acts.Ended end) s is r notes goes = absurd goes
 
   -- ---- all of them
 
-  pub ends-in : (doing : Doing) (before after : Stand) (seen : List Op) (looks : List ℕ) (trail : List Mark) (end : End)
-      → SoFar proto still start (moment_of before.link seen looks before.session trail) most doing
+  pub ends-in : (doing : Doing) (before after : Stand) (views : Views) (trail : List Mark) (end : End)
+      → SoFar them start (point_of before.link views before.session trail) most doing
       → (IsReading doing → length trail < most)
       → ActsIn doing before after (acts.Ended end) (λ plan sent. doing_after plan sent (acts.Ended end))
-      → Serves proto still start (moment_of after.link seen looks after.session trail) most (stops.Ended end)
-  ends-in does.Reading before after seen looks trail end s few a =
-      serves-none proto still start (moment_of before.link seen looks before.session trail) after.link after.session
+      → ServesMany them start (point_of after.link views after.session trail) most (stops.Ended end)
+  ends-in does.Reading before after views trail end s few a =
+      serves-none them start (point_of before.link views before.session trail) after.link after.session
       most end s.0 (few tt) (none-taken s.0.session_is a.1)
-  ends-in (does.Replying plan sent) before after seen looks trail end s few a =
-      send-ends before.link after.link before.session after.session seen looks trail (bytes_of plan) sent end s
+  ends-in (does.Replying plan sent) before after views trail end s few a =
+      send-ends before.link after.link before.session after.session views trail (bytes_of plan) sent end s
       a.sends.1
-  ends-in (does.Leaving said) before after seen looks trail end s few a =
-      subst (λ (x : State). Serves proto still start (moment_of after.link seen looks x trail) most (stops.Ended end))
+  ends-in (does.Leaving said) before after views trail end s few a =
+      subst (λ (x : State). ServesMany them start (point_of after.link views x trail) most (stops.Ended end))
       (sym a.session_is)
-      (serves-short proto still start s.before (moment_of after.link seen looks before.session trail) s.asked most end
+      (serves-short them start s.before (point_of after.link views before.session trail) s.asked most s.number end
       s.asks.serving s.asks.few s.asks.asking
-      (short-of before.link after.link before.session seen looks trail said a.said' end s a.parts))
+      (short-of before.link after.link before.session views trail said a.said' end s a.parts))
 
 -- what was done so far, after an action by which the session goes on
-pub goes-in : (proto : Proto) (still : Bool) (start : Moment) (most : ℕ) (doing : Doing) (before after : Stand)
-    (seen : List Op) (looks : List ℕ) (trail trail' : List Mark)
-    (acted : Acted) → SoFar proto still start (moment_of before.link seen looks before.session trail) most doing
+pub goes-in : (them : Collections) (start : Point) (most : ℕ) (doing : Doing) (before after : Stand)
+    (views : Views) (trail trail' : List Mark)
+    (acted : Acted) → SoFar them start (point_of before.link views before.session trail) most doing
     → ActsIn doing before after acted (λ plan sent. doing_after plan sent acted)
     → Notes acted trail trail' → IsOngoing acted
-    → SoFar proto still start (moment_of after.link seen looks after.session trail') most after.doing
-goes-in proto still start most does.Reading before after seen looks trail trail' acted s a notes goes =
-    subst (SoFar proto still start (moment_of after.link seen looks after.session trail') most) (sym a.0)
-    (read-goes before.link after.link before.session after.session seen looks trail trail' acted s a.1 notes goes)
-goes-in proto still start most (does.Replying plan sent) before after seen looks trail trail' acted s a notes goes =
-    subst (SoFar proto still start (moment_of after.link seen looks after.session trail') most) (sym a.doing_is)
-    (reply-goes before after seen looks trail trail' plan sent a.sent' acted s a.sends notes goes)
-goes-in proto still start most (does.Leaving said) before after seen looks trail trail' acted s a notes goes =
-    subst (SoFar proto still start (moment_of after.link seen looks after.session trail') most) (sym a.doing_is)
-    (text-goes before after seen looks trail trail' said a.said' acted s a.session_is a.parts notes goes)
+    → SoFar them start (point_of after.link views after.session trail') most after.doing
+goes-in them start most does.Reading before after views trail trail' acted s a notes goes =
+    subst (SoFar them start (point_of after.link views after.session trail') most) (sym a.0)
+    (read-goes before.link after.link before.session after.session views trail trail' acted s a.1 notes goes)
+goes-in them start most (does.Replying plan sent) before after views trail trail' acted s a notes goes =
+    subst (SoFar them start (point_of after.link views after.session trail') most) (sym a.doing_is)
+    (reply-goes before after views trail trail' plan sent a.sent' acted s a.sends notes goes)
+goes-in them start most (does.Leaving said) before after views trail trail' acted s a notes goes =
+    subst (SoFar them start (point_of after.link views after.session trail') most) (sym a.doing_is)
+    (text-goes before after views trail trail' said a.said' acted s a.session_is a.parts notes goes)

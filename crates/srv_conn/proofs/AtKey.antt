@@ -2,18 +2,18 @@
 use Rattle.std.proofs.Common.{◌≡◌, ℕ, ◌+◌, Bool, Option, Some, None, sym, ap, subst, ◌∙◌}
 use Rattle.std.specs.Prelude.{if◌then◌else◌}
 use Rattle.slab.specs.Slab.{get, slab_len, SameValues, Slab, Updates}
-use Rattle.fm_model.specs.declared.proto.Proto.{Proto}
 use Rattle.dev_traits.specs.Cause.{one_more}
 use Rattle.dev_traits.specs.Door.{after_done, Doorway}
 use Rattle.dev_traits.specs.Shown.{LinkShown}
 use Rattle.web_session.specs.declared.action.End.{End}
+use Rattle.dap_reply.specs.Collections.{Collections, Views}
 use Rattle.srv_conn.specs.declared.connection.Connection.{Connection}
 use Rattle.srv_conn.specs.declared.hall.Hall.{Hall}
 use Rattle.srv_conn.specs.AtDoor.{AtDoor}
 use Rattle.srv_conn.specs.DoorTurns.{is_short}
 use Rattle.srv_conn.specs.Out.{HasEnded, IsOut, Own, StaysOut}
-use Rattle.srv_conn.specs.Serves.{Moment}
-use Rattle.srv_conn.specs.Sight.{IsBehind, Sight}
+use Rattle.srv_conn.specs.ServesMany.{Point}
+use Rattle.srv_conn.specs.Sight.{AreBehind}
 use Rattle.srv_conn.proofs.KeyLemmas.{at-ended, at-stays}
 use Rattle.srv_conn.proofs.OutSteps.{rested}
 
@@ -32,39 +32,39 @@ updates-still {A} {s} {emptied} {now} {key} out same = record {
   others = λ other differs. same other ∙ out.others other differs;
 }
 
-module _ {L : Type 0} {shown : L → LinkShown} {proto : Proto} {still : Bool} where
+module _ {L : Type 0} {shown : L → LinkShown} {them : Collections} where
   -- it waits
-  pub at-rested : (first door door' : Option (Doorway L)) (sight sight' sight'' : Sight) (hall hall' : Hall L)
+  pub at-rested : (first door door' : Option (Doorway L)) (views views' views'' : Views) (hall hall' : Hall L)
       (emptied : Slab (Connection L)) (key taken : ℕ) (connection connection' : Connection L) (link : L)
-      → AtDoor shown proto still first door sight sight' hall → get hall.links key ≡ Some connection
-      → ((start : Moment) (own : Own) → IsOut shown proto still start sight'.seen own connection
-      → StaysOut shown proto still start own connection' sight' sight'')
-      → IsBehind still sight'.seen sight''.seen → shown link ≡ shown connection'.link → door' ≡ door
+      → AtDoor shown them first door views views' hall → get hall.links key ≡ Some connection
+      → ((start : Point) (own : Own) → IsOut shown them start views'.seen own connection
+      → StaysOut shown them start own connection' views' views'')
+      → AreBehind them views'.seen views''.seen → shown link ≡ shown connection'.link → door' ≡ door
       → Updates hall.links emptied key None → slab_len emptied + 1 ≡ slab_len hall.links → taken ≡ key
       → Updates emptied hall'.links taken (Some (record connection' { link = link }))
       → slab_len hall'.links ≡ slab_len emptied + 1 → hall'.served ≡ hall.served → hall'.short ≡ hall.short
-      → AtDoor shown proto still first door' sight sight'' hall'
-  at-rested first door door' sight sight' sight'' hall hall' emptied key taken connection connection' link at is went
+      → AtDoor shown them first door' views views'' hall'
+  at-rested first door door' views views' views'' hall hall' emptied key taken connection connection' link at is went
       behind same_link same_door out fewer same back len served short =
-      subst (λ (d : Option (Doorway L)). AtDoor shown proto still first d sight sight'' hall') (sym same_door)
-      (at-stays first door sight sight' sight'' hall hall' key connection (record connection' { link = link }) at is
-      (λ start own there. rested own connection' link sight' sight'' same_link (went start own there)) behind
+      subst (λ (d : Option (Doorway L)). AtDoor shown them first d views views'' hall') (sym same_door)
+      (at-stays first door views views' views'' hall hall' key connection (record connection' { link = link }) at is
+      (λ start own there. rested own connection' link views' views'' same_link (went start own there)) behind
       (updates-back hall.links emptied hall'.links key taken (record connection' { link = link }) out same back)
       (len ∙ fewer) served short)
 
   -- its session has ended, and the door gets it back
-  pub at-removed : (first door door' : Option (Doorway L)) (sight sight' sight'' : Sight) (hall hall' : Hall L)
+  pub at-removed : (first door door' : Option (Doorway L)) (views views' views'' : Views) (hall hall' : Hall L)
       (emptied : Slab (Connection L)) (key : ℕ) (connection connection' : Connection L) (end : End)
-      → AtDoor shown proto still first door sight sight' hall → get hall.links key ≡ Some connection
-      → ((start : Moment) (own : Own) → IsOut shown proto still start sight'.seen own connection
-      → HasEnded shown proto still start own connection' sight' sight'' end)
-      → IsBehind still sight'.seen sight''.seen → Updates hall.links emptied key None
+      → AtDoor shown them first door views views' hall → get hall.links key ≡ Some connection
+      → ((start : Point) (own : Own) → IsOut shown them start views'.seen own connection
+      → HasEnded shown them start own connection' views' views'' end)
+      → AreBehind them views'.seen views''.seen → Updates hall.links emptied key None
       → slab_len emptied + 1 ≡ slab_len hall.links → hall'.links ≡ emptied → hall'.served ≡ one_more hall.served
       → hall'.short ≡ (if is_short (Some end) then one_more hall.short else hall.short)
       → door' ≡ after_done connection'.link door
-      → AtDoor shown proto still first door' sight sight'' hall'
-  at-removed first door door' sight sight' sight'' hall hall' emptied key connection connection' end at is ended behind
+      → AtDoor shown them first door' views views'' hall'
+  at-removed first door door' views views' views'' hall hall' emptied key connection connection' end at is ended behind
       out fewer links served short given =
-      at-ended first door door' sight sight' sight'' hall hall' key connection connection' end at is ended behind
+      at-ended first door door' views views' views'' hall hall' key connection connection' end at is ended behind
       (subst (λ (s : Slab (Connection L)). Updates hall.links s key None) (sym links) out)
       (ap (λ (s : Slab (Connection L)). slab_len s + 1) links ∙ fewer) served short given

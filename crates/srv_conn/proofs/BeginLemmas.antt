@@ -1,6 +1,6 @@
 -- What was done so far on a link, after a reply was begun.
 use Rattle.std.proofs.Common.{◌≡◌, ◌⊎◌, ⊎_elim, inl, inr, ℕ, ◌+◌, List, [], ◌∷◌, ◌++◌, length, take, Bool, true, false, Result, Ok, Err, refl, sym, ap, subst, ◌∙◌, append-nil, arith}
-use Rattle.std.specs.Prelude.{is_ok, if◌then◌else◌}
+use Rattle.std.specs.Prelude.{is_ok}
 use Rattle.std.proofs.lemmas.List.{take_all}
 use Rattle.fm_base.specs.Chain.{◌>>=◌}
 use Rattle.fm_model.specs.declared.loaded.Loaded.{Loaded}
@@ -8,8 +8,6 @@ use Rattle.fm_model.specs.declared.op.Op.{Op}
 use Rattle.fm_model.specs.declared.proto.Proto.{Proto}
 use Rattle.fm_model.specs.Collection.{coll}
 use Rattle.dev_traits.proofs.LinkLemmas.{after_put_nothing}
-use Rattle.pub_look.specs.History.{Continues}
-use Rattle.pub_look.proofs.HistoryLemmas.{continues_itself, continues_on}
 use Rattle.web_frame.specs.Items.{Item}
 use Rattle.web_path.specs.declared.target.Target.{Target}
 use Rattle.web_session.specs.declared.action.Asked.{Asked}
@@ -18,28 +16,17 @@ use Rattle.web_session.specs.State.{State}
 use Rattle.dap_reply.specs.declared.body.Answer.{Answer}
 use Rattle.dap_reply.specs.declared.fault.DapFault.{DapFault}
 use Rattle.dap_reply.specs.Body.{body_of}
+use Rattle.dap_reply.specs.Collections.{is_wanted_of, proto_for, Collections, Views}
 use Rattle.dap_reply.specs.Head.{no_memory_reply}
 use Rattle.dap_reply.specs.Parts.{bytes_of}
 use Rattle.dap_reply.specs.Reply.{answer_to, answered, has_head_alone, is_last, is_wanted, reply_of, reply_text, target_wanted}
 use Rattle.srv_conn.specs.declared.doing.Doing.{Doing}
 use Rattle.srv_conn.specs.Begins.{looks_for, revision_for, seen_for, IsReplyTo, IsShortOf}
-use Rattle.srv_conn.specs.Serves.{moment_of, Moment}
-use Rattle.srv_conn.specs.Sight.{IsBehind, Sight}
+use Rattle.srv_conn.specs.ServesMany.{point_of, Point}
+use Rattle.srv_conn.specs.Sight.{sight_in, IsBehind, OthersStay, Sight}
 use Rattle.srv_conn.specs.SoFar.{Asks, Parting, Sending}
-use Rattle.srv_conn.specs.Turn.{Looks}
-
--- ---- lists of operations
-
--- what is behind a list is behind one that goes on from it
-pub behind-on : (still : Bool) (first second third : List Op) → IsBehind still first second
-    → IsBehind still second third → IsBehind still first third
-behind-on still first second third one two = record {
-  grows = continues_on first second third one.grows two.grows;
-  stays = λ is. two.stays is ∙ one.stays is;
-}
-
-pub behind-itself : (still : Bool) (ops : List Op) → IsBehind still ops ops
-behind-itself still ops = record { grows = continues_itself ops; stays = λ _. refl }
+use Rattle.srv_conn.specs.Turn.{Sees}
+use Rattle.srv_conn.proofs.ViewLemmas.{behind-same}
 
 -- ---- a request for which no collection is looked at
 
@@ -80,35 +67,40 @@ pub revision-own : (revision : ℕ) (before now : List Op) (wanted : Bool)
 revision-own revision before now true is = is
 revision-own revision before now false is = is
 
-looks-own : (proto : Proto) (still : Bool) (item : Item) (before after : Moment) (now : List Op) (wanted : Bool)
-    → wanted ≡ is_wanted proto.site item → IsBehind still before.seen now
-    → after.seen ≡ seen_for wanted before.seen now → after.looks ≡ before.looks ++ looks_for wanted (length now)
-    → Looks proto still before after item
-looks-own proto still item before after now true is behind seen looks = record {
-  grows = subst (Continues before.seen) (sym seen) behind.grows;
-  stays = λ still_is. seen ∙ behind.stays still_is;
-  looks_are = looks
-      ∙ ap (λ (l : List Op). before.looks ++ length l ∷ []) (sym seen)
-      ∙ ap (λ (b : Bool). before.looks ++ (if b then length after.seen ∷ [] else [])) is;
-  unwanted = λ no. absurd (cc);
-}
-looks-own proto still item before after now false is behind seen looks = record {
-  grows = subst (Continues before.seen) (sym seen) (continues_itself before.seen);
-  stays = λ _. seen;
-  looks_are = looks ∙ ap (λ (b : Bool). before.looks ++ (if b then length after.seen ∷ [] else [])) is;
-  unwanted = λ _. seen;
-}
+-- the operations that a reply is over, and the looks with those for it
+abbrev pub sight_after : Bool → Sight → List Op → Sight
+sight_after wanted before now =
+    record { seen = seen_for wanted before.seen now; looks = before.looks ++ looks_for wanted (length now) }
 
--- the same of a moment that has seen and looked as much
-pub looks-at : {proto : Proto} {still : Bool} {before after after' : Moment} {item : Item} → after'.seen ≡ after.seen
-    → after'.looks ≡ after.looks → Looks proto still before after item → Looks proto still before after' item
-looks-at {proto} {before = before} {after = after} {item = item} seen looked l = record {
-  grows = subst (Continues before.seen) (sym seen) l.grows;
-  stays = λ is. seen ∙ l.stays is;
-  looks_are = looked ∙ l.looks_are ∙ ap (λ (ops : List Op). before.looks
-      ++ (if is_wanted proto.site item then length ops ∷ [] else [])) (sym seen);
-  unwanted = λ no. seen ∙ l.unwanted no;
+-- what is seen so of the collection that an item is for, and the others as before
+sees-own : (them : Collections) (item : Item) (before after : Views) (now : List Op) (wanted : Bool)
+    → wanted ≡ is_wanted_of them item
+    → IsBehind (them.still (them.choice item)) (before.seen (them.choice item)) now
+    → OthersStay (them.choice item) before after
+    → sight_in after (them.choice item) ≡ sight_after wanted (sight_in before (them.choice item)) now
+    → Sees them before after item
+sees-own them item before after now true is behind others sight = record {
+  behind = subst (IsBehind (them.still (them.choice item)) (before.seen (them.choice item))) (sym seen) behind;
+  looks_are = ap (λ (s : Sight). s.looks) sight
+      ∙ ap (λ (l : List Op). before.looks (them.choice item) ++ length l ∷ []) (sym seen)
+      ∙ ap (λ (b : Bool). before.looks (them.choice item) ++ looks_for b (length (after.seen (them.choice item)))) is;
+  unwanted = λ no. absurd (cc);
+  others = others;
 }
+  where
+    seen : after.seen (them.choice item) ≡ now
+    seen = ap (λ (s : Sight). s.seen) sight
+sees-own them item before after now false is behind others sight = record {
+  behind = behind-same (them.still (them.choice item)) (before.seen (them.choice item))
+      (after.seen (them.choice item)) seen;
+  looks_are = ap (λ (s : Sight). s.looks) sight
+      ∙ ap (λ (b : Bool). before.looks (them.choice item) ++ looks_for b (length (after.seen (them.choice item)))) is;
+  unwanted = λ _. seen;
+  others = others;
+}
+  where
+    seen : after.seen (them.choice item) ≡ before.seen (them.choice item)
+    seen = ap (λ (s : Sight). s.seen) sight
 
 -- where nothing is looked at nothing more is seen
 pub seen-same : (before now : List Op) (wanted : Bool) → (wanted ≡ false → now ≡ before)
@@ -118,72 +110,93 @@ seen-same before now false same = sym (same refl)
 
 -- ---- a reply is begun, or memory ran out
 
--- the moment after a reply was begun at another
-abbrev pub begun_at : Moment → List Op → Bool → ℕ → Moment
-begun_at now seen wanted revision = moment_of now.link (seen_for wanted now.seen seen)
-    (now.looks ++ looks_for wanted (length seen)) now.session
-    (now.trail ++ record { revision = revision; sent = 0 } ∷ [])
-
--- the moment after memory ran out at another, with these looks more
-abbrev pub parted_at : Moment → List Op → List ℕ → State → Moment
-parted_at now seen more session = moment_of now.link seen (now.looks ++ more) session now.trail
-
-module _ {proto : Proto} {still : Bool} {start : Moment} {most : ℕ} where
-  pub begins-sending : (now : Moment) (asked : Asked) (session' : State) (doing' : Doing) (sight sight' : Sight)
-      (last revision : ℕ) → Asks proto still start now most asked → IsBehind still now.seen sight'.seen
-      → last ≡ length now.seen
-      → (r : IsReplyTo proto (item_asked asked now.session.held) last now.session session' doing' sight sight' revision)
-      → Sending proto still start
-      (begun_at now sight'.seen (is_wanted proto.site (item_asked asked now.session.held)) revision) most
+module _ {them : Collections} {start : Point} {most : ℕ} where
+  -- a reply is begun from the collection that the request is for
+  pub begins-sending : (now : Point) (asked : Asked) (session' : State) (doing' : Doing) (number : ℕ)
+      (sight sight' : Sight) (last revision : ℕ) (after : Views) → Asks them start now most asked
+      → number ≡ them.choice (item_asked asked now.session.held)
+      → IsBehind (them.still number) (now.views.seen number) sight'.seen
+      → last ≡ length (now.views.seen number) → OthersStay number now.views after
+      → sight_in after number ≡ sight_after (is_wanted (them.proto number).site (item_asked asked now.session.held))
+      (sight_in now.views number) sight'.seen
+      → (r : IsReplyTo (them.proto number) (item_asked asked now.session.held) last now.session session' doing' sight
+      sight' revision)
+      → Sending them start
+      (point_of now.link after now.session (now.trail ++ record { revision = revision; sent = 0 } ∷ [])) most
       (bytes_of r.plan) 0
-  begins-sending now asked session' doing' sight sight' last revision asks behind last_is r = record {
-    before = now;
-    asked = asked;
-    asks = asks;
-    mark = record { revision = revision; sent = 0 };
-    replies = record {
-      looks = looks-own proto still item now after sight'.seen wanted refl behind refl refl;
-      trail_is = refl;
-      revision_is = revision-own revision now.seen sight'.seen wanted at;
-      put_is = after_put_nothing
-          (reply_of proto (coll (take revision after.seen)) revision item (now.session.before + 1)) now.link.held;
-    };
-    sent_is = refl;
-    within = omega arith;
-    bytes_are = r.bytes_are
-        ∙ reply-own proto item (now.session.before + 1) revision now.seen sight'.seen wanted refl at;
-    session_is = refl;
-    faults_are = refl;
-  }
+  begins-sending now asked session' doing' number sight sight' last revision after asks choice behind last_is others
+      at r = record {
+        before = now;
+        asked = asked;
+        asks = asks;
+        mark = record { revision = revision; sent = 0 };
+        replies = record {
+          looks = sees-own them item now.views after sight'.seen wanted
+              (ap (λ (n : ℕ). is_wanted (them.proto n).site item) choice)
+              (subst (λ (n : ℕ). IsBehind (them.still n) (now.views.seen n) sight'.seen) choice behind)
+              (subst (λ (n : ℕ). OthersStay n now.views after) choice others)
+              (subst (λ (n : ℕ). sight_in after n ≡ sight_after wanted (sight_in now.views n) sight'.seen) choice at);
+          trail_is = refl;
+          revision_is = revision-own revision (now.views.seen number) sight'.seen wanted known
+              ∙ ap length (sym seen) ∙ ap (λ (n : ℕ). length (after.seen n)) choice;
+          put_is = after_put_nothing
+              (reply_of (proto_for them item) (coll (take revision (after.seen (them.choice item)))) revision item
+              (now.session.before + 1)) now.link.held;
+        };
+        sent_is = refl;
+        within = omega arith;
+        bytes_are = r.bytes_are
+            ∙ reply-own (them.proto number) item (now.session.before + 1) revision (now.views.seen number) sight'.seen
+            wanted refl known
+            ∙ ap (λ (l : List Op). reply_of (them.proto number) (coll (take revision l)) revision item
+            (now.session.before + 1)) (sym seen)
+            ∙ ap (λ (n : ℕ). reply_of (them.proto n) (coll (take revision (after.seen n))) revision item
+            (now.session.before + 1)) choice;
+        session_is = refl;
+        faults_are = refl;
+      }
     where
       item : Item
       item = item_asked asked now.session.held
 
       wanted : Bool
-      wanted = is_wanted proto.site item
+      wanted = is_wanted (them.proto number).site item
 
-      after : Moment
-      after = begun_at now sight'.seen wanted revision
+      seen : after.seen number ≡ seen_for wanted (now.views.seen number) sight'.seen
+      seen = ap (λ (s : Sight). s.seen) at
 
-      at : revision ≡ revision_for wanted (length sight'.seen) (length now.seen)
-      at = r.revision_is ∙ ap (revision_for wanted (length sight'.seen)) last_is
+      known : revision ≡ revision_for wanted (length sight'.seen) (length (now.views.seen number))
+      known = r.revision_is ∙ ap (revision_for wanted (length sight'.seen)) last_is
 
-  pub begins-parting : (now : Moment) (asked : Asked) (session' : State) (doing' : Doing) (sight sight' : Sight)
-      (more : List ℕ) → Asks proto still start now most asked → IsBehind still now.seen sight'.seen
+  -- memory ran out, with these looks more at one collection
+  pub begins-parting : (now : Point) (asked : Asked) (session' : State) (doing' : Doing) (number : ℕ)
+      (sight sight' : Sight) (more : List ℕ) (after : Views) → Asks them start now most asked
+      → IsBehind (them.still number) (now.views.seen number) sight'.seen → OthersStay number now.views after
+      → sight_in after number ≡ record { seen = sight'.seen; looks = now.views.looks number ++ more }
       → IsShortOf now.session session' doing' sight sight'
       → (more ≡ []) ⊎ (more ≡ length sight'.seen ∷ [])
-      → Parting proto still start (parted_at now sight'.seen more session') most 0
-  begins-parting now asked session' doing' sight sight' more asks behind r one = record {
+      → Parting them start (point_of now.link after session' now.trail) most 0
+  begins-parting now asked session' doing' number sight sight' more after asks behind others at r one = record {
     before = now;
     asked = asked;
     asks = asks;
-    grows = behind.grows;
-    stays = behind.stays;
-    looks_are = ⊎_elim (λ none. inl (ap (λ (l : List ℕ). now.looks ++ l) none ∙ append-nil now.looks))
-        (λ look. inr (ap (λ (l : List ℕ). now.looks ++ l) look)) one;
+    number = number;
+    behind = subst (IsBehind (them.still number) (now.views.seen number)) (sym seen) behind;
+    looks_are = ⊎_elim
+        (λ none. inl (looks ∙ ap (λ (l : List ℕ). now.views.looks number ++ l) none
+        ∙ append-nil (now.views.looks number)))
+        (λ look. inr (looks ∙ ap (λ (l : List ℕ). now.views.looks number ++ l)
+        (look ∙ ap (λ (l : List Op). length l ∷ []) (sym seen)))) one;
+    others = others;
     trail_is = refl;
     within = omega arith;
     put_is = after_put_nothing no_memory_reply now.link.held;
     faults_are = refl;
     ended = r.ended;
   }
+    where
+      seen : after.seen number ≡ sight'.seen
+      seen = ap (λ (s : Sight). s.seen) at
+
+      looks : after.looks number ≡ now.views.looks number ++ more
+      looks = ap (λ (s : Sight). s.looks) at

@@ -1,7 +1,6 @@
 -- A served link goes on after a whole reply that isn't a connection's last.
 use Rattle.std.proofs.Common.{◌≡◌, ℕ, suc, ◌+◌, List, [], ◌∷◌, ◌++◌, length, Bool, Option, None, refl, sym, ap, ap₂, subst, ◌∙◌, arith, length-append}
 use Rattle.std.specs.Prelude.{is_some}
-use Rattle.fm_model.specs.declared.proto.Proto.{Proto}
 use Rattle.web_frame.specs.Items.{heads_of, AreFirst, Item, ReadsTo}
 use Rattle.web_frame.specs.Stream.{held_after, next_of, Held}
 use Rattle.web_frame.proofs.LeftLemmas.{Leaves}
@@ -12,16 +11,16 @@ use Rattle.web_session.specs.declared.phase.Phase.TheVariants.{Asking}
 use Rattle.web_session.specs.Run.{item_asked}
 use Rattle.web_session.specs.State.{end_after, looked, phase_after, replied, replied_by, resting, State}
 use Rattle.dap_reply.specs.declared.served.Mark.{Mark}
+use Rattle.dap_reply.specs.Collections.{Collections}
 use Rattle.dap_reply.specs.Reply.{is_last}
 use Rattle.dap_reply.specs.Served.{asked_of, held_bytes}
 use Rattle.dap_reply.proofs.ServedLemmas.{last-ends}
-use Rattle.srv_conn.specs.Serves.{Moment}
+use Rattle.srv_conn.specs.ServesMany.{Point}
 use Rattle.srv_conn.specs.Turn.{item_of_turn, IsWhole}
 use Rattle.srv_conn.proofs.EachLemmas.{Each-append}
 use Rattle.srv_conn.proofs.HeadLemmas.{asked-first, leaves-passed, passes}
-use Rattle.srv_conn.proofs.ScriptLemmas.{last-append}
-use Rattle.srv_conn.specs.SoFar.{last_revision, Each, GoesOn, Serving}
-use Rattle.srv_conn.proofs.Serving.{each-later, Begun-replies}
+use Rattle.srv_conn.specs.SoFar.{Each, GoesOn, Serving}
+use Rattle.srv_conn.proofs.Serving.{begun-grows, each-later, Begun-replies}
 use Rattle.srv_conn.proofs.SessionLemmas.{held-at}
 
 -- the question of an item is the session's question
@@ -38,10 +37,10 @@ last-said asked held before =
     ∙ ap (λ (a : Asked). is_some (end_after a before)) (asked-back asked held)
 
 -- the question is the next of the items that are read
-pub asked-now : (proto : Proto) (still : Bool) (start now : Moment) (asked : Asked) (s : Serving proto still start now)
+pub asked-now : (them : Collections) (start now : Point) (asked : Asked) (s : Serving them start now)
     → now.session.phase ≡ Asking asked
     → AreFirst (s.done ++ item_of_turn now asked ∷ []) (heads_of (held_bytes start.session ++ s.taken)).items
-asked-now proto still start now asked s asking =
+asked-now them start now asked s asking =
     subst (λ (h : Held). AreFirst (s.done ++ item_asked asked h ∷ [])
     (heads_of (held_bytes start.session ++ s.taken)).items) (sym (ap (λ (x : State). x.held) s.session_is))
     (asked-first (held_bytes start.session ++ s.taken) (held_bytes now.session) s.done asked s.reads
@@ -66,22 +65,21 @@ pub leads-on : (s : State) (asked : Asked) → end_after asked s.before ≡ None
 unfolding replied looked
 leads-on s asked none = ap (λ (end : Option End). replied_by end s) none
 
-pub Serving-goes : (proto : Proto) (still : Bool) (start now after : Moment) (asked : Asked)
-    → Serving proto still start now → now.session.phase ≡ Asking asked → IsWhole proto still now after asked None
-    → Serving proto still start after
-Serving-goes proto still start now after asked s asking w = record {
+pub Serving-goes : (them : Collections) (start now after : Point) (asked : Asked)
+    → Serving them start now → now.session.phase ≡ Asking asked → IsWhole them now after asked None
+    → Serving them start after
+Serving-goes them start now after asked s asking w = record {
   taken = s.taken;
   written = _;
   done = s.done ++ item ∷ [];
-  begun = Begun-replies proto still start now after asked w.mark s w.replies;
-  last = ap (last_revision (length start.seen)) w.replies.trail_is
-      ∙ last-append (length start.seen) now.trail w.mark ∙ w.replies.revision_is;
-  each = subst (λ (l : List Mark). Each (GoesOn proto after.seen) l (s.done ++ item ∷ []) (start.session.before + 1))
+  begun = Begun-replies them start now after asked w.mark s w.replies;
+  each = subst (λ (l : List Mark). Each (GoesOn them after.views.seen) l (s.done ++ item ∷ []) (start.session.before + 1))
       (sym w.replies.trail_is)
-      (Each-append (GoesOn proto after.seen) now.trail (w.mark ∷ []) s.done (item ∷ []) (start.session.before + 1)
+      (Each-append (GoesOn them after.views.seen) now.trail (w.mark ∷ []) s.done (item ∷ []) (start.session.before + 1)
       s.begun.count
-      (each-later proto now.seen after.seen now.trail s.done (start.session.before + 1) w.replies.looks.grows s.each)
-      (subst (λ (n : ℕ). GoesOn proto after.seen n w.mark item) number this, tt));
+      (each-later them now.views.seen after.views.seen now.trail s.done (start.session.before + 1)
+      (begun-grows them now after asked w.mark w.replies) s.each)
+      (subst (λ (n : ℕ). GoesOn them after.views.seen n w.mark item) number this, tt));
   faults_are = w.faults_are ∙ s.faults_are;
   reads = subst (ReadsTo (held_bytes start.session ++ s.taken) (s.done ++ item ∷ [])) (sym held)
       (subst (λ (h : Held). ReadsTo (held_bytes start.session ++ s.taken) (s.done ++ item_asked asked h ∷ []) h.rest)
@@ -114,7 +112,7 @@ Serving-goes proto still start now after asked s asking w = record {
     number : now.session.before + 1 ≡ start.session.before + 1 + length now.trail
     number = omega (arith, before_is, s.begun.count)
 
-    this : GoesOn proto after.seen (now.session.before + 1) w.mark item
+    this : GoesOn them after.views.seen (now.session.before + 1) w.mark item
     this = (
       omega (arith, w.replies.revision_is),
       w.whole,

@@ -6,11 +6,11 @@ use Rattle.std.proofs.lemmas.List.{map-append}
 use Rattle.std.proofs.lemmas.List.Elements.{All-nil, filter-append}
 use Rattle.std.proofs.lemmas.Option.{none-some, same_Some}
 use Rattle.slab.specs.Slab.{get, slab_len, ContainsKey, Slab, Updates}
-use Rattle.fm_model.specs.declared.proto.Proto.{Proto}
 use Rattle.dev_traits.specs.Cause.{capped, one_more}
 use Rattle.dev_traits.specs.Door.{after_coming, Doorway, DoorShown, IsFresh}
 use Rattle.dev_traits.specs.declared.door.Coming.TheVariants.{Came, Closed, Ready}
 use Rattle.dev_traits.specs.Shown.{LinkShown}
+use Rattle.dap_reply.specs.Collections.{Collections, Views}
 use Rattle.srv_conn.specs.declared.connection.Connection.{Connection}
 use Rattle.srv_conn.specs.declared.door_next.Next.{Next}
 use Rattle.srv_conn.specs.declared.door_next.Next.TheVariants as nexts
@@ -18,9 +18,8 @@ use Rattle.srv_conn.specs.declared.door_report.DoorEnd.{DoorEnd}
 use Rattle.srv_conn.specs.declared.door_report.DoorEnd.TheVariants as door_ends
 use Rattle.srv_conn.specs.declared.hall.Hall.{Hall}
 use Rattle.srv_conn.specs.AtDoor.{end_of, failed_by, faults_after, with_out, AreReady, AtDoor, FaultsSo, IsOutSome}
-use Rattle.srv_conn.specs.DoorTurns.{after_turns, is_short, short_count, EndsDoor, IsTurn, ServesEach, Tag, Turn}
-use Rattle.srv_conn.specs.Sight.{Sight}
-use Rattle.srv_conn.proofs.BeginLemmas.{behind-itself}
+use Rattle.srv_conn.specs.DoorTurns.{after_turns, is_short, short_count, EndsDoor, IsTurn, ServesEachMany, Tag, Turn}
+use Rattle.srv_conn.proofs.ViewLemmas.{behind-itself}
 use Rattle.srv_conn.proofs.OutLemmas.{out-ready}
 use Rattle.srv_conn.proofs.TagLemmas.{counts-tagged, tagged}
 use Rattle.srv_conn.proofs.DoorwayLemmas.{door-all, out-some, len-some}
@@ -135,59 +134,52 @@ ends-so door door' false nexts.Failed end is so closed = absurd (none-some end i
 ends-so door door' false nexts.Closed end is so closed =
     subst (EndsDoor door door') (same_Some door_ends.Closed end is) (so, closed refl)
 
--- the same over the prototype of the beginning
-pub over : {proto first : Proto} {still stood : Bool} (P : Proto → Bool → Type 0) → proto ≡ first → still ≡ stood
-    → P proto still → P first stood
-over {first = first} {still = still} P same as_still holds =
-    subst (P first) as_still (subst (λ (p : Proto). P p still) same holds)
+-- what came next follows over the collections of the beginning
+pub at-next : {L : Type 0} {shown : L → LinkShown} {them first : Collections}
+    {door door' door'' : Option (Doorway L)} {views views' views'' : Views} {hall hall' : Hall L} → them ≡ first
+    → (AtDoor shown them door door' views views' hall → AtDoor shown them door door'' views views'' hall')
+    → AtDoor shown first door door' views views' hall → AtDoor shown first door door'' views views'' hall'
+at-next {shown = shown} {door = door} {door' = door'} {door'' = door''} {views = views} {views' = views'}
+    {views'' = views''} {hall = hall} {hall' = hall'} same step at =
+    subst (λ (them : Collections). AtDoor shown them door door'' views views'' hall') same
+    (step (subst (λ (them : Collections). AtDoor shown them door door' views views' hall) (sym same) at))
 
--- and what came next follows on it
-pub at-next : {L : Type 0} {shown : L → LinkShown} {proto first : Proto} {still stood : Bool}
-    {door door' door'' : Option (Doorway L)} {sight sight' sight'' : Sight} {hall hall' : Hall L} → proto ≡ first
-    → still ≡ stood
-    → (AtDoor shown proto still door door' sight sight' hall → AtDoor shown proto still door door'' sight sight'' hall')
-    → AtDoor shown first stood door door' sight sight' hall → AtDoor shown first stood door door'' sight sight'' hall'
-at-next {shown = shown} {door = door} {door' = door'} {door'' = door''} {sight = sight} {sight' = sight'}
-    {sight'' = sight''} {hall = hall} {hall' = hall'} same as_still step at =
-    over (λ (p : Proto) (s : Bool). AtDoor shown p s door door'' sight sight'' hall') same as_still
-    (step (over (λ (p : Proto) (s : Bool). AtDoor shown p s door door' sight sight' hall) (sym same) (sym as_still) at))
-
-module _ {L : Type 0} {shown : L → LinkShown} {proto : Proto} {still : Bool} where
+module _ {L : Type 0} {shown : L → LinkShown} {them : Collections} where
   -- ---- what holds of all of them
 
   -- each link that is held may go on
-  pub at-ready : {door door' : Option (Doorway L)} {sight sight' : Sight} {hall : Hall L}
-      → AtDoor shown proto still door door' sight sight' hall → AreReady hall.links
-  at-ready {sight' = sight'} at key connection is =
-      let held = at.held key connection is in out-ready sight'.seen held.own connection held.is_out
+  pub at-ready : {door door' : Option (Doorway L)} {views views' : Views} {hall : Hall L}
+      → AtDoor shown them door door' views views' hall → AreReady hall.links
+  at-ready {views' = views'} at key connection is =
+      let held = at.held key connection is in out-ready views'.seen held.own connection held.is_out
 
   -- and is out
-  pub at-out : {door door' : Option (Doorway L)} {sight sight' : Sight} {hall : Hall L} (key : ℕ)
-      → AtDoor shown proto still door door' sight sight' hall → ContainsKey hall.links key
+  pub at-out : {door door' : Option (Doorway L)} {views views' : Views} {hall : Hall L} (key : ℕ)
+      → AtDoor shown them door door' views views' hall → ContainsKey hall.links key
       → IfSome door' IsOutSome
   at-out {door = door} {hall = hall} key at there =
       subst (λ (d : Option (Doorway L)). IfSome d IsOutSome) (sym at.door_is)
       (out-some (length at.came) (slab_len hall.links) at.turns door (len-some hall.links key there))
 
   -- no link came yet
-  pub at-start : (door : Option (Doorway L)) (sight : Sight) (hall : Hall L) → hall.links.slots ≡ []
-      → hall.served ≡ 0 → hall.short ≡ 0 → AtDoor shown proto still door door sight sight hall
-  at-start door sight hall none served short = record {
+  pub at-start : (door : Option (Doorway L)) (views : Views) (hall : Hall L) → hall.links.slots ≡ []
+      → hall.served ≡ 0 → hall.short ≡ 0 → AtDoor shown them door door views views hall
+  at-start door views hall none served short = record {
     came = [];
     turns = [];
-    tags = [];
+    tags = λ collection. [];
     number_at = λ key. key;
     came_is = nothing door;
     unused = All-nil (λ (link : L). IsFresh (shown link));
-    each = All-nil (IsTurn shown proto still [] [] sight sight);
+    each = All-nil (IsTurn shown them [] (λ collection. []) views views);
     once = tt;
     held = λ key connection is. absurd (none-some connection
         (ap (λ (slots : List (Option (Connection L))). slice_index_or slots key None) (sym none) ∙ is));
     apart = λ key other there here differs. differs;
     all = omega (arith, ap (count_by is_some) none);
-    below = All-nil (λ (tag : Tag). tag.number < 0);
-    looks_are = sym (append-nil sight.looks);
-    behind = behind-itself still sight.seen;
+    below = λ collection. All-nil (λ (tag : Tag). tag.number < 0);
+    looks_are = λ collection. sym (append-nil (views.looks collection));
+    behind = behind-itself them views.seen;
     door_is = sym (ap (λ (n : ℕ). with_out n (after_turns 0 [] door)) (ap (count_by is_some) none)
         ∙ door-all 0 [] door ∙ untouched door);
     served_is = served;
@@ -204,11 +196,11 @@ module _ {L : Type 0} {shown : L → LinkShown} {proto : Proto} {still : Bool} w
           ap (λ (l : List L). Some (record doorway { given = l })) (append-nil doorway.given)
 
   -- all were given back
-  pub at-end : (door door' : Option (Doorway L)) (sight sight' : Sight) (hall : Hall L) (served short : ℕ)
-      → AtDoor shown proto still door door' sight sight' hall → slab_len hall.links ≡ 0
+  pub at-end : (door door' : Option (Doorway L)) (views views' : Views) (hall : Hall L) (served short : ℕ)
+      → AtDoor shown them door door' views views' hall → slab_len hall.links ≡ 0
       → served ≡ hall.served → short ≡ hall.short
-      → ServesEach shown proto still door door' sight sight' served short
-  at-end door door' sight sight' hall served short at none served_is short_is = record {
+      → ServesEachMany shown them door door' views views' served short
+  at-end door door' views views' hall served short at none served_is short_is = record {
     came = at.came;
     turns = at.turns;
     tags = at.tags;
@@ -219,7 +211,7 @@ module _ {L : Type 0} {shown : L → LinkShown} {proto : Proto} {still : Bool} w
     all = omega (arith, at.all, none);
     below = at.below;
     looks_are = at.looks_are;
-    grows = at.behind.grows;
+    grows = λ collection. (at.behind collection).grows;
     door_is = at.door_is
         ∙ ap (λ (n : ℕ). with_out n (after_turns (length at.came) at.turns door)) none
         ∙ door-all (length at.came) at.turns door;

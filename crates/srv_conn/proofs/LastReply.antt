@@ -2,7 +2,6 @@
 use Rattle.std.proofs.Common.{◌≡◌, ◌≢◌, ◌<◌, inl, inr, ℕ, ◌+◌, List, [], ◌∷◌, ◌++◌, length, take, drop, Bool, true, false, cond, Option, Some, None, refl, sym, ap, subst, ◌∙◌, arith, length-append}
 use Rattle.std.specs.Prelude.{slice_get}
 use Rattle.std.proofs.lemmas.Option.{same_Some}
-use Rattle.fm_model.specs.declared.proto.Proto.{Proto}
 use Rattle.dev_traits.specs.Cause.{one_more}
 use Rattle.web_frame.specs.Items.{Item}
 use Rattle.web_session.specs.declared.action.Asked.{Asked}
@@ -14,16 +13,19 @@ use Rattle.web_session.specs.State.{end_after, replied, replied_by, State}
 use Rattle.dap_reply.specs.declared.served.Mark.{Mark}
 use Rattle.dap_reply.specs.declared.served.Stop.{Stop}
 use Rattle.dap_reply.specs.declared.served.Stop.TheVariants as stops
-use Rattle.dap_reply.specs.Served.{items_of, EndsBy, LinkCall, StopsBy}
-use Rattle.srv_conn.specs.Serves.{call_of, IsCalm, Moment, Serves}
+use Rattle.dap_reply.specs.Collections.{Collections}
+use Rattle.dap_reply.specs.Served.{EndsBy, StopsBy}
+use Rattle.dap_reply.specs.ServedMany.{all_items, call_in, ManyCall}
+use Rattle.srv_conn.specs.Serves.{IsCalm}
+use Rattle.srv_conn.specs.ServesMany.{many_call, Point, ServesMany}
 use Rattle.srv_conn.specs.Turn.{item_of_turn, reply_of_turn, IsCut, IsWhole, IsBegun}
 use Rattle.srv_conn.proofs.EachLemmas.{Each-append}
 use Rattle.srv_conn.proofs.GoingOn.{asked-back, asked-now}
 use Rattle.srv_conn.proofs.HeadLemmas.{rest_of}
-use Rattle.srv_conn.proofs.Ran.{moves_of, no-farewell, serves-so, Ran-begun}
+use Rattle.srv_conn.proofs.Ran.{moves_of, no-farewell, no_more, serves-so, Ran-begun}
 use Rattle.srv_conn.proofs.ServedParts.{ended-of, ends-reply, failed, Ended, WholeOrCut}
 use Rattle.srv_conn.specs.SoFar.{Begun, Each, Serving}
-use Rattle.srv_conn.proofs.Serving.{each-later, Begun-replies}
+use Rattle.srv_conn.proofs.Serving.{begun-grows, each-later, Begun-replies}
 
 -- the item at the seam
 seam : (done : List Item) (item : Item) (others : List Item) (index : ℕ) → index ≡ length done
@@ -37,31 +39,31 @@ seam done item others index is =
     at_seam (i ∷ front) here back = at_seam front here back
 
 -- the call that stops with the reply of a mark
-abbrev last_call : (proto : Proto) (still : Bool) (start now after : Moment) (asked : Asked) (most : ℕ) (stop : Stop)
-    (mark : Mark) → Serving proto still start now → LinkCall
-last_call proto still start now after asked most stop mark s = call_of proto still start after (moves_of s.taken
-    ((s.written ++ take mark.sent (reply_of_turn proto now after asked mark)) ++ []) false) most stop
+abbrev last_call : (them : Collections) (start now after : Point) (asked : Asked) (most : ℕ) (stop : Stop)
+    (mark : Mark) → Serving them start now → ManyCall
+last_call them start now after asked most stop mark s = many_call them start after (moves_of s.taken
+    ((s.written ++ take mark.sent (reply_of_turn them now after asked mark)) ++ []) false) most stop
 
 -- the reply that was begun last, whole or cut
-record Last (proto : Proto) (still : Bool) (start now after : Moment) (asked : Asked) (most : ℕ) (stop : Stop)
-    (mark : Mark) (s : Serving proto still start now) : Type 0 where
-  replies : IsBegun proto still now after asked mark
+record Last (them : Collections) (start now after : Point) (asked : Asked) (most : ℕ) (stop : Stop)
+    (mark : Mark) (s : Serving them start now) : Type 0 where
+  replies : IsBegun them now after asked mark
   asking : now.session.phase ≡ Asking asked
   few : length now.trail < most
-  last : WholeOrCut (last_call proto still start now after asked most stop mark s)
+  last : WholeOrCut (last_call them start now after asked most stop mark s)
       (now.session.before + 1) mark (item_of_turn now asked)
 
-serves-last : (proto : Proto) (still : Bool) (start now after : Moment) (asked : Asked) (most : ℕ) (stop : Stop)
-    (mark : Mark) (s : Serving proto still start now) → Last proto still start now after asked most stop mark s
+serves-last : (them : Collections) (start now after : Point) (asked : Asked) (most : ℕ) (stop : Stop)
+    (mark : Mark) (s : Serving them start now) → Last them start now after asked most stop mark s
     → stop ≢ stops.Ended ends.NoMemory
-    → ((others : List Item) → items_of (last_call proto still start now after asked most stop mark s)
+    → ((others : List Item) → all_items (last_call them start now after asked most stop mark s)
     ≡ (s.done ++ item_of_turn now asked ∷ []) ++ others
-    → StopsBy (last_call proto still start now after asked most stop mark s) stop)
-    → IsCalm start after stop
-    → Serves proto still start after most stop
-serves-last proto still start now after asked most stop mark s l ample why calm =
-    serves-so proto still start after s.taken written [] [] false most stop done others
-    (Ran-begun proto still start after s.taken written done begun)
+    → StopsBy (call_in (last_call them start now after asked most stop mark s) 0) stop)
+    → IsCalm start.link after.link stop
+    → ServesMany them start after most stop
+serves-last them start now after asked most stop mark s l ample why calm =
+    serves-so them start after s.taken written [] no_more false most stop done others
+    (Ran-begun them start after s.taken written done begun)
     (record {
       items_are = items;
       count = begun.count;
@@ -70,8 +72,8 @@ serves-last proto still start now after asked most stop mark s l ample why calm 
           (sym l.replies.trail_is)
           (Each-append (Ended call) now.trail (mark ∷ []) s.done (item ∷ []) (start.session.before + 1) s.begun.count
           (ended-of call now.trail s.done (start.session.before + 1)
-          (each-later proto now.seen after.seen now.trail s.done (start.session.before + 1)
-          l.replies.looks.grows s.each)) (
+          (each-later them now.views.seen after.views.seen now.trail s.done (start.session.before + 1)
+          (begun-grows them now after asked mark l.replies) s.each)) (
             (
               subst (λ (n : ℕ). WholeOrCut call n mark item) number l.last,
               λ below. absurd (omega (arith, below, longer)),
@@ -88,22 +90,22 @@ serves-last proto still start now after asked most stop mark s l ample why calm 
     item = item_of_turn now asked
 
     written : List ℕ
-    written = s.written ++ take mark.sent (reply_of_turn proto now after asked mark)
+    written = s.written ++ take mark.sent (reply_of_turn them now after asked mark)
 
     done : List Item
     done = s.done ++ item ∷ []
 
-    begun : Begun proto still start after s.taken written done
-    begun = Begun-replies proto still start now after asked mark s l.replies
+    begun : Begun them start after s.taken written done
+    begun = Begun-replies them start now after asked mark s l.replies
 
-    call : LinkCall
-    call = call_of proto still start after (moves_of s.taken (written ++ []) false) most stop
+    call : ManyCall
+    call = many_call them start after (moves_of s.taken (written ++ []) false) most stop
 
     others : List Item
-    others = drop (length done) (items_of call)
+    others = drop (length done) (all_items call)
 
-    items : items_of call ≡ done ++ others
-    items = rest_of done (items_of call) (asked-now proto still start now asked s l.asking)
+    items : all_items call ≡ done ++ others
+    items = rest_of done (all_items call) (asked-now them start now asked s l.asking)
 
     longer : length after.trail ≡ length now.trail + 1
     longer = ap length l.replies.trail_is ∙ length-append now.trail (mark ∷ [])
@@ -130,12 +132,12 @@ not-short (says.Head r) before is = by_tests r.close r.has_body _ is
     by_tests false false true same = cc
     by_tests false false false same = cc
 
-pub serves-whole : (proto : Proto) (still : Bool) (start now after : Moment) (asked : Asked) (most : ℕ) (end : End)
-    → Serving proto still start now → length now.trail < most → now.session.phase ≡ Asking asked
-    → IsWhole proto still now after asked (Some end) → Serves proto still start after most (stops.Ended end)
+pub serves-whole : (them : Collections) (start now after : Point) (asked : Asked) (most : ℕ) (end : End)
+    → Serving them start now → length now.trail < most → now.session.phase ≡ Asking asked
+    → IsWhole them now after asked (Some end) → ServesMany them start after most (stops.Ended end)
 unfolding StopsBy
-serves-whole proto still start now after asked most end s few asking w =
-    serves-last proto still start now after asked most (stops.Ended end) w.mark s (record {
+serves-whole them start now after asked most end s few asking w =
+    serves-last them start now after asked most (stops.Ended end) w.mark s (record {
       replies = w.replies;
       asking = asking;
       few = few;
@@ -160,26 +162,26 @@ serves-whole proto still start now after asked most end s few asking w =
     number : start.session.before + length now.trail ≡ now.session.before
     number = omega (arith, ap (λ (x : State). x.before) s.session_is, s.begun.count)
 
-pub serves-cut : (proto : Proto) (still : Bool) (start now after : Moment) (asked : Asked) (most : ℕ) (end : End)
-    → Serving proto still start now → length now.trail < most → now.session.phase ≡ Asking asked
-    → IsCut proto still now after asked (Some end) → Serves proto still start after most (stops.Ended end)
+pub serves-cut : (them : Collections) (start now after : Point) (asked : Asked) (most : ℕ) (end : End)
+    → Serving them start now → length now.trail < most → now.session.phase ≡ Asking asked
+    → IsCut them now after asked (Some end) → ServesMany them start after most (stops.Ended end)
 unfolding StopsBy EndsBy
-serves-cut proto still start now after asked most end s few asking w =
-    subst (λ (e : End). Serves proto still start after most (stops.Ended e))
+serves-cut them start now after asked most end s few asking w =
+    subst (λ (e : End). ServesMany them start after most (stops.Ended e))
     (same_Some ends.LinkFault end (sym w.end_is))
-    (serves-last proto still start now after asked most (stops.Ended ends.LinkFault) w.mark s (record {
+    (serves-last them start now after asked most (stops.Ended ends.LinkFault) w.mark s (record {
       replies = w.replies;
       asking = asking;
       few = few;
       last = inr (refl, number, w.cut);
     })
     (λ is. cc)
-    (λ others items. (w.ended, failed call (w.faults_are ∙ ap one_more s.faults_are)))
+    (λ others items. (w.ended, failed (call_in call 0) (w.faults_are ∙ ap one_more s.faults_are)))
     (λ no _. absurd (no refl)))
   where
-    call : LinkCall
-    call = call_of proto still start after
-        (moves_of s.taken ((s.written ++ take w.mark.sent (reply_of_turn proto now after asked w.mark)) ++ [])
+    call : ManyCall
+    call = many_call them start after
+        (moves_of s.taken ((s.written ++ take w.mark.sent (reply_of_turn them now after asked w.mark)) ++ [])
         false) most (stops.Ended ends.LinkFault)
 
     number : now.session.before + 1 ≡ start.session.before + length after.trail

@@ -11,18 +11,21 @@ use Rattle.dap_reply.specs.declared.served.Stop.{Stop}
 use Rattle.dap_reply.specs.declared.served.Stop.TheVariants as stops
 use Rattle.dap_reply.specs.Reply.{is_last}
 use Rattle.dap_reply.specs.Served.{items_of, marked_reply, number_at, EndsAfterReply, EndsBy, HasFailed, LinkCall, Served, StopsBy}
+use Rattle.dap_reply.specs.ServedMany.{all_items, as_many, call_in, reply_for, ManyCall, ServedMany}
+use Rattle.dap_reply.proofs.ManyLemmas.{one-of-many}
 use Rattle.dap_reply.proofs.ServedLemmas.{last-ends}
-use Rattle.srv_conn.specs.Answered.{GoesOnBefore, IsAnswered}
+use Rattle.srv_conn.specs.Answered.{GoesOnBefore, IsAnswered, IsAnsweredFor}
 
 -- a link fault is the link's
-fault-failed : (call : LinkCall) → Served call → call.stop ≡ stops.Ended ends.LinkFault → HasFailed call
+fault-failed : (call : ManyCall) → ServedMany call → call.stop ≡ stops.Ended ends.LinkFault
+    → HasFailed (call_in call 0)
 unfolding StopsBy EndsBy
-fault-failed call served is = (subst (StopsBy call) is served.stops).1
+fault-failed call served is = (subst (StopsBy (call_in call 0)) is served.stops).1
 
-pub whole-unless : (call : LinkCall) → Served call → ¬ (HasFailed call) → (index : ℕ) (mark : Mark) (item : Item)
-    → slice_get call.trail index ≡ Some mark → slice_get (items_of call) index ≡ Some item
-    → mark.sent ≡ length (marked_reply call.proto call.seen_after mark item (number_at call index))
-whole-unless call served sound index mark item there is =
+pub whole-for : (call : ManyCall) → ServedMany call → ¬ (HasFailed (call_in call 0)) → (index : ℕ) (mark : Mark)
+    (item : Item) → slice_get call.trail index ≡ Some mark → slice_get (all_items call) index ≡ Some item
+    → mark.sent ≡ length (reply_for call.them call.after.seen mark item (number_at (call_in call 0) index))
+whole-for call served sound index mark item there is =
     ⊎_elim (λ whole. whole) (λ cut. absurd (sound (fault-failed call served cut.0)))
     (served.writes.whole index mark item there is)
 
@@ -64,16 +67,31 @@ reached call sound ample index item below is goes = by_stop
     by_stop stops.Enough why same = omega (arith, below, why.all)
     by_stop (stops.Ended end) why same = by_end end why.1 same
 
+pub all-answered-for : (call : ManyCall) → ServedMany call → ¬ (HasFailed (call_in call 0))
+    → call.stop ≢ stops.Ended ends.NoMemory → (index : ℕ) (item : Item) → index < call.most
+    → slice_get (all_items call) index ≡ Some item → GoesOnBefore (call_in call 0) index
+    → IsAnsweredFor call index item
+all-answered-for call served sound ample index item below is goes =
+    let there : index < length call.trail =
+    reached (call_in call 0) sound ample index item below is goes call.stop served.stops refl in
+    ⊎_elim (λ found. record {
+      mark = found.0;
+      mark_is = found.2;
+      whole = whole-for call served sound index found.0 item found.2 is;
+    }) (λ past. absurd (omega (arith, there, past.0))) (slice_get_cases call.trail index).1
+
+-- ---- over one collection
+
+pub whole-unless : (call : LinkCall) → Served call → ¬ (HasFailed call) → (index : ℕ) (mark : Mark) (item : Item)
+    → slice_get call.trail index ≡ Some mark → slice_get (items_of call) index ≡ Some item
+    → mark.sent ≡ length (marked_reply call.proto call.seen_after mark item (number_at call index))
+whole-unless call served = whole-for (as_many call) ((one-of-many call).0 served)
+
 pub all-answered : (call : LinkCall) → Served call → ¬ (HasFailed call) → call.stop ≢ stops.Ended ends.NoMemory
     → (index : ℕ) (item : Item) → index < call.most → slice_get (items_of call) index ≡ Some item
     → GoesOnBefore call index → IsAnswered call index item
 all-answered call served sound ample index item below is goes =
-    let there : index < length call.trail =
-    reached call sound ample index item below is goes call.stop served.stops refl in
-    ⊎_elim (λ found. record {
-      mark = found.0;
-      mark_is = found.2;
-      whole = whole-unless call served sound index found.0 item found.2 is;
-    }) (λ past. absurd (omega (arith, there, past.0))) (slice_get_cases call.trail index).1
+    let a = all-answered-for (as_many call) ((one-of-many call).0 served) sound ample index item below is goes in
+    record { mark = a.mark; mark_is = a.mark_is; whole = a.whole }
 
-pub ruleset laws = (whole-unless, all-answered)
+pub ruleset laws = (whole-unless, all-answered, whole-for, all-answered-for)

@@ -1,4 +1,5 @@
 pub mod ActLemmas
+pub mod AloneLemmas
 pub mod AtKey
 pub mod BeginLemmas
 pub mod ComingLemmas
@@ -11,13 +12,15 @@ pub mod Exits
 pub mod FarewellLemmas
 pub mod FreshLemmas
 pub mod GoingOn
+pub mod GlanceLemmas
+pub mod GoesLemmas
 pub mod HallLemmas
 pub mod HeadLemmas
 pub mod KeyLemmas
 pub mod LastReply
 pub mod LawLemmas
+pub mod LinkLemmas
 pub mod MarkLemmas
-pub mod MovedLemmas
 pub mod NextLemmas
 pub mod OutLemmas
 pub mod OutSteps
@@ -25,6 +28,7 @@ pub mod Ran
 pub mod ReadLemmas
 pub mod ReplyLemmas
 pub mod ReplyingLemmas
+pub mod RouteLemmas
 pub mod ScriptLemmas
 pub mod SendingLemmas
 pub mod ServedParts
@@ -34,4 +38,5 @@ pub mod ShortExit
 pub mod StandLemmas
 pub mod TagLemmas
 pub mod TakesLemmas
+pub mod ViewLemmas
 pub mod WrittenLemmas

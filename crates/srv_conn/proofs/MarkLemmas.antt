@@ -1,19 +1,24 @@
 -- The marks, the replies and the revision of a link after one action more.
-use Rattle.std.proofs.Common.{◌≡◌, ◌<◌, ℕ, ◌+◌, Bool, true, false, cond, List, [], ◌∷◌, ◌++◌, Some, None, refl, sym, ap, subst, ◌∙◌, arith}
+use Rattle.std.proofs.Common.{◌≡◌, ◌≢◌, ◌<◌, ⊎_elim, ℕ, ◌+◌, Bool, true, false, cond, List, [], ◌∷◌, ◌++◌, length, Some, None, refl, sym, ap, subst, ◌∙◌, arith}
 use Rattle.std.specs.Prelude.{nat_eq}
-use Rattle.std.proofs.lemmas.Bool.{eqb-false}
+use Rattle.std.proofs.lemmas.Bool.{cases_eq, eqb-false}
+use Rattle.fm_model.specs.declared.op.Op.{Op}
 use Rattle.web_session.specs.declared.action.Asked.{Asked}
 use Rattle.web_session.specs.declared.action.Asked.TheVariants as says
 use Rattle.web_session.specs.declared.action.End.TheVariants as ends
 use Rattle.web_session.specs.State.{end_after, replied, State}
 use Rattle.dap_reply.specs.declared.served.Mark.{Mark}
+use Rattle.dap_reply.specs.Collections.{Collections, Views}
 use Rattle.dap_reply.specs.Parts.{Parts as Plan}
 use Rattle.srv_conn.specs.declared.acting.Acted.{Acted}
 use Rattle.srv_conn.specs.declared.acting.Acted.TheVariants as acts
 use Rattle.srv_conn.specs.declared.doing.Doing.{Doing}
 use Rattle.srv_conn.specs.declared.doing.Doing.TheVariants as does
+use Rattle.srv_conn.specs.declared.revisions.Revisions.{Revisions}
 use Rattle.srv_conn.specs.Acts.{doing_after, ActsIn, IsOngoing, IsReading, IsReady, Notes, Stand}
-use Rattle.srv_conn.specs.Out.{KnowsRevision, MOST_REPLIES}
+use Rattle.srv_conn.specs.Out.{AreRevisions, KnowsRevisions, MOST_REPLIES}
+use Rattle.srv_conn.specs.Revisions.{revision_at}
+use Rattle.srv_conn.specs.Sight.{OthersStay}
 use Rattle.srv_conn.proofs.GoingOn.{leads-on}
 
 -- ---- the marks
@@ -96,31 +101,42 @@ few-in (does.Replying plan sent) before after (acts.Ended end) ready a goes few 
 few-in (does.Leaving said) before after acted ready a goes few =
     subst (λ (s : State). s.before < MOST_REPLIES) (sym a.session_is) few
 
--- ---- the revision
+-- ---- the revisions
 
-knows-after : (plan : Plan) (sent : ℕ) (acted : Acted) (revision count : ℕ) → revision ≡ count
-    → KnowsRevision (doing_after plan sent acted) revision count
-knows-after plan sent acts.Moved revision count is = is
-knows-after plan sent (acts.Asks asked) revision count is = is
-knows-after plan sent (acts.Sent n total) revision count is = is
-knows-after plan sent acts.Finished revision count is = is
-knows-after plan sent acts.Later revision count is = is
-knows-after plan sent (acts.Ended end) revision count is = is
+knows-after : (them : Collections) (plan : Plan) (sent : ℕ) (acted : Acted) (revisions : Revisions) (seen : ℕ → List Op)
+    → AreRevisions them revisions seen → KnowsRevisions them (doing_after plan sent acted) revisions seen
+knows-after them plan sent acts.Moved revisions seen are = are
+knows-after them plan sent (acts.Asks asked) revisions seen are = are
+knows-after them plan sent (acts.Sent n total) revisions seen are = are
+knows-after them plan sent acts.Finished revisions seen are = are
+knows-after them plan sent acts.Later revisions seen are = are
+knows-after them plan sent (acts.Ended end) revisions seen are = are
 
-pub knows-in : (doing : Doing) (before after : Stand) (acted : Acted) (revision count : ℕ)
-    → ActsIn doing before after acted (λ plan sent. doing_after plan sent acted)
-    → KnowsRevision doing revision count → KnowsRevision after.doing revision count
-knows-in does.Reading before after acted revision count a is =
-    subst (λ (d : Doing). KnowsRevision d revision count) (sym a.0) is
-knows-in (does.Replying plan sent) before after acted revision count a is =
-    subst (λ (d : Doing). KnowsRevision d revision count) (sym a.doing_is)
-    (knows-after plan a.sent' acted revision count is)
-knows-in (does.Leaving said) before after acted revision count a is =
-    subst (λ (d : Doing). KnowsRevision d revision count) (sym a.doing_is) tt
+pub knows-in : (them : Collections) (doing : Doing) (before after : Stand) (acted : Acted) (revisions : Revisions)
+    (seen : ℕ → List Op) → ActsIn doing before after acted (λ plan sent. doing_after plan sent acted)
+    → KnowsRevisions them doing revisions seen → KnowsRevisions them after.doing revisions seen
+knows-in them does.Reading before after acted revisions seen a are =
+    subst (λ (d : Doing). KnowsRevisions them d revisions seen) (sym a.0) are
+knows-in them (does.Replying plan sent) before after acted revisions seen a are =
+    subst (λ (d : Doing). KnowsRevisions them d revisions seen) (sym a.doing_is)
+    (knows-after them plan a.sent' acted revisions seen are)
+knows-in them (does.Leaving said) before after acted revisions seen a are =
+    subst (λ (d : Doing). KnowsRevisions them d revisions seen) (sym a.doing_is) tt
 
 -- what a connection that reads knows
-pub knows-reading : (doing : Doing) (revision count : ℕ) → IsReading doing → KnowsRevision doing revision count
-    → revision ≡ count
-knows-reading does.Reading revision count reads is = is
-knows-reading (does.Replying plan sent) revision count reads is = absurd reads
-knows-reading (does.Leaving said) revision count reads is = absurd reads
+pub knows-reading : (them : Collections) (doing : Doing) (revisions : Revisions) (seen : ℕ → List Op) → IsReading doing
+    → KnowsRevisions them doing revisions seen → AreRevisions them revisions seen
+knows-reading them does.Reading revisions seen reads are = are
+knows-reading them (does.Replying plan sent) revisions seen reads are = absurd reads
+knows-reading them (does.Leaving said) revisions seen reads are = absurd reads
+
+-- the revisions with that of one collection more
+pub revisions-with : (them : Collections) (number : ℕ) (revisions revisions' : Revisions) (views views' : Views)
+    → AreRevisions them revisions views.seen → OthersStay number views views'
+    → revision_at revisions' number ≡ length (views'.seen number)
+    → ((other : ℕ) → other ≢ number → revision_at revisions' other ≡ revision_at revisions other)
+    → AreRevisions them revisions' views'.seen
+revisions-with them number revisions revisions' views views' are others own same other below = ⊎_elim
+    (λ is. subst (λ (n : ℕ). revision_at revisions' n ≡ length (views'.seen n)) (sym is) own)
+    (λ differs. same other differs ∙ are other below ∙ ap length (sym (others.seen_are other differs)))
+    (cases_eq other number)

@@ -2,14 +2,13 @@
 use Rattle.std.proofs.Common.{◌≡◌, ℕ, [], Bool, Option, Some, sym, ap, subst, ◌∙◌}
 use Rattle.std.specs.Prelude.{IfSome}
 use Rattle.slab.specs.Slab.{ContainsKey, Slab, Updates}
-use Rattle.fm_model.specs.declared.proto.Proto.{Proto}
 use Rattle.dev_traits.specs.Door.{after_coming, first_of, Doorway, DoorShown, IfCame, IsFresh, MayCome}
 use Rattle.dev_traits.specs.declared.door.Coming.{Coming}
 use Rattle.dev_traits.specs.declared.door.Coming.TheVariants.{Came, Closed, Ready}
 use Rattle.dev_traits.specs.Shown.{LinkShown}
+use Rattle.dap_reply.specs.Collections.{Collections, Views}
 use Rattle.srv_conn.specs.declared.hall.Hall.{Hall}
 use Rattle.srv_conn.specs.AtDoor.{AtDoor, IsOutSome}
-use Rattle.srv_conn.specs.Sight.{Sight}
 use Rattle.srv_conn.proofs.HallLemmas.{at-out, closed-none, same-closed, same-ready}
 
 -- doors that show the same hold the same
@@ -59,15 +58,15 @@ closed-left {L} held held' is next after =
     closed-none held held' (subst (λ (it : Coming L). IfSome held (λ doorway. MayCome doorway it)) is next)
     (came-after held held' is after)
 
-module _ {L : Type 0} {shown : L → LinkShown} {proto : Proto} {still : Bool} where
+module _ {L : Type 0} {shown : L → LinkShown} {them : Collections} where
   -- the links are as they were, at a door that holds the same
-  pub at-same : {door door' door'' : Option (Doorway L)} {sight sight' : Sight} {hall : Hall L} → door'' ≡ door'
-      → AtDoor shown proto still door door' sight sight' hall → AtDoor shown proto still door door'' sight sight' hall
-  at-same {door} {sight = sight} {sight' = sight'} {hall = hall} same at =
-      subst (λ (d : Option (Doorway L)). AtDoor shown proto still door d sight sight' hall) (sym same) at
+  pub at-same : {door door' door'' : Option (Doorway L)} {views views' : Views} {hall : Hall L} → door'' ≡ door'
+      → AtDoor shown them door door' views views' hall → AtDoor shown them door door'' views views' hall
+  at-same {door} {views = views} {views' = views'} {hall = hall} same at =
+      subst (λ (d : Option (Doorway L)). AtDoor shown them door d views views' hall) (sym same) at
 
   -- and one that is held is out
-  pub out-same : {door door' door'' : Option (Doorway L)} {sight sight' : Sight} {hall : Hall L} (key : ℕ)
-      → door'' ≡ door' → AtDoor shown proto still door door' sight sight' hall → ContainsKey hall.links key
+  pub out-same : {door door' door'' : Option (Doorway L)} {views views' : Views} {hall : Hall L} (key : ℕ)
+      → door'' ≡ door' → AtDoor shown them door door' views views' hall → ContainsKey hall.links key
       → IfSome door'' IsOutSome
   out-same key same at there = at-out key (at-same same at) there

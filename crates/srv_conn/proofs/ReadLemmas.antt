@@ -15,7 +15,7 @@ use Rattle.web_session.specs.State.{action_of, end_of_input, resting, State}
 use Rattle.dap_reply.specs.Served.{held_bytes, IsAtRest}
 use Rattle.srv_conn.specs.Turn.{Takes}
 use Rattle.srv_conn.proofs.EventLemmas.{feeds, input-ends}
-use Rattle.srv_conn.proofs.MovedLemmas.{moved-given, next-given}
+use Rattle.dev_traits.proofs.MovedLemmas.{moved-given, next-given}
 use Rattle.srv_conn.proofs.SessionLemmas.{ends-so, reads-waiting}
 
 -- bytes came

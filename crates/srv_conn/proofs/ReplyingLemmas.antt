@@ -1,5 +1,5 @@
 -- A reply over a link that blocks, from the question to its end.
-use Rattle.std.proofs.Common.{◌≡◌, ◌⊎◌, inl, inr, ⊎_elim, ℕ, ◌+◌, Bool, List, [], ◌∷◌, ◌++◌, length, Option, Result, Ok, Err, refl, sym, ap, subst, ◌∙◌, append-nil, arith, length-append}
+use Rattle.std.proofs.Common.{◌≡◌, ◌⊎◌, inl, inr, ⊎_elim, ℕ, ◌+◌, Bool, List, [], ◌∷◌, ◌++◌, length, Option, Result, Ok, Err, refl, sym, ap, ap₂, subst, ◌∙◌, append-nil, arith, length-append}
 use Rattle.std.specs.Prelude.{IfOk, OnErr}
 use Rattle.fm_model.specs.declared.op.Op.{Op}
 use Rattle.fm_model.specs.declared.proto.Proto.{Proto}
@@ -11,16 +11,17 @@ use Rattle.web_session.specs.declared.phase.Phase.TheVariants.{Asking}
 use Rattle.web_session.specs.Run.{item_asked}
 use Rattle.web_session.specs.State.{State}
 use Rattle.dap_reply.specs.declared.served.Mark.{Mark}
+use Rattle.dap_reply.specs.Collections.{Collections, Views}
 use Rattle.dap_reply.specs.Reply.{is_wanted}
 use Rattle.srv_conn.specs.declared.doing.Doing.{Doing}
 use Rattle.srv_conn.specs.declared.doing.Doing.TheVariants as does
 use Rattle.srv_conn.specs.Acts.{IsLeaving, IsOneMore, IsReading, IsReady}
-use Rattle.srv_conn.specs.Begins.{looks_for, seen_for, Begins, IsReplyTo, IsShortOf}
+use Rattle.srv_conn.specs.Begins.{Begins, IsReplyTo, IsShortOf}
 use Rattle.srv_conn.specs.Follows.{Follows}
-use Rattle.srv_conn.specs.Serves.{moment_of, Moment}
-use Rattle.srv_conn.specs.Sight.{Sight}
+use Rattle.srv_conn.specs.ServesMany.{point_of, Point}
+use Rattle.srv_conn.specs.Sight.{sight_in, OthersStay, Sight}
 use Rattle.srv_conn.specs.SoFar.{Asks, SoFar}
-use Rattle.srv_conn.proofs.BeginLemmas.{begins-parting, begins-sending, seen-same}
+use Rattle.srv_conn.proofs.BeginLemmas.{begins-parting, begins-sending, seen-same, sight_after}
 
 -- what is being done, and the session, once a reply was begun
 pub reply-ready : {proto : Proto} {item : Item} {asked : Asked} {last revision : ℕ} {session session' : State}
@@ -61,56 +62,49 @@ begun-longer (Err e) trail trail_mid trail' b marked leaves one =
     absurd (leaves (subst IsLeaving (sym b.leaves.doing_is) tt))
 
 -- the end of a link that a reply leads to
-pub reply-follows : {E : Type 0} {proto : Proto} {still : Bool} {asked : Asked} {last : ℕ}
-    {link : LinkShown} {session mid : State} {doing : Doing} {sight sight' : Sight} {trail : List Mark}
+pub reply-follows : {E : Type 0} {them : Collections} {number : ℕ} {asked : Asked} {last : ℕ}
+    {link : LinkShown} {session mid : State} {doing : Doing} {views views' : Views} {trail : List Mark}
     (link' : LinkShown) (after : State) (trail_mid trail' : List Mark) (end : Option End) (result : Result ℕ E)
-    (start : Moment) (most : ℕ)
-    → Asks proto still start (moment_of link sight.seen sight.looks session trail) most asked
-    → last ≡ length sight.seen
-    → Begins proto still asked last session mid doing sight sight' result
+    (start : Point) (most : ℕ) → Asks them start (point_of link views session trail) most asked
+    → number ≡ them.choice (item_asked asked session.held) → last ≡ length (views.seen number)
+    → Begins (them.proto number) (them.still number) asked last session mid doing (sight_in views number)
+    (sight_in views' number) result
+    → OthersStay number views views'
     → IfOk result (λ revision. trail_mid ≡ trail ++ record { revision = revision; sent = 0 } ∷ [])
     → OnErr result (trail_mid ≡ trail)
-    → ((seen : List Op) (looks : List ℕ) (n : ℕ)
-    → SoFar proto still start (moment_of link seen looks mid trail_mid) n doing
-    → Follows proto still start n (moment_of link' seen looks after trail') end)
-    → Follows proto still start most (moment_of link' sight'.seen sight'.looks after trail') end
-reply-follows {proto = proto} {still = still} {asked = asked} {last = last} {link = link}
-    {session = session} {mid = mid} {doing = doing} {sight = sight} {sight' = sight'} {trail = trail}
-    link' after trail_mid trail' end (Ok revision) start most asks last_is b
-    marked unmarked follows =
+    → ((now : Views) (n : ℕ) → SoFar them start (point_of link now mid trail_mid) n doing
+    → Follows them start n (point_of link' now after trail') end)
+    → Follows them start most (point_of link' views' after trail') end
+reply-follows {them = them} {number = number} {asked = asked} {last = last} {link = link} {session = session}
+    {mid = mid} {doing = doing} {views = views} {views' = views'} {trail = trail} link' after trail_mid trail' end
+    (Ok revision) start most asks choice last_is b others marked unmarked follows =
     let r = b.begun in
-    let wanted : Bool = is_wanted proto.site (item_asked asked session.held) in
-    let seen_is : seen_for wanted sight.seen sight'.seen ≡ sight'.seen =
-    seen-same sight.seen sight'.seen wanted r.unwanted in
-    follows sight'.seen sight'.looks most
-    (subst (SoFar proto still start (moment_of link sight'.seen sight'.looks mid trail_mid) most) (sym r.doing_is)
-    (subst (λ (marks : List Mark). SoFar proto still start (moment_of link sight'.seen sight'.looks mid marks) most
+    let wanted : Bool = is_wanted (them.proto number).site (item_asked asked session.held) in
+    let at : sight_in views' number ≡ sight_after wanted (sight_in views number) (views'.seen number) =
+    ap₂ (λ (ops : List Op) (looks : List ℕ). record { seen = ops; looks = looks })
+    (sym (seen-same (views.seen number) (views'.seen number) wanted r.unwanted)) r.looks_are in
+    follows views' most
+    (subst (SoFar them start (point_of link views' mid trail_mid) most) (sym r.doing_is)
+    (subst (λ (marks : List Mark). SoFar them start (point_of link views' mid marks) most
     (does.Replying r.plan 0)) (sym marked)
-    (subst (λ (s : State). SoFar proto still start (moment_of link sight'.seen sight'.looks s
+    (subst (λ (s : State). SoFar them start (point_of link views' s
     (trail ++ record { revision = revision; sent = 0 } ∷ [])) most (does.Replying r.plan 0)) (sym r.session_is)
-    (subst (λ (l : List ℕ). SoFar proto still start (moment_of link sight'.seen l session
-    (trail ++ record { revision = revision; sent = 0 } ∷ [])) most (does.Replying r.plan 0)) (sym r.looks_are)
-    (subst (λ (ops : List Op). SoFar proto still start (moment_of link ops
-    (sight.looks ++ looks_for wanted (length sight'.seen)) session
-    (trail ++ record { revision = revision; sent = 0 } ∷ [])) most (does.Replying r.plan 0)) seen_is
-    (begins-sending (moment_of link sight.seen sight.looks session trail) asked mid doing sight sight' last revision
-    asks b.sees last_is r))))))
-reply-follows {proto = proto} {still = still} {asked = asked} {last = last} {link = link}
-    {session = session} {mid = mid} {doing = doing} {sight = sight} {sight' = sight'} {trail = trail}
-    link' after trail_mid trail' end (Err e) start most asks last_is b marked unmarked follows =
-    ⊎_elim (λ none. parted [] (none ∙ sym (append-nil sight.looks)) (inl refl))
-    (λ one. parted (length sight'.seen ∷ []) one (inr refl)) b.leaves.looks_are
+    (begins-sending (point_of link views session trail) asked mid doing number (sight_in views number)
+    (sight_in views' number) last revision views' asks choice b.sees last_is others at r))))
+reply-follows {them = them} {number = number} {asked = asked} {link = link} {session = session} {mid = mid}
+    {doing = doing} {views = views} {views' = views'} {trail = trail} link' after trail_mid trail' end (Err e) start most
+    asks choice last_is b others marked unmarked follows =
+    ⊎_elim (λ none. parted [] (none ∙ sym (append-nil (views.looks number))) (inl refl))
+    (λ one. parted (length (views'.seen number) ∷ []) one (inr refl)) b.leaves.looks_are
   where
-    parted : (more : List ℕ) → sight'.looks ≡ sight.looks ++ more
-        → (more ≡ []) ⊎ (more ≡ length sight'.seen ∷ [])
-        → Follows proto still start most (moment_of link' sight'.seen sight'.looks after trail') end
+    parted : (more : List ℕ) → views'.looks number ≡ views.looks number ++ more
+        → (more ≡ []) ⊎ (more ≡ length (views'.seen number) ∷ [])
+        → Follows them start most (point_of link' views' after trail') end
     parted more looks one =
-        follows sight'.seen sight'.looks most
-        (subst (SoFar proto still start (moment_of link sight'.seen sight'.looks mid trail_mid) most)
-        (sym b.leaves.doing_is)
-        (subst (λ (marks : List Mark). SoFar proto still start (moment_of link sight'.seen sight'.looks mid marks) most
+        follows views' most
+        (subst (SoFar them start (point_of link views' mid trail_mid) most) (sym b.leaves.doing_is)
+        (subst (λ (marks : List Mark). SoFar them start (point_of link views' mid marks) most
         (does.Leaving 0)) (sym unmarked)
-        (subst (λ (l : List ℕ). SoFar proto still start (moment_of link sight'.seen l mid trail) most
-        (does.Leaving 0)) (sym looks)
-        (begins-parting (moment_of link sight.seen sight.looks session trail) asked mid doing sight sight' more asks
-        b.sees b.leaves one))))
+        (begins-parting (point_of link views session trail) asked mid doing number (sight_in views number)
+        (sight_in views' number) more views' asks b.sees others
+        (ap (λ (l : List ℕ). record { seen = views'.seen number; looks = l }) looks) b.leaves one)))

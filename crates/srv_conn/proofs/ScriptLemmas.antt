@@ -5,10 +5,13 @@ use Rattle.std.proofs.lemmas.List.{take-append-le}
 use Rattle.fm_model.specs.declared.op.Op.{Op}
 use Rattle.fm_model.specs.declared.proto.Proto.{Proto}
 use Rattle.fm_model.specs.Collection.{coll}
+use Rattle.pub_look.specs.History.{Continues}
 use Rattle.web_frame.specs.Items.{Item}
 use Rattle.dap_reply.specs.declared.served.Mark.{Mark}
+use Rattle.dap_reply.specs.Collections.{proto_for, Collections}
 use Rattle.dap_reply.specs.Reply.{target_wanted, reply_of}
-use Rattle.dap_reply.specs.Served.{marked_reply, sent_by, wanted_revisions, RepeatsUnwanted, Rises}
+use Rattle.dap_reply.specs.Served.{wanted_revisions, RepeatsUnwanted, Rises}
+use Rattle.dap_reply.specs.ServedMany.{reply_for, sent_for}
 use Rattle.srv_conn.specs.SoFar.{last_revision, Each}
 
 pub last-append : (before : ℕ) (marks : List Mark) (mark : Mark)
@@ -18,62 +21,63 @@ last-append before (m ∷ marks) mark = last-append m.revision marks mark
 
 -- ---- the bytes of the replies
 
-pub sent-append : (proto : Proto) (ops : List Op) (marks more : List Mark) (items others : List Item) (before : ℕ)
-    → length marks ≡ length items
-    → sent_by proto ops (marks ++ more) (items ++ others) before
-    ≡ sent_by proto ops marks items before ++ sent_by proto ops more others (before + length marks)
-unfolding sent_by
-sent-append proto ops [] more [] others before same =
+pub sent-append : (them : Collections) (seen : ℕ → List Op) (marks more : List Mark) (items others : List Item)
+    (before : ℕ) → length marks ≡ length items
+    → sent_for them seen (marks ++ more) (items ++ others) before
+    ≡ sent_for them seen marks items before ++ sent_for them seen more others (before + length marks)
+unfolding sent_for
+sent-append them seen [] more [] others before same =
     let start : before ≡ before + 0 = omega arith in
-    ap (sent_by proto ops more others) start
-sent-append proto ops [] more (i ∷ items) others before same = absurd (omega arith)
-sent-append proto ops (m ∷ marks) more [] others before same = absurd (omega arith)
-sent-append proto ops (m ∷ marks) more (i ∷ items) others before same =
-    let first : List ℕ = take m.sent (marked_reply proto ops m i (before + 1)) in
+    ap (sent_for them seen more others) start
+sent-append them seen [] more (i ∷ items) others before same = absurd (omega arith)
+sent-append them seen (m ∷ marks) more [] others before same = absurd (omega arith)
+sent-append them seen (m ∷ marks) more (i ∷ items) others before same =
+    let first : List ℕ = take m.sent (reply_for them seen m i (before + 1)) in
     let number : before + 1 + length marks ≡ before + suc (length marks) = omega arith in
-    ap (λ (l : List ℕ). first ++ l) (sent-append proto ops marks more items others (before + 1) (omega arith))
-    ∙ ap (λ (n : ℕ). first ++ (sent_by proto ops marks items (before + 1) ++ sent_by proto ops more others n)) number
-    ∙ sym (append_assoc first (sent_by proto ops marks items (before + 1)) _)
+    ap (λ (l : List ℕ). first ++ l) (sent-append them seen marks more items others (before + 1) (omega arith))
+    ∙ ap (λ (n : ℕ). first ++ (sent_for them seen marks items (before + 1) ++ sent_for them seen more others n)) number
+    ∙ sym (append_assoc first (sent_for them seen marks items (before + 1)) _)
 
-pub sent-none : (proto : Proto) (ops : List Op) (items : List Item) (before : ℕ)
-    → sent_by proto ops [] items before ≡ []
-unfolding sent_by
-sent-none proto ops items before = refl
+pub sent-none : (them : Collections) (seen : ℕ → List Op) (items : List Item) (before : ℕ)
+    → sent_for them seen [] items before ≡ []
+unfolding sent_for
+sent-none them seen items before = refl
 
-pub sent-one : (proto : Proto) (ops : List Op) (mark : Mark) (item : Item) (items : List Item) (before : ℕ)
-    → sent_by proto ops (mark ∷ []) (item ∷ items) before
-    ≡ take mark.sent (marked_reply proto ops mark item (before + 1))
-unfolding sent_by
-sent-one proto ops mark item items before = append-nil (take mark.sent (marked_reply proto ops mark item (before + 1)))
+pub sent-one : (them : Collections) (seen : ℕ → List Op) (mark : Mark) (item : Item) (items : List Item) (before : ℕ)
+    → sent_for them seen (mark ∷ []) (item ∷ items) before ≡ take mark.sent (reply_for them seen mark item (before + 1))
+unfolding sent_for
+sent-one them seen mark item items before = append-nil (take mark.sent (reply_for them seen mark item (before + 1)))
 
 -- items without a mark make no difference
-pub sent-front : (proto : Proto) (ops : List Op) (marks : List Mark) (items others : List Item) (before : ℕ)
+pub sent-front : (them : Collections) (seen : ℕ → List Op) (marks : List Mark) (items others : List Item) (before : ℕ)
     → length marks ≡ length items
-    → sent_by proto ops marks (items ++ others) before ≡ sent_by proto ops marks items before
-unfolding sent_by
-sent-front proto ops [] items others before same = refl
-sent-front proto ops (m ∷ marks) [] others before same = absurd (omega arith)
-sent-front proto ops (m ∷ marks) (i ∷ items) others before same =
-    ap (λ (l : List ℕ). take m.sent (marked_reply proto ops m i (before + 1)) ++ l)
-    (sent-front proto ops marks items others (before + 1) (omega arith))
+    → sent_for them seen marks (items ++ others) before ≡ sent_for them seen marks items before
+unfolding sent_for
+sent-front them seen [] items others before same = refl
+sent-front them seen (m ∷ marks) [] others before same = absurd (omega arith)
+sent-front them seen (m ∷ marks) (i ∷ items) others before same =
+    ap (λ (l : List ℕ). take m.sent (reply_for them seen m i (before + 1)) ++ l)
+    (sent-front them seen marks items others (before + 1) (omega arith))
 
 -- later operations change no reply over those before them
-pub marked-later : (proto : Proto) (ops later : List Op) (mark : Mark) (item : Item) (number : ℕ)
-    → mark.revision ≤ length ops
-    → marked_reply proto (ops ++ later) mark item number ≡ marked_reply proto ops mark item number
-marked-later proto ops later mark item number within =
-    ap (λ (l : List Op). reply_of proto (coll l) mark.revision item number)
-    (take-append-le mark.revision ops later within)
+pub reply-later : (them : Collections) (seen later : ℕ → List Op) (mark : Mark) (item : Item) (number : ℕ)
+    → ((n : ℕ) → Continues (seen n) (later n)) → mark.revision ≤ length (seen (them.choice item))
+    → reply_for them later mark item number ≡ reply_for them seen mark item number
+reply-later them seen later mark item number grows within =
+    let more : Continues (seen (them.choice item)) (later (them.choice item)) = grows (them.choice item) in
+    ap (λ (l : List Op). reply_of (proto_for them item) (coll l) mark.revision item number)
+    (ap (take mark.revision) more.1 ∙ take-append-le mark.revision (seen (them.choice item)) more.0 within)
 
-pub sent-later : (proto : Proto) (ops later : List Op) (marks : List Mark) (items : List Item) (before : ℕ)
-    → Each (λ _ mark _. mark.revision ≤ length ops) marks items (before + 1)
-    → sent_by proto (ops ++ later) marks items before ≡ sent_by proto ops marks items before
-unfolding sent_by
-sent-later proto ops later [] items before within = refl
-sent-later proto ops later (m ∷ marks) [] before within = refl
-sent-later proto ops later (m ∷ marks) (i ∷ items) before within =
-    ap₂ (λ (l r : List ℕ). take m.sent l ++ r) (marked-later proto ops later m i (before + 1) within.0)
-    (sent-later proto ops later marks items (before + 1) within.1)
+pub sent-later : (them : Collections) (seen later : ℕ → List Op) (marks : List Mark) (items : List Item) (before : ℕ)
+    → ((n : ℕ) → Continues (seen n) (later n))
+    → Each (λ _ mark item. mark.revision ≤ length (seen (them.choice item))) marks items (before + 1)
+    → sent_for them later marks items before ≡ sent_for them seen marks items before
+unfolding sent_for
+sent-later them seen later [] items before grows within = refl
+sent-later them seen later (m ∷ marks) [] before grows within = refl
+sent-later them seen later (m ∷ marks) (i ∷ items) before grows within =
+    ap₂ (λ (l r : List ℕ). take m.sent l ++ r) (reply-later them seen later m i (before + 1) grows within.0)
+    (sent-later them seen later marks items (before + 1) grows within.1)
 
 -- ---- the looks
 

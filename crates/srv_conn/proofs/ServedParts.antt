@@ -12,7 +12,8 @@ use Rattle.web_session.specs.State.{end_after, end_of_input}
 use Rattle.dap_reply.specs.declared.served.Mark.{Mark}
 use Rattle.dap_reply.specs.declared.served.Stop.TheVariants as stops
 use Rattle.dap_reply.specs.Reply.{is_last}
-use Rattle.dap_reply.specs.Served.{items_of, marked_reply, number_at, AnswersInOrder, EndsAfterReply, EndsBy, HasFailed, InputEnds, IsWholeOrCut, LinkCall}
+use Rattle.dap_reply.specs.Served.{number_at, AnswersInOrder, EndsAfterReply, EndsBy, HasFailed, InputEnds, LinkCall}
+use Rattle.dap_reply.specs.ServedMany.{all_items, call_in, reply_for, IsWholeOrCutFor, ManyCall}
 use Rattle.srv_conn.proofs.EachLemmas.{Each-at, Each-item, Each-map}
 use Rattle.srv_conn.specs.SoFar.{Each, GoesOn}
 
@@ -24,35 +25,35 @@ front-at (i ∷ done) others zero item below is = is
 front-at (i ∷ done) others (suc index) item below is = front-at done others index item (omega arith) is
 
 -- a reply is whole, or the last one where the link failed
-abbrev pub WholeOrCut : LinkCall → ℕ → Mark → Item → Type 0
+abbrev pub WholeOrCut : ManyCall → ℕ → Mark → Item → Type 0
 WholeOrCut call number mark item =
-    (mark.sent ≡ length (marked_reply call.proto call.seen_after mark item number))
+    (mark.sent ≡ length (reply_for call.them call.after.seen mark item number))
     ⊎ ((call.stop ≡ stops.Ended ends.LinkFault) × (number ≡ call.session.before + length call.trail)
-    × (mark.sent ≤ length (marked_reply call.proto call.seen_after mark item number)))
+    × (mark.sent ≤ length (reply_for call.them call.after.seen mark item number)))
 
 -- a reply that isn't the last one is no connection's last
-abbrev pub LastAtEnd : LinkCall → ℕ → Item → Type 0
+abbrev pub LastAtEnd : ManyCall → ℕ → Item → Type 0
 LastAtEnd call number item = number < call.session.before + length call.trail → is_last item number ≡ false
 
 -- what holds of each reply at the end
-abbrev pub Ended : LinkCall → ℕ → Mark → Item → Type 0
+abbrev pub Ended : ManyCall → ℕ → Mark → Item → Type 0
 Ended call number mark item = WholeOrCut call number mark item × LastAtEnd call number item
 
 -- replies were begun to the first items
-pub record Answered (call : LinkCall) (done others : List Item) : Type 0 where
-  pub items_are : items_of call ≡ done ++ others
+pub record Answered (call : ManyCall) (done others : List Item) : Type 0 where
+  pub items_are : all_items call ≡ done ++ others
   pub count : length call.trail ≡ length done
   pub few : length call.trail ≤ call.most
   pub each : Each (Ended call) call.trail done (call.session.before + 1)
 
 -- replies that go on are so
-pub ended-of : (call : LinkCall) (marks : List Mark) (items : List Item) (number : ℕ)
-    → Each (GoesOn call.proto call.seen_after) marks items number → Each (Ended call) marks items number
+pub ended-of : (call : ManyCall) (marks : List Mark) (items : List Item) (number : ℕ)
+    → Each (GoesOn call.them call.after.seen) marks items number → Each (Ended call) marks items number
 ended-of call marks items number each =
-    Each-map (GoesOn call.proto call.seen_after) (Ended call) marks items number
+    Each-map (GoesOn call.them call.after.seen) (Ended call) marks items number
     (λ n mark item goes. (inl goes.1, λ _. goes.2)) each
 
-pub answers-part : (call : LinkCall) (done others : List Item) → Answered call done others → AnswersInOrder call
+pub answers-part : (call : ManyCall) (done others : List Item) → Answered call done others → AnswersInOrder (call_in call 0)
 answers-part call done others a = record {
   few = a.few;
   read = subst (λ (l : List Item). length call.trail ≤ length l) (sym a.items_are)
@@ -60,16 +61,16 @@ answers-part call done others a = record {
   goes_on = λ index item below is.
       let here : slice_get done index ≡ Some item = front-at done others index item (omega (arith, a.count))
       (ap (λ (l : List Item). slice_get l index) (sym a.items_are) ∙ is) in
-      let number : call.session.before + 1 + index ≡ number_at call index = omega arith in
+      let number : call.session.before + 1 + index ≡ number_at (call_in call 0) index = omega arith in
       subst (λ (n : ℕ). is_last item n ≡ false) number
       (Each-item (LastAtEnd call) call.trail done (call.session.before + 1) index item a.count
       (Each-map (Ended call) (λ n _ i. LastAtEnd call n i) call.trail done (call.session.before + 1)
       (λ n mark i holds. holds.1) a.each) here (omega (arith, below)));
 }
 
-pub whole-part : (call : LinkCall) (done others : List Item) → Answered call done others
+pub whole-part : (call : ManyCall) (done others : List Item) → Answered call done others
     → (index : ℕ) (mark : Mark) (item : Item) → slice_get call.trail index ≡ Some mark
-    → slice_get (items_of call) index ≡ Some item → IsWholeOrCut call index mark item
+    → slice_get (all_items call) index ≡ Some item → IsWholeOrCutFor call index mark item
 whole-part call done others a index mark item there is =
     by_case (subst (λ (n : ℕ). WholeOrCut call n mark item) number
     (Each-at (Ended call) call.trail done (call.session.before + 1) index mark item a.each there here).0)
@@ -81,10 +82,10 @@ whole-part call done others a index mark item there is =
     here = front-at done others index item (omega (arith, below, a.count))
         (ap (λ (l : List Item). slice_get l index) (sym a.items_are) ∙ is)
 
-    number : call.session.before + 1 + index ≡ number_at call index
+    number : call.session.before + 1 + index ≡ number_at (call_in call 0) index
     number = omega arith
 
-    by_case : WholeOrCut call (number_at call index) mark item → IsWholeOrCut call index mark item
+    by_case : WholeOrCut call (number_at (call_in call 0) index) mark item → IsWholeOrCutFor call index mark item
     by_case (inl whole) = inl whole
     by_case (inr cut) = inr (cut.0, omega (arith, cut.1), cut.2)
 

@@ -1,12 +1,12 @@
 -- Where a connection stands after an action.
 use Rattle.std.proofs.Common.{◌≡◌, ◌≢◌, ◌≤◌, ℕ, ◌+◌, Bool, List, length, refl, sym, ap, subst, ◌∙◌}
-use Rattle.fm_model.specs.declared.proto.Proto.{Proto}
 use Rattle.dev_traits.specs.Shown.{LinkShown}
 use Rattle.web_session.specs.declared.action.Asked.{Asked}
 use Rattle.web_session.specs.declared.action.End.{End}
 use Rattle.web_session.specs.declared.phase.Phase.TheVariants.{Asking}
 use Rattle.web_session.specs.State.{State}
 use Rattle.dap_reply.specs.declared.served.Mark.{Mark}
+use Rattle.dap_reply.specs.Collections.{Collections}
 use Rattle.dap_reply.specs.Head.{no_memory_reply}
 use Rattle.dap_reply.specs.Parts.{bytes_of, Parts as Plan}
 use Rattle.dap_reply.specs.Served.{IsAtRest}
@@ -15,7 +15,7 @@ use Rattle.srv_conn.specs.declared.acting.Acted.TheVariants as acts
 use Rattle.srv_conn.specs.declared.doing.Doing.{Doing}
 use Rattle.srv_conn.specs.declared.doing.Doing.TheVariants as does
 use Rattle.srv_conn.specs.Acts.{doing_after, settled, stand, Acts, ActsIn, ActsOn, IsAsking, IsLeaving, IsOneMore, IsOngoing, IsReading, IsReady, Notes, Parts, Reads, Sends, Stand}
-use Rattle.srv_conn.specs.Serves.{Moment}
+use Rattle.srv_conn.specs.ServesMany.{Point}
 use Rattle.srv_conn.specs.SoFar.{SoFar}
 use Rattle.srv_conn.proofs.GoingOn.{leads-on}
 use Rattle.srv_conn.proofs.SessionLemmas.{rests-at}
@@ -70,12 +70,12 @@ acts-settled before link session mid (acts.Ended end) a =
 -- ---- whether an action may be done
 
 -- of a link that was served so far the next action may be done
-pub ready-so-far : (proto : Proto) (still : Bool) (start now : Moment) (most : ℕ) (doing : Doing)
-    → SoFar proto still start now most doing → IsReady doing now.session
-ready-so-far proto still start now most does.Reading s = rests-at now.session _ _ s.0.session_is
-ready-so-far proto still start now most (does.Replying plan sent) s =
+pub ready-so-far : (them : Collections) (start now : Point) (most : ℕ) (doing : Doing)
+    → SoFar them start now most doing → IsReady doing now.session
+ready-so-far them start now most does.Reading s = rests-at now.session _ _ s.0.session_is
+ready-so-far them start now most (does.Replying plan sent) s =
     ((s.asked, ap (λ (x : State). x.phase) s.session_is ∙ s.asks.asking), s.within)
-ready-so-far proto still start now most (does.Leaving said) s = s.within
+ready-so-far them start now most (does.Leaving said) s = s.within
 
 -- an action after which the session hasn't ended
 pub ongoing-other : (acted : Acted) → ((end : End) → acted ≢ acts.Ended end) → IsOngoing acted

@@ -11,6 +11,10 @@ abbrev pub tagged : ℕ → List ℕ → List Tag
 tagged number [] = []
 tagged number (count ∷ more) = record { number = number; count = count } ∷ tagged number more
 
+-- the tags at each collection, with those of these looks for the link of a number
+abbrev pub tags_with : (ℕ → List Tag) → ℕ → (ℕ → List ℕ) → ℕ → List Tag
+tags_with tags number more collection = tags collection ++ tagged number (more collection)
+
 -- whether a tag is that of a number
 abbrev pub is_of : ℕ → Tag → Bool
 is_of number tag = nat_eq tag.number number

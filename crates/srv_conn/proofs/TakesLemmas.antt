@@ -6,9 +6,9 @@ use Rattle.web_session.specs.declared.action.End.{End}
 use Rattle.web_session.specs.State.{resting, State}
 use Rattle.dap_reply.specs.Served.{held_bytes, IsAtRest}
 use Rattle.srv_conn.specs.Acts.{EndsWaiting}
-use Rattle.srv_conn.specs.Moved.{moved, AreNext}
+use Rattle.dev_traits.specs.Moved.{moved, AreNext}
 use Rattle.srv_conn.specs.Turn.{EndsReading, FindsNone, Takes, TakesSome}
-use Rattle.srv_conn.proofs.MovedLemmas.{moved-more, moved-none, next-more, next-none}
+use Rattle.dev_traits.proofs.MovedLemmas.{moved-more, moved-none, next-more, next-none}
 use Rattle.srv_conn.proofs.SessionLemmas.{held-at, rests-at}
 
 -- what a session holds after bytes were taken

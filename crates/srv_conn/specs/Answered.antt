@@ -4,6 +4,7 @@ use Rattle.web_frame.specs.Items.{Item}
 use Rattle.dap_reply.specs.declared.served.Mark.{Mark}
 use Rattle.dap_reply.specs.Reply.{is_last}
 use Rattle.dap_reply.specs.Served.{items_of, marked_reply, number_at, LinkCall}
+use Rattle.dap_reply.specs.ServedMany.{call_in, reply_for, ManyCall}
 
 -- no request before an index has a connection's last reply
 abbrev pub GoesOnBefore : LinkCall → ℕ → Type 0
@@ -15,3 +16,9 @@ pub record IsAnswered (call : LinkCall) (index : ℕ) (item : Item) : Type 0 whe
   pub mark : Mark
   pub mark_is : slice_get call.trail index ≡ Some mark
   pub whole : mark.sent ≡ length (marked_reply call.proto call.seen_after mark item (number_at call index))
+
+-- the same over several collections: its reply is over the one that it is for
+pub record IsAnsweredFor (call : ManyCall) (index : ℕ) (item : Item) : Type 0 where
+  pub mark : Mark
+  pub mark_is : slice_get call.trail index ≡ Some mark
+  pub whole : mark.sent ≡ length (reply_for call.them call.after.seen mark item (number_at (call_in call 0) index))

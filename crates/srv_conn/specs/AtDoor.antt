@@ -2,12 +2,12 @@
 use Rattle.std.specs.Prelude.{◌≡◌, ◌≢◌, ℕ, ◌+◌, ◌<◌, ◌≤◌, ◌++◌, All, Bool, true, false, List, length, map, take, slice_get, Option, Some, None, IfSome}
 use Rattle.slab.specs.Slab.{get, slab_len, ContainsKey, Slab}
 use Rattle.fm_model.specs.declared.op.Op.{Op}
-use Rattle.fm_model.specs.declared.proto.Proto.{Proto}
 use Rattle.dev_traits.specs.Shown.{LinkShown}
 use Rattle.dev_traits.specs.Cause.{capped, one_more}
 use Rattle.dev_traits.specs.Door.{after_coming, first_of, Doorway, IsFresh}
 use Rattle.dev_traits.specs.declared.door.Coming.TheVariants.{Came}
 use Rattle.pub_look.specs.History.{Continues}
+use Rattle.dap_reply.specs.Collections.{Collections, Views}
 use Rattle.srv_conn.specs.declared.connection.Connection.{Connection}
 use Rattle.srv_conn.specs.declared.door_next.Next.{Next}
 use Rattle.srv_conn.specs.declared.door_next.Next.TheVariants as nexts
@@ -17,7 +17,7 @@ use Rattle.srv_conn.specs.declared.hall.Hall.{Hall}
 use Rattle.srv_conn.specs.Acts.{IsReady}
 use Rattle.srv_conn.specs.DoorTurns.{after_turns, looks_of, short_count, AreApart, IsTurn, Tag, Turn}
 use Rattle.srv_conn.specs.Out.{came_at, IsOut, Own}
-use Rattle.srv_conn.specs.Sight.{IsBehind, Sight}
+use Rattle.srv_conn.specs.Sight.{AreBehind}
 
 -- a door with n links more that are out
 abbrev pub with_out : {L : Type 0} → ℕ → Option (Doorway L) → Option (Doorway L)
@@ -26,16 +26,15 @@ with_out count (Some doorway) = Some (record doorway { out = doorway.out + count
 
 -- the connection of a link that is out, with its number among those that came: the looks for it are those with its
 -- number, and no turn has that
-pub record IsHeld {L : Type 0} (shown : L → LinkShown) (proto : Proto) (still : Bool) (came : List L)
-    (turns : List (Turn L)) (tags : List Tag) (sight sight' : Sight) (number : ℕ) (connection : Connection L)
-    : Type 0 where
+pub record IsHeld {L : Type 0} (shown : L → LinkShown) (them : Collections) (came : List L) (turns : List (Turn L))
+    (tags : ℕ → List Tag) (views views' : Views) (number : ℕ) (connection : Connection L) : Type 0 where
   pub link : L
-  pub seen : List Op
+  pub seen : ℕ → List Op
   pub own : Own
   pub came_is : slice_get came number ≡ Some link
-  pub from : Continues sight.seen seen
-  pub is_out : IsOut shown proto still (came_at shown link seen) sight'.seen own connection
-  pub looks_are : own.looks ≡ looks_of number tags
+  pub from : (collection : ℕ) → Continues (views.seen collection) (seen collection)
+  pub is_out : IsOut shown them (came_at shown them link seen) views'.seen own connection
+  pub looks_are : (collection : ℕ) → own.views.looks collection ≡ looks_of number (tags collection)
   pub apart : All (λ turn. turn.number ≢ number) turns
 
 -- all connections may go on
@@ -44,43 +43,44 @@ AreReady {L} links = (key : ℕ) (connection : Connection L) → get links key �
     → IsReady connection.doing connection.session
 
 -- Of the links that a door gave some have had their turns, and each other one is held under a key.
-pub record AtDoor {L : Type 0} (shown : L → LinkShown) (proto : Proto) (still : Bool)
-    (door door' : Option (Doorway L)) (sight sight' : Sight) (hall : Hall L) : Type 0 where
+pub record AtDoor {L : Type 0} (shown : L → LinkShown) (them : Collections)
+    (door door' : Option (Doorway L)) (views views' : Views) (hall : Hall L) : Type 0 where
   pub came : List L
   pub turns : List (Turn L)
-  pub tags : List Tag
+  pub tags : ℕ → List Tag
   -- the number of the link that is held under a key
   pub number_at : ℕ → ℕ
   pub came_is : IfSome door (λ doorway. came ≡ take (length came) doorway.left)
   pub unused : All (λ link. IsFresh (shown link)) came
-  pub each : All (IsTurn shown proto still came tags sight sight') turns
+  pub each : All (IsTurn shown them came tags views views') turns
   pub once : AreApart turns
   pub held : (key : ℕ) (connection : Connection L) → get hall.links key ≡ Some connection
-      → IsHeld shown proto still came turns tags sight sight' (number_at key) connection
+      → IsHeld shown them came turns tags views views' (number_at key) connection
   pub apart : (key other : ℕ) → ContainsKey hall.links key → ContainsKey hall.links other → key ≢ other
       → number_at key ≢ number_at other
   pub all : length turns + slab_len hall.links ≡ length came
-  pub below : All (λ tag. tag.number < length came) tags
-  pub looks_are : sight'.looks ≡ sight.looks ++ map (λ tag. tag.count) tags
-  pub behind : IsBehind still sight.seen sight'.seen
+  pub below : (collection : ℕ) → All (λ tag. tag.number < length came) (tags collection)
+  pub looks_are : (collection : ℕ)
+      → views'.looks collection ≡ views.looks collection ++ map (λ tag. tag.count) (tags collection)
+  pub behind : AreBehind them views.seen views'.seen
   pub door_is : door' ≡ with_out (slab_len hall.links) (after_turns (length came) turns door)
   pub served_is : hall.served ≡ capped (length turns)
   pub short_is : hall.short ≡ capped (short_count turns)
 
 -- the same of a call that began somewhere
-pub record IsSomeAtDoor {L : Type 0} (shown : L → LinkShown) (proto : Proto) (still : Bool)
-    (door' : Option (Doorway L)) (sight' : Sight) (hall : Hall L) : Type 0 where
+pub record IsSomeAtDoor {L : Type 0} (shown : L → LinkShown) (them : Collections)
+    (door' : Option (Doorway L)) (views' : Views) (hall : Hall L) : Type 0 where
   pub door : Option (Doorway L)
-  pub sight : Sight
-  pub at : AtDoor shown proto still door door' sight sight' hall
+  pub views : Views
+  pub at : AtDoor shown them door door' views views' hall
 
 -- a link has come, and isn't held yet
-pub record IsComing {L : Type 0} (shown : L → LinkShown) (proto : Proto) (still : Bool) (door' : Option (Doorway L))
-    (sight' : Sight) (hall : Hall L) (link : L) : Type 0 where
+pub record IsComing {L : Type 0} (shown : L → LinkShown) (them : Collections) (door' : Option (Doorway L))
+    (views' : Views) (hall : Hall L) (link : L) : Type 0 where
   pub first : Option (Doorway L)
   pub before : Option (Doorway L)
-  pub sight : Sight
-  pub at : AtDoor shown proto still first before sight sight' hall
+  pub views : Views
+  pub at : AtDoor shown them first before views views' hall
   pub next : IfSome before (λ doorway. first_of doorway.left ≡ Some link)
   pub came : door' ≡ after_coming (Came link) before
   pub unused : IsFresh (shown link)

@@ -9,7 +9,7 @@ use Rattle.dap_reply.specs.declared.served.Mark.{Mark}
 use Rattle.dap_reply.specs.declared.served.Stop.{Stop}
 use Rattle.dap_reply.specs.declared.served.Stop.TheVariants as stops
 use Rattle.dap_reply.specs.Served.{LinkCall, Served}
-use Rattle.srv_conn.specs.Moved.{moved, AreNext, IsOver}
+use Rattle.dev_traits.specs.Moved.{moved, AreNext, IsOver}
 
 -- one moment of a served link: the link as it shows, the operations seen, their number at each look, the session, and
 -- the replies that were begun
@@ -53,9 +53,9 @@ call_of proto still before after moves most stop = record {
 }
 
 -- no call of a link failed, unless the stop says so, or memory ran out
-abbrev pub IsCalm : Moment → Moment → Stop → Type 0
+abbrev pub IsCalm : LinkShown → LinkShown → Stop → Type 0
 IsCalm before after stop = stop ≢ stops.Ended ends.LinkFault → stop ≢ stops.Ended ends.NoMemory
-    → after.link.faults ≡ before.link.faults
+    → after.faults ≡ before.faults
 
 -- a call from one moment to another served a link: it is a served link, the bytes taken from the link were its next
 -- ones, and the bytes written were put; where the link shows what it holds, its input is over only where nothing is
@@ -66,4 +66,4 @@ pub record Serves (proto : Proto) (still : Bool) (before after : Moment) (most :
   pub moved_is : after.link.held ≡ moved moves.taken moves.written before.link.held
   pub next : AreNext moves.taken before.link.held
   pub over_is : moves.over ≡ true → IsOver after.link.held
-  pub calm : IsCalm before after stop
+  pub calm : IsCalm before.link after.link stop

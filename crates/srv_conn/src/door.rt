@@ -1,11 +1,12 @@
 //! Serving a door.
 ghost use Rattle.std.specs.Prelude.{◌≡◌};
 ghost use Rattle.srv_conn.specs.AtDoor.{end_of, failed_by};
-ghost use Rattle.srv_conn.specs.DoorTurns.{EndsDoor, ServesEach};
+ghost use Rattle.srv_conn.specs.DoorTurns.{EndsDoor, ServesEach, ServesEachMany};
 
 use crate::door_next::{Next, Station, serve_next};
 use crate::door_report::{DoorEnd, DoorReport};
 use crate::hall::Hall;
+use crate::looks::Looks;
 use crate::serve::ROOM;
 use dev_traits::{Door, Gate};
 use fm_model::Site;
@@ -63,12 +64,36 @@ pub fn serve_door<R: Wait, D: Door, K: Look, G: Gate>(
     ensures same_proto { K.proto look.new ≡ K.proto look.old }
     ensures same_still { K.still look.new ≡ K.still look.old }
 {
-    let station = Station { site, gate, number };
+    serve_door_looks(rt, alloc, look, door, number, gate, site)
+}
+
+/// The same over several collections, each request from the one that it is for.
+pub fn serve_door_looks<R: Wait, D: Door, K: Looks, G: Gate>(
+    rt: &R,
+    alloc: Global,
+    looks: &mut K,
+    door: &mut D,
+    number: u32,
+    gate: &G,
+    sites: &K::Sites,
+) -> DoorReport
+    requires fits { K.fits (K.them looks.old) sites.now }
+    ensures serves { ServesEachMany D.L.shown (K.them looks.old)
+        (D.shown door.old).held (D.shown door.new).held (K.views looks.old) (K.views looks.new)
+        result.served result.short }
+    ensures end { EndsDoor (D.shown door.old) (D.shown door.new) result.end }
+    ensures same { K.them looks.new ≡ K.them looks.old }
+{
+    let station = Station {
+        sites,
+        gate,
+        number,
+    };
     let mut hall = Hall::new(alloc);
     let mut room = [0; ROOM];
     let mut has_failed = false;
     for _ in rt.forever() {
-        let next = serve_next(alloc, look, door, &mut hall, &station, &mut room);
+        let next = serve_next(alloc, looks, door, &mut hall, &station, &mut room);
         has_failed = failed_by(has_failed, next);
         if let Some(end) = end_of(has_failed, next, hall.links.is_empty()) {
             let report = hall.report(end);

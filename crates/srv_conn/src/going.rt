@@ -3,39 +3,37 @@ ghost use Rattle.std.specs.Prelude.{◌≡◌, ◌<◌, IfSome, length, Option};
 ghost use Rattle.slab.specs.Slab.{ContainsKey};
 ghost use Rattle.dev_traits.specs.Door.{Doorway};
 ghost use Rattle.srv_conn.specs.AtDoor.{AreReady, AtDoor, IsOutSome};
-ghost use Rattle.srv_conn.specs.Sight.{Sight};
+ghost use Rattle.dap_reply.specs.Collections.{Views};
 
 use crate::connection::Connection;
 use crate::hall::{Hall, give_back, leave_behind};
 use crate::kept::Kept;
+use crate::looks::Looks;
 use crate::stepping::go_on;
 use dev_traits::Door;
-use fm_model::Site;
-use pub_look::Look;
 use std::alloc::Global;
 
 /// Has the link of a key go on, if there is one, and gives it back where its session has ended. Returns whether it did.
-pub(crate) fn go_on_at<D: Door, K: Look>(
+pub(crate) fn go_on_at<D: Door, K: Looks>(
     alloc: Global,
-    look: &mut K,
+    looks: &mut K,
     door: &mut D,
     hall: &mut Hall<D::L>,
     key: usize,
-    site: &Site,
+    sites: &K::Sites,
     room: &mut [u8],
 ) -> bool
-    requires site { site.now ≡ (K.proto look.old).site }
+    requires fits { K.fits (K.them looks.old) sites.now }
     requires room { 0 < length room.old }
     requires ready { AreReady hall.old.links }
     requires out { ContainsKey hall.old.links key → IfSome (D.shown door.old).held IsOutSome }
-    ensures at { (first : Option (Doorway D.L)) (sight : Sight)
-        → AtDoor D.L.shown (K.proto look.old) (K.still look.old) first (D.shown door.old).held sight
-        (record { seen = K.log look.old; looks = K.looks look.old }) hall.old
-        → AtDoor D.L.shown (K.proto look.old) (K.still look.old) first (D.shown door.new).held sight
-        (record { seen = K.log look.new; looks = K.looks look.new }) hall.new }
+    ensures at { (first : Option (Doorway D.L)) (views : Views)
+        → AtDoor D.L.shown (K.them looks.old) first (D.shown door.old).held views
+        (K.views looks.old) hall.old
+        → AtDoor D.L.shown (K.them looks.old) first (D.shown door.new).held views
+        (K.views looks.new) hall.new }
     ensures faults { (D.shown door.new).faults ≡ (D.shown door.old).faults }
-    ensures same_proto { K.proto look.new ≡ K.proto look.old }
-    ensures same_still { K.still look.new ≡ K.still look.old }
+    ensures same { K.them looks.new ≡ K.them looks.old }
 {
     if !hall.links.contains(key) {
         return false;
@@ -49,7 +47,7 @@ pub(crate) fn go_on_at<D: Door, K: Look>(
             return false;
         }
     };
-    match go_on(alloc, look, &mut connection, site, room) {
+    match go_on(alloc, looks, &mut connection, sites, room) {
         None => {
             door.rest(key, &mut connection.link);
             let kept = Kept::new(alloc, connection, &mut hall.spare);

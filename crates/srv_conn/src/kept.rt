@@ -4,6 +4,7 @@ ghost use Rattle.srv_conn.specs.Kept.{session_of};
 
 use crate::connection::Connection;
 use crate::doing::Doing;
+use crate::revisions::Revisions;
 use dev_traits::Door;
 use fm_base::NoMemory;
 use std::alloc::Global;
@@ -24,7 +25,7 @@ pub(crate) struct Kept<L> {
     link: L,
     session: Stored,
     doing: Doing,
-    revision: u64,
+    revisions: Revisions,
 }
 
 impl<L> Model for Kept<L> {
@@ -37,7 +38,7 @@ impl<L> Model for Kept<L> {
       link = k.link;
       session = session_of k.session;
       doing = k.doing;
-      revision = k.revision;
+      revisions = k.revisions;
     } };
 }
 
@@ -50,14 +51,14 @@ impl<L> Kept<L> {
             link,
             session,
             doing,
-            revision,
+            revisions,
         } = connection;
         let session = store(alloc, session, spare);
         Kept {
             link,
             session,
             doing,
-            revision,
+            revisions,
         }
     }
 
@@ -70,20 +71,20 @@ impl<L> Kept<L> {
             link,
             session,
             doing,
-            revision,
+            revisions,
         } = self;
         match restored(alloc, session, spare) {
             Ok(session) => Ok(Connection {
                 link,
                 session,
                 doing,
-                revision,
+                revisions,
             }),
             Err(session) => Err(Kept {
                 link,
                 session,
                 doing,
-                revision,
+                revisions,
             }),
         }
     }

@@ -17,13 +17,16 @@ mod going;
 mod hall;
 mod kept;
 pub mod laws;
+mod looks;
 mod reading;
 mod replying;
+mod revisions;
 mod serve;
 mod stepping;
 mod trail;
 
-pub use door::serve_door;
+pub use door::{serve_door, serve_door_looks};
 pub use door_report::{DoorEnd, DoorReport};
-pub use serve::serve_link;
+pub use looks::{Looks, MOST_COLLECTIONS};
+pub use serve::{serve_link, serve_looks};
 pub use trail::Trail;

@@ -1,53 +1,54 @@
 //! One reply over a link that blocks: a request is answered, or memory runs out.
-ghost use Rattle.std.specs.Prelude.{◌≡◌, ◌≢◌, ◌∷◌, ◌++◌, ◌+◌, ◌<◌, ℕ, [], Bool, IfOk, List, None, OnErr, length};
-ghost use Rattle.fm_model.specs.declared.op.Op.{Op};
-ghost use Rattle.fm_model.specs.declared.proto.Proto.{Proto};
+ghost use Rattle.std.specs.Prelude.{◌≡◌, ◌≢◌, ◌∷◌, ◌++◌, ◌+◌, ◌<◌, ℕ, [], IfOk, List, None, OnErr, length};
 ghost use Rattle.web_session.specs.declared.phase.Phase.TheVariants.{Asking};
+ghost use Rattle.web_session.specs.Run.{item_asked};
 ghost use Rattle.dap_reply.specs.declared.served.Mark.{Mark as Noted};
+ghost use Rattle.dap_reply.specs.Collections.{Collections, Views};
 ghost use Rattle.srv_conn.specs.Acts.{stand, Acts, IsLeaving, IsOneMore, IsReading, IsReady, Notes};
 ghost use Rattle.srv_conn.specs.Begins.{Begins};
-ghost use Rattle.srv_conn.specs.Serves.{moment_of, Moment};
+ghost use Rattle.srv_conn.specs.ServesMany.{point_of, Point};
 ghost use Rattle.srv_conn.specs.SoFar.{Asks, SoFar};
 ghost use Rattle.srv_conn.specs.Follows.{Follows};
+ghost use Rattle.srv_conn.specs.Sight.{sight_in, OthersStay};
 
 use crate::acting::{Acted, act};
 use crate::answer::{Request, begin};
 use crate::doing::Doing;
 use crate::farewell::leave;
+use crate::looks::Looks;
 use crate::trail::{Trail, note};
 use dap_reply::Mark;
 use dev_traits::Link;
 use fm_base::NoMemory;
-use pub_look::Look;
 use std::alloc::Global;
 use web_session::{End, Session};
 
 // Begins the reply to what a session asks, and marks it, unless memory runs out. Room for the mark is made first, so
 // that no memory is taken between a plan and its sending.
-fn begin_marked<K: Look>(
+fn begin_marked<K: Looks>(
     alloc: Global,
-    look: &mut K,
+    looks: &mut K,
     session: &mut Session,
     doing: &mut Doing,
     request: &Request<'_>,
     trail: &mut Trail,
 ) -> Result<u64, NoMemory>
-    requires site { request.now.site.now ≡ (K.proto look.old).site }
+    requires some { request.now.number < (K.them looks.old).count }
+    requires site { request.now.site.now ≡ ((K.them looks.old).proto request.now.number).site }
     requires asking { session.old.phase ≡ Asking request.now.asked }
-    ensures begins { Begins (K.proto look.old) (K.still look.old) request.now.asked request.now.revision
-        session.old session.new doing.new
-        (record { seen = K.log look.old; looks = K.looks look.old })
-        (record { seen = K.log look.new; looks = K.looks look.new }) result }
+    ensures begins { Begins ((K.them looks.old).proto request.now.number) ((K.them looks.old).still request.now.number)
+        request.now.asked request.now.revision session.old session.new doing.new
+        (sight_in (K.views looks.old) request.now.number) (sight_in (K.views looks.new) request.now.number) result }
+    ensures others { OthersStay request.now.number (K.views looks.old) (K.views looks.new) }
     ensures marked { IfOk result (λ revision. trail.new ≡ trail.old ++ record { revision = revision; sent = 0 } ∷ []) }
     ensures unmarked { OnErr result (trail.new ≡ trail.old) }
-    ensures same_proto { K.proto look.new ≡ K.proto look.old }
-    ensures same_still { K.still look.new ≡ K.still look.old }
+    ensures same { K.them looks.new ≡ K.them looks.old }
 {
     if trail.items.reserve(1).is_err() {
         leave(session, doing);
         return Err(NoMemory);
     }
-    match begin(alloc, look, session, doing, request) {
+    match begin(alloc, looks, session, doing, request) {
         Ok(revision) => {
             trail.items.push_reserved(Mark { revision, sent: 0 });
             Ok(revision)
@@ -92,9 +93,9 @@ fn finish<L: Link>(
     requires sends { IsReading doing.old → ⊥ }
     requires room { 0 < length room.old }
     requires blocks { L.blocks }
-    ensures follows { (proto : Proto) (still : Bool) (start : Moment) (seen : List Op) (looks : List ℕ) (most : ℕ)
-        → SoFar proto still start (moment_of (L.shown link.old) seen looks session.old trail.old) most doing.old
-        → Follows proto still start most (moment_of (L.shown link.new) seen looks session.new trail.new) result }
+    ensures follows { (them : Collections) (start : Point) (views : Views) (most : ℕ)
+        → SoFar them start (point_of (L.shown link.old) views session.old trail.old) most doing.old
+        → Follows them start most (point_of (L.shown link.new) views session.new trail.new) result }
     ensures marks { (front : List Noted) → IsOneMore front trail.old → IsOneMore front trail.new }
     ensures replied { IsLeaving doing.old → result ≡ None → ⊥ }
 {
@@ -109,31 +110,32 @@ fn finish<L: Link>(
 
 /// Replies to a session's request over a link that blocks, or says that memory ran out. Returns the end of the session,
 /// if it ends.
-pub(crate) fn reply<L: Link, K: Look>(
+pub(crate) fn reply<L: Link, K: Looks>(
     alloc: Global,
-    look: &mut K,
+    looks: &mut K,
     link: &mut L,
     session: &mut Session,
     request: &Request<'_>,
     room: &mut [u8],
     trail: &mut Trail,
 ) -> Option<End>
-    requires site { request.now.site.now ≡ (K.proto look.old).site }
+    requires some { request.now.number < (K.them looks.old).count }
+    requires site { request.now.site.now ≡ ((K.them looks.old).proto request.now.number).site }
     requires asking { session.old.phase ≡ Asking request.now.asked }
-    requires revision { request.now.revision ≡ length (K.log look.old) }
+    requires choice { request.now.number ≡ (K.them looks.old).choice (item_asked request.now.asked session.old.held) }
+    requires revision { request.now.revision ≡ length ((K.views looks.old).seen request.now.number) }
     requires room { 0 < length room.old }
     requires blocks { L.blocks }
-    ensures follows { (start : Moment) (most : ℕ)
-        → Asks (K.proto look.old) (K.still look.old) start
-        (moment_of (L.shown link.old) (K.log look.old) (K.looks look.old) session.old trail.old) most request.now.asked
-        → Follows (K.proto look.old) (K.still look.old) start most
-        (moment_of (L.shown link.new) (K.log look.new) (K.looks look.new) session.new trail.new) result }
+    ensures follows { (start : Point) (most : ℕ)
+        → Asks (K.them looks.old) start
+        (point_of (L.shown link.old) (K.views looks.old) session.old trail.old) most request.now.asked
+        → Follows (K.them looks.old) start most
+        (point_of (L.shown link.new) (K.views looks.new) session.new trail.new) result }
     ensures longer { result ≡ None → length trail.new ≡ length trail.old + 1 }
-    ensures same_proto { K.proto look.new ≡ K.proto look.old }
-    ensures same_still { K.still look.new ≡ K.still look.old }
+    ensures same { K.them looks.new ≡ K.them looks.old }
 {
     let mut doing = Doing::Reading;
-    let _begun = begin_marked(alloc, look, session, &mut doing, request, trail);
+    let _begun = begin_marked(alloc, looks, session, &mut doing, request, trail);
     let end = finish(link, session, &mut doing, room, trail);
     drop(doing);
     end

@@ -1,17 +1,16 @@
 //! A connection that goes on without waiting.
 ghost use Rattle.std.specs.Prelude.{◌≡◌, ◌<◌, IfNone, None, length};
-ghost use Rattle.srv_conn.specs.Sight.{IsBehind};
+ghost use Rattle.srv_conn.specs.Sight.{AreBehind};
 ghost use Rattle.web_session.specs.declared.phase.Phase.TheVariants.{Asking};
 ghost use Rattle.srv_conn.specs.Acts.{IsReading, IsReady};
 ghost use Rattle.srv_conn.specs.Out.{end_in, IsOut, Own, WentOn};
-ghost use Rattle.srv_conn.specs.Serves.{Moment};
+ghost use Rattle.srv_conn.specs.ServesMany.{Point};
 
 use crate::acting::{Acted, act};
-use crate::answer::{Request, begin};
+use crate::answer::{Request, begin, choice_of};
 use crate::connection::Connection;
+use crate::looks::Looks;
 use dev_traits::Link;
-use fm_model::Site;
-use pub_look::Look;
 use std::alloc::Global;
 use web_session::{Asked, End};
 
@@ -33,64 +32,64 @@ pub(crate) enum Stepped {
 }
 
 // Begins the reply to what a connection asks, or has it leave.
-fn answer_asked<L: Link, K: Look>(
+fn answer_asked<L: Link, K: Looks>(
     alloc: Global,
-    look: &mut K,
+    looks: &mut K,
     connection: &mut Connection<L>,
     asked: Asked,
-    site: &Site,
+    sites: &K::Sites,
 )
-    requires site { site.now ≡ (K.proto look.old).site }
+    requires fits { K.fits (K.them looks.old) sites.now }
     requires reading { IsReading connection.old.doing }
     requires asking { connection.old.session.phase ≡ Asking asked }
-    ensures went { (start : Moment) (own : Own)
-        → IsOut L.shown (K.proto look.old) (K.still look.old) start (K.log look.old) own connection.old
-        → WentOn L.shown (K.proto look.old) (K.still look.old) start own connection.new
-        (record { seen = K.log look.old; looks = K.looks look.old })
-        (record { seen = K.log look.new; looks = K.looks look.new }) None }
+    ensures went { (start : Point) (own : Own)
+        → IsOut L.shown (K.them looks.old) start (K.views looks.old).seen own connection.old
+        → WentOn L.shown (K.them looks.old) start own connection.new
+        (K.views looks.old)
+        (K.views looks.new) None }
     ensures ready { IsReady connection.new.doing connection.new.session }
-    ensures later { IsBehind (K.still look.old) (K.log look.old) (K.log look.new) }
-    ensures same_proto { K.proto look.new ≡ K.proto look.old }
-    ensures same_still { K.still look.new ≡ K.still look.old }
+    ensures later { AreBehind (K.them looks.old) (K.views looks.old).seen (K.views looks.new).seen }
+    ensures same { K.them looks.new ≡ K.them looks.old }
 {
+    let number = choice_of(looks, sites, &connection.session, asked);
     let request = Request {
         asked,
-        site,
-        revision: connection.revision,
+        number,
+        site: looks.site(sites, number),
+        revision: connection.revisions.of(number),
     };
     match begin(
         alloc,
-        look,
+        looks,
         &mut connection.session,
         &mut connection.doing,
         &request,
     ) {
-        Ok(revision) => connection.revision = revision,
+        Ok(revision) => connection.revisions.set(number, revision),
         Err(_) => {}
     }
 }
 
 // Does the next action of a connection, which sends at most `limit` bytes of a reply.
-fn step<L: Link, K: Look>(
+fn step<L: Link, K: Looks>(
     alloc: Global,
-    look: &mut K,
+    looks: &mut K,
     connection: &mut Connection<L>,
-    site: &Site,
+    sites: &K::Sites,
     room: &mut [u8],
     limit: usize,
 ) -> Stepped
-    requires site { site.now ≡ (K.proto look.old).site }
+    requires fits { K.fits (K.them looks.old) sites.now }
     requires ready { IsReady connection.old.doing connection.old.session }
     requires room { (0 < length room.old) × (0 < limit) }
-    ensures went { (start : Moment) (own : Own)
-        → IsOut L.shown (K.proto look.old) (K.still look.old) start (K.log look.old) own connection.old
-        → WentOn L.shown (K.proto look.old) (K.still look.old) start own connection.new
-        (record { seen = K.log look.old; looks = K.looks look.old })
-        (record { seen = K.log look.new; looks = K.looks look.new }) (end_in result) }
+    ensures went { (start : Point) (own : Own)
+        → IsOut L.shown (K.them looks.old) start (K.views looks.old).seen own connection.old
+        → WentOn L.shown (K.them looks.old) start own connection.new
+        (K.views looks.old)
+        (K.views looks.new) (end_in result) }
     ensures ready { IfNone (end_in result) (IsReady connection.new.doing connection.new.session) }
-    ensures later { IsBehind (K.still look.old) (K.log look.old) (K.log look.new) }
-    ensures same_proto { K.proto look.new ≡ K.proto look.old }
-    ensures same_still { K.still look.new ≡ K.still look.old }
+    ensures later { AreBehind (K.them looks.old) (K.views looks.old).seen (K.views looks.new).seen }
+    ensures same { K.them looks.new ≡ K.them looks.old }
 {
     match act(
         &mut connection.link,
@@ -103,7 +102,7 @@ fn step<L: Link, K: Look>(
         Acted::Finished => Stepped::Went(0),
         Acted::Sent { count, .. } => Stepped::Went(count),
         Acted::Asks(asked) => {
-            answer_asked(alloc, look, connection, asked, site);
+            answer_asked(alloc, looks, connection, asked, sites);
             Stepped::Went(0)
         }
         Acted::Later => Stepped::Waits,
@@ -112,31 +111,30 @@ fn step<L: Link, K: Look>(
 }
 
 /// Has a connection go on until a call would wait, or it has had enough for a turn. Returns its end, if it has ended.
-pub(crate) fn go_on<L: Link, K: Look>(
+pub(crate) fn go_on<L: Link, K: Looks>(
     alloc: Global,
-    look: &mut K,
+    looks: &mut K,
     connection: &mut Connection<L>,
-    site: &Site,
+    sites: &K::Sites,
     room: &mut [u8],
 ) -> Option<End>
-    requires site { site.now ≡ (K.proto look.old).site }
+    requires fits { K.fits (K.them looks.old) sites.now }
     requires ready { IsReady connection.old.doing connection.old.session }
     requires room { 0 < length room.old }
-    ensures went { (start : Moment) (own : Own)
-        → IsOut L.shown (K.proto look.old) (K.still look.old) start (K.log look.old) own connection.old
-        → WentOn L.shown (K.proto look.old) (K.still look.old) start own connection.new
-        (record { seen = K.log look.old; looks = K.looks look.old })
-        (record { seen = K.log look.new; looks = K.looks look.new }) result }
-    ensures later { IsBehind (K.still look.old) (K.log look.old) (K.log look.new) }
-    ensures same_proto { K.proto look.new ≡ K.proto look.old }
-    ensures same_still { K.still look.new ≡ K.still look.old }
+    ensures went { (start : Point) (own : Own)
+        → IsOut L.shown (K.them looks.old) start (K.views looks.old).seen own connection.old
+        → WentOn L.shown (K.them looks.old) start own connection.new
+        (K.views looks.old)
+        (K.views looks.new) result }
+    ensures later { AreBehind (K.them looks.old) (K.views looks.old).seen (K.views looks.new).seen }
+    ensures same { K.them looks.new ≡ K.them looks.old }
 {
     let mut left = MOST_SENT;
     'acts: for _ in 0..MOST_ACTIONS {
         if left == 0 {
             return None;
         }
-        match step(alloc, look, connection, site, room, left) {
+        match step(alloc, looks, connection, sites, room, left) {
             Stepped::Went(count) => left = left.saturating_sub(count),
             Stepped::Waits => return None,
             Stepped::Ended(end) => return Some(end),

@@ -11,7 +11,7 @@ use Rattle.web_session.specs.State.{State}
 use Rattle.dap_reply.specs.declared.served.Stop.{Stop}
 use Rattle.dap_reply.specs.declared.served.Stop.TheVariants as stops
 use Rattle.dap_reply.specs.Served.{held_bytes, items_of, HasEnough, LinkCall}
-use Rattle.srv_conn.specs.Moved.{moved, AreNext, IsOver}
+use Rattle.dev_traits.specs.Moved.{moved, AreNext, IsOver}
 use Rattle.srv_conn.specs.Serves.{call_of, Moment, Moves, Serves}
 use Rattle.srv_alone.specs.declared.end.End.{End}
 use Rattle.srv_alone.specs.declared.end.End.TheVariants.{InputEnded}

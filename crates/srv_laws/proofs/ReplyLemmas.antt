@@ -16,7 +16,7 @@ use Rattle.dap_reply.specs.Script.{script_of}
 use Rattle.dap_reply.specs.Served.{HasEnough, items_of, LinkCall, Rises, StopsBy}
 use Rattle.dap_reply.proofs.ScriptLemmas.{script-later}
 use Rattle.dap_reply.proofs.ServedLemmas.{served-script}
-use Rattle.srv_conn.specs.Moved.{moved}
+use Rattle.dev_traits.specs.Moved.{moved}
 use Rattle.srv_conn.specs.Serves.{Moment, Serves}
 use Rattle.srv_alone.specs.declared.end.End.{End}
 use Rattle.srv_alone.specs.declared.end.End.TheVariants.{Done}

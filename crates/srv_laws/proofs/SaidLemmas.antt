@@ -1,12 +1,13 @@
 -- What a run of a job says, and which devices it leaves alone.
 use Rattle.std.proofs.Common.{◌≡◌, ◌≢◌, ◌⊎◌, inl, inr, ℕ, List, [], Option, Some, None, Result, Ok, Err, refl, sym, ap, subst, ◌∙◌, arith}
 use Rattle.nc_model.specs.declared.header.Header.{Header}
-use Rattle.fm_model.specs.declared.site.Site.{Site}
 use Rattle.dev_traits.specs.Shown.{SinkShown}
+use Rattle.dap_client.specs.declared.fault.PullEnd.{PullEnd}
+use Rattle.dap_client.specs.declared.message.Message.{Message}
 use Rattle.srv_words.specs.declared.job.Job.{Job}
-use Rattle.srv_words.specs.declared.job.Job.TheVariants.{Once, Check, Load, Serve}
+use Rattle.srv_words.specs.declared.job.Job.TheVariants.{Once, Twod, Extract, Pull, Check, Load, Serve}
 use Rattle.srv_words.specs.declared.job.Serving.{Serving}
-use Rattle.srv_words.specs.declared.job.Step.{Step}
+use Rattle.srv_words.specs.declared.job.Stepping.{Stepping}
 use Rattle.srv_workers.specs.declared.outcome.Outcome.{Outcome}
 use Rattle.srv_alone.specs.declared.end.End.{End}
 use Rattle.srv_alone.specs.declared.end.End.TheVariants.{Done, BadWords, NoMemory, SinkFault}
@@ -14,9 +15,10 @@ use Rattle.srv_alone.specs.Check.{EndsCheck}
 use Rattle.srv_serve.specs.Closing.{EndsServing, first_end}
 use Rattle.srv_alone.specs.Load.{EndsLoad}
 use Rattle.srv_alone.specs.Report.{Reports, Said, status_of}
-use Rattle.srv_run.specs.Run.{DoesJob, LacksMemory, Runs, UsesFiles, UsesLink}
+use Rattle.srv_pull.specs.Pull.{Says, end_of}
+use Rattle.srv_run.specs.Run.{DoesJob, LacksMemory, Runs, UsesDialer, UsesFiles, UsesLink}
 use Rattle.srv_serve.specs.Serve.{EndsUnopened, GoesOn, ServesDevices}
-use Rattle.srv_serve.specs.Stage.{Shows, Stage}
+use Rattle.srv_serve.specs.Stage.{LeavesDialer, Shows, Stage}
 
 -- a line of what was done is no line of another status
 not_done : {A : Type 0} (end : End) (status : ℕ) → status ≡ status_of end → end ≡ Done → status ≢ 0 → A
@@ -61,13 +63,26 @@ said-on show serving end status stage stage' is done cut (inr on) = elim on.serv
       stage'.outside.sink is done cut served.ends
 ]
 
+said-pulled : (pulled : Result Message PullEnd) (end : End) (status : ℕ) (sink sink' : SinkShown)
+    → status ≡ status_of end → status ≢ 0 → status ≢ 7 → Says pulled end sink sink' → Said status sink sink'
+said-pulled (Ok message) Done status sink sink' is done cut says = not_done Done status is refl done
+said-pulled (Ok message) SinkFault status sink sink' is done cut says = not_cut SinkFault status is refl cut
+said-pulled (Ok message) end status sink sink' is done cut says = absurd says
+said-pulled (Err why) end status sink sink' is done cut says = (end_of why, [], is ∙ ap status_of says.0, says.1)
+
 said-job : {D I C L : Type 0} (show : Shows D I C L) (job : Option Job) (end : End) (status : ℕ)
     (stage stage' : Stage D I C) → status ≡ status_of end → status ≢ 0 → status ≢ 7
     → DoesJob show job end stage stage' → Said status stage.outside.sink stage'.outside.sink
 said-job show None end status stage stage' is done cut does =
     (BadWords, [], is ∙ ap status_of does.0, does.1.reports)
-said-job show (Some (Once site path steps)) end status stage stage' is done cut does =
+said-job show (Some (Once stepping)) end status stage stage' is done cut does =
     (end, does.0.at, is, does.0.reports)
+said-job show (Some (Twod stepping with_values constraint)) end status stage stage' is done cut does =
+    (end, does.0.at, is, does.0.reports)
+said-job show (Some (Extract stepping view constraint version)) end status stage stage' is done cut does =
+    (end, does.0.at, is, does.0.reports)
+said-job show (Some (Pull address target)) end status stage stage' is done cut does =
+    said-pulled does.0.pulls.pulled end status stage.outside.sink stage'.outside.sink is done cut does.0.pulls.says
 said-job show (Some (Check path)) end status stage stage' is done cut does =
     said-check path does.0.checks.checked end status stage.outside.sink stage'.outside.sink is done cut
     does.0.checks.ends
@@ -75,6 +90,7 @@ said-job show (Some (Load seed files)) end status stage stage' is done cut does 
     said-load seed files end status stage.outside.sink stage'.outside.sink is done cut does.0.ends
 said-job show (Some (Serve serving)) end status stage stage' is done cut does =
     said-on show serving end status stage stage' is done cut does.runs
+said-job show (Some job) end status stage stage' is done cut does = absurd does
 
 -- a run whose status is neither 0 nor 7
 pub said : {D I C L : Type 0} (show : Shows D I C L) (job : Option Job) (status : ℕ) (stage stage' : Stage D I C)
@@ -90,10 +106,9 @@ is_done Done is = refl
 is_done end is = absurd (omega (arith, is))
 
 -- a run of `once` that did all
-pub quiet : {D I C L : Type 0} (show : Shows D I C L) (site : Site) (path : List ℕ) (steps : List Step)
-    (stage stage' : Stage D I C) → Runs show (Some (Once site path steps)) 0 stage stage'
-    → stage'.outside.sink ≡ stage.outside.sink
-quiet show site path steps stage stage' runs =
+pub quiet : {D I C L : Type 0} (show : Shows D I C L) (stepping : Stepping) (stage stage' : Stage D I C)
+    → Runs show (Some (Once stepping)) 0 stage stage' → stage'.outside.sink ≡ stage.outside.sink
+quiet show stepping stage stage' runs =
     let done : runs.end ≡ Done = is_done runs.end (sym runs.status_is) in
     elim runs.does [
       | inl does ↦
@@ -109,10 +124,14 @@ quiet show site path steps stage stage' runs =
 unused-job : {D I C L : Type 0} (show : Shows D I C L) (job : Option Job) (end : End) (stage stage' : Stage D I C)
     → DoesJob show job end stage stage' → (UsesLink job → ⊥) → stage'.outside.link ≡ stage.outside.link
 unused-job show None end stage stage' does none = does.1.unused
-unused-job show (Some (Once site path steps)) end stage stage' does none = absurd (none tt)
+unused-job show (Some (Once stepping)) end stage stage' does none = absurd (none tt)
+unused-job show (Some (Twod stepping with_values constraint)) end stage stage' does none = absurd (none tt)
+unused-job show (Some (Extract stepping view constraint version)) end stage stage' does none = absurd (none tt)
+unused-job show (Some (Pull address target)) end stage stage' does none = does.0.unused
 unused-job show (Some (Check path)) end stage stage' does none = does.0.unused
 unused-job show (Some (Load seed files)) end stage stage' does none = does.0.unused
 unused-job show (Some (Serve serving)) end stage stage' does none = does.unused
+unused-job show (Some job) end stage stage' does none = absurd does
 
 pub unused : {D I C L : Type 0} (show : Shows D I C L) (job : Option Job) (status : ℕ) (stage stage' : Stage D I C)
     → Runs show job status stage stage' → (UsesLink job → ⊥) → stage'.outside.link ≡ stage.outside.link
@@ -125,13 +144,36 @@ unread-job : {D I C L : Type 0} (show : Shows D I C L) (job : Option Job) (end :
     → DoesJob show job end stage stage' → (UsesFiles job → ⊥) → stage'.outside.files ≡ stage.outside.files
 unread-job show None end stage stage' does none = does.1.unread
 unread-job show (Some (Load seed files)) end stage stage' does none = does.0.unread
-unread-job show (Some (Once site path steps)) end stage stage' does none = absurd (none tt)
+unread-job show (Some (Once stepping)) end stage stage' does none = absurd (none tt)
+unread-job show (Some (Twod stepping with_values constraint)) end stage stage' does none = absurd (none tt)
+unread-job show (Some (Extract stepping view constraint version)) end stage stage' does none = absurd (none tt)
+unread-job show (Some (Pull address target)) end stage stage' does none = does.0.unread
 unread-job show (Some (Check path)) end stage stage' does none = absurd (none tt)
 unread-job show (Some (Serve serving)) end stage stage' does none = absurd (none tt)
+unread-job show (Some job) end stage stage' does none = absurd does
 
 pub unread : {D I C L : Type 0} (show : Shows D I C L) (job : Option Job) (status : ℕ) (stage stage' : Stage D I C)
     → Runs show job status stage stage' → (UsesFiles job → ⊥) → stage'.outside.files ≡ stage.outside.files
 unread show job status stage stage' runs none = elim runs.does [
   | inl does ↦ unread-job show job runs.end stage stage' does none
   | inr short ↦ short.1.unread
+]
+
+undialled-job : {D I C L : Type 0} (show : Shows D I C L) (job : Option Job) (end : End) (stage stage' : Stage D I C)
+    → DoesJob show job end stage stage' → (UsesDialer job → ⊥) → LeavesDialer stage stage'
+undialled-job show None end stage stage' does none = does.1.undialled
+undialled-job show (Some (Once stepping)) end stage stage' does none = does.1.1
+undialled-job show (Some (Twod stepping with_values constraint)) end stage stage' does none = does.1.1
+undialled-job show (Some (Extract stepping view constraint version)) end stage stage' does none = does.1.1
+undialled-job show (Some (Pull address target)) end stage stage' does none = absurd (none tt)
+undialled-job show (Some (Check path)) end stage stage' does none = does.1.1
+undialled-job show (Some (Load seed files)) end stage stage' does none = does.1.1
+undialled-job show (Some (Serve serving)) end stage stage' does none = does.undialled
+undialled-job show (Some job) end stage stage' does none = absurd does
+
+pub undialled : {D I C L : Type 0} (show : Shows D I C L) (job : Option Job) (status : ℕ) (stage stage' : Stage D I C)
+    → Runs show job status stage stage' → (UsesDialer job → ⊥) → LeavesDialer stage stage'
+undialled show job status stage stage' runs none = elim runs.does [
+  | inl does ↦ undialled-job show job runs.end stage stage' does none
+  | inr short ↦ short.1.undialled
 ]

@@ -10,6 +10,7 @@ use Rattle.web_frame.proofs.ItemLemmas.{ReadsTo-start}
 use Rattle.web_session.specs.State.{fresh}
 use Rattle.srv_words.specs.declared.job.Job.TheVariants.{Once}
 use Rattle.srv_words.specs.declared.job.Step.{Step}
+use Rattle.srv_words.specs.declared.job.Stepping.{Stepping}
 use Rattle.srv_alone.specs.declared.end.End.{End}
 use Rattle.srv_alone.specs.declared.end.End.TheVariants.{Done, NoMemory, FileFault, LinkFault}
 use Rattle.srv_alone.specs.Once.{opened, EndsAtPrototype, RunsOnce, RunsSteps}
@@ -20,7 +21,7 @@ use Rattle.srv_serve.specs.Stage.{Shows, Stage}
 use Rattle.srv_alone.specs.Steps.{progress}
 use Rattle.srv_laws.specs.WellFormed.{IsWellUsed}
 use Rattle.srv_laws.proofs.AskedLemmas.{IsOpen}
-use Rattle.srv_run.proofs.BlameLemmas.{once_blamed}
+use Rattle.srv_run.proofs.AloneBlameLemmas.{once_blamed}
 use Rattle.srv_alone.proofs.SessionLemmas.{IsAtRest-fresh}
 use Rattle.srv_laws.proofs.TakenLemmas.{excused-value, IsExcused}
 use Rattle.srv_laws.proofs.UsedLemmas.{excused-steps, told}
@@ -88,11 +89,13 @@ pub status-of : (end : End) (status : ℕ) → status ≡ status_of end → (end
 status-of end status is (inl done) = inl (is ∙ ap status_of done)
 status-of end status is (inr short) = inr (is ∙ ap status_of short)
 
-pub status-once : {D I C L : Type 0} (show : Shows D I C L) (site : Site) (path : List ℕ) (steps : List Step)
-    (status : ℕ) (stage stage' : Stage D I C) → Runs show (Some (Once site path steps)) status stage stage'
-    → IsWellUsed site path steps stage.outside stage'.outside → (status ≡ 0) ⊎ (status ≡ 4)
-status-once show site path steps status stage stage' runs used =
+pub status-once : {D I C L : Type 0} (show : Shows D I C L) (stepping : Stepping) (status : ℕ)
+    (stage stage' : Stage D I C) → Runs show (Some (Once stepping)) status stage stage'
+    → IsWellUsed stepping.site stepping.proto stepping.steps stage.outside stage'.outside
+    → (status ≡ 0) ⊎ (status ≡ 4)
+status-once show stepping status stage stage' runs used =
     status-of runs.end status runs.status_is (elim runs.does [
-      | inl does ↦ end-once site path steps runs.end stage.outside stage'.outside does.0 used
+      | inl does ↦
+          end-once stepping.site stepping.proto stepping.steps runs.end stage.outside stage'.outside does.0 used
       | inr short ↦ inr short.0
     ])

@@ -1,7 +1,7 @@
 -- Which runs touch devices, and whether workers ran over them.
 use Rattle.std.proofs.Common.{◌≡◌, ◌⊎◌, ◌<◌, inl, inr, ℕ, List, [], length, None, Some, refl, sym, ap, subst, ◌∙◌, arith}
 use Rattle.srv_words.specs.declared.job.Job.{Job}
-use Rattle.srv_words.specs.declared.job.Job.TheVariants.{Once, Check, Load, Serve}
+use Rattle.srv_words.specs.declared.job.Job.TheVariants.{Once, Twod, Extract, Pull, Check, Load, Serve}
 use Rattle.srv_words.specs.declared.job.Serving.{Serving}
 use Rattle.dev_traits.specs.declared.world.Devices.{Devices}
 use Rattle.srv_alone.specs.declared.end.End.{End}
@@ -24,10 +24,14 @@ leaves-none show status stage stage' runs = elim runs.does [
 
 leaves-job : {D I C L : Type 0} (show : Shows D I C L) (job : Job) (end : End) (stage stage' : Stage D I C)
     → DoesJob show (Some job) end stage stage' → IsAlone job → LeavesDevices stage stage'
-leaves-job show (Once site proto steps) end stage stage' does alone = does.1
-leaves-job show (Check path) end stage stage' does alone = does.1
-leaves-job show (Load seed files) end stage stage' does alone = does.1
+leaves-job show (Once stepping) end stage stage' does alone = does.1.0
+leaves-job show (Twod stepping with_values constraint) end stage stage' does alone = does.1.0
+leaves-job show (Extract stepping view constraint version) end stage stage' does alone = does.1.0
+leaves-job show (Pull address target) end stage stage' does alone = does.1
+leaves-job show (Check path) end stage stage' does alone = does.1.0
+leaves-job show (Load seed files) end stage stage' does alone = does.1.0
 leaves-job show (Serve serving) end stage stage' does alone = absurd alone
+leaves-job show job end stage stage' does alone = absurd does
 
 -- a job other than `serve`
 pub leaves-alone : {D I C L : Type 0} (show : Shows D I C L) (job : Job) (status : ℕ) (stage stage' : Stage D I C)

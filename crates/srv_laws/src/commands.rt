@@ -20,15 +20,16 @@ ghost use Rattle.srv_words.specs.declared.job.Job.{Job};
 ghost use Rattle.srv_words.specs.declared.job.Job.TheVariants.{Check, Once, Serve};
 ghost use Rattle.srv_words.specs.declared.job.Serving.{Serving};
 ghost use Rattle.srv_words.specs.declared.job.Step.{Step};
+ghost use Rattle.srv_words.specs.declared.job.Stepping.{Stepping};
 ghost use Rattle.srv_alone.specs.declared.end.End.{End};
 ghost use Rattle.srv_alone.specs.declared.end.End.TheVariants.{Done, NoMemory};
 ghost use Rattle.srv_alone.specs.Check.{checked_or_end};
 ghost use Rattle.srv_alone.specs.Once.{opened, RunsOnce, RunsSteps};
 ghost use Rattle.srv_laws.specs.Output.{revisions_of, WritesScript};
 ghost use Rattle.srv_alone.specs.Report.{Said, status_of};
-ghost use Rattle.srv_run.specs.Run.{IsAlone, Runs, UsesFiles, UsesLink};
+ghost use Rattle.srv_run.specs.Run.{IsAlone, Runs, UsesDialer, UsesFiles, UsesLink};
 ghost use Rattle.srv_serve.specs.Serve.{RunsServe};
-ghost use Rattle.srv_serve.specs.Stage.{LeavesDevices, Shows, Stage};
+ghost use Rattle.srv_serve.specs.Stage.{LeavesDevices, LeavesDialer, Shows, Stage};
 ghost use Rattle.srv_laws.specs.WellFormed.{IsWellUsed};
 ghost use Rattle.srv_laws.specs.WellServed.{EndsWell, HasNoMomentLeft, IsUsedUp, IsWellServed, ShowsClocks};
 ghost use Rattle.srv_laws.specs.Worked.{HasNotOpened, HasNotWorked, HasWorked};
@@ -40,9 +41,10 @@ pub fn well_formed_use_of_once_succeeds<D, I, C, L>()
     ensures end { (site : Site) (path : List ℕ) (steps : List Step) (end : End) (before after : WorldShown)
         → RunsOnce site path steps end before after → IsWellUsed site path steps before after
         → (end ≡ Done) ⊎ (end ≡ NoMemory) }
-    ensures status { (show : Shows D I C L) (site : Site) (path : List ℕ) (steps : List Step)
-        (status : ℕ) (before after : Stage D I C) → Runs show (Some (Once site path steps)) status before after
-        → IsWellUsed site path steps before.outside after.outside → (status ≡ 0) ⊎ (status ≡ 4) }
+    ensures status { (show : Shows D I C L) (stepping : Stepping) (status : ℕ) (before after : Stage D I C)
+        → Runs show (Some (Once stepping)) status before after
+        → IsWellUsed stepping.site stepping.proto stepping.steps before.outside after.outside
+        → (status ≡ 0) ⊎ (status ≡ 4) }
 {}
 
 /// What a run of `once` writes to its link is one script over its whole log: the replies to the first requests of the
@@ -108,12 +110,15 @@ pub fn a_check_says_whether_a_file_is_sound<D, I, C, L>()
         → (status ≡ status_of end) ⊎ (status ≡ 4) ⊎ (status ≡ 5) }
 {}
 
-/// Only `once` uses the link, and `load` and bad words read no file.
+/// Only `once`, `twod` and `extract` use the link, and only `pull` the dialer. `load`, `pull` and bad words read no
+/// file.
 pub fn a_job_uses_only_its_devices<D, I, C, L>()
     ensures link { (show : Shows D I C L) (job : Option Job) (status : ℕ) (before after : Stage D I C)
         → Runs show job status before after → (UsesLink job → ⊥) → after.outside.link ≡ before.outside.link }
     ensures files { (show : Shows D I C L) (job : Option Job) (status : ℕ) (before after : Stage D I C)
         → Runs show job status before after → (UsesFiles job → ⊥) → after.outside.files ≡ before.outside.files }
+    ensures dialer { (show : Shows D I C L) (job : Option Job) (status : ℕ) (before after : Stage D I C)
+        → Runs show job status before after → (UsesDialer job → ⊥) → LeavesDialer before after }
 {}
 
 /// A run with a status other than 0 and 7 says how it ended: the line of an end with that status was written, or its
@@ -123,9 +128,8 @@ pub fn a_run_says_how_it_ended<D, I, C, L>()
     ensures said { (show : Shows D I C L) (job : Option Job) (status : ℕ) (before after : Stage D I C)
         → Runs show job status before after → status ≢ 0 → status ≢ 7
         → Said status before.outside.sink after.outside.sink }
-    ensures done { (show : Shows D I C L) (site : Site) (path : List ℕ) (steps : List Step)
-        (before after : Stage D I C) → Runs show (Some (Once site path steps)) 0 before after
-        → after.outside.sink ≡ before.outside.sink }
+    ensures done { (show : Shows D I C L) (stepping : Stepping) (before after : Stage D I C)
+        → Runs show (Some (Once stepping)) 0 before after → after.outside.sink ≡ before.outside.sink }
 {}
 
 /// A run of `serve` whose workers all ended well, whether or not its line could be written, has served all links and

@@ -1,29 +1,22 @@
 -- Which device the status of a run blames.
-use Rattle.std.proofs.Common.{◌≡◌, ◌⊎◌, ◌≤◌, ℕ, List, [], refl, sym, ap, subst, ◌∙◌, arith, inl, inr, Option, Some, None, Result, Ok, Err, IfErr}
-use Rattle.nc_model.specs.declared.header.Header.{Header}
+use Rattle.std.proofs.Common.{◌≡◌, ◌⊎◌, ℕ, [], refl, sym, ap, subst, ◌∙◌, arith, inl, inr, Option, Some, None}
 use Rattle.fm_model.specs.declared.proto.Proto.{Proto}
-use Rattle.fm_model.specs.declared.site.Site.{Site}
-use Rattle.dev_traits.specs.Cause.{one_more}
-use Rattle.dev_traits.specs.World.{WorldShown}
 use Rattle.srv_words.specs.declared.job.Job.{Job}
-use Rattle.srv_words.specs.declared.job.Job.TheVariants.{Once, Check, Load, Serve}
+use Rattle.srv_words.specs.declared.job.Job.TheVariants.{Once, Twod, Extract, Pull, Check, Load, Serve}
 use Rattle.srv_words.specs.declared.job.Serving.{Serving}
-use Rattle.srv_words.specs.declared.job.Step.{Step}
 use Rattle.srv_workers.specs.declared.outcome.Outcome.{Outcome}
 use Rattle.srv_alone.specs.declared.end.End.{End}
 use Rattle.srv_alone.specs.declared.end.End.TheVariants.{Done, BadWords, NoMemory, FileFault, SinkFault, LinkFault, DoorFault, InboxFault}
-use Rattle.srv_alone.specs.Check.{EndsCheck}
-use Rattle.srv_alone.specs.Load.{EndsLoad}
-use Rattle.srv_alone.specs.Once.{RunsSteps, EndsAtPrototype}
-use Rattle.srv_alone.specs.Reading.{file_faults_after, IsEndAtFile}
+use Rattle.srv_alone.specs.Reading.{file_faults_after}
 use Rattle.srv_serve.specs.Closing.{EndsServing, first_end}
 use Rattle.srv_serve.specs.Devices.{StopsAt}
 use Rattle.srv_alone.specs.Report.{Reports, status_of}
-use Rattle.srv_run.specs.Run.{Blames, BlamesDoor, BlamesInbox, DoesJob, Ends, LacksMemory, Runs}
+use Rattle.srv_run.specs.Run.{Blames, BlamesDoor, BlamesInbox, BlamesLink, DoesJob, Ends, LacksMemory, Runs}
 use Rattle.srv_serve.specs.Serve.{EndsUnopened, GoesOn, HasRun, ServesDevices}
 use Rattle.srv_serve.specs.Stage.{Shows, Stage}
 use Rattle.srv_serve.proofs.RunLemmas.{door-failed, end-is-device, inbox-failed}
-use Rattle.srv_alone.proofs.StepBlameLemmas.{at_file, IsAtDevice, steps_blamed}
+use Rattle.srv_alone.proofs.StepBlameLemmas.{at_file, IsAtDevice}
+use Rattle.srv_run.proofs.AloneBlameLemmas.{BlamedBy, check_blamed, load_blamed, once_blamed, pull_blamed, view_blamed}
 
 -- each of these ends is the only one with its status
 is_bad_words : (end : End) → status_of end ≡ 2 → end ≡ BadWords
@@ -50,83 +43,22 @@ is_inbox_fault : (end : End) → status_of end ≡ 8 → (number : ℕ) × (end 
 is_inbox_fault (InboxFault number) is = (number, refl)
 is_inbox_fault end is = absurd (omega (arith, is))
 
--- the blame of an end on the devices that are there from the start
-pub record BlamedIn (end : End) (world world' : WorldShown) : Type 0 where
-  pub words : end ≡ BadWords → ⊥
-  pub files : end ≡ FileFault → world'.files.faults ≡ one_more world.files.faults
-  pub sink : end ≡ SinkFault → world'.sink.faults ≡ one_more world.sink.faults
-  pub link : end ≡ LinkFault → one_more world.link.faults ≤ world'.link.faults
-
 -- the blame of the end of a job on the devices that the run opened
 pub record BlamedOn {D I C L : Type 0} (show : Shows D I C L) (job : Job) (end : End) (stage stage' : Stage D I C)
     : Type 0 where
-  pub inside : BlamedIn end stage.outside stage'.outside
+  pub inside : BlamedBy (BlamesLink (Some job) stage stage') end stage.outside stage'.outside
   pub door : (number : ℕ) → end ≡ DoorFault number → BlamesDoor show (Some job) stage stage'
   pub inbox : (number : ℕ) → end ≡ InboxFault number → BlamesInbox show (Some job) stage stage'
 
 -- a run that opens nothing blames nothing that it opened
 alone : {D I C L : Type 0} (show : Shows D I C L) (job : Job) (end : End) (stage stage' : Stage D I C)
-    → BlamedIn end stage.outside stage'.outside → (IsAtDevice end → ⊥) → BlamedOn show job end stage stage'
+    → BlamedBy (BlamesLink (Some job) stage stage') end stage.outside stage'.outside → (IsAtDevice end → ⊥)
+    → BlamedOn show job end stage stage'
 alone show job end stage stage' inside none = record {
   inside = inside;
   door = λ number is. absurd (none (subst (λ (e : End). IsAtDevice e) (sym is) tt));
   inbox = λ number is. absurd (none (subst (λ (e : End). IsAtDevice e) (sym is) tt));
 }
-
-pub once_blamed : (site : Site) (path : List ℕ) (steps : List Step) (end : End) (world world' : WorldShown)
-    (at : List ℕ) → RunsSteps site path steps world.files world'.files world.link world'.link end at
-    ⊎ EndsAtPrototype site path world.files world'.files world.link world'.link end at
-    → BlamedIn end world world' × (IsAtDevice end → ⊥)
-once_blamed site path steps end world world' at (inl runs) =
-    let blamed = steps_blamed steps _ _ end at runs.does in (
-      record {
-        words = blamed.words;
-        files = blamed.files;
-        sink = λ is. absurd (blamed.sink is);
-        link = blamed.link;
-      },
-      blamed.device,
-    )
-once_blamed site path steps end world world' at (inr ends) =
-    let file = at_file end ends.ends.at_file in (
-      record {
-        words = file.words;
-        files = λ is. ends.ends.faults_are ∙ ap (file_faults_after world.files.faults) is;
-        sink = λ is. absurd (file.sink is);
-        link = λ is. absurd (file.link is);
-      },
-      file.device,
-    )
-
-check_blamed : (path : List ℕ) (checked : Result Header End) (end : End) (world world' : WorldShown)
-    → IfErr checked IsEndAtFile → EndsCheck path checked end world.sink world'.sink
-    → world'.files.faults ≡ file_faults_after world.files.faults end
-    → BlamedIn end world world' × (IsAtDevice end → ⊥)
-check_blamed path (Ok header) Done world world' at ends faults =
-    (record { words = λ e. cc; files = λ e. absurd cc; sink = λ e. absurd cc; link = λ e. absurd cc }, λ d. d)
-check_blamed path (Ok header) SinkFault world world' at ends faults =
-    (record { words = λ e. cc; files = λ e. absurd cc; sink = λ e. ends.faults; link = λ e. absurd cc }, λ d. d)
-check_blamed path (Ok header) end world world' at ends faults = absurd ends
-check_blamed path (Err found) end world world' at ends faults =
-    let file = at_file found at in (
-      record {
-        words = λ is. file.words (sym ends.0 ∙ is);
-        files = λ is. faults ∙ ap (file_faults_after world.files.faults) is;
-        sink = λ is. absurd (file.sink (sym ends.0 ∙ is));
-        link = λ is. absurd (file.link (sym ends.0 ∙ is));
-      },
-      λ d. file.device (subst (λ (e : End). IsAtDevice e) ends.0 d),
-    )
-
-load_blamed : (seed files : ℕ) (end : End) (world world' : WorldShown) → EndsLoad seed files end world.sink world'.sink
-    → BlamedIn end world world' × (IsAtDevice end → ⊥)
-load_blamed seed files Done world world' ends =
-    (record { words = λ e. cc; files = λ e. absurd cc; sink = λ e. absurd cc; link = λ e. absurd cc }, λ d. d)
-load_blamed seed files SinkFault world world' ends =
-    (record { words = λ e. cc; files = λ e. absurd cc; sink = λ e. ends.faults; link = λ e. absurd cc }, λ d. d)
-load_blamed seed files NoMemory world world' ends =
-    (record { words = λ e. cc; files = λ e. absurd cc; sink = λ e. absurd cc; link = λ e. absurd cc }, λ d. d)
-load_blamed seed files end world world' ends = absurd ends
 
 -- a run whose prototype isn't read
 pub unopened_blamed : {D I C L : Type 0} (show : Shows D I C L) (serving : Serving) (end : End)
@@ -216,9 +148,19 @@ serve_blamed show serving end stage stage' (inr on) =
 
 job_blamed : {D I C L : Type 0} (show : Shows D I C L) (job : Job) (end : End) (stage stage' : Stage D I C)
     → DoesJob show (Some job) end stage stage' → BlamedOn show job end stage stage'
-job_blamed show (Once site path steps) end stage stage' does =
-    let blamed = once_blamed site path steps end stage.outside stage'.outside does.0.at does.0.runs in
-    alone show (Once site path steps) end stage stage' blamed.0 blamed.1
+job_blamed show (Once stepping) end stage stage' does =
+    let blamed = once_blamed stepping.site stepping.proto stepping.steps end stage.outside stage'.outside does.0.at
+    does.0.runs in
+    alone show (Once stepping) end stage stage' blamed.0 blamed.1
+job_blamed show (Twod stepping with_values constraint) end stage stage' does =
+    let blamed = view_blamed _ _ stepping end does.0.at stage.outside stage'.outside does.0.sends in
+    alone show (Twod stepping with_values constraint) end stage stage' blamed.0 blamed.1
+job_blamed show (Extract stepping view constraint version) end stage stage' does =
+    let blamed = view_blamed _ _ stepping end does.0.at stage.outside stage'.outside does.0.sends in
+    alone show (Extract stepping view constraint version) end stage stage' blamed.0 blamed.1
+job_blamed show (Pull address target) end stage stage' does =
+    let blamed = pull_blamed address target end stage stage' does.0 in
+    alone show (Pull address target) end stage stage' blamed.0 blamed.1
 job_blamed show (Check path) end stage stage' does =
     let checks = does.0.checks in
     let blamed = check_blamed path checks.checked end stage.outside stage'.outside checks.at_file checks.ends
@@ -228,6 +170,7 @@ job_blamed show (Load seed files) end stage stage' does =
     let blamed = load_blamed seed files end stage.outside stage'.outside does.0.ends in
     alone show (Load seed files) end stage stage' blamed.0 blamed.1
 job_blamed show (Serve serving) end stage stage' does = serve_blamed show serving end stage stage' does.runs
+job_blamed show job end stage stage' does = absurd does
 
 -- a run blames a device where its last call failed
 blames : {D I C L : Type 0} (show : Shows D I C L) (job : Option Job) (status : ℕ) (end : End)

@@ -1,13 +1,12 @@
--- The job of some words, where it is of a command.
-use Rattle.std.proofs.Common.{◌≡◌, Bool, true, false, if◌then◌else◌, Option, Some, None, Err, refl, ap, ◌∙◌}
+-- The job of some words, where it is of a command, or of one that the program offers.
+use Rattle.std.proofs.Common.{◌≡◌, Bool, true, false, if◌then◌else◌, Option, Some, None, Err, IsTrue, refl, ap, subst, ◌∙◌}
 use Rattle.srv_words.specs.declared.job.Command.{Command}
 use Rattle.srv_words.specs.declared.job.Command.TheVariants as commands
 use Rattle.srv_words.specs.declared.job.Job.{Job}
-use Rattle.srv_words.specs.declared.job.Job.TheVariants.{Once, Check, Load, Serve}
 use Rattle.srv_words.specs.Jobs.{command_of}
 use Rattle.srv_alone.specs.declared.end.End.{End}
 use Rattle.srv_alone.specs.declared.end.End.TheVariants.{BadWords, NoMemory}
-use Rattle.srv_run.specs.Run.{IsAlone, IsJobOrEnd, is_same, only}
+use Rattle.srv_run.specs.Run.{IsAlone, IsAloneCommand, IsOffered, IsJobOrEnd, offers, offered_of, is_same, only}
 
 -- a job of the command
 pub only-same : (command : Command) (found : Option Job) (job : Job) → found ≡ Some job
@@ -28,13 +27,49 @@ only-end command found BadWords is = ap (only command) is
 only-end command found NoMemory is = tt
 only-end command found end is = absurd is
 
--- a job of a command other than `serve` waits for nobody
-pub alone-other : (command : Command) (job : Job) → is_same command (command_of job) ≡ true
-    → (command ≡ commands.Serve → ⊥) → IsAlone job
-alone-other command (Once site proto steps) same other = tt
-alone-other command (Check path) same other = tt
-alone-other command (Load seed files) same other = tt
-alone-other commands.Serve (Serve serving) same other = absurd (other refl)
-alone-other command (Serve serving) same other = absurd cc
+-- a job of a command that the program offers
+pub offered-same : (found : Option Job) (job : Job) → found ≡ Some job → offers (command_of job) ≡ true
+    → offered_of found ≡ Some job
+offered-same found job is done = ap offered_of is ∙ ap (λ (b : Bool). if b then Some job else None) done
 
-pub ruleset jobs = (only-same, only-other, only-end, alone-other)
+-- a job of a command that it does not offer
+pub offered-other : (found : Option Job) (job : Job) → found ≡ Some job → offers (command_of job) ≡ false
+    → offered_of found ≡ None
+offered-other found job is other = ap offered_of is ∙ ap (λ (b : Bool). if b then Some job else None) other
+
+-- no job
+pub offered-end : (found : Option Job) (end : End) → IsJobOrEnd found (Err end)
+    → IsJobOrEnd (offered_of found) (Err end)
+offered-end found BadWords is = ap offered_of is
+offered-end found NoMemory is = tt
+offered-end found end is = absurd is
+
+-- a job of a command that it offers, by the test
+pub is_offered : (job : Job) → offers (command_of job) ≡ true → IsOffered job
+is_offered job is = is
+
+-- commands that are the same by the test
+same_command : (command other : Command) → is_same command other ≡ true → command ≡ other
+same_command commands.Once commands.Once is = refl
+same_command commands.Twod commands.Twod is = refl
+same_command commands.Extract commands.Extract is = refl
+same_command commands.Pull commands.Pull is = refl
+same_command commands.Check commands.Check is = refl
+same_command commands.Load commands.Load is = refl
+same_command commands.Serve commands.Serve is = refl
+same_command commands.Many commands.Many is = refl
+same_command command other is = absurd cc
+
+-- a job of an offered command is offered
+pub offered-as : (command : Command) (job : Job) → is_same command (command_of job) ≡ true → IsTrue (offers command)
+    → IsOffered job
+offered-as command job same is =
+    subst (λ (c : Command). IsTrue (offers c)) (same_command command (command_of job) same) is
+
+-- a job of a command that waits for nobody waits for nobody
+pub alone-as : (command : Command) (job : Job) → is_same command (command_of job) ≡ true → IsAloneCommand command
+    → IsAlone job
+alone-as command job same is = subst IsAloneCommand (same_command command (command_of job) same) is
+
+pub ruleset jobs =
+    (only-same, only-other, only-end, offered-same, offered-other, offered-end, is_offered, offered-as, alone-as)

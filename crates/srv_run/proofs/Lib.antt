@@ -1,2 +1,4 @@
+pub mod AloneBlameLemmas
 pub mod BlameLemmas
 pub mod JobLemmas
+pub mod PullLemmas

@@ -1,11 +1,11 @@
 -- A run of the program, by its words, its world and its status.
-use Rattle.std.specs.Prelude.{◌≡◌, ◌⊎◌, ◌<◌, ◌≤◌, ℕ, Bool, true, false, if◌then◌else◌, List, [], slice_get, ⊤, Option, Some, None, IsSomeAnd, Result, Ok, Err}
+use Rattle.std.specs.Prelude.{◌≡◌, ◌⊎◌, ◌<◌, ◌≤◌, ℕ, Bool, true, false, if◌then◌else◌, List, [], slice_get, ⊤, Option, Some, None, IsSomeAnd, IsTrue, Result, Ok, Err}
 use Rattle.dev_traits.specs.Cause.{one_more}
 use Rattle.dev_traits.specs.World.{WorldShown}
 use Rattle.srv_words.specs.declared.job.Command.{Command}
 use Rattle.srv_words.specs.declared.job.Command.TheVariants as commands
 use Rattle.srv_words.specs.declared.job.Job.{Job}
-use Rattle.srv_words.specs.declared.job.Job.TheVariants.{Once, Check, Load, Serve}
+use Rattle.srv_words.specs.declared.job.Job.TheVariants.{Once, Twod, Extract, Pull, Check, Load, Serve, Many}
 use Rattle.srv_words.specs.Jobs.{command_of}
 use Rattle.srv_alone.specs.declared.end.End.{End}
 use Rattle.srv_alone.specs.declared.end.End.TheVariants.{BadWords, NoMemory, DoorFault, InboxFault}
@@ -14,8 +14,11 @@ use Rattle.srv_serve.specs.Devices.{HasFailedAt, StopsAtDoor, StopsAtInbox}
 use Rattle.srv_alone.specs.Load.{EndsLoad}
 use Rattle.srv_alone.specs.Once.{RunsOnce}
 use Rattle.srv_alone.specs.Report.{Reports, status_of}
+use Rattle.srv_pull.specs.Pull.{HasFailedLink, RunsPull}
+use Rattle.srv_views.specs.Extract.{RunsExtract}
+use Rattle.srv_views.specs.Views.{RunsTwod}
 use Rattle.srv_serve.specs.Serve.{RunsServe}
-use Rattle.srv_serve.specs.Stage.{LeavesDevices, Shows, Stage}
+use Rattle.srv_serve.specs.Stage.{LeavesDevices, LeavesDialer, Shows, Stage}
 
 -- A run of `check` ended so; the link wasn't used.
 pub record RunsCheck (path : List ℕ) (end : End) (world world' : WorldShown) : Type 0 where
@@ -28,24 +31,44 @@ pub record RunsLoad (seed files : ℕ) (end : End) (world world' : WorldShown) :
   pub unread : world'.files ≡ world.files
   pub unused : world'.link ≡ world.link
 
+-- A run of `pull` ended so; no file was read, and the link of the outside wasn't used.
+pub record PullsAlone {D I C : Type 0} (address target : List ℕ) (end : End) (stage stage' : Stage D I C) : Type 0 where
+  pub pulls : RunsPull (λ link. link) address target end stage.dial stage'.dial stage.outside.sink stage'.outside.sink
+  pub unread : stage'.outside.files ≡ stage.outside.files
+  pub unused : stage'.outside.link ≡ stage.outside.link
+
 -- Only the sink was used, for the line of an end at no file.
 pub record Says {D I C : Type 0} (end : End) (stage stage' : Stage D I C) : Type 0 where
   pub unread : stage'.outside.files ≡ stage.outside.files
   pub unused : stage'.outside.link ≡ stage.outside.link
   pub leaves : LeavesDevices stage stage'
+  pub undialled : LeavesDialer stage stage'
   pub reports : Reports end [] stage.outside.sink stage'.outside.sink
 
+-- A run left the opener, the devices and the dialer as before.
+abbrev pub LeavesRest : {D I C : Type 0} → Stage D I C → Stage D I C → Type 0
+LeavesRest stage stage' = LeavesDevices stage stage' × LeavesDialer stage stage'
+
 -- A run for a job ended so. Without a job only the line that says so was written. No job but `serve` touches the opener
--- and the devices.
+-- and the devices, and none but `pull` the dialer. A job of a command that the program doesn't offer has no run.
 abbrev pub DoesJob : {D I C L : Type 0} → Shows D I C L → Option Job → End → Stage D I C → Stage D I C → Type 0
 DoesJob show None end stage stage' = (end ≡ BadWords) × Says BadWords stage stage'
-DoesJob show (Some (Once site proto steps)) end stage stage' =
-    RunsOnce site proto steps end stage.outside stage'.outside × LeavesDevices stage stage'
+DoesJob show (Some (Once stepping)) end stage stage' =
+    RunsOnce stepping.site stepping.proto stepping.steps end stage.outside stage'.outside × LeavesRest stage stage'
 DoesJob show (Some (Check path)) end stage stage' =
-    RunsCheck path end stage.outside stage'.outside × LeavesDevices stage stage'
+    RunsCheck path end stage.outside stage'.outside × LeavesRest stage stage'
 DoesJob show (Some (Load seed files)) end stage stage' =
-    RunsLoad seed files end stage.outside stage'.outside × LeavesDevices stage stage'
+    RunsLoad seed files end stage.outside stage'.outside × LeavesRest stage stage'
 DoesJob show (Some (Serve serving)) end stage stage' = RunsServe show serving end stage stage'
+DoesJob show (Some (Twod stepping with_values constraint)) end stage stage' =
+    RunsTwod stepping (record { with_values = with_values; constraint = constraint }) end
+    stage.outside stage'.outside × LeavesRest stage stage'
+DoesJob show (Some (Extract stepping view constraint version)) end stage stage' =
+    RunsExtract stepping (record { view = view; constraint = constraint; version = version }) end
+    stage.outside stage'.outside × LeavesRest stage stage'
+DoesJob show (Some (Pull address target)) end stage stage' =
+    PullsAlone address target end stage stage' × LeavesDevices stage stage'
+DoesJob show (Some (Many serving)) end stage stage' = ⊥
 
 -- Memory ran out before the words were read, and only the line that says so was written.
 abbrev pub LacksMemory : {D I C : Type 0} → End → Stage D I C → Stage D I C → Type 0
@@ -64,6 +87,10 @@ is_same commands.Once commands.Once = true
 is_same commands.Check commands.Check = true
 is_same commands.Load commands.Load = true
 is_same commands.Serve commands.Serve = true
+is_same commands.Twod commands.Twod = true
+is_same commands.Extract commands.Extract = true
+is_same commands.Pull commands.Pull = true
+is_same commands.Many commands.Many = true
 is_same command other = false
 
 -- the job, where it is of this command
@@ -71,21 +98,54 @@ abbrev pub only : Command → Option Job → Option Job
 only command None = None
 only command (Some job) = if is_same command (command_of job) then Some job else None
 
+-- whether the program offers a command
+abbrev pub offers : Command → Bool
+offers commands.Once = true
+offers commands.Twod = true
+offers commands.Extract = true
+offers commands.Pull = true
+offers commands.Check = true
+offers commands.Load = true
+offers commands.Serve = true
+offers command = false
+
+-- a job of a command that the program offers
+abbrev pub IsOffered : Job → Type 0
+IsOffered job = IsTrue (offers (command_of job))
+
+-- the job, where the program offers its command
+abbrev pub offered_of : Option Job → Option Job
+offered_of None = None
+offered_of (Some job) = if offers (command_of job) then Some job else None
+
+-- a command that waits for nobody
+abbrev pub IsAloneCommand : Command → Type 0
+IsAloneCommand commands.Serve = ⊥
+IsAloneCommand commands.Many = ⊥
+IsAloneCommand command = ⊤
+
 -- a job that waits for nobody
 abbrev pub IsAlone : Job → Type 0
-IsAlone (Serve serving) = ⊥
-IsAlone job = ⊤
+IsAlone job = IsAloneCommand (command_of job)
 
 -- a job that uses the link
 abbrev pub UsesLink : Option Job → Type 0
-UsesLink (Some (Once site proto steps)) = ⊤
+UsesLink (Some (Once stepping)) = ⊤
+UsesLink (Some (Twod stepping with_values constraint)) = ⊤
+UsesLink (Some (Extract stepping view constraint version)) = ⊤
 UsesLink job = ⊥
 
 -- a job that reads files
 abbrev pub UsesFiles : Option Job → Type 0
 UsesFiles None = ⊥
 UsesFiles (Some (Load seed files)) = ⊥
+UsesFiles (Some (Pull address target)) = ⊥
 UsesFiles job = ⊤
+
+-- a job that dials
+abbrev pub UsesDialer : Option Job → Type 0
+UsesDialer (Some (Pull address target)) = ⊤
+UsesDialer job = ⊥
 
 -- There is this job, or a run ends so without one: there is none, or memory ran out.
 abbrev pub IsJobOrEnd : Option Job → Result Job End → Type 0
@@ -122,6 +182,12 @@ pub record BlamesInbox {D I C L : Type 0} (show : Shows D I C L) (job : Option J
   pub why : LacksInbox job stage stage' number
       ⊎ HasFailedAt (λ inbox. (show.inbox inbox).faults) stage'.devices.inboxes number
 
+-- Calls of the link failed. A run of `pull` uses another link: a call of the dialer failed, or of the link that it
+-- gave.
+abbrev pub BlamesLink : {D I C : Type 0} → Option Job → Stage D I C → Stage D I C → Type 0
+BlamesLink (Some (Pull address target)) stage stage' = HasFailedLink (λ link. link) stage.dial stage'.dial
+BlamesLink job stage stage' = one_more stage.outside.link.faults ≤ stage'.outside.link.faults
+
 -- Summary: when the words are refused, and which device a status blames. Memory may run out before the words are read.
 pub record Blames {D I C L : Type 0} (show : Shows D I C L) (job : Option Job) (status : ℕ) (stage stage' : Stage D I C)
     : Type 0 where
@@ -131,7 +197,7 @@ pub record Blames {D I C L : Type 0} (show : Shows D I C L) (job : Option Job) (
   pub door_fault : status ≡ 6 → BlamesDoor show job stage stage'
   pub sink_fault : status ≡ 7 → stage'.outside.sink.faults ≡ one_more stage.outside.sink.faults
   pub inbox_fault : status ≡ 8 → BlamesInbox show job stage stage'
-  pub link_fault : status ≡ 9 → one_more stage.outside.link.faults ≤ stage'.outside.link.faults
+  pub link_fault : status ≡ 9 → BlamesLink job stage stage'
 
 -- A run for a job ended with this status, which blames what failed.
 pub record Ends {D I C L : Type 0} (show : Shows D I C L) (job : Option Job) (status : ℕ)

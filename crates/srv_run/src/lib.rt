@@ -1,7 +1,10 @@
 //! The commands of the program over any world.
 #![tactic(auto)]
 
+mod alone;
 mod job;
 mod program;
 
-pub use program::{run, run_check, run_load, run_once, run_process, run_serve};
+pub use program::{
+    run, run_check, run_extract, run_load, run_once, run_process, run_pull, run_serve, run_twod,
+};

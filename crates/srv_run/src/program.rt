@@ -1,18 +1,18 @@
 //! The top call of the program, and a call for each of its commands.
-ghost use Rattle.std.specs.Prelude.{◌≡◌};
+ghost use Rattle.std.specs.Prelude.{◌≡◌, IsTrue};
 ghost use Rattle.std.specs.Process.{exit_status};
 ghost use Rattle.srv_words.specs.declared.job.Command.TheVariants as commands;
 ghost use Rattle.srv_words.specs.Jobs.{job_of};
 ghost use Rattle.srv_run.specs.Run as spec;
-ghost use Rattle.srv_serve.specs.Stage.{shows, stage_of};
+ghost use Rattle.srv_serve.specs.Stage.{dial_shown, shows, stage_of};
 
 use crate::job::{command_or_end, do_found, do_found_alone, job_or_end};
-use dev_traits::{Door, Machine, World};
+use dev_traits::{Machine, World};
 use fm_base::{Bytes, List};
 use srv_alone::End;
 use srv_words::{Command, reason_of};
 use std::alloc::Global;
-use std::marker::{Send, Sync};
+use std::marker::Sync;
 use std::process::ExitCode;
 use std::sync::Wait;
 use std::thread::Threads;
@@ -25,8 +25,10 @@ fn run_alone<M: Machine>(
     world: &mut World<M>,
 ) -> u8
     requires blocks { M.L.blocks }
-    requires alone { command ≡ commands.Serve → ⊥ }
-    ensures { let stage = stage_of M.shown M.F.shown M.L.shown M.S.shown in
+    requires dialled { M.N.L.blocks }
+    requires offered { IsTrue (spec.offers command) }
+    requires alone { spec.IsAloneCommand command }
+    ensures { let stage = stage_of M.shown M.F.shown M.L.shown M.S.shown (dial_shown M.N.shown M.N.L.shown) in
         spec.Ends (shows M.D.shown M.D.L.shown M.I.shown M.C.shown)
         (spec.only command (job_of words.now)) result (stage world.old) (stage world.new) }
 {
@@ -59,11 +61,93 @@ fn run_alone<M: Machine>(
 /// The first step that isn't done ends the run. A line that can't be written changes no status.
 pub fn run_once<M: Machine>(alloc: Global, words: &List<Bytes>, world: &mut World<M>) -> u8
     requires blocks { M.L.blocks }
-    ensures { let stage = stage_of M.shown M.F.shown M.L.shown M.S.shown in
+    requires dialled { M.N.L.blocks }
+    ensures { let stage = stage_of M.shown M.F.shown M.L.shown M.S.shown (dial_shown M.N.shown M.N.L.shown) in
         spec.Ends (shows M.D.shown M.D.L.shown M.I.shown M.C.shown)
         (spec.only commands.Once (job_of words.now)) result (stage world.old) (stage world.new) }
 {
     run_alone(alloc, words, Command::Once, world)
+}
+
+/// Runs `twod --name NAME --proto PROTO [--epoch INSTANT] [--mark MARK] --service dds|dods [--ask CONSTRAINT] STEP..`:
+/// reads the prototype PROTO, does the steps in their order on an empty collection over it, and sends what CONSTRAINT
+/// picks of the two-dimensional view of what they leave over the link: its structure text, or its structure text, a
+/// line `Data:` and its values. Returns the status of the program. The steps are those of [`run_once`] but `ask:K`.
+/// Nothing is taken from the link.
+///
+/// | Status | Line | Comes |
+/// |---|---|---|
+/// | 0 | none | the view was sent |
+/// | 2 | `bad words` | exactly where the words aren't the command |
+/// | 3 | `refused PATH code C` | exactly where a file is refused: C is its first fault, 61 where there is no room |
+/// | 3 | `refused twod code C` | exactly where the view is: C is its first fault, of 37, 21 to 26 and 34 |
+/// | 4 | `no memory` | at any time before the first byte is sent |
+/// | 5 | `file fault PATH` | only where a call of the files failed |
+/// | 9 | `link fault` | only where a call of the link failed; a front of the view was sent |
+/// | 10 | `no file PATH`, `too long PATH LEN` | exactly where the path has no file, or one of over 536,870,912 bytes |
+///
+/// The first step that isn't done ends the run. A line that can't be written changes no status.
+pub fn run_twod<M: Machine>(alloc: Global, words: &List<Bytes>, world: &mut World<M>) -> u8
+    requires blocks { M.L.blocks }
+    requires dialled { M.N.L.blocks }
+    ensures { let stage = stage_of M.shown M.F.shown M.L.shown M.S.shown (dial_shown M.N.shown M.N.L.shown) in
+        spec.Ends (shows M.D.shown M.D.L.shown M.I.shown M.C.shown)
+        (spec.only commands.Twod (job_of words.now)) result (stage world.old) (stage world.new) }
+{
+    run_alone(alloc, words, Command::Twod, world)
+}
+
+/// Runs `extract --name NAME --proto PROTO [--epoch INSTANT] [--mark MARK] --view VIEW [--ask CONSTRAINT] --format 1|2
+/// STEP..`: reads the prototype PROTO, does the steps in their order on an empty collection over it, and sends what
+/// CONSTRAINT picks of a view of what they leave over the link, as a file in the netCDF classic format. VIEW is the
+/// path of the view below that of the collection, without a service. Returns the status of the program. The steps are
+/// those of [`run_once`] but `ask:K`. Nothing is taken from the link.
+///
+/// | Status | Line | Comes |
+/// |---|---|---|
+/// | 0 | none | the file was sent |
+/// | 2 | `bad words` | exactly where the words aren't the command |
+/// | 3 | `refused PATH code C` | exactly where a file is refused: C is its first fault, 61 where there is no room |
+/// | 3 | `refused extract code C` | exactly where the view is: C is its first fault: 21 to 26, 31, 32, 37, 71 to 74 |
+/// | 4 | `no memory` | at any time before the first byte is sent |
+/// | 5 | `file fault PATH` | only where a call of the files failed |
+/// | 9 | `link fault` | only where a call of the link failed; a front of the file was sent |
+/// | 10 | `no file PATH`, `too long PATH LEN` | exactly where the path has no file, or one of over 536,870,912 bytes |
+///
+/// The first step that isn't done ends the run. A line that can't be written changes no status.
+pub fn run_extract<M: Machine>(alloc: Global, words: &List<Bytes>, world: &mut World<M>) -> u8
+    requires blocks { M.L.blocks }
+    requires dialled { M.N.L.blocks }
+    ensures { let stage = stage_of M.shown M.F.shown M.L.shown M.S.shown (dial_shown M.N.shown M.N.L.shown) in
+        spec.Ends (shows M.D.shown M.D.L.shown M.I.shown M.C.shown)
+        (spec.only commands.Extract (job_of words.now)) result (stage world.old) (stage world.new) }
+{
+    run_alone(alloc, words, Command::Extract, world)
+}
+
+/// Runs `pull --connect ADDRESS TARGET`: dials ADDRESS, asks for TARGET, reads one reply and gives the link back. Says
+/// what the reply's data are. Returns the status of the program. It dials once, or not at all where memory runs out.
+///
+/// | Status | Line | Comes |
+/// |---|---|---|
+/// | 0 | `label L parts P values V sum S` | the reply has data, and the line was written |
+/// | 2 | `bad words` | exactly where the words aren't the command |
+/// | 4 | `no memory` | at any time |
+/// | 7 | the first bytes of the line of 0 | only where a call of the sink failed |
+/// | 9 | `link fault` | only where a call of the dialer failed, or one of the link that it gave |
+/// | 12 | `bad reply code C` | exactly where the reply has a fault; C is the number of the first |
+///
+/// L is the name of the dataset, P the number of its variables, V the number of all their values, and S the sum of the
+/// bits of all numbers modulo 2^32. A line of another status that can't be written changes no status. No file is read,
+/// nor is the link of the run used.
+pub fn run_pull<M: Machine>(alloc: Global, words: &List<Bytes>, world: &mut World<M>) -> u8
+    requires blocks { M.L.blocks }
+    requires dialled { M.N.L.blocks }
+    ensures { let stage = stage_of M.shown M.F.shown M.L.shown M.S.shown (dial_shown M.N.shown M.N.L.shown) in
+        spec.Ends (shows M.D.shown M.D.L.shown M.I.shown M.C.shown)
+        (spec.only commands.Pull (job_of words.now)) result (stage world.old) (stage world.new) }
+{
+    run_alone(alloc, words, Command::Pull, world)
 }
 
 /// Runs `check FILE`: reads the header of a file in the netCDF classic format and sees that all its data lies in the
@@ -82,7 +166,8 @@ pub fn run_once<M: Machine>(alloc: Global, words: &List<Bytes>, world: &mut Worl
 /// A line of another status that can't be written changes no status. The link isn't used.
 pub fn run_check<M: Machine>(alloc: Global, words: &List<Bytes>, world: &mut World<M>) -> u8
     requires blocks { M.L.blocks }
-    ensures { let stage = stage_of M.shown M.F.shown M.L.shown M.S.shown in
+    requires dialled { M.N.L.blocks }
+    ensures { let stage = stage_of M.shown M.F.shown M.L.shown M.S.shown (dial_shown M.N.shown M.N.L.shown) in
         spec.Ends (shows M.D.shown M.D.L.shown M.I.shown M.C.shown)
         (spec.only commands.Check (job_of words.now)) result (stage world.old) (stage world.new) }
 {
@@ -105,7 +190,8 @@ pub fn run_check<M: Machine>(alloc: Global, words: &List<Bytes>, world: &mut Wor
 /// the link used.
 pub fn run_load<M: Machine>(alloc: Global, words: &List<Bytes>, world: &mut World<M>) -> u8
     requires blocks { M.L.blocks }
-    ensures { let stage = stage_of M.shown M.F.shown M.L.shown M.S.shown in
+    requires dialled { M.N.L.blocks }
+    ensures { let stage = stage_of M.shown M.F.shown M.L.shown M.S.shown (dial_shown M.N.shown M.N.L.shown) in
         spec.Ends (shows M.D.shown M.D.L.shown M.I.shown M.C.shown)
         (spec.only commands.Load (job_of words.now)) result (stage world.old) (stage world.new) }
 {
@@ -141,14 +227,9 @@ pub fn run_serve<R: Threads + Wait + Sync, M: Machine>(
     words: &List<Bytes>,
     world: &mut World<M>,
 ) -> u8
-where
-    M::D: Send,
-    M::I: Send,
-    M::C: Send,
-    M::G: Sync,
-    <M::D as Door>::L: Send,
     requires blocks { M.L.blocks }
-    ensures { let stage = stage_of M.shown M.F.shown M.L.shown M.S.shown in
+    requires dialled { M.N.L.blocks }
+    ensures { let stage = stage_of M.shown M.F.shown M.L.shown M.S.shown (dial_shown M.N.shown M.N.L.shown) in
         spec.Ends (shows M.D.shown M.D.L.shown M.I.shown M.C.shown)
         (spec.only commands.Serve (job_of words.now)) result (stage world.old) (stage world.new) }
 {
@@ -158,22 +239,18 @@ where
 
 /// Does what the words ask for, without the program's own name, reports how it ended, and returns the status of the
 /// program: as the call of the command that the words name, whose other calls have the same answers for bad words.
+/// Words of a command that isn't offered yet end as bad words.
 pub fn run<R: Threads + Wait + Sync, M: Machine>(
     rt: &R,
     alloc: Global,
     words: &List<Bytes>,
     world: &mut World<M>,
 ) -> u8
-where
-    M::D: Send,
-    M::I: Send,
-    M::C: Send,
-    M::G: Sync,
-    <M::D as Door>::L: Send,
     requires blocks { M.L.blocks }
-    ensures { let stage = stage_of M.shown M.F.shown M.L.shown M.S.shown in
+    requires dialled { M.N.L.blocks }
+    ensures { let stage = stage_of M.shown M.F.shown M.L.shown M.S.shown (dial_shown M.N.shown M.N.L.shown) in
         spec.Ends (shows M.D.shown M.D.L.shown M.I.shown M.C.shown)
-        (job_of words.now) result (stage world.old) (stage world.new) }
+        (spec.offered_of (job_of words.now)) result (stage world.old) (stage world.new) }
 {
     let found = job_or_end(alloc, words);
     do_found(rt, alloc, found, world)
@@ -197,16 +274,11 @@ pub fn run_process<R: Threads + Wait + Sync, M: Machine>(
     words: &List<Bytes>,
     world: &mut World<M>,
 ) -> (ExitCode, Option<String>)
-where
-    M::D: Send,
-    M::I: Send,
-    M::C: Send,
-    M::G: Sync,
-    <M::D as Door>::L: Send,
     requires blocks { M.L.blocks }
-    ensures { let stage = stage_of M.shown M.F.shown M.L.shown M.S.shown in
+    requires dialled { M.N.L.blocks }
+    ensures { let stage = stage_of M.shown M.F.shown M.L.shown M.S.shown (dial_shown M.N.shown M.N.L.shown) in
         spec.Ends (shows M.D.shown M.D.L.shown M.I.shown M.C.shown)
-        (job_of words.now) (exit_status result.0) (stage world.old) (stage world.new) }
+        (spec.offered_of (job_of words.now)) (exit_status result.0) (stage world.old) (stage world.new) }
 {
     let found = job_or_end(alloc, words);
     let status = do_found(rt, alloc, found, world);

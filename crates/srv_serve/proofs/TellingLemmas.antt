@@ -21,10 +21,10 @@ TellsServing-one {D} {I} {C} {serving} {opener} {opener'} same noted faults = re
 }
 
 -- all that were opened, where the opener was told so
-pub AreAllOpened-told : {D I C : Type 0} (serving : Serving) (devices : Devices D I C) (faults : ℕ)
-    (opener opener' : OpenerShown D I C) → AreAllOpened serving devices faults opener.faults
+pub AreAllOpened-told : {D I C : Type 0} {serving : Serving} {devices : Devices D I C} {faults : ℕ}
+    {opener opener' : OpenerShown D I C} → AreAllOpened serving devices faults opener.faults
     → TellsServing serving opener opener' → AreAllOpened serving devices faults opener'.faults
-AreAllOpened-told serving devices faults opener opener' all told = record {
+AreAllOpened-told all told = record {
   doors = all.doors;
   inboxes = all.inboxes;
   clocks = all.clocks;

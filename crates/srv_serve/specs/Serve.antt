@@ -12,7 +12,7 @@ use Rattle.srv_serve.specs.Closing.{EndsServing, first_end}
 use Rattle.srv_serve.specs.Devices.{AreAllOpened, kept_for, OpensDevices, StopsAt}
 use Rattle.srv_alone.specs.Once.{EndsOpening, Opens}
 use Rattle.srv_alone.specs.Report.{Reports}
-use Rattle.srv_serve.specs.Stage.{LeavesDevices, Shows, Stage}
+use Rattle.srv_serve.specs.Stage.{LeavesDevices, LeavesDialer, Shows, Stage}
 use Rattle.srv_serve.specs.Telling.{TellsServing}
 
 -- The run ended at the file of its prototype, so with status 3, 4, 5 or 10: nothing was opened.
@@ -67,8 +67,9 @@ pub record GoesOn {D I C L : Type 0} (show : Shows D I C L) (serving : Serving) 
   pub files : stage'.outside.files ≡ stage.outside.files
   pub serves : ServesDevices show serving proto stage stage' end
 
--- A run of `serve` ended so; the link of the outside wasn't used.
+-- A run of `serve` ended so; neither the link of the outside nor the dialer was used.
 pub record RunsServe {D I C L : Type 0} (show : Shows D I C L) (serving : Serving) (end : End)
     (stage stage' : Stage D I C) : Type 0 where
   pub runs : EndsUnopened serving stage stage' end ⊎ GoesOn show serving stage stage' end
   pub unused : stage'.outside.link ≡ stage.outside.link
+  pub undialled : LeavesDialer stage stage'

@@ -1,8 +1,9 @@
 -- All that a run of `serve` works with: the outside of the run, and the devices that it opens.
-use Rattle.std.specs.Prelude.{◌≡◌, Option}
+use Rattle.std.specs.Prelude.{◌≡◌, Option, map, option_map}
 use Rattle.dev_traits.specs.Shown.{FilesShown, LinkShown, SinkShown}
 use Rattle.dev_traits.specs.declared.world.World.{World}
 use Rattle.dev_traits.specs.Clock.{Moments}
+use Rattle.dev_traits.specs.Dial.{DialShown, Exchange}
 use Rattle.dev_traits.specs.Door.{DoorShown}
 use Rattle.dev_traits.specs.Inbox.{InboxShown}
 use Rattle.dev_traits.specs.Opener.{OpenerShown}
@@ -20,22 +21,45 @@ abbrev pub shows : {D I C L : Type 0} → (D → DoorShown L) → (L → LinkSho
     → Shows D I C L
 shows door link inbox clock = record { door = door; link = link; inbox = inbox; clock = clock }
 
--- what the outside and the opener of a world show, and the devices that were opened
+-- what a dialer in memory holds, by what its links show
+abbrev pub exchange_shown : {L : Type 0} → (L → LinkShown) → Exchange L → Exchange LinkShown
+exchange_shown link exchange = record {
+  link = option_map link exchange.link;
+  out = exchange.out;
+  dialled = exchange.dialled;
+  given = map link exchange.given;
+}
+
+-- what a dialer shows, by what its links show
+abbrev pub shown_by : {L : Type 0} → (L → LinkShown) → DialShown L → DialShown LinkShown
+shown_by link shown = record { held = option_map (exchange_shown link) shown.held; faults = shown.faults }
+
+-- the same, of a dialer
+abbrev pub dial_shown : {N L : Type 0} → (N → DialShown L) → (L → LinkShown) → N → DialShown LinkShown
+dial_shown dial link n = shown_by link (dial n)
+
+-- what the outside, the opener and the dialer of a world show, and the devices that were opened
 pub record Stage (D I C : Type 0) : Type 0 where
   pub outside : WorldShown
   pub opener : OpenerShown D I C
   pub devices : Devices D I C
+  pub dial : DialShown LinkShown
 
--- the same, by what the opener, the files, the link and the sink of a world show
-abbrev pub stage_of : {M D I C F L S G K : Type 0} → (M → OpenerShown D I C) → (F → FilesShown) → (L → LinkShown)
-    → (S → SinkShown) → World M D I C F L S G K → Stage D I C
-stage_of opener files link sink world = record {
+-- the same, by what the opener, the files, the link, the sink and the dialer of a world show
+abbrev pub stage_of : {M D I C F L S G N K P : Type 0} → (M → OpenerShown D I C) → (F → FilesShown) → (L → LinkShown)
+    → (S → SinkShown) → (N → DialShown LinkShown) → World M D I C F L S G N K P → Stage D I C
+stage_of opener files link sink dial world = record {
   outside = world_shown files link sink world;
   opener = opener world.opener;
   devices = world.devices;
+  dial = dial world.dial;
 }
 
 -- The opener and the devices are as before.
 pub record LeavesDevices {D I C : Type 0} (stage stage' : Stage D I C) : Type 0 where
   pub opener_is : stage'.opener ≡ stage.opener
   pub devices_are : stage'.devices ≡ stage.devices
+
+-- The dialer is as before.
+abbrev pub LeavesDialer : {D I C : Type 0} → Stage D I C → Stage D I C → Type 0
+LeavesDialer stage stage' = stage'.dial ≡ stage.dial

@@ -4,19 +4,19 @@ ghost use Rattle.fm_model.specs.Site.{IsPrototype, IsSite};
 ghost use Rattle.srv_words.specs.Serve.{IsServing};
 ghost use Rattle.srv_alone.specs.Once.{EndsOpening, Opens};
 ghost use Rattle.srv_serve.specs.Serve as spec;
-ghost use Rattle.srv_serve.specs.Stage.{shows, stage_of};
+ghost use Rattle.srv_serve.specs.Stage.{dial_shown, shows, stage_of};
 
 use crate::closing::close;
 use crate::opening::open_devices;
 use crate::telling::tell_serving;
-use dev_traits::{Devices, Door, Files, Machine, Opened, World};
+use dev_traits::{Devices, Files, Machine, Opened, World};
 use fm_base::{Arc, Bytes, NoMemory};
 use fm_model::{Proto, Site};
 use srv_alone::{End, read_prototype, report};
 use srv_words::Serving;
 use srv_workers::{Outcome, can_start, run_workers};
 use std::alloc::Global;
-use std::marker::{Send, Sync};
+use std::marker::Sync;
 use std::sync::Wait;
 use std::thread::Threads;
 
@@ -66,12 +66,6 @@ fn run_in_threads<R: Threads + Wait + Sync, M: Machine>(
     gate: &M::G,
     devices: &mut Opened<M>,
 ) -> Result<Outcome, End>
-where
-    M::D: Send,
-    M::I: Send,
-    M::C: Send,
-    M::G: Sync,
-    <M::D as Door>::L: Send,
     requires serving { IsServing serving.now }
     requires proto { IsPrototype proto.now }
     requires none { devices.old ≡ record { doors = []; inboxes = []; clocks = [] } }
@@ -99,14 +93,8 @@ pub fn serve<R: Threads + Wait + Sync, M: Machine>(
     serving: &Serving,
     world: &mut World<M>,
 ) -> End
-where
-    M::D: Send,
-    M::I: Send,
-    M::C: Send,
-    M::G: Sync,
-    <M::D as Door>::L: Send,
     requires { IsServing serving.now }
-    ensures { let stage = stage_of M.shown M.F.shown M.L.shown M.S.shown in
+    ensures { let stage = stage_of M.shown M.F.shown M.L.shown M.S.shown (dial_shown M.N.shown M.N.L.shown) in
         spec.RunsServe (shows M.D.shown M.D.L.shown M.I.shown M.C.shown) serving.now result
         (stage world.old) (stage world.new) }
 {

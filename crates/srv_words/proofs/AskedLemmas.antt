@@ -10,10 +10,11 @@ use Rattle.clap.specs.Walk.{Text}
 use Rattle.srv_words.specs.declared.asked.Asked.{Asked}
 use Rattle.srv_words.specs.declared.asked.Asked.TheVariants.{Help, HelpOf, Version}
 use Rattle.srv_words.specs.declared.job.Command.{Command}
-use Rattle.srv_words.specs.declared.job.Command.TheVariants.{Once, Check, Load, Serve}
+use Rattle.srv_words.specs.declared.job.Command.TheVariants.{Once, Twod, Extract, Pull, Check, Load, Serve, Many}
 use Rattle.srv_words.specs.Asked.{asked_alone, asked_behind, asked_of, command_named}
-use Rattle.srv_words.specs.Command.{fmrcd, is_taken, name_of, subcommand, with_arguments, with_clock, with_door, with_site}
+use Rattle.srv_words.specs.Command.{is_taken, name_of}
 use Rattle.srv_words.specs.Jobs.{job_of, job_of_texts}
+use Rattle.srv_words.proofs.CommandLemmas.{fmrcd_on_literals}
 use Rattle.srv_words.proofs.FoundLemmas.{job_refused, job_unread}
 
 -- words that the command doesn't take are no job
@@ -26,19 +27,23 @@ refused words is =
     ]
 
 help_alone : is_taken (codes "--help" ∷ []) ≡ false
-unfolding clap_on_literals is_taken fmrcd subcommand with_arguments with_site with_door with_clock
+unfolding clap_on_literals is_taken fmrcd_on_literals
 help_alone = refl
 
 version_alone : is_taken (codes "--version" ∷ []) ≡ false
-unfolding clap_on_literals is_taken fmrcd subcommand with_arguments with_site with_door with_clock
+unfolding clap_on_literals is_taken fmrcd_on_literals
 version_alone = refl
 
 help_behind : (command : Command) → is_taken (name_of command ∷ codes "--help" ∷ []) ≡ false
-unfolding clap_on_literals is_taken fmrcd subcommand with_arguments with_site with_door with_clock
+unfolding clap_on_literals is_taken fmrcd_on_literals
 help_behind Once = refl
+help_behind Twod = refl
+help_behind Extract = refl
+help_behind Pull = refl
 help_behind Check = refl
 help_behind Load = refl
 help_behind Serve = refl
+help_behind Many = refl
 
 -- what is there by a test or by the rest
 either : {A : Type 0} (test : Bool) (x : A) (rest : Option A) → is_some (if test then Some x else rest) ≡ true
@@ -56,22 +61,28 @@ mapped : {A B : Type 0} (f : A → B) (x : Option A) → is_some (option_map f x
 mapped f (Some x) is = refl
 mapped f None is = absurd cc
 
+-- a name that is the word of a command, or names a command by the rest
+word_or : {P : Type 0} (command : Command) (name : Text) (rest : Option Command)
+    → is_some (if bytes_eq name (name_of command) then Some command else rest) ≡ true
+    → ((found : Command) × (name ≡ name_of found) → P) → (is_some rest ≡ true → P) → P
+word_or command name rest is by_word by_rest =
+    elim (either (bytes_eq name (name_of command)) command rest is) [
+      | inl same ↦ by_word (command, bytes_same name (name_of command) same)
+      | inr others ↦ by_rest others
+    ]
+
 -- a name that names a command is its word
 named : (name : Text) → is_some (command_named name) ≡ true → (command : Command) × (name ≡ name_of command)
 unfolding command_named
 named name is =
-    elim (either (bytes_eq name (codes "once")) Once _ is) [
-      | inl once ↦ (Once, bytes_same name (codes "once") once)
-      | inr others ↦ elim (either (bytes_eq name (codes "check")) Check _ others) [
-        | inl check ↦ (Check, bytes_same name (codes "check") check)
-        | inr others ↦ elim (either (bytes_eq name (codes "load")) Load _ others) [
-          | inl load ↦ (Load, bytes_same name (codes "load") load)
-          | inr others ↦
-              let serve = (only (bytes_eq name (codes "serve")) (Some Serve) others).0 in
-              (Serve, bytes_same name (codes "serve") serve)
-        ]
-      ]
-    ]
+    word_or Once name _ is (λ found. found) (λ others.
+    word_or Twod name _ others (λ found. found) (λ others.
+    word_or Extract name _ others (λ found. found) (λ others.
+    word_or Pull name _ others (λ found. found) (λ others.
+    word_or Check name _ others (λ found. found) (λ others.
+    word_or Load name _ others (λ found. found) (λ others.
+    word_or Serve name _ others (λ found. found) (λ others.
+    word_or Many name None others (λ found. found) (λ none. absurd cc))))))))
 
 refused_as : (word text : Text) → bytes_eq word text ≡ true → is_taken (text ∷ []) ≡ false → job_of (word ∷ []) ≡ None
 refused_as word text same is =

@@ -2,6 +2,7 @@
 use Rattle.std.proofs.Common.{◌≡◌, ◌==◌, ◌⊎◌, ◌∙◌, ◌||◌, Bool, inl, inr, true, false, List, [], ◌∷◌, length, Result, Ok, Err, All, IfOk, OnOk, refl, sym, ap, subst, arith}
 use Rattle.std.proofs.lemmas.Bool.{and_parts, cases_Bool, eqb-true}
 use Rattle.std.proofs.lemmas.List.Elements.{All-head, All-tail}
+use Rattle.std.specs.Prelude.{⊤}
 use Rattle.clap.specs.Built.{AddsArg, AddsInTurn, AddsSubcommand}
 use Rattle.clap.specs.Kinds.{FailsBy, IsAmong, Kinds}
 use Rattle.clap.specs.declared.builder.arg.Arg.{Arg}
@@ -14,7 +15,7 @@ use Rattle.clap.specs.declared.parser.matches.ArgMatches.{ArgMatches}
 use Rattle.clap.specs.Faults.{fault_of, is_free_app, is_simple_and_free}
 use Rattle.clap.specs.Simple.{App, HasMatchesOf, app_of, built, is_simple, subcommand_of, subcommand_rows_of, with_subcommand}
 use Rattle.clap.specs.Walk.{Rule, Text}
-use Rattle.srv_words.specs.Command.{fmrcd, rules_in, subcommand, used, with_arguments, with_clock, with_door, with_rules, with_site}
+use Rattle.srv_words.specs.Command.{fmrcd, rules_in, subcommand, used, with_arguments, with_clock, with_collections, with_door, with_rules, with_server, with_site}
 
 -- a result whose value is seen as one thing is seen as what equals it
 pub ok_as : {A E : Type 0} {x y : App} (f : A → App) (r : Result A E) → x ≡ y → IfOk r (λ k. f k ≡ x)
@@ -63,8 +64,13 @@ one_made before next old sub added (Ok new) is adds first second plain =
     ∙ ap (λ (a : App). with_subcommand a next.top) first
 one_made before next old sub added (Err fault) is adds first second plain = tt
 
+-- what the command's definition stands on, for proofs that compute on it
+unfoldable pub fmrcd_on_literals : ⊤
+unfolding fmrcd with_collections subcommand with_arguments with_site with_server with_door with_clock
+fmrcd_on_literals = tt
+
 pub fmrcd_is_free : is_simple_and_free fmrcd ≡ true
-unfolding fmrcd subcommand with_arguments with_site with_door with_clock
+unfolding fmrcd_on_literals
 fmrcd_is_free = refl
 
 pub fmrcd_is_simple : is_simple fmrcd ≡ true

@@ -1,12 +1,15 @@
 pub mod AskedLemmas
+pub mod CollectionLemmas
 pub mod CommandLemmas
 pub mod FoundLemmas
 pub mod JobLemmas
+pub mod ManyLemmas
 pub mod NumberLemmas
-pub mod OnceLemmas
+pub mod PartLemmas
 pub mod RowLemmas
 pub mod ServeLemmas
 pub mod SiteLemmas
 pub mod SomeLemmas
 pub mod StepLemmas
+pub mod SteppingLemmas
 pub mod TextLemmas

@@ -5,7 +5,8 @@ use Rattle.std.proofs.lemmas.Option.{same_Some}
 use Rattle.clap.specs.Walk.{Row, Text, all_of, first_of}
 use Rattle.srv_words.specs.declared.job.Job.{Job}
 use Rattle.srv_words.specs.declared.job.Job.TheVariants.{Serve}
-use Rattle.srv_words.specs.Jobs.{IsJob, site_of, serve_of}
+use Rattle.srv_words.specs.Jobs.{IsJob, serve_of}
+use Rattle.srv_words.specs.Sites.{site_of}
 use Rattle.srv_words.specs.Values.{number_in}
 use Rattle.std.specs.Prelude.{IfSome, nat_le, nat_lt}
 use Rattle.srv_words.specs.declared.serve.Doors.{Doors}
@@ -15,7 +16,7 @@ use Rattle.srv_words.proofs.SomeLemmas.{step_some, so_some, within, number_in-so
 use Rattle.srv_words.proofs.SiteLemmas.{site_of-some}
 
 -- 1 to 2^30 - 1 seconds, or none
-abbrev IsKept : Option ℕ → Type 0
+abbrev pub IsKept : Option ℕ → Type 0
 IsKept keep = IfSome keep (λ seconds. (0 < seconds) × (seconds < 2 ^ 30))
 
 number_or-some : (default least most n : ℕ) (given : Option (List ℕ))
@@ -35,7 +36,7 @@ keep_of-some (Some text) keep is =
     let most : read.0 ≤ 1073741823 = range.1 in
     subst IsKept (same_Some (Some read.0) keep read.2) (omega (arith, range.0), omega (arith, most))
 
-doors_of-some : (rows : List Row) (doors : Doors) → doors_of rows ≡ Some doors
+pub doors_of-some : (rows : List Row) (doors : Doors) → doors_of rows ≡ Some doors
     → (0 < doors.workers) × (doors.workers ≤ 16) × (doors.connections < 2 ^ 32)
 unfolding doors_of
 doors_of-some rows doors is =
@@ -51,7 +52,7 @@ doors_of-some rows doors is =
     (same_Some (record { listen = listen.0; workers = workers.0; connections = connections.0 }) doors connections.2)
     (omega (arith, range.0), range.1, count.2)
 
-ticking_of-some : (rows : List Row) (ticking : Ticking) → ticking_of rows ≡ Some ticking
+pub ticking_of-some : (rows : List Row) (ticking : Ticking) → ticking_of rows ≡ Some ticking
     → IsKept ticking.keep × (ticking.ticks < 2 ^ 32)
 unfolding ticking_of
 ticking_of-some rows ticking is =

@@ -1,5 +1,5 @@
 -- The site of a job is one that a collection may have, and its mark is short.
-use Rattle.std.proofs.Common.{◌≡◌, ◌<◌, ◌≤◌, ◌≤ℤ◌, ℕ, ℤ, ◌&&◌, List, ◌++◌, length, Option, Some, None, ap, subst, arith, codes, length-append}
+use Rattle.std.proofs.Common.{◌≡◌, ◌<◌, ◌≤◌, ◌≤ℤ◌, ℕ, ℤ, ◌&&◌, List, ◌++◌, length, Option, Some, None, true, ap, subst, arith, codes, length-append}
 use Rattle.std.specs.Prelude.{int_le, nat_le, neg_ℤ, pos, IsTrue}
 use Rattle.std.proofs.lemmas.Bool.{and_parts}
 use Rattle.std.proofs.lemmas.Int.{ints}
@@ -10,9 +10,9 @@ use Rattle.fm_model.specs.declared.site.Site.{Site}
 use Rattle.fm_model.specs.Prototype.{is_plain_name}
 use Rattle.fm_model.specs.Site.{IsSite}
 use Rattle.clap.specs.Walk.{Row, first_of}
-use Rattle.srv_words.specs.Jobs.{name_of, site_of}
+use Rattle.srv_words.specs.Sites.{default_site, name_of, site_of}
 use Rattle.srv_words.specs.Reads.{◌>>=◌, if_so}
-use Rattle.srv_words.specs.Values.{epoch_at, epoch_of, is_collection_name, is_epoch, mark_of}
+use Rattle.srv_words.specs.Values.{default_mark, epoch_at, epoch_of, is_collection_name, is_epoch, mark_of}
 use Rattle.srv_words.proofs.SomeLemmas.{step_some, then_some, so_some, within}
 
 -- an instant of the years 100 to 9900
@@ -49,17 +49,43 @@ record IsName (name : List ℕ) : Type 0 where
   few : length name ≤ 64
   plain : IsTrue (is_plain_name name)
 
+IsName-of : (name : List ℕ) → is_collection_name name ≡ true → IsName name
+unfolding is_collection_name
+IsName-of name is =
+    let parts = and_parts (nat_le 1 (length name) && nat_le (length name) 64) (is_plain_name name) is in
+    let sizes = and_parts (nat_le 1 (length name)) (nat_le (length name) 64) parts.0 in
+    let some : 1 ≤ length name = within 1 (length name) sizes.0 in
+    record { some = omega (arith, some); few = within (length name) 64 sizes.1; plain = parts.1 }
+
 name_of-some : (rows : List Row) (name : List ℕ) → name_of rows ≡ Some name → IsName name
-unfolding name_of is_collection_name
+unfolding name_of
 name_of-some rows name is =
     let read = step_some (first_of (codes "name") rows) (λ (n : List ℕ). if_so (is_collection_name n) n) name is in
     let there = so_some (is_collection_name read.0) read.0 name read.2 in
-    let parts = and_parts (nat_le 1 (length read.0) && nat_le (length read.0) 64)
-    (is_plain_name read.0) there.0 in
-    let sizes = and_parts (nat_le 1 (length read.0)) (nat_le (length read.0) 64) parts.0 in
-    let some : 1 ≤ length read.0 = within 1 (length read.0) sizes.0 in
-    subst IsName there.1
-    (record { some = omega (arith, some); few = within (length read.0) 64 sizes.1; plain = parts.1 })
+    subst IsName there.1 (IsName-of read.0 there.0)
+
+-- a site of such values is one that a collection may have
+made : (site : Site) → IsName site.name → IsOfYears site.epoch → length site.mark ≤ 65
+    → IsSite site × (length site.mark ≤ 65)
+made site named range short = (
+  record {
+    plain = named.plain;
+    some = named.some;
+    few = named.few;
+    from_year_100 = range.0;
+    to_year_9900 = range.1;
+  },
+  short,
+)
+
+-- a site with the defaults is one that a collection may have
+pub default_site-is : (name : List ℕ) → is_collection_name name ≡ true
+    → IsSite (default_site name) × (length (default_site name).mark ≤ 65)
+default_site-is name is =
+    let named = IsName-of name is in
+    let few = named.few in
+    made (default_site name) named (omega (arith, ints), omega (arith, ints))
+    (omega (arith, few, length-append name (codes "_")))
 
 -- the site of a job is one that a collection may have
 pub site_of-some : (rows : List Row) (site : Site) → site_of rows ≡ Some site → IsSite site × (length site.mark ≤ 65)
@@ -74,16 +100,9 @@ site_of-some rows site is =
     Some (record { name = name.0; epoch = epoch; mark = mark })) site name.2 in
     let mark = step_some (mark_of name.0 (first_of (codes "mark") rows)) (λ (mark : List ℕ).
     Some (record { name = name.0; epoch = epoch.0; mark = mark })) site epoch.2 in
-    let same = same_Some (record { name = name.0; epoch = epoch.0; mark = mark.0 }) site mark.2 in
     let named = name_of-some rows name.0 name.1 in
-    let range = epoch_of-some (first_of (codes "epoch") rows) epoch.0 epoch.1 in
-    subst (λ (site : Site). IsSite site × (length site.mark ≤ 65)) same (
-      record {
-        plain = named.plain;
-        some = named.some;
-        few = named.few;
-        from_year_100 = range.0;
-        to_year_9900 = range.1;
-      },
-      mark_of-some name.0 mark.0 (first_of (codes "mark") rows) named.few mark.1,
-    )
+    subst (λ (site : Site). IsSite site × (length site.mark ≤ 65))
+    (same_Some (record { name = name.0; epoch = epoch.0; mark = mark.0 }) site mark.2)
+    (made (record { name = name.0; epoch = epoch.0; mark = mark.0 }) named
+    (epoch_of-some (first_of (codes "epoch") rows) epoch.0 epoch.1)
+    (mark_of-some name.0 mark.0 (first_of (codes "mark") rows) named.few mark.1))

@@ -9,9 +9,13 @@ use Rattle.srv_words.specs.declared.job.Command.TheVariants as commands
 -- the command of this name
 unfoldable pub command_named : List ℕ → Option Command
 command_named name = if bytes_eq name (codes "once") then Some commands.Once
+    else (if bytes_eq name (codes "twod") then Some commands.Twod
+    else (if bytes_eq name (codes "extract") then Some commands.Extract
+    else (if bytes_eq name (codes "pull") then Some commands.Pull
     else (if bytes_eq name (codes "check") then Some commands.Check
     else (if bytes_eq name (codes "load") then Some commands.Load
-    else (if bytes_eq name (codes "serve") then Some commands.Serve else None)))
+    else (if bytes_eq name (codes "serve") then Some commands.Serve
+    else (if bytes_eq name (codes "many") then Some commands.Many else None)))))))
 
 -- what a word asks for that stands alone: `--help` or `--version`
 unfoldable pub asked_alone : List ℕ → Option Asked

@@ -7,7 +7,7 @@ use Rattle.clap.specs.declared.builder.action.ArgAction.{ArgAction}
 use Rattle.clap.specs.declared.builder.action.ArgAction.TheVariants.{Set, Append, SetTrue}
 use Rattle.clap.specs.declared.builder.arg.Arg.{Arg}
 use Rattle.srv_words.specs.declared.job.Command.{Command}
-use Rattle.srv_words.specs.declared.job.Command.TheVariants.{Once, Check, Load, Serve}
+use Rattle.srv_words.specs.declared.job.Command.TheVariants.{Once, Twod, Extract, Pull, Check, Load, Serve, Many}
 
 -- a long option with one value, which stands once at most
 abbrev pub option : Text → Bool → Rule
@@ -44,14 +44,24 @@ with_door rules = one_more (one_more (one_more rules (option (codes "listen") tr
 unfoldable pub with_clock : List Rule → List Rule
 with_clock rules = one_more (one_more rules (option (codes "keep") false)) (option (codes "ticks") false)
 
--- with all that stands behind a command: `STEP..` and the options of a collection, `FILE`, `SEED FILES`, or `INBOX..`
--- and the options of a collection, a door and a clock, and `[--quiet]`
+-- with the options of a server: those of a door and a clock, and `[--quiet]`
+unfoldable pub with_server : List Rule → List Rule
+with_server rules = one_more (with_clock (with_door rules)) (flag (codes "quiet"))
+
+-- with all that stands behind a command: the options of a collection, what else is said, and `STEP..`; or `--connect
+-- ADDRESS TARGET`, `FILE`, `SEED FILES`; or the options of a server, and `INBOX..` and the options of a collection, or
+-- `SPEC..`
 unfoldable pub with_arguments : Command → List Rule → List Rule
 with_arguments Once rules = one_more (with_site rules) (word (codes "STEP") Append)
+with_arguments Twod rules = one_more (one_more (one_more (with_site rules) (option (codes "service") true))
+    (option (codes "ask") false)) (word (codes "STEP") Append)
+with_arguments Extract rules = one_more (one_more (one_more (one_more (with_site rules) (option (codes "view") true))
+    (option (codes "ask") false)) (option (codes "format") true)) (word (codes "STEP") Append)
+with_arguments Pull rules = one_more (one_more rules (option (codes "connect") true)) (word (codes "TARGET") Set)
 with_arguments Check rules = one_more rules (word (codes "FILE") Set)
 with_arguments Load rules = one_more (one_more rules (word (codes "SEED") Set)) (word (codes "FILES") Set)
-with_arguments Serve rules = one_more (one_more (with_clock (with_door (with_site rules))) (flag (codes "quiet")))
-    (word (codes "INBOX") Append)
+with_arguments Serve rules = one_more (with_server (with_site rules)) (word (codes "INBOX") Append)
+with_arguments Many rules = one_more (with_server rules) (word (codes "SPEC") Append)
 
 -- a command with these rules more, one after the other
 abbrev pub with_rules : App → List Rule → App
@@ -61,9 +71,13 @@ with_rules app (rule ∷ rules) = with_rules (with_rule app rule) rules
 -- the word for a command
 abbrev pub name_of : Command → Text
 name_of Once = codes "once"
+name_of Twod = codes "twod"
+name_of Extract = codes "extract"
+name_of Pull = codes "pull"
 name_of Check = codes "check"
 name_of Load = codes "load"
 name_of Serve = codes "serve"
+name_of Many = codes "many"
 
 -- a command with all that stands behind it
 unfoldable pub subcommand : Command → App
@@ -73,10 +87,15 @@ subcommand command = with_rules (new_app (name_of command)) (with_arguments comm
 abbrev pub top : App
 top = on_top (λ s. record s { no_binary_name = true; subcommand_required = true }) (new_app (codes "fmrcd"))
 
+-- with the subcommands that are about a collection
+unfoldable pub with_collections : App → App
+with_collections app = with_subcommand (with_subcommand (with_subcommand (with_subcommand (with_subcommand app
+    (subcommand Serve).top) (subcommand Many).top) (subcommand Once).top) (subcommand Twod).top) (subcommand Extract).top
+
 -- one of these subcommands
 unfoldable pub fmrcd : App
-fmrcd = with_subcommand (with_subcommand (with_subcommand (with_subcommand top (subcommand Serve).top)
-    (subcommand Once).top) (subcommand Check).top) (subcommand Load).top
+fmrcd = with_subcommand (with_subcommand (with_subcommand (with_collections top) (subcommand Pull).top)
+    (subcommand Check).top) (subcommand Load).top
 
 -- whether the command takes the words
 unfoldable pub is_taken : List Text → Bool

@@ -1,7 +1,12 @@
 pub mod Asked
+pub mod Collections
 pub mod Command
 pub mod Jobs
+pub mod Many
 pub mod Reads
 pub mod Serve
+pub mod Sites
+pub mod Stepping
 pub mod Steps
 pub mod Values
+pub mod Views

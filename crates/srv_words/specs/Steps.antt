@@ -1,4 +1,4 @@
--- The steps of `once`.
+-- The steps on a collection.
 use Rattle.std.specs.Prelude.{◌<◌, ◌≤◌, ℕ, List, [], ◌∷◌, ◌++◌, length, codes, Option, Some, option_map, ℤ}
 use Rattle.std.specs.Option.{option_and_then, option_or}
 use Rattle.nc_model.specs.Instant.{instant_of}

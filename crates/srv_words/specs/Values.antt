@@ -1,7 +1,7 @@
 -- What the values of options and positionals say.
 use Rattle.std.specs.Prelude.{ℕ, ◌^◌, Bool, ◌&&◌, nat_eq, nat_le, nat_lt, List, ◌++◌, length, drop, codes, Option, Some, None, ℤ, pos, neg_ℤ, ◌-ℤ◌, int_le}
 use Rattle.std.specs.Fmt.{decimal}
-use Rattle.std.specs.List.{starts_with}
+use Rattle.std.specs.List.{list_all, starts_with}
 use Rattle.std.specs.Option.{option_and_then}
 use Rattle.std.specs.Str.{bytes_eq}
 use Rattle.std.specs.Str.Parse.{digits_value}
@@ -39,10 +39,26 @@ unfoldable pub epoch_of : Option (List ℕ) → Option ℤ
 epoch_of None = Some (pos 1_577_836_800)
 epoch_of (Some text) = option_and_then epoch_at (instant_of text)
 
--- the mark, which has at most 64 bytes, and the name and `_` where there is none
+-- the mark of a collection of this name, where none is given
+abbrev pub default_mark : List ℕ → List ℕ
+default_mark name = name ++ codes "_"
+
+-- the mark, which has at most 64 bytes, and the default one where there is none
 unfoldable pub mark_of : List ℕ → Option (List ℕ) → Option (List ℕ)
-mark_of name None = Some (name ++ codes "_")
+mark_of name None = Some (default_mark name)
 mark_of name (Some mark) = if_so (nat_le (length mark) 64) mark
+
+-- whether a byte is a visible character of ASCII
+abbrev pub is_visible_byte : ℕ → Bool
+is_visible_byte byte = nat_le 0x21 byte && nat_le byte 0x7e
+
+-- whether a text has 1 to so many visible characters of ASCII, and nothing else
+unfoldable pub is_visible : ℕ → List ℕ → Bool
+is_visible most text = nat_le 1 (length text) && nat_le (length text) most && list_all is_visible_byte text
+
+-- a text of this form
+unfoldable pub visible_of : ℕ → List ℕ → Option (List ℕ)
+visible_of most text = if_so (is_visible most text) text
 
 -- the text after this front, where it isn't empty
 unfoldable pub rest_of : List ℕ → List ℕ → Option (List ℕ)

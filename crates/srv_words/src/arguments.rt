@@ -4,11 +4,13 @@ ghost use Rattle.clap.specs.Simple.{app_of, new_rule};
 ghost use Rattle.clap.specs.Walk.{rule_of};
 ghost use Rattle.clap.specs.declared.builder.command.Command.TheViews.{out-Command};
 ghost use Rattle.srv_words.specs.Command as spec;
-ghost use Rattle.srv_words.specs.declared.job.Command.TheVariants.{Load, Once, Serve};
+ghost use Rattle.srv_words.specs.declared.job.Command.TheVariants.{Extract, Load, Many, Once, Pull, Serve, Twod};
 
 use crate::help::{
-    CONNECTIONS_HELP, EPOCH_HELP, FILE_HELP, FILES_HELP, INBOX_HELP, KEEP_HELP, LISTEN_HELP,
-    MARK_HELP, NAME_HELP, PROTO_HELP, QUIET_HELP, SEED_HELP, STEP_HELP, TICKS_HELP, WORKERS_HELP,
+    ASK_HELP, CHANGE_HELP, CONNECT_HELP, CONNECTIONS_HELP, EPOCH_HELP, FILE_HELP, FILES_HELP,
+    FORMAT_HELP, INBOX_HELP, KEEP_HELP, LISTEN_HELP, MARK_HELP, NAME_HELP, PROTO_HELP, QUIET_HELP,
+    SEED_HELP, SERVICE_HELP, SPEC_HELP, STEP_HELP, TARGET_HELP, TICKS_HELP, VIEW_HELP,
+    WORKERS_HELP,
 };
 use crate::job;
 use crate::made::made;
@@ -144,12 +146,51 @@ impl<'a> Arguments<'a> {
         self.put_option(alloc, "ticks", "NUMBER", TICKS_HELP, false)
     }
 
+    // Adds the options of a server.
+    fn put_server(&mut self, alloc: Global) -> Result<(), NoMemory>
+        ensures { OnOk result (spec.rules_in self.new.list.items
+            ≡ spec.with_server (spec.rules_in self.old.list.items)) }
+    {
+        self.put_door(alloc)?;
+        self.put_clock(alloc)?;
+        self.put_flag(alloc, "quiet", QUIET_HELP)
+    }
+
     fn put_once(&mut self, alloc: Global) -> Result<(), NoMemory>
         ensures { OnOk result (spec.rules_in self.new.list.items
             ≡ spec.with_arguments Once (spec.rules_in self.old.list.items)) }
     {
         self.put_site(alloc)?;
         self.put_word(alloc, "STEP", STEP_HELP, ArgAction::Append)
+    }
+
+    fn put_twod(&mut self, alloc: Global) -> Result<(), NoMemory>
+        ensures { OnOk result (spec.rules_in self.new.list.items
+            ≡ spec.with_arguments Twod (spec.rules_in self.old.list.items)) }
+    {
+        self.put_site(alloc)?;
+        self.put_option(alloc, "service", "SERVICE", SERVICE_HELP, true)?;
+        self.put_option(alloc, "ask", "CONSTRAINT", ASK_HELP, false)?;
+        self.put_word(alloc, "STEP", CHANGE_HELP, ArgAction::Append)
+    }
+
+    fn put_extract(&mut self, alloc: Global) -> Result<(), NoMemory>
+        ensures { OnOk result (spec.rules_in self.new.list.items
+            ≡ spec.with_arguments Extract (spec.rules_in self.old.list.items)) }
+    {
+        self.put_site(alloc)?;
+        self.put_option(alloc, "view", "VIEW", VIEW_HELP, true)?;
+        self.put_option(alloc, "ask", "CONSTRAINT", ASK_HELP, false)?;
+        self.put_option(alloc, "format", "VERSION", FORMAT_HELP, true)?;
+        self.put_word(alloc, "STEP", CHANGE_HELP, ArgAction::Append)
+    }
+
+    fn put_pull(&mut self, alloc: Global) -> Result<(), NoMemory>
+        ensures { OnOk result (spec.rules_in self.new.list.items
+            ≡ spec.with_arguments Pull (spec.rules_in self.old.list.items)) }
+    {
+        self.put_option(alloc, "connect", "ADDRESS", CONNECT_HELP, true)?;
+        self.put_word(alloc, "TARGET", TARGET_HELP, ArgAction::Set)
     }
 
     fn put_load(&mut self, alloc: Global) -> Result<(), NoMemory>
@@ -165,10 +206,16 @@ impl<'a> Arguments<'a> {
             ≡ spec.with_arguments Serve (spec.rules_in self.old.list.items)) }
     {
         self.put_site(alloc)?;
-        self.put_door(alloc)?;
-        self.put_clock(alloc)?;
-        self.put_flag(alloc, "quiet", QUIET_HELP)?;
+        self.put_server(alloc)?;
         self.put_word(alloc, "INBOX", INBOX_HELP, ArgAction::Append)
+    }
+
+    fn put_many(&mut self, alloc: Global) -> Result<(), NoMemory>
+        ensures { OnOk result (spec.rules_in self.new.list.items
+            ≡ spec.with_arguments Many (spec.rules_in self.old.list.items)) }
+    {
+        self.put_server(alloc)?;
+        self.put_word(alloc, "SPEC", SPEC_HELP, ArgAction::Append)
     }
 
     /// Adds all that stands behind a command.
@@ -179,9 +226,13 @@ impl<'a> Arguments<'a> {
     {
         match command {
             job::Command::Once => self.put_once(alloc),
+            job::Command::Twod => self.put_twod(alloc),
+            job::Command::Extract => self.put_extract(alloc),
+            job::Command::Pull => self.put_pull(alloc),
             job::Command::Check => self.put_word(alloc, "FILE", FILE_HELP, ArgAction::Set),
             job::Command::Load => self.put_load(alloc),
             job::Command::Serve => self.put_serve(alloc),
+            job::Command::Many => self.put_many(alloc),
         }
     }
 

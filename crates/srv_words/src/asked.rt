@@ -23,12 +23,20 @@ pub(crate) fn command_named(name: &[u8]) -> Option<Command>
 {
     if name == b"once".as_slice() {
         Some(Command::Once)
+    } else if name == b"twod".as_slice() {
+        Some(Command::Twod)
+    } else if name == b"extract".as_slice() {
+        Some(Command::Extract)
+    } else if name == b"pull".as_slice() {
+        Some(Command::Pull)
     } else if name == b"check".as_slice() {
         Some(Command::Check)
     } else if name == b"load".as_slice() {
         Some(Command::Load)
     } else if name == b"serve".as_slice() {
         Some(Command::Serve)
+    } else if name == b"many".as_slice() {
+        Some(Command::Many)
     } else {
         None
     }

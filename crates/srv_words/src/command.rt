@@ -5,7 +5,9 @@ ghost use Rattle.clap.specs.declared.builder.command.Command.TheViews.{out-Comma
 ghost use Rattle.srv_words.specs.Command as spec;
 
 use crate::arguments::Arguments;
-use crate::help::{CHECK_HELP, LOAD_HELP, ONCE_HELP, SERVE_HELP};
+use crate::help::{
+    CHECK_HELP, EXTRACT_HELP, LOAD_HELP, MANY_HELP, ONCE_HELP, PULL_HELP, SERVE_HELP, TWOD_HELP,
+};
 use crate::job;
 use crate::made::made;
 use clap::Command;
@@ -16,18 +18,29 @@ use std::alloc::Global;
 fn help_of<'a>(command: job::Command) -> &'a str {
     match command {
         job::Command::Once => ONCE_HELP,
+        job::Command::Twod => TWOD_HELP,
+        job::Command::Extract => EXTRACT_HELP,
+        job::Command::Pull => PULL_HELP,
         job::Command::Check => CHECK_HELP,
         job::Command::Load => LOAD_HELP,
         job::Command::Serve => SERVE_HELP,
+        job::Command::Many => MANY_HELP,
     }
 }
 
-// A command without its arguments.
+// Whether the program doesn't offer a command yet, whose words are read.
+fn is_to_come(command: job::Command) -> bool {
+    matches!(command, job::Command::Many)
+}
+
+// A command without its arguments. The help of the program leaves out one that isn't offered.
 fn named<'a>(alloc: Global, command: job::Command) -> Command<'a>
     ensures app { app_of result ≡ new_app (spec.name_of command) }
     ensures plain { (out-Command result).has_globals ≡ false }
 {
-    Command::new(alloc, command.name()).about(help_of(command))
+    Command::new(alloc, command.name())
+        .about(help_of(command))
+        .hide(is_to_come(command))
 }
 
 /// A command with all that stands behind it.
@@ -76,13 +89,29 @@ fn top<'a>(alloc: Global) -> Result<Command<'a>, NoMemory>
     made(wanting(Command::new(alloc, "fmrcd")).bin_name("fmrcd"))
 }
 
+// With the commands that serve, and those that do steps.
+#[tactic(auto, unfolding(crate::specs::Command::with_collections))]
+fn with_collections<'a>(
+    alloc: Global,
+    command: Result<Command<'a>, NoMemory>,
+) -> Result<Command<'a>, NoMemory>
+    ensures { (before : App) → IfOk command.entry (λ c. app_of c ≡ before)
+        → IfOk result (λ c. app_of c ≡ spec.with_collections before) }
+{
+    let command = joined(alloc, command, job::Command::Serve);
+    let command = joined(alloc, command, job::Command::Many);
+    let command = joined(alloc, command, job::Command::Once);
+    let command = joined(alloc, command, job::Command::Twod);
+    joined(alloc, command, job::Command::Extract)
+}
+
 /// The command, with all that it says of itself.
 #[tactic(auto, unfolding(crate::specs::Command::fmrcd))]
 pub(crate) fn fmrcd<'a>(alloc: Global) -> Result<Command<'a>, NoMemory>
     ensures { IfOk result (λ c. app_of c ≡ spec.fmrcd) }
 {
-    let command = joined(alloc, top(alloc), job::Command::Serve);
-    let command = joined(alloc, command, job::Command::Once);
+    let command = with_collections(alloc, top(alloc));
+    let command = joined(alloc, command, job::Command::Pull);
     let command = joined(alloc, command, job::Command::Check);
     joined(alloc, command, job::Command::Load)
 }

@@ -1,20 +1,21 @@
 //! Values that haven't their form.
 
 use crate::asked::command_named;
+use crate::faulty_words::{faulty_folder, faulty_spec, faulty_step};
 use crate::help::{
-    ASK_FORM, COUNT_FORM, EPOCH_FORM, EXPIRE_FORM, FILES_FORM, FOLDERS_FORM, KEEP_FORM, MARK_FORM,
-    NAME_FORM, STEP_FORM, WORKERS_FORM,
+    ADDRESS_FORM, COUNT_FORM, EPOCH_FORM, FILES_FORM, KEEP_FORM, MARK_FORM, NAME_FORM,
+    SERVICE_FORM, TARGET_FORM, VERSION_FORM, VIEW_FORM, WORKERS_FORM,
 };
 use crate::job::Command;
 use crate::load::{MAX_MADE, MAX_SEED};
-use crate::matches::{text_of, texts_of};
+use crate::matches::text_of;
 use crate::number::number_in;
-use crate::serve::{MAX_COUNT, MAX_INBOXES, MAX_KEPT, MAX_WORKERS};
+use crate::pull::{MAX_ADDRESS, MAX_TARGET};
+use crate::serve::{MAX_COUNT, MAX_KEPT, MAX_WORKERS};
 use crate::site::name_of;
-use crate::steps::step_of;
-use crate::values::{MAX_MARK, epoch_of};
+use crate::values::{MAX_MARK, epoch_of, is_visible};
+use crate::views::{is_view, service_of, version_of};
 use clap::ArgMatches;
-use fm_base::Fail;
 use std::alloc::Global;
 
 /// A value that hasn't its form.
@@ -34,14 +35,24 @@ pub(crate) fn faulty_in<'a>(
     matches: &ArgMatches<'a>,
 ) -> Option<Faulty<'a>> {
     match command_named(name.as_bytes())? {
-        Command::Once => faulty_site(matches).or(faulty_step(alloc, matches)),
+        Command::Once => faulty_site(matches).or(faulty_step(alloc, matches, true)),
+        Command::Twod => faulty_site(matches)
+            .or(faulty_service(matches))
+            .or(faulty_step(alloc, matches, false)),
+        Command::Extract => faulty_site(matches)
+            .or(faulty_view(matches))
+            .or(faulty_step(alloc, matches, false)),
+        Command::Pull => faulty_pull(matches),
         Command::Check => None,
         Command::Load => faulty_load(matches),
-        Command::Serve => faulty_site(matches).or(faulty_serve(matches)),
+        Command::Serve => faulty_site(matches)
+            .or(faulty_server(matches))
+            .or(faulty_folder(matches)),
+        Command::Many => faulty_server(matches).or(faulty_spec(matches)),
     }
 }
 
-// The value of an option of a collection, which hasn't this form.
+// The value of an option or of a single word, which hasn't this form.
 fn faulty_at<'a>(
     matches: &ArgMatches<'a>,
     id: &str,
@@ -89,7 +100,34 @@ fn faulty_load<'a>(matches: &ArgMatches<'a>) -> Option<Faulty<'a>> {
     ))
 }
 
-fn faulty_serve<'a>(matches: &ArgMatches<'a>) -> Option<Faulty<'a>> {
+fn faulty_service<'a>(matches: &ArgMatches<'a>) -> Option<Faulty<'a>> {
+    match service_of(text_of(matches, "service")?) {
+        Some(_) => None,
+        None => faulty_at(matches, "service", "--service <SERVICE>", SERVICE_FORM),
+    }
+}
+
+fn faulty_view<'a>(matches: &ArgMatches<'a>) -> Option<Faulty<'a>> {
+    if !is_view(text_of(matches, "view")?) {
+        return faulty_at(matches, "view", "--view <VIEW>", VIEW_FORM);
+    }
+    match version_of(text_of(matches, "format")?) {
+        Some(_) => None,
+        None => faulty_at(matches, "format", "--format <VERSION>", VERSION_FORM),
+    }
+}
+
+fn faulty_pull<'a>(matches: &ArgMatches<'a>) -> Option<Faulty<'a>> {
+    if !is_visible(MAX_ADDRESS, text_of(matches, "connect")?) {
+        return faulty_at(matches, "connect", "--connect <ADDRESS>", ADDRESS_FORM);
+    }
+    if !is_visible(MAX_TARGET, text_of(matches, "TARGET")?) {
+        return faulty_at(matches, "TARGET", "<TARGET>", TARGET_FORM);
+    }
+    None
+}
+
+fn faulty_server<'a>(matches: &ArgMatches<'a>) -> Option<Faulty<'a>> {
     faulty_number(
         matches,
         "workers",
@@ -115,44 +153,4 @@ fn faulty_serve<'a>(matches: &ArgMatches<'a>) -> Option<Faulty<'a>> {
         0,
         MAX_COUNT,
     ))
-    .or(faulty_folder(matches))
-}
-
-// The first folder that is too many.
-fn faulty_folder<'a>(matches: &ArgMatches<'a>) -> Option<Faulty<'a>> {
-    let value = *texts_of(matches, "INBOX")?.get(MAX_INBOXES as usize)?;
-    Some(Faulty {
-        value,
-        of: "<INBOX>...",
-        form: FOLDERS_FORM,
-    })
-}
-
-// The first word of `once` that is no step.
-fn faulty_step<'a>(alloc: Global, matches: &ArgMatches<'a>) -> Option<Faulty<'a>> {
-    let epoch = epoch_of(text_of(matches, "epoch"))?;
-    for word in texts_of(matches, "STEP")? {
-        let step = step_of(alloc, epoch, word.as_bytes());
-        let is_faulty = matches!(&step, Err(Fail::Fault(_)));
-        drop(step);
-        if is_faulty {
-            return Some(Faulty {
-                value: *word,
-                of: "<STEP>...",
-                form: step_form(word),
-            });
-        }
-    }
-    None
-}
-
-// The form of the step that a word begins as.
-fn step_form(word: &str) -> &'static str {
-    if word.starts_with("expire:") {
-        EXPIRE_FORM
-    } else if word.starts_with("ask:") {
-        ASK_FORM
-    } else {
-        STEP_FORM
-    }
 }

@@ -12,6 +12,18 @@ pub(crate) const MORE_HELP: &str =
 
 pub(crate) const SERVE_HELP: &str = "Serves a collection over HTTP, while files arrive in folders";
 
+pub(crate) const MANY_HELP: &str =
+    "Serves several collections at one address, each with a folder of its own";
+
+pub(crate) const TWOD_HELP: &str =
+    "Does steps in order on a collection, and writes its view by run and offset";
+
+pub(crate) const EXTRACT_HELP: &str =
+    "Does steps in order on a collection, and writes a view as a netCDF classic file";
+
+pub(crate) const PULL_HELP: &str =
+    "Reads a reply with values from a server, counts the values and sums their bits";
+
 pub(crate) const ONCE_HELP: &str =
     "Does steps in order on a collection, with requests from standard input";
 
@@ -32,6 +44,27 @@ pub(crate) const MARK_HELP: &str =
 
 pub(crate) const STEP_HELP: &str =
     "put:PATH, expire:INSTANT (the runs before it), retract:NAME or{n}ask:NUMBER (1 to 10000 replies)";
+
+pub(crate) const CHANGE_HELP: &str =
+    "put:PATH, expire:INSTANT (the runs before it) or retract:NAME";
+
+pub(crate) const SERVICE_HELP: &str = "dds for the structure alone, or dods for the values too";
+
+pub(crate) const ASK_HELP: &str =
+    "What is asked for, as a request has it after '?' [default: everything]";
+
+pub(crate) const VIEW_HELP: &str =
+    "The path of a view, below that of the collection and without a{n}service, as gfs_best.ncd";
+
+pub(crate) const FORMAT_HELP: &str = "The version of the format: 1, or 2 with offsets of 64 bits";
+
+pub(crate) const CONNECT_HELP: &str = "The address of the server, as 127.0.0.1:8080";
+
+pub(crate) const TARGET_HELP: &str =
+    "What is asked for, as /thredds/dodsC/gfs/gfs_best.ncd.dods?time";
+
+pub(crate) const SPEC_HELP: &str =
+    "NAME=PROTO=INBOX: the name of a collection, the path of its prototype{n}and its folder; 2 to 4 of them";
 
 pub(crate) const FILE_HELP: &str = "The path of a netCDF classic file";
 
@@ -68,11 +101,32 @@ pub(crate) const MARK_FORM: &str = "it must have at most 64 bytes";
 pub(crate) const STEP_FORM: &str =
     "it must be put:PATH, expire:INSTANT, retract:NAME or ask:NUMBER";
 
+pub(crate) const CHANGE_FORM: &str = "it must be put:PATH, expire:INSTANT or retract:NAME";
+
 pub(crate) const EXPIRE_FORM: &str =
     "it must be expire:YYYY-MM-DDThh:mm:ssZ, within 34 years of the epoch";
 
 pub(crate) const ASK_FORM: &str =
     "it must be ask:NUMBER, a number from 1 to 10000 without leading zeros";
+
+pub(crate) const SERVICE_FORM: &str = "it must be dds or dods";
+
+pub(crate) const VIEW_FORM: &str = "it must not be empty, and have no '?'";
+
+pub(crate) const VERSION_FORM: &str = "it must be 1 or 2";
+
+pub(crate) const ADDRESS_FORM: &str =
+    "it must be 1 to 255 visible characters of ASCII, without a blank";
+
+pub(crate) const TARGET_FORM: &str =
+    "it must be 1 to 8000 visible characters of ASCII, without a blank";
+
+pub(crate) const SPEC_FORM: &str =
+    "it must be NAME=PROTO=INBOX, without another '='; NAME is 1 to 64 letters, digits, '_' and '-'";
+
+pub(crate) const NAMES_FORM: &str = "each collection must have a name of its own";
+
+pub(crate) const SPECS_FORM: &str = "there must be 2 to 4 collections";
 
 pub(crate) const FOLDERS_FORM: &str = "there may be at most 8 folders";
 

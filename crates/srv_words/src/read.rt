@@ -10,12 +10,16 @@ ghost use Rattle.srv_words.specs.Jobs as spec;
 ghost use Rattle.srv_words.specs.Jobs.{IsJob};
 ghost use Rattle.srv_words.specs.Reads.{Reads};
 
+use crate::asked::command_named;
 use crate::check::check_job;
-use crate::job::{BadWords, Job};
+use crate::job::{BadWords, Command, Job};
 use crate::load::load_job;
+use crate::many::many_job;
 use crate::matches::{parsed, subcommand_of};
 use crate::once::once_job;
+use crate::pull::pull_job;
 use crate::serve::serve_job;
+use crate::views::{extract_job, twod_job};
 use clap::ArgMatches;
 use fm_base::{Bytes, Fail, List};
 use std::alloc::Global;
@@ -40,21 +44,30 @@ pub(crate) fn texts_of<'a>(
     Ok(texts)
 }
 
+// The job of a command, by its matches.
+fn job_as(alloc: Global, command: Command, matches: &ArgMatches<'_>) -> Result<Job, Fail<BadWords>>
+    ensures { Reads (spec.job_as command (rows_of (found_of matches.now))) result }
+{
+    match command {
+        Command::Once => once_job(alloc, matches),
+        Command::Twod => twod_job(alloc, matches),
+        Command::Extract => extract_job(alloc, matches),
+        Command::Pull => pull_job(alloc, matches),
+        Command::Check => check_job(alloc, matches),
+        Command::Load => load_job(matches),
+        Command::Serve => serve_job(alloc, matches),
+        Command::Many => many_job(alloc, matches),
+    }
+}
+
 // The job of a subcommand, by its matches.
 #[tactic(auto, unfolding(crate::specs::Jobs::job_in))]
 fn job_in(alloc: Global, name: &str, matches: &ArgMatches<'_>) -> Result<Job, Fail<BadWords>>
     ensures { Reads (spec.job_in name.now (rows_of (found_of matches.now))) result }
 {
-    if name == "once" {
-        once_job(alloc, matches)
-    } else if name == "check" {
-        check_job(alloc, matches)
-    } else if name == "load" {
-        load_job(matches)
-    } else if name == "serve" {
-        serve_job(alloc, matches)
-    } else {
-        Err(Fail::Fault(BadWords))
+    match command_named(name.as_bytes()) {
+        Some(command) => job_as(alloc, command, matches),
+        None => Err(Fail::Fault(BadWords)),
     }
 }
 

@@ -14,7 +14,11 @@ use std::str;
 // The most characters of a text that the line shows.
 const MOST_SHOWN: usize = 200;
 
-const NO_COMMAND: &str = "a command is missing: serve, once, check or load";
+const NO_COMMAND: &str = "a command is missing: serve, once, twod, extract, pull, check or load";
+
+const NONE_FAULTY: &str = "no faulty word was found";
+
+const NOT_OFFERED: &str = "the command isn't offered yet";
 
 const NOT_ALONE: &str = "help is asked for by '--help' alone, or by a command and '--help'";
 
@@ -71,9 +75,10 @@ fn put_value(alloc: Global, matches: &ArgMatches<'_>, out: &mut String) -> Resul
     match subcommand_of(matches) {
         Some((name, matches)) => match faulty_in(alloc, name, matches) {
             Some(faulty) => put_faulty(&faulty, out),
-            None => Ok(()),
+            None if name == "many" => Ok(out.push_str(NOT_OFFERED)?),
+            None => Ok(out.push_str(NONE_FAULTY)?),
         },
-        None => Ok(()),
+        None => Ok(out.push_str(NONE_FAULTY)?),
     }
 }
 

@@ -30,19 +30,19 @@ pub(crate) const MAX_KEPT: u32 = 1_073_741_823;
 /// The most folders.
 pub(crate) const MAX_INBOXES: u32 = 8;
 
-// Where connections are taken, how many workers take them, and how many each.
+/// Where connections are taken, how many workers take them, and how many each.
 #[derive(Drop)]
-struct Doors {
-    listen: Bytes,
-    workers: u32,
-    connections: u32,
+pub(crate) struct Doors {
+    pub listen: Bytes,
+    pub workers: u32,
+    pub connections: u32,
 }
 
-// For how many seconds a run is kept, and after how many ticks the clock ends.
+/// For how many seconds a run is kept, and after how many ticks the clock ends.
 #[derive(Clone, Copy)]
-struct Ticking {
-    keep: Option<u32>,
-    ticks: u32,
+pub(crate) struct Ticking {
+    pub keep: Option<u32>,
+    pub ticks: u32,
 }
 
 // The number of an option, and the default where it doesn't stand.
@@ -68,9 +68,9 @@ fn keep_of(given: Option<&[u8]>) -> Option<Option<u32>>
     Some(Some(seconds))
 }
 
-// The options of a door.
+/// The options of a door.
 #[tactic(auto, unfolding(crate::specs::Serve::doors_of))]
-fn doors_of(alloc: Global, matches: &ArgMatches<'_>) -> Result<Doors, Fail<BadWords>>
+pub(crate) fn doors_of(alloc: Global, matches: &ArgMatches<'_>) -> Result<Doors, Fail<BadWords>>
     ensures { Reads (spec.doors_of (rows_of (found_of matches.now))) result }
 {
     let Some(listen) = text_of(matches, "listen") else {
@@ -90,9 +90,9 @@ fn doors_of(alloc: Global, matches: &ArgMatches<'_>) -> Result<Doors, Fail<BadWo
     })
 }
 
-// The options of a clock.
+/// The options of a clock.
 #[tactic(auto, unfolding(crate::specs::Serve::ticking_of))]
-fn ticking_of(matches: &ArgMatches<'_>) -> Option<Ticking>
+pub(crate) fn ticking_of(matches: &ArgMatches<'_>) -> Option<Ticking>
     ensures { result ≡ spec.ticking_of (rows_of (found_of matches.now)) }
 {
     let keep = keep_of(text_of(matches, "keep"))?;

@@ -1,21 +1,21 @@
 //! The site of a collection.
-ghost use Rattle.std.specs.Prelude.{◌≡◌, option_map};
+ghost use Rattle.std.specs.Prelude.{◌≡◌, IfOk, option_map};
 ghost use Rattle.clap.specs.Matches.{found_of};
 ghost use Rattle.clap.specs.Walk.{rows_of};
-ghost use Rattle.srv_words.specs.Jobs as spec;
 ghost use Rattle.srv_words.specs.Reads.{Reads};
+ghost use Rattle.srv_words.specs.Sites as spec;
 ghost use Rattle.srv_words.specs.Values as values;
 
 use crate::job::BadWords;
 use crate::matches::text_of;
-use crate::values::{MAX_MARK, epoch_of, is_collection_name};
+use crate::values::{DEFAULT_EPOCH, MAX_MARK, epoch_of, is_collection_name};
 use clap::ArgMatches;
-use fm_base::{Bytes, Fail};
+use fm_base::{Bytes, Fail, NoMemory};
 use fm_model::Site;
 use std::alloc::Global;
 
 // The name that a collection gets.
-#[tactic(auto, unfolding(crate::specs::Jobs::name_of))]
+#[tactic(auto, unfolding(crate::specs::Sites::name_of))]
 pub(crate) fn name_of<'a>(matches: &ArgMatches<'a>) -> Option<&'a [u8]>
     ensures { option_map (λ name. name.now) result ≡ spec.name_of (rows_of (found_of matches.now)) }
 {
@@ -24,6 +24,15 @@ pub(crate) fn name_of<'a>(matches: &ArgMatches<'a>) -> Option<&'a [u8]>
         return None;
     }
     Some(name)
+}
+
+// The mark of a collection of this name, where none is given.
+fn default_mark(alloc: Global, name: &[u8]) -> Result<Bytes, NoMemory>
+    ensures { IfOk result (λ mark. mark ≡ values.default_mark name.now) }
+{
+    let mut mark = Bytes::copy_of(alloc, name)?;
+    mark.append(b"_")?;
+    Ok(mark)
 }
 
 // The mark of a collection of this name.
@@ -38,16 +47,12 @@ fn mark_of(alloc: Global, name: &[u8], given: Option<&[u8]>) -> Result<Bytes, Fa
             }
             Ok(Bytes::copy_of(alloc, mark)?)
         }
-        None => {
-            let mut mark = Bytes::copy_of(alloc, name)?;
-            mark.append(b"_")?;
-            Ok(mark)
-        }
+        None => Ok(default_mark(alloc, name)?),
     }
 }
 
 // The site of a collection.
-#[tactic(auto, unfolding(crate::specs::Jobs::site_of))]
+#[tactic(auto, unfolding(crate::specs::Sites::site_of))]
 pub(crate) fn site_of(alloc: Global, matches: &ArgMatches<'_>) -> Result<Site, Fail<BadWords>>
     ensures { Reads (spec.site_of (rows_of (found_of matches.now))) result }
 {
@@ -61,6 +66,18 @@ pub(crate) fn site_of(alloc: Global, matches: &ArgMatches<'_>) -> Result<Site, F
     Ok(Site {
         name: Bytes::copy_of(alloc, name)?,
         epoch,
+        mark,
+    })
+}
+
+/// The site of a collection of this name, with the default epoch and the default mark.
+pub(crate) fn default_site(alloc: Global, name: &[u8]) -> Result<Site, NoMemory>
+    ensures { IfOk result (λ site. site ≡ spec.default_site name.now) }
+{
+    let mark = default_mark(alloc, name)?;
+    Ok(Site {
+        name: Bytes::copy_of(alloc, name)?,
+        epoch: DEFAULT_EPOCH,
         mark,
     })
 }

@@ -1,4 +1,4 @@
-//! The steps of `once`.
+//! The steps on a collection.
 ghost use Rattle.std.specs.Prelude.{◌≡◌, IfOk, map};
 ghost use Rattle.srv_words.specs.Reads.{Reads};
 ghost use Rattle.srv_words.specs.Steps as spec;

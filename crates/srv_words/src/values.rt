@@ -1,5 +1,6 @@
 //! The values of options.
 ghost use Rattle.std.specs.Prelude.{◌≡◌, MatchOption, None, Some, pos, option_map};
+ghost use Rattle.std.specs.List.{list_all};
 ghost use Rattle.std.specs.Option.{option_and_then};
 ghost use Rattle.nc_model.specs.Instant.{instant_of};
 ghost use Rattle.fm_model.specs.LoadTimes.{is_instant};
@@ -36,6 +37,28 @@ pub(crate) fn is_collection_name(name: &[u8]) -> bool
     ensures { result ≡ spec.is_collection_name name.now }
 {
     1 <= name.len() && name.len() <= MAX_NAME as usize && is_plain(name)
+}
+
+// Whether a byte is a visible character of ASCII.
+fn is_visible_byte(byte: u8) -> bool
+    ensures { result ≡ spec.is_visible_byte byte }
+{
+    0x21 <= byte && byte <= 0x7e
+}
+
+// Whether a text has visible characters of ASCII alone.
+fn are_visible(text: &[u8]) -> bool
+    ensures { result ≡ list_all spec.is_visible_byte text.now }
+{
+    text.iter().all(|byte| is_visible_byte(*byte))
+}
+
+/// Whether a text has 1 to `most` visible characters of ASCII, and nothing else.
+#[tactic(auto, unfolding(crate::specs::Values::is_visible))]
+pub(crate) fn is_visible(most: u32, text: &[u8]) -> bool
+    ensures { result ≡ spec.is_visible most text.now }
+{
+    1 <= text.len() && text.len() <= most as usize && are_visible(text)
 }
 
 // Whether a collection may have this epoch.

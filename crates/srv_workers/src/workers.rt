@@ -14,7 +14,7 @@ use crate::slots::Slots;
 use crate::staff::staff_of;
 use crate::task::{DeskTask, DeskWorker};
 use crate::tasks::tasks_of;
-use dev_traits::{Devices, Door, Machine, Opened};
+use dev_traits::{Devices, Machine, Opened};
 use fm_base::{Arc, List, NoMemory};
 use fm_model::Proto;
 use pub_snap::{Blank, Name, Pass, Share, prepare};
@@ -57,12 +57,6 @@ fn run_over<R: Threads + Wait + Sync, M: Machine, N: Name + Send + Sync>(
     gate: &M::G,
     devices: &mut Opened<M>,
 ) -> Result<Outcome, NoMemory>
-where
-    M::D: Send,
-    M::I: Send,
-    M::C: Send,
-    M::G: Sync,
-    <M::D as Door>::L: Send,
     requires named { IsNamed blank N.book N.name N.proto N.parts }
     requires proto { blank.proto ≡ proto.now }
     requires passes { blank.passes ≡ device_count devices.old }
@@ -110,12 +104,6 @@ pub fn run_workers<R: Threads + Wait + Sync, M: Machine>(
     gate: &M::G,
     devices: &mut Opened<M>,
 ) -> Result<Outcome, NoMemory>
-where
-    M::D: Send,
-    M::I: Send,
-    M::C: Send,
-    M::G: Sync,
-    <M::D as Door>::L: Send,
     requires proto { IsPrototype proto.now }
     requires doors { (1 ≤ length devices.old.doors) × (length devices.old.doors ≤ 16) }
     requires inboxes { (1 ≤ length devices.old.inboxes) × (length devices.old.inboxes ≤ 8) }

@@ -1,10 +1,11 @@
-//! Rows whose input is a text: units and instants, values, constraints and what they ask for, words of a command,
-//! targets, the heads of a stream of bytes, and sessions.
+//! Rows whose input is a text: units and instants, values, constraints and what they ask for, messages, words of a
+//! command, targets, the heads of a stream of bytes, and sessions.
 #![tactic(auto)]
 
 mod constraints;
 mod declarations;
 mod heads;
+mod messages;
 mod projections;
 mod sessions;
 mod targets;
@@ -35,13 +36,14 @@ impl Answers for Texts<'_> {
 }
 
 // The keys that name a call.
-const CALLS: [&str; 16] = [
+const CALLS: [&str; 17] = [
     "units",
     "mark",
     "instant",
     "value",
     "quoted",
     "constraint",
+    "message",
     "asks",
     "words",
     "no words",
@@ -92,9 +94,10 @@ fn put_value(alloc: Global, key: &str, row: &Row<'_>, out: &mut Said) -> Result<
     }
 }
 
-// Puts what comes out of a row about the words of a command or the bytes of a stream, by its key.
+// Puts what comes out of a row about a message, the words of a command or the bytes of a stream, by its key.
 fn put_course(alloc: Global, key: &str, row: &Row<'_>, out: &mut Said) -> Result<bool, NoMemory> {
     match key {
+        "message" => messages::put_message(alloc, row, out),
         "words" => words::put_words(alloc, row, out),
         "no words" => Ok(words::put_no_words(alloc, row, out)),
         "head" => heads::put_head(alloc, row, out),

@@ -3,7 +3,7 @@
 use fm_base::{Bytes, Fail, List, NoMemory};
 use fm_model::Site;
 use row_text::{Row, Said};
-use srv_words::{Job, Serving, Step, read_job, reason_of, text_asked};
+use srv_words::{Job, Serving, ServingMany, Spec, Step, Stepping, read_job, reason_of, text_asked};
 use std::alloc::{AllocError, Global};
 
 /// Puts the job of words, whether the text that they ask for has a part, or why they are no job.
@@ -92,27 +92,47 @@ fn put_read(alloc: Global, words: &List<Bytes>, out: &mut Said) {
 
 fn put_job(job: &Job, out: &mut Said) {
     match job {
-        Job::Once { site, proto, steps } => {
-            put_command("once", site, proto, out);
-            put_steps(steps.as_slice(), out);
+        Job::Once(stepping) => put_stepping("once", stepping, out),
+        Job::Twod {
+            stepping,
+            with_values,
+            constraint,
+        } => {
+            put_stepping("twod", stepping, out);
+            out.put(if *with_values { " dods" } else { " dds" });
+            put_text(" constraint", constraint, out);
+        }
+        Job::Extract {
+            stepping,
+            view,
+            constraint,
+            version,
+        } => {
+            put_stepping("extract", stepping, out);
+            put_text(" view", view, out);
+            put_text(" constraint", constraint, out);
+            out.put_number(" format ", *version);
+        }
+        Job::Pull { address, target } => {
+            put_text("pull address", address, out);
+            put_text(" target", target, out);
         }
         Job::Check { path } => put_text("check", path, out),
         Job::Load { seed, files } => {
             out.put_number("load ", *seed);
             out.put_number(" ", *files);
         }
-        Job::Serve(serving) => {
-            put_command("serve", &serving.site, &serving.proto, out);
-            put_serving(serving, out);
-        }
+        Job::Serve(serving) => put_serving(serving, out),
+        Job::Many(serving) => put_serving_many(serving, out),
     }
 }
 
-// A command, the site and the path of the prototype.
-fn put_command(command: &str, site: &Site, proto: &Bytes, out: &mut Said) {
+// A command, and the collection and the steps on it.
+fn put_stepping(command: &str, stepping: &Stepping, out: &mut Said) {
     out.put(command);
-    put_site(site, out);
-    put_text(" proto", proto, out);
+    put_site(&stepping.site, out);
+    put_text(" proto", &stepping.proto, out);
+    put_steps(stepping.steps.as_slice(), out);
 }
 
 fn put_steps(steps: &[Step], out: &mut Said) {
@@ -145,19 +165,42 @@ fn put_step(step: &Step, out: &mut Said) {
 }
 
 fn put_serving(serving: &Serving, out: &mut Said) {
-    put_text(" listen", &serving.listen, out);
-    out.put_number(" workers ", serving.workers);
-    out.put_number(" connections ", serving.connections);
-    put_clock(serving.keep, out);
-    out.put_number(" ticks ", serving.ticks);
+    out.put("serve");
+    put_site(&serving.site, out);
+    put_text(" proto", &serving.proto, out);
+    put_doors(&serving.listen, serving.workers, serving.connections, out);
+    put_clock(serving.keep, serving.ticks, out);
     put_inboxes(serving.inboxes.as_slice(), out);
 }
 
-fn put_clock(keep: Option<u32>, out: &mut Said) {
+fn put_serving_many(serving: &ServingMany, out: &mut Said) {
+    out.put("many");
+    put_doors(&serving.listen, serving.workers, serving.connections, out);
+    put_clock(serving.keep, serving.ticks, out);
+    for spec in serving.specs.as_slice() {
+        put_spec(spec, out);
+    }
+}
+
+fn put_doors(listen: &Bytes, workers: u32, connections: u32, out: &mut Said) {
+    put_text(" listen", listen, out);
+    out.put_number(" workers ", workers);
+    out.put_number(" connections ", connections);
+}
+
+fn put_clock(keep: Option<u32>, ticks: u32, out: &mut Said) {
     match keep {
         Some(seconds) => out.put_number(" keep ", seconds),
         None => out.put(" no clock"),
     }
+    out.put_number(" ticks ", ticks);
+}
+
+fn put_spec(spec: &Spec, out: &mut Said) {
+    out.put(";");
+    put_site(&spec.site, out);
+    put_text(" proto", &spec.proto, out);
+    put_text(" from", &spec.inbox, out);
 }
 
 fn put_inboxes(inboxes: &[Bytes], out: &mut Said) {

@@ -1,112 +1,68 @@
--- Where a target is cut: at its first `?`, and its path at the last `.`.
+-- Where a text is cut: at the first of a byte, and a path at the last `.`.
 use Rattle.std.proofs.Common.{◌≡◌, ◌<◌, ◌≤◌, inl, inr, ⊎_elim, ℕ, zero, suc, ◌+◌, Bool, true, false, cond, ◌&&◌, ◌||◌, ◌==◌, not, List, [], ◌∷◌, ◌++◌, length, take, drop, get_or, Option, Some, None, option_map, refl, sym, ap, ap₂, subst, ◌∙◌, length-append, arith}
 use Rattle.std.proofs.lemmas.Bool.{and_right, cond-true, cond-false, eq-eqb, eqb-true, or_parts}
 use Rattle.std.proofs.lemmas.List.{get_or-append-add}
 use Rattle.std.proofs.lemmas.Option.{same_Some}
 use Rattle.std.proofs.Math.Seq.{take-append_seam}
-use Rattle.std.specs.Char.{is_digit}
 use Rattle.std.specs.List.{list_any}
 use Rattle.std.specs.Path.{rfind_below, rsplit_once}
 use Rattle.fm_base.proofs.OptionLemmas.{mapped_some}
-use Rattle.web_path.specs.Escape.{bad_escape, begins_with_two_digits, percent}
-use Rattle.web_path.specs.Target.{question, question_of}
-use Rattle.web_path.specs.Url.{IsCut}
+use Rattle.web_path.specs.Target.{first_at}
+use Rattle.web_path.specs.Url.{IsCutBy}
 
--- ---- escapes on both sides of a `?`
-
-sound-parts : (bad : Bool) (rest : Option ℕ) → cond bad (Some 0) (option_map suc rest) ≡ None
-    → (bad ≡ false) × (rest ≡ None)
-sound-parts true rest is = absurd (cc)
-sound-parts false None is = (refl, refl)
-sound-parts false (Some at) is = absurd (cc)
-
-sound-whole : (bad : Bool) (rest : Option ℕ) → bad ≡ false → rest ≡ None
-    → cond bad (Some 0) (option_map suc rest) ≡ None
-sound-whole bad rest sound none =
-    ap₂ (λ (b : Bool) (o : Option ℕ). cond b (Some 0) (option_map suc o)) sound none
-
--- `?` is no hexadecimal digit
-two-append : (path query : List ℕ) → begins_with_two_digits (path ++ question ∷ query) ≡ begins_with_two_digits path
-two-append [] [] = refl
-two-append [] (b ∷ query) = refl
-two-append (high ∷ []) query = and_right (is_digit high 16) (is_digit question 16) refl
-two-append (high ∷ low ∷ path) query = refl
-
-pub sound-join : (path query : List ℕ) → bad_escape path ≡ None → bad_escape query ≡ None
-    → bad_escape (path ++ question ∷ query) ≡ None
-sound-join [] query front back = ap (option_map suc) back
-sound-join (b ∷ path) query front back =
-    let parts = sound-parts (b == percent && not (begins_with_two_digits path)) (bad_escape path) front in
-    sound-whole (b == percent && not (begins_with_two_digits (path ++ question ∷ query)))
-    (bad_escape (path ++ question ∷ query))
-    (ap (λ (two : Bool). b == percent && not two) (two-append path query) ∙ parts.0)
-    (sound-join path query parts.1 back)
-
-pub sound-split : (path query : List ℕ) → bad_escape (path ++ question ∷ query) ≡ None
-    → (bad_escape path ≡ None) × (bad_escape query ≡ None)
-sound-split [] query is = (refl, (sound-parts false (bad_escape query) is).1)
-sound-split (b ∷ path) query is =
-    let parts = sound-parts (b == percent && not (begins_with_two_digits (path ++ question ∷ query)))
-    (bad_escape (path ++ question ∷ query)) is in
-    let rest = sound-split path query parts.1 in (
-      sound-whole (b == percent && not (begins_with_two_digits path)) (bad_escape path)
-          (ap (λ (two : Bool). b == percent && not two) (sym (two-append path query)) ∙ parts.0) rest.0,
-      rest.1,
-    )
-
--- ---- the first `?`
+-- ---- the first of a byte
 
 one-more : (n : ℕ) → 1 + n ≡ suc n
 one-more n = omega arith
 
-pub question-cut : (path query : List ℕ) → list_any (λ b. b == question) path ≡ false
-    → question_of (path ++ question ∷ query) ≡ length path
-question-cut [] query none = refl
-question-cut (b ∷ path) query none =
-    let parts = or_parts (b == question) (list_any (λ c. c == question) path) none in
-    let rest : ℕ = question_of (path ++ question ∷ query) in
-    ap (λ (is : Bool). cond (not is) (1 + rest) 0) parts.0 ∙ one-more rest ∙ ap suc (question-cut path query parts.1)
+pub first-cut : (c : ℕ) (front back : List ℕ) → list_any (λ b. b == c) front ≡ false
+    → first_at c (front ++ c ∷ back) ≡ length front
+first-cut c [] back none = ap (λ (is : Bool). cond (not is) (1 + first_at c back) 0) (eq-eqb c c refl)
+first-cut c (b ∷ front) back none =
+    let parts = or_parts (b == c) (list_any (λ x. x == c) front) none in
+    let rest : ℕ = first_at c (front ++ c ∷ back) in
+    ap (λ (is : Bool). cond (not is) (1 + rest) 0) parts.0 ∙ one-more rest ∙ ap suc (first-cut c front back parts.1)
 
-pub question-none : (path : List ℕ) → list_any (λ b. b == question) path ≡ false → question_of path ≡ length path
-question-none [] none = refl
-question-none (b ∷ path) none =
-    let parts = or_parts (b == question) (list_any (λ c. c == question) path) none in
-    ap (λ (is : Bool). cond (not is) (1 + question_of path) 0) parts.0 ∙ one-more (question_of path)
-    ∙ ap suc (question-none path parts.1)
+pub first-none : (c : ℕ) (front : List ℕ) → list_any (λ b. b == c) front ≡ false → first_at c front ≡ length front
+first-none c [] none = refl
+first-none c (b ∷ front) none =
+    let parts = or_parts (b == c) (list_any (λ x. x == c) front) none in
+    ap (λ (is : Bool). cond (not is) (1 + first_at c front) 0) parts.0 ∙ one-more (first_at c front)
+    ∙ ap suc (first-none c front parts.1)
 
--- no `?` stands before the first one
-pub plain-front : (text : List ℕ) → list_any (λ b. b == question) (take (question_of text) text) ≡ false
-plain-front [] = refl
-plain-front (b ∷ text) = by_test (b == question) refl (plain-front text)
+-- none stands before the first one
+pub plain-front : (c : ℕ) (text : List ℕ) → list_any (λ b. b == c) (take (first_at c text) text) ≡ false
+plain-front c [] = refl
+plain-front c (b ∷ text) = by_test (b == c) refl (plain-front c text)
   where
-    by_test : (is : Bool) → (b == question) ≡ is
-        → list_any (λ c. c == question) (take (question_of text) text) ≡ false
-        → list_any (λ c. c == question) (take (cond (not is) (1 + question_of text) 0) (b ∷ text)) ≡ false
+    by_test : (is : Bool) → (b == c) ≡ is
+        → list_any (λ x. x == c) (take (first_at c text) text) ≡ false
+        → list_any (λ x. x == c) (take (cond (not is) (1 + first_at c text) 0) (b ∷ text)) ≡ false
     by_test true same plain = refl
     by_test false same plain =
-        ap (λ (n : ℕ). list_any (λ c. c == question) (take n (b ∷ text))) (one-more (question_of text))
-        ∙ ap (λ (t : Bool). t || list_any (λ c. c == question) (take (question_of text) text)) same ∙ plain
+        ap (λ (n : ℕ). list_any (λ x. x == c) (take n (b ∷ text))) (one-more (first_at c text))
+        ∙ ap (λ (t : Bool). t || list_any (λ x. x == c) (take (first_at c text) text)) same ∙ plain
 
 -- a cut after one byte more
-after-one : (b : ℕ) (text : List ℕ) (n : ℕ) → IsCut text (take n text) (drop (n + 1) text)
-    → IsCut (b ∷ text) (take (suc n) (b ∷ text)) (drop (suc n + 1) (b ∷ text))
-after-one b text n cut =
+after-one : (c b : ℕ) (text : List ℕ) (n : ℕ) → IsCutBy c text (take n text) (drop (n + 1) text)
+    → IsCutBy c (b ∷ text) (take (suc n) (b ∷ text)) (drop (suc n + 1) (b ∷ text))
+after-one c b text n cut =
     let same : suc (n + 1) ≡ suc n + 1 = omega arith in
-    subst (λ (m : ℕ). IsCut (b ∷ text) (b ∷ take n text) (drop m (b ∷ text))) same
+    subst (λ (m : ℕ). IsCutBy c (b ∷ text) (b ∷ take n text) (drop m (b ∷ text))) same
     (⊎_elim (λ seam. inl (ap (λ (l : List ℕ). b ∷ l) seam))
     (λ all. inr (ap (λ (l : List ℕ). b ∷ l) all.0, all.1)) cut)
 
-pub cut-found : (text : List ℕ) → IsCut text (take (question_of text) text) (drop (question_of text + 1) text)
-cut-found [] = inr (refl, refl)
-cut-found (b ∷ text) = by_test (b == question) refl (cut-found text)
+pub cut-found : (c : ℕ) (text : List ℕ) → IsCutBy c text (take (first_at c text) text) (drop (first_at c text + 1) text)
+cut-found c [] = inr (refl, refl)
+cut-found c (b ∷ text) = by_test (b == c) refl (cut-found c text)
   where
-    by_test : (is : Bool) → (b == question) ≡ is
-        → IsCut text (take (question_of text) text) (drop (question_of text + 1) text)
-        → IsCut (b ∷ text) (take (cond (not is) (1 + question_of text) 0) (b ∷ text))
-        (drop (cond (not is) (1 + question_of text) 0 + 1) (b ∷ text))
-    by_test true same cut = inl (ap (λ (c : ℕ). c ∷ text) (eqb-true b question same))
-    by_test false same cut = subst (λ (n : ℕ). IsCut (b ∷ text) (take n (b ∷ text)) (drop (n + 1) (b ∷ text)))
-        (sym (one-more (question_of text))) (after-one b text (question_of text) cut)
+    by_test : (is : Bool) → (b == c) ≡ is
+        → IsCutBy c text (take (first_at c text) text) (drop (first_at c text + 1) text)
+        → IsCutBy c (b ∷ text) (take (cond (not is) (1 + first_at c text) 0) (b ∷ text))
+        (drop (cond (not is) (1 + first_at c text) 0 + 1) (b ∷ text))
+    by_test true same cut = inl (ap (λ (x : ℕ). x ∷ text) (eqb-true b c same))
+    by_test false same cut = subst (λ (n : ℕ). IsCutBy c (b ∷ text) (take n (b ∷ text)) (drop (n + 1) (b ∷ text)))
+        (sym (one-more (first_at c text))) (after-one c b text (first_at c text) cut)
 
 -- nothing follows the end
 pub nothing-left : (path : List ℕ) → drop (length path + 1) path ≡ []

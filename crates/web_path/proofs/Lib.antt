@@ -1,3 +1,5 @@
+pub mod AbsoluteLemmas
+pub mod BelowLemmas
 pub mod CutLemmas
 pub mod FrontLemmas
 pub mod MomentLemmas

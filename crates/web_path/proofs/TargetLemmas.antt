@@ -17,9 +17,10 @@ use Rattle.web_path.specs.declared.target.Target.{Target}
 use Rattle.web_path.specs.Escape.{bad_escape}
 use Rattle.web_path.specs.Path.{path_of, CanBeWritten, IsPathOf, Spelling}
 use Rattle.web_path.specs.Reading.{view_of}
-use Rattle.web_path.specs.Target.{asked_of, asked_of_parts, asked_unless, dot, label_of, question, question_of, served, service_of, target_of, viewed}
+use Rattle.web_path.specs.Target.{asked_at, asked_of, asked_of_parts, asked_unless, dot, has_scheme, label_of, path_and_query, question, question_of, served, service_of, slash, target_of, viewed}
 use Rattle.web_path.specs.Url.{word_of, IsCut, IsTargetOf}
-use Rattle.web_path.proofs.CutLemmas.{after-seam, cut-found, nothing-left, plain-front, question-cut, question-none, rsplit-joined, rsplit-parts, sound-join, sound-split}
+use Rattle.web_path.proofs.AbsoluteLemmas.{absolute-asked, asked-found, no-scheme, plain-asked}
+use Rattle.web_path.proofs.CutLemmas.{after-seam, cut-found, first-cut, first-none, nothing-left, plain-front, rsplit-joined, rsplit-parts}
 use Rattle.web_path.proofs.SpelledLemmas.{view_of-path}
 use Rattle.web_path.proofs.ViewLemmas.{view_of-some}
 
@@ -73,38 +74,53 @@ asked-path site spelling target written =
     ∙ ap (viewed path (word_of target.service) target.constraint) (view_of-path site spelling target.view written)
     ∙ ap (served path target.constraint target.view) (service-read target.service)
 
--- what a text asks for that is cut in two
-asked-cut : (site : Site) (text path query : List ℕ) → bad_escape text ≡ None → question_of text ≡ length path
+-- what a path and query ask for, cut in two
+asked-cut : (site : Site) (text path query : List ℕ) → question_of text ≡ length path
     → take (length path) text ≡ path → drop (length path + 1) text ≡ query
-    → target_of site text ≡ asked_of site (percent_decode path) (percent_decode query)
-unfolding target_of
-asked-cut site text path query sound at front back =
-    ap (asked_unless site text) sound
-    ∙ ap (λ (n : ℕ). asked_of site (percent_decode (take n text)) (percent_decode (drop (n + 1) text))) at
+    → asked_at site text ≡ asked_of site (percent_decode path) (percent_decode query)
+unfolding asked_at
+asked-cut site text path query at front back =
+    ap (λ (n : ℕ). asked_of site (percent_decode (take n text)) (percent_decode (drop (n + 1) text))) at
     ∙ ap₂ (λ (l r : List ℕ). asked_of site (percent_decode l) (percent_decode r)) front back
+
+asked-parts : (site : Site) (text path query : List ℕ) → IsCut text path query
+    → list_any (λ b. b == question) path ≡ false
+    → asked_at site text ≡ asked_of site (percent_decode path) (percent_decode query)
+asked-parts site text path query cut plain = ⊎_elim with_query alone cut
+  where
+    with_query : text ≡ path ++ question ∷ query
+        → asked_at site text ≡ asked_of site (percent_decode path) (percent_decode query)
+    with_query is = ap (asked_at site) is
+        ∙ asked-cut site (path ++ question ∷ query) path query (first-cut question path query plain)
+        (take-append_seam path (question ∷ query)) (after-seam question path query)
+
+    alone : (text ≡ path) × (query ≡ [])
+        → asked_at site text ≡ asked_of site (percent_decode path) (percent_decode query)
+    alone all = ap (asked_at site) all.0
+        ∙ asked-cut site path path query (first-none question path plain)
+        (take_all (length path) path (omega arith)) (nothing-left path ∙ sym all.1)
+
+-- the path of each view begins with a `/`
+path-first : (site : Site) (spelling : Spelling) (target : Target)
+    → path_of site spelling target.view ++ codes "." ++ word_of target.service
+    ≡ slash ∷ drop 1 (path_of site spelling target.view ++ codes "." ++ word_of target.service)
+unfolding path_of
+path-first site spelling target = refl
 
 pub target-read : (site : Site) (text : List ℕ) (target : Target) → IsTargetOf site text target
     → target_of site text ≡ Ok target
-unfolding target_with
+unfolding target_of target_with
 target-read site text target of =
-    ⊎_elim with_query alone of.text_is
-    ∙ ap₂ (asked_of site) of.path_is.bytes_are of.query_is.bytes_are
+    ap (asked_unless site text) of.escapes
+    ∙ ap (asked_at site) (⊎_elim plain (absolute-asked text of.asked) of.asked_is)
+    ∙ asked-parts site of.asked of.path of.query of.cut of.plain
+    ∙ ap₂ (asked_of site) of.path_is of.query_is
     ∙ asked-path site of.spelling target of.written
     ∙ ap (target_with target) (sym of.label_is)
   where
-    with_query : text ≡ of.path ++ question ∷ of.query
-        → target_of site text ≡ asked_of site (percent_decode of.path) (percent_decode of.query)
-    with_query is = ap (target_of site) is
-        ∙ asked-cut site (of.path ++ question ∷ of.query) of.path of.query
-        (sound-join of.path of.query of.path_is.escapes of.query_is.escapes)
-        (question-cut of.path of.query of.plain) (take-append_seam of.path (question ∷ of.query))
-        (after-seam question of.path of.query)
-
-    alone : (text ≡ of.path) × (of.query ≡ [])
-        → target_of site text ≡ asked_of site (percent_decode of.path) (percent_decode of.query)
-    alone all = ap (target_of site) all.0
-        ∙ asked-cut site of.path of.path of.query of.path_is.escapes (question-none of.path of.plain)
-        (take_all (length of.path) of.path (omega arith)) (nothing-left of.path ∙ sym all.1)
+    plain : of.asked ≡ text → path_and_query text ≡ of.asked
+    plain same = plain-asked text (ap has_scheme (sym same)
+        ∙ no-scheme of.asked of.path of.query _ of.cut (of.path_is ∙ path-first site of.spelling target)) ∙ sym same
 
 -- ---- a text that is read so asks for the target
 
@@ -152,42 +168,37 @@ parts-of site path constraint target is = by_dot (rsplit_once dot path) refl is
     by_dot None cut asked = absurd (cc)
     by_dot (Some parts) cut asked = by_view parts (view_of site parts.0) cut refl asked
 
--- both sides of a cut have sound escapes
-escapes-of : (text path query : List ℕ) → bad_escape text ≡ None → IsCut text path query
-    → (bad_escape path ≡ None) × (bad_escape query ≡ None)
-escapes-of text path query sound cut =
-    ⊎_elim (λ is. sound-split path query (ap bad_escape (sym is) ∙ sound))
-    (λ all. (ap bad_escape (sym all.0) ∙ sound, ap bad_escape all.1)) cut
-
 pub target-written : (site : Site) (text : List ℕ) (target : Target) → target_of site text ≡ Ok target
     → IsTargetOf site text target
-unfolding target_of
+unfolding target_of asked_at
 target-written site text target is = by_escape (bad_escape text) refl is
   where
+    asked : List ℕ
+    asked = path_and_query text
+
     path : List ℕ
-    path = take (question_of text) text
+    path = take (question_of asked) asked
 
     query : List ℕ
-    query = drop (question_of text + 1) text
+    query = drop (question_of asked + 1) asked
 
     from_parts : bad_escape text ≡ None → Parts site (percent_decode path) (percent_decode query) target
         → IsTargetOf site text target
     from_parts sound parts =
         let at : IsPathOf site parts.front target.view = view_of-some site parts.front target.view parts.view_is in
-        let sides = escapes-of text path query sound (cut-found text) in
         record {
+          asked = asked;
           path = path;
           query = query;
           spelling = at.spelling;
-          text_is = cut-found text;
-          plain = plain-front text;
-          path_is = record {
-            escapes = sides.0;
-            bytes_are = parts.path_is ∙ ap₂ (λ (l r : List ℕ). l ++ dot ∷ r) at.path_is
-                (service-said parts.word target.service parts.service_is)
-                ∙ sym (append_assoc (path_of site at.spelling target.view) (codes ".") (word_of target.service));
-          };
-          query_is = record { escapes = sides.1; bytes_are = parts.constraint_is };
+          asked_is = asked-found text;
+          escapes = sound;
+          cut = cut-found question asked;
+          plain = plain-front question asked;
+          path_is = parts.path_is ∙ ap₂ (λ (l r : List ℕ). l ++ dot ∷ r) at.path_is
+              (service-said parts.word target.service parts.service_is)
+              ∙ sym (append_assoc (path_of site at.spelling target.view) (codes ".") (word_of target.service));
+          query_is = parts.constraint_is;
           written = at.written;
           label_is = parts.label_is ∙ ap label_of at.path_is;
         }

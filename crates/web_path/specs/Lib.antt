@@ -1,3 +1,5 @@
+pub mod Begins
+pub mod Below
 pub mod Code
 pub mod Escape
 pub mod Path

@@ -1,5 +1,5 @@
 //! Reading a target.
-ghost use Rattle.std.specs.Prelude.{◌≡◌, ◌+◌, IfOk, take, drop};
+ghost use Rattle.std.specs.Prelude.{◌≡◌, ◌+◌, ◌≤◌, IfOk, IfSome, length, take, drop};
 ghost use Rattle.std.specs.Path.{rsplit_once};
 ghost use Rattle.percent_encoding.specs.Percent as escapes;
 ghost use Rattle.fm_base.specs.Answer.{Answers};
@@ -80,8 +80,51 @@ fn asked_of(
     })
 }
 
-/// What a target asks for: a view of the collection, a service, a constraint and a label. A fault is the first that the
-/// target has, in the order of the faults.
+// Where a `/` ends an authority: behind one or more bytes, none of them a `?`.
+#[tactic(auto, unfolding(crate::specs::Target::authority_end))]
+fn authority_end(rest: &[u8]) -> Option<usize>
+    ensures end { result ≡ spec.authority_end rest.now }
+    ensures within { IfSome result (λ end. end ≤ length rest.now) }
+{
+    let slash = first_of(b'/', rest);
+    if 0 < slash && slash < first_of(b'?', rest) {
+        Some(slash)
+    } else {
+        None
+    }
+}
+
+// The path and query of a target: what follows its scheme and authority, or the whole of it where it has none.
+#[tactic(auto, unfolding(crate::specs::Target::path_and_query), using(crate::proofs::AbsoluteLemmas::short))]
+pub(crate) fn path_and_query(target: &[u8]) -> &[u8]
+    ensures { result.now ≡ spec.path_and_query target.now }
+{
+    let Some((front, rest)) = target.split_at_checked(7) else {
+        return target;
+    };
+    if !front.eq_ignore_ascii_case(b"http://".as_slice()) {
+        return target;
+    }
+    match authority_end(rest) {
+        Some(end) => &rest[end..],
+        None => target,
+    }
+}
+
+// What a path and query ask for, in which escapes are sound.
+#[tactic(auto, unfolding(crate::specs::Target::asked_at))]
+fn asked_at(alloc: Global, text: &[u8], site: &Site) -> Result<Target, Fail<PathFault>>
+    ensures { Answers (spec.asked_at site.now text.now) result }
+{
+    let question = first_of(b'?', text);
+    let path = decoded(alloc, &text[..question])?;
+    let constraint = decoded(alloc, text.get(question + 1..).unwrap_or(b"".as_slice()))?;
+    asked_of(alloc, path.as_slice(), constraint, site)
+}
+
+/// What a target asks for: a view of the collection, a service, a constraint and a label. The target may have the
+/// absolute form, `http://AUTHORITY/..` (RFC 9112, section 3.2.2). A fault is the first that the target has, in the order
+/// of the faults; the offset of a bad escape counts from the target's first byte.
 #[tactic(auto, unfolding(crate::specs::Target::target_of))]
 pub fn read_target(alloc: Global, target: &[u8], site: &Site) -> Result<Target, Fail<PathFault>>
     ensures { Answers (spec.target_of site.now target.now) result }
@@ -89,8 +132,5 @@ pub fn read_target(alloc: Global, target: &[u8], site: &Site) -> Result<Target, 
     if let Some(at) = bad_escape(target) {
         return Err(Fail::Fault(PathFault::BadEscape(at as u64)));
     }
-    let question = first_of(b'?', target);
-    let path = decoded(alloc, &target[..question])?;
-    let constraint = decoded(alloc, target.get(question + 1..).unwrap_or(b"".as_slice()))?;
-    asked_of(alloc, path.as_slice(), constraint, site)
+    asked_at(alloc, path_and_query(target), site)
 }

@@ -1,11 +1,12 @@
 //! Where a byte stands in a text, and what stands between a front and an end.
-ghost use Rattle.std.specs.Prelude.{◌≡◌, ◌==◌, ◌<◌, length, IfSome};
+ghost use Rattle.std.specs.Prelude.{◌≡◌, ◌==◌, ◌<◌, ◌≤◌, length, IfSome};
 ghost use Rattle.std.specs.List.{position_or_len};
 ghost use Rattle.std.specs.Path.{rfind_below};
 
 // The offset of the first byte that is `byte`, or the length of the text.
 pub(crate) fn first_of(byte: u8, text: &[u8]) -> usize
-    ensures { result ≡ position_or_len (λ b. b == byte) text.now }
+    ensures offset { result ≡ position_or_len (λ b. b == byte) text.now }
+    ensures within { result ≤ length text.now }
 {
     let mut left = text;
     let mut at = 0;

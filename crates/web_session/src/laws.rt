@@ -1,5 +1,5 @@
 //! What a reader believes of sessions, each as the contract of a call that does nothing.
-ghost use Rattle.std.specs.Prelude.{◌≡◌, ◌<◌, ◌≤◌, ◌∷◌, ℕ, List, map};
+ghost use Rattle.std.specs.Prelude.{◌≡◌, ◌<◌, ◌≤◌, ◌∷◌, [], ℕ, List, map};
 ghost use Rattle.std.specs.List.{sum};
 ghost use Rattle.web_frame.specs.Items.{AreFirst, heads_of};
 ghost use Rattle.web_session.specs.Run.{AllAnswer, after_events, asks, fed};
@@ -47,4 +47,10 @@ pub fn a_reply_is_sent_from_its_first_unsent_byte()
 pub fn an_end_stays()
     ensures { (events : List Happens) (s : State) (end : End) → s.phase ≡ Phase.Ended end
         → after_events s events ≡ s }
+{}
+
+/// A session that is asked again stays as it is, so its next action is the one that it gave before. Whoever drops an
+/// action and asks for it again by `Start` loses nothing.
+pub fn asking_again_changes_nothing()
+    ensures { (s : State) → after_events s (Happens.Start ∷ []) ≡ s }
 {}

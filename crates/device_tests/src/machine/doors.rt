@@ -1,6 +1,7 @@
 //! Doors at sockets of the loopback device.
 
 use super::echoing::serve;
+use super::ends::{Ending, holds_of_link};
 use dev_host::{Patience, Stops, TcpDoor, TcpLink, Teller};
 use dev_traits::{Coming, Door, Failed};
 use std::alloc::Global;
@@ -21,51 +22,70 @@ pub(crate) type HostDoor = TcpDoor<HostRuntime, Teller<HostRuntime>>;
 
 pub(crate) type HostLink = TcpLink<HostRuntime>;
 
-// A door at a port of its own, and its address.
-fn own_door(rt: HostRuntime, connections: u32, idle: u64) -> Option<(HostDoor, SocketAddr)> {
-    let listener = TcpListener::bind(&rt, "127.0.0.1:0").ok()?;
-    let address = listener.local_addr().ok()?;
+// A door at a port of its own.
+pub(crate) fn own_door(rt: HostRuntime, connections: u32, idle: u64) -> Option<HostDoor> {
     let patience = Patience {
         idle,
         grace: 2 * LONG,
     };
     let stops = Stops::new(rt.alloc()).ok()?;
-    let door = TcpDoor::new(rt, rt.alloc(), listener, connections, patience, stops).ok()?;
-    Some((door, address))
+    match TcpListener::bind(&rt, "127.0.0.1:0") {
+        Ok(listener) => TcpDoor::new(rt, rt.alloc(), listener, connections, patience, stops).ok(),
+        Err(_) => {
+            drop(stops);
+            None
+        }
+    }
 }
 
-// Whether this holds of a door for `connections` connections, and its address.
-fn holds_of_door<F>(rt: HostRuntime, connections: u32, idle: u64, fact: F) -> bool
-where
-    F: FnOnce(&mut HostDoor, SocketAddr) -> bool,
-    requires { F.IsAlwaysCallable fact }
-{
-    match own_door(rt, connections, idle) {
-        Some((door, address)) => {
-            let mut door = door;
-            let holds = fact(&mut door, address);
-            drop(door);
-            holds
-        }
-        None => false,
+// A client of a door.
+pub(crate) fn client_of(rt: &HostRuntime, door: &HostDoor) -> Option<TcpStream> {
+    let address = door.local_addr().ok()?;
+    TcpStream::connect(rt, address).ok()
+}
+
+// What is to hold of a door and its client.
+#[derive(Clone, Copy)]
+pub(crate) enum Fact {
+    Echoes,
+    GivesUpTheSilent,
+    GivesUpDrips,
+    OfLink(Ending),
+}
+
+// Whether it holds.
+fn holds_of<R: Threads>(
+    threads: &R,
+    rt: HostRuntime,
+    fact: Fact,
+    door: &mut HostDoor,
+    client: TcpStream,
+) -> bool {
+    match fact {
+        Fact::Echoes => is_echoed(threads, rt.alloc(), door, client),
+        Fact::GivesUpTheSilent => is_given_up(rt.alloc(), door, client),
+        Fact::GivesUpDrips => is_given_up_at_drips(threads, &rt, door, client),
+        Fact::OfLink(ending) => holds_of_link(threads, rt, ending, door, client),
     }
 }
 
 // Whether this holds of a door for `connections` connections, and a client of it.
-pub(crate) fn holds_of_client<F>(rt: HostRuntime, connections: u32, idle: u64, fact: F) -> bool
-where
-    F: FnOnce(&mut HostDoor, TcpStream) -> bool,
-    requires { F.IsAlwaysCallable fact }
-{
-    let Some((mut door, address)) = own_door(rt, connections, idle) else {
+pub(crate) fn holds<R: Threads>(
+    threads: &R,
+    rt: HostRuntime,
+    connections: u32,
+    idle: u64,
+    fact: Fact,
+) -> bool {
+    let Some(mut door) = own_door(rt, connections, idle) else {
         return false;
     };
-    let holds = match TcpStream::connect(&rt, address) {
-        Ok(client) => fact(&mut door, client),
-        Err(_) => false,
+    let held = match client_of(&rt, &door) {
+        Some(client) => holds_of(threads, rt, fact, &mut door, client),
+        None => false,
     };
     drop(door);
-    holds
+    held
 }
 
 // The next link of a door, which is to give one.
@@ -127,10 +147,7 @@ fn is_echoed<R: Threads>(
 
 #[test]
 fn bytes_go_both_ways_and_a_door_closes_after_its_connections(rt: HostRuntime) {
-    let holds = holds_of_client(rt, 1, LONG, |door, client| {
-        is_echoed(&rt, rt.alloc(), door, client)
-    });
-    assert!(rt; holds);
+    assert!(rt; holds(&rt, rt, 1, LONG, Fact::Echoes));
 }
 
 // `count` clients of an address.
@@ -174,9 +191,11 @@ fn are_echoed<R: Threads>(
     threads: &R,
     rt: &HostRuntime,
     door: &mut HostDoor,
-    address: SocketAddr,
     count: usize,
 ) -> bool {
+    let Ok(address) = door.local_addr() else {
+        return false;
+    };
     let alloc = rt.alloc();
     let (answered, seen) = join(
         threads,
@@ -186,12 +205,19 @@ fn are_echoed<R: Threads>(
     answered && seen.most == count && door.faults() == 0
 }
 
+// Whether 300 links go through one door at once.
+fn go_through_one<R: Threads>(threads: &R, rt: HostRuntime) -> bool {
+    let Some(mut door) = own_door(rt, 300, LONG) else {
+        return false;
+    };
+    let echoed = are_echoed(threads, &rt, &mut door, 300);
+    drop(door);
+    echoed
+}
+
 #[test]
 fn three_hundred_links_go_through_one_door_at_once(rt: HostRuntime) {
-    let holds = holds_of_door(rt, 300, LONG, |door, address| {
-        are_echoed(&rt, &rt, door, address, 300)
-    });
-    assert!(rt; holds);
+    assert!(rt; go_through_one(&rt, rt));
 }
 
 // Whether a client that says nothing is given up, without a fault.
@@ -203,10 +229,7 @@ fn is_given_up(alloc: Global, door: &mut HostDoor, client: TcpStream) -> bool {
 
 #[test]
 fn a_client_that_stays_silent_is_given_up(rt: HostRuntime) {
-    let holds = holds_of_client(rt, 1, SHORT, |door, client| {
-        is_given_up(rt.alloc(), door, client)
-    });
-    assert!(rt; holds);
+    assert!(rt; holds(&rt, rt, 1, SHORT, Fact::GivesUpTheSilent));
 }
 
 // Sends a byte each 50 milliseconds, 40 in all where the peer takes them.
@@ -234,8 +257,5 @@ fn is_given_up_at_drips<R: Threads>(
 
 #[test]
 fn a_client_that_drips_is_given_up(rt: HostRuntime) {
-    let holds = holds_of_client(rt, 1, SHORT, |door, client| {
-        is_given_up_at_drips(&rt, &rt, door, client)
-    });
-    assert!(rt; holds);
+    assert!(rt; holds(&rt, rt, 1, SHORT, Fact::GivesUpDrips));
 }

@@ -1,25 +1,58 @@
 //! Connections that reset, that take nothing, and that rest.
 
-use super::doors::{
-    HostDoor, HostLink, LONG, SHORT, closes, has_lasted, holds_of_client, next_link,
-};
+use super::doors::{Fact, HostDoor, HostLink, LONG, SHORT, closes, has_lasted, holds, next_link};
+use super::farewells::{holds_nobody, is_refused};
 use dev_traits::{Coming, Door, Failed, Link, Sent, Taken};
 use std::io::Write;
 use std::net::TcpStream;
+use std::thread::Threads;
 use std::time::Instant;
 
-// Whether this holds of a door for `connections` connections, the link that it gives under the key 0, and its client.
-pub(crate) fn holds_of_ends<F>(rt: HostRuntime, connections: u32, idle: u64, fact: F) -> bool
-where
-    F: FnOnce(&mut HostDoor, HostLink, TcpStream) -> bool,
-    requires { F.IsAlwaysCallable fact }
-{
-    holds_of_client(rt, connections, idle, |door, client| {
-        match next_link(door, 0) {
-            Some(link) => fact(door, link, client),
-            None => false,
-        }
-    })
+// What is to hold of a door, the link that it gives under the key 0, and the link's client.
+#[derive(Clone, Copy)]
+pub(crate) enum Ending {
+    ResetWhileItWaits,
+    ResetWhileItSends,
+    ResetAtItsEnd,
+    ReadsNothing,
+    GoesOnAfterARest,
+    SendsAtOnce,
+    IsRefused,
+    HoldsNobody,
+}
+
+// Whether it holds, once the link has come.
+pub(crate) fn holds_of_link<R: Threads>(
+    threads: &R,
+    rt: HostRuntime,
+    ending: Ending,
+    door: &mut HostDoor,
+    client: TcpStream,
+) -> bool {
+    match next_link(door, 0) {
+        Some(link) => holds_of_ends(threads, rt, ending, door, link, client),
+        None => false,
+    }
+}
+
+fn holds_of_ends<R: Threads>(
+    threads: &R,
+    rt: HostRuntime,
+    ending: Ending,
+    door: &mut HostDoor,
+    link: HostLink,
+    client: TcpStream,
+) -> bool {
+    match ending {
+        Ending::ResetWhileItWaits => is_lost_while_it_waits(door, link, client),
+        Ending::ResetWhileItSends => is_lost_while_it_sends(door, link, client),
+        Ending::ResetAtItsEnd => is_lost_at_its_end(door, link, client),
+        Ending::ReadsNothing => is_given_up(door, link, client),
+        Ending::GoesOnAfterARest => goes_on_after_a_rest(&rt, door, link, client),
+        Ending::SendsAtOnce => sends_at_once(link, client),
+        Ending::IsRefused => is_refused(threads, &rt, door, link, client),
+        Ending::HoldsNobody => holds_nobody(&rt, door, link, client),
+    }
 }
 
 // Whether a door gives a link back and closes then.
@@ -95,12 +128,12 @@ fn is_lost_while_it_waits(door: &mut HostDoor, link: HostLink, client: TcpStream
 // A socket that is closed with bytes unread makes the system send a reset.
 #[test]
 fn a_reset_while_a_link_waits_for_bytes_is_a_fault(rt: HostRuntime) {
-    assert!(rt; holds_of_ends(rt, 1, LONG, is_lost_while_it_waits));
+    assert!(rt; holds(&rt, rt, 1, LONG, Fact::OfLink(Ending::ResetWhileItWaits)));
 }
 
 #[test]
 fn a_reset_while_a_link_sends_is_a_fault(rt: HostRuntime) {
-    assert!(rt; holds_of_ends(rt, 1, LONG, is_lost_while_it_sends));
+    assert!(rt; holds(&rt, rt, 1, LONG, Fact::OfLink(Ending::ResetWhileItSends)));
 }
 
 // Whether a door closes after a link whose client is gone without having read.
@@ -114,7 +147,7 @@ fn is_lost_at_its_end(door: &mut HostDoor, link: HostLink, client: TcpStream) ->
 
 #[test]
 fn a_reset_at_the_end_of_a_link_harms_nobody(rt: HostRuntime) {
-    assert!(rt; holds_of_ends(rt, 1, LONG, is_lost_at_its_end));
+    assert!(rt; holds(&rt, rt, 1, LONG, Fact::OfLink(Ending::ResetAtItsEnd)));
 }
 
 // Whether a link whose client reads nothing fails.
@@ -127,7 +160,7 @@ fn is_given_up(door: &mut HostDoor, link: HostLink, client: TcpStream) -> bool {
 
 #[test]
 fn a_client_that_reads_nothing_is_given_up(rt: HostRuntime) {
-    assert!(rt; holds_of_ends(rt, 1, SHORT, is_given_up));
+    assert!(rt; holds(&rt, rt, 1, SHORT, Fact::OfLink(Ending::ReadsNothing)));
 }
 
 // Whether a take with room for one byte gives one.
@@ -157,14 +190,11 @@ fn goes_on_after_a_rest(
 
 #[test]
 fn a_link_that_rests_before_it_had_to_wait_goes_on(rt: HostRuntime) {
-    let holds = holds_of_ends(rt, 1, LONG, |door, link, client| {
-        goes_on_after_a_rest(&rt, door, link, client)
-    });
-    assert!(rt; holds);
+    assert!(rt; holds(&rt, rt, 1, LONG, Fact::OfLink(Ending::GoesOnAfterARest)));
 }
 
 // Whether a link sends what is put at once.
-fn sends_at_once(_door: &mut HostDoor, link: HostLink, client: TcpStream) -> bool {
+fn sends_at_once(link: HostLink, client: TcpStream) -> bool {
     let at_once = matches!(link.stream.nodelay(), Ok(true));
     drop(client);
     at_once
@@ -172,5 +202,5 @@ fn sends_at_once(_door: &mut HostDoor, link: HostLink, client: TcpStream) -> boo
 
 #[test]
 fn what_is_put_is_sent_at_once(rt: HostRuntime) {
-    assert!(rt; holds_of_ends(rt, 1, LONG, sends_at_once));
+    assert!(rt; holds(&rt, rt, 1, LONG, Fact::OfLink(Ending::SendsAtOnce)));
 }

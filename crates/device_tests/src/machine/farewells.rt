@@ -1,7 +1,9 @@
 //! The end of a connection: the side that sends is closed first, and then what still comes is dropped.
 
-use super::doors::{HostDoor, HostLink, LONG, closes, has_lasted, hears, next_link};
-use super::ends::holds_of_ends;
+use super::doors::{
+    Fact, HostDoor, HostLink, LONG, client_of, closes, has_lasted, hears, holds, next_link,
+};
+use super::ends::Ending;
 use dev_traits::{Door, Link, Sent};
 use std::alloc::Global;
 use std::io::Write;
@@ -28,7 +30,7 @@ fn hears_the_end<C: rt::Clock>(clock: &C, alloc: Global, client: TcpStream, want
 }
 
 // Whether a reply that is put before a client has sent all reaches it, with the end of the side that sends first.
-fn is_refused<R: Threads>(
+pub(crate) fn is_refused<R: Threads>(
     threads: &R,
     rt: &HostRuntime,
     door: &mut HostDoor,
@@ -51,10 +53,7 @@ fn is_refused<R: Threads>(
 
 #[test]
 fn a_refusal_reaches_a_client_that_still_sends(rt: HostRuntime) {
-    let holds = holds_of_ends(rt, 1, LONG, |door, link, client| {
-        is_refused(&rt, &rt, door, link, client)
-    });
-    assert!(rt; holds);
+    assert!(rt; holds(&rt, rt, 1, LONG, Fact::OfLink(Ending::IsRefused)));
 }
 
 // Whether a door gives the link of a further client at once, and closes only after two seconds.
@@ -70,24 +69,24 @@ fn goes_on(rt: &HostRuntime, door: &mut HostDoor, began: Instant) -> bool {
 }
 
 // Whether a door goes on while a client doesn't close its connection, which has ended.
-fn holds_nobody(rt: &HostRuntime, door: &mut HostDoor, link: HostLink, client: TcpStream) -> bool {
+pub(crate) fn holds_nobody(
+    rt: &HostRuntime,
+    door: &mut HostDoor,
+    link: HostLink,
+    client: TcpStream,
+) -> bool {
     let Ok(began) = Instant::now(rt) else {
         return false;
     };
     door.done(0, link);
-    let Ok(address) = door.local_addr() else {
-        return false;
-    };
-    let held = (client, TcpStream::connect(rt, address));
+    let further = client_of(rt, door);
     let goes_on = goes_on(rt, door, began);
-    drop(held);
+    drop(further);
+    drop(client);
     goes_on
 }
 
 #[test]
 fn a_client_that_does_not_close_holds_nobody(rt: HostRuntime) {
-    let holds = holds_of_ends(rt, 2, LONG, |door, link, client| {
-        holds_nobody(&rt, door, link, client)
-    });
-    assert!(rt; holds);
+    assert!(rt; holds(&rt, rt, 2, LONG, Fact::OfLink(Ending::HoldsNobody)));
 }

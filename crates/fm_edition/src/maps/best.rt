@@ -9,7 +9,7 @@ use crate::maps::keeping::{count_keeping, push_keeping};
 use crate::maps::page_rows::PageRows;
 use crate::maps::pages::{Page, Pages, page_of};
 use crate::maps::shared::Shared;
-use crate::maps::walk::{count_page, each_one, push_page};
+use crate::maps::walk::{count_page, each_one, each_rises, push_page};
 use crate::maps::wanted::Wanted;
 use fm_base::{Arc, List, NoMemory};
 use fm_model::Row;
@@ -30,13 +30,24 @@ fn rows_of(alloc: Global, page: &Page, least: Option<i64>) -> Result<List<Row>, 
     Ok(rows)
 }
 
+// The same, where the runs of the files of each valid time rise.
+fn newest_rows(alloc: Global, page: &Page, least: Option<i64>) -> Result<List<Row>, NoMemory>
+    requires timed { All spec.IsTimed page.now.entries }
+    requires rise { spec.each_rises page.now.entries ≡ true }
+    ensures { IfOk result (λ rows. rows ≡ filter_map (spec.best_of_entry least) page.now.entries) }
+{
+    let mut rows = List::new(alloc);
+    push_page(&mut rows, page, Wanted::Newest(least))?;
+    Ok(rows)
+}
+
 // What is kept of a page.
 fn kept_of(alloc: Global, page: &Page) -> Result<PageRows, NoMemory>
     requires { All spec.IsTimed page.now.entries }
     ensures { IfOk result (λ kept. kept ≡ spec.page_rows page.now) }
 {
     let rows = rows_of(alloc, page, None)?;
-    PageRows::new(alloc, rows, each_one(page))
+    PageRows::new(alloc, rows, each_one(page), each_rises(page))
 }
 
 // Makes the rows of the page of a number anew. Where there is no such page, there are no rows.
@@ -105,6 +116,24 @@ fn kept_page<'a>(best: &'a RowPages, number: &i64) -> &'a PageRows
     }
 }
 
+// The rows of a page with a least offset, made anew.
+fn rows_from(
+    alloc: Global,
+    kept: &PageRows,
+    page: &Page,
+    least: Option<i64>,
+) -> Result<List<Row>, NoMemory>
+    requires kept { kept.now ≡ spec.page_rows page.now }
+    requires timed { All spec.IsTimed page.now.entries }
+    ensures { IfOk result (λ rows. rows ≡ filter_map (spec.best_of_entry least) page.now.entries) }
+{
+    if kept.is_rising() {
+        newest_rows(alloc, page, least)
+    } else {
+        rows_of(alloc, page, least)
+    }
+}
+
 // Adds the rows of a page with a least offset. Where the kept rows keep it, or no other file can take the place of one
 // that doesn't, those that keep it are shared.
 fn push_from(
@@ -124,7 +153,7 @@ fn push_from(
     if kept.is_alone() {
         return push_keeping(rows, kept, least);
     }
-    let made = rows_of(alloc, page, least)?;
+    let made = rows_from(alloc, kept, page, least)?;
     rows.push(Arc::new(alloc, made)?)
 }
 

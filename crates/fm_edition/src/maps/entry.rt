@@ -3,6 +3,7 @@ ghost use Rattle.std.specs.Prelude.{◌≡◌, ◌+ℤ◌, ◌++◌, OnOk, is_so
 ghost use Rattle.std.specs.Option.{option_to_list};
 ghost use Rattle.fm_model.specs.Rows.{best_row, row_at};
 ghost use Rattle.fm_list.specs.Selected.{AreSound};
+ghost use Rattle.fm_edition.specs.declared.maps.wanted.Wanted.{Wanted as Kind};
 ghost use Rattle.fm_edition.specs.Indexes as spec;
 
 use crate::maps::wanted::Wanted;
@@ -10,7 +11,7 @@ use crate::row::push_row;
 use fm_base::{List, NoMemory};
 use fm_list::Placed;
 use fm_list::finding::cell_of;
-use fm_list::part::best_among;
+use fm_list::part::{best_among, best_of_rising, has_best_among};
 use fm_model::Row;
 
 // Adds the row of a valid time from the best run of the files that have it, if there is one.
@@ -25,6 +26,20 @@ fn push_best(
     ensures { OnOk result (rows.new ≡ rows.old ++ option_to_list (best_row files.now least valid)) }
 {
     push_row(rows, files, best_among(files, valid, least), valid)
+}
+
+// The same, where the runs of the files rise.
+#[tactic(auto, unfolding(fm_model::specs::Rows::best_row))]
+fn push_newest(
+    rows: &mut List<Row>,
+    files: &[Placed],
+    valid: i64,
+    least: Option<i64>,
+) -> Result<(), NoMemory>
+    requires { spec.IsReady (Kind.Newest least) (valid, files.now) }
+    ensures { OnOk result (rows.new ≡ rows.old ++ option_to_list (best_row files.now least valid)) }
+{
+    push_row(rows, files, best_of_rising(files, valid, least), valid)
 }
 
 // Adds the row of a run and the valid time that many seconds after it, if there is one.
@@ -55,6 +70,7 @@ pub(crate) fn push_wanted(
 {
     match wanted {
         Wanted::Best(least) => push_best(rows, files, key, least),
+        Wanted::Newest(least) => push_newest(rows, files, key, least),
         Wanted::After(seconds) => push_after(rows, files, key, seconds),
         Wanted::At(valid) => push_row(rows, files, Some(key), valid),
     }
@@ -65,10 +81,7 @@ fn has_best(files: &[Placed], valid: i64, least: Option<i64>) -> bool
     requires { spec.IsTimed (valid, files.now) }
     ensures { result ≡ is_some (best_row files.now least valid) }
 {
-    match best_among(files, valid, least) {
-        Some(_) => true,
-        None => false,
-    }
+    has_best_among(files, valid, least)
 }
 
 // Whether there is a row of a run and a valid time.
@@ -100,6 +113,7 @@ pub(crate) fn has_wanted(files: &[Placed], key: i64, wanted: Wanted) -> bool
 {
     match wanted {
         Wanted::Best(least) => has_best(files, key, least),
+        Wanted::Newest(least) => has_best(files, key, least),
         Wanted::After(seconds) => has_after(files, key, seconds),
         Wanted::At(valid) => has_row(files, key, valid),
     }

@@ -7,13 +7,15 @@ use fm_model::Row;
 use std::alloc::Global;
 use std::marker::Model;
 
-/// The rows of a page, the least number of seconds that the valid time of one lies after its run, and whether each
-/// valid time of the page is that of one file. A clause sees the rows and the last.
+/// The rows of a page, the least number of seconds that the valid time of one lies after its run, whether each valid
+/// time of the page is that of one file, and whether the runs of the files of each rise. A clause sees all but the
+/// second.
 #[derive(Drop)]
 pub(crate) struct PageRows {
     rows: Arc<List<Row>>,
     least: i128,
     alone: bool,
+    rising: bool,
 }
 
 fn lesser(one: i128, other: i128) -> i128
@@ -40,7 +42,7 @@ impl Model for PageRows {
 
     ghost Value = { KeptRows };
 
-    ghost view = { λ page. record { rows = page.rows; alone = page.alone } };
+    ghost view = { λ page. record { rows = page.rows; alone = page.alone; rising = page.rising } };
 
     ghost invariant = { λ page. LieAfter page.least page.rows };
 }
@@ -49,14 +51,20 @@ impl PageRows {
     ghost use Rattle.std.specs.Prelude.{◌≡◌, IfOk, IsTrue, length};
     ghost use Rattle.fm_edition.specs.Least.{KeepLeast};
 
-    pub(crate) fn new(alloc: Global, rows: List<Row>, alone: bool) -> Result<PageRows, NoMemory>
-        ensures { IfOk result (λ page. page ≡ record { rows = rows; alone = alone }) }
+    pub(crate) fn new(
+        alloc: Global,
+        rows: List<Row>,
+        alone: bool,
+        rising: bool,
+    ) -> Result<PageRows, NoMemory>
+        ensures { IfOk result (λ page. page ≡ record { rows = rows; alone = alone; rising = rising }) }
     {
         let least = least_of(rows.as_slice());
         Ok(PageRows {
             rows: Arc::new(alloc, rows)?,
             least,
             alone,
+            rising,
         })
     }
 
@@ -78,6 +86,13 @@ impl PageRows {
         ensures { result ≡ self.now.alone }
     {
         self.alone
+    }
+
+    // Whether the runs of the files of each valid time of the page rise.
+    pub(crate) fn is_rising(&self) -> bool
+        ensures { result ≡ self.now.rising }
+    {
+        self.rising
     }
 
     // One more owner of the rows.

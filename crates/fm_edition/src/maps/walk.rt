@@ -9,6 +9,7 @@ use crate::maps::pages::{Page, Pages};
 use crate::maps::wanted::Wanted;
 use fm_base::{List, NoMemory};
 use fm_list::Placed;
+use fm_list::part::have_rising_runs;
 use fm_model::Row;
 use std::alloc::Global;
 
@@ -69,6 +70,18 @@ pub(crate) fn each_one(page: &Page) -> bool
 {
     for (_, files) in page {
         if !is_one(files.get().as_slice()) {
+            return false;
+        }
+    }
+    true
+}
+
+// Whether the runs of the files of each instant of a page rise.
+pub(crate) fn each_rises(page: &Page) -> bool
+    ensures { result ≡ spec.each_rises page.now.entries }
+{
+    for (_, files) in page {
+        if !have_rising_runs(files.get().as_slice()) {
             return false;
         }
     }

@@ -10,7 +10,7 @@ use row_text::{Field, File, Row};
 use std::alloc::Global;
 
 // The keys of a row beside `name` and `want`.
-const KEYS: [&str; 26] = [
+const KEYS: [&str; 28] = [
     "words",
     "word",
     "lines",
@@ -32,6 +32,8 @@ const KEYS: [&str; 26] = [
     "door fails",
     "door says",
     "link",
+    "peer",
+    "dial fails",
     "inbox",
     "inbox fails",
     "arrives",
@@ -54,8 +56,11 @@ pub struct Given {
     pub failing_files: List<u64>,
     pub failing_sink: List<u64>,
     pub failing_opener: List<u64>,
+    pub failing_dial: List<u64>,
     /// The link of the run itself, and then those of the doors.
     pub links: Vec<Linked>,
+    /// The link that the dialer gives, if it gives one.
+    pub peer: Option<Linked>,
     pub doors: Vec<Doored>,
     pub inboxes: Vec<Arriving>,
     pub clocks: Vec<List<u64>>,
@@ -72,7 +77,9 @@ impl Given {
             failing_files: List::new(alloc),
             failing_sink: List::new(alloc),
             failing_opener: List::new(alloc),
+            failing_dial: List::new(alloc),
             links,
+            peer: None,
             doors: Vec::new(alloc),
             inboxes: Vec::new(alloc),
             clocks: Vec::new(alloc),
@@ -122,6 +129,7 @@ impl Given {
             "files fail" => put_numbers(alloc, value, &mut self.failing_files),
             "sink fails" => put_numbers(alloc, value, &mut self.failing_sink),
             "opener fails" => put_numbers(alloc, value, &mut self.failing_opener),
+            "dial fails" => put_numbers(alloc, value, &mut self.failing_dial),
             _ => self.add_device(alloc, bases, field),
         }
     }
@@ -166,6 +174,7 @@ impl Given {
             ("link", "") if !self.doors.is_empty() => {
                 self.links.push(Linked::new(alloc, self.doors.len()))?
             }
+            ("peer", "") => self.peer = Some(Linked::new(alloc, 0)),
             ("inbox", "") => self.inboxes.push(Arriving::new(alloc))?,
             ("clock", "") => self.clocks.push(List::new(alloc))?,
             _ => return self.add_to_last(alloc, bases, field),
@@ -187,10 +196,23 @@ impl Given {
                 Some(clock) => put_numbers(alloc, value, clock),
                 None => Ok(false),
             },
-            _ => match self.links.last_mut() {
-                Some(link) => link.add(alloc, field),
-                None => Ok(false),
-            },
+            _ => add_to_link(alloc, &mut self.peer, &mut self.links, field),
         }
+    }
+}
+
+// Adds a field to the peer of the dialer where there is one, and else to the last link.
+fn add_to_link(
+    alloc: Global,
+    peer: &mut Option<Linked>,
+    links: &mut Vec<Linked>,
+    field: &Field<'_>,
+) -> Result<bool, NoMemory> {
+    if let Some(link) = peer {
+        return link.add(alloc, field);
+    }
+    match links.last_mut() {
+        Some(link) => link.add(alloc, field),
+        None => Ok(false),
     }
 }

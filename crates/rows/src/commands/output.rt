@@ -7,10 +7,14 @@ const ON_A_LINE: usize = 32;
 
 /// Appends the bytes of a link or a sink, so that each is determined by what is shown. A line feed ends a line, and a
 /// last line without one ends in a backslash. What comes after `Data:` and a line feed stands as words of eight
-/// hexadecimal digits, eight on a line, until `HTTP/1.1` begins the next reply. A `-` at the front of a line is `\x2d`,
-/// and a blank at the end of one `\x20`.
+/// hexadecimal digits, eight on a line, until `HTTP/1.1` begins the next reply; so does a netCDF file. A `-` at the
+/// front of a line is `\x2d`, and a blank at the end of one `\x20`.
 pub fn put_output(bytes: &[u8], out: &mut Said) {
-    let mut data = None;
+    let mut data = if bytes.starts_with(b"CDF") {
+        Some(0)
+    } else {
+        None
+    };
     for (index, byte) in bytes.iter().enumerate() {
         let (before, rest) = bytes.split_at(index);
         data = match data {

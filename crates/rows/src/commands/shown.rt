@@ -7,9 +7,10 @@ use fm_base::{Bytes, NoMemory};
 use row_text::Said;
 use std::alloc::{AllocError, Global};
 
-/// The status with the text of the sink, what was put on the link of the run, and then for each device that was opened
-/// what it was left with: the outputs of a door's links that were given back, and the verdicts of an inbox or a clock;
-/// and at last the lines of the journal, where they are to be shown.
+/// The status with the text of the sink, what was put on the link of the run, the addresses that were dialled, and what
+/// was put on the links that the dialer was given back; then for each device that was opened what it was left with: the
+/// outputs of a door's links that were given back, and the verdicts of an inbox or a clock; and at last the lines of
+/// the journal, where they are to be shown.
 pub fn left(
     alloc: Global,
     status: u8,
@@ -18,6 +19,7 @@ pub fn left(
 ) -> Result<String, NoMemory> {
     let mut out = Said::new(alloc);
     put_end(status, world, &mut out);
+    put_dialled(world, &mut out);
     put_doors(world, &mut out);
     put_verdicts(world, &mut out);
     if shows_lines {
@@ -50,6 +52,18 @@ fn put_end(status: u8, world: &MemWorld, out: &mut Said) {
 fn put_device(device: &str, number: usize, out: &mut Said) {
     out.put_number(device, number);
     out.put("\n");
+}
+
+fn put_dialled(world: &MemWorld, out: &mut Said) {
+    for address in world.dial.dialled() {
+        out.put("-- dialled ");
+        out.put_shown(address.as_slice());
+        out.put("\n");
+    }
+    for link in world.dial.given() {
+        out.put("-- given back\n");
+        put_output(link.output(), out);
+    }
 }
 
 fn put_doors(world: &MemWorld, out: &mut Said) {

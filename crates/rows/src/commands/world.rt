@@ -1,5 +1,6 @@
 //! The world in memory that a row describes.
 ghost use Rattle.std.specs.Prelude.{◌≡◌, All, IfOk};
+ghost use Rattle.std.specs.Option.{ForSome};
 ghost use Rattle.dev_traits.specs.Door.{IsFresh};
 
 use super::arriving::Arriving;
@@ -7,7 +8,8 @@ use super::doored::Doored;
 use super::given::Given;
 use super::linked::Linked;
 use dev_memory::{
-    Entry, MemClock, MemDoor, MemFiles, MemInbox, MemLink, MemOpener, MemSink, PausedLink, Pauses,
+    Entry, MemClock, MemDial, MemDoor, MemFiles, MemInbox, MemLink, MemOpener, MemSink, PausedLink,
+    Pauses,
 };
 use dev_traits::{Devices, Door, Inbox, Link, OpenGate, World};
 use fm_base::{Bytes, List, NoMemory};
@@ -222,11 +224,26 @@ fn own_link(alloc: Global, given: &Given) -> Result<MemLink, NoMemory> {
     }
 }
 
+// The link that the dialer gives, if it gives one.
+fn peer_of(alloc: Global, given: &Given) -> Result<Option<MemLink>, NoMemory>
+    ensures { IfOk result (λ found. ForSome found (λ link. IsFresh (⟦<MemLink as Link>⟧.shown link))) }
+{
+    match &given.peer {
+        Some(linked) => Ok(Some(link_of(alloc, linked)?)),
+        None => Ok(None),
+    }
+}
+
+fn dial_of(alloc: Global, given: &Given) -> Result<MemDial, NoMemory> {
+    let link = peer_of(alloc, given)?;
+    MemDial::new(alloc, link, copy_of(alloc, &given.failing_dial)?)
+}
+
 /// The world that a row describes.
 pub fn world_of(alloc: Global, given: &Given) -> Result<MemWorld, NoMemory> {
     let served = both(opener_of(alloc, given), files_of(alloc, given));
     let own = both(own_link(alloc, given), sink_of(alloc, given));
-    let ((opener, files), (link, sink)) = both(served, own)?;
+    let ((opener, files), ((link, sink), dial)) = both(served, both(own, dial_of(alloc, given)))?;
     Ok(World {
         opener,
         devices: Devices::none(alloc),
@@ -234,6 +251,7 @@ pub fn world_of(alloc: Global, given: &Given) -> Result<MemWorld, NoMemory> {
         link,
         sink,
         gate: OpenGate,
+        dial,
     })
 }
 

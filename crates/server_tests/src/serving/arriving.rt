@@ -1,4 +1,5 @@
 //! Files that arrive.
+ghost use Rattle.std.specs.Prelude.{◌≡◌};
 
 use dev_memory::Entry;
 use fm_base::{Bytes, List};
@@ -7,7 +8,9 @@ use std::alloc::Global;
 use std::process::Abort;
 
 /// A copy of some bytes.
-pub fn copy_of(rt: &impl Abort, alloc: Global, bytes: &[u8]) -> Bytes {
+pub fn copy_of(rt: &impl Abort, alloc: Global, bytes: &[u8]) -> Bytes
+    ensures { result ≡ bytes.now }
+{
     Bytes::copy_of(alloc, bytes).expect(rt, "memory")
 }
 

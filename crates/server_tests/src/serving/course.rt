@@ -1,7 +1,7 @@
 //! An inbox, a gate and a clock that act in turn: a verdict, a link, and so on, and then the moments.
 ghost use Rattle.std.specs.Prelude.{None};
 
-use dev_memory::{MemClock, MemDoor, MemFiles, MemInbox, MemLink, MemOpener, MemSink};
+use dev_memory::{MemClock, MemDial, MemDoor, MemFiles, MemInbox, MemLink, MemOpener, MemSink};
 use dev_traits::{Arrival, Clock, Expiry, Failed, Found, Gate, Inbox, Machine, Place, Verdict};
 use fm_base::{Bytes, Fail};
 use std::alloc::Global;
@@ -166,6 +166,8 @@ impl<'a> Machine for CountedOpener<'a> {
     type S = MemSink;
 
     type G = InStep<'a>;
+
+    type N = MemDial;
 
     ghost shown = { λ opener. record {
       held = None;

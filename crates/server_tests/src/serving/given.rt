@@ -5,13 +5,13 @@ ghost use Rattle.dev_traits.specs.Door.{IsFresh};
 use super::arriving::{copy_of, two_files};
 use super::texts::STRUCTURE;
 use dev_memory::{
-    MemClock, MemDoor, MemFiles, MemInbox, MemLink, MemOpener, MemSink, PausedLink, Pauses,
+    MemClock, MemDial, MemDoor, MemFiles, MemInbox, MemLink, MemOpener, MemSink, PausedLink, Pauses,
 };
 use dev_traits::{Devices, Door, Inbox, Link, Machine, OpenGate, World};
 use fm_base::{Bytes, List};
 use srv_run::run;
 use std::alloc::Global;
-use std::marker::{Send, Sync};
+use std::marker::Sync;
 use std::process::Abort;
 use std::sync::Wait;
 use std::thread::Threads;
@@ -121,13 +121,8 @@ fn sink(rt: &impl Abort, alloc: Global) -> MemSink {
 // Runs the words over devices, and says what is left.
 pub(crate) fn ran<
     R: Threads + Wait + Abort + Sync,
-    M: Machine<D = MemDoor, F = MemFiles, L = MemLink, S = MemSink> + Drop,
->(rt: &R, alloc: Global, words: &str, opener: M, link: MemLink, gate: M::G) -> Left
-where
-    M::I: Send,
-    M::C: Send,
-    M::G: Sync,
-{
+    M: Machine<D = MemDoor, F = MemFiles, L = MemLink, S = MemSink, N = MemDial> + Drop,
+>(rt: &R, alloc: Global, words: &str, opener: M, link: MemLink, gate: M::G) -> Left {
     let words = words_of(rt, alloc, words);
     let mut world = World {
         opener,
@@ -136,6 +131,7 @@ where
         link,
         sink: sink(rt, alloc),
         gate,
+        dial: MemDial::new(alloc, None, List::new(alloc)).expect(rt, "memory"),
     };
     let status = run(rt, alloc, &words, &mut world);
     Left {

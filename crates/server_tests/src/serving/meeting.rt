@@ -3,7 +3,7 @@ ghost use Rattle.std.specs.Prelude.{None};
 
 use super::course::Course;
 use super::given::{Left, asking_door, link_of, opener_of, ran};
-use dev_memory::{MemClock, MemDoor, MemFiles, MemInbox, MemLink, MemOpener, MemSink};
+use dev_memory::{MemClock, MemDial, MemDoor, MemFiles, MemInbox, MemLink, MemOpener, MemSink};
 use dev_traits::{Failed, Gate, Machine, Place};
 use fm_base::{Bytes, Fail, List};
 use std::alloc::Global;
@@ -90,6 +90,8 @@ impl<'a> Machine for MeetingOpener<'a> {
     type S = MemSink;
 
     type G = Meeting<'a>;
+
+    type N = MemDial;
 
     ghost shown = { λ opener. record {
       held = None;

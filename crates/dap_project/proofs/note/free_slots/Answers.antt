@@ -9,5 +9,5 @@ pub returns : goal.returns
 returns c =
     c.loop-part.invariant
     ∙ ap (λ (n : ℕ). replicate n Free)
-    (omega (arith, c.loop-part-test.false, c.loop-part.auto._part-end, c.part_count-part-end.ensures))
+    (omega (arith, c.loop-part-test.false, c.loop-part.auto._part-end, c.part_count-count.ensures))
     ∙ all_free (parts_of c.args.decl.now)

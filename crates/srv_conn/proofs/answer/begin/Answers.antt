@@ -1,13 +1,17 @@
 -- A reply was begun, or memory ran out.
+use Rattle.std.proofs.Common.{ap}
+use Rattle.dap_reply.specs.Collections.{Collections}
 use Rattle.srv_conn.proofs.ReplyLemmas.{reply-to}
 use Rattle.srv_conn.proofs.answer.begin.Goals as goal
 
 pub returns-in-Ok-clause-begins : goal.returns-in-Ok-clause-begins
 returns-in-Ok-clause-begins g c = record {
   sees = record { grows = c.in-Ok.ensures.later; stays = c.in-Ok.ensures.stays };
-  begun = rw c.replace.ensures.after (reply-to (g.K.Look.proto c.args.look.now) (g.K.Look.proto c.answer.new.look)
+  begun = rw c.replace.ensures.after (reply-to ((g.K.Looks.them c.args.looks.now).proto c.args.request.now.number)
+      ((g.K.Looks.them c.answer.new.looks).proto c.args.request.now.number)
       c.args.request.now.site.now c.args.session.now c.args.request.now.asked c.target.result.now c.last.result
-      c.in-Ok.plan c.in-Ok.revision c.args.request.now.revision _ _ c.in-Ok.ensures.same_proto c.requires.site
+      c.in-Ok.plan c.in-Ok.revision c.args.request.now.revision _ _
+      (ap (λ (them : Collections). them.proto c.args.request.now.number) c.in-Ok.ensures.same) c.requires.site
       c.requires.asking c.target.ensures c.last.ensures c.in-Ok.ensures.reply c.in-Ok.ensures.revision
       c.in-Ok.ensures.looked c.in-Ok.ensures.unwanted);
   leaves = tt;

@@ -1,76 +1,15 @@
--- Event by event, until none is out and the door is closed or has failed.
-use Rattle.std.proofs.Common.{◌≡◌, ◌==◌, Bool, true, refl, sym, ap, ap₂, subst, ◌∙◌, rules}
-use Rattle.std.proofs.lemmas.Bool.{eqb-true}
-use Rattle.slab.specs.Slab.{slab_len}
-use Rattle.fm_model.specs.declared.proto.Proto.{Proto}
-use Rattle.srv_conn.specs.declared.door_report.DoorReport.{DoorReport}
-use Rattle.srv_conn.specs.AtDoor.{end_of, failed_by, AtDoor, FaultsSo}
-use Rattle.srv_conn.specs.DoorTurns.{EndsDoor}
-use Rattle.srv_conn.proofs.HallLemmas.{at-end, at-next, at-start, end-empty, ends-so, faults-next, over}
+-- The door is served over one collection, of which this stays the same.
+use Rattle.std.proofs.Common.{ap}
+use Rattle.dap_reply.specs.Collections.{Collections}
+use Rattle.srv_conn.specs.DoorTurns.{ServesEach}
 use Rattle.srv_conn.proofs.door.serve_door.Goals as goal
 
-pub loop-init : goal.loop-init
-loop-init g c = (
-  search rules,
-  search rules,
-  at-start (g.D.Door.shown c.args.door.now).held _ c.new-hall.result c.new-hall.ensures.links
-      c.new-hall.ensures.counts.0 c.new-hall.ensures.counts.1,
-  refl,
-  refl,
-  refl,
-)
+pub returns-clause-serves : goal.returns-clause-serves
+unfolding ServesEach
+returns-clause-serves g c = c.serve_door_looks.ensures.serves
 
-pub serve_next-next-requires-clause-at : goal.serve_next-next-requires-clause-at
-serve_next-next-requires-clause-at g c = λ _ _. record {
-  door = (g.D.Door.shown c.args.door.now).held;
-  sight = _;
-  at = over (λ (p : Proto) (s : Bool). AtDoor g.D.L.Link.shown p s (g.D.Door.shown c.args.door.now).held
-      (g.D.Door.shown c.loop.door).held
-      (record { seen = g.K.Look.log c.args.look.now; looks = g.K.Look.looks c.args.look.now })
-      (record { seen = g.K.Look.log c.loop.look; looks = g.K.Look.looks c.loop.look }) c.loop.hall)
-      (sym c.loop.invariant.4) (sym c.loop.invariant.5) c.loop.invariant.2;
-}
+pub returns-clause-same_proto : goal.returns-clause-same_proto
+returns-clause-same_proto g c = ap (λ (them : Collections). them.proto 0) c.serve_door_looks.ensures.same
 
-pub loop-preserved : goal.loop-preserved
-loop-preserved g c = (
-  search rules,
-  search rules,
-  at-next c.loop.invariant.4 c.loop.invariant.5
-      (c.serve_next-next.ensures.at (g.D.Door.shown c.args.door.now).held
-      (record { seen = g.K.Look.log c.args.look.now; looks = g.K.Look.looks c.args.look.now })) c.loop.invariant.2,
-  subst (λ (b : Bool). FaultsSo b (g.D.Door.shown c.args.door.now).faults
-      (g.D.Door.shown c.serve_next-next.new.door).faults) (sym c.failed_by-has_failed.ensures)
-      (faults-next c.loop.has_failed c.serve_next-next.result (g.D.Door.shown c.args.door.now).faults
-      (g.D.Door.shown c.loop.door).faults (g.D.Door.shown c.serve_next-next.new.door).faults c.loop.invariant.3
-      c.serve_next-next.ensures.faults),
-  c.serve_next-next.ensures.same_proto ∙ c.loop.invariant.4,
-  c.serve_next-next.ensures.same_still ∙ c.loop.invariant.5,
-)
-
-pub returns-in-Some-end_of-clause-serves : goal.returns-in-Some-end_of-clause-serves
-returns-in-Some-end_of-clause-serves g c =
-    let none : (slab_len c.serve_next-next.new.hall.links == 0) ≡ true = sym c.is_empty.ensures
-    ∙ end-empty _ c.serve_next-next.result c.is_empty.result c.in-Some-end_of.end (sym c.in-Some-end_of.ensures) in
-    at-end (g.D.Door.shown c.args.door.now).held (g.D.Door.shown c.serve_next-next.new.door).held _ _
-    c.serve_next-next.new.hall _ _
-    (at-next c.loop.invariant.4 c.loop.invariant.5
-    (c.serve_next-next.ensures.at (g.D.Door.shown c.args.door.now).held
-    (record { seen = g.K.Look.log c.args.look.now; looks = g.K.Look.looks c.args.look.now })) c.loop.invariant.2)
-    (eqb-true (slab_len c.serve_next-next.new.hall.links) 0 none)
-    (ap (λ (r : DoorReport). r.served) c.report-report.ensures)
-    (ap (λ (r : DoorReport). r.short) c.report-report.ensures)
-
-pub returns-in-Some-end_of-clause-end : goal.returns-in-Some-end_of-clause-end
-returns-in-Some-end_of-clause-end g c =
-    let is_empty : c.is_empty.result ≡ true =
-    end-empty _ c.serve_next-next.result c.is_empty.result c.in-Some-end_of.end (sym c.in-Some-end_of.ensures) in
-    subst (EndsDoor (g.D.Door.shown c.args.door.now) (g.D.Door.shown c.serve_next-next.new.door))
-    (sym (ap (λ (r : DoorReport). r.end) c.report-report.ensures))
-    (ends-so (g.D.Door.shown c.args.door.now) (g.D.Door.shown c.serve_next-next.new.door)
-    (failed_by c.loop.has_failed c.serve_next-next.result) c.serve_next-next.result c.in-Some-end_of.end
-    (ap₂ (λ (b e : Bool). end_of b c.serve_next-next.result e) (sym c.failed_by-has_failed.ensures) (sym is_empty)
-    ∙ sym c.in-Some-end_of.ensures)
-    (faults-next c.loop.has_failed c.serve_next-next.result (g.D.Door.shown c.args.door.now).faults
-    (g.D.Door.shown c.loop.door).faults (g.D.Door.shown c.serve_next-next.new.door).faults c.loop.invariant.3
-    c.serve_next-next.ensures.faults)
-    c.serve_next-next.ensures.closed)
+pub returns-clause-same_still : goal.returns-clause-same_still
+returns-clause-same_still g c = ap (λ (them : Collections). them.still 0) c.serve_door_looks.ensures.same

@@ -12,14 +12,14 @@ admit-requires-clause-fresh g c = λ _ _. c.requires.coming.unused
 pub proceed-requires-clause-ready : goal.proceed-requires-clause-ready
 proceed-requires-clause-ready g c = λ _ _.
     let come = c.requires.coming in
-    at-ready (c.in-Some.ensures.at come.first come.before come.sight come.at come.next come.came)
+    at-ready (c.in-Some.ensures.at come.first come.before come.views come.at come.next come.came)
 
 pub proceed-requires-clause-out : goal.proceed-requires-clause-out
 proceed-requires-clause-out g c = λ _ _ there.
     let come = c.requires.coming in
-    at-out c.in-Some.key (c.in-Some.ensures.at come.first come.before come.sight come.at come.next come.came) there
+    at-out c.in-Some.key (c.in-Some.ensures.at come.first come.before come.views come.at come.next come.came) there
 
 pub returns-in-Some-clause-at : goal.returns-in-Some-clause-at
-returns-in-Some-clause-at g c = λ first before sight at next came.
-    at-next c.in-Some.ensures.same_proto c.in-Some.ensures.same_still (c.proceed.ensures.at first sight)
-    (c.in-Some.ensures.at first before sight at next came)
+returns-in-Some-clause-at g c = λ first before views at next came.
+    at-next c.in-Some.ensures.same (c.proceed.ensures.at first views)
+    (c.in-Some.ensures.at first before views at next came)

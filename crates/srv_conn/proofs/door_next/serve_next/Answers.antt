@@ -7,7 +7,7 @@ pub receive-requires-clause-coming : goal.receive-requires-clause-coming
 receive-requires-clause-coming g c = λ _ _. record {
   first = c.requires.at.door;
   before = (g.D.Door.shown c.args.door.now).held;
-  sight = c.requires.at.sight;
+  views = c.requires.at.views;
   at = c.requires.at.at;
   next = came-next _ c.in-Ok-Came.field-0-is c.in-Ok-Came.ensures.next;
   came = came-after _ _ c.in-Ok-Came.field-0-is c.in-Ok-Came.ensures.came;
@@ -15,8 +15,8 @@ receive-requires-clause-coming g c = λ _ _. record {
 }
 
 pub returns-in-Ok-Came-clause-at : goal.returns-in-Ok-Came-clause-at
-returns-in-Ok-Came-clause-at g c = λ first sight at.
-    c.receive.ensures.at first (g.D.Door.shown c.args.door.now).held sight at
+returns-in-Ok-Came-clause-at g c = λ first views at.
+    c.receive.ensures.at first (g.D.Door.shown c.args.door.now).held views at
     (came-next _ c.in-Ok-Came.field-0-is c.in-Ok-Came.ensures.next)
     (came-after _ _ c.in-Ok-Came.field-0-is c.in-Ok-Came.ensures.came)
 
@@ -28,11 +28,11 @@ proceed-requires-clause-out g c = λ _ _ there.
     out-same c.in-Ok-Ready.key (ready-held c.in-Ok-Ready.field-0-is c.in-Ok-Ready.ensures.came) c.requires.at.at there
 
 pub returns-in-Ok-Ready-clause-at : goal.returns-in-Ok-Ready-clause-at
-returns-in-Ok-Ready-clause-at g c = λ first sight at.
-    c.proceed.ensures.at first sight (at-same (ready-held c.in-Ok-Ready.field-0-is c.in-Ok-Ready.ensures.came) at)
+returns-in-Ok-Ready-clause-at g c = λ first views at.
+    c.proceed.ensures.at first views (at-same (ready-held c.in-Ok-Ready.field-0-is c.in-Ok-Ready.ensures.came) at)
 
 pub returns-in-Ok-Closed-clause-at : goal.returns-in-Ok-Closed-clause-at
-returns-in-Ok-Closed-clause-at g c = λ first sight at.
+returns-in-Ok-Closed-clause-at g c = λ first views at.
     at-same (closed-held c.in-Ok-Closed.field-0-is c.in-Ok-Closed.ensures.came) at
 
 pub returns-in-Ok-Closed-clause-closed : goal.returns-in-Ok-Closed-clause-closed
@@ -41,4 +41,4 @@ returns-in-Ok-Closed-clause-closed g c = λ _.
     c.in-Ok-Closed.ensures.next c.in-Ok-Closed.ensures.came
 
 pub returns-in-Err-clause-at : goal.returns-in-Err-clause-at
-returns-in-Err-clause-at g c = λ first sight at. at-same c.in-Err.ensures.err at
+returns-in-Err-clause-at g c = λ first views at. at-same c.in-Err.ensures.err at

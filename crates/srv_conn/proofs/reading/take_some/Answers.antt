@@ -8,7 +8,7 @@ use Rattle.web_session.specs.declared.phase.Phase.TheVariants.{Ended}
 use Rattle.web_session.specs.State.{end_of_input, State}
 use Rattle.dap_reply.specs.Served.{held_bytes}
 use Rattle.srv_conn.proofs.EventLemmas.{fault-ends, input-ends}
-use Rattle.srv_conn.proofs.MovedLemmas.{over-given, same-given}
+use Rattle.dev_traits.proofs.MovedLemmas.{over-given, same-given}
 use Rattle.srv_conn.proofs.ReadLemmas.{closes-input, takes-given}
 use Rattle.srv_conn.proofs.SessionLemmas.{reads-waiting}
 use Rattle.srv_conn.proofs.reading.take_some.Goals as goal

@@ -4,7 +4,7 @@ use Rattle.dap_reply.specs.declared.served.Mark.{Mark}
 use Rattle.dap_reply.specs.declared.served.Stop.TheVariants as stops
 use Rattle.srv_conn.specs.declared.acting.Acted.TheVariants as acts
 use Rattle.srv_conn.specs.Acts.{stand, Stand}
-use Rattle.srv_conn.specs.Serves.{moment_of, Serves}
+use Rattle.srv_conn.specs.ServesMany.{point_of, ServesMany}
 use Rattle.srv_conn.specs.SoFar.{SoFar}
 use Rattle.srv_conn.proofs.ActLemmas.{ends-in, goes-in}
 use Rattle.srv_conn.proofs.SendingLemmas.{left-less, sending-other, still-sends}
@@ -15,7 +15,7 @@ pub sends-init : goal.sends-init
 sends-init g c = record {
   ready = c.requires.ready;
   sends = c.requires.sends;
-  so_far = λ proto still start seen looks most s. s;
+  so_far = λ them start views most s. s;
   marks = λ front one. one;
   leaves = λ leaves. leaves;
 }
@@ -45,9 +45,9 @@ sends-preserved g c =
           (λ asked same. no-question c.sends.doing before after c.act_noted.result asked c.sends.invariant.sends
           c.act_noted.ensures.acts same)
           (c.act_noted.ensures.at_once c.requires.blocks));
-      so_far = λ proto still start seen looks most s.
-          goes-in proto still start most c.sends.doing before after seen looks c.sends.trail c.act_noted.new.trail
-          c.act_noted.result (c.sends.invariant.so_far proto still start seen looks most s) c.act_noted.ensures.acts
+      so_far = λ them start views most s.
+          goes-in them start most c.sends.doing before after views c.sends.trail c.act_noted.new.trail
+          c.act_noted.result (c.sends.invariant.so_far them start views most s) c.act_noted.ensures.acts
           c.act_noted.ensures.notes goes;
       marks = λ front one. notes-one front c.sends.trail c.act_noted.new.trail c.act_noted.result
           (c.sends.invariant.marks front one) c.act_noted.ensures.notes;
@@ -56,13 +56,13 @@ sends-preserved g c =
     }
 
 pub returns-in-Finished-clause-follows : goal.returns-in-Finished-clause-follows
-returns-in-Finished-clause-follows g c = λ proto still start seen looks most s.
+returns-in-Finished-clause-follows g c = λ them start views most s.
     let before : Stand = stand (g.L.Link.shown c.sends.link) c.sends.session c.sends.doing in
     let after : Stand = stand (g.L.Link.shown c.act_noted.new.link) c.act_noted.new.session c.act_noted.new.doing in
-    subst (SoFar proto still start (moment_of after.link seen looks after.session c.act_noted.new.trail) most)
+    subst (SoFar them start (point_of after.link views after.session c.act_noted.new.trail) most)
     (finished-reads c.sends.doing before after c.in-Finished.ensures.acts)
-    (goes-in proto still start most c.sends.doing before after seen looks c.sends.trail c.act_noted.new.trail
-    acts.Finished (c.sends.invariant.so_far proto still start seen looks most s) c.in-Finished.ensures.acts
+    (goes-in them start most c.sends.doing before after views c.sends.trail c.act_noted.new.trail
+    acts.Finished (c.sends.invariant.so_far them start views most s) c.in-Finished.ensures.acts
     c.in-Finished.ensures.notes tt)
 
 pub returns-in-Finished-clause-marks : goal.returns-in-Finished-clause-marks
@@ -77,13 +77,13 @@ returns-in-Finished-clause-replied g c = λ leaves none.
     c.in-Finished.ensures.acts (c.sends.invariant.leaves leaves)
 
 pub returns-in-Ended-clause-follows : goal.returns-in-Ended-clause-follows
-returns-in-Ended-clause-follows g c = λ proto still start seen looks most s.
+returns-in-Ended-clause-follows g c = λ them start views most s.
     let before : Stand = stand (g.L.Link.shown c.sends.link) c.sends.session c.sends.doing in
     let after : Stand = stand (g.L.Link.shown c.act_noted.new.link) c.act_noted.new.session c.act_noted.new.doing in
-    subst (λ (marks : List Mark). Serves proto still start (moment_of after.link seen looks after.session marks) most
+    subst (λ (marks : List Mark). ServesMany them start (point_of after.link views after.session marks) most
     (stops.Ended c.in-Ended.end)) (sym c.in-Ended.ensures.notes)
-    (ends-in c.sends.doing before after seen looks c.sends.trail c.in-Ended.end
-    (c.sends.invariant.so_far proto still start seen looks most s) (λ reads. absurd (c.sends.invariant.sends reads))
+    (ends-in c.sends.doing before after views c.sends.trail c.in-Ended.end
+    (c.sends.invariant.so_far them start views most s) (λ reads. absurd (c.sends.invariant.sends reads))
     c.in-Ended.ensures.acts)
 
 pub returns-in-Ended-clause-marks : goal.returns-in-Ended-clause-marks

@@ -13,9 +13,10 @@ finish-end-requires-clause-sends g c =
 pub returns-clause-follows : goal.returns-clause-follows
 returns-clause-follows g c = λ start most asks.
     reply-follows _ _ c.begin_marked-begun.new.trail c.finish-end.new.trail _ c.begin_marked-begun.result start most
-    asks c.requires.revision c.begin_marked-begun.ensures.begins c.begin_marked-begun.ensures.marked
+    asks c.requires.choice c.requires.revision c.begin_marked-begun.ensures.begins
+    c.begin_marked-begun.ensures.others c.begin_marked-begun.ensures.marked
     c.begin_marked-begun.ensures.unmarked
-    (c.finish-end.ensures.follows (g.K.Look.proto c.args.look.now) (g.K.Look.still c.args.look.now) start)
+    (c.finish-end.ensures.follows (g.K.Looks.them c.args.looks.now) start)
 
 pub returns-clause-longer : goal.returns-clause-longer
 returns-clause-longer g c = λ none.

@@ -48,6 +48,6 @@ returns-clause-run g c =
       opened = g.M.Machine.shown c.open_devices.new.opener;
       told = told;
       opens = c.open_devices.ensures.opens;
-      all = AreAllOpened-told _ _ _ _ _ c.in_ok-open_devices.ensures.all told;
+      all = AreAllOpened-told c.in_ok-open_devices.ensures.all told;
       ran = search (rules, c.in_ok-outcome.ensures);
     }

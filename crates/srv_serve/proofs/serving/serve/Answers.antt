@@ -15,6 +15,7 @@ returns-in-Ok-run_in_threads g c = record {
     });
   });
   unused = refl;
+  undialled = refl;
 }
 
 pub returns : goal.returns
@@ -29,4 +30,5 @@ returns g c = record {
     });
   });
   unused = refl;
+  undialled = refl;
 }

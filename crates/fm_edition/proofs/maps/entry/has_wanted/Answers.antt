@@ -23,6 +23,12 @@ returns-in-Best c =
     subst (λ (w : Wanted). c.has_best.result ≡ is_some (entry_row w (c.args.key, c.args.files.now))) (sym c.in-Best.is)
     (simp to_z-of_z at c.has_best.ensures)
 
+pub returns-in-Newest : goal.returns-in-Newest
+returns-in-Newest c =
+    let a : SFits w64 c.args.key = search rules in
+    subst (λ (w : Wanted). c.has_best-in-Newest.result ≡ is_some (entry_row w (c.args.key, c.args.files.now)))
+    (sym c.in-Newest.is) (simp to_z-of_z at c.has_best-in-Newest.ensures)
+
 pub returns-in-After : goal.returns-in-After
 returns-in-After c =
     let a : SFits w64 c.args.key = search rules in

@@ -15,5 +15,9 @@ invariant_of-result c =
 
 pub returns : goal.returns
 returns c =
-    let kept : List Row → KeptRows = λ rows. record { rows = rows; alone = c.args.alone } in
+    let kept : List Row → KeptRows = λ rows. record {
+      rows = rows;
+      alone = c.args.alone;
+      rising = c.args.rising;
+    } in
     ap kept c.in_ok-new.ensures

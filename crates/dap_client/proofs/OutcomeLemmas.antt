@@ -1,0 +1,132 @@
+-- What a pulled reply comes to.
+use Rattle.std.proofs.Common.{◌≡◌, ℕ, ◌+◌, ◌-◌, ◌<◌, ◌≤◌, min, Bool, true, false, cond, nat_lt, List, [], ◌++◌, length, take, drop, Option, Some, None, IfSome, Result, Ok, Err, inl, inr, refl, sym, ap, subst, ◌∙◌, length-append, arith}
+use Rattle.std.proofs.lemmas.Bool.{cases_lt, le-ltb, lt-ltb}
+use Rattle.std.proofs.lemmas.List.{length-drop, length-take}
+use Rattle.fm_base.specs.Chain.{fault_as, ◌>>=◌}
+use Rattle.dev_traits.specs.Link.{Wire}
+use Rattle.dev_traits.specs.Moved.{AreNext, IsOver, moved}
+use Rattle.dev_traits.proofs.MovedLemmas.{moved-more, next-more}
+use Rattle.dap_client.specs.declared.fault.ClientFault.{ClientFault}
+use Rattle.dap_client.specs.declared.fault.ClientFault.TheVariants.{BadData, ReplyEnded}
+use Rattle.dap_client.specs.declared.fault.PullEnd.{PullEnd}
+use Rattle.dap_client.specs.declared.fault.PullEnd.TheVariants as ends
+use Rattle.dap_client.specs.declared.head.HeadEnd.TheVariants as heads
+use Rattle.dap_client.specs.declared.message.Message.{Message}
+use Rattle.dap_client.specs.DataReading.{message_or_fault}
+use Rattle.dap_client.specs.Length.{IsLenAfter}
+use Rattle.dap_client.specs.Pull.{Gathers, IfPulled, IsHeadOf, IsOfLink, IsReadBehind, Pulls, said_of}
+use Rattle.dap_client.specs.Reply.{IsHeadIn, Says, body_taken, len_after, said_behind, said_by}
+
+-- an end of the link is no outcome
+pub unpulled : (end : PullEnd) (P : Result Message ClientFault → Type 0) → IsOfLink end → IfPulled (Err end) P
+unpulled ends.NoMemory P is = tt
+unpulled ends.LinkFault P is = tt
+unpulled (ends.Fault fault) P is = absurd is
+
+-- what is said of an outcome in other words
+pub pulled_as : (r : Result Message PullEnd) (P Q : Result Message ClientFault → Type 0)
+    → ((outcome : Result Message ClientFault) → P outcome → Q outcome) → IfPulled r P → IfPulled r Q
+pulled_as (Ok message) P Q to said = to (Ok message) said
+pulled_as (Err ends.NoMemory) P Q to said = tt
+pulled_as (Err ends.LinkFault) P Q to said = tt
+pulled_as (Err (ends.Fault fault)) P Q to said = to (Err fault) said
+
+-- as much of a body as there is, and what it says
+record IsBodyIn (rest : List ℕ) (n len : ℕ) (body : List ℕ) (outcome : Result Message ClientFault) : Type 0 where
+  count : length body ≡ min len (length rest)
+  says : outcome ≡ said_by (n + length rest) rest len
+
+body_in : (rest : List ℕ) (n len : ℕ) (body : List ℕ) (outcome : Result Message ClientFault)
+    → take (length body) rest ≡ body → length body ≤ len
+    → (length body < len → drop (length body) rest ≡ []) → outcome ≡ said_of n len body
+    → IsBodyIn rest n len body outcome
+unfolding said_by
+body_in rest n len body outcome front most short said =
+    let front_len = ap length front in
+    let taken = length-take (length body) rest in
+    elim (cases_lt (length body) len) [
+      | inl below ↦
+          let none = ap length (short below) in
+          let same : length rest ≡ length body =
+          omega (arith, none, length-drop (length body) rest, front_len, taken) in
+          let early : nat_lt (length rest) len ≡ true = lt-ltb (length rest) len (omega (arith, same, below)) in
+          let first : outcome ≡ Err (ReplyEnded (n + length body)) =
+          said ∙ ap (λ (b : Bool). cond b (Err (ReplyEnded (n + length body)))
+          (fault_as BadData (message_or_fault body))) (lt-ltb (length body) len below) in
+          let last : Err (ReplyEnded (n + length rest)) ≡ said_by (n + length rest) rest len =
+          sym (ap (λ (b : Bool). cond b (Err (ReplyEnded (n + length rest)))
+          (fault_as BadData (message_or_fault (take len rest)))) early) in
+          record {
+            count = omega (arith, same, below);
+            says = first ∙ ap (λ (k : ℕ). Err (ReplyEnded (n + k))) (sym same) ∙ last;
+          }
+      | inr all ↦
+          let same : length body ≡ len = omega (arith, all, most) in
+          let enough : nat_lt (length rest) len ≡ false =
+          le-ltb (length rest) len (omega (arith, same, front_len, taken)) in
+          let first : outcome ≡ fault_as BadData (message_or_fault body) =
+          said ∙ ap (λ (b : Bool). cond b (Err (ReplyEnded (n + length body)))
+          (fault_as BadData (message_or_fault body))) (le-ltb (length body) len all) in
+          let whole : body ≡ take len rest = sym front ∙ ap (λ (k : ℕ). take k rest) same in
+          let last : fault_as BadData (message_or_fault (take len rest)) ≡ said_by (n + length rest) rest len =
+          sym (ap (λ (b : Bool). cond b (Err (ReplyEnded (n + length rest)))
+          (fault_as BadData (message_or_fault (take len rest)))) enough) in
+          record {
+            count = omega (arith, same, front_len, taken);
+            says = first ∙ ap (λ (l : List ℕ). fault_as BadData (message_or_fault l)) whole ∙ last;
+          }
+    ]
+
+-- what the input says behind a whole head
+says-behind : (w : Wire) (head : List ℕ) (len : ℕ) (body : List ℕ) (outcome : Result Message ClientFault)
+    → take (length head) w.left ≡ head → IsHeadOf head heads.Whole w.left → IsLenAfter head (Ok len)
+    → IsBodyIn (drop (length head) w.left) (length head) len body outcome
+    → Says w.left (length (head ++ body)) outcome
+says-behind w head len body outcome front ends after in_body =
+    let n = length head in
+    let rest = drop n w.left in
+    let whole : n + length rest ≡ length w.left = omega (arith, ends.0.within, length-drop n w.left) in
+    let left : length rest ≡ length w.left - n = length-drop n w.left in
+    let taken : body_taken (length w.left - n) (Ok len) ≡ body_taken (length w.left - n) (len_after after.head) =
+    ap (body_taken (length w.left - n)) after.len_is in
+    let said : said_by (length w.left) rest len ≡ said_behind w.left n after.head =
+    ap (λ (r : Result ℕ ClientFault). r >>= said_by (length w.left) rest) after.len_is in
+    inr (inr (record {
+      n = n;
+      few = ends.1;
+      ends = ends.0;
+      head = after.head;
+      head_is = subst (λ (l : List ℕ). IsHeadIn l after.head) (sym front) after.head_is;
+      count_is = length-append head body ∙ ap (λ (k : ℕ). n + k)
+          (in_body.count ∙ ap (λ (k : ℕ). min len k) left ∙ taken);
+      outcome_is = in_body.says ∙ ap (λ (k : ℕ). said_by k rest len) whole ∙ said;
+    }))
+
+-- a whole head was taken, and then a body as far as there is one
+pub pulls-behind : (held mid now : Option Wire) (head : List ℕ) (count len : ℕ) → count ≡ length head
+    → Gathers held mid [] head → IfSome held (λ wire. IsHeadOf head heads.Whole wire.left) → IsLenAfter head (Ok len)
+    → (outcome : Result Message ClientFault) → IsReadBehind count len mid now outcome → Pulls [] held now outcome
+pulls-behind held mid now head count len count_is taken ends after outcome read =
+    let own : taken.bytes ≡ head = sym taken.grown in
+    let next : AreNext head held = subst (λ (l : List ℕ). AreNext l held) own taken.taken.next in
+    let mid_is : mid ≡ moved head [] held =
+    taken.taken.now_is ∙ ap (λ (l : List ℕ). moved l [] held) own in
+    let body_next : AreNext read.body (moved head [] held) = subst (AreNext read.body) mid_is read.taken.next in
+    let now_is : now ≡ moved read.body [] (moved head [] held) =
+    read.taken.now_is ∙ ap (moved read.body []) mid_is in
+    record {
+      taken = head ++ read.body;
+      next = next-more head read.body [] held next body_next;
+      now_is = now_is ∙ moved-more head read.body [] held;
+      says = by_held held next body_next ends (λ below. subst IsOver now_is (read.short below));
+    }
+  where
+    by_held : (held : Option Wire) → AreNext head held → AreNext read.body (moved head [] held)
+        → IfSome held (λ wire. IsHeadOf head heads.Whole wire.left)
+        → (length read.body < len → IsOver (moved read.body [] (moved head [] held)))
+        → IfSome held (λ wire. Says wire.left (length (head ++ read.body)) outcome)
+    by_held None next body_next ends short = tt
+    by_held (Some w) next body_next ends short =
+        says-behind w head len read.body outcome next ends after
+        (body_in (drop (length head) w.left) (length head) len read.body outcome body_next read.most short
+        (read.outcome_is ∙ ap (λ (k : ℕ). said_of k len read.body) count_is))

@@ -1,0 +1,9 @@
+pub use Rattle.fm_base.specs.Answer
+pub mod Code
+pub mod DataReading
+pub mod Length
+pub mod Message
+pub mod Pull
+pub mod Reading
+pub mod Reply
+pub mod TextReading

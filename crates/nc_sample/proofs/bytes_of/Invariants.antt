@@ -1,6 +1,0 @@
-use Rattle.std.proofs.Common.{◌≡◌, take}
-use Rattle.nc_sample.specs.Words.{bytes_of}
-use Rattle.nc_sample.proofs.bytes_of.Given as goal
-
-abbrev pub invariant-loop-word : goal.invariant-loop-word
-invariant-loop-word l = l.bytes ≡ bytes_of (take l.word-index l.words)

@@ -1,0 +1,9 @@
+pub mod Attributes
+pub mod Code
+pub mod Data
+pub mod Dims
+pub mod Facts
+pub mod File
+pub mod Header
+pub mod ReadBack
+pub mod Variables

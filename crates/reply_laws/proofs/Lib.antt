@@ -1,0 +1,15 @@
+pub mod AskedLemmas
+pub mod ByteLemmas
+pub mod ColumnLemmas
+pub mod CutLemmas
+pub mod DeclLemmas
+pub mod KeptLemmas
+pub mod LabelLemmas
+pub mod MessageLemmas
+pub mod NameLemmas
+pub mod SentLemmas
+pub mod ShapeLemmas
+pub mod SomeLemmas
+pub mod TargetLemmas
+pub mod TextLemmas
+pub mod WholeLemmas

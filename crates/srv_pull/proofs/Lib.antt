@@ -1,0 +1,2 @@
+pub mod BlameLemmas
+pub mod SumsLemmas

@@ -1,0 +1,4 @@
+pub mod ExtractLemmas
+pub mod PickLemmas
+pub mod SendingLemmas
+pub mod ViewLemmas

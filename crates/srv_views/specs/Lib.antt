@@ -1,0 +1,3 @@
+pub mod Extract
+pub mod Sending
+pub mod Views

@@ -1,0 +1,17 @@
+-- The options of a collection, those of the view, and then the steps.
+use Rattle.std.proofs.Common.{◌∙◌, true, false, List, ap, codes}
+use Rattle.clap.specs.Walk.{Rule}
+use Rattle.clap.specs.declared.builder.action.ArgAction.TheVariants.{Append}
+use Rattle.srv_words.specs.Command.{one_more, option, with_arguments, word}
+use Rattle.srv_words.proofs.CommandLemmas.{done_as}
+use Rattle.srv_words.proofs.arguments.Arguments.put_twod.Goals as goal
+
+pub returns : goal.returns
+unfolding with_arguments
+returns c =
+    let service = c.in_ok-put_option.ensures
+    ∙ ap (λ (rules : List Rule). one_more rules (option (codes "service") true)) c.in_ok-put_site.ensures in
+    let ask = c.in_ok-put_option-2.ensures
+    ∙ ap (λ (rules : List Rule). one_more rules (option (codes "ask") false)) service in
+    done_as c.put_word.result _ (ap (λ (rules : List Rule). one_more rules (word (codes "STEP") Append)) ask)
+    c.put_word.ensures
