@@ -37,7 +37,23 @@ put() {
     mv spool/part "spool/$1"
 }
 
+# Waits until a file lies in the inbox under its own name, and says how long it is then.
+length_of() {
+    python3 -c 'import os, sys, time
+until = time.monotonic() + 20
+while time.monotonic() < until:
+    try:
+        sys.exit(print(os.stat(sys.argv[1]).st_size))
+    except FileNotFoundError:
+        time.sleep(0.0005)' "inbox/$1"
+}
+
 start
+truncate -s 256M spool/part
+mv spool/part spool/large.nc
+large=$(length_of large.nc)
+[ "$large" = 268435456 ] || { echo "a large file has '$large' bytes when it comes"; exit 1; }
+rm inbox/* spool/large.nc
 put $name first "2024-01-01 01:00:00.1"
 put other.nc other "2024-01-01 01:00:00"
 put notes.txt notes "2024-01-01 01:00:00"
