@@ -27,8 +27,8 @@ BETWEEN, PAUSE = 0.5, 0.05
 ANSWERED, SETTLED = 3.0, 30.0
 # For how many seconds a server is cut off from the spool, and a length in which all servers come to reply again.
 CUT, LONG_ENOUGH = 20.0, 100.0
-# For how many seconds a server is silent, and then all are. For so many that isn't known, and a request then takes so
-# long at most.
+# For how many seconds a server is silent, and then all are; for how many that isn't known; and how many a request then
+# takes at most.
 SILENT, ALL_SILENT, UNKNOWN, GIVEN_UP = 10.0, 2.0, 2.0, 12.0
 # What clients ask, each as likely as it stands here.
 ASKED = ["runs", "runs", "runs", "structure", "structure", "values"]

@@ -14,7 +14,7 @@ TARGETS = {"runs": BEST + b".dods?time,time_run", "structure": BEST + b".dds?tim
 
 
 def shift_of(number):
-    """The shift of the file of a run that comes after so many others of it."""
+    """The shift of the file of a run that comes after this number of others of it."""
     return FIRSTS * (number % LENGTHS) + number % FIRSTS
 
 
@@ -50,7 +50,7 @@ class Life(Log):
         return self.begin <= last and (self.over is None or first <= self.over)
 
     def published(self, run, brought, times):
-        """The file that has so many times, the latest of them."""
+        """The latest of the files that have this number of times."""
         for shift in reversed(brought):
             if TIMES + shift // FIRSTS == times:
                 self.times.setdefault((run, shift), time.monotonic())

@@ -118,7 +118,7 @@ class Machine:
         return self.lives[-1]
 
     def start(self, back=0):
-        """Starts the server over so many files that were brought back, and follows its lines."""
+        """Starts the server over this number of files that were brought back, and follows its lines."""
         options = ["--workers", "4", "--keep", str(KEEP)]
         life = Life(self.spool.brought, self.wrong, back)
         self.lives.append(life)

@@ -9,7 +9,8 @@ import time
 from classic import EPOCH, FLOAT, Classic, Variable, axis
 from serve_replies import name_of
 
-# A file has at least so many times, so many seconds apart, and begins with one of the first ones after its run.
+# The least number of times of a file, the seconds from one to the next, and with how many of the first ones after its
+# run it may begin.
 TIMES, STEP, FIRSTS = 8, 60, 6
 SIDE = 32
 DIMENSIONS, VARIABLES = [("time", 0), ("y", SIDE), ("x", SIDE)], [axis(), Variable("v", FLOAT, [0, 1, 2])]
@@ -160,7 +161,7 @@ class Log:
             self.compare(revision, reply)
 
     def published(self, _run, brought, _times):
-        """The shift of the file that was published, which has so many times."""
+        """The shift of the file that was published, which has this number of times."""
         return brought
 
     def saw(self, revision, reply):
