@@ -35,10 +35,11 @@ demo:
 	@echo; echo "A check of a file:"
 	@cd $(SERVER) && $(TRY) check $(FIRST)
 
-# Proves the program and links it as $(SERVER)/out/fmrcd.
+# Proves the program and links it as $(SERVER)/out/fmrcd. It is the gate that does so: `rt run` would prove all crates in
+# one process, one after the other, and takes 7 GB of memory.
 build:
 	@command -v rt > /dev/null || { echo "The toolchain rt isn't here: see README.md, What is trusted" >&2; exit 2; }
-	cd $(SERVER) && rt run -- once --name gfs --proto data/$(FIRST) put:data/$(FIRST) ask:1 < stdin
+	.ci/run
 	@echo "The proved program is $(SERVER)/out/fmrcd."
 
 # Every test and row, compiled with checks and not proved, and the page on safety.

@@ -102,7 +102,7 @@ TIME = Variable("time", INT, [0], [SINCE_2020])
 
 
 def of_600_variables(records):
-    """The names of 597 variables over records and a grid of one place, and the form of a file of them and three axes."""
+    """The names of 597 variables over records and a grid of one place, and the form of a file of them and of axes."""
     names = ["v%d" % number for number in range(597)]
     variables = [TIME, Variable("y", FLOAT, [1]), Variable("x", FLOAT, [2])]
     variables += [Variable(name, FLOAT, [0, 1, 2]) for name in names]

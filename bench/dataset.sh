@@ -1,14 +1,14 @@
 #!/bin/sh
-# Shows how long the best time series of a collection of 64 files of 4,096 times takes, which are 262,144 rows: to list its
-# rows, and to build the dataset of these rows, which may take a millisecond.
+# Shows how long the best time series of a collection of 64 files of 4,096 times takes, which are 262,144 rows: to list
+# its rows, and to build the dataset of these rows, which may take a millisecond.
 # Use: bench/dataset.sh.
 set -eu
 . "$(dirname "$0")/common.sh"
 make_folder
 "$top/bench/crates.sh" "$folder" build_dataset fm_dataset fm_views fm_views fm_sample
 cat > "$folder/crates/build_dataset/src/main.rt" << 'PROGRAM'
-//! `PROGRAM PROTO FILE..` makes an edition of files over a prototype, and says how many rows and declarations its best time
-//! series has, and how many microseconds its rows took to list, and its dataset to build from them.
+//! `PROGRAM PROTO FILE..` makes an edition of files over a prototype, and says how many rows and declarations its best
+//! time series has, and how many microseconds its rows took to list, and its dataset to build from them.
 #![tactic(auto)]
 
 use fm_base::Bytes;

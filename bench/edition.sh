@@ -49,7 +49,13 @@ use std::alloc::Global;
 use std::rt::Clock;
 
 /// The edition with the file of a number, and how many microseconds it took to make it.
-pub fn put<R: Clock>(rt: &R, alloc: Global, edition: &Edition, made: &Apart<'_>, k: u32) -> Result<(Edition, u64), Untaken> {
+pub fn put<R: Clock>(
+    rt: &R,
+    alloc: Global,
+    edition: &Edition,
+    made: &Apart<'_>,
+    k: u32,
+) -> Result<(Edition, u64), Untaken> {
     let bytes = made.bytes(alloc, k)?;
     if bytes.len() as u64 > MAX_FILE_BYTES {
         return Err(Untaken);
@@ -70,7 +76,13 @@ pub fn put<R: Clock>(rt: &R, alloc: Global, edition: &Edition, made: &Apart<'_>,
 }
 
 /// The edition of the files of the numbers below a count.
-pub fn built<R: Clock>(rt: &R, alloc: Global, edition: Edition, made: &Apart<'_>, count: u32) -> Result<Edition, Untaken> {
+pub fn built<R: Clock>(
+    rt: &R,
+    alloc: Global,
+    edition: Edition,
+    made: &Apart<'_>,
+    count: u32,
+) -> Result<Edition, Untaken> {
     let mut edition = edition;
     for k in 0..count {
         edition = put(rt, alloc, &edition, made, k)?.0;
@@ -79,7 +91,13 @@ pub fn built<R: Clock>(rt: &R, alloc: Global, edition: Edition, made: &Apart<'_>
 }
 
 /// How long a put under a new name takes.
-pub fn new_name<R: Clock>(rt: &R, alloc: Global, edition: &Edition, made: &Apart<'_>, count: u32) -> Result<u64, Untaken> {
+pub fn new_name<R: Clock>(
+    rt: &R,
+    alloc: Global,
+    edition: &Edition,
+    made: &Apart<'_>,
+    count: u32,
+) -> Result<u64, Untaken> {
     let mut least = u64::MAX;
     for _ in 0..5u8 {
         least = least.min(put(rt, alloc, edition, made, count)?.1);
@@ -140,7 +158,13 @@ fn per(nanos: u64, times: i64) -> u64 {
 }
 
 /// Shows what the steps take from an edition of one file less than a count, and returns it.
-pub fn all<R: Print + Clock>(rt: &R, alloc: Global, none: Edition, made: &Apart<'_>, count: u32) -> Result<Edition, Untaken> {
+pub fn all<R: Print + Clock>(
+    rt: &R,
+    alloc: Global,
+    none: Edition,
+    made: &Apart<'_>,
+    count: u32,
+) -> Result<Edition, Untaken> {
     let less = count.wrapping_sub(1);
     let edition = built(rt, alloc, none, made, less)?;
     let added = new_name(rt, alloc, &edition, made, less)?;
@@ -175,7 +199,13 @@ fn empty(alloc: Global, bytes: &[u8]) -> Result<Edition, Untaken> {
     edition_of(alloc, Bytes::copy_of(alloc, bytes)?).map_err(|_| Untaken)
 }
 
-fn view<R: Print + Clock>(rt: &R, alloc: Global, edition: &Edition, name: &str, view: &ViewName) -> Result<(), Untaken> {
+fn view<R: Print + Clock>(
+    rt: &R,
+    alloc: Global,
+    edition: &Edition,
+    name: &str,
+    view: &ViewName,
+) -> Result<(), Untaken> {
     let (mut least, mut least_count, mut found) = (u64::MAX, u64::MAX, 0);
     for _ in 0..5u8 {
         let start = now(rt)?;
@@ -192,7 +222,13 @@ fn view<R: Print + Clock>(rt: &R, alloc: Global, edition: &Edition, name: &str, 
     Ok(())
 }
 
-fn views<R: Print + Clock>(rt: &R, alloc: Global, edition: &Edition, made: &Apart<'_>, count: u32) -> Result<(), Untaken> {
+fn views<R: Print + Clock>(
+    rt: &R,
+    alloc: Global,
+    edition: &Edition,
+    made: &Apart<'_>,
+    count: u32,
+) -> Result<(), Untaken> {
     let run = made.run(count / 2);
     view(rt, alloc, edition, "best", &ViewName::Best)?;
     view(rt, alloc, edition, "best from six hours", &ViewName::BestFrom(21_600))?;

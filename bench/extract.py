@@ -9,6 +9,8 @@ from classic import FLOAT, INT, SINCE_2020, Classic, Variable
 
 FIRST, RECORDS, ROWS, COLUMNS = 126230400, 60, 1000, 2000
 TURNS = 5
+# The share of the speed of the program in C that `extract` has to have.
+SHARE = 0.9
 
 
 def form(records):
@@ -68,14 +70,17 @@ def main():
     copied, _ = fastest(["cp", "--sparse=never", "--reflink=never", path, os.path.join(folder, "copy.nc")])
     os.remove(os.path.join(folder, "copy.nc"))
     print("a copy of %.0f MiB: %.2f s" % (os.path.getsize(path) / 2**20, copied))
+    read, _ = fastest([os.path.join(folder, "hold"), path], view)
+    print("a program in C that reads it, then writes it: %.2f s, %.2f of the copy's speed" % (read, copied / read))
     wrong = 0
     for version in "12":
         words = [program, "extract", "--name", "gfs", "--proto", proto, "--view", "gfs_best.ncd", "--format", version]
         took, memory = fastest([*words, "put:" + path], view)
         same = is_same(made, path, view)
-        wrong += not same or memory > held + 16
-        print("version %s: %.2f s, %.2f of the copy's speed; %.0f MiB, %.1f over the files; %s"
-              % (version, took, copied / took, memory, memory - held, "the same numbers" if same else "OTHER NUMBERS"))
+        wrong += not same or memory > held + 16 or read / took < SHARE
+        print("version %s: %.2f s, %.2f of the copy's speed, %.2f of C's; %.0f MiB, %.1f over the files; %s"
+              % (version, took, copied / took, read / took, memory, memory - held,
+                 "the same numbers" if same else "OTHER NUMBERS"))
     sys.exit(1 if wrong else 0)
 
 

@@ -1,6 +1,6 @@
 #!/bin/sh
-# Shows how long it takes to frame and read a head of 300 bytes, in one piece and in pieces of 50 bytes, and fails where it
-# takes 2 microseconds or more. It builds a small program in a folder of its own.
+# Shows how long it takes to frame and read a head of 300 bytes, in one piece and in pieces of 50 bytes, and fails where
+# it takes 2 microseconds or more. It builds a small program in a folder of its own.
 # Use: bench/heads.sh.
 set -eu
 . "$(dirname "$0")/common.sh"

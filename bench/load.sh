@@ -1,6 +1,6 @@
 #!/bin/sh
-# Shows the time and the memory that loading a file of nearly 512 MiB over a prototype takes, beside a C program that reads
-# the same file whole into memory: 4,095 times of a field of 128 by 256 numbers. The fields are holes of the file.
+# Shows the time and the memory that loading a file of nearly 512 MiB over a prototype takes, beside a C program that
+# reads the same file whole into memory: 4,095 times of a field of 128 by 256 numbers. The fields are holes of the file.
 # Use: bench/load.sh.
 set -eu
 . "$(dirname "$0")/common.sh"

@@ -1,6 +1,6 @@
 #!/bin/sh
-# Shows the time and the memory that the proved program takes for 10,000 requests over one standard input, and for a reply
-# of 100 MB: files of fields of 250,000 numbers at 100 times, which are put and asked for whole.
+# Shows the time and the memory that the proved program takes for 10,000 requests over one standard input, and for a
+# reply of 100 MB: files of fields of 250,000 numbers at 100 times, which are put and asked for whole.
 # Use: bench/once.sh [PROGRAM]; by default the proved program, which 'make build' leaves.
 set -eu
 . "$(dirname "$0")/common.sh"

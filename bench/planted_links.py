@@ -1,23 +1,22 @@
-"""Wrong bodies of dev_host that a test or a row has to refuse; bench/planted_links.sh says how."""
+"""Wrong bodies of dev_host that a row has to refuse; bench/planted_links.sh says how."""
 import os
 import subprocess
 import sys
 
-# How the tests and the rows are run. What doesn't end is stopped after two minutes.
-TRY = ["rt", "try", "--seconds", "120"]
-TESTS, ROWS = TRY + ["--test"], TRY + ["--", "devices/links.rows", "devices/accepts.rows"]
+# How rows are run. What doesn't end is stopped after two minutes.
+TRY = ["rt", "try", "--seconds", "120", "--"]
+LOOPBACK, ROWS = TRY + ["machine/doors.rows"], TRY + ["devices/links.rows", "devices/accepts.rows"]
 
 
 class Body:
-    """A wrong body: its name, the file and the text that it changes, and the test or the row that has to refuse it."""
+    """A wrong body: its name, the file and the text that it changes, and the row that has to refuse it."""
 
     def __init__(self, name, file, old, new, run, refuser):
         self.name, self.file, self.old, self.new, self.run, self.refuser = name, file, old, new, run, refuser
 
     def is_refused(self, said):
         """Whether a run says so. One of a body that doesn't compile doesn't."""
-        mark = "::%s ... FAILED\n" if self.run is TESTS else ": %s\n-- got\n"
-        return mark % self.refuser in said
+        return ": %s\n-- got\n" % self.refuser in said
 
 
 TAKES = """            Err(Failed) => %s,
@@ -25,29 +24,29 @@ TAKES = """            Err(Failed) => %s,
     }
 
     fn put("""
-REFUSAL = "a_refusal_reaches_a_client_that_still_sends"
+REFUSAL = "a refusal reaches a client that still sends"
 SHORT = "                Accepting::Short => %s,\n"
 BODIES = [
     Body("the_write_side_is_never_shut", "closing.rt",
-         "let _ = stream.end_sending();", "let _ = &stream;", TESTS, REFUSAL),
+         "let _ = stream.end_sending();", "let _ = &stream;", LOOPBACK, REFUSAL),
     Body("both_sides_are_shut", "socket.rt",
-         "self.shutdown(Shutdown::Write)", "self.shutdown(Shutdown::Both)", TESTS, REFUSAL),
+         "self.shutdown(Shutdown::Write)", "self.shutdown(Shutdown::Both)", LOOPBACK, REFUSAL),
     Body("nothing_is_waited_for_at_the_end", "closing.rt",
-         "pub const LINGER: u64 = 2_000;", "pub const LINGER: u64 = 0;", TESTS, REFUSAL),
+         "pub const LINGER: u64 = 2_000;", "pub const LINGER: u64 = 0;", LOOPBACK, REFUSAL),
     Body("small_puts_wait_for_more", "socket.rt",
-         "self.set_nodelay(true)", "self.set_nodelay(false)", TESTS, "what_is_put_is_sent_at_once"),
+         "self.set_nodelay(true)", "self.set_nodelay(false)", LOOPBACK, "what is put is sent at once"),
     Body("each_take_begins_the_time_again", "link.rt",
-         "self.pace = self.pace.taking();", "self.pace = Pace::new(present(&self.rt));", TESTS,
-         "a_client_that_drips_is_given_up"),
+         "self.pace = self.pace.taking();", "self.pace = Pace::new(present(&self.rt));", LOOPBACK,
+         "a client that drips is given up"),
     Body("a_reset_is_the_end", "link.rt",
-         TAKES % "Err(count_fault(&mut self.faults))", TAKES % "Ok(Taken::End)", TESTS,
-         "a_reset_while_a_link_waits_for_bytes_is_a_fault"),
+         TAKES % "Err(count_fault(&mut self.faults))", TAKES % "Ok(Taken::End)", LOOPBACK,
+         "a reset while a link waits for bytes is a fault"),
     Body("a_turn_that_had_enough_is_never_watched_anew", "reactor.rt",
-         "        if waits {\n", "        if waits || key < usize::MAX {\n", TESTS,
-         "a_link_that_rests_before_it_had_to_wait_goes_on"),
+         "        if waits {\n", "        if waits || key < usize::MAX {\n", LOOPBACK,
+         "a link that rests before it had to wait goes on"),
     Body("a_slow_reader_is_waited_for_for_ever", "link.rt",
-         "Ok(Sent::Later) if now < self.due() => {", "Ok(Sent::Later) if now < u64::MAX => {", TESTS,
-         "a_client_that_reads_nothing_is_given_up"),
+         "Ok(Sent::Later) if now < self.due() => {", "Ok(Sent::Later) if now < u64::MAX => {", LOOPBACK,
+         "a client that reads nothing is given up"),
     Body("a_silent_peer_is_waited_for_for_ever", "link.rt",
          "Ok(Taken::Later) if !self.is_over() => {", "Ok(Taken::Later) if self.faults < u64::MAX => {", ROWS,
          "a peer that drips is given up half a minute after it came"),
@@ -64,7 +63,7 @@ BODIES = [
 
 
 def ran(crates, words):
-    """Whether the tests or the rows pass, and what they say."""
+    """Whether the rows pass, and what they say."""
     done = subprocess.run(words, cwd=os.path.join(crates, "planted"), stdout=subprocess.PIPE,
                           stderr=subprocess.STDOUT, text=True, errors="replace")
     return done.returncode == 0, done.stdout
@@ -101,7 +100,7 @@ def main():
     bodies = [body for body in BODIES if not words or body.name in words]
     if len(bodies) < len(words):
         sys.exit("the wrong bodies are: %s" % " ".join(body.name for body in BODIES))
-    for run in (TESTS, ROWS):
+    for run in (LOOPBACK, ROWS):
         passes, said = ran(crates, run)
         if not passes:
             sys.exit("without a wrong body '%s' fails:\n%s" % (" ".join(run), end_of(said)))

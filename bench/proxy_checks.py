@@ -31,6 +31,8 @@ RUN = "/thredds/dodsC/gfs/runs/gfs_RUN_2020-01-01T00:00:00Z"
 TARGETS = [BEST + ".dds", BEST + ".das", BEST + ".dods", BEST + ".dods?t", RUN + ".dds", RUN + ".dods?t%5B0:2:6%5D"]
 TARGETS += [BEST + ".dds?time,time_run", "/thredds/dodsC/gfs/offset/gfs_Offset_10800s.dods?time"]
 TARGETS += ["/thredds/dodsC/gfs/forecast/gfs_ConstantForecast_20200102T000000Z.dods?time"]
+# Those that are replied to by data.
+DATA = [BEST + ".dods", BEST + ".dods?t", TARGETS[-2], TARGETS[-1]]
 FAULTS = ["/thredds", "/none", BEST + ".nc", BEST + ".dds?none", BEST + ".dods?t%5B9:1:2%5D", BEST + ".dds?%"]
 FAULTS += [BEST + ".dds?" + "x" * 9000, "/thredds/dodsC/gfs/offset/gfs_Offset_1s.dds"]
 FAULTS += ["/thredds//dodsC/gfs/../gfs/gfs_best.ncd.dds"]
@@ -160,6 +162,24 @@ def check_added(nginx, folder, revision):
         if not re.fullmatch(pattern, line):
             fail("the log has the line %r" % line)
     return len(packed), len(right)
+
+
+def pulled(program, port, target):
+    """The status of `pull` of a target, and what it says."""
+    words = [program, "pull", "--connect", "127.0.0.1:%d" % port, target]
+    run = subprocess.run(words, capture_output=True, timeout=60, check=False)
+    return run.returncode, run.stdout, run.stderr
+
+
+def check_pulled(program, server, nginx):
+    """The program's own client says the same of each reply through nginx; of data it says a sum. How many it read."""
+    for target in TARGETS + FAULTS:
+        direct, through = pulled(program, server.port, target), pulled(program, nginx.port, target)
+        if direct != through:
+            fail("pull of %s: through nginx %r, directly %r" % (target[:90], through, direct))
+        if target in DATA and through[0] != 0:
+            fail("pull of %s: status %d" % (target[:90], through[0]))
+    return len(TARGETS + FAULTS)
 
 
 def copied(nginx, folder, settings):
@@ -351,6 +371,7 @@ def main():
     passed("another collection: %d replies are the same" % check_same(waves, nginx, OF_WAVES))
     passed("compressed, %d bytes in place of %d; open to other sites; in the log" % check_added(nginx, folder, BEFORE))
     passed("nccopy with HTTP.DEFLATE copies the same from %d bytes in place of %d" % check_netcdf(nginx, folder))
+    passed("pull says the same of %d replies" % check_pulled(program, server, nginx))
     passed("300 requests over 1 connection to nginx and %d to the server" % check_kept(server, nginx))
     readings, hits = check_arrivals(server, nginx, folder, runs)
     shown = "%d files arrived during %d replies, %d of them from the cache: each right, none older than one before it"

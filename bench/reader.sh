@@ -1,6 +1,6 @@
 #!/bin/sh
-# Builds a small program that answers `PROGRAM check FILE` by the header reader alone, in a folder of its own, and prints
-# where the program lies. The crates are those of this repository, proved as far as their own checks have gone.
+# Builds a small program that answers `PROGRAM check FILE` by the header reader alone, in a folder of its own, and
+# prints where the program lies. The crates are those of this repository, proved as far as their own checks have gone.
 # Use: bench/reader.sh FOLDER.
 set -eu
 folder=$1

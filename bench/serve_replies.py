@@ -44,8 +44,8 @@ def moment(seconds):
     return EPOCH + datetime.timedelta(seconds=seconds)
 
 
-def name_of(run):
-    return moment(run).strftime("gfs_%Y%m%d_%H%M.nc")
+def name_of(run, collection="gfs"):
+    return moment(run).strftime(collection + "_%Y%m%d_%H%M.nc")
 
 
 # The replies that are right. A view is a kind and a number; what is asked of it is `time`, `time_run` or a slab of `t`.
@@ -53,19 +53,20 @@ def name_of(run):
 SLAB = "%5B0:2:6%5D%5B0%5D%5B0:1%5D"
 
 
-def label_of(view):
+def label_of(view, collection):
     kind, seconds = view
     if kind == "best":
-        return "gfs_best.ncd"
+        return collection + "_best.ncd"
     if kind == "offset":
-        return "gfs_Offset_%ds" % seconds
-    front = {"run": "gfs_RUN_", "forecast": "gfs_ConstantForecast_"}[kind]
-    return front + moment(seconds).strftime("%Y-%m-%dT%H:%M:%SZ")
+        return "%s_Offset_%ds" % (collection, seconds)
+    front = {"run": "_RUN_", "forecast": "_ConstantForecast_"}[kind]
+    return collection + front + moment(seconds).strftime("%Y-%m-%dT%H:%M:%SZ")
 
 
-def target_of(view, what):
+def target_of(view, what, collection="gfs"):
     folder = {"best": "", "run": "runs/", "offset": "offset/", "forecast": "forecast/"}[view[0]]
-    return "/thredds/dodsC/gfs/%s%s.dods?%s" % (folder, label_of(view), what + (SLAB if what == "t" else ""))
+    name = folder + label_of(view, collection)
+    return "/thredds/dodsC/%s/%s.dods?%s" % (collection, name, what + (SLAB if what == "t" else ""))
 
 
 def rows_of(view, runs):
@@ -88,7 +89,7 @@ def array(form, values):
     return struct.pack(">II%d%s" % (len(values), form), len(values), len(values), *values)
 
 
-def body_of(view, what, runs):
+def body_of(view, what, runs, collection):
     """The status, the description, the type and the body of the reply over the files of some runs."""
     rows = rows_of(view, runs)
     axis = [run if view[0] == "forecast" else valid for run, valid in rows]
@@ -107,7 +108,7 @@ def body_of(view, what, runs):
         shown += "            Float32 lon[lon = 2];\n    } t;\n"
         data = array("f", [number(*rows[place], 0, x) for place in places for x in (0, 1)])
         data += array("i", [axis[place] for place in places]) + array("f", LAT[:1]) + array("f", LON[:2])
-    front = "Dataset {\n%s} %s;\nData:\n" % (shown, label_of(view))
+    front = "Dataset {\n%s} %s;\nData:\n" % (shown, label_of(view, collection))
     return "200 OK", "dods_data", "application/octet-stream", front.encode() + data
 
 
@@ -117,9 +118,9 @@ def error(status, code, message):
     return line, "dods_error", "text/plain", body.encode()
 
 
-def reply_of(revision, view, what, runs):
+def reply_of(revision, view, what, runs, collection="gfs"):
     """The whole reply, with its head."""
-    line, description, kind, body = body_of(view, what, runs)
+    line, description, kind, body = body_of(view, what, runs, collection)
     head = (
         "HTTP/1.1 %s\r\nXDODS-Server: dods/3.2\r\nContent-Description: %s\r\nContent-Type: %s\r\n"
         "X-Collection-Revision: %d\r\nContent-Length: %d\r\nConnection: keep-alive\r\n\r\n"

@@ -111,7 +111,8 @@ def fixed(name, rank, names):
     """Constraints of each kind: over one variable of a rank, and over the names of all."""
     none, last = "[0]" * rank, "[0:1:0]" * rank
     return {
-        "nothing": "", "one name": name, "the same name": repeated(name), "the same members": repeated(name + "." + name),
+        "nothing": "", "one name": name, "the same name": repeated(name),
+        "the same members": repeated(name + "." + name),
         "all names": cut(names * 64), "the same slabs": repeated(name + none), "long slabs": repeated(name + last),
         "slabs of all": cut([other + none for other in names] * 64), "other slabs": cut(
             name + "[%d]" % number + "[0]" * (rank - 1) for number in range(4000)),

@@ -1,10 +1,9 @@
 #!/bin/sh
 # Measures what an edition and a projection owe beside their bytes, and compares it with goals: a put of 4,096 times
-# where 63 files have the same days, the structure text of an offset and of a forecast time over 4,096 runs, the best time
-# series with a least offset, a put and what is asked by a name among 40 and among 4,096 files, and 8,000 clauses over
-# 600 variables.
-# Each number is the least of some turns, in microseconds. Its status is 1 where a goal is missed, 2 where a step fails.
-# It wants a quiet machine, and uses what the gate proved there (bench/build.sh).
+# where 63 files have the same days, the structure text of an offset and of a forecast time over 4,096 runs, the best
+# time series with a least offset, a put and what is asked by a name among 40 and among 4,096 files, and 8,000 clauses
+# over 600 variables. Each number is the least of some turns, in microseconds. Its status is 1 where a goal is missed, 2
+# where a step fails. It wants a quiet machine, and uses what the gate proved there (bench/build.sh).
 # Use: bench/times.sh.
 set -eu
 . "$(dirname "$0")/common.sh"

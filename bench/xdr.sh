@@ -1,16 +1,17 @@
 #!/bin/sh
-# Shows how fast whole parts of 100 MiB are written as XDR in pieces of 8,192 bytes, beside a plain copy in C of as many bytes in
-# such pieces: of numbers of four and eight bytes, which may fall to 0.7 of the copy's speed, and of two bytes, which are
-# widened, and may fall to 0.4. Then it shows what one piece costs at places from the front of a part to its end.
+# Shows how fast whole parts of 100 MiB are written as XDR in pieces of 8,192 bytes, beside a plain copy in C of as many
+# bytes in such pieces: of numbers of four and eight bytes, which may fall to 0.7 of the copy's speed, and of two bytes,
+# which are widened, and may fall to 0.4. Then it shows what one piece costs at places from the front of a part to its
+# end.
 # Use: bench/xdr.sh.
 set -eu
 . "$(dirname "$0")/common.sh"
 make_folder
 "$top/bench/crates.sh" "$folder" send_parts dap_xdr fm_views fm_sample
 cat > "$folder/crates/send_parts/src/main.rt" << 'PROGRAM'
-//! `PROGRAM PROTO FILE` makes the best time series of a file over a prototype. Of each declaration after the axis, but for
-//! the runs and the offsets, it says how many microseconds all of its array takes in pieces, and then how many nanoseconds a
-//! thousand pieces take at five places.
+//! `PROGRAM PROTO FILE` makes the best time series of a file over a prototype. Of each declaration after the axis, but
+//! for the runs and the offsets, it says how many microseconds all of its array takes in pieces, and then how many
+//! nanoseconds a thousand pieces take at five places.
 #![tactic(auto)]
 ghost use Rattle.std.specs.Prelude.{◌<◌, ◌^◌, IsSomeAnd, length};
 ghost use Rattle.dap_xdr.specs.Content.{array_in, part_data, FitsArray};
@@ -173,7 +174,8 @@ cat > "$folder/copy.c" << 'C'
 
 static char room[8192];
 
-// Copies the first 100 MiB of a file, which it holds, in pieces of 8,192 bytes, and says how many microseconds that takes.
+// Copies the first 100 MiB of a file, which it holds, in pieces of 8,192 bytes, and says how many microseconds that
+// takes.
 int main(int count, char **words) {
     size_t len = 100u << 20;
     char *bytes = malloc(len);
@@ -188,7 +190,8 @@ int main(int count, char **words) {
             __asm__ volatile("" : : "r"(room) : "memory");
         }
         clock_gettime(CLOCK_MONOTONIC, &end);
-        printf("plain 0 %zu %ld 0\n", len, (end.tv_sec - start.tv_sec) * 1000000 + (end.tv_nsec - start.tv_nsec) / 1000);
+        long took = (end.tv_sec - start.tv_sec) * 1000000 + (end.tv_nsec - start.tv_nsec) / 1000;
+        printf("plain 0 %zu %ld 0\n", len, took);
     }
 }
 C
@@ -217,7 +220,9 @@ for decl, (kind, least) in KINDS.items():
     took, count = min(pieces[decl])
     ratio = min(plain) / took
     bad = bad or ratio < least or count != 104857608
-    print("%s: %d bytes in pieces in %d us, plain copy in %d us, %.2f of its speed" % (kind, count, took, min(plain), ratio))
-    print("    a piece at " + ", ".join("%d: %d ns" % (at, min(each) / 1000) for at, each in sorted(places[decl].items())))
+    shown = (kind, count, took, min(plain), ratio)
+    print("%s: %d bytes in pieces in %d us, plain copy in %d us, %.2f of its speed" % shown)
+    pieces = ("%d: %d ns" % (at, min(each) / 1000) for at, each in sorted(places[decl].items()))
+    print("    a piece at " + ", ".join(pieces))
 sys.exit(bad)
 PYTHON

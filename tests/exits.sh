@@ -92,7 +92,8 @@ run "a sound file" 0 "ok CDF-1 dims 3 vars 4 records 3" "" "$folder/none" check 
 run "a file cut short" 3 "refused $folder/cut.nc code 14" "" "$folder/none" check "$folder/cut.nc"
 run "check without a file" 2 "bad words" "$no_file" "$folder/none" check
 tells "check without a file on a terminal" "$no_file" check
-run "no words" 2 "bad words" "fmrcd: a command is missing: serve, once, twod, extract, pull, check or load; see 'fmrcd --help'" "$folder/none"
+missing="a command is missing: serve, once, twod, extract, pull, check or load"
+run "no words" 2 "bad words" "fmrcd: $missing; see 'fmrcd --help'" "$folder/none"
 run "a file that isn't there" 10 "no file $folder/absent" "" "$folder/none" check "$folder/absent"
 run "a file of 512 MiB" 3 "refused $folder/most.nc code 1" "" "$folder/none" check "$folder/most.nc"
 run "a file over 512 MiB" 10 "too long $folder/long.nc 536870913" "" "$folder/none" check "$folder/long.nc"
@@ -101,7 +102,8 @@ run "a path through a file" 5 "file fault $sample/x" "" "$folder/none" check "$s
 
 # `load` reports to standard output. The sums are those of a slow program that was written from the definitions alone.
 run "one made file" 0 "files 1 rows 65 best 65 run 65 offset 1 forecast 1 sum 4478978" "" "$folder/none" load 1 1
-run "40 made files" 0 "files 40 rows 2600 best 299 run 65 offset 40 forecast 11 sum 13936700" "" "$folder/none" load 1 40
+run "40 made files" 0 "files 40 rows 2600 best 299 run 65 offset 40 forecast 11 sum 13936700" "" \
+    "$folder/none" load 1 40
 run "400 made files" 0 "files 400 rows 26000 best 2459 run 65 offset 400 forecast 11 sum 98319914" "" "$folder/none" \
     load 7 400
 no_made="fmrcd: invalid value '0' for '<FILES>': it must be a number from 1 to 400, without leading zeros; \
@@ -121,13 +123,15 @@ tells "once without a step on a terminal" \
 run "input that ends" 11 "" "input ended" "$folder/begun" $once
 run "no input" 11 "" "input ended" "$folder/none" $once
 run "a head that is none" 0 "*" "" "$folder/other" $once
-grep -q '^HTTP/1.1 400 Bad Request' "$folder/out" || { echo "a head that is none: not refused"; failures=$((failures + 1)); }
+grep -q '^HTTP/1.1 400 Bad Request' "$folder/out" ||
+    { echo "a head that is none: not refused"; failures=$((failures + 1)); }
 run "a name without a run" 3 "" "refused $folder/none.nc code 45" "$folder/request" \
     once --name gfs --proto "$sample" "put:$folder/none.nc" ask:1
 run "options behind the steps" 0 "*" "" "$folder/request" once "put:$sample" ask:1 --proto "$sample" --name=gfs
 run "a prototype that isn't there" 10 "" "no file $folder/absent" "$folder/none" \
     once --name gfs --proto "$folder/absent" "put:$sample" ask:1
-run "a folder as the file" 5 "" "file fault $folder" "$folder/none" once --name gfs --proto "$sample" "put:$folder" ask:1
+run "a folder as the file" 5 "" "file fault $folder" "$folder/none" \
+    once --name gfs --proto "$sample" "put:$folder" ask:1
 run "a word of once that isn't text" 2 "" "bad words" "$folder/none" once "$(printf '\377')"
 no_text="fmrcd: word 2 isn't UTF-8 text; see 'fmrcd check --help'"
 run "a word that isn't text" 2 "bad words" "$no_text" "$folder/none" check "$(printf '\377')"
@@ -148,15 +152,16 @@ run "twod with a request" 2 "" "bad words" "$folder/request" $twod "put:$sample"
 compare "a full device for a two-dimensional view" $status 9 "" "link fault"
 }
 
-# `extract` writes its file to standard output and reports to standard error. A file that is made of all of a view is one
-# that `check` takes.
+# `extract` writes its file to standard output and reports to standard error. A file that is made of all of a view is
+# one that `check` takes.
 extract="extract --name gfs --proto $sample --view gfs_best.ncd --format"
 # shellcheck disable=SC2086
 {
 run "a view as a file" 0 "*" "" "$folder/request" $extract 2 "put:$sample"
 cp "$folder/out" "$folder/view.nc"
 run "a check of a view as a file" 0 "ok CDF-2 dims 3 vars 6 records 0" "" "$folder/none" check "$folder/view.nc"
-run "a view as a file without a run" 3 "" "refused extract code 37" "$folder/none" $extract 1 expire:2024-01-01T00:00:00Z
+run "a view as a file without a run" 3 "" "refused extract code 37" "$folder/none" \
+    $extract 1 expire:2024-01-01T00:00:00Z
 run "extract with a request" 2 "" "bad words" "$folder/request" $extract 1 "put:$sample" ask:1
 "$program" $extract 1 "put:$sample" > /dev/full 2> "$folder/err"; status=$?; : > "$folder/out"
 compare "a full device for a view as a file" $status 9 "" "link fault"

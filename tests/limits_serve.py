@@ -103,7 +103,7 @@ def the_file_after_4096_is_full(folder):
 
 
 def a_run_that_is_too_old_goes_with_a_line(folder):
-    """The clock's first moment comes at once, and the second a minute later: by then a file of 2020 is over an hour old.
+    """The clock's first moment comes at once, and the second a minute later. By then a file of 2020 is too old.
     The line says before which moment runs went."""
     inbox = inboxes_in(folder, 1)[0]
     bring(os.path.join(inbox, name_of(0)), FORM.content([EPOCH]))

@@ -86,7 +86,8 @@ def line_of(moments):
 
 
 def rows_of(held, rows):
-    return ["rows %d" % len(rows)] + ["%s %s %s %d" % (said(valid), said(run), *held.cell(run, valid)) for valid, run in rows]
+    cells = ["%s %s %s %d" % (said(valid), said(run), *held.cell(run, valid)) for valid, run in rows]
+    return ["rows %d" % len(rows)] + cells
 
 
 def yes_or_no(yes):
@@ -153,7 +154,8 @@ def main():
     with open("crates/rows/data/replies/changes.rows", "w") as out:
         out.write("# 1,000 operations on 20 names of ten runs, and what is held after every 25 of them (written by\n"
                   "# tests/operations.py, over a plain list of names and times).\n\n"
-                  "name: 1,000 operations and what is held between them\nprototype: A.nc\nepoch: 2020-01-01T00:00:00Z\n")
+                  "name: 1,000 operations and what is held between them\n"
+                  "prototype: A.nc\nepoch: 2020-01-01T00:00:00Z\n")
         out.write("\n".join(steps) + "\nwant: " + "\n| ".join(wanted) + "\n")
 
 

@@ -2,7 +2,8 @@
 """Writes crates/rows/data/replies/sessions.rows: 200 random lists of 60 events over three sessions, and what is sent.
 
 A slow machine answers each question about a session from all the bytes that it was fed. A connection sends requests of
-each kind: one with data, a method that isn't taken, a name of no dataset, a HEAD, one that ends its connection, no request.
+each kind: one with data, a method that isn't taken, a name of no dataset, a HEAD, one that ends its connection, and no
+request.
 """
 from struct import pack
 
@@ -228,11 +229,12 @@ def run(seed):
 
 def main():
     with open("crates/rows/data/replies/sessions.rows", "w") as out:
-        out.write("# 200 random lists of 60 events over three sessions (written by tests/sessions.py, which answers each question\n"
-                  "# about a session from all the bytes that it was fed).\n")
+        out.write("# 200 random lists of 60 events over three sessions (written by tests/sessions.py, which answers "
+                  "each question\n# about a session from all the bytes that it was fed).\n")
         for seed in range(LISTS):
             events, talks, revision = run(seed)
-            out.write(f"\nname: random events {seed}\nprototype: A.nc\nepoch: 2020-01-01T00:00:00Z\nsessions: {SESSIONS}\n")
+            out.write(f"\nname: random events {seed}\nprototype: A.nc\n")
+            out.write(f"epoch: 2020-01-01T00:00:00Z\nsessions: {SESSIONS}\n")
             out.write("".join(f"event: {event}\n" for event in events))
             out.write(f"want: operations {revision}\n")
             for number, talk in enumerate(talks):

@@ -9,7 +9,7 @@ use Rattle.nc_model.specs.UnitsReading.{past}
 use Rattle.dap_client.specs.DataReading.{octet_at, word_of_4_at, word_of_8_at}
 use Rattle.dap_client.specs.Reading.{Reader, bytes_at, repeat_at}
 
--- a number of so many bytes
+-- a number of this many bytes
 abbrev of_bytes : (List ℕ → ℕ) → List ℕ → Reader ℕ
 of_bytes value bytes = pure (value bytes)
 

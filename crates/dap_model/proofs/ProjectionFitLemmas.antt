@@ -68,8 +68,8 @@ map_at array maps index within gridded =
     (sym (slice_get-map (λ (d : Dim). d ∷ []) array.dims index) ∙ dims) in
     record { part = part.0; dim = dim.0; part_is = part.1; dim_is = dim.1; dims_are = sym dim.2 }
 
--- a fact of a dimension and a slab holds of all that are sent, where it does of the whole dimension and of each slab that
--- lies within it
+-- a fact of a dimension and a slab holds of all that are sent, where it does of the whole dimension and of each slab
+-- that lies within it
 module _ (R : Dim → Slab → Type 0) (whole : (dim : Dim) → R dim (whole_slab dim.size))
     (inside : (dim : Dim) (slab : Slab) → is_within dim.size slab ≡ true → R dim slab) where
   -- whole dimensions

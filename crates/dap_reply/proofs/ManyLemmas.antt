@@ -89,7 +89,8 @@ sees-alone call served = record {
       stays = served.sees.stays;
       rises = subst (λ (l : List Mark). Rises (length call.seen) l (length call.seen_after)) marks served.sees.rises;
       looks_are = served.looks.looks_are
-          ∙ ap (λ (l : List Mark). call.looks ++ wanted_revisions call.proto l (items_of call) ++ served.looks.more) marks
+          ∙ ap (λ (l : List Mark). call.looks ++ wanted_revisions call.proto l (items_of call) ++ served.looks.more)
+          marks
           ∙ ap (λ (l : List Item). call.looks ++ wanted_revisions call.proto (marks_for (alone call.proto call.still) 0
           call.trail (items_of call)) l ++ served.looks.more) items;
       repeats = subst (RepeatsUnwanted call.proto (length call.seen)

@@ -5,8 +5,8 @@ use Rattle.fm_model.specs.declared.proto.Proto.{Proto}
 use Rattle.web_frame.specs.Items.{Item}
 use Rattle.dap_reply.specs.Reply.{is_wanted}
 
--- Collections by their number from 0: how many there are, the prototype of each, whether a look at it leaves what is seen
--- of it as it was, and the collection that an item is for. None of it changes.
+-- Collections by their number from 0: how many there are, the prototype of each, whether a look at it leaves what is
+-- seen of it as it was, and the collection that an item is for. None of it changes.
 pub record Collections : Type 0 where
   pub count : ℕ
   pub proto : ℕ → Proto

@@ -92,8 +92,8 @@ marks_in call number = marks_for call.them number call.trail (all_items call)
 abbrev pub items_in : ManyCall → ℕ → List Item
 items_in call number = items_for call.them number (all_items call)
 
--- Of one collection more and more was seen, as of a collection alone. There is one look for each of its requests that it
--- is looked at for, in order, at the reply's revision, and then these.
+-- Of one collection more and more was seen, as of a collection alone. There is one look for each of its requests that
+-- it is looked at for, in order, at the reply's revision, and then these.
 pub record SeesOf (call : ManyCall) (number : ℕ) (more : List ℕ) : Type 0 where
   pub grows : Continues (call.before.seen number) (call.after.seen number)
   pub stays : call.them.still number ≡ true → call.after.seen number ≡ call.before.seen number

@@ -51,8 +51,8 @@ pub alone : (slabs : List Slab) → slabs ≡ [] → Alone slabs
 unfolding box_len product index_at
 alone slabs none = subst Alone (sym none) (record { within = omega arith; index_is = refl })
 
-pub many-numbers : (slabs : List Slab) (bits : List ℕ → ℕ) → slabs ≢ [] → numbers_at slabs bits ≡ Values.numbers (map bits
-    (box_of slabs))
+pub many-numbers : (slabs : List Slab) (bits : List ℕ → ℕ) → slabs ≢ []
+    → numbers_at slabs bits ≡ Values.numbers (map bits (box_of slabs))
 many-numbers [] bits many = absurd (many refl)
 many-numbers (slab ∷ slabs) bits many = refl
 

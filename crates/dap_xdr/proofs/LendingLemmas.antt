@@ -1,18 +1,15 @@
 -- What stands in a file is a front of what is sent.
-use Rattle.std.proofs.Common.{◌≡◌, ◌≢◌, ℕ, ◌+◌, ◌-◌, ◌*◌, ◌/◌, ◌%◌, ◌≤◌, List, [], ◌++◌, length, map, min, take, drop, inl, inr, refl, sym, subst, zero-add, ap, ap₂, ◌∙◌, arith}
+use Rattle.std.proofs.Common.{◌≡◌, ◌≢◌, ℕ, ◌+◌, ◌-◌, ◌*◌, ◌/◌, ◌%◌, ◌≤◌, List, [], ◌++◌, length, map, min, take, drop, inl, inr, sym, subst, zero-add, ap, ap₂, ◌∙◌, arith}
 use Rattle.std.specs.List.{flat_map}
 use Rattle.std.proofs.Math.Seq.{drop-append-add, take-append_seam}
 use Rattle.std.proofs.lemmas.Bool.{cases_lt}
-use Rattle.std.proofs.lemmas.List.Elements.{All-nil}
 use Rattle.std.proofs.lemmas.Option.{same_Some}
 use Rattle.std.proofs.lemmas.List.{drop_all, drop-append-le, length-take, take-append-le}
 use Rattle.std.proofs.lemmas.Nat.{div-add-mod'}
 use Rattle.dap_model.specs.Box.{box_len, box_of}
-use Rattle.dap_model.specs.Xdr.{count_twice, element_bytes, element_len, zeros_after, AreBitsOf}
+use Rattle.dap_model.specs.Xdr.{count_twice, element_bytes, element_len, zeros_after}
 use Rattle.dap_model.specs.declared.declaration.Array.{Array}
-use Rattle.dap_model.specs.declared.declaration.DapKind.{DapKind}
 use Rattle.dap_model.specs.declared.declaration.DapKind.TheVariants.{Int16}
-use Rattle.dap_model.specs.declared.projection.Slab.{Slab}
 use Rattle.dap_xdr.specs.Datasets.{IsStretchOf}
 use Rattle.dap_xdr.specs.Portion.{array_of, bits_in, body_of, numbers_from, IsPortion, Portion}
 use Rattle.dap_xdr.specs.Stretch.{ArePicked}
@@ -77,12 +74,6 @@ numbers-front n from front behind is =
     ∙ drop-both (numbers_from n 0) zeros (from - 8))
     ∙ front-behind (drop (from - 8) (numbers_from n 0)) _ front is
 
--- no bytes are those of no number
-pub picked-none : (kind : DapKind) (bits : List ℕ → ℕ) (slabs : List Slab) (element most : ℕ)
-    → ArePicked kind bits slabs element most []
-picked-none kind bits slabs element most =
-    record { count = 0; few = omega arith; bytes_are = record { fit = All-nil (AreBitsOf kind); bytes_are = refl } }
-
 -- what is picked of a portion is a stretch of what is sent
 pub stretch-of : (n : Portion) (element : ℕ) (bytes : List ℕ) → IsPortion n
     → ArePicked n.array.kind (bits_in n) n.sent.slabs element 18_446_744_073_709_551_615 bytes
@@ -90,5 +81,3 @@ pub stretch-of : (n : Portion) (element : ℕ) (bytes : List ℕ) → IsPortion 
 stretch-of n element bytes portion picked = λ array is.
     subst (λ (a : Array). ArePicked a.kind (bits_in n) n.sent.slabs element 18_446_744_073_709_551_615 bytes)
     (same_Some n.array array (sym portion.part_is ∙ is)) picked
-
-pub ruleset none = (picked-none)

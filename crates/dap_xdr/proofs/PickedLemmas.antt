@@ -3,14 +3,17 @@ use Rattle.std.proofs.Common.{◌≡◌, ◌≢◌, ℕ, zero, suc, ◌+◌, ◌
 use Rattle.std.specs.List.{AllZip}
 use Rattle.std.proofs.Math.Path.{subst₂}
 use Rattle.std.proofs.Math.Seq.{drop-cons}
+use Rattle.std.proofs.lemmas.List.Elements.{All-nil}
 use Rattle.std.proofs.lemmas.Option.{get_or_from_slice_get, slice_get_within}
 use Rattle.nc_model.specs.Layout.{IsIndex, indices_of, rank_in}
 use Rattle.nc_model.specs.declared.header.Dim.{Dim}
 use Rattle.nc_layout.proofs.OrderLemmas.{slice_get-indices_of}
 use Rattle.dap_model.specs.declared.projection.Slab.{Slab}
 use Rattle.dap_model.specs.declared.declaration.Array.{Array}
+use Rattle.dap_model.specs.declared.declaration.DapKind.{DapKind}
 use Rattle.dap_model.specs.declared.declaration.DapKind.TheVariants.{Text}
 use Rattle.dap_model.specs.Box.{box_len, box_of, index_at}
+use Rattle.dap_model.specs.Xdr.{AreBitsOf}
 use Rattle.dap_model.specs.ProjectionFacts.{FitsDim}
 use Rattle.dap_model.proofs.BoxLemmas.{EachPicks-index_at, get_or-box_of, length-box_of, split_of}
 use Rattle.dap_model.proofs.ProjectionFitLemmas.{picked_within}
@@ -147,3 +150,11 @@ has-text n element index portion text within same =
       index_is = subst (IsIndex (sizes_of n.array.dims)) (sym same)
           (index_at-within n.array.dims n.sent.slabs element portion.fits within);
     })
+
+-- no bytes are those of no number
+pub picked-none : {kind : DapKind} {bits : List ℕ → ℕ} {slabs : List Slab} {element most : ℕ}
+    → ArePicked kind bits slabs element most []
+picked-none {kind} =
+    record { count = 0; few = omega arith; bytes_are = record { fit = All-nil (AreBitsOf kind); bytes_are = refl } }
+
+pub ruleset none = (picked-none)

@@ -23,7 +23,7 @@ use Rattle.dap_xdr.specs.Rows.{rows_in, AreRowsAt, PickRows}
 use Rattle.dap_xdr.specs.Stretch.{extent_of, stored_bytes, stored_len, AreBytesOf, ArePicked, AreStored}
 use Rattle.dap_xdr.proofs.ElementLemmas.{flat-drop, flat-length}
 use Rattle.dap_xdr.proofs.ExtentLemmas.{sizes_of}
-use Rattle.dap_xdr.proofs.PickedLemmas.{follow, Stands}
+use Rattle.dap_xdr.proofs.PickedLemmas.{follow, picked-none, Stands}
 use Rattle.dap_xdr.proofs.RowLemmas.{are_whole}
 use Rattle.dap_xdr.proofs.StretchLemmas.{stretch_of, within_turns, Stretch}
 use Rattle.dap_xdr.proofs.TurnLemmas.{quotient, turning_of, within_of, within_turning, Turning}
@@ -222,11 +222,7 @@ rows-of n element most index stored rows portion number within same are lie = by
         → length (rows_in rows.row rows.step count stored) ≡ count * rows.row
         → ArePicked n.array.kind (bits_in n) n.sent.slabs element
         (count * (extent_of n.array.dims n.sent.slabs).unit) (rows_in rows.row rows.step count stored)
-    by_count zero few whole = record {
-      count = 0;
-      few = omega arith;
-      bytes_are = record { fit = All-nil (AreBitsOf n.array.kind); bytes_are = refl };
-    }
+    by_count zero few whole = picked-none
     by_count (suc count) few whole =
         let extent = extent_of n.array.dims n.sent.slabs in
         let some : 0 < rows.most = omega (arith, few) in
@@ -262,11 +258,7 @@ no-rows n element stored rows none = by_count
         → length (rows_in rows.row rows.step count stored) ≡ count * rows.row
         → ArePicked n.array.kind (bits_in n) n.sent.slabs element
         (count * (extent_of n.array.dims n.sent.slabs).unit) (rows_in rows.row rows.step count stored)
-    by_count zero few whole = record {
-      count = 0;
-      few = omega arith;
-      bytes_are = record { fit = All-nil (AreBitsOf n.array.kind); bytes_are = refl };
-    }
+    by_count zero few whole = picked-none
     by_count (suc count) few whole = absurd (omega (arith, few, none))
 
 -- from an element on some units are left of the turns

@@ -90,7 +90,7 @@ pub fn lent<'a>(set: &'a Dataset, sent: &Sent, from: u64) -> &'a [u8]
 
 // Numbers that are sent from an element on, as far as they stand together in a file: none of an array of many
 // dimensions.
-#[tactic(auto, using(crate::proofs::LendingLemmas::none))]
+#[tactic(auto, using(crate::proofs::PickedLemmas::none))]
 fn stretch_in<'a>(part: &Part<'a, '_>, element: u64) -> &'a [u8]
     requires { part.now.array.kind ≢ Kind.Text }
     ensures { ArePicked part.now.array.kind (bits_in part.now) part.now.sent.slabs element

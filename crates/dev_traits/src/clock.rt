@@ -11,8 +11,6 @@ ghost use Rattle.dev_traits.specs.Clock.{
 ghost use Rattle.dev_traits.specs.Door.{first_of};
 ghost use Rattle.dev_traits.specs.Lines.{Notes};
 
-use std::marker::Send;
-
 /// What became of the runs that were too old at a moment.
 #[derive(Clone, Copy, Debug, PartialEq, Eq)]
 pub enum Expiry {
@@ -25,7 +23,7 @@ pub enum Expiry {
 }
 
 /// A clock, which says when to act.
-pub trait Clock: Send {
+pub trait Clock {
     /// The moments that are left, whether one waits for its verdict, the verdicts and the lines, where they are known.
     ghost shown: { Self → Optional Moments };
 

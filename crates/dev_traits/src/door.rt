@@ -6,7 +6,6 @@ ghost use Rattle.dev_traits.specs.Door.{DoorShown, IfCame, IsFresh, MayCome, aft
 use crate::faults::Failed;
 use crate::link::Link;
 use fm_base::Bytes;
-use std::marker::Send;
 
 /// What a door was opened with.
 #[derive(Drop)]
@@ -31,8 +30,8 @@ pub enum Coming<L> {
 /// A door through which links come, several at once. Whoever serves them picks a key for each, by which the door names
 /// it. A link that was stepped either rests, and is watched again, or is given back. Where the door failed, no link
 /// comes any more, and those that are out go on.
-pub trait Door: Send {
-    type L: Link + Drop + Send;
+pub trait Door {
+    type L: Link + Drop;
 
     /// The links left to come, how many are out and those that were given back, where they are known, and how
     /// many calls have failed.

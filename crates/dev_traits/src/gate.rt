@@ -1,7 +1,5 @@
 //! A gate, at which tests hold a door.
 
-use std::marker::Sync;
-
 /// Where a door is, by the door's number.
 #[derive(Clone, Copy)]
 pub enum Place {
@@ -12,7 +10,7 @@ pub enum Place {
 }
 
 /// A gate that each door passes. Outside tests it does nothing.
-pub trait Gate: Sync {
+pub trait Gate {
     fn pass(&self, place: Place);
 }
 

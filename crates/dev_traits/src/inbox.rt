@@ -17,7 +17,6 @@ use crate::faults::Failed;
 use crate::files::Found;
 use fm_base::{Bytes, Fail};
 use std::alloc::Global;
-use std::marker::Send;
 
 /// What an inbox has next.
 #[derive(Drop)]
@@ -48,7 +47,7 @@ pub enum Verdict {
 }
 
 /// An inbox in which files arrive by their names.
-pub trait Inbox: Send {
+pub trait Inbox {
     /// The names left to come, the name given last, the content of each name, the verdicts and the lines, where
     /// they are known, and how many calls have failed.
     ghost shown: { Self → InboxShown };

@@ -29,9 +29,10 @@ use std::alloc::Global;
 use std::marker::{Send, Sync};
 
 /// What a run stands on: the types of all its devices, and what opens doors, inboxes and clocks. What it opens has had
-/// no failed call, and goes to a thread of its own.
+/// no failed call, and goes to a thread of its own. That is asked for here and not in the devices' traits, so that a
+/// method of another trait can take any device.
 pub trait Machine {
-    type D: Door + Drop + Send;
+    type D: Door<L: Send> + Drop + Send;
 
     type I: Inbox + Drop + Send;
 

@@ -1,19 +1,24 @@
-//! Rows about devices of the machine, over streams, listings and clocks in memory, and over folders.
+//! Rows about devices of the machine, over streams, listings and clocks in memory, over folders, and over its loopback
+//! device, its files and its clock.
 #![tactic(auto)]
 
 mod accepted;
 mod arriving;
 mod clocked;
+mod facts;
 mod foldered;
 mod hearing;
 mod keyed;
 mod limited;
 mod linked;
 mod listed;
+mod machine;
 mod turned;
 mod turns;
 
+pub use facts::Facts;
 use fm_base::NoMemory;
+pub use machine::tried;
 use row_text::{Answers, Row, Said};
 use std::alloc::{AllocError, Global};
 use turned::{Device, put_over_turns};

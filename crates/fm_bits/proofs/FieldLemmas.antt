@@ -6,9 +6,9 @@ use Rattle.std.proofs.lemmas.Nat.{pow-add, mul-add-lt, div-mul-add, mod-mul-add}
 use Rattle.nc_model.specs.Pattern.{bits_of_fields, float_value, value_of_fields}
 
 -- the value by equal fields
-same_fields : (w f : ℕ) (s t : Bool) (a b x y : ℕ) → s ≡ t → a ≡ b → x ≡ y
+same_fields : (w f : ℕ) {s t : Bool} {a b x y : ℕ} → s ≡ t → a ≡ b → x ≡ y
     → value_of_fields w f s a x ≡ value_of_fields w f t b y
-same_fields w f s t a b x y p q r = cc
+same_fields w f p q r = cc
 
 pub float_value-bits_of_fields : (w f : ℕ) (negative : Bool) (b x : ℕ) → b < 2 ^ w → x < 2 ^ f
     → float_value w f (bits_of_fields w f negative b x) ≡ value_of_fields w f negative b x
@@ -19,7 +19,7 @@ float_value-bits_of_fields w f true b x p q =
     let sign : nat_le (2 ^ (w + f)) n ≡ true = le-leb (2 ^ (w + f)) n (omega arith) in
     let exponent : n / 2 ^ f % 2 ^ w ≡ b = ap (λ y. y % 2 ^ w) high ∙ mod-mul-add 1 (2 ^ w) b p in
     let fraction : n % 2 ^ f ≡ x = ap (λ y. y % 2 ^ f) rows ∙ mod-mul-add (1 * 2 ^ w + b) (2 ^ f) x q in
-    same_fields w f _ _ _ _ _ _ sign exponent fraction
+    same_fields w f sign exponent fraction
 float_value-bits_of_fields w f false b x p q =
     let n = 0 + b * 2 ^ f + x in
     let rows : n ≡ (0 * 2 ^ w + b) * 2 ^ f + x = omega arith in
@@ -28,7 +28,7 @@ float_value-bits_of_fields w f false b x p q =
     lt-leb (2 ^ (w + f)) n (omega (arith, mul-add-lt b (2 ^ f) x (2 ^ w) p q, pow-add 2 w f)) in
     let exponent : n / 2 ^ f % 2 ^ w ≡ b = ap (λ y. y % 2 ^ w) high ∙ mod-mul-add 0 (2 ^ w) b p in
     let fraction : n % 2 ^ f ≡ x = ap (λ y. y % 2 ^ f) rows ∙ mod-mul-add (0 * 2 ^ w + b) (2 ^ f) x q in
-    same_fields w f _ _ _ _ _ _ sign exponent fraction
+    same_fields w f sign exponent fraction
 
 -- a number by what stands in its lower bits, in its higher ones, and above them
 by_rows : (w f n top : ℕ) → n / (2 ^ f * 2 ^ w) ≡ top → n ≡ top * 2 ^ (w + f) + n / 2 ^ f % 2 ^ w * 2 ^ f + n % 2 ^ f

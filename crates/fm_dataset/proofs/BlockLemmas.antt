@@ -69,21 +69,21 @@ module _ (proto : Proto) (row : Row) (var : ProtoVar) (number : ℕ) (has : HasS
   }
 
 -- a block in the file of the row that an index list picks
-pub block_along : (proto : Proto) (rows : List Row) (var : ProtoVar) (row : Row) (index bytes : List ℕ) (begin : ℕ)
+pub block_along : {proto : Proto} {rows : List Row} {var : ProtoVar} {row : Row} {index bytes : List ℕ} {begin : ℕ}
     → var.timed ≡ true → slice_get rows (slice_index index 0) ≡ Some row → LiesInFile proto row var bytes begin
     → IsBlock proto rows var index bytes begin
 unfolding element_of element_along
-block_along proto rows var row index bytes begin timed there lies = record {
+block_along {var = var} timed there lies = record {
   within = rw (timed, ← drop-map _ 1 var.dims) lies.within;
   each = λ other same. rw (timed, same timed, there, ← drop-map _ 1 var.dims) (lies.each (drop 1 other));
 }
 
 -- a block of what the prototype has
-pub block_fixed : (proto : Proto) (rows : List Row) (var : ProtoVar) (number : ℕ) (index bytes : List ℕ) (begin : ℕ)
+pub block_fixed : {proto : Proto} {rows : List Row} {var : ProtoVar} {number : ℕ} {index bytes : List ℕ} {begin : ℕ}
     → HasBlock proto rows var number index → var.timed ≡ false → bytes ≡ var.fixed → begin ≡ 0
     → IsBlock proto rows var index bytes begin
 unfolding element_of element_fixed
-block_fixed proto rows var number index bytes begin has untimed bytes_are begin_is = record {
+block_fixed {proto} {var = var} has untimed bytes_are begin_is = record {
   within = rw (untimed, bytes_are, begin_is) (omega (arith, has.elements untimed));
   each = λ other same.
       let from : size_of var.kind * rank_in (lengths_of proto var.dims) other

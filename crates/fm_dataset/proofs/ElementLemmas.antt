@@ -39,7 +39,7 @@ some_block proto rows var number index has = by_time var.timed refl
         record {
           bytes = row.file.content;
           begin = slot.begin + row.index * slot.step;
-          is = block_along proto rows var row index row.file.content (slot.begin + row.index * slot.step) timed there
+          is = block_along timed there
               (lies_in_file proto row var number slotted slot row.file.content
               (slot.begin + row.index * slot.step) found refl refl);
         }
@@ -54,7 +54,7 @@ some_block proto rows var number index has = by_time var.timed refl
     by_time false untimed = record {
       bytes = var.fixed;
       begin = 0;
-      is = block_fixed proto rows var number index var.fixed 0 has untimed refl refl;
+      is = block_fixed has untimed refl refl;
     }
 
 pub element_len : (proto : Proto) (rows : List Row) (var : ProtoVar) (number : ℕ) (index : List ℕ)
@@ -63,8 +63,7 @@ element_len proto rows var number index has =
     let block = some_block proto rows var number index has.block in
     let rank : ℕ = rank_in (row_shape proto var) (row_index var index) in
     let below = rank_in-lt (row_shape proto var) (row_index var index) has.index_is in
-    let fits = elements_fit proto rows var index block.bytes block.begin block.is (size_of var.kind) rank 1 refl
-    (omega (arith, below)) in
+    let fits = elements_fit block.is rank 1 refl (omega (arith, below)) in
     ap length (block.is.each index (λ _. refl))
     ∙ length-taken block.bytes (block.begin + size_of var.kind * rank) (size_of var.kind) (omega (arith, fits))
 

@@ -3,7 +3,7 @@ use Rattle.std.proofs.Common.{◌≡◌, ℕ, zero, suc, ◌-◌, ◌<◌, ◌�
 use Rattle.std.specs.Prelude.{slice_get, option_and_then}
 use Rattle.std.specs.List.{filter_map, cons_option}
 use Rattle.std.specs.Option.{option_map}
-use Rattle.std.proofs.lemmas.Bool.{eqb-true, and_parts, cases_order}
+use Rattle.std.proofs.lemmas.Bool.{eqb-true, and_parts, cases_lt}
 use Rattle.std.proofs.lemmas.List.{length-map}
 use Rattle.std.proofs.lemmas.List.Elements.{All-get_or}
 use Rattle.std.proofs.lemmas.Option.{none-some, same_Some, slice_get-map, slice_get_past, slice_get_within, get_or_from_slice_get}
@@ -106,10 +106,10 @@ part_is shown decl part array below e =
     at (Some var) is d = part_of shown.proto (length shown.rows) decl var is part array d
 
 -- a dimension of a variable is one of the prototype's
-pub dim_there : (proto : Proto) (decl k id : ℕ) (var : ProtoVar) → IsSound proto → slice_get proto.vars decl ≡ Some var
-    → slice_get (array_dims var) k ≡ Some id → id < length proto.dims
+pub dim_there : {proto : Proto} (decl k : ℕ) {id : ℕ} {var : ProtoVar} → IsSound proto
+    → slice_get proto.vars decl ≡ Some var → slice_get (array_dims var) k ≡ Some id → id < length proto.dims
 unfolding array_dims
-dim_there proto decl k id var sound there e =
+dim_there {proto} decl k {id} {var} sound there e =
     let below = slice_get_within proto.vars decl var there in
     let all : HasDims proto var = subst (HasDims proto) (get_or_from_slice_get proto.vars decl var var there)
     (All-get_or (HasDims proto) proto.vars decl var below sound.in_range) in
@@ -137,68 +137,35 @@ unfolding var_of_part
 no_decl proto decl zero n none some past = absurd (some refl)
 no_decl proto decl (suc k) n none some past = rw none (slice_get_past proto.vars n past)
 
-pub no_dim : (proto : Proto) (decl part n : ℕ) (var : ProtoVar) → slice_get proto.vars decl ≡ Some var
+pub no_dim : (proto : Proto) (decl part n : ℕ) {var : ProtoVar} → slice_get proto.vars decl ≡ Some var
     → (part ≡ 0 → ⊥) → slice_get (array_dims var) (part - 1) ≡ None → length proto.vars ≤ n
     → slice_get proto.vars n ≡ var_of_part proto decl part
 unfolding var_of_part
-no_dim proto decl zero n var there some none past = absurd (some refl)
-no_dim proto decl (suc k) n var there some none past =
+no_dim proto decl zero n there some none past = absurd (some refl)
+no_dim proto decl (suc k) n {var} there some none past =
     let back : suc k - 1 ≡ k = omega arith in
     let none' : slice_get (array_dims var) k ≡ None = rw back at none in
     rw (there, none') (slice_get_past proto.vars n past)
 
-pub found_dim : (proto : Proto) (decl part n id : ℕ) (var : ProtoVar) → slice_get proto.vars decl ≡ Some var
+pub found_dim : (proto : Proto) (decl part n : ℕ) {id : ℕ} {var : ProtoVar} → slice_get proto.vars decl ≡ Some var
     → (part ≡ 0 → ⊥) → slice_get (array_dims var) (part - 1) ≡ Some id → slice_get proto.vars n ≡ coordinate_of proto id
     → slice_get proto.vars n ≡ var_of_part proto decl part
 unfolding var_of_part
-found_dim proto decl zero n id var there some found is = absurd (some refl)
-found_dim proto decl (suc k) n id var there some found is =
+found_dim proto decl zero n there some found is = absurd (some refl)
+found_dim proto decl (suc k) n {id} {var} there some found is =
     let back : suc k - 1 ≡ k = omega arith in
     let found' : slice_get (array_dims var) k ≡ Some id = rw back at found in
     rw (there, found') is
 
--- the runs and the offsets are numbers
-pub only_variables_have_texts : (shown : Shown) (decl part : ℕ) (array : Array) → array_at shown decl part ≡ Some array
-    → array.kind ≡ daps.Text → decl < length shown.proto.vars
-unfolding array_at decls_of seconds_of_rows
-only_variables_have_texts shown decl part array e text = by_order (cases_order decl (length shown.proto.vars))
-  where
-    added : List Decl
-    added = seconds_of_rows shown.proto (length shown.rows) (run_name shown.proto.axis)
-        ∷ seconds_of_rows shown.proto (length shown.rows) (offset_name shown.proto.axis) ∷ []
+-- an array of the runs or of the offsets
+pub record IsAdded (shown : Shown) (array : Array) : Type 0 where
+  pub name : (array.name ≡ run_name shown.proto.axis) ⊎ (array.name ≡ offset_name shown.proto.axis)
+  pub kind : array.kind ≡ daps.Int32
+  pub dims : array.dims ≡ rows_dim shown.proto (length shown.rows) ∷ []
 
-    past : (n part : ℕ) → option_and_then (λ (found : Decl). slice_get (parts_of found) part) (slice_get added n)
-        ≡ Some array → ⊥
-    past zero zero d =
-        let kind : daps.Int32 ≡ array.kind = ap (λ (a : Array). a.kind) (same_Some _ array d) in
-        let bad : daps.Int32 ≡ daps.Text = kind ∙ text in cc
-    past (suc zero) zero d =
-        let kind : daps.Int32 ≡ array.kind = ap (λ (a : Array). a.kind) (same_Some _ array d) in
-        let bad : daps.Int32 ≡ daps.Text = kind ∙ text in cc
-    past zero (suc k) d = none-some array d
-    past (suc zero) (suc k) d = none-some array d
-    past (suc (suc n)) part d = none-some array d
-
-    outside : length shown.proto.vars ≤ decl → ⊥
-    outside most =
-        let long = length-map shown.proto.vars (decl_of shown.proto (length shown.rows)) in
-        let same : slice_get (decls_of shown.proto (length shown.rows)) decl
-        ≡ slice_get added (decl - length shown.proto.vars) =
-        slice_get-after (map (decl_of shown.proto (length shown.rows)) shown.proto.vars) added decl
-        (omega (arith, long, most))
-        ∙ ap (slice_get added) (ap (λ (n : ℕ). decl - n) long) in
-        past (decl - length shown.proto.vars) part (rw same at e)
-
-    by_order : (decl ≡ length shown.proto.vars) ⊎ (decl < length shown.proto.vars) ⊎ (length shown.proto.vars < decl)
-        → decl < length shown.proto.vars
-    by_order (inl same) = absurd (outside (omega (arith, same)))
-    by_order (inr (inl below)) = below
-    by_order (inr (inr over)) = absurd (outside (omega (arith, over)))
-
--- the arrays of the runs and the offsets
+-- those that follow the variables are the runs and the offsets
 pub added_array : (shown : Shown) (decl part : ℕ) (array : Array) → length shown.proto.vars ≤ decl
-    → array_at shown decl part ≡ Some array
-    → (array.kind ≡ daps.Int32) × (array.dims ≡ rows_dim shown.proto (length shown.rows) ∷ [])
+    → array_at shown decl part ≡ Some array → IsAdded shown array
 unfolding array_at decls_of seconds_of_rows
 added_array shown decl part array most e =
     let long = length-map shown.proto.vars (decl_of shown.proto (length shown.rows)) in
@@ -214,13 +181,21 @@ added_array shown decl part array most e =
         ∷ seconds_of_rows shown.proto (length shown.rows) (offset_name shown.proto.axis) ∷ []
 
     past : (n part : ℕ) → option_and_then (λ (found : Decl). slice_get (parts_of found) part) (slice_get added n)
-        ≡ Some array → (array.kind ≡ daps.Int32) × (array.dims ≡ rows_dim shown.proto (length shown.rows) ∷ [])
+        ≡ Some array → IsAdded shown array
     past zero zero d =
-        let is = same_Some _ array d in
-        (ap (λ (a : Array). a.kind) (sym is), ap (λ (a : Array). a.dims) (sym is))
+        subst (IsAdded shown) (same_Some _ array d) (record { name = inl refl; kind = refl; dims = refl })
     past (suc zero) zero d =
-        let is = same_Some _ array d in
-        (ap (λ (a : Array). a.kind) (sym is), ap (λ (a : Array). a.dims) (sym is))
+        subst (IsAdded shown) (same_Some _ array d) (record { name = inr refl; kind = refl; dims = refl })
     past zero (suc k) d = absurd (none-some array d)
     past (suc zero) (suc k) d = absurd (none-some array d)
     past (suc (suc n)) part d = absurd (none-some array d)
+
+-- they are numbers
+pub only_variables_have_texts : (shown : Shown) (decl part : ℕ) (array : Array) → array_at shown decl part ≡ Some array
+    → array.kind ≡ daps.Text → decl < length shown.proto.vars
+only_variables_have_texts shown decl part array e text = elim (cases_lt decl (length shown.proto.vars)) [
+  | inl below ↦ below
+  | inr most ↦
+      let bad : daps.Int32 ≡ daps.Text = sym (added_array shown decl part array most e).kind ∙ text in
+      absurd cc
+]

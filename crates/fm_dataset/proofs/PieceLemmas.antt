@@ -139,41 +139,41 @@ length-piece bytes begin size fits =
     omega (arith, taken)
 
 -- the number of an index list, and how many there are, over the same dimensions
-pub same_rank : (f : ℕ → ℕ) (n : ℕ) (ids dims within index : List ℕ) → n ≡ rank_in (map f ids) within → ids ≡ dims
+pub same_rank : (f : ℕ → ℕ) {n : ℕ} {ids dims within index : List ℕ} → n ≡ rank_in (map f ids) within → ids ≡ dims
     → within ≡ index → n ≡ rank_in (map f dims) index
-same_rank f n ids dims within index is ids_are within_is =
+same_rank f is ids_are within_is =
     is ∙ ap₂ (λ (xs ys : List ℕ). rank_in (map f xs) ys) ids_are within_is
 
-pub same_count : (f : ℕ → ℕ) (n : ℕ) (ids dims : List ℕ) → n ≡ product (map f ids) → ids ≡ dims
+pub same_count : (f : ℕ → ℕ) {n : ℕ} {ids dims : List ℕ} → n ≡ product (map f ids) → ids ≡ dims
     → n ≡ product (map f dims)
-same_count f n ids dims is ids_are = is ∙ ap (λ (xs : List ℕ). product (map f xs)) ids_are
+same_count f is ids_are = is ∙ ap (λ (xs : List ℕ). product (map f xs)) ids_are
 
 -- what the code cuts in two, as lengths
-pub front_shape : (f : ℕ → ℕ) (before ids dims within index : List ℕ) → before ≡ take (length within) ids → ids ≡ dims
+pub front_shape : (f : ℕ → ℕ) {before ids dims within index : List ℕ} → before ≡ take (length within) ids → ids ≡ dims
     → within ≡ index → map f before ≡ take (length index) (map f dims)
-front_shape f before ids dims within index front same is = rw (front, same, is) (sym (take-map f (length index) dims))
+front_shape f {dims = dims} {index = index} front same is = rw (front, same, is) (sym (take-map f (length index) dims))
 
-pub back_shape : (f : ℕ → ℕ) (after ids dims within index : List ℕ) → after ≡ drop (length within) ids → ids ≡ dims
+pub back_shape : (f : ℕ → ℕ) {after ids dims within index : List ℕ} → after ≡ drop (length within) ids → ids ≡ dims
     → within ≡ index → map f after ≡ drop (length index) (map f dims)
-back_shape f after ids dims within index back same is = rw (back, same, is) (sym (drop-map f (length index) dims))
+back_shape f {dims = dims} {index = index} back same is = rw (back, same, is) (sym (drop-map f (length index) dims))
 
-module _ (proto : Proto) (rows : List Row) (var : ProtoVar) (index bytes : List ℕ) (begin : ℕ)
+module _ {proto : Proto} {rows : List Row} {var : ProtoVar} {index bytes : List ℕ} {begin : ℕ}
     (block : IsBlock proto rows var index bytes begin) where
   -- an element, or more that follow it, lies within the bytes
-  pub elements_fit : (size first count : ℕ) → size ≡ size_of var.kind → first + count ≤ product (row_shape proto var)
-      → begin + size * first + size * count ≤ length bytes
-  elements_fit size first count size_is few =
+  pub elements_fit : {size : ℕ} (first count : ℕ) → size ≡ size_of var.kind
+      → first + count ≤ product (row_shape proto var) → begin + size * first + size * count ≤ length bytes
+  elements_fit first count size_is few =
       let fits = pieces_within begin (size_of var.kind) first count (product (row_shape proto var)) (length bytes)
       block.within few in
       rw size_is fits
 
   -- the elements that follow an index list
-  pub raw_is : (size first most : ℕ) → size ≡ size_of var.kind
+  pub raw_is : {size first : ℕ} (most : ℕ) → size ≡ size_of var.kind
       → first ≡ rank_in (row_shape proto var) (row_index var index)
       → var_raw proto rows var index most
       ≡ take (size * min most (product (row_shape proto var) - first)) (drop (begin + size * first) bytes)
   unfolding var_raw indices_from indices_in_row
-  raw_is size first most size_is first_is =
+  raw_is most size_is first_is =
       by_case var.timed refl (row_shape proto var) block.each
       ∙ ap₂ (λ s k. take (s * min most (product (row_shape proto var) - k)) (drop (begin + s * k) bytes))
       (sym size_is) (sym first_is)
@@ -194,13 +194,13 @@ module _ (proto : Proto) (rows : List Row) (var : ProtoVar) (index bytes : List 
           (λ other. each other (other_row var untimed))
 
   -- the characters at an index list
-  pub characters_are : (first len : ℕ) → size_of var.kind ≡ 1 → (var.timed ≡ true → 0 < length index)
+  pub characters_are : {first len : ℕ} → size_of var.kind ≡ 1 → (var.timed ≡ true → 0 < length index)
       → length (row_index var index) ≡ length (take (length (row_index var index)) (row_shape proto var))
       → first ≡ rank_in (take (length (row_index var index)) (row_shape proto var)) (row_index var index)
       → len ≡ product (drop (length (row_index var index)) (row_shape proto var))
       → characters proto rows var index ≡ take (len * 1) (drop (begin + len * first) bytes)
   unfolding characters
-  characters_are first len small some = by_case var.timed refl index some block.each
+  characters_are {first} {len} small some = by_case var.timed refl index some block.each
     where
       by_case : (b : Bool) → var.timed ≡ b → (index : List ℕ) → (var.timed ≡ true → 0 < length index)
           → ((other : List ℕ) → (var.timed ≡ true → slice_index other 0 ≡ slice_index index 0)

@@ -1,6 +1,7 @@
 -- What is small in a prototype: the lengths of its dimensions, and the number of dimensions and of fixed elements of a
 -- variable.
 use Rattle.std.proofs.Common.{◌≡◌, ℕ, ◌*◌, ◌^◌, ◌<◌, ◌≤◌, Bool, true, false, cond, List, [], ◌∷◌, length, map, sym, subst, ◌∙◌, arith}
+use Rattle.std.specs.List.{AllByRecursion}
 use Rattle.std.proofs.Math.Nat.{le_of_mul-le-mul_left}
 use Rattle.nc_model.specs.declared.header.Dim.{Dim}
 use Rattle.nc_model.specs.declared.header.Header.{Header}
@@ -16,7 +17,7 @@ use Rattle.fm_model.specs.declared.site.Site.{Site}
 use Rattle.fm_model.specs.Prototype.{kept_vars, lengths_of, proto_var, proto_with, with_length}
 use Rattle.fm_model.specs.Site.{IsPrototype}
 use Rattle.fm_model.proofs.HeaderLemmas.{proto_has_data}
-use Rattle.fm_model.proofs.KeptLemmas.{has_elements}
+use Rattle.fm_model.proofs.KeptLemmas.{each_by_recursion, has_elements}
 use Rattle.fm_model.proofs.Members.{Each, Each-from_in, Each-in, each_from_All, In, in_filter, in_map}
 use Rattle.fm_model.proofs.ProtoLemmas.{IsProto-proto_of}
 use Rattle.fm_dataset.proofs.CountLemmas.{size-pos}
@@ -42,16 +43,16 @@ module _ (bytes : List ℕ) (site : Site) (header : Header) (axis : NcVar) (limi
       by_case true = limited.numrecs
       by_case false = small
 
-  sizes_limit : (dims : List Dim) → Each (λ (dim : Dim). dim.size < 2 ^ 31) dims
+  sizes_limit : (dims : List Dim) → AllByRecursion (λ (dim : Dim). dim.size < 2 ^ 31) dims
       → Each (λ (dim : Dim). dim.size < 2 ^ 31) (map (with_length header) dims)
-  sizes_limit [] each = tt
-  sizes_limit (dim ∷ dims) each = (size_limit dim each.0, sizes_limit dims each.1)
+  sizes_limit [] all = tt
+  sizes_limit (dim ∷ dims) all = (size_limit dim all.0, sizes_limit dims all.1)
 
   var_limit : (var : NcVar) → In var header.vars → EndsWithin header (length bytes) var
       → HasLimit (proto_with bytes site header axis) (proto_var bytes header axis var)
   unfolding proto_var
   var_limit var held ends = record {
-    rank = Each-in (λ (v : NcVar). length v.dims ≤ 1024) var header.vars limited.vars held;
+    rank = each_by_recursion (λ (v : NcVar). length v.dims ≤ 1024) header.vars limited.vars var held;
     few = λ untimed.
         let kept = has_elements bytes site header axis var ends untimed in
         let all : length (proto_var bytes header axis var).fixed ≡ size_of var.kind * product (shape_of header var) =

@@ -36,7 +36,7 @@ small_arrays shown decl part array given rows_are e = by_order (cases_order decl
   where
     past : length shown.proto.vars ≤ decl → IsSmall array
     past most =
-        let dims = (added_array shown decl part array most e).1 in
+        let dims = (added_array shown decl part array most e).dims in
         let few = rows_are.few in
         small_by array (rows_dim shown.proto (length shown.rows) ∷ []) dims (omega arith) (rows_are.some, tt)
         (omega (arith, few))
@@ -80,8 +80,7 @@ short_text shown small var slot index has =
     let block = some_block shown.proto shown.rows var slot index has.block in
     let len : ℕ = product (drop (length (row_index var index)) (row_shape shown.proto var)) in
     let first : ℕ = rank_in (take (length (row_index var index)) (row_shape shown.proto var)) (row_index var index) in
-    let all = ap length (characters_are shown.proto shown.rows var index block.bytes block.begin block.is first len
-    has.small has.some (length-index _ _ has.index_is) refl refl) in
+    let all = ap length (characters_are block.is has.small has.some (length-index _ _ has.index_is) refl refl) in
     let taken = length-take (len * 1) (drop (block.begin + len * first) block.bytes) in
     let few = short_product shown.proto small (length (row_index var index)) (row_dims var) has.last in
     let text : List ℕ = characters shown.proto shown.rows var index in

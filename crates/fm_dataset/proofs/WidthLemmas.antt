@@ -89,4 +89,4 @@ pub added_fits : (shown : Shown) (decl part bits : ℕ) (array : Array) → leng
     → bits < 2 ^ 32 → array_at shown decl part ≡ Some array → AreBitsOf array.kind bits
 unfolding bits_in
 added_fits shown decl part bits array most small e =
-    subst (λ (k : DapKind). AreBitsOf k bits) (sym (added_array shown decl part array most e).0) small
+    subst (λ (k : DapKind). AreBitsOf k bits) (sym (added_array shown decl part array most e).kind) small

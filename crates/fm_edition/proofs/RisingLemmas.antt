@@ -19,4 +19,5 @@ each_newest least (entry ∷ entries) timed rises =
 pub all_newest : (least : Option ℤ) (entries : List (ℤ × List Loaded)) → All IsTimed entries
     → each_rises entries ≡ true → All (IsReady (Newest least)) entries
 all_newest least entries timed rises =
-    All-from_each (IsReady (Newest least)) entries (each_newest least entries (each_from_All IsTimed entries timed) rises)
+    All-from_each (IsReady (Newest least)) entries
+    (each_newest least entries (each_from_All IsTimed entries timed) rises)

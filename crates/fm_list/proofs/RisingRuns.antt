@@ -58,7 +58,8 @@ at_most a b e = omega (arith, ints)
 
 -- the last file that keeps the least offset is of the best run
 pub best-of_last : (files : List Loaded) (valid : ℤ) (least : Option ℤ) (file : Loaded) → HaveTime valid files
-    → runs_rise files ≡ true → last_such (is_late least valid) files ≡ Some file → best files valid least ≡ Some file.run
+    → runs_rise files ≡ true → last_such (is_late least valid) files ≡ Some file
+    → best files valid least ≡ Some file.run
 unfolding has_time
 best-of_last files valid least file have rises is =
     let last = is_last (is_late least valid) files file is in

@@ -54,7 +54,8 @@ AreSound files = All HasSoundTimes files
 abbrev pub HaveTime : ℤ → List Loaded → Type 0
 HaveTime valid files = All (λ (file : Loaded). has_time valid file ≡ true) files
 
--- whether the first of some files is of no earlier run than this, and each other of no earlier run than the one before it
+-- whether the first of some files is of no earlier run than this, and each other of no earlier run than the one before
+-- it
 abbrev pub runs_rise_from : ℤ → List Loaded → Bool
 runs_rise_from run [] = true
 runs_rise_from run (file ∷ files) = int_le run file.run && runs_rise_from file.run files

@@ -39,7 +39,8 @@ pub fn best_among(files: &[Placed], valid: i64, least: Option<i64>) -> Option<i6
     greatest
 }
 
-// Whether the first of the files is of no earlier run than this, and each other of no earlier run than the one before it.
+// Whether the first of the files is of no earlier run than this, and each other of no earlier run than the one before
+// it.
 fn rise_from(run: i64, files: &[Placed]) -> bool
     ensures { result ≡ spec.runs_rise_from run files.now }
 {

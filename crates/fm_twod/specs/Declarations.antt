@@ -12,7 +12,7 @@ use Rattle.dap_model.specs.declared.declaration.Decl.TheVariants.{Plain}
 use Rattle.fm_dataset.specs.Declarations.{array_of}
 use Rattle.fm_twod.specs.declared.declare.Sides.{Sides}
 
--- the dimensions of so many runs and offsets
+-- the dimensions of these numbers of runs and offsets
 unfoldable pub sides_of : Proto → ℕ → ℕ → Sides
 sides_of proto runs offsets = record {
   run = record { name = run_name proto.axis; size = runs };

@@ -27,7 +27,7 @@ fn side(alloc: Global, axis: &[u8], after: &[u8], size: u64) -> Result<Dim, NoMe
     Ok(Dim { name, size })
 }
 
-// The dimensions of so many runs and offsets.
+// The dimensions of these numbers of runs and offsets.
 #[tactic(auto, unfolding(crate::specs::Declarations::sides_of, fm_model::specs::Prototype::run_name, fm_model::specs::Prototype::offset_name))]
 pub(crate) fn sides_of(
     alloc: Global,

@@ -31,7 +31,7 @@ fn set_of(alloc: Global, edition: &Edition, rows: Rows) -> Result<Dataset, NoMem
     Ok(set)
 }
 
-// The declarations of so many runs and offsets.
+// The declarations of these numbers of runs and offsets.
 fn decls_of(alloc: Global, set: &Dataset, runs: u64, offsets: u64) -> Result<List<Decl>, NoMemory>
     ensures { IfOk result (λ decls. decls
         ≡ grid_decls (sides_of set.now.proto runs offsets) set.now.proto (length set.now.rows)) }

@@ -1,17 +1,14 @@
 -- What is read as a header is spelled so, what is spelled so is read as that header, and so bytes have one at most.
-use Rattle.std.proofs.Common.{◌≡◌, List, ℕ, Ok, Err, sym, ap, ◌∙◌}
+use Rattle.std.proofs.Common.{◌≡◌, List, ℕ, Ok, sym, ap, ◌∙◌}
 use Rattle.nc_model.specs.declared.fault.HeaderFault.{HeaderFault}
 use Rattle.nc_model.specs.declared.header.Header.{Header}
 use Rattle.nc_model.specs.Format.{IsBytes}
-use Rattle.fm_base.specs.Input.{Input, whole}
+use Rattle.fm_base.specs.Input.{whole}
 use Rattle.nc_model.specs.Reading.{header_at, header_or_fault}
 use Rattle.nc_model.specs.Spelling.{HeaderOf}
 use Rattle.nc_model.proofs.HeaderParts.{Exact-header_at}
+use Rattle.nc_model.proofs.ReadFacts.{value_of-ok}
 use Rattle.fm_base.specs.Parser.{Outcome, value_of}
-
-value_of-ok : {A E : Type 0} (r : Outcome A E) (x : A) → value_of r ≡ Ok x → (i : Input) × (r ≡ Ok (x, i))
-value_of-ok {A = A} (Ok p) x e = let same : p.0 ≡ x = cc in (p.1, ap (λ (y : A). Ok (y, p.1)) same)
-value_of-ok (Err fault) x e = absurd cc
 
 -- what is read as a header is spelled so
 pub HeaderOf-from_read : (bytes : List ℕ) (h : Header) → IsBytes bytes → header_or_fault bytes ≡ Ok h → HeaderOf bytes h

@@ -2,7 +2,7 @@
 use Rattle.std.proofs.Common.{◌≡◌, ℕ, List, length, None, Result, Ok, Err, subst}
 use Rattle.std.specs.Option.{option_map}
 use Rattle.nc_model.specs.declared.header.Header.{Header}
-use Rattle.fm_base.specs.Chain.{◌>>=◌, ◌>>◌, refuse, fault_as}
+use Rattle.fm_base.specs.Chain.{◌>>◌, refuse, fault_as}
 use Rattle.nc_model.specs.Layout.{layout_fault}
 use Rattle.nc_model.specs.Reading.{header_or_fault}
 use Rattle.nc_model.specs.declared.fault.FormatFault.{FormatFault}

@@ -1,10 +1,10 @@
 -- The names and the rank of an array of a dataset.
-use Rattle.std.proofs.Common.{◌≡◌, ℕ, zero, suc, ◌-◌, ◌<◌, ◌≤◌, Bool, true, false, cond, List, [], ◌∷◌, codes, length, map, take, drop, Some, ◌⊎◌, inl, inr, refl, sym, ap, subst, ◌∙◌, arith}
-use Rattle.std.specs.Prelude.{option_and_then, slice_get, IsTrue}
+use Rattle.std.proofs.Common.{◌≡◌, ℕ, ◌-◌, ◌<◌, ◌≤◌, Bool, true, false, cond, List, [], ◌∷◌, codes, length, map, take, drop, Some, ◌⊎◌, inl, inr, refl, sym, ap, subst, arith}
+use Rattle.std.specs.Prelude.{IsTrue}
 use Rattle.std.specs.List.{AllByRecursion}
-use Rattle.std.proofs.lemmas.Bool.{cases_order}
+use Rattle.std.proofs.lemmas.Bool.{cases_lt}
 use Rattle.std.proofs.lemmas.List.{length-drop, length-map, length-take}
-use Rattle.std.proofs.lemmas.Option.{none-some, same_Some, slice_get_cases}
+use Rattle.std.proofs.lemmas.Option.{slice_get_cases}
 use Rattle.nc_model.specs.declared.kind.Kind.{Kind}
 use Rattle.nc_model.specs.declared.kind.Kind.TheVariants as kinds
 use Rattle.nc_model.specs.Format.{is_name_text}
@@ -18,13 +18,11 @@ use Rattle.fm_model.proofs.Members.{Each, Each-in, each_from_All}
 use Rattle.fm_model.proofs.ProtoLemmas.{IsSound-given}
 use Rattle.dap_model.specs.declared.declaration.Array.{Array}
 use Rattle.dap_model.specs.declared.declaration.DapKind.TheVariants as daps
-use Rattle.dap_model.specs.declared.declaration.Decl.{Decl}
-use Rattle.dap_model.specs.Picking.{parts_of}
-use Rattle.fm_dataset.specs.Declarations.{array_dims, array_of, dap_kind_of, decl_of, decls_of, dim_at, dims_in, is_axis_of, kind_in, rows_dim, seconds_of_rows}
+use Rattle.fm_dataset.specs.Declarations.{array_dims, array_of, dap_kind_of, dim_at, dims_in, is_axis_of, kind_in, rows_dim}
 use Rattle.fm_dataset.specs.Values.{array_at, Shown}
 use Rattle.fm_dataset.proofs.ElementLemmas.{var_there}
 use Rattle.fm_dataset.proofs.LongLemmas.{Each-take}
-use Rattle.fm_dataset.proofs.PartLemmas.{added_array, part_is, slice_get-after}
+use Rattle.fm_dataset.proofs.PartLemmas.{added_array, part_is, IsAdded}
 use Rattle.nc_writer.proofs.NameLemmas.{behind, offset-text, run-text}
 use Rattle.nc_writer.proofs.ProtoLemmas.{named-proto, IsNamedDim, IsNamedProto, IsNamedVar}
 
@@ -137,56 +135,27 @@ array-of-var proto count var named own there = record {
 
 -- ---- the run and the offset of each row
 
-added-name : (shown : Shown) (decl part : ℕ) (array : Array) → IsTrue (is_name_text shown.proto.axis)
-    → length shown.proto.vars ≤ decl → array_at shown decl part ≡ Some array → IsTrue (is_name_text array.name)
-unfolding array_at decls_of seconds_of_rows run_name offset_name
-added-name shown decl part array named most e =
-    let long = length-map shown.proto.vars (decl_of shown.proto (length shown.rows)) in
-    let same : slice_get (decls_of shown.proto (length shown.rows)) decl
-    ≡ slice_get added (decl - length shown.proto.vars) =
-    slice_get-after (map (decl_of shown.proto (length shown.rows)) shown.proto.vars) added decl
-    (omega (arith, long, most))
-    ∙ ap (slice_get added) (ap (λ (n : ℕ). decl - n) long) in
-    past (decl - length shown.proto.vars) part (rw same at e)
-  where
-    added : List Decl
-    added = seconds_of_rows shown.proto (length shown.rows) (run_name shown.proto.axis)
-        ∷ seconds_of_rows shown.proto (length shown.rows) (offset_name shown.proto.axis) ∷ []
-
-    past : (n part : ℕ) → option_and_then (λ (found : Decl). slice_get (parts_of found) part) (slice_get added n)
-        ≡ Some array → IsTrue (is_name_text array.name)
-    past zero zero d =
-        subst (λ (a : Array). IsTrue (is_name_text a.name)) (same_Some _ array d)
-        (behind shown.proto.axis (codes "_run") named run-text)
-    past (suc zero) zero d =
-        subst (λ (a : Array). IsTrue (is_name_text a.name)) (same_Some _ array d)
-        (behind shown.proto.axis (codes "_offset") named offset-text)
-    past zero (suc k) d = absurd (none-some array d)
-    past (suc zero) (suc k) d = absurd (none-some array d)
-    past (suc (suc n)) part d = absurd (none-some array d)
+added-name : (shown : Shown) (array : Array) → IsTrue (is_name_text shown.proto.axis) → IsAdded shown array
+    → IsTrue (is_name_text array.name)
+unfolding run_name offset_name
+added-name shown array named is = elim is.name [
+  | inl run ↦
+      subst (λ (name : List ℕ). IsTrue (is_name_text name)) (sym run)
+      (behind shown.proto.axis (codes "_run") named run-text)
+  | inr offset ↦
+      subst (λ (name : List ℕ). IsTrue (is_name_text name)) (sym offset)
+      (behind shown.proto.axis (codes "_offset") named offset-text)
+]
 
 pub named-array : (shown : Shown) (decl part : ℕ) (array : Array) → IsPrototype shown.proto
     → array_at shown decl part ≡ Some array → IsNamedArray array
-named-array shown decl part array given e = by_order (cases_order decl (length shown.proto.vars))
+named-array shown decl part array given e = by_order (cases_lt decl (length shown.proto.vars))
   where
     named : IsNamedProto shown.proto
     named = named-proto shown.proto given
 
-    past : length shown.proto.vars ≤ decl → IsNamedArray array
-    past most =
-        let added = added_array shown decl part array most e in
-        let few : length array.dims ≡ 1 = ap length added.1 in
-        record {
-          named = added-name shown decl part array named.axis most e;
-          dims = subst (AllByRecursion IsNamedDim) (sym added.1) (named.axis, tt);
-          rank = omega (arith, few);
-          texts = λ text. omega (arith, few);
-        }
-
-    by_order : (decl ≡ length shown.proto.vars) ⊎ (decl < length shown.proto.vars) ⊎ (length shown.proto.vars < decl)
-        → IsNamedArray array
-    by_order (inl same) = past (omega (arith, same))
-    by_order (inr (inl below)) =
+    by_order : (decl < length shown.proto.vars) ⊎ (length shown.proto.vars ≤ decl) → IsNamedArray array
+    by_order (inl below) =
         let is = part_is shown decl part array below e in
         let there = var_there shown.proto decl part is.var is.var_is in
         let held = in_from_slice_get shown.proto.vars there.0 is.var there.1 in
@@ -195,4 +164,12 @@ named-array shown decl part array given e = by_order (cases_order decl (length s
         (Each-in IsNamedVar is.var shown.proto.vars named.vars held)
         (Each-in (HasDims shown.proto) is.var shown.proto.vars
         (each_from_All (HasDims shown.proto) shown.proto.vars sound.in_range) held))
-    by_order (inr (inr over)) = past (omega (arith, over))
+    by_order (inr most) =
+        let is = added_array shown decl part array most e in
+        let few : length array.dims ≡ 1 = ap length is.dims in
+        record {
+          named = added-name shown array named.axis is;
+          dims = subst (AllByRecursion IsNamedDim) (sym is.dims) (named.axis, tt);
+          rank = omega (arith, few);
+          texts = λ text. omega (arith, few);
+        }

@@ -14,7 +14,7 @@ use Rattle.fm_model.specs.Variable.{axis_of, is_axis}
 use Rattle.fm_model.proofs.FindLemmas.{in_find}
 use Rattle.fm_model.proofs.HeaderLemmas.{proto_has_data}
 use Rattle.fm_model.proofs.KeptLemmas.{each_by_recursion}
-use Rattle.fm_model.proofs.Members.{Each, Each-from_in, Each-in, in_filter, in_map}
+use Rattle.fm_model.proofs.Members.{Each, Each-from_in, in_filter, in_map}
 use Rattle.fm_model.proofs.ProtoLemmas.{IsProto-proto_of}
 use Rattle.fm_dataset.proofs.LimitLemmas.{IsLimited-from_read}
 use Rattle.nc_writer.proofs.NamedLemmas.{AreReadAttrs, IsReadHeader-from_read, IsReadVar}
@@ -61,7 +61,7 @@ named-proto proto given =
           let found = in_map (proto_var given.bytes p.header p.axis) v (kept_vars p.header p.axis) h in
           let held = (in_filter _ found.0 p.header.vars found.1).0 in
           subst IsNamedVar found.2 (named-var given.bytes p.header p.axis found.0
-          (Each-in (λ (w : NcVar). length w.dims ≤ MAX_RANK) found.0 p.header.vars limited.vars held)
+          (each_by_recursion (λ (w : NcVar). length w.dims ≤ MAX_RANK) p.header.vars limited.vars found.0 held)
           (each_by_recursion IsReadVar p.header.vars read.vars found.0 held)));
     } in
     subst IsNamedProto p.proto_is all

@@ -11,6 +11,7 @@ use Rattle.nc_model.specs.declared.kind.Kind.TheVariants.{Byte, Char, Short, Int
 use Rattle.nc_model.specs.Format.{is_name_text}
 use Rattle.nc_model.specs.Kind.{size_of}
 use Rattle.nc_model.specs.Spelling.{AreDistinct}
+use Rattle.nc_model.proofs.Parts.{name_of_attr}
 use Rattle.fm_model.specs.declared.proto.Proto.{Proto}
 use Rattle.fm_model.specs.declared.proto.ProtoVar.{ProtoVar}
 use Rattle.fm_model.specs.declared.row.ViewName.{ViewName}
@@ -22,7 +23,7 @@ use Rattle.dap_das.specs.Attributes.{axis_attributes, axis_standard_name, calend
 use Rattle.dap_das.specs.AttributeText.{value_count}
 use Rattle.nc_writer.specs.Attributes.{added_attributes, attributes_in, attributes_of, is_of_name, is_written, shown_attributes}
 use Rattle.nc_writer.proofs.NameLemmas.{calendar-text, standard_name-text, units-text}
-use Rattle.nc_writer.proofs.NamedLemmas.{name_of_attr, AreReadAttrs, IsReadAttr}
+use Rattle.nc_writer.proofs.NamedLemmas.{AreReadAttrs, IsReadAttr}
 use Rattle.nc_writer.proofs.ProtoLemmas.{IsNamedProto, IsNamedVar}
 use Rattle.nc_writer.proofs.FieldLemmas.{IsWritableAttr}
 

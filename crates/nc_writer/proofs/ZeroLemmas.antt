@@ -14,7 +14,8 @@ unfolding overlay
 put-zeros len from count old new is written =
     let left : drop from (replicate {A = ℕ} len 0) ≡ replicate (len - from) 0 =
     drop-replicate from len 0 in
-    let long : length (drop from (replicate {A = ℕ} len 0)) ≡ len - from = ap length left ∙ length-replicate (len - from) 0 in
+    let long : length (drop from (replicate {A = ℕ} len 0)) ≡ len - from =
+    ap length left ∙ length-replicate (len - from) 0 in
     record {
       count_is = omega (arith, is, long);
       new_is = elim (cases_lt (len - from) (length old)) [

@@ -4,7 +4,7 @@
 
 mod commands;
 
-use device_rows::Devices;
+use device_rows::{Devices, tried};
 use file_rows::Files;
 use reply_rows::Collections;
 use row_text::{Answers, Count, File, Row, Said, Text, end, read_inputs, run};
@@ -45,6 +45,10 @@ fn run_text<R: Threads + Wait + Eprint + Sync>(
         "files" => run(rt, alloc, path, rows, &Files { files }, count),
         "replies" => run(rt, alloc, path, rows, collections, count),
         "devices" => run(rt, alloc, path, rows, devices, count),
+        "machine" => {
+            let facts = tried(rt, devices.rt, rows)?;
+            run(rt, alloc, path, rows, &facts, count)
+        }
         _ => run(rt, alloc, path, rows, &Unknown, count),
     }
 }

@@ -3,6 +3,7 @@
 
 mod arriving;
 mod course;
+mod gates;
 mod given;
 mod in_step;
 mod meeting;

@@ -133,7 +133,8 @@ serves-none them start now link session most end s more f = ⊎_elim at_fault at
     at_fault : (end ≡ ends.LinkFault) × (link.faults ≡ one_more now.link.faults)
         → ServesMany them start after most (stops.Ended end)
     at_fault why =
-        let has : HasFailed (call_in (call false) 0) = failed (call_in (call false) 0) (why.1 ∙ ap one_more s.faults_are) in
+        let has : HasFailed (call_in (call false) 0) =
+        failed (call_in (call false) 0) (why.1 ∙ ap one_more s.faults_are) in
         serves-so them start after taken s.written [] no_more false most (stops.Ended end) s.done []
         (Ran-begun them start after taken s.written s.done ran) (answered false)
         (no-farewell (call false) (λ _. has))

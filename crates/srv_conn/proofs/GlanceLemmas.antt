@@ -44,7 +44,8 @@ module _ (them : Collections) (start views views' : Views) (number : ℕ) (other
         ∙ append-nil (start.looks number))
         ∙ ap (λ (l : List ℕ). start.looks number ++ l)
         (sym (first-there (number + 1) views'.seen number (omega arith)))))
-        (λ differs. others.looks_are n differs ∙ looked n ∙ ap (λ (l : List ℕ). start.looks n ++ l) (first-same differs))
+        (λ differs. others.looks_are n differs ∙ looked n
+        ∙ ap (λ (l : List ℕ). start.looks n ++ l) (first-same differs))
         (cases_eq n number)
       where
         first-same : n ≢ number → first_looks number views.seen n ≡ first_looks (number + 1) views'.seen n

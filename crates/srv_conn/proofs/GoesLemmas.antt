@@ -102,6 +102,7 @@ goes-on them start now after done item mark goes count sees trail revision_is nu
         (sym (ap (λ (l : List Mark). marks_for them number l (done ++ item ∷ [])) trail
         ∙ marks-other them number now.trail mark done item count differs))
         (subst (λ (sight : Sight). of_lists number sight (marks_for them number now.trail done)
-        (items_for them number done)) (sym (ap₂ (λ (ops : List Op) (looks : List ℕ). record { seen = ops; looks = looks })
+        (items_for them number done))
+        (sym (ap₂ (λ (ops : List Op) (looks : List ℕ). record { seen = ops; looks = looks })
         (sees.others.seen_are number (λ same. differs (sym same)))
         (sees.others.looks_are number (λ same. differs (sym same))))) (goes number)))

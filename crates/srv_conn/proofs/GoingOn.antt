@@ -73,7 +73,8 @@ Serving-goes them start now after asked s asking w = record {
   written = _;
   done = s.done ++ item ∷ [];
   begun = Begun-replies them start now after asked w.mark s w.replies;
-  each = subst (λ (l : List Mark). Each (GoesOn them after.views.seen) l (s.done ++ item ∷ []) (start.session.before + 1))
+  each = subst
+      (λ (l : List Mark). Each (GoesOn them after.views.seen) l (s.done ++ item ∷ []) (start.session.before + 1))
       (sym w.replies.trail_is)
       (Each-append (GoesOn them after.views.seen) now.trail (w.mark ∷ []) s.done (item ∷ []) (start.session.before + 1)
       s.begun.count

@@ -128,7 +128,8 @@ module _ {L : Type 0} {shown : L → LinkShown} {them : Collections} {start : Po
       → connection.session.phase ≡ Asking asked → connection'.link ≡ connection.link
       → number ≡ them.choice (item_asked asked connection.session.held) → number < them.count
       → last ≡ revision_at connection.revisions number → revision ≡ revision_at connection'.revisions number
-      → ((other : ℕ) → other ≢ number → revision_at connection'.revisions other ≡ revision_at connection.revisions other)
+      → ((other : ℕ) → other ≢ number
+      → revision_at connection'.revisions other ≡ revision_at connection.revisions other)
       → IsBehind (them.still number) (views.seen number) (views'.seen number) → OthersStay number views views'
       → IsReplyTo (them.proto number) (item_asked asked connection.session.held) last connection.session
       connection'.session connection'.doing (sight_in views number) (sight_in views' number) revision
@@ -159,7 +160,8 @@ module _ {L : Type 0} {shown : L → LinkShown} {them : Collections} {start : Po
           more = looks_at number (looks_for wanted (length (views'.seen number)));
           own_is = looks-each number own.views own'.views (looks_for wanted (length (views'.seen number))) kept
               (ap (λ (s : Sight). s.looks) at);
-          looks_are = looks-each number views views' (looks_for wanted (length (views'.seen number))) others r.looks_are;
+          looks_are =
+              looks-each number views views' (looks_for wanted (length (views'.seen number))) others r.looks_are;
         };
       }
     where

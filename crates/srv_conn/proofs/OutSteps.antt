@@ -24,7 +24,8 @@ module _ {L : Type 0} {shown : L → LinkShown} {them : Collections} {start : Po
   pub out-same : (views : Views) (own : Own) (connection : Connection L)
       → IsOut shown them start views.seen own connection
       → StaysOut shown them start own connection views views
-  out-same views own connection out = record { own' = own; is_out = out; looks = no-looks own own views (λ number. refl) }
+  out-same views own connection out =
+      record { own' = own; is_out = out; looks = no-looks own own views (λ number. refl) }
 
   -- a step follows on others
   pub went-then : (views views1 views2 : Views) (own : Own) (connection1 connection2 : Connection L)

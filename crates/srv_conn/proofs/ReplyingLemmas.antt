@@ -92,7 +92,8 @@ reply-follows {them = them} {number = number} {asked = asked} {last = last} {lin
     (begins-sending (point_of link views session trail) asked mid doing number (sight_in views number)
     (sight_in views' number) last revision views' asks choice b.sees last_is others at r))))
 reply-follows {them = them} {number = number} {asked = asked} {link = link} {session = session} {mid = mid}
-    {doing = doing} {views = views} {views' = views'} {trail = trail} link' after trail_mid trail' end (Err e) start most
+    {doing = doing} {views = views} {views' = views'} {trail = trail} link' after trail_mid trail' end (Err e) start
+    most
     asks choice last_is b others marked unmarked follows =
     ⊎_elim (λ none. parted [] (none ∙ sym (append-nil (views.looks number))) (inl refl))
     (λ one. parted (length (views'.seen number) ∷ []) one (inr refl)) b.leaves.looks_are

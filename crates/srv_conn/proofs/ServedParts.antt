@@ -53,7 +53,8 @@ ended-of call marks items number each =
     Each-map (GoesOn call.them call.after.seen) (Ended call) marks items number
     (λ n mark item goes. (inl goes.1, λ _. goes.2)) each
 
-pub answers-part : (call : ManyCall) (done others : List Item) → Answered call done others → AnswersInOrder (call_in call 0)
+pub answers-part : (call : ManyCall) (done others : List Item) → Answered call done others
+    → AnswersInOrder (call_in call 0)
 answers-part call done others a = record {
   few = a.few;
   read = subst (λ (l : List Item). length call.trail ≤ length l) (sym a.items_are)

@@ -96,8 +96,8 @@ serves-said them start now after asked most number end more s few asking w looks
           (λ all. inl (ap (λ (n : ℕ). take n no_memory_reply) all.0
           ∙ take_all (length no_memory_reply) no_memory_reply (omega arith)))
           (λ broke. inr (failed (call_in call 0) (broke ∙ ap one_more s.faults_are))) w.whole;
-      at_most_one = ⊎_elim (λ none. inl (looks_at-own number more ∙ none)) (λ look. inr (looks_at-own number more ∙ look))
-          one;
+      at_most_one = ⊎_elim (λ none. inl (looks_at-own number more ∙ none))
+          (λ look. inr (looks_at-own number more ∙ look)) one;
       elsewhere = λ other differs. looks_at-other number other more differs;
     }) (
       w.ended,

@@ -93,7 +93,8 @@ with_sight number sight views = record {
   looks = λ other. if nat_eq other number then sight.looks else views.looks other;
 }
 
-pub with_sight-own : (number : ℕ) (sight : Sight) (views : Views) → sight_in (with_sight number sight views) number ≡ sight
+pub with_sight-own : (number : ℕ) (sight : Sight) (views : Views)
+    → sight_in (with_sight number sight views) number ≡ sight
 with_sight-own number sight views =
     ap (λ (b : Bool). record {
       seen = if b then sight.seen else views.seen number;

@@ -20,8 +20,8 @@ use Rattle.srv_conn.specs.WrittenAt.{GetsData, GetsDataFor, IsWrittenFor}
 use Rattle.srv_conn.proofs.LawLemmas.{all-answered-for}
 
 -- the bytes of the replies are those before an index, the reply there, and others
-sent-at : (them : Collections) (seen : ℕ → List Op) (marks : List Mark) (items : List Item) (before index : ℕ) (mark : Mark)
-    (item : Item) → slice_get marks index ≡ Some mark → slice_get items index ≡ Some item
+sent-at : (them : Collections) (seen : ℕ → List Op) (marks : List Mark) (items : List Item) (before index : ℕ)
+    (mark : Mark) (item : Item) → slice_get marks index ≡ Some mark → slice_get items index ≡ Some item
     → (after : List ℕ) × (sent_for them seen marks items before
     ≡ sent_for them seen (take index marks) items before
     ++ take mark.sent (reply_for them seen mark item (before + index + 1)) ++ after)
@@ -78,7 +78,8 @@ gets-data-for call served sound ample index item below is goes =
       mark_is = a.mark_is;
       gets = λ target body formed.
           subst (IsWrittenFor call index)
-          (well-replied (proto_for call.them item) (coll (take a.mark.revision (call.after.seen (call.them.choice item))))
+          (well-replied (proto_for call.them item)
+          (coll (take a.mark.revision (call.after.seen (call.them.choice item))))
           item target body a.mark.revision (number_at (call_in call 0) index) formed)
           (written-for call served index a.mark item a.mark_is is a.whole);
     }

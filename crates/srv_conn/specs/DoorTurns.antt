@@ -27,9 +27,9 @@ pub record Tag : Type 0 where
 abbrev pub looks_of : ℕ → List Tag → List ℕ
 looks_of number tags = map (λ tag. tag.count) (filter (λ tag. nat_eq tag.number number) tags)
 
--- the turn of one link: its number among those that came, the link as it came and as it was given back, the operations
--- that were seen of each collection when it came and by its last look, the looks that were made for it, and the end of its
--- session, unless memory ran out before it was served
+-- the turn of one link: its number among those that came, the link as it came and as it was given back, the
+-- operations that were seen of each collection when it came and by its last look, the looks that were made for it,
+-- and the end of its session, unless memory ran out before it was served
 pub record Turn (L : Type 0) : Type 0 where
   pub number : ℕ
   pub came : L
@@ -114,8 +114,8 @@ pub record ServesEachMany {L : Type 0} (shown : L → LinkShown) (them : Collect
   pub short_is : short ≡ capped (short_count turns)
 
 -- the same over one collection
-unfoldable pub ServesEach : {L : Type 0} → (L → LinkShown) → Proto → Bool → Option (Doorway L) → Option (Doorway L) → Sight
-    → Sight → ℕ → ℕ → Type 0
+unfoldable pub ServesEach : {L : Type 0} → (L → LinkShown) → Proto → Bool → Option (Doorway L) → Option (Doorway L)
+    → Sight → Sight → ℕ → ℕ → Type 0
 ServesEach shown proto still door door' sight sight' served short =
     ServesEachMany shown (alone proto still) door door' (views_of sight) (views_of sight') served short
 

@@ -9,8 +9,8 @@ use Rattle.dap_reply.specs.ServedMany.{ManyCall, ServedMany}
 use Rattle.dev_traits.specs.Moved.{moved, AreNext, IsOver}
 use Rattle.srv_conn.specs.Serves.{IsCalm, Moves}
 
--- one moment of a link that is served over several collections: the link as it shows, what is seen of each collection, the
--- session, and the replies that were begun
+-- one moment of a link that is served over several collections: the link as it shows, what is seen of each
+-- collection, the session, and the replies that were begun
 pub record Point : Type 0 where
   pub link : LinkShown
   pub views : Views

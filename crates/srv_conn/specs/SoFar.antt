@@ -95,8 +95,8 @@ pub record Sending (them : Collections) (start now : Point) (most : ℕ) (bytes 
   pub session_is : now.session ≡ before.session
   pub faults_are : now.link.faults ≡ before.link.faults
 
--- Memory ran out where the session asked for a reply, and this many bytes of the text that says so were written. One look
--- may have been made at the collection of a number.
+-- Memory ran out where the session asked for a reply, and this many bytes of the text that says so were written. One
+-- look may have been made at the collection of a number.
 pub record Parting (them : Collections) (start now : Point) (most said : ℕ) : Type 0 where
   pub before : Point
   pub asked : Asked

@@ -115,7 +115,8 @@ pub record IsCut (them : Collections) (before after : Point) (asked : Asked) (en
 -- made at the collection of a number
 pub record IsShort (them : Collections) (before after : Point) (number : ℕ) (end : Option End) : Type 0 where
   pub behind : IsBehind (them.still number) (before.views.seen number) (after.views.seen number)
-  pub looks_are : MayHaveLooked (before.views.looks number) (length (after.views.seen number)) (after.views.looks number)
+  pub looks_are :
+      MayHaveLooked (before.views.looks number) (length (after.views.seen number)) (after.views.looks number)
   pub others : OthersStay number before.views after.views
   pub trail_is : after.trail ≡ before.trail
   pub said : ℕ

@@ -20,8 +20,8 @@ use std::alloc::Global;
 use std::mem::replace;
 use web_session::{Asked, Session};
 
-/// A session's question, the collection that it is for by its number and its site, and the revision of the last reply from
-/// that collection.
+/// A session's question, the collection that it is for by its number and its site, and the revision of the last reply
+/// from that collection.
 #[derive(Clone, Copy)]
 pub(crate) struct Request<'a> {
     pub(crate) asked: Asked,
@@ -45,8 +45,8 @@ pub(crate) fn choice_of<K: Looks>(
     looks.choose(sites, asked, session.target())
 }
 
-// The reply to a request, whose present target is handed in, and its revision. There is one look where the collection has
-// to be looked at, and else none: then the reply has the revision of the one before it. `last` says whether the
+// The reply to a request, whose present target is handed in, and its revision. There is one look where the collection
+// has to be looked at, and else none: then the reply has the revision of the one before it. `last` says whether the
 // connection ends after the reply.
 #[tactic(auto, unfolding(dap_reply::specs::Order::order_of, dap_reply::specs::Planned::planned, dap_reply::specs::Planned::answer_over, dap_reply::specs::Planned::refused, dap_reply::specs::Reply::answer_to), using(dap_reply::proofs::ReplyLemmas::parts))]
 fn answer<K: Looks>(

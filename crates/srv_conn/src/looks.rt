@@ -15,8 +15,8 @@ use web_session::Asked;
 /// The most collections at one link.
 pub const MOST_COLLECTIONS: usize = 8;
 
-/// Looks at collections by their number from 0, and the choice of the one that a request is for. What gives looks at one
-/// collection gives looks at it alone.
+/// Looks at collections by their number from 0, and the choice of the one that a request is for. What gives looks at
+/// one collection gives looks at it alone.
 pub trait Looks {
     /// The sites of the collections, which whoever serves hands in.
     type Sites;
@@ -54,8 +54,8 @@ pub trait Looks {
         requires some { number < (them self.now).count }
         ensures { result ≡ length ((views self.now).seen number) };
 
-    /// Makes one look at a collection, and answers over the edition that all operations seen of it by then leave. Returns
-    /// the answer and the number of these operations. Nothing is done to the other collections.
+    /// Makes one look at a collection, and answers over the edition that all operations seen of it by then leave.
+    /// Returns the answer and the number of these operations. Nothing is done to the other collections.
     fn ask_in<Q: Query>(
         &mut self,
         alloc: Global,

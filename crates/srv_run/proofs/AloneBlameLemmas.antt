@@ -1,5 +1,5 @@
 -- Which device the end of a job blames that waits for nobody.
-use Rattle.std.proofs.Common.{◌≡◌, ◌⊎◌, ◌≤◌, ℕ, List, [], refl, sym, ap, subst, ◌∙◌, arith, inl, inr, Result, Ok, Err, IfErr}
+use Rattle.std.proofs.Common.{◌≡◌, ◌⊎◌, ◌≤◌, ℕ, List, sym, ap, subst, ◌∙◌, arith, inl, inr, Result, Ok, Err, IfErr}
 use Rattle.nc_model.specs.declared.header.Header.{Header}
 use Rattle.fm_model.specs.declared.site.Site.{Site}
 use Rattle.dev_traits.specs.Cause.{one_more}

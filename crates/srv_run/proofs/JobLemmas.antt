@@ -1,12 +1,13 @@
 -- The job of some words, where it is of a command, or of one that the program offers.
-use Rattle.std.proofs.Common.{◌≡◌, Bool, true, false, if◌then◌else◌, Option, Some, None, Err, IsTrue, refl, ap, subst, ◌∙◌}
+use Rattle.std.proofs.Common.{◌≡◌, inl, inr, Bool, true, false, if◌then◌else◌, Option, Some, None, Ok, Err, IsTrue, refl, sym, ap, subst, ◌∙◌}
 use Rattle.srv_words.specs.declared.job.Command.{Command}
 use Rattle.srv_words.specs.declared.job.Command.TheVariants as commands
 use Rattle.srv_words.specs.declared.job.Job.{Job}
 use Rattle.srv_words.specs.Jobs.{command_of}
 use Rattle.srv_alone.specs.declared.end.End.{End}
 use Rattle.srv_alone.specs.declared.end.End.TheVariants.{BadWords, NoMemory}
-use Rattle.srv_run.specs.Run.{IsAlone, IsAloneCommand, IsOffered, IsJobOrEnd, offers, offered_of, is_same, only}
+use Rattle.srv_serve.specs.Stage.{Says, Shows, Stage}
+use Rattle.srv_run.specs.Run.{DoesJob, IsAlone, IsAloneCommand, IsOffered, IsJobOrEnd, RunsTo, offers, offered_of, is_same, only}
 
 -- a job of the command
 pub only-same : (command : Command) (found : Option Job) (job : Job) → found ≡ Some job
@@ -70,6 +71,22 @@ offered-as command job same is =
 pub alone-as : (command : Command) (job : Job) → is_same command (command_of job) ≡ true → IsAloneCommand command
     → IsAlone job
 alone-as command job same is = subst IsAloneCommand (same_command command (command_of job) same) is
+
+-- the job that was found was done
+pub does-found : {D I C L : Type 0} (show : Shows D I C L) (job : Option Job) (work : Job) (end : End)
+    (stage stage' : Stage D I C) → IsJobOrEnd job (Ok work) → DoesJob show (Some work) end stage stage'
+    → RunsTo show job end stage stage'
+does-found show job work end stage stage' is does =
+    inl (subst (λ (found : Option Job). DoesJob show found end stage stage') (sym is) does)
+
+-- it was said why there is none
+pub says-found : {D I C L : Type 0} (show : Shows D I C L) (job : Option Job) (end end' : End)
+    (stage stage' : Stage D I C) → IsJobOrEnd job (Err end) → end' ≡ end → Says end stage stage'
+    → RunsTo show job end' stage stage'
+says-found show job BadWords end' stage stage' is same says =
+    inl (subst (λ (found : Option Job). DoesJob show found end' stage stage') (sym is) (same, says))
+says-found show job NoMemory end' stage stage' is same says = inr (same, says)
+says-found show job end end' stage stage' is same says = absurd is
 
 pub ruleset jobs =
     (only-same, only-other, only-end, offered-same, offered-other, offered-end, is_offered, offered-as, alone-as)

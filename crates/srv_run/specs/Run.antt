@@ -1,5 +1,5 @@
 -- A run of the program, by its words, its world and its status.
-use Rattle.std.specs.Prelude.{◌≡◌, ◌⊎◌, ◌<◌, ◌≤◌, ℕ, Bool, true, false, if◌then◌else◌, List, [], slice_get, ⊤, Option, Some, None, IsSomeAnd, IsTrue, Result, Ok, Err}
+use Rattle.std.specs.Prelude.{◌≡◌, ◌⊎◌, ◌≤◌, ℕ, Bool, true, false, if◌then◌else◌, List, [], ⊤, Option, Some, None, IsTrue, Result, Ok, Err}
 use Rattle.dev_traits.specs.Cause.{one_more}
 use Rattle.dev_traits.specs.World.{WorldShown}
 use Rattle.srv_words.specs.declared.job.Command.{Command}
@@ -18,7 +18,7 @@ use Rattle.srv_pull.specs.Pull.{HasFailedLink, RunsPull}
 use Rattle.srv_views.specs.Extract.{RunsExtract}
 use Rattle.srv_views.specs.Views.{RunsTwod}
 use Rattle.srv_serve.specs.Serve.{RunsServe}
-use Rattle.srv_serve.specs.Stage.{LeavesDevices, LeavesDialer, Shows, Stage}
+use Rattle.srv_serve.specs.Stage.{LeavesDevices, LeavesDialer, Says, Shows, Stage}
 
 -- A run of `check` ended so; the link wasn't used.
 pub record RunsCheck (path : List ℕ) (end : End) (world world' : WorldShown) : Type 0 where
@@ -36,14 +36,6 @@ pub record PullsAlone {D I C : Type 0} (address target : List ℕ) (end : End) (
   pub pulls : RunsPull (λ link. link) address target end stage.dial stage'.dial stage.outside.sink stage'.outside.sink
   pub unread : stage'.outside.files ≡ stage.outside.files
   pub unused : stage'.outside.link ≡ stage.outside.link
-
--- Only the sink was used, for the line of an end at no file.
-pub record Says {D I C : Type 0} (end : End) (stage stage' : Stage D I C) : Type 0 where
-  pub unread : stage'.outside.files ≡ stage.outside.files
-  pub unused : stage'.outside.link ≡ stage.outside.link
-  pub leaves : LeavesDevices stage stage'
-  pub undialled : LeavesDialer stage stage'
-  pub reports : Reports end [] stage.outside.sink stage'.outside.sink
 
 -- A run left the opener, the devices and the dialer as before.
 abbrev pub LeavesRest : {D I C : Type 0} → Stage D I C → Stage D I C → Type 0
@@ -74,12 +66,16 @@ DoesJob show (Some (Many serving)) end stage stage' = ⊥
 abbrev pub LacksMemory : {D I C : Type 0} → End → Stage D I C → Stage D I C → Type 0
 LacksMemory end stage stage' = (end ≡ NoMemory) × Says NoMemory stage stage'
 
--- A run for a job ended with this status, or memory ran out before the words were read.
+-- A run for a job ended so, or memory ran out before the words were read.
+abbrev pub RunsTo : {D I C L : Type 0} → Shows D I C L → Option Job → End → Stage D I C → Stage D I C → Type 0
+RunsTo show job end stage stage' = DoesJob show job end stage stage' ⊎ LacksMemory end stage stage'
+
+-- The same, with its status.
 pub record Runs {D I C L : Type 0} (show : Shows D I C L) (job : Option Job) (status : ℕ) (stage stage' : Stage D I C)
     : Type 0 where
   pub end : End
   pub status_is : status ≡ status_of end
-  pub does : DoesJob show job end stage stage' ⊎ LacksMemory end stage stage'
+  pub does : RunsTo show job end stage stage'
 
 -- whether these are the same command
 abbrev pub is_same : Command → Command → Bool

@@ -8,8 +8,8 @@ ghost use Rattle.srv_run.specs.Run as spec;
 use crate::alone::do_alone;
 use dev_traits::{Machine, World};
 use fm_base::{Bytes, Fail, List};
-use srv_alone::{End, report};
-use srv_serve::serve;
+use srv_alone::End;
+use srv_serve::{say, serve};
 use srv_words::{Command, Job, read_job};
 use std::alloc::Global;
 use std::marker::Sync;
@@ -55,6 +55,7 @@ pub(crate) fn job_or_end(alloc: Global, words: &List<Bytes>) -> Result<Job, End>
     if is_offered(&job) {
         Ok(job)
     } else {
+        drop(job);
         Err(End::BadWords)
     }
 }
@@ -92,26 +93,17 @@ pub(crate) fn command_or_end(
     if is_of(&job, command) {
         Ok(job)
     } else {
+        drop(job);
         Err(End::BadWords)
     }
 }
 
-// Reports an end at which no file is named, and returns it.
-fn say<M: Machine>(world: &mut World<M>, end: End) -> End
-    ensures end { result ≡ end }
-    ensures says { let stage = stage_of M.shown M.F.shown M.L.shown M.S.shown (dial_shown M.N.shown M.N.L.shown) in
-        spec.Says end (stage world.old) (stage world.new) }
-{
-    report(&mut world.sink, end, b"");
-    end
-}
-
-// Does the job that was found, which waits for nobody, or says why there is none. Returns the status of the program.
+// Does the job that was found, which waits for nobody, or says why there is none.
 pub(crate) fn do_found_alone<M: Machine>(
     alloc: Global,
     found: Result<Job, End>,
     world: &mut World<M>,
-) -> u8
+) -> End
     requires blocks { M.L.blocks }
     requires dialled { M.N.L.blocks }
     requires job { IfOk found IsJob }
@@ -119,37 +111,59 @@ pub(crate) fn do_found_alone<M: Machine>(
     requires alone { IfOk found spec.IsAlone }
     ensures { let stage = stage_of M.shown M.F.shown M.L.shown M.S.shown (dial_shown M.N.shown M.N.L.shown) in
         (job : Option Work) → spec.IsJobOrEnd job found
-        → spec.Runs (shows M.D.shown M.D.L.shown M.I.shown M.C.shown) job result
+        → spec.RunsTo (shows M.D.shown M.D.L.shown M.I.shown M.C.shown) job result
         (stage world.old) (stage world.new) }
 {
-    let end = match found {
+    match found {
         Ok(job) => do_alone(alloc, job, world),
         Err(end) => say(world, end),
-    };
-    end.status()
+    }
 }
 
-// Does the job that was found, or says why there is none. Returns the status of the program.
+// Does a job of a command that the program offers.
+fn do_job<R: Threads + Wait + Sync, M: Machine>(
+    rt: &R,
+    alloc: Global,
+    job: Job,
+    world: &mut World<M>,
+) -> End
+    requires blocks { M.L.blocks }
+    requires dialled { M.N.L.blocks }
+    requires job { IsJob job }
+    requires offered { spec.IsOffered job }
+    ensures { let stage = stage_of M.shown M.F.shown M.L.shown M.S.shown (dial_shown M.N.shown M.N.L.shown) in
+        spec.DoesJob (shows M.D.shown M.D.L.shown M.I.shown M.C.shown) (Some job) result
+        (stage world.old) (stage world.new) }
+{
+    match job {
+        Job::Serve(serving) => {
+            let end = serve(rt, alloc, &serving, world);
+            drop(serving);
+            end
+        }
+        Job::Many(_) => unreachable!(),
+        job => do_alone(alloc, job, world),
+    }
+}
+
+// Does the job that was found, or says why there is none.
 pub(crate) fn do_found<R: Threads + Wait + Sync, M: Machine>(
     rt: &R,
     alloc: Global,
     found: Result<Job, End>,
     world: &mut World<M>,
-) -> u8
+) -> End
     requires blocks { M.L.blocks }
     requires dialled { M.N.L.blocks }
     requires job { IfOk found IsJob }
     requires offered { IfOk found spec.IsOffered }
     ensures { let stage = stage_of M.shown M.F.shown M.L.shown M.S.shown (dial_shown M.N.shown M.N.L.shown) in
         (job : Option Work) → spec.IsJobOrEnd job found
-        → spec.Runs (shows M.D.shown M.D.L.shown M.I.shown M.C.shown) job result
+        → spec.RunsTo (shows M.D.shown M.D.L.shown M.I.shown M.C.shown) job result
         (stage world.old) (stage world.new) }
 {
-    let end = match found {
-        Ok(Job::Serve(serving)) => serve(rt, alloc, &serving, world),
-        Ok(Job::Many(_)) => unreachable!(),
-        Ok(job) => do_alone(alloc, job, world),
+    match found {
+        Ok(job) => do_job(rt, alloc, job, world),
         Err(end) => say(world, end),
-    };
-    end.status()
+    }
 }

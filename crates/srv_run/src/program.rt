@@ -33,7 +33,7 @@ fn run_alone<M: Machine>(
         (spec.only command (job_of words.now)) result (stage world.old) (stage world.new) }
 {
     let found = command_or_end(alloc, words, command);
-    do_found_alone(alloc, found, world)
+    do_found_alone(alloc, found, world).status()
 }
 
 /// Runs `once --name NAME --proto PROTO [--epoch INSTANT] [--mark MARK] STEP..`: reads the prototype PROTO, and does
@@ -234,7 +234,7 @@ pub fn run_serve<R: Threads + Wait + Sync, M: Machine>(
         (spec.only commands.Serve (job_of words.now)) result (stage world.old) (stage world.new) }
 {
     let found = command_or_end(alloc, words, Command::Serve);
-    do_found(rt, alloc, found, world)
+    do_found(rt, alloc, found, world).status()
 }
 
 /// Does what the words ask for, without the program's own name, reports how it ended, and returns the status of the
@@ -253,16 +253,14 @@ pub fn run<R: Threads + Wait + Sync, M: Machine>(
         (spec.offered_of (job_of words.now)) result (stage world.old) (stage world.new) }
 {
     let found = job_or_end(alloc, words);
-    do_found(rt, alloc, found, world)
+    do_found(rt, alloc, found, world).status()
 }
 
-// What a person is told after a run with this status: why the words are bad, where they are. No clause
-// speaks of the text.
-fn told(alloc: Global, words: &List<Bytes>, status: u8) -> Option<String> {
-    if status == End::BadWords.status() {
-        reason_of(alloc, words).ok()
-    } else {
-        None
+// What a person is told after a run that ended so: why the words are bad, where they are. No clause speaks of the text.
+fn told(alloc: Global, words: &List<Bytes>, end: End) -> Option<String> {
+    match end {
+        End::BadWords => reason_of(alloc, words).ok(),
+        _ => None,
     }
 }
 
@@ -281,6 +279,6 @@ pub fn run_process<R: Threads + Wait + Sync, M: Machine>(
         (spec.offered_of (job_of words.now)) (exit_status result.0) (stage world.old) (stage world.new) }
 {
     let found = job_or_end(alloc, words);
-    let status = do_found(rt, alloc, found, world);
-    (ExitCode::from(status), told(alloc, words, status))
+    let end = do_found(rt, alloc, found, world);
+    (ExitCode::from(end.status()), told(alloc, words, end))
 }

@@ -1,13 +1,17 @@
 -- Doors and inboxes that are opened one after the other.
-use Rattle.std.proofs.Common.{◌≡◌, ◌<◌, ℕ, zero, suc, All, List, [], ◌∷◌, ◌++◌, length, map, take, drop, get_or, add-one, Option, Some, None, refl, sym, ap, subst, ◌∙◌, arith}
+use Rattle.std.proofs.Common.{◌≡◌, inl, inr, ◌<◌, ℕ, zero, suc, All, List, [], ◌∷◌, ◌++◌, length, map, take, drop, get_or, add-one, Option, Some, None, refl, sym, ap, subst, ◌∙◌, arith}
 use Rattle.std.proofs.lemmas.List.{drop-drop, length-append, map-append}
 use Rattle.std.proofs.lemmas.List.Elements.{All-append, All-cons, All-nil}
 use Rattle.std.specs.Prelude.{IfSome}
+use Rattle.fm_base.specs.declared.fail.Fail.{Fail}
+use Rattle.fm_base.specs.declared.fail.Fail.TheVariants.{NoMemory, Fault}
+use Rattle.dev_traits.specs.Cause.{count_after}
 use Rattle.dev_traits.specs.declared.door.DoorAsked.{DoorAsked}
 use Rattle.dev_traits.specs.Door.{DoorShown}
 use Rattle.dev_traits.specs.Inbox.{InboxShown}
 use Rattle.dev_traits.specs.Opener.{Stock, IsNextDoor, IsNextInbox, after_door, after_inbox, door_asked, inbox_asked}
-use Rattle.srv_serve.specs.Opening.{OpensDoors, OpensInboxes, after_doors, after_inboxes, asked_doors, asked_inboxes}
+use Rattle.srv_alone.specs.declared.end.End.{End}
+use Rattle.srv_serve.specs.Opening.{OpensDoors, OpensInboxes, StopsShort, after_doors, after_inboxes, asked_doors, asked_inboxes, end_of}
 
 -- one item more is there
 length-more : {X : Type 0} (xs : List X) (x : X) → length (xs ++ x ∷ []) ≡ suc (length xs)
@@ -45,6 +49,13 @@ take-inbox shown (f ∷ folders) (suc n) folder [] inbox below is next = absurd 
 take-inbox shown (f ∷ folders) (suc n) folder (first ∷ more) inbox below is next =
     ap (λ (l : List InboxShown). inbox_asked f (shown first) ∷ l)
     (take-inbox shown folders n folder more inbox (omega (arith, below)) is next)
+
+-- the next device wasn't opened
+pub StopsShort-next : {E : Type 0} (end_at : ℕ → End) (opened wanted faults faults' : ℕ) (fail : Fail E)
+    → opened < wanted → faults' ≡ count_after faults fail
+    → StopsShort end_at opened wanted faults faults' (end_of fail (end_at opened))
+StopsShort-next end_at opened wanted faults faults' NoMemory few cause = inl (refl, cause)
+StopsShort-next end_at opened wanted faults faults' (Fault e) few cause = inr (refl, few, cause)
 
 -- no door was opened
 pub OpensDoors-none : {D I C L : Type 0} (shown : D → DoorShown L) (asked : DoorAsked) (opener : Option (Stock D I C))
@@ -90,7 +101,7 @@ OpensDoors-more {D} {I} {C} {L} {shown} {asked} {before} {now} {after} {doors} {
         (drop-more (length doors) stock.doors
         ∙ ap (λ (n : ℕ). drop n stock.doors) (sym (length-more doors door)))
 
-pub ruleset doors = (OpensDoors-none, OpensDoors-more)
+pub ruleset doors = (OpensDoors-none)
 
 -- no inbox was opened
 pub OpensInboxes-none : {D I C : Type 0} (shown : I → InboxShown) (folders : List (List ℕ))
@@ -140,4 +151,4 @@ OpensInboxes-more {D} {I} {C} shown folders n folder before now after inboxes in
         (drop-more (length inboxes) stock.inboxes
         ∙ ap (λ (k : ℕ). drop k stock.inboxes) (sym (length-more inboxes inbox)))
 
-pub ruleset inboxes = (OpensInboxes-none, OpensInboxes-more)
+pub ruleset inboxes = (OpensInboxes-none)

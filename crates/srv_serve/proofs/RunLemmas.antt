@@ -19,11 +19,11 @@ use Rattle.srv_ingest.specs.declared.report.IngestReport.{IngestReport}
 use Rattle.srv_words.specs.declared.job.Serving.{Serving}
 use Rattle.dev_traits.specs.declared.world.Devices.{Devices}
 use Rattle.srv_workers.specs.declared.outcome.Outcome.{Outcome}
-use Rattle.srv_workers.specs.Runs.{AreRuns, IsClockRun, IsDoorRun, IsInboxRun, Run}
+use Rattle.srv_workers.specs.Runs.{AreRuns, IsDoorRun, IsInboxRun, Run}
 use Rattle.srv_alone.specs.declared.end.End.{End}
 use Rattle.srv_alone.specs.declared.end.End.TheVariants.{BadWords, NoMemory, FileFault, SinkFault, LinkFault, DoorFault, InboxFault}
 use Rattle.srv_serve.specs.Closing.{clock_end, door_end, end_at_door, end_at_inbox, first_end, first_from, inbox_end}
-use Rattle.srv_serve.specs.Devices.{clocks_for, HasFailedAt, kept_for}
+use Rattle.srv_serve.specs.Devices.{AreAllOpened, clocks_for, HasFailedAt}
 use Rattle.srv_serve.specs.Serve.{HasRun}
 use Rattle.srv_serve.specs.Stage.{Shows}
 use Rattle.srv_serve.proofs.EndLemmas.{door-end, inbox-end, left-at}
@@ -35,24 +35,20 @@ reports-count {X} {R} Is before after reports are =
     ap length (sym are.told) ∙ length-map are.runs (λ (run : Run X R). run.report)
     ∙ sym (length-map are.runs (λ (run : Run X R). run.came)) ∙ ap length are.came
 
+-- there are as few reports as devices
+pub few-reports : {X R : Type 0} {Is : Run X R → Type 0} {before after : List X} {reports : List R}
+    → AreRuns Is before after reports → length before < 2 ^ 32 → length reports < 2 ^ 32
+few-reports {X} {R} {Is} {before} {after} {reports} are few =
+    omega (arith, few, reports-count Is before after reports are)
+
 one-clock : (keep : Option ℕ) → clocks_for keep ≤ 1
 one-clock None = omega arith
 one-clock (Some seconds) = omega arith
 
 -- a run has one clock at most
-pub few-clocks : {D I C L : Type 0} (show : Shows D I C L) (serving : Serving) (proto : Proto)
-    (opener opener' : OpenerShown D I C) (left : Devices D I C) (outcome : Outcome)
-    → HasRun show serving proto opener opener' left outcome → length outcome.clocks < 2 ^ 32
-few-clocks show serving proto opener opener' left outcome run =
-    omega (
-      arith,
-      reports-count (IsClockRun show.clock proto (kept_for serving.keep) run.ran.log) run.devices.clocks left.clocks
-          outcome.clocks run.ran.clocks,
-      run.all.clocks,
-      one-clock serving.keep,
-    )
-
-pub ruleset few = (few-clocks)
+pub few-clocks : {D I C : Type 0} {serving : Serving} {devices : Devices D I C} {faults faults' : ℕ}
+    → AreAllOpened serving devices faults faults' → length devices.clocks < 2 ^ 32
+few-clocks {serving = serving} all = omega (arith, all.clocks, one-clock serving.keep)
 
 -- after one failure more a count isn't 0
 one_more-positive : (count : ℕ) → 0 < one_more count

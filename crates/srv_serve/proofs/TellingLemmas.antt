@@ -1,6 +1,6 @@
 -- A line that an opener was told.
-use Rattle.std.proofs.Common.{◌≡◌, ◌∙◌, ℕ, List, [], ◌∷◌, subst}
-use Rattle.dev_traits.specs.Lines.{Notes, Tells}
+use Rattle.std.proofs.Common.{◌≡◌, ◌∙◌, ℕ}
+use Rattle.dev_traits.specs.Lines.{Notes}
 use Rattle.dev_traits.specs.Opener.{opener_lines, OpenerShown, with_opener_lines}
 use Rattle.dev_traits.proofs.TellLemmas.{Tells-one}
 use Rattle.srv_words.specs.declared.job.Serving.{Serving}

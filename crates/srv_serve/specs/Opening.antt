@@ -1,7 +1,8 @@
 -- The doors, inboxes and clocks that an opener gave, one after the other.
-use Rattle.std.specs.Prelude.{◌≡◌, ℕ, List, [], ◌∷◌, All, drop, length, map, take, Option, option_map, IfSome}
+use Rattle.std.specs.Prelude.{◌≡◌, ◌⊎◌, ◌<◌, ℕ, List, [], ◌∷◌, All, drop, length, map, take, Option, option_map, IfSome}
 use Rattle.fm_base.specs.declared.fail.Fail.{Fail}
 use Rattle.fm_base.specs.declared.fail.Fail.TheVariants.{NoMemory, Fault}
+use Rattle.dev_traits.specs.Cause.{one_more}
 use Rattle.dev_traits.specs.Clock.{Moments}
 use Rattle.dev_traits.specs.declared.door.DoorAsked.{DoorAsked}
 use Rattle.dev_traits.specs.Door.{DoorShown}
@@ -52,6 +53,12 @@ pub record OpensInboxes {D I C : Type 0} (shown : I → InboxShown) (folders : L
 abbrev pub end_of : {E : Type 0} → Fail E → End → End
 end_of NoMemory end = ends.NoMemory
 end_of (Fault e) end = end
+
+-- Of some devices of a kind the first were opened, and not all: memory ran out, or the next wasn't opened, since a call
+-- of the opener failed.
+abbrev pub StopsShort : (ℕ → End) → ℕ → ℕ → ℕ → ℕ → End → Type 0
+StopsShort end_at opened wanted faults faults' end = ((end ≡ ends.NoMemory) × (faults' ≡ faults))
+    ⊎ ((end ≡ end_at opened) × (opened < wanted) × (faults' ≡ one_more faults))
 
 -- This clock was opened for this number of ticks, or none was: it is the next of an opener's clocks, which has the
 -- others left.

@@ -1,5 +1,5 @@
 -- All that a run of `serve` works with: the outside of the run, and the devices that it opens.
-use Rattle.std.specs.Prelude.{◌≡◌, Option, map, option_map}
+use Rattle.std.specs.Prelude.{◌≡◌, [], Option, map, option_map}
 use Rattle.dev_traits.specs.Shown.{FilesShown, LinkShown, SinkShown}
 use Rattle.dev_traits.specs.declared.world.World.{World}
 use Rattle.dev_traits.specs.Clock.{Moments}
@@ -9,6 +9,8 @@ use Rattle.dev_traits.specs.Inbox.{InboxShown}
 use Rattle.dev_traits.specs.Opener.{OpenerShown}
 use Rattle.dev_traits.specs.World.{WorldShown, world_shown}
 use Rattle.dev_traits.specs.declared.world.Devices.{Devices}
+use Rattle.srv_alone.specs.declared.end.End.{End}
+use Rattle.srv_alone.specs.Report.{Reports}
 
 -- what doors, their links, inboxes and clocks show
 pub record Shows (D I C L : Type 0) : Type 0 where
@@ -63,3 +65,11 @@ pub record LeavesDevices {D I C : Type 0} (stage stage' : Stage D I C) : Type 0 
 -- The dialer is as before.
 abbrev pub LeavesDialer : {D I C : Type 0} → Stage D I C → Stage D I C → Type 0
 LeavesDialer stage stage' = stage'.dial ≡ stage.dial
+
+-- Only the sink was used, for the line of an end at no file.
+pub record Says {D I C : Type 0} (end : End) (stage stage' : Stage D I C) : Type 0 where
+  pub unread : stage'.outside.files ≡ stage.outside.files
+  pub unused : stage'.outside.link ≡ stage.outside.link
+  pub leaves : LeavesDevices stage stage'
+  pub undialled : LeavesDialer stage stage'
+  pub reports : Reports end [] stage.outside.sink stage'.outside.sink

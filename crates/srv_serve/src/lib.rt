@@ -3,7 +3,9 @@
 
 mod closing;
 mod opening;
+mod saying;
 mod serving;
 mod telling;
 
+pub use saying::say;
 pub use serving::serve;

@@ -1,7 +1,7 @@
 //! Opens the doors, the inboxes and the clock of a server.
-ghost use Rattle.std.specs.Prelude.{◌≡◌, ◌<◌, [], length, IfErr, OnErr, OnOk};
-ghost use Rattle.dev_traits.specs.Cause.{HasReadCause};
+ghost use Rattle.std.specs.Prelude.{◌≡◌, ◌<◌, ◌^◌, [], length, IfErr, OnOk};
 ghost use Rattle.srv_words.specs.Serve.{IsServing};
+ghost use Rattle.srv_alone.specs.declared.end.End.TheVariants.{DoorFault, InboxFault};
 ghost use Rattle.srv_serve.specs.Devices as devices;
 ghost use Rattle.srv_serve.specs.Opening as spec;
 ghost use Rattle.srv_serve.specs.Stage.{shows};
@@ -12,53 +12,72 @@ use srv_alone::End;
 use srv_words::Serving;
 use std::alloc::Global;
 
+// The end of opening where a call failed, or memory ran out.
+fn end_of(fail: Fail<Failed>, end: End) -> End
+    ensures { result ≡ spec.end_of fail end }
+{
+    match fail {
+        Fail::NoMemory => End::NoMemory,
+        Fail::Fault(_failed) => end,
+    }
+}
+
 // Opens `count` doors at an address for `connections` links each. Room for all is made first, so each opened door
 // stands in the list, also where a further one isn't opened.
 #[tactic(auto, using(crate::proofs::OpeningLemmas::doors))]
-pub(crate) fn open_doors<M: Machine>(
+fn open_doors<M: Machine>(
     alloc: Global,
     opener: &mut M,
     doors: &mut List<M::D>,
     address: &[u8],
     connections: u32,
     count: u32,
-) -> Result<(), Fail<Failed>>
-    requires empty { doors.old ≡ [] }
-    requires some { 0 < count }
+) -> Result<(), End>
+    requires { doors.old ≡ [] }
     ensures opens { spec.OpensDoors M.D.shown (record { address = address.now; connections = connections })
         (M.shown opener.old).held (M.shown opener.new).held doors.new }
     ensures all { OnOk result (length doors.new ≡ count) }
-    ensures short { OnErr result (length doors.new < count) }
-    ensures cause { HasReadCause (M.shown opener.old).faults (M.shown opener.new).faults result }
+    ensures calm { OnOk result ((M.shown opener.new).faults ≡ (M.shown opener.old).faults) }
+    ensures stops { IfErr result (spec.StopsShort DoorFault (length doors.new) count
+        (M.shown opener.old).faults (M.shown opener.new).faults) }
 {
-    doors.items.reserve(count as usize)?;
-    for _number in 0..count {
-        let door = opener.door(alloc, address, connections)?;
-        doors.items.push_reserved(door);
+    let Ok(()) = doors.items.reserve(count as usize) else {
+        return Err(End::NoMemory);
+    };
+    for number in 0..count {
+        match opener.door(alloc, address, connections) {
+            Ok(door) => doors.items.push_reserved(door),
+            Err(fail) => return Err(end_of(fail, End::DoorFault(number))),
+        }
     }
     Ok(())
 }
 
 // Opens the inboxes of the folders. Room for all is made first.
 #[tactic(auto, using(crate::proofs::OpeningLemmas::inboxes))]
-pub(crate) fn open_inboxes<M: Machine>(
+fn open_inboxes<M: Machine>(
     alloc: Global,
     opener: &mut M,
     inboxes: &mut List<M::I>,
     folders: &[Bytes],
-) -> Result<(), Fail<Failed>>
+) -> Result<(), End>
     requires empty { inboxes.old ≡ [] }
-    requires some { 0 < length folders.now }
+    requires few { length folders.now < 2 ^ 32 }
     ensures opens { spec.OpensInboxes M.I.shown folders.now (M.shown opener.old).held (M.shown opener.new).held
         inboxes.new }
     ensures all { OnOk result (length inboxes.new ≡ length folders.now) }
-    ensures short { OnErr result (length inboxes.new < length folders.now) }
-    ensures cause { HasReadCause (M.shown opener.old).faults (M.shown opener.new).faults result }
+    ensures calm { OnOk result ((M.shown opener.new).faults ≡ (M.shown opener.old).faults) }
+    ensures stops { IfErr result (spec.StopsShort InboxFault (length inboxes.new) (length folders.now)
+        (M.shown opener.old).faults (M.shown opener.new).faults) }
 {
-    inboxes.items.reserve(folders.len())?;
-    for folder in folders {
-        let inbox = opener.inbox(alloc, folder.as_slice())?;
-        inboxes.items.push_reserved(inbox);
+    let Ok(()) = inboxes.items.reserve(folders.len()) else {
+        return Err(End::NoMemory);
+    };
+    for number in 0..folders.len() {
+        match opener.inbox(alloc, folders[number].as_slice()) {
+            Ok(inbox) => inboxes.items.push_reserved(inbox),
+            Err(fail) => return Err(end_of(fail, End::InboxFault(number as u32))),
+        }
     }
     Ok(())
 }
@@ -82,18 +101,7 @@ fn open_clock<M: Machine>(
     Ok(())
 }
 
-// The end of opening where a call failed, or memory ran out.
-fn end_of(fail: Fail<Failed>, end: End) -> End
-    ensures { result ≡ spec.end_of fail end }
-{
-    match fail {
-        Fail::NoMemory => End::NoMemory,
-        Fail::Fault(_failed) => end,
-    }
-}
-
 // Opens all devices of a server. Where that stops short, the opened ones stand in their lists.
-#[tactic(auto, using(crate::proofs::StageLemmas::stages))]
 pub(crate) fn open_devices<M: Machine>(
     alloc: Global,
     opener: &mut M,
@@ -109,22 +117,20 @@ pub(crate) fn open_devices<M: Machine>(
     ensures stops { IfErr result
         (devices.StopsAt serving.now opened.new (M.shown opener.old).faults (M.shown opener.new).faults) }
 {
-    let address = serving.listen.as_slice();
-    let doors = &mut opened.doors;
-    if let Err(fail) = open_doors(
+    open_doors(
         alloc,
         opener,
-        doors,
-        address,
+        &mut opened.doors,
+        serving.listen.as_slice(),
         serving.connections,
         serving.workers,
-    ) {
-        return Err(end_of(fail, End::DoorFault(doors.len() as u32)));
-    }
-    let inboxes = &mut opened.inboxes;
-    if let Err(fail) = open_inboxes(alloc, opener, inboxes, serving.inboxes.as_slice()) {
-        return Err(end_of(fail, End::InboxFault(inboxes.len() as u32)));
-    }
+    )?;
+    open_inboxes(
+        alloc,
+        opener,
+        &mut opened.inboxes,
+        serving.inboxes.as_slice(),
+    )?;
     open_clock(opener, &mut opened.clocks, serving)?;
     Ok(())
 }

@@ -8,6 +8,7 @@ ghost use Rattle.srv_serve.specs.Stage.{dial_shown, shows, stage_of};
 
 use crate::closing::close;
 use crate::opening::open_devices;
+use crate::saying::say;
 use crate::telling::tell_serving;
 use dev_traits::{Devices, Files, Machine, Opened, World};
 use fm_base::{Arc, Bytes, NoMemory};
@@ -86,7 +87,6 @@ fn run_in_threads<R: Threads + Wait + Sync, M: Machine>(
 
 /// Runs `serve`: reads the prototype, opens all devices and has a worker run over each, all at once, and writes what
 /// they did, or reports how the run ended. It waits for all workers.
-#[tactic(auto, using(crate::proofs::RunLemmas::few))]
 pub fn serve<R: Threads + Wait + Sync, M: Machine>(
     rt: &R,
     alloc: Global,
@@ -109,10 +109,11 @@ pub fn serve<R: Threads + Wait + Sync, M: Machine>(
     let opener = &mut world.opener;
     let devices = &mut world.devices;
     match run_in_threads(rt, alloc, serving, &proto, opener, &world.gate, devices) {
-        Ok(outcome) => close(&mut world.sink, &outcome),
-        Err(end) => {
-            report(&mut world.sink, end, b"");
+        Ok(outcome) => {
+            let end = close(&mut world.sink, &outcome);
+            drop(outcome);
             end
         }
+        Err(end) => say(world, end),
     }
 }

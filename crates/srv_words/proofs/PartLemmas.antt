@@ -37,7 +37,8 @@ cut_at front rest none =
     let text = front ++ 61 ∷ rest in
     let at = first_at front rest none in
     let within : length front < length text = omega (arith, length-append front (61 ∷ rest)) in
-    ap (λ (n : ℕ). option_map (λ at. (take at text, drop (at + 1) text)) (cond (nat_lt n (length text)) (Some n) None)) at
+    ap (λ (n : ℕ). option_map (λ at. (take at text, drop (at + 1) text)) (cond (nat_lt n (length text)) (Some n) None))
+    at
     ∙ ap (λ (b : Bool). option_map (λ at. (take at text, drop (at + 1) text)) (cond b (Some (length front)) None))
     (lt-ltb (length front) (length text) within)
     ∙ ap (λ (f : List ℕ). Some (f, drop (length front + 1) text)) (take-append_seam front (61 ∷ rest))

@@ -90,7 +90,8 @@ top = on_top (λ s. record s { no_binary_name = true; subcommand_required = true
 -- with the subcommands that are about a collection
 unfoldable pub with_collections : App → App
 with_collections app = with_subcommand (with_subcommand (with_subcommand (with_subcommand (with_subcommand app
-    (subcommand Serve).top) (subcommand Many).top) (subcommand Once).top) (subcommand Twod).top) (subcommand Extract).top
+    (subcommand Serve).top) (subcommand Many).top) (subcommand Once).top) (subcommand Twod).top)
+    (subcommand Extract).top
 
 -- one of these subcommands
 unfoldable pub fmrcd : App

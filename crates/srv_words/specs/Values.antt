@@ -52,7 +52,7 @@ mark_of name (Some mark) = if_so (nat_le (length mark) 64) mark
 abbrev pub is_visible_byte : ℕ → Bool
 is_visible_byte byte = nat_le 0x21 byte && nat_le byte 0x7e
 
--- whether a text has 1 to so many visible characters of ASCII, and nothing else
+-- whether a text has 1 to that many visible characters of ASCII, and nothing else
 unfoldable pub is_visible : ℕ → List ℕ → Bool
 is_visible most text = nat_le 1 (length text) && nat_le (length text) most && list_all is_visible_byte text
 

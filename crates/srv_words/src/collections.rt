@@ -5,9 +5,10 @@ ghost use Rattle.srv_words.specs.Collections as spec;
 ghost use Rattle.srv_words.specs.Reads.{Reads};
 
 use crate::job::{BadWords, Spec};
+use crate::made::both;
 use crate::site::default_site;
 use crate::values::is_collection_name;
-use fm_base::{Bytes, Fail, List, NoMemory};
+use fm_base::{Fail, List, NoMemory};
 use std::alloc::Global;
 
 /// The parts of `NAME=PROTO=INBOX`.
@@ -70,11 +71,13 @@ fn spec_over(alloc: Global, parts: Parts<'_>) -> Result<Spec, NoMemory>
         found ≡ spec.spec_over given.name.now given.proto.now given.inbox.now) }
 {
     let site = default_site(alloc, parts.name)?;
-    Ok(Spec {
-        site,
-        proto: Bytes::copy_of(alloc, parts.proto)?,
-        inbox: Bytes::copy_of(alloc, parts.inbox)?,
-    })
+    match both(alloc, parts.proto, parts.inbox) {
+        Ok((proto, inbox)) => Ok(Spec { site, proto, inbox }),
+        Err(NoMemory) => {
+            drop(site);
+            Err(NoMemory)
+        }
+    }
 }
 
 // The collection that a word describes, whose name none of those that were found has.
@@ -98,7 +101,18 @@ pub(crate) fn specs_of(alloc: Global, words: &[&str]) -> Result<List<Spec>, Fail
 {
     let mut specs = List::new(alloc);
     for word in words {
-        specs.push(next_of(alloc, specs.as_slice(), word.as_bytes())?)?;
+        match next_of(alloc, specs.as_slice(), word.as_bytes()) {
+            Ok(next) => {
+                if let Err(NoMemory) = specs.push(next) {
+                    drop(specs);
+                    return Err(Fail::NoMemory);
+                }
+            }
+            Err(fail) => {
+                drop(specs);
+                return Err(fail);
+            }
+        }
     }
     Ok(specs)
 }

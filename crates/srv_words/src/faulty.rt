@@ -8,12 +8,10 @@ use crate::help::{
 };
 use crate::job::Command;
 use crate::load::{MAX_MADE, MAX_SEED};
-use crate::matches::text_of;
 use crate::number::number_in;
 use crate::pull::{MAX_ADDRESS, MAX_TARGET};
 use crate::serve::{MAX_COUNT, MAX_KEPT, MAX_WORKERS};
-use crate::site::name_of;
-use crate::values::{MAX_MARK, epoch_of, is_visible};
+use crate::values::{MAX_MARK, epoch_of, is_collection_name, is_visible};
 use crate::views::{is_view, service_of, version_of};
 use clap::ArgMatches;
 use std::alloc::Global;
@@ -28,129 +26,119 @@ pub(crate) struct Faulty<'a> {
     pub form: &'static str,
 }
 
+// What a text must be.
+#[derive(Clone, Copy)]
+enum Kind {
+    Name,
+    Epoch,
+    Mark,
+    Service,
+    View,
+    Version,
+    Address,
+    Target,
+    Seed,
+    Files,
+    Workers,
+    Count,
+    Keep,
+}
+
+// The options and the single words that have a form: the id of each, what the usage calls it, and what it must be.
+// Those of a command stand in the order in which they are looked at.
+const VALUES: &[(&str, &str, Kind)] = &[
+    ("name", "--name <NAME>", Kind::Name),
+    ("epoch", "--epoch <INSTANT>", Kind::Epoch),
+    ("mark", "--mark <MARK>", Kind::Mark),
+    ("service", "--service <SERVICE>", Kind::Service),
+    ("view", "--view <VIEW>", Kind::View),
+    ("format", "--format <VERSION>", Kind::Version),
+    ("connect", "--connect <ADDRESS>", Kind::Address),
+    ("TARGET", "<TARGET>", Kind::Target),
+    ("SEED", "<SEED>", Kind::Seed),
+    ("FILES", "<FILES>", Kind::Files),
+    ("workers", "--workers <NUMBER>", Kind::Workers),
+    ("connections", "--connections <NUMBER>", Kind::Count),
+    ("keep", "--keep <SECONDS>", Kind::Keep),
+    ("ticks", "--ticks <NUMBER>", Kind::Count),
+];
+
 /// The first value of a subcommand that hasn't its form.
 pub(crate) fn faulty_in<'a>(
     alloc: Global,
     name: &str,
     matches: &ArgMatches<'a>,
 ) -> Option<Faulty<'a>> {
-    match command_named(name.as_bytes())? {
-        Command::Once => faulty_site(matches).or(faulty_step(alloc, matches, true)),
-        Command::Twod => faulty_site(matches)
-            .or(faulty_service(matches))
-            .or(faulty_step(alloc, matches, false)),
-        Command::Extract => faulty_site(matches)
-            .or(faulty_view(matches))
-            .or(faulty_step(alloc, matches, false)),
-        Command::Pull => faulty_pull(matches),
-        Command::Check => None,
-        Command::Load => faulty_load(matches),
-        Command::Serve => faulty_site(matches)
-            .or(faulty_server(matches))
-            .or(faulty_folder(matches)),
-        Command::Many => faulty_server(matches).or(faulty_spec(matches)),
+    match faulty_value(matches) {
+        Some(faulty) => Some(faulty),
+        None => faulty_word(alloc, command_named(name.as_bytes())?, matches),
     }
 }
 
-// The value of an option or of a single word, which hasn't this form.
-fn faulty_at<'a>(
-    matches: &ArgMatches<'a>,
-    id: &str,
-    of: &'static str,
-    form: &'static str,
-) -> Option<Faulty<'a>> {
-    let value = matches.get_str(id)?;
-    Some(Faulty { value, of, form })
-}
-
-fn faulty_site<'a>(matches: &ArgMatches<'a>) -> Option<Faulty<'a>> {
-    if name_of(matches).is_none() {
-        return faulty_at(matches, "name", "--name <NAME>", NAME_FORM);
-    }
-    if epoch_of(text_of(matches, "epoch")).is_none() {
-        return faulty_at(matches, "epoch", "--epoch <INSTANT>", EPOCH_FORM);
-    }
-    match text_of(matches, "mark") {
-        Some(mark) if mark.len() > MAX_MARK as usize => {
-            faulty_at(matches, "mark", "--mark <MARK>", MARK_FORM)
+// The first option or single word that hasn't its form. One that a command doesn't have has no value.
+fn faulty_value<'a>(matches: &ArgMatches<'a>) -> Option<Faulty<'a>> {
+    for (id, of, kind) in VALUES {
+        match matches.get_str(id) {
+            Some(value) if !has_form(*kind, value.as_bytes()) => {
+                return Some(Faulty {
+                    value,
+                    of: *of,
+                    form: form_of(*kind),
+                });
+            }
+            _ => {}
         }
-        _ => None,
-    }
-}
-
-// A number that doesn't lie in its range.
-fn faulty_number<'a>(
-    matches: &ArgMatches<'a>,
-    id: &str,
-    of: &'static str,
-    form: &'static str,
-    least: u32,
-    most: u32,
-) -> Option<Faulty<'a>> {
-    let value = matches.get_str(id)?;
-    match number_in(least, most, value.as_bytes()) {
-        Some(_) => None,
-        None => Some(Faulty { value, of, form }),
-    }
-}
-
-fn faulty_load<'a>(matches: &ArgMatches<'a>) -> Option<Faulty<'a>> {
-    faulty_number(matches, "SEED", "<SEED>", COUNT_FORM, 0, MAX_SEED).or(faulty_number(
-        matches, "FILES", "<FILES>", FILES_FORM, 1, MAX_MADE,
-    ))
-}
-
-fn faulty_service<'a>(matches: &ArgMatches<'a>) -> Option<Faulty<'a>> {
-    match service_of(text_of(matches, "service")?) {
-        Some(_) => None,
-        None => faulty_at(matches, "service", "--service <SERVICE>", SERVICE_FORM),
-    }
-}
-
-fn faulty_view<'a>(matches: &ArgMatches<'a>) -> Option<Faulty<'a>> {
-    if !is_view(text_of(matches, "view")?) {
-        return faulty_at(matches, "view", "--view <VIEW>", VIEW_FORM);
-    }
-    match version_of(text_of(matches, "format")?) {
-        Some(_) => None,
-        None => faulty_at(matches, "format", "--format <VERSION>", VERSION_FORM),
-    }
-}
-
-fn faulty_pull<'a>(matches: &ArgMatches<'a>) -> Option<Faulty<'a>> {
-    if !is_visible(MAX_ADDRESS, text_of(matches, "connect")?) {
-        return faulty_at(matches, "connect", "--connect <ADDRESS>", ADDRESS_FORM);
-    }
-    if !is_visible(MAX_TARGET, text_of(matches, "TARGET")?) {
-        return faulty_at(matches, "TARGET", "<TARGET>", TARGET_FORM);
     }
     None
 }
 
-fn faulty_server<'a>(matches: &ArgMatches<'a>) -> Option<Faulty<'a>> {
-    faulty_number(
-        matches,
-        "workers",
-        "--workers <NUMBER>",
-        WORKERS_FORM,
-        1,
-        MAX_WORKERS,
-    )
-    .or(faulty_number(
-        matches,
-        "connections",
-        "--connections <NUMBER>",
-        COUNT_FORM,
-        0,
-        MAX_COUNT,
-    ))
-    .or(faulty_number(matches, "keep", "--keep <SECONDS>", KEEP_FORM, 1, MAX_KEPT))
-    .or(faulty_number(
-        matches,
-        "ticks",
-        "--ticks <NUMBER>",
-        COUNT_FORM,
-        0,
-        MAX_COUNT,
-    ))
+// The first step, folder or collection of a command that hasn't its form.
+fn faulty_word<'a>(
+    alloc: Global,
+    command: Command,
+    matches: &ArgMatches<'a>,
+) -> Option<Faulty<'a>> {
+    match command {
+        Command::Once => faulty_step(alloc, matches, true),
+        Command::Twod | Command::Extract => faulty_step(alloc, matches, false),
+        Command::Serve => faulty_folder(matches),
+        Command::Many => faulty_spec(matches),
+        Command::Pull | Command::Check | Command::Load => None,
+    }
+}
+
+fn has_form(kind: Kind, text: &[u8]) -> bool {
+    match kind {
+        Kind::Name => is_collection_name(text),
+        Kind::Epoch => epoch_of(Some(text)).is_some(),
+        Kind::Mark => text.len() <= MAX_MARK as usize,
+        Kind::Service => service_of(text).is_some(),
+        Kind::View => is_view(text),
+        Kind::Version => version_of(text).is_some(),
+        Kind::Address => is_visible(MAX_ADDRESS, text),
+        Kind::Target => is_visible(MAX_TARGET, text),
+        Kind::Seed => number_in(0, MAX_SEED, text).is_some(),
+        Kind::Files => number_in(1, MAX_MADE, text).is_some(),
+        Kind::Workers => number_in(1, MAX_WORKERS, text).is_some(),
+        Kind::Count => number_in(0, MAX_COUNT, text).is_some(),
+        Kind::Keep => number_in(1, MAX_KEPT, text).is_some(),
+    }
+}
+
+// What a person is told that it must be.
+fn form_of(kind: Kind) -> &'static str {
+    match kind {
+        Kind::Name => NAME_FORM,
+        Kind::Epoch => EPOCH_FORM,
+        Kind::Mark => MARK_FORM,
+        Kind::Service => SERVICE_FORM,
+        Kind::View => VIEW_FORM,
+        Kind::Version => VERSION_FORM,
+        Kind::Address => ADDRESS_FORM,
+        Kind::Target => TARGET_FORM,
+        Kind::Seed | Kind::Count => COUNT_FORM,
+        Kind::Files => FILES_FORM,
+        Kind::Workers => WORKERS_FORM,
+        Kind::Keep => KEEP_FORM,
+    }
 }

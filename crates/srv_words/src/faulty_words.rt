@@ -5,7 +5,7 @@ use crate::faulty::Faulty;
 use crate::help::{
     ASK_FORM, CHANGE_FORM, EXPIRE_FORM, FOLDERS_FORM, NAMES_FORM, SPEC_FORM, SPECS_FORM, STEP_FORM,
 };
-use crate::many::MAX_SPECS;
+use crate::many::{MAX_SPECS, MIN_SPECS};
 use crate::matches::{text_of, texts_of};
 use crate::serve::MAX_INBOXES;
 use crate::stepped::is_change;
@@ -17,12 +17,29 @@ use std::alloc::Global;
 
 /// The first folder that is too many.
 pub(crate) fn faulty_folder<'a>(matches: &ArgMatches<'a>) -> Option<Faulty<'a>> {
-    let value = *texts_of(matches, "INBOX")?.get(MAX_INBOXES as usize)?;
-    Some(Faulty {
-        value,
-        of: "<INBOX>...",
-        form: FOLDERS_FORM,
-    })
+    faulty_at(
+        texts_of(matches, "INBOX")?,
+        MAX_INBOXES,
+        "<INBOX>...",
+        FOLDERS_FORM,
+    )
+}
+
+// The word at an index.
+fn faulty_at<'a>(
+    words: &[&'a str],
+    index: u32,
+    of: &'static str,
+    form: &'static str,
+) -> Option<Faulty<'a>> {
+    match words.get(index as usize) {
+        Some(value) => Some(Faulty {
+            value: *value,
+            of,
+            form,
+        }),
+        None => None,
+    }
 }
 
 /// The first word that is no step, or one of the command, which may take steps that ask for replies.
@@ -32,12 +49,21 @@ pub(crate) fn faulty_step<'a>(
     may_ask: bool,
 ) -> Option<Faulty<'a>> {
     let epoch = epoch_of(text_of(matches, "epoch"))?;
-    for word in texts_of(matches, "STEP")? {
+    first_bad_step(alloc, epoch, texts_of(matches, "STEP")?, may_ask)
+}
+
+fn first_bad_step<'a>(
+    alloc: Global,
+    epoch: i64,
+    words: &[&'a str],
+    may_ask: bool,
+) -> Option<Faulty<'a>> {
+    for word in words {
         if !is_step(alloc, epoch, word, may_ask) {
             return Some(Faulty {
                 value: *word,
                 of: "<STEP>...",
-                form: step_form(word, may_ask),
+                form: step_form(word.as_bytes(), may_ask),
             });
         }
     }
@@ -58,12 +84,12 @@ fn is_step(alloc: Global, epoch: i64, word: &str, may_ask: bool) -> bool {
 }
 
 // The form of the step that a word begins as.
-fn step_form(word: &str, may_ask: bool) -> &'static str {
-    if word.starts_with("expire:") {
+fn step_form(word: &[u8], may_ask: bool) -> &'static str {
+    if word.starts_with(b"expire:") {
         EXPIRE_FORM
     } else if !may_ask {
         CHANGE_FORM
-    } else if word.starts_with("ask:") {
+    } else if word.starts_with(b"ask:") {
         ASK_FORM
     } else {
         STEP_FORM
@@ -73,23 +99,24 @@ fn step_form(word: &str, may_ask: bool) -> &'static str {
 /// The first word that is no collection, that has a name of one before, or that is too many; or the only one.
 pub(crate) fn faulty_spec<'a>(matches: &ArgMatches<'a>) -> Option<Faulty<'a>> {
     let words = texts_of(matches, "SPEC")?;
-    for (index, word) in words.iter().enumerate() {
-        if let Some(form) = spec_form(&words[..index], word) {
-            return Some(faulty_spec_of(*word, form));
-        }
-    }
-    match words {
-        [only] => Some(faulty_spec_of(*only, SPECS_FORM)),
-        _ => Some(faulty_spec_of(*words.get(MAX_SPECS as usize)?, SPECS_FORM)),
+    match first_bad_spec(words) {
+        Some(faulty) => Some(faulty),
+        None if words.len() < MIN_SPECS as usize => faulty_at(words, 0, "<SPEC>...", SPECS_FORM),
+        None => faulty_at(words, MAX_SPECS, "<SPEC>...", SPECS_FORM),
     }
 }
 
-fn faulty_spec_of<'a>(value: &'a str, form: &'static str) -> Faulty<'a> {
-    Faulty {
-        value,
-        of: "<SPEC>...",
-        form,
+fn first_bad_spec<'a>(words: &[&'a str]) -> Option<Faulty<'a>> {
+    for (index, word) in words.iter().enumerate() {
+        if let Some(form) = spec_form(&words[..index], word) {
+            return Some(Faulty {
+                value: *word,
+                of: "<SPEC>...",
+                form,
+            });
+        }
     }
+    None
 }
 
 // The form that the word of a collection behind these hasn't.

@@ -11,6 +11,7 @@ mod faulty_words;
 mod help;
 mod job;
 pub mod laws;
+mod line;
 mod load;
 mod made;
 mod many;

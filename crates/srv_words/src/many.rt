@@ -26,11 +26,12 @@ fn spec_words_of<'m, 'a>(matches: &'m ArgMatches<'a>) -> Option<&'m [&'a str]>
     ensures { option_map (λ list. map (λ word. word.now) list.now) result
         ≡ spec.spec_words_of (rows_of (found_of matches.now)) }
 {
-    let words = texts_of(matches, "SPEC")?;
-    if words.len() < MIN_SPECS as usize || words.len() > MAX_SPECS as usize {
-        return None;
+    match texts_of(matches, "SPEC") {
+        Some(words) if MIN_SPECS as usize <= words.len() && words.len() <= MAX_SPECS as usize => {
+            Some(words)
+        }
+        _ => None,
     }
-    Some(words)
 }
 
 // What is served, of all that the words say.
@@ -59,6 +60,11 @@ pub(crate) fn many_job(alloc: Global, matches: &ArgMatches<'_>) -> Result<Job, F
         return Err(Fail::Fault(BadWords));
     };
     let doors = doors_of(alloc, matches)?;
-    let specs = specs_of(alloc, words)?;
-    Ok(Job::Many(serving_of(doors, ticking, specs)))
+    match specs_of(alloc, words) {
+        Ok(specs) => Ok(Job::Many(serving_of(doors, ticking, specs))),
+        Err(fail) => {
+            drop(doors);
+            Err(fail)
+        }
+    }
 }

@@ -33,7 +33,10 @@ pub(crate) fn parsed<'a>(alloc: Global, words: &'a [&'a str]) -> Result<ArgMatch
     match matched(fmrcd(alloc)?, words) {
         Ok(matches) => Ok(matches),
         Err(error) => match error.kind() {
-            ErrorKind::OutOfMemory => Err(Fail::NoMemory),
+            ErrorKind::OutOfMemory => {
+                drop(error);
+                Err(Fail::NoMemory)
+            }
             _ => Err(Fail::Fault(error)),
         },
     }

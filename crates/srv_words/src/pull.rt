@@ -9,10 +9,11 @@ ghost use Rattle.srv_words.specs.Reads.{Reads};
 ghost use Rattle.srv_words.specs.Values as spec;
 
 use crate::job::{BadWords, Job};
+use crate::made::both;
 use crate::matches::text_of;
 use crate::values::is_visible;
 use clap::ArgMatches;
-use fm_base::{Bytes, Fail};
+use fm_base::Fail;
 use std::alloc::Global;
 
 /// The most bytes of an address that is dialled.
@@ -27,11 +28,10 @@ fn visible_of<'a>(matches: &ArgMatches<'a>, id: &str, most: u32) -> Option<&'a [
     ensures { option_map (λ text. text.now) result
         ≡ option_and_then (spec.visible_of most) (first_of id.now (rows_of (found_of matches.now))) }
 {
-    let text = text_of(matches, id)?;
-    if !is_visible(most, text) {
-        return None;
+    match text_of(matches, id) {
+        Some(text) if is_visible(most, text) => Some(text),
+        _ => None,
     }
-    Some(text)
 }
 
 // The job of `pull`, by its matches.
@@ -45,8 +45,6 @@ pub(crate) fn pull_job(alloc: Global, matches: &ArgMatches<'_>) -> Result<Job, F
     let Some(target) = visible_of(matches, "TARGET", MAX_TARGET) else {
         return Err(Fail::Fault(BadWords));
     };
-    Ok(Job::Pull {
-        address: Bytes::copy_of(alloc, address)?,
-        target: Bytes::copy_of(alloc, target)?,
-    })
+    let (address, target) = both(alloc, address, target)?;
+    Ok(Job::Pull { address, target })
 }

@@ -37,6 +37,7 @@ pub(crate) fn texts_of<'a>(
     let mut texts = Vec::new(alloc);
     for word in words {
         let Ok(text) = str::from_utf8(word.as_slice()) else {
+            drop(texts);
             return Err(Fail::Fault(BadWords));
         };
         texts.push(text)?;
@@ -107,7 +108,9 @@ fn job_of(alloc: Global, words: &[Bytes]) -> Result<Job, Fail<BadWords>>
     ensures { Reads (spec.job_of words.now) result }
 {
     let texts = texts_of(alloc, words)?;
-    job_of_texts(alloc, texts.as_slice())
+    let job = job_of_texts(alloc, texts.as_slice());
+    drop(texts);
+    job
 }
 
 /// The job that the words after the program's name are. `BadWords` comes exactly where `clap` doesn't take them, a word

@@ -1,5 +1,5 @@
 //! The job of `serve`.
-ghost use Rattle.std.specs.Prelude.{◌≡◌, IfOk, option_map, map};
+ghost use Rattle.std.specs.Prelude.{◌≡◌, ◌∷◌, ◌++◌, [], IfOk, OnOk, option_map, map};
 ghost use Rattle.clap.specs.Matches.{found_of};
 ghost use Rattle.clap.specs.Walk.{rows_of};
 ghost use Rattle.srv_words.specs.Jobs as jobs;
@@ -113,15 +113,40 @@ fn inboxes_of<'m, 'a>(matches: &'m ArgMatches<'a>) -> Option<&'m [&'a str]>
     Some(words)
 }
 
+// Adds a copy of a word.
+fn put_copy(alloc: Global, word: &[u8], copies: &mut List<Bytes>) -> Result<(), NoMemory>
+    ensures { OnOk result (copies.new ≡ copies.old ++ word.now ∷ []) }
+{
+    let copy = Bytes::copy_of(alloc, word)?;
+    copies.push(copy)
+}
+
 // A copy of each word.
 fn copies_of(alloc: Global, words: &[&str]) -> Result<List<Bytes>, NoMemory>
     ensures { IfOk result (λ copies. copies ≡ map (λ word. word.now) words.now) }
 {
     let mut copies = List::new(alloc);
     for word in words {
-        copies.push(Bytes::copy_of(alloc, word.as_bytes())?)?;
+        if let Err(NoMemory) = put_copy(alloc, word.as_bytes(), &mut copies) {
+            drop(copies);
+            return Err(NoMemory);
+        }
     }
     Ok(copies)
+}
+
+// The path of the prototype and the folders, in memory of their own.
+fn texts_with(alloc: Global, proto: &[u8], words: &[&str]) -> Result<(Bytes, List<Bytes>), NoMemory>
+    ensures { IfOk result (λ texts. texts ≡ (proto.now, map (λ word. word.now) words.now)) }
+{
+    let proto = Bytes::copy_of(alloc, proto)?;
+    match copies_of(alloc, words) {
+        Ok(inboxes) => Ok((proto, inboxes)),
+        Err(NoMemory) => {
+            drop(proto);
+            Err(NoMemory)
+        }
+    }
 }
 
 // What is served, with the texts of its options in memory of their own.
@@ -136,16 +161,23 @@ fn serving_of(
     ensures { IfOk result (λ serving.
         serving ≡ spec.serving_of site proto.now doors ticking (map (λ word. word.now) words.now)) }
 {
-    Ok(Serving {
-        site,
-        proto: Bytes::copy_of(alloc, proto)?,
-        listen: doors.listen,
-        workers: doors.workers,
-        connections: doors.connections,
-        keep: ticking.keep,
-        ticks: ticking.ticks,
-        inboxes: copies_of(alloc, words)?,
-    })
+    match texts_with(alloc, proto, words) {
+        Ok((proto, inboxes)) => Ok(Serving {
+            site,
+            proto,
+            listen: doors.listen,
+            workers: doors.workers,
+            connections: doors.connections,
+            keep: ticking.keep,
+            ticks: ticking.ticks,
+            inboxes,
+        }),
+        Err(NoMemory) => {
+            drop(site);
+            drop(doors);
+            Err(NoMemory)
+        }
+    }
 }
 
 // The job of `serve`, by its matches.
@@ -163,6 +195,11 @@ pub(crate) fn serve_job(alloc: Global, matches: &ArgMatches<'_>) -> Result<Job, 
         return Err(Fail::Fault(BadWords));
     };
     let site = site_of(alloc, matches)?;
-    let doors = doors_of(alloc, matches)?;
-    Ok(Job::Serve(serving_of(alloc, site, proto, doors, ticking, words)?))
+    match doors_of(alloc, matches) {
+        Ok(doors) => Ok(Job::Serve(serving_of(alloc, site, proto, doors, ticking, words)?)),
+        Err(fail) => {
+            drop(site);
+            Err(fail)
+        }
+    }
 }

@@ -16,14 +16,13 @@ use std::alloc::Global;
 
 // The name that a collection gets.
 #[tactic(auto, unfolding(crate::specs::Sites::name_of))]
-pub(crate) fn name_of<'a>(matches: &ArgMatches<'a>) -> Option<&'a [u8]>
+fn name_of<'a>(matches: &ArgMatches<'a>) -> Option<&'a [u8]>
     ensures { option_map (λ name. name.now) result ≡ spec.name_of (rows_of (found_of matches.now)) }
 {
-    let name = text_of(matches, "name")?;
-    if !is_collection_name(name) {
-        return None;
+    match text_of(matches, "name") {
+        Some(name) if is_collection_name(name) => Some(name),
+        _ => None,
     }
-    Some(name)
 }
 
 // The mark of a collection of this name, where none is given.
@@ -31,8 +30,13 @@ fn default_mark(alloc: Global, name: &[u8]) -> Result<Bytes, NoMemory>
     ensures { IfOk result (λ mark. mark ≡ values.default_mark name.now) }
 {
     let mut mark = Bytes::copy_of(alloc, name)?;
-    mark.append(b"_")?;
-    Ok(mark)
+    match mark.append(b"_") {
+        Ok(()) => Ok(mark),
+        Err(NoMemory) => {
+            drop(mark);
+            Err(NoMemory)
+        }
+    }
 }
 
 // The mark of a collection of this name.
@@ -51,6 +55,19 @@ fn mark_of(alloc: Global, name: &[u8], given: Option<&[u8]>) -> Result<Bytes, Fa
     }
 }
 
+// The site of a name, an epoch and a mark.
+fn site_with(alloc: Global, name: &[u8], epoch: i64, mark: Bytes) -> Result<Site, NoMemory>
+    ensures { IfOk result (λ site. site ≡ record { name = name.now; epoch = epoch; mark = mark }) }
+{
+    match Bytes::copy_of(alloc, name) {
+        Ok(name) => Ok(Site { name, epoch, mark }),
+        Err(NoMemory) => {
+            drop(mark);
+            Err(NoMemory)
+        }
+    }
+}
+
 // The site of a collection.
 #[tactic(auto, unfolding(crate::specs::Sites::site_of))]
 pub(crate) fn site_of(alloc: Global, matches: &ArgMatches<'_>) -> Result<Site, Fail<BadWords>>
@@ -63,11 +80,7 @@ pub(crate) fn site_of(alloc: Global, matches: &ArgMatches<'_>) -> Result<Site, F
         return Err(Fail::Fault(BadWords));
     };
     let mark = mark_of(alloc, name, text_of(matches, "mark"))?;
-    Ok(Site {
-        name: Bytes::copy_of(alloc, name)?,
-        epoch,
-        mark,
-    })
+    Ok(site_with(alloc, name, epoch, mark)?)
 }
 
 /// The site of a collection of this name, with the default epoch and the default mark.
@@ -75,9 +88,5 @@ pub(crate) fn default_site(alloc: Global, name: &[u8]) -> Result<Site, NoMemory>
     ensures { IfOk result (λ site. site ≡ spec.default_site name.now) }
 {
     let mark = default_mark(alloc, name)?;
-    Ok(Site {
-        name: Bytes::copy_of(alloc, name)?,
-        epoch: DEFAULT_EPOCH,
-        mark,
-    })
+    site_with(alloc, name, DEFAULT_EPOCH, mark)
 }

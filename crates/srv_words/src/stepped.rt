@@ -1,5 +1,5 @@
 //! A collection and the steps on it, of `once`, `twod` and `extract`.
-ghost use Rattle.std.specs.Prelude.{◌≡◌, option_map, map};
+ghost use Rattle.std.specs.Prelude.{◌≡◌, IfOk, option_map, map};
 ghost use Rattle.std.specs.List.{list_all};
 ghost use Rattle.clap.specs.Matches.{found_of};
 ghost use Rattle.clap.specs.Walk.{rows_of};
@@ -11,7 +11,7 @@ use crate::matches::{text_of, texts_of};
 use crate::site::site_of;
 use crate::steps::steps_of;
 use clap::ArgMatches;
-use fm_base::{Bytes, Fail};
+use fm_base::{Bytes, Fail, List, NoMemory};
 use fm_model::Site;
 use std::alloc::Global;
 
@@ -21,11 +21,29 @@ fn step_words_of<'m, 'a>(matches: &'m ArgMatches<'a>) -> Option<&'m [&'a str]>
     ensures { option_map (λ list. map (λ word. word.now) list.now) result
         ≡ spec.step_words_of (rows_of (found_of matches.now)) }
 {
-    let words = texts_of(matches, "STEP")?;
-    if words.is_empty() {
-        return None;
+    match texts_of(matches, "STEP") {
+        Some(words) if !words.is_empty() => Some(words),
+        _ => None,
     }
-    Some(words)
+}
+
+// These steps on a collection of this site.
+fn with_steps(
+    alloc: Global,
+    site: Site,
+    proto: &[u8],
+    steps: List<Step>,
+) -> Result<Stepping, NoMemory>
+    ensures { IfOk result (λ stepping. stepping ≡ record { site = site; proto = proto.now; steps = steps }) }
+{
+    match Bytes::copy_of(alloc, proto) {
+        Ok(proto) => Ok(Stepping { site, proto, steps }),
+        Err(NoMemory) => {
+            drop(site);
+            drop(steps);
+            Err(NoMemory)
+        }
+    }
 }
 
 // The steps of words on a collection of this site.
@@ -38,12 +56,13 @@ fn stepping_over(
 ) -> Result<Stepping, Fail<BadWords>>
     ensures { Reads (spec.stepping_over site proto.now (map (λ word. word.now) words.now)) result }
 {
-    let steps = steps_of(alloc, site.epoch, words)?;
-    Ok(Stepping {
-        site,
-        proto: Bytes::copy_of(alloc, proto)?,
-        steps,
-    })
+    match steps_of(alloc, site.epoch, words) {
+        Ok(steps) => Ok(with_steps(alloc, site, proto, steps)?),
+        Err(fail) => {
+            drop(site);
+            Err(fail)
+        }
+    }
 }
 
 /// A collection and the steps on it, by the matches of a command.

@@ -8,6 +8,7 @@ ghost use Rattle.srv_words.specs.Reads.{Reads};
 ghost use Rattle.srv_words.specs.Views as spec;
 
 use crate::job::{BadWords, Job};
+use crate::made::both;
 use crate::matches::text_of;
 use crate::stepped::changing_of;
 use clap::ArgMatches;
@@ -55,21 +56,19 @@ pub(crate) fn is_view(text: &[u8]) -> bool
 fn view_of<'a>(matches: &ArgMatches<'a>) -> Option<&'a [u8]>
     ensures { option_map (λ view. view.now) result ≡ spec.view_of (rows_of (found_of matches.now)) }
 {
-    let view = text_of(matches, "view")?;
-    if !is_view(view) {
-        return None;
+    match text_of(matches, "view") {
+        Some(view) if is_view(view) => Some(view),
+        _ => None,
     }
-    Some(view)
 }
 
 // The constraint, which is empty where none is given.
-fn constraint_of(alloc: Global, matches: &ArgMatches<'_>) -> Result<Bytes, NoMemory>
-    ensures { IfOk result (λ constraint. constraint
-        ≡ spec.constraint_of (first_of (codes "ask") (rows_of (found_of matches.now)))) }
+fn constraint_of<'a>(matches: &ArgMatches<'a>) -> &'a [u8]
+    ensures { result.now ≡ spec.constraint_of (first_of (codes "ask") (rows_of (found_of matches.now))) }
 {
     match text_of(matches, "ask") {
-        Some(text) => Bytes::copy_of(alloc, text),
-        None => Ok(Bytes::new(alloc)),
+        Some(text) => text,
+        None => b"",
     }
 }
 
@@ -97,13 +96,18 @@ pub(crate) fn twod_job(alloc: Global, matches: &ArgMatches<'_>) -> Result<Job, F
     let Some(with_values) = with_values_of(matches) else {
         return Err(Fail::Fault(BadWords));
     };
-    let constraint = constraint_of(alloc, matches)?;
-    let stepping = changing_of(alloc, matches)?;
-    Ok(Job::Twod {
-        stepping,
-        with_values,
-        constraint,
-    })
+    let constraint = Bytes::copy_of(alloc, constraint_of(matches))?;
+    match changing_of(alloc, matches) {
+        Ok(stepping) => Ok(Job::Twod {
+            stepping,
+            with_values,
+            constraint,
+        }),
+        Err(fail) => {
+            drop(constraint);
+            Err(fail)
+        }
+    }
 }
 
 // The job of `extract`, by its matches.
@@ -117,13 +121,17 @@ pub(crate) fn extract_job(alloc: Global, matches: &ArgMatches<'_>) -> Result<Job
     let Some(version) = format_of(matches) else {
         return Err(Fail::Fault(BadWords));
     };
-    let view = Bytes::copy_of(alloc, view)?;
-    let constraint = constraint_of(alloc, matches)?;
     let stepping = changing_of(alloc, matches)?;
-    Ok(Job::Extract {
-        stepping,
-        view,
-        constraint,
-        version,
-    })
+    match both(alloc, view, constraint_of(matches)) {
+        Ok((view, constraint)) => Ok(Job::Extract {
+            stepping,
+            view,
+            constraint,
+            version,
+        }),
+        Err(NoMemory) => {
+            drop(stepping);
+            Err(Fail::NoMemory)
+        }
+    }
 }

@@ -1,110 +1,136 @@
--- Workers that have learnt a log, again and again until each has seen just that.
-use Rattle.std.proofs.Common.{◌≡◌, ℕ, ◌<◌, List, [], ◌∷◌, length, map, All, slice_index_or, refl, sym, ap₂, subst, ◌∙◌, append-nil, arith}
-use Rattle.std.proofs.lemmas.List.Elements.{All-nil, All-cons, All-head, All-tail}
-use Rattle.std.specs.List.{AllZip}
+-- Workers that have learnt logs, again and again until each has seen just those.
+use Rattle.std.proofs.Common.{◌≡◌, ℕ, zero, suc, ◌+◌, ◌<◌, List, [], ◌∷◌, ◌++◌, length, take, All, refl, sym, ap, subst, ◌∙◌, append-nil, arith}
+use Rattle.std.specs.Prelude.{get_or, slice_set}
+use Rattle.std.proofs.lemmas.List.{take_more_set}
+use Rattle.std.proofs.lemmas.List.Elements.{All-nil, All-cons, All-head, All-push, All-same, All-tail}
+use Rattle.std.specs.List.{AllZip, filter_map}
 use Rattle.fm_edition.specs.Log.{IsLog}
 use Rattle.fm_model.specs.declared.op.Op.{Op}
-use Rattle.fm_model.specs.declared.proto.Proto.{Proto}
-use Rattle.pub_look.specs.History.{Continues, History}
+use Rattle.pub_look.specs.History.{Continues}
 use Rattle.pub_look.proofs.HistoryLemmas.{continues_on, same_length}
-use Rattle.srv_workers.specs.declared.task.Task.{Task}
-use Rattle.srv_workers.specs.declared.task.Worker.{Worker}
-use Rattle.srv_workers.specs.Course.{HasLearnt, KeepsTask}
-use Rattle.srv_workers.proofs.PairLemmas.{AllZip-at, AllZip-then}
+use Rattle.srv_workers.specs.declared.worker.Worker.{Worker}
+use Rattle.srv_workers.specs.declared.worker.Worker.TheVariants.{Serve, TakeIn, LetGo}
+use Rattle.srv_workers.specs.Course.{Begins, HasLearnt, HasSeen, Keeps}
+use Rattle.srv_workers.specs.Desks.{Means}
+use Rattle.srv_workers.specs.Workers.{door_of, LooksAt, seen_by}
+use Rattle.srv_workers.proofs.PairLemmas.{AllZip-then}
 
--- a worker that has learnt nothing keeps its task
-keeps-itself : {D I C H : Type 0} (worker : Worker D I C History H) → KeepsTask worker worker
-keeps-itself worker = record { task = refl; later = ([], sym (append-nil worker.pass.seen)) }
+-- the first n items were changed so, and the others not at all
+abbrev pub FirstChanged : {A : Type 0} → (A → A → Type 0) → ℕ → List A → List A → Type 0
+FirstChanged Is zero xs ys = ys ≡ xs
+FirstChanged Is (suc n) [] ys = ys ≡ []
+FirstChanged Is (suc n) (x ∷ xs) [] = ⊥
+FirstChanged Is (suc n) (x ∷ xs) (y ∷ ys) = Is x y × FirstChanged Is n xs ys
 
--- each worker keeps its task at the start
-pub keeps-start : {D I C H : Type 0} (staff : List (Worker D I C History H)) → AllZip KeepsTask staff staff
-keeps-start [] = tt
-keeps-start (worker ∷ more) = (keeps-itself worker, keeps-start more)
+-- the next one is changed too
+pub FirstChanged-next : {A : Type 0} (Is : A → A → Type 0) (n : ℕ) (xs ys : List A) (d y : A) → n < length ys
+    → FirstChanged Is n xs ys → Is (get_or ys n d) y → FirstChanged Is (n + 1) xs (slice_set ys n y)
+FirstChanged-next Is n xs [] d y below changed is = absurd (omega (arith, below))
+FirstChanged-next {A} Is zero xs (z ∷ zs) d y below changed is =
+    subst (λ (l : List A). FirstChanged Is 1 l (y ∷ zs)) changed (is, refl)
+FirstChanged-next {A} Is (suc n) [] (z ∷ zs) d y below changed is =
+    absurd (omega (arith, ap (λ (l : List A). length l) changed))
+FirstChanged-next {A} Is (suc n) (x ∷ xs) (z ∷ zs) d y below changed is =
+    let more : suc n + 1 ≡ suc (n + 1) = omega arith in
+    subst (λ (k : ℕ). FirstChanged Is k (x ∷ xs) (z ∷ slice_set zs n y)) (sym more)
+    (changed.0, FirstChanged-next Is n xs zs d y (omega (arith, below)) changed.1 is)
 
--- a worker that kept its task and then has learnt keeps it
-keeps-both : {D I C H : Type 0} (log : List Op) (first second third : Worker D I C History H)
-    → KeepsTask first second → HasLearnt log second third → KeepsTask first third
-keeps-both log first second third one two = record {
-  task = two.keeps.task ∙ one.task;
-  later = continues_on first.pass.seen second.pass.seen third.pass.seen one.later two.keeps.later;
+-- all were
+pub FirstChanged-all : {A : Type 0} (Is : A → A → Type 0) (n : ℕ) (xs ys : List A) → length xs ≡ n
+    → FirstChanged Is n xs ys → AllZip Is xs ys
+FirstChanged-all {A} Is zero [] ys whole changed = subst (λ (l : List A). AllZip Is [] l) (sym changed) tt
+FirstChanged-all Is zero (x ∷ xs) ys whole changed = absurd (omega (arith, whole))
+FirstChanged-all Is (suc n) [] ys whole changed = absurd (omega (arith, whole))
+FirstChanged-all Is (suc n) (x ∷ xs) [] whole changed = absurd changed
+FirstChanged-all Is (suc n) (x ∷ xs) (y ∷ ys) whole changed =
+    (changed.0, FirstChanged-all Is n xs ys (omega (arith, whole)) changed.1)
+
+-- a worker that has learnt nothing keeps what it has
+keeps-itself : {D I C E H : Type 0} (means : Means E H) (worker : Worker D I C E H) → Keeps means worker worker
+keeps-itself means worker = record {
+  door = refl;
+  door_told = refl;
+  inbox = refl;
+  inbox_told = refl;
+  clock = refl;
+  clock_told = refl;
+  counted = λ number. refl;
+  looks = λ number looks. looks;
+  later = λ number. ([], sym (append-nil (seen_by means worker number)));
 }
 
--- each worker keeps its task through one turn more
-pub keeps-turn : {D I C H : Type 0} (log : List Op) (first second third : List (Worker D I C History H))
-    → AllZip KeepsTask first second → length third ≡ length second
-    → ((i : ℕ) (d : Worker D I C History H) → i < length second
-    → HasLearnt log (slice_index_or second i d) (slice_index_or third i d))
-    → AllZip KeepsTask first third
-keeps-turn log first second third one same two =
-    AllZip-then KeepsTask (HasLearnt log) KeepsTask first second third one
-    (AllZip-at (HasLearnt log) second third same two) (keeps-both log)
+pub keeps-start : {D I C E H : Type 0} (means : Means E H) (staff : List (Worker D I C E H))
+    → AllZip (Keeps means) staff staff
+keeps-start means [] = tt
+keeps-start means (worker ∷ more) = (keeps-itself means worker, keeps-start means more)
 
--- the tasks of workers that keep them
-tasks-kept : {D I C H : Type 0} (first second : List (Worker D I C History H)) → AllZip KeepsTask first second
-    → map (λ (w : Worker D I C History H). w.task) second ≡ map (λ (w : Worker D I C History H). w.task) first
-tasks-kept [] [] keeps = refl
-tasks-kept [] (w ∷ ws) keeps = absurd keeps
-tasks-kept (v ∷ vs) [] keeps = absurd keeps
-tasks-kept {D} {I} {C} {H} (v ∷ vs) (w ∷ ws) keeps =
-    ap₂ (λ (t : Task D I C H) (ts : List (Task D I C H)). t ∷ ts) keeps.0.task (tasks-kept vs ws keeps.1)
+-- a worker that kept what it has and then has learnt keeps it
+keeps-both : {D I C E H : Type 0} (means : Means E H) (log : ℕ → List Op) (u v w : Worker D I C E H)
+    → Keeps means u v → HasLearnt means log v w → Keeps means u w
+keeps-both means log u v w one two = record {
+  door = two.keeps.door ∙ one.door;
+  door_told = two.keeps.door_told ∙ one.door_told;
+  inbox = two.keeps.inbox ∙ one.inbox;
+  inbox_told = two.keeps.inbox_told ∙ one.inbox_told;
+  clock = two.keeps.clock ∙ one.clock;
+  clock_told = two.keeps.clock_told ∙ one.clock_told;
+  counted = λ number. two.keeps.counted number ∙ one.counted number;
+  looks = λ number looks. two.keeps.looks number (one.looks number looks);
+  later = λ number. continues_on (seen_by means u number) (seen_by means v number) (seen_by means w number)
+      (one.later number) (two.keeps.later number);
+}
 
--- the tasks of workers after the last turn
-pub tasks-turn : {D I C H : Type 0} (log : List Op) (first second third : List (Worker D I C History H))
-    → AllZip KeepsTask first second → length third ≡ length second
-    → ((i : ℕ) (d : Worker D I C History H) → i < length second
-    → HasLearnt log (slice_index_or second i d) (slice_index_or third i d))
-    → map (λ (w : Worker D I C History H). w.task) third ≡ map (λ (w : Worker D I C History H). w.task) first
-tasks-turn log first second third one same two =
-    tasks-kept first third (keeps-turn log first second third one same two)
+pub keeps-turn : {D I C E H : Type 0} (means : Means E H) (log : ℕ → List Op) (us vs ws : List (Worker D I C E H))
+    → AllZip (Keeps means) us vs → AllZip (HasLearnt means log) vs ws → AllZip (Keeps means) us ws
+keeps-turn means log us vs ws one two =
+    AllZip-then (Keeps means) (HasLearnt means log) (Keeps means) us vs ws one two (keeps-both means log)
 
--- the operations that workers had seen begin a log that each has learnt and seen the length of
-begin-each : {D I C H : Type 0} (log : List Op) (first second third : List (Worker D I C History H))
-    → AllZip KeepsTask first second → AllZip (HasLearnt log) second third
-    → All (λ (w : Worker D I C History H). length w.pass.seen ≡ length log) third
-    → All (λ (w : Worker D I C History H). Continues w.pass.seen log) first
-begin-each log [] second third one two level = All-nil (λ w. Continues w.pass.seen log)
-begin-each log (u ∷ us) [] third one two level = absurd one
-begin-each log (u ∷ us) (v ∷ vs) [] one two level = absurd two
-begin-each {D} {I} {C} {H} log (u ∷ us) (v ∷ vs) (w ∷ ws) one two level =
-    All-cons (λ (x : Worker D I C History H). Continues x.pass.seen log) u us begins
-    (begin-each log us vs ws one.1 two.1 (All-tail IsLevel w ws level))
+-- what a worker has seen of a desk is its log, once it has learnt that and has seen its length
+its-log : {D I C E H : Type 0} (means : Means E H) (log : ℕ → List Op) (v w : Worker D I C E H) (number : ℕ)
+    → HasLearnt means log v w → HasSeen means log w → LooksAt means w number → seen_by means w number ≡ log number
+its-log means log v w number learnt seen looks =
+    same_length (log number) (seen_by means w number) (learnt.told number looks) (seen.level number looks)
+
+-- what workers had seen begins the logs
+pub begin-turn : {D I C E H : Type 0} (means : Means E H) (log : ℕ → List Op) (us vs ws : List (Worker D I C E H))
+    → AllZip (Keeps means) us vs → AllZip (HasLearnt means log) vs ws → All (HasSeen means log) ws
+    → All (Begins means log) us
+begin-turn means log [] vs ws one two seen = All-nil (Begins means log)
+begin-turn means log (u ∷ us) [] ws one two seen = absurd one
+begin-turn means log (u ∷ us) (v ∷ vs) [] one two seen = absurd two
+begin-turn means log (u ∷ us) (v ∷ vs) (w ∷ ws) one two seen =
+    All-cons (Begins means log) u us begins
+    (begin-turn means log us vs ws one.1 two.1 (All-tail (HasSeen means log) w ws seen))
   where
-    IsLevel : Worker D I C History H → Type 0
-    IsLevel x = length x.pass.seen ≡ length log
+    begins : Begins means log u
+    begins = λ number looks. subst (λ (l : List Op). Continues (seen_by means u number) l)
+        (its-log means log v w number two.0 (All-head (HasSeen means log) w ws seen)
+        (two.0.keeps.looks number (one.0.looks number looks)))
+        ((keeps-both means log u v w one.0 two.0).later number)
 
-    begins : Continues u.pass.seen log
-    begins = subst (λ (l : List Op). Continues u.pass.seen l)
-        (same_length log w.pass.seen two.0.told (All-head IsLevel w ws level))
-        (keeps-both log u v w one.0 two.0).later
-
--- the same after the last turn
-pub begin-turn : {D I C H : Type 0} (log : List Op) (first second third : List (Worker D I C History H))
-    → AllZip KeepsTask first second → length third ≡ length second
-    → ((i : ℕ) (d : Worker D I C History H) → i < length second
-    → HasLearnt log (slice_index_or second i d) (slice_index_or third i d))
-    → All (λ (w : Worker D I C History H). length w.pass.seen ≡ length log) third
-    → All (λ (w : Worker D I C History H). Continues w.pass.seen log) first
-begin-turn log first second third one same two level =
-    begin-each log first second third one (AllZip-at (HasLearnt log) second third same two) level
-
--- a log that each has learnt and seen the length of is sound where each worker's operations are
-pub sound-turn : {D I C H : Type 0} (proto : Proto) (log : List Op)
-    (first second third : List (Worker D I C History H)) → 0 < length first → AllZip KeepsTask first second
-    → length third ≡ length second
-    → ((i : ℕ) (d : Worker D I C History H) → i < length second
-    → HasLearnt log (slice_index_or second i d) (slice_index_or third i d))
-    → All (λ (w : Worker D I C History H). length w.pass.seen ≡ length log) third
-    → All (λ (w : Worker D I C History H). IsLog proto w.pass.seen) third → IsLog proto log
-sound-turn proto log [] second third some one same two level sound = absurd (omega (arith, some))
-sound-turn proto log (u ∷ us) [] third some one same two level sound = absurd one
-sound-turn proto log (u ∷ us) (v ∷ vs) [] some one same two level sound = absurd (omega (arith, same))
-sound-turn {D} {I} {C} {H} proto log (u ∷ us) (v ∷ vs) (w ∷ ws) some one same two level sound =
-    subst (λ (l : List Op). IsLog proto l)
-    (same_length log w.pass.seen learnt.0.told (All-head IsLevel w ws level))
-    (All-head (λ (x : Worker D I C History H). IsLog proto x.pass.seen) w ws sound)
+-- each log is sound where a door's worker has seen just that
+pub sound-turn : {D I C E H : Type 0} (means : Means E H) (log : ℕ → List Op) (us vs ws : List (Worker D I C E H))
+    → 0 < length (filter_map door_of us)
+    → AllZip (Keeps means) us vs → AllZip (HasLearnt means log) vs ws → All (HasSeen means log) ws
+    → (number : ℕ) → number < means.them.count → IsLog (means.them.proto number) (log number)
+sound-turn means log [] vs ws some one two seen number below = absurd (omega (arith, some))
+sound-turn means log (u ∷ us) [] ws some one two seen number below = absurd one
+sound-turn means log (u ∷ us) (v ∷ vs) [] some one two seen number below = absurd two
+sound-turn means log (Serve d n e r ∷ us) (v ∷ vs) (w ∷ ws) some one two seen number below =
+    subst (λ (l : List Op). IsLog (means.them.proto number) l)
+    (its-log means log v w number two.0 (All-head (HasSeen means log) w ws seen) looks)
+    ((All-head (HasSeen means log) w ws seen).sound number looks)
   where
-    IsLevel : Worker D I C History H → Type 0
-    IsLevel x = length x.pass.seen ≡ length log
+    looks : LooksAt means w number
+    looks = two.0.keeps.looks number (one.0.looks number below)
+sound-turn means log (TakeIn i h r ∷ us) (v ∷ vs) (w ∷ ws) some one two seen number below =
+    sound-turn means log us vs ws some one.1 two.1 (All-tail (HasSeen means log) w ws seen) number below
+sound-turn means log (LetGo c h r ∷ us) (v ∷ vs) (w ∷ ws) some one two seen number below =
+    sound-turn means log us vs ws some one.1 two.1 (All-tail (HasSeen means log) w ws seen) number below
 
-    learnt : AllZip (HasLearnt log) (v ∷ vs) (w ∷ ws)
-    learnt = AllZip-at (HasLearnt log) (v ∷ vs) (w ∷ ws) same two
+-- what holds of the first items and of the one that was changed next
+pub seen-next : {A : Type 0} (P : A → Type 0) (n : ℕ) (xs : List A) (y : A) → n < length xs → All P (take n xs) → P y
+    → All P (take (n + 1) (slice_set xs n y))
+seen-next P n xs y below all is =
+    All-same P (take (n + 1) (slice_set xs n y)) (take n xs ++ y ∷ []) (take_more_set xs n y below)
+    (All-push P (take n xs) y all is)

@@ -1,200 +1,143 @@
 -- Tasks that are done: from the workers that were hired to what they leave.
-use Rattle.std.proofs.Common.{◌≡◌, ℕ, ◌+◌, List, [], ◌∷◌, length, map, sum, All, Option, refl, sym, ap, ap₂, subst, ◌∙◌, arith}
+use Rattle.std.proofs.Common.{◌≡◌, ℕ, ◌+◌, List, [], ◌∷◌, length, sum, All, Option, refl, sym, ap, ap₂, ◌∙◌, arith}
 use Rattle.std.proofs.lemmas.List.{length-map}
-use Rattle.std.proofs.lemmas.List.Sums.{sum_by-cons}
-use Rattle.std.proofs.lemmas.List.Elements.{All-nil, All-head, All-tail}
+use Rattle.std.proofs.lemmas.List.Elements.{All-head, All-tail}
+use Rattle.std.proofs.lemmas.List.Sums.{sum_by-append}
 use Rattle.std.specs.List.{AllZip, cons_option, filter_map}
 use Rattle.fm_model.specs.declared.op.Op.{Op}
-use Rattle.fm_model.specs.declared.proto.Proto.{Proto}
-use Rattle.dev_traits.specs.Shown.{LinkShown}
-use Rattle.dev_traits.specs.Clock.{Moments}
-use Rattle.dev_traits.specs.Door.{DoorShown}
-use Rattle.dev_traits.specs.Inbox.{InboxShown}
-use Rattle.pub_look.specs.History.{Continues, History}
-use Rattle.pub_snap.specs.Opening.{unused}
-use Rattle.srv_ingest.specs.declared.report.ExpireReport.{ExpireReport}
-use Rattle.srv_ingest.specs.declared.report.IngestReport.{IngestReport}
-use Rattle.srv_workers.specs.declared.task.Task.{Task}
-use Rattle.srv_workers.specs.declared.task.Task.TheVariants.{Serve, TakeIn, LetGo}
-use Rattle.srv_workers.specs.declared.task.Worker.{Worker}
-use Rattle.srv_workers.specs.Done.{AreDone, expired_sum, HaveWorked, published_sum, retracted_sum, told_sum}
-use Rattle.srv_workers.specs.Runs.{AreRuns, IsClockRun, IsDoorRun, IsInboxRun, Run}
-use Rattle.srv_workers.specs.Tasks.{Adds, clock_of, clock_told, door_of, door_told, inbox_of, inbox_told, IsUnused, share_of}
-use Rattle.srv_workers.specs.Work.{Does, Worked}
-use Rattle.srv_workers.proofs.RunLemmas.{clock-runs, door-runs, inbox-runs, IsFirstWork}
+use Rattle.srv_workers.specs.declared.worker.Worker.{Worker}
+use Rattle.srv_workers.specs.declared.worker.Worker.TheVariants.{Serve, TakeIn, LetGo}
+use Rattle.srv_workers.specs.Course.{Begins, Keeps}
+use Rattle.srv_workers.specs.Desks.{counted_at, Means}
+use Rattle.srv_workers.specs.Does.{Does, Shows}
+use Rattle.srv_workers.specs.Done.{AreDone, HaveWorked, IsHired}
+use Rattle.srv_workers.specs.Over.{AreDeskRuns, counted_in, DeskRun, IsClockRunAt, IsDoorRunAt, IsInboxRunAt}
+use Rattle.srv_workers.specs.Pairs.{pick}
+use Rattle.srv_workers.specs.Workers.{clock_of, clock_told, counted_by, counted_with, door_of, door_told, inbox_of, inbox_told, IsFirst}
+use Rattle.srv_workers.proofs.CountLemmas.{counted-kept, counted-worked}
+use Rattle.srv_workers.proofs.RunLemmas.{clock_run, clock-runs, door-runs, inbox_run, inbox-runs, IsFirstWork, runs-are}
+use Rattle.dev_traits.specs.declared.world.Devices.{Devices}
 
--- what is made of tasks, by the workers that have them
-of-tasks : {D I C P H X : Type 0} (made : Task D I C H → Option X) (staff : List (Worker D I C P H))
-    → filter_map (λ (w : Worker D I C P H). made w.task) staff
-    ≡ filter_map made (map (λ (w : Worker D I C P H). w.task) staff)
-of-tasks made [] = refl
-of-tasks {X = X} made (w ∷ ws) = ap (λ (l : List X). cons_option (made w.task) l) (of-tasks made ws)
-
--- workers that had unused passes and shares, and did their tasks
-first-work : {D I C L : Type 0} (door : D → DoorShown L) (link : L → LinkShown) (inbox : I → InboxShown)
-    (clock : C → Option Moments) (proto : Proto) (keep : ℕ) (log : List Op)
-    (before after : List (Worker D I C History ℕ))
-    → AllZip (Worked door link inbox clock proto keep) before after
-    → All (λ (w : Worker D I C History ℕ). w.pass ≡ unused proto) before
-    → All IsUnused (map (λ (w : Worker D I C History ℕ). w.task) before)
-    → All (λ (w : Worker D I C History ℕ). Continues w.pass.seen log) after
-    → AllZip (IsFirstWork door link inbox clock proto keep log) before after
-first-work door link inbox clock proto keep log [] [] worked new shares begin = tt
-first-work door link inbox clock proto keep log [] (w ∷ ws) worked new shares begin = absurd worked
-first-work door link inbox clock proto keep log (v ∷ vs) [] worked new shares begin = absurd worked
-first-work {D} {I} {C} door link inbox clock proto keep log (v ∷ vs) (w ∷ ws) worked new shares begin = (
+-- workers that had seen nothing and did their tasks
+first-work : {D I C L E H : Type 0} (shown : Shows D I C L) (keep : ℕ) (means : Means E H) (log : ℕ → List Op)
+    (before after : List (Worker D I C E H)) → AllZip (Does shown keep means) before after
+    → All (IsFirst means) before → All (Begins means log) after
+    → AllZip (IsFirstWork shown keep means log) before after
+first-work shown keep means log [] [] worked first begin = tt
+first-work shown keep means log [] (w ∷ ws) worked first begin = absurd worked
+first-work shown keep means log (v ∷ vs) [] worked first begin = absurd worked
+first-work shown keep means log (v ∷ vs) (w ∷ ws) worked first begin = (
   record {
     worked = worked.0;
-    new = All-head IsNew v vs new;
-    begins = All-head Begins w ws begin;
-    unused = All-head IsUnused v.task (map (λ (x : Worker D I C History ℕ). x.task) vs) shares;
+    first = All-head (IsFirst means) v vs first;
+    begins = All-head (Begins means log) w ws begin;
   },
-  first-work door link inbox clock proto keep log vs ws worked.1 (All-tail IsNew v vs new)
-      (All-tail IsUnused v.task (map (λ (x : Worker D I C History ℕ). x.task) vs) shares) (All-tail Begins w ws begin),
+  first-work shown keep means log vs ws worked.1 (All-tail (IsFirst means) v vs first)
+      (All-tail (Begins means log) w ws begin),
 )
+
+-- what is made of workers that kept what they have
+made-kept : {D I C E H X : Type 0} (means : Means E H) (made : Worker D I C E H → Option X)
+    (vs ws : List (Worker D I C E H)) → ((v w : Worker D I C E H) → Keeps means v w → made w ≡ made v)
+    → AllZip (Keeps means) vs ws → filter_map made ws ≡ filter_map made vs
+made-kept means made [] [] same kept = refl
+made-kept means made [] (w ∷ ws) same kept = absurd kept
+made-kept means made (v ∷ vs) [] same kept = absurd kept
+made-kept {X = X} means made (v ∷ vs) (w ∷ ws) same kept =
+    ap₂ (λ (o : Option X) (l : List X). cons_option o l) (same v w kept.0) (made-kept means made vs ws same kept.1)
+
+-- runs of equal lists
+runs-equal : {X K R : Type 0} (Is : DeskRun X K R → Type 0) (before before' after after' : List X)
+    (reports reports' : List R) → before ≡ before' → after' ≡ after → reports' ≡ reports
+    → AreDeskRuns Is before after reports → AreDeskRuns Is before' after' reports'
+runs-equal Is before before' after after' reports reports' one two three runs = record {
+  runs = runs.runs;
+  came = runs.came ∙ one;
+  left = runs.left ∙ sym two;
+  told = runs.told ∙ sym three;
+  each = runs.each;
+}
+
+-- the shares of workers count as those of their runs
+counted-all : {D I C L E H : Type 0} (shown : Shows D I C L) (keep : ℕ) (means : Means E H) (log : ℕ → List Op)
+    (number : ℕ) (vs ws : List (Worker D I C E H)) → AllZip (IsFirstWork shown keep means log) vs ws
+    → sum (counted_by means number ws) ≡ sum (counted_in means number (pick inbox_run vs ws))
+    + sum (counted_in means number (pick clock_run vs ws))
+counted-all shown keep means log number [] [] each = refl
+counted-all shown keep means log number [] (w ∷ ws) each = absurd each
+counted-all shown keep means log number (v ∷ vs) [] each = absurd each
+counted-all shown keep means log number (Serve d n e r ∷ vs) (Serve d' n' e' r' ∷ ws) each =
+    counted-all shown keep means log number vs ws each.1
+counted-all shown keep means log number (TakeIn i h r ∷ vs) (TakeIn i' h' r' ∷ ws) each = omega (
+  arith,
+  sum_by-append (λ (n : ℕ). n) (counted_at number (means.publisher h')) (counted_by means number ws),
+  sum_by-append (λ (n : ℕ). n) (counted_at number (means.publisher h'))
+      (counted_in means number (pick inbox_run vs ws)),
+  counted-all shown keep means log number vs ws each.1,
+)
+counted-all shown keep means log number (LetGo c h r ∷ vs) (LetGo c' h' r' ∷ ws) each = omega (
+  arith,
+  sum_by-append (λ (n : ℕ). n) (counted_at number (means.publisher h')) (counted_by means number ws),
+  sum_by-append (λ (n : ℕ). n) (counted_at number (means.publisher h'))
+      (counted_in means number (pick clock_run vs ws)),
+  counted-all shown keep means log number vs ws each.1,
+)
+counted-all shown keep means log number (Serve d n e r ∷ vs) (TakeIn i h r' ∷ ws) each = absurd each.0.worked
+counted-all shown keep means log number (Serve d n e r ∷ vs) (LetGo c h r' ∷ ws) each = absurd each.0.worked
+counted-all shown keep means log number (TakeIn i h r ∷ vs) (Serve d n e r' ∷ ws) each = absurd each.0.worked
+counted-all shown keep means log number (TakeIn i h r ∷ vs) (LetGo c h' r' ∷ ws) each = absurd each.0.worked
+counted-all shown keep means log number (LetGo c h r ∷ vs) (Serve d n e r' ∷ ws) each = absurd each.0.worked
+counted-all shown keep means log number (LetGo c h r ∷ vs) (TakeIn i h' r' ∷ ws) each = absurd each.0.worked
+
+-- the tasks of hired workers are done once all have worked
+pub AreDone-is : {D I C L E H : Type 0} (shown : Shows D I C L) (keep : ℕ) (means : Means E H) (log : ℕ → List Op)
+    (devices : Devices D I C) (hands : List H) (before after : List (Worker D I C E H))
+    → IsHired means devices hands before → HaveWorked shown keep means log before after
+    → AreDone shown keep means log devices.doors devices.inboxes devices.clocks after
+unfolding runs-equal runs-are inbox-runs clock-runs
+AreDone-is {D} {I} {C} {L} {E} {H} shown keep means log devices hands before after hired worked = record {
+  doors = runs-equal (IsDoorRunAt shown means log) (filter_map door_of before) devices.doors
+      (filter_map door_of worked.middle) (filter_map door_of after) (filter_map door_told worked.middle)
+      (filter_map door_told after) hired.adds.doors_are (made-kept means door_of worked.middle after
+      (λ v w kept. kept.door) worked.kept) (made-kept means door_told worked.middle after (λ v w kept. kept.door_told)
+      worked.kept) (door-runs shown keep means log before worked.middle each);
+  inboxes = runs-equal (IsInboxRunAt shown means log) (filter_map inbox_of before) devices.inboxes
+      (filter_map inbox_of worked.middle) (filter_map inbox_of after) (filter_map inbox_told worked.middle)
+      (filter_map inbox_told after) hired.adds.inboxes_are (made-kept means inbox_of worked.middle after
+      (λ v w kept. kept.inbox) worked.kept) (made-kept means inbox_told worked.middle after
+      (λ v w kept. kept.inbox_told) worked.kept) (inbox-runs shown keep means log before worked.middle each);
+  clocks = runs-equal (IsClockRunAt shown keep means log) (filter_map clock_of before) devices.clocks
+      (filter_map clock_of worked.middle) (filter_map clock_of after) (filter_map clock_told worked.middle)
+      (filter_map clock_told after) hired.adds.clocks_are (made-kept means clock_of worked.middle after
+      (λ v w kept. kept.clock) worked.kept) (made-kept means clock_told worked.middle after
+      (λ v w kept. kept.clock_told) worked.kept) (clock-runs shown keep means log before worked.middle each);
+  counted = λ number. ap (λ (l : List ℕ). sum l) (counted-kept means number worked.middle after worked.kept)
+      ∙ counted-all shown keep means log number before worked.middle each;
+}
   where
-    IsNew : Worker D I C History ℕ → Type 0
-    IsNew x = x.pass ≡ unused proto
+    each : AllZip (IsFirstWork shown keep means log) before worked.middle
+    each = first-work shown keep means log before worked.middle worked.worked hired.first worked.begin
 
-    Begins : Worker D I C History ℕ → Type 0
-    Begins x = Continues x.pass.seen log
+-- as many shares at each desk as there were hands
+pub counted-done : {D I C L E H : Type 0} (shown : Shows D I C L) (keep : ℕ) (means : Means E H) (log : ℕ → List Op)
+    (devices : Devices D I C) (hands : List H) (before after : List (Worker D I C E H)) (number : ℕ)
+    → IsHired means devices hands before → HaveWorked shown keep means log before after
+    → length (counted_by means number after) ≡ length (counted_with means number hands)
+counted-done {H = H} shown keep means log devices hands before after number hired worked =
+    ap (λ (l : List ℕ). length l) (counted-kept means number worked.middle after worked.kept)
+    ∙ counted-worked shown keep means number before worked.middle worked.worked
+    ∙ ap (λ (l : List H). length (counted_with means number l)) hired.adds.hands_are
 
--- each inbox and each clock has one share
-shares-count : {D I C H : Type 0} (tasks : List (Task D I C H))
-    → length (filter_map share_of tasks) ≡ length (filter_map inbox_of tasks) + length (filter_map clock_of tasks)
-shares-count [] = refl
-shares-count (Serve d n r ∷ more) = shares-count more
-shares-count (TakeIn i s r ∷ more) = omega (arith, shares-count more)
-shares-count (LetGo c s r ∷ more) = omega (arith, shares-count more)
-
--- the operations in one task's report are counted by its share
-told-next : {D I C L : Type 0} (door : D → DoorShown L) (link : L → LinkShown) (inbox : I → InboxShown)
-    (clock : C → Option Moments) (proto : Proto) (keep : ℕ) (pass pass' : History) (task task' : Task D I C ℕ)
-    (more : List (Task D I C ℕ)) → Does door link inbox clock proto keep pass pass' task task' → IsUnused task
-    → told_sum more ≡ sum (filter_map share_of more)
-    → told_sum (task' ∷ more) ≡ sum (filter_map share_of (task' ∷ more))
-told-next door link inbox clock proto keep pass pass' (Serve d n r) (Serve d' n' r') more does unused is = is
-told-next door link inbox clock proto keep pass pass' (TakeIn i s r) (TakeIn i' s' r') more does unused is =
-    let sums : r'.published + published_sum more + (r'.retracted + retracted_sum more) + expired_sum more
-    ≡ s' + sum (filter_map share_of more) = omega (arith, does.counted, unused, is) in
-    ap₂ (λ (a b : ℕ). a + b + expired_sum more)
-    (sum_by-cons (λ (report : IngestReport). report.published) r' (filter_map inbox_told more))
-    (sum_by-cons (λ (report : IngestReport). report.retracted) r' (filter_map inbox_told more))
-    ∙ sums ∙ sym (sum_by-cons (λ (n : ℕ). n) s' (filter_map share_of more))
-told-next door link inbox clock proto keep pass pass' (LetGo c s r) (LetGo c' s' r') more does unused is =
-    let sums : published_sum more + retracted_sum more + (r'.expired + expired_sum more)
-    ≡ s' + sum (filter_map share_of more) = omega (arith, does.counted, unused, is) in
-    ap (λ (a : ℕ). published_sum more + retracted_sum more + a)
-    (sum_by-cons (λ (report : ExpireReport). report.expired) r' (filter_map clock_told more))
-    ∙ sums ∙ sym (sum_by-cons (λ (n : ℕ). n) s' (filter_map share_of more))
-told-next door link inbox clock proto keep pass pass' (Serve d n r) (TakeIn i s r') more does unused is = absurd does
-told-next door link inbox clock proto keep pass pass' (Serve d n r) (LetGo c s r') more does unused is = absurd does
-told-next door link inbox clock proto keep pass pass' (TakeIn i s r) (Serve d n r') more does unused is = absurd does
-told-next door link inbox clock proto keep pass pass' (TakeIn i s r) (LetGo c s' r') more does unused is = absurd does
-told-next door link inbox clock proto keep pass pass' (LetGo c s r) (Serve d n r') more does unused is = absurd does
-told-next door link inbox clock proto keep pass pass' (LetGo c s r) (TakeIn i s' r') more does unused is = absurd does
-
--- the operations in all tasks' reports are counted by their shares
-told-all : {D I C L : Type 0} (door : D → DoorShown L) (link : L → LinkShown) (inbox : I → InboxShown)
-    (clock : C → Option Moments) (proto : Proto) (keep : ℕ) (log : List Op)
-    (before after : List (Worker D I C History ℕ))
-    → AllZip (IsFirstWork door link inbox clock proto keep log) before after
-    → told_sum (map (λ (w : Worker D I C History ℕ). w.task) after)
-    ≡ sum (filter_map share_of (map (λ (w : Worker D I C History ℕ). w.task) after))
-told-all door link inbox clock proto keep log [] [] each = refl
-told-all door link inbox clock proto keep log [] (w ∷ ws) each = absurd each
-told-all door link inbox clock proto keep log (v ∷ vs) [] each = absurd each
-told-all {D} {I} {C} door link inbox clock proto keep log (v ∷ vs) (w ∷ ws) each =
-    told-next door link inbox clock proto keep v.pass w.pass v.task w.task
-    (map (λ (x : Worker D I C History ℕ). x.task) ws) each.0.worked each.0.unused
-    (told-all door link inbox clock proto keep log vs ws each.1)
-
--- runs of as many devices as there were
-pub runs-count : {X R : Type 0} (Is : Run X R → Type 0) (before after : List X) (reports : List R)
-    → AreRuns Is before after reports → length after ≡ length before
+-- as many devices as before
+pub runs-count : {X K R : Type 0} (Is : DeskRun X K R → Type 0) (before after : List X) (reports : List R)
+    → AreDeskRuns Is before after reports → length after ≡ length before
 runs-count {X} Is before after reports runs =
     sym (ap (λ (l : List X). length l) runs.left) ∙ length-map runs.runs (λ run. run.left)
     ∙ sym (length-map runs.runs (λ run. run.came)) ∙ ap (λ (l : List X). length l) runs.came
 
--- runs of equal lists
-runs-equal : {X R : Type 0} (Is : Run X R → Type 0) (before before' after after' : List X) (reports reports' : List R)
-    → before ≡ before' → after ≡ after' → reports ≡ reports' → AreRuns Is before after reports
-    → AreRuns Is before' after' reports'
-runs-equal Is before before' after after' reports reports' one two three runs = record {
-  runs = runs.runs;
-  came = runs.came ∙ one;
-  left = runs.left ∙ two;
-  told = runs.told ∙ three;
-  each = runs.each;
-}
-
--- the parts of the tasks after the work, by the workers that did it
-of-after : {D I C H X : Type 0} (made : Task D I C H → Option X) (middle after : List (Worker D I C History H))
-    → map (λ (w : Worker D I C History H). w.task) after ≡ map (λ (w : Worker D I C History H). w.task) middle
-    → filter_map (λ (w : Worker D I C History H). made w.task) middle
-    ≡ filter_map made (map (λ (w : Worker D I C History H). w.task) after)
-of-after {D} {I} {C} {H} made middle after tasks =
-    of-tasks made middle ∙ ap (λ (l : List (Task D I C H)). filter_map made l) (sym tasks)
-
--- the tasks of hired workers are done once all have worked
-pub AreDone-is : {D I C L : Type 0} (door : D → DoorShown L) (link : L → LinkShown) (inbox : I → InboxShown)
-    (clock : C → Option Moments) (proto : Proto) (keep : ℕ) (log : List Op) (doors : List D) (inboxes : List I)
-    (clocks : List C) (tasks : List (Task D I C ℕ)) (before after : List (Worker D I C History ℕ))
-    → Adds [] tasks doors inboxes clocks → map (λ (w : Worker D I C History ℕ). w.task) before ≡ tasks
-    → All (λ (w : Worker D I C History ℕ). w.pass ≡ unused proto) before
-    → HaveWorked door link inbox clock proto keep log before after
-    → AreDone door link inbox clock proto keep log doors inboxes clocks
-    (map (λ (w : Worker D I C History ℕ). w.task) after)
-AreDone-is {D} {I} {C} door link inbox clock proto keep log doors inboxes clocks tasks before after adds are
-    new worked =
-    record {
-      doors = door_runs;
-      inboxes = inbox_runs;
-      clocks = clock_runs;
-      shares = shares-count after_tasks ∙ ap₂ (λ (n m : ℕ). n + m)
-          (runs-count (IsInboxRun inbox proto log) inboxes (filter_map inbox_of after_tasks)
-          (filter_map inbox_told after_tasks) inbox_runs)
-          (runs-count (IsClockRun clock proto keep log) clocks (filter_map clock_of after_tasks)
-          (filter_map clock_told after_tasks) clock_runs);
-      told = subst (λ (l : List (Task D I C ℕ)). told_sum l ≡ sum (filter_map share_of l)) (sym worked.tasks)
-          (told-all door link inbox clock proto keep log before worked.middle each);
-    }
-  where
-    after_tasks : List (Task D I C ℕ)
-    after_tasks = map (λ (w : Worker D I C History ℕ). w.task) after
-
-    each : AllZip (IsFirstWork door link inbox clock proto keep log) before worked.middle
-    each = first-work door link inbox clock proto keep log before worked.middle worked.worked new
-        (subst (λ (l : List (Task D I C ℕ)). All IsUnused l) (sym are) (adds.unused (All-nil IsUnused))) worked.begin
-
-    door_runs : AreRuns (IsDoorRun door link proto log) doors (filter_map door_of after_tasks)
-        (filter_map door_told after_tasks)
-    door_runs = runs-equal (IsDoorRun door link proto log)
-        (filter_map (λ (w : Worker D I C History ℕ). door_of w.task) before) doors
-        (filter_map (λ (w : Worker D I C History ℕ). door_of w.task) worked.middle) (filter_map door_of after_tasks)
-        (filter_map (λ (w : Worker D I C History ℕ). door_told w.task) worked.middle) (filter_map door_told after_tasks)
-        (of-tasks door_of before ∙ ap (λ (l : List (Task D I C ℕ)). filter_map door_of l) are ∙ adds.doors_are)
-        (of-after door_of worked.middle after worked.tasks) (of-after door_told worked.middle after worked.tasks)
-        (door-runs door link inbox clock proto keep log before worked.middle each)
-
-    inbox_runs : AreRuns (IsInboxRun inbox proto log) inboxes (filter_map inbox_of after_tasks)
-        (filter_map inbox_told after_tasks)
-    inbox_runs = runs-equal (IsInboxRun inbox proto log)
-        (filter_map (λ (w : Worker D I C History ℕ). inbox_of w.task) before) inboxes
-        (filter_map (λ (w : Worker D I C History ℕ). inbox_of w.task) worked.middle) (filter_map inbox_of after_tasks)
-        (filter_map (λ (w : Worker D I C History ℕ). inbox_told w.task) worked.middle)
-        (filter_map inbox_told after_tasks)
-        (of-tasks inbox_of before ∙ ap (λ (l : List (Task D I C ℕ)). filter_map inbox_of l) are ∙ adds.inboxes_are)
-        (of-after inbox_of worked.middle after worked.tasks) (of-after inbox_told worked.middle after worked.tasks)
-        (inbox-runs door link inbox clock proto keep log before worked.middle each)
-
-    clock_runs : AreRuns (IsClockRun clock proto keep log) clocks (filter_map clock_of after_tasks)
-        (filter_map clock_told after_tasks)
-    clock_runs = runs-equal (IsClockRun clock proto keep log)
-        (filter_map (λ (w : Worker D I C History ℕ). clock_of w.task) before) clocks
-        (filter_map (λ (w : Worker D I C History ℕ). clock_of w.task) worked.middle) (filter_map clock_of after_tasks)
-        (filter_map (λ (w : Worker D I C History ℕ). clock_told w.task) worked.middle)
-        (filter_map clock_told after_tasks)
-        (of-tasks clock_of before ∙ ap (λ (l : List (Task D I C ℕ)). filter_map clock_of l) are ∙ adds.clocks_are)
-        (of-after clock_of worked.middle after worked.tasks) (of-after clock_told worked.middle after worked.tasks)
-        (clock-runs door link inbox clock proto keep log before worked.middle each)
+-- as many reports
+pub told-count : {X K R : Type 0} (Is : DeskRun X K R → Type 0) (before after : List X) (reports : List R)
+    → AreDeskRuns Is before after reports → length reports ≡ length before
+told-count {X} {K} {R} Is before after reports runs =
+    sym (ap (λ (l : List R). length l) runs.told) ∙ length-map runs.runs (λ run. run.report)
+    ∙ sym (length-map runs.runs (λ run. run.came)) ∙ ap (λ (l : List X). length l) runs.came

@@ -1,10 +1,15 @@
+pub mod AloneLemmas
 pub mod CloseLemmas
+pub mod CountLemmas
 pub mod CourseLemmas
 pub mod DoneLemmas
+pub mod GivenLemmas
 pub mod HireLemmas
+pub mod LearnLemmas
+pub mod OneLemmas
 pub mod PairLemmas
 pub mod PartLemmas
+pub mod PlaceLemmas
 pub mod RunLemmas
 pub mod ShiftLemmas
 pub mod StaffLemmas
-pub mod TaskLemmas

@@ -1,24 +1,13 @@
 -- Two lists of one length, and what is made of their pairs.
-use Rattle.std.proofs.Common.{◌≡◌, ℕ, zero, suc, ◌+◌, ◌<◌, ◌≤◌, List, [], ◌∷◌, length, map, take, All, Option, Some, None, IfSome, refl, sym, ap₂, subst, ◌∙◌, arith, slice_index_or, option_map}
+use Rattle.std.proofs.Common.{◌≡◌, ℕ, suc, ◌<◌, ◌≤◌, List, [], ◌∷◌, length, map, take, All, Option, Some, None, IfSome, refl, ap₂, subst, ◌∙◌, arith, slice_index_or, option_map}
 use Rattle.std.proofs.lemmas.List.{take_all}
-use Rattle.std.proofs.lemmas.List.Elements.{All-nil, All-cons, All-head, All-tail}
+use Rattle.std.proofs.lemmas.List.Elements.{All-nil, All-cons}
 use Rattle.std.specs.List.{AllZip, cons_option, filter_map}
 use Rattle.srv_workers.specs.Pairs.{pick}
 
 -- what holds of two items holds of their equals
 pub of-equals : {A : Type 0} (Is : A → A → Type 0) (x x' y y' : A) → x ≡ x' → y ≡ y' → Is x y → Is x' y'
 of-equals {A} Is x x' y y' one two is = subst (λ (z : A). Is x' z) two (subst (λ (z : A). Is z y) one is)
-
--- what holds of the first items and of the next one
-pub All-next : {A : Type 0} (P : A → Type 0) (n : ℕ) (xs : List A) (d : A) → n < length xs → All P (take n xs)
-    → P (slice_index_or xs n d) → All P (take (n + 1) xs)
-All-next {A} P n [] d below all next = absurd (omega (arith, below))
-All-next {A} P zero (x ∷ xs) d below all next = All-cons P x [] next (All-nil P)
-All-next {A} P (suc n) (x ∷ xs) d below all next =
-    let more : suc n + 1 ≡ suc (n + 1) = omega arith in
-    subst (λ (k : ℕ). All P (take k (x ∷ xs))) (sym more)
-    (All-cons P x (take (n + 1) xs) (All-head P x (take n xs) all)
-    (All-next P n xs d (omega (arith, below)) (All-tail P x (take n xs) all) next))
 
 -- what holds of all the first items
 pub All-whole : {A : Type 0} (P : A → Type 0) (n : ℕ) (xs : List A) → length xs ≤ n → All P (take n xs) → All P xs

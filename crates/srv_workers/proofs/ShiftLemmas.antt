@@ -1,31 +1,46 @@
--- Workers that did their tasks and then learnt the log.
-use Rattle.std.proofs.Common.{◌≡◌, ℕ, ◌<◌, List, length, map, All, Option, slice_index_or}
+-- Workers that did their tasks and then learnt the logs.
+use Rattle.std.proofs.Common.{◌≡◌, ℕ, suc, ◌<◌, List, [], ◌∷◌, length, All, refl, ap, slice_index_or}
+use Rattle.std.specs.List.{AllZip, filter_map}
 use Rattle.fm_model.specs.declared.op.Op.{Op}
-use Rattle.fm_model.specs.declared.proto.Proto.{Proto}
-use Rattle.dev_traits.specs.Shown.{LinkShown}
-use Rattle.dev_traits.specs.Clock.{Moments}
-use Rattle.dev_traits.specs.Door.{DoorShown}
-use Rattle.dev_traits.specs.Inbox.{InboxShown}
-use Rattle.pub_look.specs.History.{Continues, History}
-use Rattle.srv_workers.specs.declared.task.Worker.{Worker}
+use Rattle.srv_workers.specs.declared.worker.Worker.{Worker}
+use Rattle.srv_workers.specs.declared.worker.Worker.TheVariants.{Serve, TakeIn, LetGo}
+use Rattle.srv_workers.specs.Course.{Begins, Keeps}
+use Rattle.srv_workers.specs.Desks.{Means}
+use Rattle.srv_workers.specs.Does.{Does, Shows}
 use Rattle.srv_workers.specs.Done.{HaveWorked}
-use Rattle.srv_workers.specs.Work.{Worked}
+use Rattle.srv_workers.specs.Workers.{door_of}
 use Rattle.srv_workers.proofs.PairLemmas.{AllZip-at}
 
--- workers that did their tasks, had seen beginnings of a log, and kept their tasks
-pub HaveWorked-is : {D I C L : Type 0} (door : D → DoorShown L) (link : L → LinkShown) (inbox : I → InboxShown)
-    (clock : C → Option Moments) (proto : Proto) (keep : ℕ) (log : List Op)
-    (before middle after : List (Worker D I C History ℕ)) → length middle ≡ length before
-    → ((i : ℕ) (d : Worker D I C History ℕ) → i < length before
-    → Worked door link inbox clock proto keep (slice_index_or before i d) (slice_index_or middle i d))
-    → All (λ (w : Worker D I C History ℕ). Continues w.pass.seen log) middle
-    → map (λ (w : Worker D I C History ℕ). w.task) after ≡ map (λ (w : Worker D I C History ℕ). w.task) middle
-    → HaveWorked door link inbox clock proto keep log before after
-HaveWorked-is door link inbox clock proto keep log before middle after same each begin tasks = record {
+-- workers that did their tasks, had seen beginnings of the logs, and kept what they had
+pub HaveWorked-is : {D I C L E H : Type 0} (shown : Shows D I C L) (keep : ℕ) (means : Means E H)
+    (log : ℕ → List Op) (before middle after : List (Worker D I C E H)) → length middle ≡ length before
+    → ((i : ℕ) (d : Worker D I C E H) → i < length before
+    → Does shown keep means (slice_index_or before i d) (slice_index_or middle i d))
+    → All (Begins means log) middle → AllZip (Keeps means) middle after
+    → HaveWorked shown keep means log before after
+HaveWorked-is shown keep means log before middle after same each begin kept = record {
   middle = middle;
-  worked = AllZip-at (Worked door link inbox clock proto keep) before middle same each;
+  worked = AllZip-at (Does shown keep means) before middle same each;
   begin = begin;
-  tasks = tasks;
+  kept = kept;
 }
 
-pub ruleset shifts = (HaveWorked-is)
+-- as many doors after the work as before
+pub doors-worked : {D I C L E H : Type 0} (shown : Shows D I C L) (keep : ℕ) (means : Means E H)
+    (vs ws : List (Worker D I C E H)) → AllZip (Does shown keep means) vs ws
+    → length (filter_map door_of ws) ≡ length (filter_map door_of vs)
+doors-worked shown keep means [] [] worked = refl
+doors-worked shown keep means [] (w ∷ ws) worked = absurd worked
+doors-worked shown keep means (v ∷ vs) [] worked = absurd worked
+doors-worked shown keep means (Serve d n e r ∷ vs) (Serve d' n' e' r' ∷ ws) worked =
+    ap suc (doors-worked shown keep means vs ws worked.1)
+doors-worked shown keep means (TakeIn i h r ∷ vs) (TakeIn i' h' r' ∷ ws) worked =
+    doors-worked shown keep means vs ws worked.1
+doors-worked shown keep means (LetGo c h r ∷ vs) (LetGo c' h' r' ∷ ws) worked =
+    doors-worked shown keep means vs ws worked.1
+doors-worked shown keep means (Serve d n e r ∷ vs) (TakeIn i h r' ∷ ws) worked = absurd worked.0
+doors-worked shown keep means (Serve d n e r ∷ vs) (LetGo c h r' ∷ ws) worked = absurd worked.0
+doors-worked shown keep means (TakeIn i h r ∷ vs) (Serve d n e r' ∷ ws) worked = absurd worked.0
+doors-worked shown keep means (TakeIn i h r ∷ vs) (LetGo c h' r' ∷ ws) worked = absurd worked.0
+doors-worked shown keep means (LetGo c h r ∷ vs) (Serve d n e r' ∷ ws) worked = absurd worked.0
+doors-worked shown keep means (LetGo c h r ∷ vs) (TakeIn i h' r' ∷ ws) worked = absurd worked.0

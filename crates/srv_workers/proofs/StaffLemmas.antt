@@ -1,94 +1,161 @@
--- Workers that get their tasks and passes one after the other.
-use Rattle.std.proofs.Common.{◌≡◌, ℕ, zero, suc, ◌+◌, ◌-◌, ◌<◌, ◌≤◌, List, [], ◌∷◌, ◌++◌, length, map, take, drop, All, replicate, slice_index_or, sym, ap, subst, ◌∙◌, arith}
-use Rattle.std.proofs.lemmas.List.{length-drop, length-replicate, map-append, take_all}
-use Rattle.std.proofs.lemmas.List.Elements.{All-nil, All-cons, All-append}
-use Rattle.pub_look.specs.History.{History}
-use Rattle.srv_workers.specs.declared.task.Task.{Task}
-use Rattle.srv_workers.specs.declared.task.Worker.{Worker}
-use Rattle.srv_workers.proofs.TaskLemmas.{take-next}
+-- Workers that are put behind others.
+use Rattle.std.proofs.Common.{◌≡◌, ℕ, ◌+◌, ◌<◌, ◌≤◌, List, [], ◌∷◌, ◌++◌, length, take, drop, All, Option, Some, None, refl, sym, ap, subst, ◌∙◌, append_assoc, append-nil, take-add, drop-drop, arith}
+use Rattle.std.proofs.lemmas.List.Elements.{All-head, All-push, filter_map-append}
+use Rattle.std.specs.List.{cons_option, filter_map}
+use Rattle.srv_conn.specs.declared.door_report.DoorReport.{DoorReport}
+use Rattle.srv_ingest.specs.declared.report.ExpireReport.{ExpireReport}
+use Rattle.srv_ingest.specs.declared.report.IngestReport.{IngestReport}
+use Rattle.srv_workers.specs.declared.worker.Worker.{Worker}
+use Rattle.srv_workers.specs.declared.worker.Worker.TheVariants.{Serve, TakeIn, LetGo}
+use Rattle.srv_workers.specs.Desks.{IsNew, IsUnseen, Means}
+use Rattle.srv_workers.specs.Workers.{Adds, clock_of, door_of, hand_of, inbox_of, IsFirst}
 
--- the tasks of workers, with one more
-pub staff-more : {D I C P H : Type 0} (n : ℕ) (staff staff' : List (Worker D I C P H))
-    (tasks rest more : List (Task D I C H))
-    (pass : P) (task : Task D I C H) → map (λ (w : Worker D I C P H). w.task) staff ≡ take n tasks
-    → rest ≡ drop n tasks → rest ≡ task ∷ more → staff' ≡ staff ++ (record { pass = pass; task = task }) ∷ []
-    → map (λ (w : Worker D I C P H). w.task) staff' ≡ take (n + 1) tasks
-staff-more {D} {I} {C} {P} {H} n staff staff' tasks rest more pass task are is first put =
-    ap (λ (l : List (Worker D I C P H)). map (λ (w : Worker D I C P H). w.task) l) put
-    ∙ map-append (λ (w : Worker D I C P H). w.task) staff ((record { pass = pass; task = task }) ∷ [])
-    ∙ ap (λ (l : List (Task D I C H)). l ++ task ∷ []) are
-    ∙ sym (take-next n tasks rest task more is first)
+-- one item more of which something is made
+more-some : {T X : Type 0} (made : T → Option X) (before after : List T) (t : T) (xs : List X) (x : X)
+    → made t ≡ Some x → filter_map made after ≡ filter_map made before ++ xs
+    → filter_map made (after ++ t ∷ []) ≡ filter_map made before ++ (xs ++ x ∷ [])
+more-some {T} {X} made before after t xs x is are =
+    filter_map-append made after (t ∷ [])
+    ∙ ap (λ (o : Option X). filter_map made after ++ cons_option o []) is
+    ∙ ap (λ (l : List X). l ++ x ∷ []) are
+    ∙ append_assoc (filter_map made before) xs (x ∷ [])
 
--- the first of equal items, and the others
-replicate-first : {X : Type 0} (n : ℕ) (u x : X) (more : List X) → replicate n u ≡ x ∷ more
-    → (x ≡ u) × (more ≡ replicate (n - 1) u)
-replicate-first {X} zero u x more is = absurd (omega (arith, ap (λ (l : List X). length l) is))
-replicate-first {X} (suc n) u x more is = (
-  ap (λ (l : List X). slice_index_or l 0 u) (sym is),
-  ap (λ (l : List X). drop 1 l) (sym is) ∙ ap (λ (k : ℕ). replicate k u) (omega arith),
-)
+-- one item more of which nothing is made
+more-none : {T X : Type 0} (made : T → Option X) (before after : List T) (t : T) (xs : List X)
+    → made t ≡ None → filter_map made after ≡ filter_map made before ++ xs
+    → filter_map made (after ++ t ∷ []) ≡ filter_map made before ++ xs
+more-none {T} {X} made before after t xs is are =
+    filter_map-append made after (t ∷ [])
+    ∙ ap (λ (o : Option X). filter_map made after ++ cons_option o []) is
+    ∙ append-nil (filter_map made after) ∙ are
 
--- all passes of workers are unused, with one more
-pub unused-more : {D I C H : Type 0} (k : ℕ) (u : History) (passes more : List History)
-    (staff staff' : List (Worker D I C History H)) (taken pass : History) (task : Task D I C H)
-    → All (λ (w : Worker D I C History H). w.pass ≡ u) staff → passes ≡ replicate k u → passes ≡ taken ∷ more
-    → pass ≡ taken → staff' ≡ staff ++ (record { pass = pass; task = task }) ∷ []
-    → All (λ (w : Worker D I C History H). w.pass ≡ u) staff'
-unused-more {D} {I} {C} {H} k u passes more staff staff' taken pass task all are first is put =
-    subst (λ (l : List (Worker D I C History H)). All IsNew l) (sym put)
-    (All-append IsNew staff (worker ∷ []) all
-    (All-cons IsNew worker [] (is ∙ (replicate-first k u taken more (sym are ∙ first)).0) (All-nil IsNew)))
-  where
-    IsNew : Worker D I C History H → Type 0
-    IsNew w = w.pass ≡ u
+-- no worker was put behind others
+pub Adds-none : {D I C E H : Type 0} (means : Means E H) (staff : List (Worker D I C E H))
+    → Adds means staff staff [] [] [] []
+Adds-none means staff = record {
+  doors_are = sym (append-nil (filter_map door_of staff));
+  inboxes_are = sym (append-nil (filter_map inbox_of staff));
+  clocks_are = sym (append-nil (filter_map clock_of staff));
+  hands_are = sym (append-nil (filter_map hand_of staff));
+  first = λ all. all;
+}
 
-    worker : Worker D I C History H
-    worker = record { pass = pass; task = task }
+-- what follows the first n items, without its first
+pub drop-next : {X : Type 0} (n : ℕ) (xs rest : List X) (x : X) (more : List X) → rest ≡ drop n xs → rest ≡ x ∷ more
+    → more ≡ drop (n + 1) xs
+drop-next {X} n xs rest x more is first =
+    ap (λ (l : List X). drop 1 l) (sym first ∙ is) ∙ drop-drop 1 n xs
 
--- the equal items that are left after the next
-pub equals-next : {X : Type 0} (len n : ℕ) (u : X) (items more : List X) (item : X)
-    → items ≡ replicate (len - n) u → items ≡ item ∷ more → more ≡ replicate (len - (n + 1)) u
-equals-next len n u items more item are first =
-    (replicate-first (len - n) u item more (sym are ∙ first)).1 ∙ ap (λ (k : ℕ). replicate k u) (omega arith)
+-- the first n items and the next
+pub take-next : {X : Type 0} (n : ℕ) (xs rest : List X) (x : X) (more : List X) → rest ≡ drop n xs → rest ≡ x ∷ more
+    → take (n + 1) xs ≡ take n xs ++ x ∷ []
+take-next {X} n xs rest x more is first =
+    take-add n 1 xs ∙ ap (λ (l : List X). take n xs ++ take 1 l) (sym is ∙ first)
 
--- the next of equal items
-pub equal-first : {X : Type 0} (len n : ℕ) (u : X) (items more : List X) (item : X)
-    → items ≡ replicate (len - n) u → items ≡ item ∷ more → item ≡ u
-equal-first len n u items more item are first = (replicate-first (len - n) u item more (sym are ∙ first)).0
+-- what holds of all holds of the first
+pub All-front : {X : Type 0} (P : X → Type 0) (xs more : List X) (x : X) → All P xs → xs ≡ x ∷ more → P x
+All-front {X} P xs more x all is = All-head P x more (subst (λ (l : List X). All P l) is all)
 
--- no worker has a task yet
-pub staff-none : {D I C P H : Type 0} (staff : List (Worker D I C P H)) (tasks : List (Task D I C H)) → staff ≡ []
-    → map (λ (w : Worker D I C P H). w.task) staff ≡ take 0 tasks
-staff-none {D} {I} {C} {P} {H} staff tasks none =
-    ap (λ (l : List (Worker D I C P H)). map (λ (w : Worker D I C P H). w.task) l) none
+-- all that was put before, and one more
+first-more : {D I C E H : Type 0} (means : Means E H) (before after : List (Worker D I C E H)) (w : Worker D I C E H)
+    → (All (IsFirst means) before → All (IsFirst means) after) → IsFirst means w → All (IsFirst means) before
+    → All (IsFirst means) (after ++ w ∷ [])
+first-more means before after w first new all =
+    All-push (IsFirst means) after w (first all) new
 
--- no worker has a pass yet
-pub unused-none : {D I C H : Type 0} (u : History) (staff : List (Worker D I C History H)) → staff ≡ []
-    → All (λ (w : Worker D I C History H). w.pass ≡ u) staff
-unused-none {D} {I} {C} {H} u staff none =
-    subst (λ (l : List (Worker D I C History H)). All (λ (w : Worker D I C History H). w.pass ≡ u) l) (sym none)
-    (All-nil (λ (w : Worker D I C History H). w.pass ≡ u))
+-- the next door of some
+pub Adds-next-door : {D I C E H : Type 0} (means : Means E H) (before after after' : List (Worker D I C E H)) (n : ℕ)
+    (doors rest : List D) (door : D) (more : List D) (number : ℕ) (eyes : E) (report : DoorReport)
+    → Adds means before after (take n doors) [] [] [] → rest ≡ drop n doors → rest ≡ door ∷ more
+    → IsUnseen (means.views eyes) → after' ≡ after ++ Serve door number eyes report ∷ []
+    → Adds means before after' (take (n + 1) doors) [] [] []
+Adds-next-door {D} {I} {C} {E} {H} means before after after' n doors rest door more number eyes report adds is first
+    unseen put =
+    subst (λ (ws : List (Worker D I C E H)). Adds means before ws (take (n + 1) doors) [] [] []) (sym put)
+    (subst (λ (ds : List D). Adds means before (after ++ Serve door number eyes report ∷ []) ds [] [] [])
+    (sym (take-next n doors rest door more is first)) (record {
+      doors_are = more-some door_of before after (Serve door number eyes report) (take n doors) door refl
+          adds.doors_are;
+      inboxes_are = more-none inbox_of before after (Serve door number eyes report) [] refl adds.inboxes_are;
+      clocks_are = more-none clock_of before after (Serve door number eyes report) [] refl adds.clocks_are;
+      hands_are = more-none hand_of before after (Serve door number eyes report) [] refl adds.hands_are;
+      first = first-more means before after (Serve door number eyes report) adds.first unseen;
+    }))
 
--- some of equal items are left
-pub equals-some : {X : Type 0} (len n : ℕ) (u : X) (items : List X) → n < len → items ≡ replicate (len - n) u
-    → 0 < length items
-equals-some {X} len n u items below are =
-    omega (arith, below, ap (λ (l : List X). length l) are, length-replicate (len - n) u)
+-- the next inbox of some
+pub Adds-next-inbox : {D I C E H : Type 0} (means : Means E H) (before after after' : List (Worker D I C E H)) (n : ℕ)
+    (inboxes rest : List I) (inbox : I) (more : List I) (hands others : List H) (hand : H) (fewer : List H)
+    (report : IngestReport) → Adds means before after [] (take n inboxes) [] (take n hands) → rest ≡ drop n inboxes
+    → rest ≡ inbox ∷ more → others ≡ drop n hands → others ≡ hand ∷ fewer → IsNew means.them (means.publisher hand)
+    → after' ≡ after ++ TakeIn inbox hand report ∷ []
+    → Adds means before after' [] (take (n + 1) inboxes) [] (take (n + 1) hands)
+Adds-next-inbox {D} {I} {C} {E} {H} means before after after' n inboxes rest inbox more hands others hand fewer report
+    adds is first are next new put =
+    subst (λ (ws : List (Worker D I C E H)). Adds means before ws [] (take (n + 1) inboxes) [] (take (n + 1) hands))
+    (sym put)
+    (subst (λ (ps : List I). Adds means before (after ++ TakeIn inbox hand report ∷ []) [] ps [] (take (n + 1) hands))
+    (sym (take-next n inboxes rest inbox more is first))
+    (subst (λ (hs : List H). Adds means before (after ++ TakeIn inbox hand report ∷ []) []
+    (take n inboxes ++ inbox ∷ []) [] hs) (sym (take-next n hands others hand fewer are next)) (record {
+      doors_are = more-none door_of before after (TakeIn inbox hand report) [] refl adds.doors_are;
+      inboxes_are = more-some inbox_of before after (TakeIn inbox hand report) (take n inboxes) inbox refl
+          adds.inboxes_are;
+      clocks_are = more-none clock_of before after (TakeIn inbox hand report) [] refl adds.clocks_are;
+      hands_are = more-some hand_of before after (TakeIn inbox hand report) (take n hands) hand refl adds.hands_are;
+      first = first-more means before after (TakeIn inbox hand report) adds.first new;
+    })))
 
--- some items are left
-pub tasks-some : {X : Type 0} (n : ℕ) (items rest : List X) → n < length items → rest ≡ drop n items → 0 < length rest
-tasks-some {X} n items rest below is =
-    omega (arith, below, ap (λ (l : List X). length l) is, length-drop n items)
+-- the next clock of some
+pub Adds-next-clock : {D I C E H : Type 0} (means : Means E H) (before after after' : List (Worker D I C E H)) (n : ℕ)
+    (clocks rest : List C) (clock : C) (more : List C) (hands others : List H) (hand : H) (fewer : List H)
+    (report : ExpireReport) → Adds means before after [] [] (take n clocks) (take n hands) → rest ≡ drop n clocks
+    → rest ≡ clock ∷ more → others ≡ drop n hands → others ≡ hand ∷ fewer → IsNew means.them (means.publisher hand)
+    → after' ≡ after ++ LetGo clock hand report ∷ []
+    → Adds means before after' [] [] (take (n + 1) clocks) (take (n + 1) hands)
+Adds-next-clock {D} {I} {C} {E} {H} means before after after' n clocks rest clock more hands others hand fewer report
+    adds is first are next new put =
+    subst (λ (ws : List (Worker D I C E H)). Adds means before ws [] [] (take (n + 1) clocks) (take (n + 1) hands))
+    (sym put)
+    (subst (λ (cs : List C). Adds means before (after ++ LetGo clock hand report ∷ []) [] [] cs (take (n + 1) hands))
+    (sym (take-next n clocks rest clock more is first))
+    (subst (λ (hs : List H). Adds means before (after ++ LetGo clock hand report ∷ []) [] []
+    (take n clocks ++ clock ∷ []) hs) (sym (take-next n hands others hand fewer are next)) (record {
+      doors_are = more-none door_of before after (LetGo clock hand report) [] refl adds.doors_are;
+      inboxes_are = more-none inbox_of before after (LetGo clock hand report) [] refl adds.inboxes_are;
+      clocks_are = more-some clock_of before after (LetGo clock hand report) (take n clocks) clock refl adds.clocks_are;
+      hands_are = more-some hand_of before after (LetGo clock hand report) (take n hands) hand refl adds.hands_are;
+      first = first-more means before after (LetGo clock hand report) adds.first new;
+    })))
 
--- the tasks of all workers
-pub staff-all : {D I C P H : Type 0} (n : ℕ) (staff staff' : List (Worker D I C P H)) (tasks : List (Task D I C H))
-    → staff' ≡ staff → map (λ (w : Worker D I C P H). w.task) staff ≡ take n tasks → length tasks ≤ n
-    → map (λ (w : Worker D I C P H). w.task) staff' ≡ tasks
-staff-all {D} {I} {C} {P} {H} n staff staff' tasks same are all =
-    ap (λ (l : List (Worker D I C P H)). map (λ (w : Worker D I C P H). w.task) l) same ∙ are ∙ take_all n tasks all
+-- workers for all devices, of which there were none before
+pub Adds-all : {D I C E H : Type 0} (means : Means E H) (none first second all staff : List (Worker D I C E H))
+    (doors : List D) (inboxes : List I) (clocks : List C) (hands one two : List H) → none ≡ [] → staff ≡ all
+    → hands ≡ one ++ two → Adds means none first doors [] [] [] → Adds means first second [] inboxes [] one
+    → Adds means second all [] [] clocks two → Adds means [] staff doors inboxes clocks hands
+Adds-all {D} {I} {C} {E} {H} means none first second all staff doors inboxes clocks hands one two empty same are a b c =
+    subst (λ (l : List (Worker D I C E H)). Adds means [] l doors inboxes clocks hands) (sym same)
+    (subst (λ (l : List (Worker D I C E H)). Adds means l all doors inboxes clocks hands) empty (record {
+      doors_are = c.doors_are ∙ append-nil (filter_map door_of second) ∙ b.doors_are
+          ∙ append-nil (filter_map door_of first) ∙ a.doors_are;
+      inboxes_are = c.inboxes_are ∙ append-nil (filter_map inbox_of second) ∙ b.inboxes_are
+          ∙ ap (λ (l : List I). l ++ inboxes) (a.inboxes_are ∙ append-nil (filter_map inbox_of none));
+      clocks_are = c.clocks_are ∙ ap (λ (l : List C). l ++ clocks) (b.clocks_are
+          ∙ append-nil (filter_map clock_of first) ∙ a.clocks_are ∙ append-nil (filter_map clock_of none));
+      hands_are = c.hands_are ∙ ap (λ (l : List H). l ++ two) (b.hands_are
+          ∙ ap (λ (l : List H). l ++ one) (a.hands_are ∙ append-nil (filter_map hand_of none)))
+          ∙ append_assoc (filter_map hand_of none) one two
+          ∙ ap (λ (l : List H). filter_map hand_of none ++ l) (sym are);
+      first = λ new. c.first (b.first (a.first new));
+    }))
 
--- the passes of all workers
-pub unused-all : {D I C H : Type 0} (u : History) (staff staff' : List (Worker D I C History H)) → staff' ≡ staff
-    → All (λ (w : Worker D I C History H). w.pass ≡ u) staff → All (λ (w : Worker D I C History H). w.pass ≡ u) staff'
-unused-all {D} {I} {C} {H} u staff staff' same =
-    subst (λ (l : List (Worker D I C History H)). All (λ (w : Worker D I C History H). w.pass ≡ u) l) (sym same)
+-- there is a door's worker where there is a door
+pub Adds-some : {D I C E H : Type 0} (means : Means E H) (none first second all staff : List (Worker D I C E H))
+    (doors : List D) (inboxes : List I) (clocks : List C) (one two : List H) → none ≡ [] → staff ≡ all
+    → Adds means none first doors [] [] [] → Adds means first second [] inboxes [] one
+    → Adds means second all [] [] clocks two → 1 ≤ length doors → 0 < length (filter_map door_of staff)
+Adds-some {D} {I} {C} {E} {H} means none first second all staff doors inboxes clocks one two empty same a b c some =
+    let adds = Adds-all means none first second all staff doors inboxes clocks (one ++ two) one two empty same refl a b
+    c in
+    omega (arith, some, ap (λ (l : List D). length l) adds.doors_are)
+
+pub ruleset adds = (Adds-none, Adds-next-door, Adds-next-inbox, Adds-next-clock, drop-next)

@@ -1,10 +1,14 @@
 pub mod Close
 pub mod Course
+pub mod Desks
+pub mod Does
 pub mod Done
+pub mod One
+pub mod Over
 pub mod Pairs
 pub mod Parts
 pub mod Room
 pub mod Runs
 pub mod Slots
-pub mod Tasks
 pub mod Work
+pub mod Workers

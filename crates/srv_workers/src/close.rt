@@ -1,62 +1,70 @@
-//! The end of a run: the workers are taken apart, the devices are given back, and the desk is closed.
-ghost use Rattle.std.specs.Prelude.{◌≡◌, length, map, sum};
-ghost use Rattle.fm_model.specs.Collection.{coll, tally};
-ghost use Rattle.std.specs.List.{filter_map};
+//! The end of a run: the workers are taken apart, the devices are given back, and the desks are closed.
+ghost use Rattle.std.specs.Prelude.{◌≡◌, ◌<◌, ◌≤◌, [], length, map, sum, ℕ};
 ghost use Rattle.srv_workers.specs.Close.{Closes};
+ghost use Rattle.srv_workers.specs.Desks.{closed_of, first_of};
 ghost use Rattle.srv_workers.specs.Parts.{HasRoom, IsEmpty};
-ghost use Rattle.srv_workers.specs.Tasks.{share_of};
+ghost use Rattle.srv_workers.specs.Workers.{counted_by};
 
-use crate::outcome::Outcome;
-use crate::parts::{DeskParts, take_apart};
-use crate::task::DeskWorker;
+use crate::desks::Desks;
+use crate::outcome::Outcomes;
+use crate::parts::{Parts, take_apart};
+use crate::slots::Slots;
+use crate::worker::Worker;
 use dev_traits::Devices;
 use fm_base::List;
-use pub_snap::{Desk, Name};
+use pub_snap::Closed;
 use std::sync::Wait;
 
-// Gives the devices back and closes the desk.
-fn close_with<R: Wait, D: Drop, I: Drop, C: Drop, N: Name>(
+// Gives the devices back and closes the desks.
+fn close_with<R: Wait, D: Drop, I: Drop, C: Drop, X: Desks>(
     rt: &R,
-    desk: Desk<N>,
-    parts: DeskParts<D, I, C, N>,
+    desks: X,
+    parts: Parts<D, I, C, X::Back>,
+    closed: Slots<Closed>,
     devices: &mut Devices<D, I, C>,
-) -> Outcome
-    requires { length parts.shares.items ≡ N.parts }
+) -> Outcomes
+    requires all { (number : ℕ) → number < X.means.them.count
+        → length (X.slots parts.back number).items ≡ X.parts number }
+    requires closed { (closed.items ≡ []) × (X.means.them.count ≤ closed.free) }
     ensures doors { (devices.new.doors ≡ parts.doors.items) × (result.doors ≡ parts.doors_told.items) }
     ensures inboxes { (devices.new.inboxes ≡ parts.inboxes.items) × (result.inboxes ≡ parts.inboxes_told.items) }
     ensures clocks { (devices.new.clocks ≡ parts.clocks.items) × (result.clocks ≡ parts.clocks_told.items) }
-    ensures tally { result.tally ≡ tally (coll desk) }
-    ensures revision { result.revision ≡ length desk }
-    ensures counted { sum parts.shares.items ≡ length desk }
+    ensures desks { result.desks ≡ map closed_of (first_of X.means.them.count (X.logs desks)) }
+    ensures counted { (number : ℕ) → number < X.means.them.count
+        → sum (X.slots parts.back number).items ≡ length (X.logs desks number) }
 {
-    let closed = desk.close(rt, parts.shares.into_list());
+    let mut closed = closed;
+    desks.close(rt, parts.back, &mut closed);
     devices.doors = parts.doors.into_list();
     devices.inboxes = parts.inboxes.into_list();
     devices.clocks = parts.clocks.into_list();
-    Outcome {
+    Outcomes {
         doors: parts.doors_told.into_list(),
         inboxes: parts.inboxes_told.into_list(),
         clocks: parts.clocks_told.into_list(),
-        tally: closed.tally,
-        revision: closed.revision,
+        desks: closed.into_list(),
     }
 }
 
-// Takes all workers apart, gives their devices back, and closes the desk. It takes no memory.
+// Takes all workers apart, gives their devices back, and closes the desks. It takes no memory.
 #[tactic(auto, using(crate::proofs::CloseLemmas::closes))]
-pub(crate) fn close_over<R: Wait, D: Drop, I: Drop, C: Drop, N: Name>(
+pub(crate) fn close_over<R: Wait, D: Drop, I: Drop, C: Drop, X: Desks>(
     rt: &R,
-    desk: Desk<N>,
-    staff: List<DeskWorker<D, I, C, N>>,
-    parts: DeskParts<D, I, C, N>,
+    desks: X,
+    staff: List<Worker<D, I, C, X::Eyes, X::Hand>>,
+    parts: Parts<D, I, C, X::Back>,
+    closed: Slots<Closed>,
     devices: &mut Devices<D, I, C>,
-) -> Outcome
-    requires room { HasRoom (map (λ worker. worker.task) staff) parts }
+) -> Outcomes
+    requires room { HasRoom X.means X.slots staff parts }
     requires empty { IsEmpty parts }
-    requires shares { length (filter_map share_of (map (λ worker. worker.task) staff)) ≡ N.parts }
-    ensures { Closes desk (map (λ worker. worker.task) staff) devices.new result }
+    requires none { (number : ℕ) → number < X.means.them.count → (X.slots parts.back number).items ≡ [] }
+    requires shares { (number : ℕ) → number < X.means.them.count
+        → length (counted_by X.means number staff) ≡ X.parts number }
+    requires closed { (closed.items ≡ []) × (X.means.them.count ≤ closed.free) }
+    ensures { Closes X.means (X.logs desks) staff devices.new result }
 {
     let mut parts = parts;
-    take_apart(staff, &mut parts);
-    close_with(rt, desk, parts, devices)
+    take_apart::<D, I, C, X>(staff, &mut parts);
+    close_with::<R, D, I, C, X>(rt, desks, parts, closed, devices)
 }

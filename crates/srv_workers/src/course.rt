@@ -1,96 +1,69 @@
-//! The end of the work: each worker learns the whole log.
-ghost use Rattle.std.specs.Prelude.{◌≡◌, ◌<◌, ℕ, IsTrue, All, length, map, slice_index_or};
+//! The end of the work: each worker learns the whole logs.
+ghost use Rattle.std.specs.Prelude.{◌<◌, IsTrue, All, length, ℕ};
+ghost use Rattle.std.specs.List.{AllZip, filter_map};
 ghost use Rattle.fm_edition.specs.Log.{IsLog};
-ghost use Rattle.pub_look.specs.History.{Continues};
-ghost use Rattle.srv_workers.specs.Course.{HasLearnt};
+ghost use Rattle.srv_workers.specs.Course.{Begins, HasLearnt, HasSeen, Keeps};
+ghost use Rattle.srv_workers.specs.Workers.{door_of};
 
-use crate::own::OwnPass;
-use crate::task::Worker;
-use pub_snap::{Desk, Name, Receipt};
+use crate::desks::Desks;
+use crate::worker::Worker;
 use std::sync::Wait;
-use std::thread::{Threads, for_each_mut};
 
-// Has a worker learn the log.
-fn learn<D, I, C, H, N: Name>(worker: &mut Worker<D, I, C, OwnPass<N>, H>, log: &Receipt<N>)
-    ensures { HasLearnt log.now worker.old worker.new }
+// Has a worker learn the logs of the desks that it looks at, and says whether it has then seen just those.
+fn learn<D, I, C, X: Desks>(
+    worker: &mut Worker<D, I, C, X::Eyes, X::Hand>,
+    all: &X::Receipts,
+) -> bool
+    ensures learns { HasLearnt X.means (X.told all.now) worker.old worker.new }
+    ensures seen { IsTrue result → HasSeen X.means (X.told all.now) worker.new }
 {
-    worker.pass.learn(log);
+    match worker {
+        Worker::Serve { eyes, .. } => X::learn_all(eyes, all),
+        Worker::TakeIn { hand, .. } => X::learn(hand, all),
+        Worker::LetGo { hand, .. } => X::learn(hand, all),
+    }
 }
 
-// Has each worker learn the log, in one thread. The contract of `for_each_mut` says what became of each.
-fn learn_each<R: Threads + Sync, D: Send, I: Send, C: Send, H: Send, N: Name + Send + Sync>(
-    rt: &R,
-    staff: &mut [Worker<D, I, C, OwnPass<N>, H>],
-    log: &Receipt<N>,
-)
-    ensures each { (i : ℕ) (d : _) → i < length staff.old
-        → HasLearnt log.now (slice_index_or staff.old i d) (slice_index_or staff.new i d) }
-    ensures count { length staff.new ≡ length staff.old }
+// Has each worker learn them.
+fn learn_each<D, I, C, X: Desks>(
+    staff: &mut [Worker<D, I, C, X::Eyes, X::Hand>],
+    all: &X::Receipts,
+) -> bool
+    ensures learn { AllZip (HasLearnt X.means (X.told all.now)) staff.old staff.new }
+    ensures seen { IsTrue result → All (HasSeen X.means (X.told all.now)) staff.new }
 {
-    for_each_mut(
-        rt,
-        staff,
-        1,
-        &|_: usize, worker: &mut Worker<D, I, C, OwnPass<N>, H>|
-            ensures { HasLearnt log.entry.now worker.old worker.new }
-        { learn(worker, log) },
-    );
-}
-
-// Whether a worker has seen `count` operations.
-fn has_seen<D, I, C, H, N: Name>(worker: &Worker<D, I, C, OwnPass<N>, H>, count: u64) -> bool
-    ensures seen { IsTrue result → length worker.now.pass.seen ≡ count }
-    ensures sound { IsLog N.proto worker.now.pass.seen }
-{
-    worker.pass.seen() == count
-}
-
-// Whether all workers have seen `count` operations.
-fn all_have_seen<D, I, C, H, N: Name>(staff: &[Worker<D, I, C, OwnPass<N>, H>], count: u64) -> bool
-    ensures seen { IsTrue result → All (λ worker. length worker.pass.seen ≡ count) staff.now }
-    ensures sound { IsTrue result → All (λ worker. IsLog N.proto worker.pass.seen) staff.now }
-{
+    let mut level = true;
     for i in 0..staff.len() {
-        if !has_seen(&staff[i], count) {
-            return false;
+        if !learn::<D, I, C, X>(&mut staff[i], all) {
+            level = false;
         }
     }
-    true
+    level
 }
 
-// Has each worker learn the whole log, and says whether each has then seen just that.
-fn learn_once<R: Threads + Sync, D: Send, I: Send, C: Send, H: Send, N: Name + Send + Sync>(
-    rt: &R,
-    desk: &Desk<N>,
-    staff: &mut [Worker<D, I, C, OwnPass<N>, H>],
-) -> bool
-    ensures each { (i : ℕ) (d : _) → i < length staff.old
-        → HasLearnt desk.now (slice_index_or staff.old i d) (slice_index_or staff.new i d) }
-    ensures count { length staff.new ≡ length staff.old }
-    ensures seen { IsTrue result → All (λ worker. length worker.pass.seen ≡ length desk.now) staff.new }
-    ensures sound { IsTrue result → All (λ worker. IsLog N.proto worker.pass.seen) staff.new }
+// Has each worker learn the logs as they now are.
+fn learn_once<D, I, C, X: Desks>(desks: &X, staff: &mut [Worker<D, I, C, X::Eyes, X::Hand>]) -> bool
+    ensures learn { AllZip (HasLearnt X.means (X.logs desks.now)) staff.old staff.new }
+    ensures seen { IsTrue result → All (HasSeen X.means (X.logs desks.now)) staff.new }
 {
-    let log = desk.receipt();
-    learn_each(rt, staff, &log);
-    all_have_seen(staff, log.revision())
+    let all = desks.receipts();
+    learn_each::<D, I, C, X>(staff, &all)
 }
 
-// Has each worker learn the whole log. All operations that a worker had seen before begin it.
-pub(crate) fn learn_all<
-    R: Threads + Wait + Sync,
-    D: Send,
-    I: Send,
-    C: Send,
-    H: Send,
-    N: Name + Send + Sync,
->(rt: &R, desk: &Desk<N>, staff: &mut [Worker<D, I, C, OwnPass<N>, H>])
-    requires { 0 < length staff.old }
-    ensures begin { All (λ worker. Continues worker.pass.seen desk.now) staff.old }
-    ensures tasks { map (λ worker. worker.task) staff.new ≡ map (λ worker. worker.task) staff.old }
-    ensures sound { IsLog N.proto desk.now }
+// Has each worker learn the whole logs. All operations that a worker had seen before begin them.
+pub(crate) fn learn_all<R: Wait, D, I, C, X: Desks>(
+    rt: &R,
+    desks: &X,
+    staff: &mut [Worker<D, I, C, X::Eyes, X::Hand>],
+)
+    requires { 0 < length (filter_map door_of staff.old) }
+    ensures begin { All (Begins X.means (X.logs desks.now)) staff.old }
+    ensures keep { AllZip (Keeps X.means) staff.old staff.new }
+    ensures sound { (number : ℕ) → number < X.means.them.count
+        → IsLog (X.means.them.proto number) (X.logs desks.now number) }
 {
     for _ in rt.forever() {
-        if learn_once(rt, desk, staff) {
+        if learn_once::<D, I, C, X>(desks, staff) {
             return;
         }
     }

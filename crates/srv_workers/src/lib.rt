@@ -4,17 +4,20 @@
 
 mod close;
 mod course;
+mod desks;
+mod one;
 mod outcome;
 mod own;
 mod parts;
+mod places;
 mod room;
+mod run;
 mod shift;
 mod slots;
 mod staff;
-mod task;
-mod tasks;
 mod threads;
 mod work;
+mod worker;
 mod workers;
 
 pub use outcome::Outcome;

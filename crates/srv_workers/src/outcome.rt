@@ -2,6 +2,7 @@
 
 use fm_base::List;
 use fm_model::Tally;
+use pub_snap::Closed;
 use srv_conn::DoorReport;
 use srv_ingest::{ExpireReport, IngestReport};
 
@@ -14,4 +15,13 @@ pub struct Outcome {
     pub clocks: List<ExpireReport>,
     pub tally: Tally,
     pub revision: u64,
+}
+
+// The same over several desks, with the end of each.
+#[derive(Drop)]
+pub(crate) struct Outcomes {
+    pub doors: List<DoorReport>,
+    pub inboxes: List<IngestReport>,
+    pub clocks: List<ExpireReport>,
+    pub desks: List<Closed>,
 }

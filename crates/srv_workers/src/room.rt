@@ -1,52 +1,42 @@
-//! All room that a run needs, made before its desk is opened.
+//! All room that a run needs, made before its desks are opened.
 ghost use Rattle.std.specs.Prelude.{◌+◌, ◌<◌, ◌^◌, IfOk, length};
 ghost use Rattle.srv_workers.specs.Room.{IsRoomFor};
 
-use crate::own::copies_of;
-use crate::parts::{DeskParts, room_for};
-use crate::slots::{Slots, pair_with_room};
-use crate::task::{DeskTask, DeskWorker};
+use crate::parts::{Parts, room_for};
+use crate::slots::Slots;
+use crate::worker::Worker;
 use dev_traits::Devices;
-use fm_base::{Arc, List, NoMemory};
-use fm_model::Proto;
-use pub_snap::Name;
+use fm_base::NoMemory;
+use pub_snap::Closed;
 use std::alloc::Global;
 
-// Room for the tasks of a run, for its workers and for their parts; and the prototype for each worker.
+// Room for the workers of a run, for their parts, and for the ends of the desks.
 #[derive(Drop)]
-pub(crate) struct Room<D, I, C, N: Name> {
-    pub tasks: Slots<DeskTask<D, I, C, N>>,
-    pub staff: Slots<DeskWorker<D, I, C, N>>,
-    pub parts: DeskParts<D, I, C, N>,
-    pub protos: List<Arc<Proto>>,
+pub(crate) struct Room<D, I, C, E, H, B> {
+    pub staff: Slots<Worker<D, I, C, E, H>>,
+    pub parts: Parts<D, I, C, B>,
+    pub closed: Slots<Closed>,
 }
 
-// Room for these devices.
-pub(crate) fn room_of<D: Drop, I: Drop, C: Drop, N: Name>(
+// Room for these devices, and for the ends of some desks to which shares are given back so.
+pub(crate) fn room_of<D: Drop, I: Drop, C: Drop, E: Drop, H: Drop, B: Drop>(
     alloc: Global,
     devices: &Devices<D, I, C>,
-    proto: &Arc<Proto>,
-) -> Result<Room<D, I, C, N>, NoMemory>
+    desks: usize,
+    back: B,
+) -> Result<Room<D, I, C, E, H, B>, NoMemory>
     requires { length devices.now.doors + length devices.now.inboxes + length devices.now.clocks < 2 ^ 32 }
-    ensures { IfOk result (IsRoomFor devices.now proto.now) }
+    ensures { IfOk result (IsRoomFor devices.now desks back) }
 {
     let doors = devices.doors.len();
     let inboxes = devices.inboxes.len();
     let clocks = devices.clocks.len();
-    let count = doors + inboxes + clocks;
-    let protos = copies_of(alloc, proto, count)?;
-    let workers = pair_with_room(alloc, count)?;
-    match room_for(alloc, doors, inboxes, clocks) {
-        Ok(parts) => Ok(Room {
-            tasks: workers.first,
-            staff: workers.second,
-            parts,
-            protos,
-        }),
-        Err(NoMemory) => {
-            drop(workers);
-            drop(protos);
-            Err(NoMemory)
-        }
-    }
+    let parts = room_for(alloc, doors, inboxes, clocks, back)?;
+    let staff = Slots::with_room(alloc, doors + inboxes + clocks)?;
+    let closed = Slots::with_room(alloc, desks)?;
+    Ok(Room {
+        staff,
+        parts,
+        closed,
+    })
 }

@@ -1,56 +1,63 @@
-//! The whole work of a staff: all do their tasks, and then each learns the whole log.
-ghost use Rattle.std.specs.Prelude.{◌<◌, length};
+//! The whole work of a staff: all do their tasks, and then each learns the whole logs.
+ghost use Rattle.std.specs.Prelude.{◌<◌, length, ℕ};
+ghost use Rattle.std.specs.List.{filter_map};
 ghost use Rattle.fm_edition.specs.Log.{IsLog};
+ghost use Rattle.srv_workers.specs.Does.{Does, shows};
 ghost use Rattle.srv_workers.specs.Done.{HaveWorked};
-ghost use Rattle.srv_workers.specs.Work.{Worked};
+ghost use Rattle.srv_workers.specs.Workers.{door_of};
 
 use crate::course::learn_all;
-use crate::task::DeskWorker;
+use crate::desks::Desks;
 use crate::work::work;
+use crate::worker::Worker;
 use dev_traits::{Clock, Door, Gate, Inbox};
 use fm_base::List;
-use pub_snap::{Desk, Name};
 use std::alloc::Global;
-use std::sync::{Mutex, Wait};
+use std::sync::Wait;
 use std::thread::{Threads, for_each_mut};
 
-// Has all workers do their tasks at once, each in a thread of its own where one can be started, with the desk under a
-// lock. Then each learns the whole log. Gives the workers back with the desk.
-#[tactic(auto, using(crate::proofs::ShiftLemmas::shifts))]
+// Has all workers do their tasks at once, each in a thread of its own where one can be started, with the desks under
+// their locks. Then each learns the whole logs. Gives the workers back with the desks.
 pub(crate) fn work_and_learn<
     R: Threads + Wait + Sync,
     D: Door + Send,
     I: Inbox + Send,
     C: Clock + Send,
     G: Gate + Sync,
-    N: Name + Send + Sync,
+    X: Desks + Send,
 >(
     rt: &R,
     alloc: Global,
-    desk: Desk<N>,
+    desks: X,
     keep: u32,
     gate: &G,
-    staff: List<DeskWorker<D, I, C, N>>,
-) -> (Desk<N>, List<DeskWorker<D, I, C, N>>)
+    staff: List<Worker<D, I, C, X::Eyes, X::Hand>>,
+) -> (X, List<Worker<D, I, C, X::Eyes, X::Hand>>)
 where
     D::L: Send,
-    requires { 0 < length staff }
-    ensures done { HaveWorked D.shown D.L.shown I.shown C.shown N.proto keep result.0 staff result.1 }
-    ensures sound { IsLog N.proto result.0 }
+    X::Eyes: Send,
+    X::Hand: Send,
+    X::Shared: Sync,
+    X::Receipts: Send,
+    X::Back: Send,
+    requires { 0 < length (filter_map door_of staff) }
+    ensures done { HaveWorked (shows D.shown D.L.shown I.shown C.shown) keep X.means (X.logs result.0) staff result.1 }
+    ensures sound { (number : ℕ) → number < X.means.them.count
+        → IsLog (X.means.them.proto number) (X.logs result.0 number) }
 {
     let mut staff = staff;
     let threads = staff.len();
-    let desk = Mutex::new(desk);
+    let shared = desks.shared();
     let workers = staff.items.as_mut_slice();
     for_each_mut(
         rt,
         workers,
         threads,
-        &|_: usize, worker: &mut DeskWorker<D, I, C, N>|
-            ensures { Worked D.shown D.L.shown I.shown C.shown N.proto keep worker.old worker.new }
-        { work(rt, alloc, &desk, keep, gate, worker) },
+        &|_: usize, worker: &mut Worker<D, I, C, X::Eyes, X::Hand>|
+            ensures { Does (shows D.shown D.L.shown I.shown C.shown) keep X.means worker.old worker.new }
+        { work::<R, D, I, C, G, X>(rt, alloc, &shared, keep, gate, worker) },
     );
-    let desk = desk.into_inner();
-    learn_all(rt, &desk, workers);
-    (desk, staff)
+    let desks = X::alone(shared);
+    learn_all::<R, D, I, C, X>(rt, &desks, workers);
+    (desks, staff)
 }

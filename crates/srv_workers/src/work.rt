@@ -1,50 +1,45 @@
 //! The work of one worker.
-ghost use Rattle.srv_workers.specs.Work.{Worked};
+ghost use Rattle.srv_workers.specs.Does.{Does, shows};
 
-use crate::own::OwnPass;
-use crate::task::{DeskWorker, Task};
+use crate::desks::Desks;
+use crate::worker::Worker;
 use dev_traits::{Clock, Door, Gate, Inbox};
-use pub_snap::{Desk, Name};
-use srv_conn::serve_door;
-use srv_ingest::{expire_all, ingest_all};
 use std::alloc::Global;
-use std::sync::{Mutex, Wait};
+use std::sync::Wait;
 
 // Does a worker's task.
-pub(crate) fn work<R: Wait, D: Door, I: Inbox, C: Clock, G: Gate, N: Name>(
+pub(crate) fn work<R: Wait, D: Door, I: Inbox, C: Clock, G: Gate, X: Desks>(
     rt: &R,
     alloc: Global,
-    desk: &Mutex<Desk<N>>,
+    shared: &X::Shared,
     keep: u32,
     gate: &G,
-    worker: &mut DeskWorker<D, I, C, N>,
+    worker: &mut Worker<D, I, C, X::Eyes, X::Hand>,
 )
-    ensures { Worked D.shown D.L.shown I.shown C.shown N.proto keep worker.old worker.new }
+    ensures { Does (shows D.shown D.L.shown I.shown C.shown) keep X.means worker.old worker.new }
 {
-    let OwnPass { pass, proto } = &mut worker.pass;
-    match &mut worker.task {
-        Task::Serve {
+    match worker {
+        Worker::Serve {
             door,
             number,
+            eyes,
             report,
         } => {
-            let site = &proto.get().site;
-            *report = serve_door(rt, alloc, pass, door, *number, gate, site);
+            *report = X::serve(rt, alloc, eyes, door, *number, gate);
         }
-        Task::TakeIn {
+        Worker::TakeIn {
             inbox,
-            share,
+            hand,
             report,
         } => {
-            *report = ingest_all(rt, alloc, desk, pass, inbox, proto, share);
+            *report = X::take_in(rt, alloc, shared, hand, inbox);
         }
-        Task::LetGo {
+        Worker::LetGo {
             clock,
-            share,
+            hand,
             report,
         } => {
-            let site = &proto.get().site;
-            *report = expire_all(rt, alloc, desk, pass, clock, keep, site, share);
+            *report = X::let_go(rt, alloc, shared, hand, clock, keep);
         }
     }
 }

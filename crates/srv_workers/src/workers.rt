@@ -1,54 +1,81 @@
-//! All workers of a run, from the opening of the desk to its close.
+//! All workers of a run over one desk, from its opening to its close.
 ghost use Rattle.std.specs.Prelude.{◌≡◌, ◌≤◌, ◌+◌, ◌<◌, ◌^◌, [], IfOk, OnErr, length, replicate};
 ghost use Rattle.fm_model.specs.Site.{IsPrototype};
-ghost use Rattle.pub_snap.specs.Opening.{IsNamed, unused};
-ghost use Rattle.srv_workers.specs.Done.{IsHired};
-ghost use Rattle.srv_workers.specs.Room.{device_count};
+ghost use Rattle.pub_snap.specs.Opening.{IsNamed};
+ghost use Rattle.srv_workers.specs.One.{IsOfOne};
+ghost use Rattle.srv_workers.specs.Room.{device_count, IsRoomFor};
 ghost use Rattle.srv_workers.specs.Runs.{RanTogether};
 
-use crate::close::close_over;
-use crate::outcome::Outcome;
+use crate::one::OwnHand;
+use crate::outcome::{Outcome, Outcomes};
+use crate::own::OwnPass;
+use crate::places::{Places, given_at, places_for};
 use crate::room::{Room, room_of};
-use crate::shift::work_and_learn;
+use crate::run::run_over;
 use crate::slots::Slots;
-use crate::staff::staff_of;
-use crate::task::{DeskTask, DeskWorker};
-use crate::tasks::tasks_of;
 use dev_traits::{Devices, Machine, Opened};
-use fm_base::{Arc, List, NoMemory};
+use fm_base::{Arc, NoMemory};
 use fm_model::Proto;
-use pub_snap::{Blank, Name, Pass, Share, prepare};
+use pub_snap::{Blank, Desk, Name, Share, prepare};
 use std::alloc::Global;
 use std::marker::Brand;
 use std::sync::Wait;
 use std::thread::Threads;
 
-// A worker for each device, with a pass that has seen nothing, and a share where it publishes. It takes no memory.
-fn hire<D: Drop, I: Drop, C: Drop, N: Name>(
-    devices: &mut Devices<D, I, C>,
-    passes: List<Pass<N>>,
-    shares: List<Share<N>>,
-    protos: List<Arc<Proto>>,
-    tasks: Slots<DeskTask<D, I, C, N>>,
-    staff: Slots<DeskWorker<D, I, C, N>>,
-) -> List<DeskWorker<D, I, C, N>>
-    requires few { length devices.old.doors < 2 ^ 32 }
-    requires passes { passes ≡ replicate (device_count devices.old) (unused N.proto) }
-    requires shares { shares ≡ replicate (length devices.old.inboxes + length devices.old.clocks) 0 }
-    requires protos { protos ≡ replicate (device_count devices.old) N.proto }
-    requires empty { (tasks.items ≡ []) × (staff.items ≡ []) }
-    requires free { (device_count devices.old ≤ tasks.free) × (device_count devices.old ≤ staff.free) }
-    ensures hired { IsHired N.proto devices.old result }
-    ensures some { 1 ≤ length devices.old.doors → 0 < length result }
+// All that is made before the desk is opened.
+#[derive(Drop)]
+struct Ready<D, I, C, N: Name> {
+    places: Places<N>,
+    room: Room<D, I, C, OwnPass<N>, OwnHand<N>, Slots<Share<N>>>,
+}
+
+fn ready_for<D: Drop, I: Drop, C: Drop, N: Name>(
+    alloc: Global,
+    proto: &Arc<Proto>,
+    devices: &Devices<D, I, C>,
+) -> Result<Ready<D, I, C, N>, NoMemory>
+    requires { device_count devices.now < 2 ^ 32 }
+    ensures eyes { IfOk result (λ ready.
+        (ready.places.eyes.items ≡ []) × (length devices.now.doors ≤ ready.places.eyes.free)) }
+    ensures hands { IfOk result (λ ready. (ready.places.hands.items ≡ [])
+        × (length devices.now.inboxes + length devices.now.clocks ≤ ready.places.hands.free)) }
+    ensures protos { IfOk result (λ ready. ready.places.protos ≡ replicate (device_count devices.now) proto.now) }
+    ensures room { IfOk result (λ ready. IsRoomFor devices.now 1 ready.room.parts.back ready.room) }
+    ensures back { IfOk result (λ ready. (ready.room.parts.back.items ≡ [])
+        × (length devices.now.inboxes + length devices.now.clocks ≤ ready.room.parts.back.free)) }
 {
-    let tasks = tasks_of(devices, shares, tasks);
-    staff_of(tasks, passes, protos, staff)
+    let doors = devices.doors.len();
+    let others = devices.inboxes.len() + devices.clocks.len();
+    let places = places_for(alloc, proto, doors, others)?;
+    let back = Slots::with_room(alloc, others)?;
+    let room = room_of(alloc, devices, 1, back)?;
+    Ok(Ready { places, room })
+}
+
+// The outcome over one desk.
+fn of_one(outcomes: Outcomes) -> Outcome
+    requires { length outcomes.desks ≡ 1 }
+    ensures { IsOfOne outcomes result }
+{
+    let Outcomes {
+        doors,
+        inboxes,
+        clocks,
+        desks,
+    } = outcomes;
+    let closed = desks.items[0];
+    Outcome {
+        doors,
+        inboxes,
+        clocks,
+        tally: closed.tally,
+        revision: closed.revision,
+    }
 }
 
 // Runs workers over a desk that is opened under a name, and closes it. Once it is open this takes no memory but what
 // the workers ask for.
-#[tactic(auto, using(crate::proofs::HireLemmas::hires))]
-fn run_over<R: Threads + Wait + Sync, M: Machine, N: Name + Send + Sync>(
+fn run_one<R: Threads + Wait + Sync, M: Machine, N: Name + Send + Sync>(
     rt: &R,
     alloc: Global,
     blank: Blank,
@@ -67,8 +94,8 @@ fn run_over<R: Threads + Wait + Sync, M: Machine, N: Name + Send + Sync>(
         (RanTogether M.D.shown M.D.L.shown M.I.shown M.C.shown proto.now keep devices.old devices.new) }
     ensures none { OnErr result (devices.new ≡ devices.old) }
 {
-    let room = match room_of(alloc, devices, proto) {
-        Ok(room) => room,
+    let ready = match ready_for::<M::D, M::I, M::C, N>(alloc, proto, devices) {
+        Ok(ready) => ready,
         Err(NoMemory) => {
             drop(blank);
             return Err(NoMemory);
@@ -77,19 +104,14 @@ fn run_over<R: Threads + Wait + Sync, M: Machine, N: Name + Send + Sync>(
     let (desk, passes, shares) = match blank.open::<N>(alloc) {
         Ok(opened) => opened,
         Err(NoMemory) => {
-            drop(room);
+            drop(ready);
             return Err(NoMemory);
         }
     };
-    let Room {
-        tasks,
-        staff,
-        parts,
-        protos,
-    } = room;
-    let staff = hire(devices, passes, shares, protos, tasks, staff);
-    let (desk, staff) = work_and_learn(rt, alloc, desk, keep, gate, staff);
-    Ok(close_over(rt, desk, staff, parts, devices))
+    let Ready { places, room } = ready;
+    let given = given_at(passes, shares, places, devices.doors.len());
+    let outcomes = run_over::<R, M, Desk<N>>(rt, alloc, desk, given, room, keep, gate, devices);
+    Ok(of_one(outcomes))
 }
 
 /// Opens a desk over a prototype, and has a worker for each device, all at once: each door is served, what arrives in
@@ -116,5 +138,5 @@ pub fn run_workers<R: Threads + Wait + Sync, M: Machine>(
     let passes = devices.doors.len() + shares;
     let shared = proto.share()?;
     let blank = prepare(alloc, shared, passes as u32, shares as u32)?;
-    run_over::<R, M, Brand>(rt, alloc, blank, proto, keep, gate, devices)
+    run_one::<R, M, Brand>(rt, alloc, blank, proto, keep, gate, devices)
 }

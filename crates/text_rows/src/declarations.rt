@@ -10,39 +10,54 @@ use std::alloc::Global;
 /// The declarations of a text, one a line.
 pub fn read_decls(alloc: Global, text: &str) -> Result<List<Decl>, Fail<Wrong>> {
     let mut decls = List::new(alloc);
+    let put = put_decls(alloc, text, &mut decls);
+    whole(decls, put)
+}
+
+fn put_decls(alloc: Global, text: &str, decls: &mut List<Decl>) -> Result<(), Fail<Wrong>> {
     for line in text.lines() {
-        put_decl(alloc, line, &mut decls)?;
+        put_decl(alloc, line, decls)?;
     }
-    Ok(decls)
+    Ok(())
 }
 
 /// Adds the declaration of a text.
 pub fn put_decl(alloc: Global, text: &str, decls: &mut List<Decl>) -> Result<(), Fail<Wrong>> {
-    match read_decl(alloc, text) {
-        Ok(decl) => pushed(decls.push(decl)),
+    put(read_decl(alloc, text), decls)
+}
+
+// Adds what was read to a list.
+fn put<T: Drop>(read: Result<T, Fail<Wrong>>, list: &mut List<T>) -> Result<(), Fail<Wrong>> {
+    match read {
+        Ok(item) => Ok(list.push(item)?),
         Err(fail) => Err(fail),
     }
 }
 
-// That memory sufficed for a push.
-fn pushed(push: Result<(), NoMemory>) -> Result<(), Fail<Wrong>> {
-    match push {
-        Ok(()) => Ok(()),
-        Err(NoMemory) => Err(Fail::NoMemory),
+// A list to which all was added.
+fn whole<T: Drop>(list: List<T>, put: Result<(), Fail<Wrong>>) -> Result<List<T>, Fail<Wrong>> {
+    match put {
+        Ok(()) => Ok(list),
+        Err(fail) => {
+            drop(list);
+            Err(fail)
+        }
     }
 }
 
 // A declaration.
 fn read_decl(alloc: Global, text: &str) -> Result<Decl, Fail<Wrong>> {
-    let Some((front, arrays)) = text.split_once('(') else {
-        return Ok(Decl::Plain(read_array(alloc, text)?));
-    };
-    let Some(arrays) = arrays.strip_suffix(')') else {
-        return Err(Fail::Fault(Wrong::Form));
-    };
-    match front.split_once(' ') {
-        Some(("Grid", name)) => read_grid(alloc, name, arrays),
-        Some(("Structure", name)) => read_structure(alloc, name, arrays),
+    match text.split_once('(') {
+        Some((front, arrays)) => read_group(alloc, front, arrays),
+        None => Ok(Decl::Plain(read_array(alloc, text)?)),
+    }
+}
+
+// A grid or a structure, of the texts before and behind the opening parenthesis.
+fn read_group(alloc: Global, front: &str, arrays: &str) -> Result<Decl, Fail<Wrong>> {
+    match (front.split_once(' '), arrays.strip_suffix(')')) {
+        (Some(("Grid", name)), Some(arrays)) => read_grid(alloc, name, arrays),
+        (Some(("Structure", name)), Some(arrays)) => read_structure(alloc, name, arrays),
         _ => Err(Fail::Fault(Wrong::Form)),
     }
 }
@@ -65,43 +80,43 @@ fn read_structure(alloc: Global, name: &str, arrays: &str) -> Result<Decl, Fail<
 
 fn read_arrays(alloc: Global, text: &str) -> Result<List<Array>, Fail<Wrong>> {
     let mut arrays = List::new(alloc);
-    for array in text.split(", ") {
-        put_array(alloc, array, &mut arrays)?;
-    }
-    Ok(arrays)
+    let put = put_arrays(alloc, text, &mut arrays);
+    whole(arrays, put)
 }
 
-fn put_array(alloc: Global, text: &str, arrays: &mut List<Array>) -> Result<(), Fail<Wrong>> {
-    match read_array(alloc, text) {
-        Ok(array) => pushed(arrays.push(array)),
-        Err(fail) => Err(fail),
+fn put_arrays(alloc: Global, text: &str, arrays: &mut List<Array>) -> Result<(), Fail<Wrong>> {
+    for array in text.split(", ") {
+        put(read_array(alloc, array), arrays)?;
     }
+    Ok(())
 }
 
 fn read_array(alloc: Global, text: &str) -> Result<Array, Fail<Wrong>> {
     let (kind, rest) = text.split_once(' ').unwrap_or((text, ""));
     let (name, _) = rest.split_once('[').unwrap_or((rest, ""));
-    Ok(Array {
-        kind: read_kind(kind)?,
-        name: Bytes::copy_of(alloc, name.as_bytes())?,
-        dims: read_dims(alloc, rest)?,
-    })
+    let kind = read_kind(kind)?;
+    let dims = read_dims(alloc, rest)?;
+    match Bytes::copy_of(alloc, name.as_bytes()) {
+        Ok(name) => Ok(Array { kind, name, dims }),
+        Err(NoMemory) => {
+            drop(dims);
+            Err(Fail::NoMemory)
+        }
+    }
 }
 
 // The dimensions of an array, each as `[NAME=SIZE]` behind its name.
 fn read_dims(alloc: Global, text: &str) -> Result<List<Dim>, Fail<Wrong>> {
     let mut dims = List::new(alloc);
-    for part in text.split('[').skip(1) {
-        put_dim(alloc, part, &mut dims)?;
-    }
-    Ok(dims)
+    let put = put_dims(alloc, text, &mut dims);
+    whole(dims, put)
 }
 
-fn put_dim(alloc: Global, text: &str, dims: &mut List<Dim>) -> Result<(), Fail<Wrong>> {
-    match read_dim(alloc, text) {
-        Ok(dim) => pushed(dims.push(dim)),
-        Err(fail) => Err(fail),
+fn put_dims(alloc: Global, text: &str, dims: &mut List<Dim>) -> Result<(), Fail<Wrong>> {
+    for part in text.split('[').skip(1) {
+        put(read_dim(alloc, part), dims)?;
     }
+    Ok(())
 }
 
 fn read_dim(alloc: Global, text: &str) -> Result<Dim, Fail<Wrong>> {

@@ -97,34 +97,42 @@ fn put_job(job: &Job, out: &mut Said) {
             stepping,
             with_values,
             constraint,
-        } => {
-            put_stepping("twod", stepping, out);
-            out.put(if *with_values { " dods" } else { " dds" });
-            put_text(" constraint", constraint, out);
-        }
+        } => put_twod(stepping, *with_values, constraint, out),
         Job::Extract {
             stepping,
             view,
             constraint,
             version,
-        } => {
-            put_stepping("extract", stepping, out);
-            put_text(" view", view, out);
-            put_text(" constraint", constraint, out);
-            out.put_number(" format ", *version);
-        }
-        Job::Pull { address, target } => {
-            put_text("pull address", address, out);
-            put_text(" target", target, out);
-        }
+        } => put_extract(stepping, view, constraint, *version, out),
+        Job::Pull { address, target } => put_pull(address, target, out),
         Job::Check { path } => put_text("check", path, out),
-        Job::Load { seed, files } => {
-            out.put_number("load ", *seed);
-            out.put_number(" ", *files);
-        }
+        Job::Load { seed, files } => put_load(*seed, *files, out),
         Job::Serve(serving) => put_serving(serving, out),
         Job::Many(serving) => put_serving_many(serving, out),
     }
+}
+
+fn put_twod(stepping: &Stepping, with_values: bool, constraint: &Bytes, out: &mut Said) {
+    put_stepping("twod", stepping, out);
+    out.put(if with_values { " dods" } else { " dds" });
+    put_text(" constraint", constraint, out);
+}
+
+fn put_extract(stepping: &Stepping, view: &Bytes, constraint: &Bytes, version: u8, out: &mut Said) {
+    put_stepping("extract", stepping, out);
+    put_text(" view", view, out);
+    put_text(" constraint", constraint, out);
+    out.put_number(" format ", version);
+}
+
+fn put_pull(address: &Bytes, target: &Bytes, out: &mut Said) {
+    put_text("pull address", address, out);
+    put_text(" target", target, out);
+}
+
+fn put_load(seed: u32, files: u32, out: &mut Said) {
+    out.put_number("load ", seed);
+    out.put_number(" ", files);
 }
 
 // A command, and the collection and the steps on it.

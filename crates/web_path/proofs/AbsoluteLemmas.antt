@@ -45,7 +45,8 @@ unfolding percent_decode
 plain-first b [] plain = refl
 plain-first b (c ∷ []) plain = refl
 plain-first b (high ∷ low ∷ rest) plain =
-    let no_escape : is_escape b high low ≡ false = ap (λ (is : Bool). is && is_digit high 16 && is_digit low 16) plain in
+    let no_escape : is_escape b high low ≡ false =
+    ap (λ (is : Bool). is && is_digit high 16 && is_digit low 16) plain in
     cond-false _ _ _ no_escape
 
 -- what is decoded to a `/` and more has no scheme

@@ -38,9 +38,9 @@ pub record IsAbsolute (text asked : List ℕ) : Type 0 where
   pub no_question : list_any (λ b. b == question) authority ≡ false
   pub asked_is : asked ≡ slash ∷ rest
 
--- a text asks for a target: it is a path and query, or their absolute form. The path, up to the first `?`, stands for a
--- path of the view, in one of the spellings, a `.` and the word of the service. The query stands for the constraint. The
--- label is the path's last segment. Each escape is sound, in the authority too.
+-- a text asks for a target: it is a path and query, or their absolute form. The path, up to the first `?`, stands for
+-- a path of the view, in one of the spellings, a `.` and the word of the service. The query stands for the
+-- constraint. The label is the path's last segment. Each escape is sound, in the authority too.
 pub record IsTargetOf (site : Site) (text : List ℕ) (target : Target) : Type 0 where
   pub asked : List ℕ
   pub path : List ℕ

@@ -123,8 +123,8 @@ fn asked_at(alloc: Global, text: &[u8], site: &Site) -> Result<Target, Fail<Path
 }
 
 /// What a target asks for: a view of the collection, a service, a constraint and a label. The target may have the
-/// absolute form, `http://AUTHORITY/..` (RFC 9112, section 3.2.2). A fault is the first that the target has, in the order
-/// of the faults; the offset of a bad escape counts from the target's first byte.
+/// absolute form, `http://AUTHORITY/..` (RFC 9112, section 3.2.2). A fault is the first that the target has, in the
+/// order of the faults; the offset of a bad escape counts from the target's first byte.
 #[tactic(auto, unfolding(crate::specs::Target::target_of))]
 pub fn read_target(alloc: Global, target: &[u8], site: &Site) -> Result<Target, Fail<PathFault>>
     ensures { Answers (spec.target_of site.now target.now) result }

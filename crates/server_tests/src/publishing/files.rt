@@ -80,10 +80,3 @@ pub fn sample(rt: &impl Abort, alloc: Global, name: &[u8], proto: &Proto) -> Arc
 {
     loaded(rt, alloc, name, bytes_of(rt, alloc, File::Sample), proto)
 }
-
-/// The file of the next run, whose valid times are six hours later.
-pub fn later(rt: &impl Abort, alloc: Global, proto: &Proto) -> Arc<Loaded>
-    ensures { Fits result proto.now }
-{
-    loaded(rt, alloc, NAMES[1], bytes_of(rt, alloc, File::Later), proto)
-}

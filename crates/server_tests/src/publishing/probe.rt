@@ -1,34 +1,9 @@
-//! Questions of the tests.
+//! What readers ask.
 
-use fm_base::{Arc, NoMemory};
+use fm_base::NoMemory;
 use fm_edition::Edition;
-use fm_model::Loaded;
 use pub_look::Query;
 use std::alloc::Global;
-
-/// The file of a run at a valid time, in seconds from the collection's epoch.
-pub struct FileAt {
-    pub run: i64,
-    pub valid: i64,
-}
-
-impl Query for FileAt {
-    type Out = Option<Arc<Loaded>>;
-
-    ghost says = { λ _ _ _ _. Unit {0} };
-
-    fn answer(
-        &self,
-        _alloc: Global,
-        edition: &Edition,
-        _revision: u64,
-    ) -> Result<Option<Arc<Loaded>>, NoMemory> {
-        match edition.cell(self.run, self.valid) {
-            Some((file, _)) => Ok(Some(file.share()?)),
-            None => Ok(None),
-        }
-    }
-}
 
 /// What is held, as one number: the files, the best run at a valid time, and whether runs below two cutoffs are there.
 /// The answer takes no memory.

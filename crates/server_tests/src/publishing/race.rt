@@ -3,7 +3,7 @@ ghost use Rattle.std.specs.Prelude.{◌≡◌};
 ghost use Rattle.fm_model.specs.Site.{IsPrototype};
 
 use super::course::{SKETCH, STEPS, Step, answers, expired, put, step_at};
-use super::desk::{Purpose, used_for};
+use super::desk::raced;
 use super::files::{Files, NAMES};
 use fm_base::Arc;
 use fm_model::Proto;
@@ -22,8 +22,8 @@ const READERS: u32 = 8;
 
 #[test]
 fn readers_see_each_revision_whole(rt: HostRuntime) {
-    let closed = used_for(&rt, rt.alloc(), READERS, Purpose::Racing);
-    assert_eq!(rt; (closed.revision, closed.total), (STEPS, STEPS));
+    let closed = raced(&rt, rt.alloc(), READERS);
+    assert!(rt; closed.revision == STEPS && closed.total == STEPS && closed.tally.files == 2);
 }
 
 // Asks until the last revision is seen. A reader that is stopped inside a copy holds up the writer until its next turn,
@@ -112,15 +112,19 @@ pub(crate) fn race<N: Name + Send + Sync, R: Threads + Wait + Abort + Sync>(
     let files: Files<N> = Files::of(rt, alloc, proto.get());
     let answers = answers(rt, alloc, proto, &files);
     published(rt, alloc, desk, share, &files, passes, answers.as_slice());
-    have_seen_all(rt, passes, &desk.receipt());
+    drop(files);
+    drop(answers);
+    let receipt = desk.receipt();
+    have_seen_all(rt, passes, &receipt);
+    drop(receipt);
 }
 
 // Each of eight passes has seen all steps, which the receipt is of.
 fn have_seen_all<N: Name, R: Abort>(rt: &R, passes: &mut [Pass<N>], receipt: &Receipt<N>) {
-    assert_eq!(rt; (passes.len(), receipt.revision()), (8, STEPS));
+    assert!(rt; passes.len() == 8 && receipt.revision() == STEPS);
     for pass in passes.iter_mut() {
         pass.learn(receipt);
-        assert_eq!(rt; pass.seen(), STEPS);
+        assert!(rt; pass.seen() == STEPS);
     }
 }
 

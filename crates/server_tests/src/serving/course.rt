@@ -1,8 +1,9 @@
-//! An inbox, a gate and a clock that act in turn: a verdict, a link, and so on, and then the moments.
+//! An inbox and a clock that act in turn with links: a verdict, a link, and so on, and then the moments.
 ghost use Rattle.std.specs.Prelude.{None};
 
+use super::gates::Watch;
 use dev_memory::{MemClock, MemDial, MemDoor, MemFiles, MemInbox, MemLink, MemOpener, MemSink};
-use dev_traits::{Arrival, Clock, Expiry, Failed, Found, Gate, Inbox, Machine, Place, Verdict};
+use dev_traits::{Arrival, Clock, Expiry, Failed, Found, Inbox, Machine, Verdict};
 use fm_base::{Bytes, Fail};
 use std::alloc::Global;
 use std::sync::atomic::{AtomicU64, Ordering};
@@ -45,27 +46,6 @@ impl Course {
             }
         }
         self.gave_up.fetch_add(1, Ordering::SeqCst);
-    }
-}
-
-// Holds each link until there is a verdict more than links were served.
-#[derive(Drop)]
-pub(crate) struct InStep<'a> {
-    pub(crate) course: &'a Course,
-}
-
-impl<'a> Gate for InStep<'a> {
-    fn pass(&self, place: Place) {
-        let course = self.course;
-        match place {
-            Place::Accepted(_) => {
-                let served = course.served.load(Ordering::SeqCst);
-                course.wait(&course.settled, served.saturating_add(1));
-            }
-            Place::Finished(_) => {
-                course.served.fetch_add(1, Ordering::SeqCst);
-            }
-        }
     }
 }
 
@@ -165,7 +145,7 @@ impl<'a> Machine for CountedOpener<'a> {
 
     type S = MemSink;
 
-    type G = InStep<'a>;
+    type G = Watch<'a>;
 
     type N = MemDial;
 

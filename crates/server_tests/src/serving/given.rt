@@ -3,11 +3,13 @@ ghost use Rattle.std.specs.Prelude.{◌≡◌, All};
 ghost use Rattle.dev_traits.specs.Door.{IsFresh};
 
 use super::arriving::{copy_of, two_files};
+use super::course::{CountedOpener, Course};
+use super::gates::Watch;
 use super::texts::STRUCTURE;
 use dev_memory::{
     MemClock, MemDial, MemDoor, MemFiles, MemInbox, MemLink, MemOpener, MemSink, PausedLink, Pauses,
 };
-use dev_traits::{Devices, Door, Inbox, Link, Machine, OpenGate, World};
+use dev_traits::{Devices, Door, Inbox, Link, World};
 use fm_base::{Bytes, List};
 use srv_run::run;
 use std::alloc::Global;
@@ -118,11 +120,16 @@ fn sink(rt: &impl Abort, alloc: Global) -> MemSink {
     MemSink::new(alloc, 4_096, List::new(alloc)).expect(rt, "memory")
 }
 
-// Runs the words over devices, and says what is left.
-pub(crate) fn ran<
-    R: Threads + Wait + Abort + Sync,
-    M: Machine<D = MemDoor, F = MemFiles, L = MemLink, S = MemSink, N = MemDial> + Drop,
->(rt: &R, alloc: Global, words: &str, opener: M, link: MemLink, gate: M::G) -> Left {
+// Runs the words over devices, and says what is left. Each test has the same devices, so that the server is linked for
+// them alone.
+pub(crate) fn ran<'a, R: Threads + Wait + Abort + Sync>(
+    rt: &R,
+    alloc: Global,
+    words: &str,
+    opener: CountedOpener<'a>,
+    link: MemLink,
+    gate: Watch<'a>,
+) -> Left {
     let words = words_of(rt, alloc, words);
     let mut world = World {
         opener,
@@ -134,13 +141,16 @@ pub(crate) fn ran<
         dial: MemDial::new(alloc, None, List::new(alloc)).expect(rt, "memory"),
     };
     let status = run(rt, alloc, &words, &mut world);
-    Left {
+    drop(words);
+    let left = Left {
         status,
         output: copy_of(rt, alloc, world.link.output()),
         line: copy_of(rt, alloc, world.sink.bytes()),
         doors: world.devices.doors.len(),
         replies: replies_of(rt, alloc, world.devices.doors.as_slice()),
-    }
+    };
+    drop(world);
+    left
 }
 
 // Runs the words over a link.
@@ -150,6 +160,10 @@ pub(crate) fn asked<R: Threads + Wait + Abort + Sync>(
     words: &str,
     link: MemLink,
 ) -> Left {
-    let opener = opener_of(rt, alloc, List::new(alloc), "", List::new(alloc));
-    ran(rt, alloc, words, opener, link, OpenGate)
+    let course = Course::new();
+    let opener = CountedOpener {
+        opener: opener_of(rt, alloc, List::new(alloc), "", List::new(alloc)),
+        course: &course,
+    };
+    ran(rt, alloc, words, opener, link, Watch::Open)
 }

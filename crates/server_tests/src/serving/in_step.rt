@@ -1,6 +1,7 @@
 //! Links that are served between files that arrive, and moments at which runs are too old.
 
-use super::course::{CountedOpener, Course, InStep};
+use super::course::{CountedOpener, Course};
+use super::gates::Watch;
 use super::given::{Left, asking_door, link_of, opener_of, ran};
 use super::texts::REPLIES;
 use dev_memory::MemClock;
@@ -41,7 +42,7 @@ fn opener_in_step<'a>(rt: &impl Abort, alloc: Global, course: &'a Course) -> Cou
     CountedOpener { opener, course }
 }
 
-// Serves one door with a gate that holds each link until a file was settled. Nobody waits in vain.
+// Serves one door with a gate that holds each link until a file was settled.
 fn served_in_step<R: Threads + Wait + Abort + Sync>(
     rt: &R,
     alloc: Global,
@@ -49,12 +50,14 @@ fn served_in_step<R: Threads + Wait + Abort + Sync>(
 ) -> Left {
     let link = link_of(rt, alloc, b"", 0, 0);
     let opener = opener_in_step(rt, alloc, course);
-    let left = ran(rt, alloc, ONE, opener, link, InStep { course });
-    assert_eq!(rt;
-        (left.status, course.gave_up.load(Ordering::SeqCst)),
-        (0, 0)
-    );
+    let left = ran(rt, alloc, ONE, opener, link, Watch::InStep(course));
+    has_ended_well(rt, left.status, course);
     left
+}
+
+// A run has a good status, and nobody waited in vain.
+fn has_ended_well(rt: &impl Abort, status: u8, course: &Course) {
+    assert!(rt; status == 0 && course.gave_up.load(Ordering::SeqCst) == 0);
 }
 
 // Whether two links were served: the first from one run, and the second from two.
@@ -77,6 +80,7 @@ fn each_link_is_served_from_all_that_was_settled_before_it(rt: HostRuntime) {
     let course = Course::new();
     let left = served_in_step(&rt, rt.alloc(), &course);
     assert!(rt; left.doors == 1 && in_turn(left.replies.as_slice()));
+    drop(left);
 }
 
 // Both files came, and by the first of two moments the first of them went, with a line.
@@ -85,8 +89,9 @@ fn a_run_goes_once_it_is_too_old(rt: HostRuntime) {
     let course = Course::new();
     let left = served_in_step(&rt, rt.alloc(), &course);
     let line = b"published 2 retracted 0 expired 1 held 1 rows 3 revision 3\n".as_slice();
-    assert_eq!(rt; left.line.as_slice(), line);
-    let expired = course.expired.load(Ordering::SeqCst);
-    assert_eq!(rt; (expired, course.idle.load(Ordering::SeqCst)), (3, 3));
-    assert_eq!(rt; course.told.load(Ordering::SeqCst), 1);
+    assert!(rt; left.line.as_slice() == line);
+    drop(left);
+    assert!(rt; course.expired.load(Ordering::SeqCst) == 3);
+    assert!(rt; course.idle.load(Ordering::SeqCst) == 3);
+    assert!(rt; course.told.load(Ordering::SeqCst) == 1);
 }

@@ -3,14 +3,15 @@ use Rattle.std.proofs.Common.{subst, ◌∙◌}
 use Rattle.dap_model.specs.declared.projection.Sent.{Sent}
 use Rattle.fm_dataset.specs.Values.{Shown}
 use Rattle.dap_xdr.specs.Datasets.{IsStretchOf}
-use Rattle.dap_xdr.proofs.LendingLemmas.{picked-none, stretch-of}
+use Rattle.dap_xdr.proofs.LendingLemmas.{stretch-of}
+use Rattle.dap_xdr.proofs.PickedLemmas.{picked-none}
 use Rattle.dap_xdr.proofs.lending.stretch.Goals as goal
 
 pub stretch_in-requires : goal.stretch_in-requires
 stretch_in-requires c = λ e. c.in_default.not-Text (c.kind.ensures ∙ e)
 
 pub returns-in-Text : goal.returns-in-Text
-returns-in-Text c = λ array is. picked-none _ _ _ _ _
+returns-in-Text c = λ array is. picked-none
 
 pub returns-in_default : goal.returns-in_default
 returns-in_default c =

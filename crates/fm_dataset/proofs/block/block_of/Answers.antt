@@ -5,7 +5,7 @@ use Rattle.fm_dataset.proofs.block.block_of.Goals as goal
 pub returns-then-var : goal.returns-then-var
 returns-then-var c =
     let there = rw c.first_of.ensures at c.row_at.ensures in
-    block_along _ _ _ _ _ _ _ c.if-var.true there c.block_in_file.ensures
+    block_along c.if-var.true there c.block_in_file.ensures
 
 pub returns-else-var : goal.returns-else-var
-returns-else-var c = block_fixed _ _ _ _ _ _ _ c.requires c.if-var.false c.as_slice.ensures refl
+returns-else-var c = block_fixed c.requires c.if-var.false c.as_slice.ensures refl

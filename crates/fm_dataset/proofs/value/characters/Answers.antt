@@ -10,9 +10,9 @@ use Rattle.fm_dataset.proofs.value.characters.Goals as goal
 
 pub rank-first-requires-clause-most : goal.rank-first-requires-clause-most
 rank-first-requires-clause-most c =
-    let front = front_shape (length_at c.args.proto.now) _ _ _ _ _ c.split_at.ensures.front c.row_dims.ensures
+    let front = front_shape (length_at c.args.proto.now) c.split_at.ensures.front c.row_dims.ensures
     c.row_index-within.ensures in
-    let back = back_shape (length_at c.args.proto.now) _ _ _ _ _ c.split_at.ensures.back c.row_dims.ensures
+    let back = back_shape (length_at c.args.proto.now) c.split_at.ensures.back c.row_dims.ensures
     c.row_index-within.ensures in
     let len = c.text_len-len.ensures ∙ ap product back in
     let within = rw c.requires.small at c.block_of-block.ensures.within in
@@ -21,9 +21,9 @@ rank-first-requires-clause-most c =
 
 pub pieces_of-requires : goal.pieces_of-requires
 pieces_of-requires c =
-    let front = front_shape (length_at c.args.proto.now) _ _ _ _ _ c.split_at.ensures.front c.row_dims.ensures
+    let front = front_shape (length_at c.args.proto.now) c.split_at.ensures.front c.row_dims.ensures
     c.row_index-within.ensures in
-    let back = back_shape (length_at c.args.proto.now) _ _ _ _ _ c.split_at.ensures.back c.row_dims.ensures
+    let back = back_shape (length_at c.args.proto.now) c.split_at.ensures.back c.row_dims.ensures
     c.row_index-within.ensures in
     let len = c.text_len-len.ensures ∙ ap product back in
     let first = c.rank-first.ensures ∙ ap₂ rank_in front c.row_index-within.ensures in
@@ -35,24 +35,24 @@ pieces_of-requires c =
 
 pub returns : goal.returns
 returns c =
-    let front = front_shape (length_at c.args.proto.now) _ _ _ _ _ c.split_at.ensures.front c.row_dims.ensures
+    let front = front_shape (length_at c.args.proto.now) c.split_at.ensures.front c.row_dims.ensures
     c.row_index-within.ensures in
-    let back = back_shape (length_at c.args.proto.now) _ _ _ _ _ c.split_at.ensures.back c.row_dims.ensures
+    let back = back_shape (length_at c.args.proto.now) c.split_at.ensures.back c.row_dims.ensures
     c.row_index-within.ensures in
     let len = c.text_len-len.ensures ∙ ap product back in
     let first = c.rank-first.ensures ∙ ap₂ rank_in front c.row_index-within.ensures in
     let long = length-index _ _ c.requires.index_is in
     c.pieces_of.ensures
-    ∙ sym (characters_are _ _ _ _ _ _ c.block_of-block.ensures _ _ c.requires.small c.requires.some long first len)
+    ∙ sym (characters_are c.block_of-block.ensures c.requires.small c.requires.some long first len)
 
 pub returns-then-len-eq0 : goal.returns-then-len-eq0
 returns-then-len-eq0 c =
-    let front = front_shape (length_at c.args.proto.now) _ _ _ _ _ c.split_at.ensures.front c.row_dims.ensures
+    let front = front_shape (length_at c.args.proto.now) c.split_at.ensures.front c.row_dims.ensures
     c.row_index-within.ensures in
-    let back = back_shape (length_at c.args.proto.now) _ _ _ _ _ c.split_at.ensures.back c.row_dims.ensures
+    let back = back_shape (length_at c.args.proto.now) c.split_at.ensures.back c.row_dims.ensures
     c.row_index-within.ensures in
     let len = c.text_len-len.ensures ∙ ap product back in
     let long = length-index _ _ c.requires.index_is in
-    let all = characters_are _ _ _ _ _ _ c.block_of-block.ensures _ _ c.requires.small c.requires.some long refl len in
+    let all = characters_are c.block_of-block.ensures c.requires.small c.requires.some long refl len in
     let none : 0 ≡ c.text_len-len.result * 1 = omega (arith, c.if-len-eq0.true) in
     c.split_at-then-len-eq0.ensures.front ∙ sym (all ∙ rw (← none) refl)

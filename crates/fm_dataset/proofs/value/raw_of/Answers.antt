@@ -12,30 +12,29 @@ count_in-requires-clause-some c = rw c.row_dims-ids.ensures (lengths-index _ _ c
 
 pub overflow_sub-left : goal.overflow_sub-left
 overflow_sub-left c =
-    let rank = same_rank (length_at c.args.proto.now) _ _ _ _ _ c.rank-first.ensures c.row_dims-ids.ensures
+    let rank = same_rank (length_at c.args.proto.now) c.rank-first.ensures c.row_dims-ids.ensures
     c.row_index.ensures in
-    let count = same_count (length_at c.args.proto.now) _ _ _ c.count_in.ensures c.row_dims-ids.ensures in
+    let count = same_count (length_at c.args.proto.now) c.count_in.ensures c.row_dims-ids.ensures in
     let below = rank_in-lt _ _ c.requires.index_is in
     omega (arith, rank, count, below)
 
 pub pieces_of-requires : goal.pieces_of-requires
 pieces_of-requires c =
-    let rank = same_rank (length_at c.args.proto.now) _ _ _ _ _ c.rank-first.ensures c.row_dims-ids.ensures
+    let rank = same_rank (length_at c.args.proto.now) c.rank-first.ensures c.row_dims-ids.ensures
     c.row_index.ensures in
-    let count = same_count (length_at c.args.proto.now) _ _ _ c.count_in.ensures c.row_dims-ids.ensures in
+    let count = same_count (length_at c.args.proto.now) c.count_in.ensures c.row_dims-ids.ensures in
     let below = rank_in-lt _ _ c.requires.index_is in
     let lesser = c.min.ensures in
     let few : c.rank-first.result + c.min.result ≤ product (row_shape c.args.proto.now c.args.var.now) =
     omega (arith, rank, count, below, lesser) in
-    elements_fit _ _ _ _ _ _ c.block_of-block.ensures _ _ _ (c.from.ensures ∙ c.size.ensures) few
+    elements_fit c.block_of-block.ensures c.rank-first.result c.min.result (c.from.ensures ∙ c.size.ensures) few
 
 pub returns-clause-value : goal.returns-clause-value
 returns-clause-value c =
-    let rank = same_rank (length_at c.args.proto.now) _ _ _ _ _ c.rank-first.ensures c.row_dims-ids.ensures
+    let rank = same_rank (length_at c.args.proto.now) c.rank-first.ensures c.row_dims-ids.ensures
     c.row_index.ensures in
-    let count = same_count (length_at c.args.proto.now) _ _ _ c.count_in.ensures c.row_dims-ids.ensures in
-    let raw = raw_is _ _ _ _ _ _ c.block_of-block.ensures c.from.result c.rank-first.result c.args.most
-    (c.from.ensures ∙ c.size.ensures) rank in
+    let count = same_count (length_at c.args.proto.now) c.count_in.ensures c.row_dims-ids.ensures in
+    let raw = raw_is c.block_of-block.ensures c.args.most (c.from.ensures ∙ c.size.ensures) rank in
     let lesser = c.min.ensures ∙ ap (λ (n : ℕ). min c.args.most (n - c.rank-first.result)) count in
     c.pieces_of.ensures
     ∙ ap (λ (n : ℕ). take (c.from.result * n)
@@ -45,14 +44,14 @@ returns-clause-value c =
 
 pub returns-clause-len : goal.returns-clause-len
 returns-clause-len c =
-    let rank = same_rank (length_at c.args.proto.now) _ _ _ _ _ c.rank-first.ensures c.row_dims-ids.ensures
+    let rank = same_rank (length_at c.args.proto.now) c.rank-first.ensures c.row_dims-ids.ensures
     c.row_index.ensures in
-    let count = same_count (length_at c.args.proto.now) _ _ _ c.count_in.ensures c.row_dims-ids.ensures in
+    let count = same_count (length_at c.args.proto.now) c.count_in.ensures c.row_dims-ids.ensures in
     let below = rank_in-lt _ _ c.requires.index_is in
     let lesser = c.min.ensures in
     let few : c.rank-first.result + c.min.result ≤ product (row_shape c.args.proto.now c.args.var.now) =
     omega (arith, rank, count, below, lesser) in
     let size = c.from.ensures ∙ c.size.ensures in
-    let fits = elements_fit _ _ _ _ _ _ c.block_of-block.ensures _ _ _ size few in
+    let fits = elements_fit c.block_of-block.ensures c.rank-first.result c.min.result size few in
     let left = lesser ∙ ap₂ (λ (n k : ℕ). min c.args.most (n - k)) count rank in
     ap length c.pieces_of.ensures ∙ length-taken _ _ _ fits ∙ ap₂ (λ (a b : ℕ). a * b) size left

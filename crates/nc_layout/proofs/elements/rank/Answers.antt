@@ -8,7 +8,8 @@ loop-at-preserved c =
     let same = length-index_of_ids (size_at c.args.header.now) c.args.ids.now c.args.index.now c.requires.index in
     let there : c.loop-at.at < length c.args.index.now = omega arith in
     let now = c.loop-at.invariant in
-    rank_more (size_at c.args.header.now) _ _ _ _ _ _ _ c.loop-at-test.true there c.size_at.ensures refl now
+    rank_more (size_at c.args.header.now) c.loop-at.rank c.args.ids.now c.args.index.now c.loop-at.at
+    c.loop-at-test.true there c.size_at.ensures refl now
 
 pub bounds-index-at : goal.bounds-index-at
 bounds-index-at c =
@@ -17,16 +18,16 @@ bounds-index-at c =
 
 pub overflow_mul-rank : goal.overflow_mul-rank
 overflow_mul-rank c =
-    let fits = rank_fits (size_at c.args.header.now) _ _ _ c.args.ids.now c.args.index.now _ c.requires.index
-    c.loop-at-test.true c.size_at.ensures refl c.loop-at.invariant in
+    let fits = rank_fits (size_at c.args.header.now) c.loop-at.rank c.args.ids.now c.args.index.now c.loop-at.at
+    c.requires.index c.loop-at-test.true c.size_at.ensures refl c.loop-at.invariant in
     omega (arith, fits, c.requires.small)
 
 pub overflow_add-rank : goal.overflow_add-rank
 overflow_add-rank c =
-    let fits = rank_fits (size_at c.args.header.now) _ _ _ c.args.ids.now c.args.index.now _ c.requires.index
-    c.loop-at-test.true c.size_at.ensures refl c.loop-at.invariant in
+    let fits = rank_fits (size_at c.args.header.now) c.loop-at.rank c.args.ids.now c.args.index.now c.loop-at.at
+    c.requires.index c.loop-at-test.true c.size_at.ensures refl c.loop-at.invariant in
     omega (arith, fits, c.requires.small)
 
 pub returns : goal.returns
-returns c = rank_all (size_at c.args.header.now) _ _ c.args.ids.now c.args.index.now _ c.loop-at-test.false
+returns c = rank_all (size_at c.args.header.now) c.args.ids.now c.args.index.now _ c.loop-at-test.false
     c.loop-at.invariant

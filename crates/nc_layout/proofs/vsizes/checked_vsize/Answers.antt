@@ -29,4 +29,5 @@ pub returns : goal.returns
 returns c =
     let all = product_all (size_at c.args.header.now) c.loop-id.vsize (vsize c.args.header.now c.args.var.now)
     c.fixed_dims-id-items.result.now c.loop-id.id-index c.loop-id-test.false c.loop-id.invariant.1 in
-    cond_above _ _ _ _ _ (subst (λ n. n ≤ 2 ^ 40) all c.loop-id.invariant.0) (ap Some all)
+    cond_above (2 ^ 40) (vsize c.args.header.now c.args.var.now) _ _ _
+    (subst (λ n. n ≤ 2 ^ 40) all c.loop-id.invariant.0) (ap Some all)

@@ -20,7 +20,7 @@ loop-init g c = (
 )
 
 pub serve_next-next-requires-clause-at : goal.serve_next-next-requires-clause-at
-serve_next-next-requires-clause-at g c = λ _ _. record {
+serve_next-next-requires-clause-at g c = record {
   door = (g.D.Door.shown c.args.door.now).held;
   views = _;
   at = subst (λ (them : Collections). AtDoor g.D.L.Link.shown them (g.D.Door.shown c.args.door.now).held

@@ -3,19 +3,19 @@ use Rattle.srv_conn.proofs.HallLemmas.{at-next, at-out, at-ready, coming-out}
 use Rattle.srv_conn.proofs.door_next.receive.Goals as goal
 
 pub admit-requires-clause-out : goal.admit-requires-clause-out
-admit-requires-clause-out g c = λ _ _.
+admit-requires-clause-out g c =
     coming-out c.args.link c.requires.coming.before (g.D.Door.shown c.args.door.now).held c.requires.coming.came
 
 pub admit-requires-clause-fresh : goal.admit-requires-clause-fresh
-admit-requires-clause-fresh g c = λ _ _. c.requires.coming.unused
+admit-requires-clause-fresh g c = c.requires.coming.unused
 
 pub proceed-requires-clause-ready : goal.proceed-requires-clause-ready
-proceed-requires-clause-ready g c = λ _ _.
+proceed-requires-clause-ready g c =
     let come = c.requires.coming in
     at-ready (c.in-Some.ensures.at come.first come.before come.views come.at come.next come.came)
 
 pub proceed-requires-clause-out : goal.proceed-requires-clause-out
-proceed-requires-clause-out g c = λ _ _ there.
+proceed-requires-clause-out g c = λ there.
     let come = c.requires.coming in
     at-out c.in-Some.key (c.in-Some.ensures.at come.first come.before come.views come.at come.next come.came) there
 

@@ -4,7 +4,7 @@ use Rattle.srv_conn.proofs.NextLemmas.{at-same, came-after, came-fresh, came-nex
 use Rattle.srv_conn.proofs.door_next.serve_next.Goals as goal
 
 pub receive-requires-clause-coming : goal.receive-requires-clause-coming
-receive-requires-clause-coming g c = λ _ _. record {
+receive-requires-clause-coming g c = record {
   first = c.requires.at.door;
   before = (g.D.Door.shown c.args.door.now).held;
   views = c.requires.at.views;
@@ -21,10 +21,10 @@ returns-in-Ok-Came-clause-at g c = λ first views at.
     (came-after _ _ c.in-Ok-Came.field-0-is c.in-Ok-Came.ensures.came)
 
 pub proceed-requires-clause-ready : goal.proceed-requires-clause-ready
-proceed-requires-clause-ready g c = λ _ _. at-ready c.requires.at.at
+proceed-requires-clause-ready g c = at-ready c.requires.at.at
 
 pub proceed-requires-clause-out : goal.proceed-requires-clause-out
-proceed-requires-clause-out g c = λ _ _ there.
+proceed-requires-clause-out g c = λ there.
     out-same c.in-Ok-Ready.key (ready-held c.in-Ok-Ready.field-0-is c.in-Ok-Ready.ensures.came) c.requires.at.at there
 
 pub returns-in-Ok-Ready-clause-at : goal.returns-in-Ok-Ready-clause-at

@@ -9,7 +9,8 @@ pub returns-in-Ok-clause-went : goal.returns-in-Ok-clause-went
 returns-in-Ok-clause-went g c = λ start own out.
     out-begins _ _ own c.args.connection.now _ c.args.asked c.choice_of-number.result _ c.in-Ok.revision out
     c.requires.reading c.requires.asking refl c.choice_of-number.ensures.choice c.choice_of-number.ensures.some
-    c.of.ensures (sym c.set.ensures.own) c.set.ensures.others c.in-Ok.ensures.begins.sees c.in-Ok.ensures.others c.in-Ok.ensures.begins.begun
+    c.of.ensures (sym c.set.ensures.own) c.set.ensures.others c.in-Ok.ensures.begins.sees c.in-Ok.ensures.others
+    c.in-Ok.ensures.begins.begun
 
 pub returns-in-Err-clause-went : goal.returns-in-Err-clause-went
 returns-in-Err-clause-went g c = λ start own out.

@@ -17,10 +17,10 @@ loop-init g c = (
 )
 
 pub take_next-requires-clause-proto : goal.take_next-requires-clause-proto
-take_next-requires-clause-proto g c κs lives = c.requires
+take_next-requires-clause-proto g c = c.requires
 
 pub take_next-requires-clause-fits : goal.take_next-requires-clause-fits
-take_next-requires-clause-fits g c κs lives =
+take_next-requires-clause-fits g c =
     share-fits c.args.share.now c.loop.seat.share.now c.loop.report c.loop.invariant.3
 
 pub loop-preserved : goal.loop-preserved

@@ -5,6 +5,8 @@ use Rattle.srv_run.proofs.BlameLemmas.{Ends-Runs}
 use Rattle.srv_run.proofs.program.run_alone.Goals as goal
 
 pub returns : goal.returns
-returns g c =
-    Ends-Runs (c.do_found_alone.ensures (only c.args.command (job_of c.args.words.now))
-    c.command_or_end-found.ensures.job)
+returns g c = Ends-Runs (record {
+  end = c.do_found_alone.result;
+  status_is = c.status.ensures;
+  does = c.do_found_alone.ensures (only c.args.command (job_of c.args.words.now)) c.command_or_end-found.ensures.job;
+})

@@ -6,5 +6,8 @@ use Rattle.srv_run.proofs.BlameLemmas.{Ends-Runs}
 use Rattle.srv_run.proofs.program.run_serve.Goals as goal
 
 pub returns : goal.returns
-returns g c =
-    Ends-Runs (c.do_found.ensures (only commands.Serve (job_of c.args.words.now)) c.command_or_end-found.ensures.job)
+returns g c = Ends-Runs (record {
+  end = c.do_found.result;
+  status_is = c.status.ensures;
+  does = c.do_found.ensures (only commands.Serve (job_of c.args.words.now)) c.command_or_end-found.ensures.job;
+})

@@ -1,6 +1,34 @@
--- The end of a run of `serve` that has its prototype.
-use Rattle.std.proofs.Common.{inl, inr, refl}
+-- The end of a run of `serve`, with its prototype and without it.
+use Rattle.std.proofs.Common.{◌∙◌, inl, inr, refl, arith}
+use Rattle.srv_serve.proofs.RunLemmas.{few-clocks, few-reports}
+use Rattle.srv_serve.proofs.StageLemmas.{EndsUnserved-said}
 use Rattle.srv_serve.proofs.serving.serve.Goals as goal
+
+pub returns-in-Err : goal.returns-in-Err
+returns-in-Err g c = record {
+  runs = inl (record {
+    ends = c.in-Err.ensures.ends;
+    leaves = record { opener_is = refl; devices_are = refl };
+    reports = rw c.as_slice.ensures at c.report.ensures;
+  });
+  unused = refl;
+  undialled = refl;
+}
+
+pub close-end-requires-clause-doors : goal.close-end-requires-clause-doors
+close-end-requires-clause-doors g c =
+    let run = c.in-Ok-run_in_threads.ensures.run in
+    few-reports run.ran.doors (omega (arith, run.all.doors, c.requires.few_workers))
+
+pub close-end-requires-clause-inboxes : goal.close-end-requires-clause-inboxes
+close-end-requires-clause-inboxes g c =
+    let run = c.in-Ok-run_in_threads.ensures.run in
+    few-reports run.ran.inboxes (omega (arith, run.all.inboxes, c.requires.few_inboxes))
+
+pub close-end-requires-clause-clocks : goal.close-end-requires-clause-clocks
+close-end-requires-clause-clocks g c =
+    let run = c.in-Ok-run_in_threads.ensures.run in
+    few-reports run.ran.clocks (few-clocks run.all)
 
 pub returns-in-Ok-run_in_threads : goal.returns-in-Ok-run_in_threads
 returns-in-Ok-run_in_threads g c = record {
@@ -11,7 +39,7 @@ returns-in-Ok-run_in_threads g c = record {
     serves = inr (record {
       outcome = c.in-Ok-run_in_threads.outcome;
       run = c.in-Ok-run_in_threads.ensures.run;
-      ends = c.close.ensures;
+      ends = c.close-end.ensures;
     });
   });
   unused = refl;
@@ -19,16 +47,15 @@ returns-in-Ok-run_in_threads g c = record {
 }
 
 pub returns : goal.returns
-returns g c = record {
-  runs = inr (record {
-    proto = c.in-Ok.proto;
-    reads = c.in-Ok.ensures.opens;
-    files = c.in-Ok.ensures.same;
-    serves = inl (record {
-      stopped = c.in-Err-run_in_threads.ensures.stopped;
-      reports = c.report-in-Err-run_in_threads.ensures;
-    });
-  });
-  unused = refl;
-  undialled = refl;
-}
+returns g c =
+    let said = c.say.ensures.says in
+    rw c.say.ensures.end (record {
+      runs = inr (record {
+        proto = c.in-Ok.proto;
+        reads = c.in-Ok.ensures.opens;
+        files = said.unread ∙ c.in-Ok.ensures.same;
+        serves = inl (EndsUnserved-said c.in-Err-run_in_threads.ensures.stopped said refl);
+      });
+      unused = said.unused;
+      undialled = said.undialled;
+    })

@@ -1,34 +1,33 @@
-use Rattle.srv_workers.proofs.CourseLemmas.{begin-turn, keeps-start, keeps-turn, sound-turn, tasks-turn}
+use Rattle.srv_workers.proofs.CourseLemmas.{begin-turn, keeps-start, keeps-turn, sound-turn}
 use Rattle.srv_workers.proofs.course.learn_all.Goals as goal
 
--- each has its task
+-- each has what it has
 pub loop-init : goal.loop-init
-loop-init g c = (tt, tt, keeps-start c.args.staff.now)
+loop-init g c = (tt, tt, keeps-start g.X.Desks.means c.args.staff.now)
 
--- what the workers had seen begins the log
+-- what the workers had seen begins the logs
 pub returns-then-learn_once-clause-begin : goal.returns-then-learn_once-clause-begin
 returns-then-learn_once-clause-begin g c =
-    begin-turn c.args.desk.now c.args.staff.now c.loop.staff c.learn_once.new.staff c.loop.invariant.2
-    c.learn_once.ensures.count c.learn_once.ensures.each (c.learn_once.ensures.seen c.if-learn_once.true)
+    begin-turn g.X.Desks.means (g.X.Desks.logs c.args.desks.now) c.args.staff.now c.loop.staff c.learn_once.new.staff
+    c.loop.invariant.2 c.learn_once.ensures.learn (c.learn_once.ensures.seen c.if-learn_once.true)
 
--- their tasks are as before
-pub returns-then-learn_once-clause-tasks : goal.returns-then-learn_once-clause-tasks
-returns-then-learn_once-clause-tasks g c =
-    tasks-turn c.args.desk.now c.args.staff.now c.loop.staff c.learn_once.new.staff c.loop.invariant.2
-    c.learn_once.ensures.count c.learn_once.ensures.each
+-- they keep what they have
+pub returns-then-learn_once-clause-keep : goal.returns-then-learn_once-clause-keep
+returns-then-learn_once-clause-keep g c =
+    keeps-turn g.X.Desks.means (g.X.Desks.logs c.args.desks.now) c.args.staff.now c.loop.staff c.learn_once.new.staff
+    c.loop.invariant.2 c.learn_once.ensures.learn
 
--- the log is sound
+-- the logs are sound
 pub returns-then-learn_once-clause-sound : goal.returns-then-learn_once-clause-sound
 returns-then-learn_once-clause-sound g c =
-    sound-turn g.N.Name.proto c.args.desk.now c.args.staff.now c.loop.staff c.learn_once.new.staff c.requires
-    c.loop.invariant.2 c.learn_once.ensures.count c.learn_once.ensures.each
-    (c.learn_once.ensures.seen c.if-learn_once.true) (c.learn_once.ensures.sound c.if-learn_once.true)
+    sound-turn g.X.Desks.means (g.X.Desks.logs c.args.desks.now) c.args.staff.now c.loop.staff c.learn_once.new.staff
+    c.requires c.loop.invariant.2 c.learn_once.ensures.learn (c.learn_once.ensures.seen c.if-learn_once.true)
 
--- each keeps its task through one turn more
+-- each keeps what it has through one turn more
 pub loop-preserved : goal.loop-preserved
 loop-preserved g c = (
   tt,
   tt,
-  keeps-turn c.args.desk.now c.args.staff.now c.loop.staff c.learn_once.new.staff c.loop.invariant.2
-      c.learn_once.ensures.count c.learn_once.ensures.each,
+  keeps-turn g.X.Desks.means (g.X.Desks.logs c.args.desks.now) c.args.staff.now c.loop.staff c.learn_once.new.staff
+      c.loop.invariant.2 c.learn_once.ensures.learn,
 )

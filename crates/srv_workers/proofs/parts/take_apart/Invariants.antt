@@ -1,10 +1,9 @@
 -- The parts of the first workers were put behind the others.
-use Rattle.std.proofs.Common.{◌≡◌, ◌-◌, length, map, take, drop}
+use Rattle.std.proofs.Common.{◌≡◌, take, drop}
 use Rattle.srv_workers.specs.Parts.{PutsParts}
 use Rattle.srv_workers.proofs.parts.take_apart.Given as goal
 
 abbrev pub invariant-loop-number : goal.invariant-loop-number
 invariant-loop-number g l =
-    PutsParts (take l._number (map (λ worker. worker.task) l.fn.staff)) l.fn.parts l.parts
-    × (map (λ worker. worker.task) l.staff ≡ drop l._number (map (λ worker. worker.task) l.fn.staff))
-    × (length l.staff ≡ length l.fn.staff - l._number)
+    PutsParts g.X.Desks.means g.X.Desks.slots (take l._number l.fn.staff) l.fn.parts l.parts
+    × (l.staff ≡ drop l._number l.fn.staff)
