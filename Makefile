@@ -60,7 +60,7 @@ safety:
 
 # Each target below runs the program by the line of its name. The program is built first where PROGRAM names none.
 LINES = package installs exits clients recipes proxy page restart faults limits memory fuzz day beside many speed first
-LINES += cluster
+LINES += cluster collections
 BUILT = $(or $(PROGRAM),$(SERVER)/out/fmrcd)
 
 .PHONY: $(LINES)
@@ -120,6 +120,9 @@ beside = bench/beside_nginx.sh $(BUILT)
 # The same while 10,000 connections are idle and 1,000 readers are slow. With `WORKERS=1` the targets `clients`, `proxy`
 # and `restart` have one worker a server, so that it holds all their connections.
 many = bench/many_links.sh $(BUILT)
+
+# Serves two collections by one server while files arrive in both, and compares each reply.
+collections = bench/two_collections.sh $(BUILT)
 
 # Measures slabs, editions, the memory of a plan and dear requests, each with its aims.
 speed = bench/speed.sh $(BUILT)

@@ -1,10 +1,10 @@
 #!/bin/sh
-# Writes a view of a file of 500 MB by `extract`, in both versions of the format, five turns each, and says the seconds
+# Writes a view of a file of 500 MB by `extract`, in both versions of the format, eight turns each, and says the seconds
 # of the fastest and the most memory. Beside it stand `cp` of the file, and a small program in C that does what a
 # collection has to: it reads the whole file into memory, and then writes it. The numbers of the view have to be those
 # of the file. It ends with status 0 where they are, memory is at most that of the files and 16 MiB, and `extract` has
 # 0.9 of the speed of the program in C.
-# Use: bench/extract.sh [PROGRAM]; by default the proved program. It takes 1.6 GB of disk. gcc is installed where it is
+# Use: bench/extract.sh [PROGRAM]; by default the proved program. It takes 2.4 GB of disk. gcc is installed where it is
 # missing.
 set -eu
 . "$(dirname "$0")/common.sh"

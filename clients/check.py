@@ -7,6 +7,7 @@ import sys
 import tempfile
 import time
 
+import both
 import known
 import limits
 import netcdf_tools
@@ -149,6 +150,7 @@ def main():
         # ncks leaves files where it runs.
         os.chdir(folder)
         wrong = check_views(program, folder) + check_files(program, folder) + limits.check(program)
+        wrong += both.check(program, folder, WORKERS)
     known.check(program)
     print("%d differ" % len(wrong) if wrong else "each client reads what the files hold")
     sys.exit(1 if wrong else 0)

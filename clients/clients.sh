@@ -3,8 +3,8 @@
 # Python's netCDF4 and xarray. Five files of overlapping runs come into a folder. Each client reads each view: whole
 # variables, slabs, dates and attributes have to be what it reads in the files themselves, where the file and the time
 # of each row are worked out here. The same views are written as files by `extract`, in both versions, and ncdump, CDO
-# and xarray read these. A request over the limit has to fail, and the server has to go on. At the end stands whether
-# what docs/CLIENTS.md says that a client cannot do is still so.
+# and xarray read these. A request over the limit has to fail, and the server has to go on. Two collections of one
+# server are read in turns. At the end stands whether what docs/CLIENTS.md says that a client cannot do is still so.
 # Clients that are missing are installed by apt-get, which asks for root. It ends within four minutes after that, with
 # status 0 where nothing differs.
 # Use: [WORKERS=1] clients/clients.sh [PROGRAM]; by default the proved program, which 'make build' leaves, with 4

@@ -5,6 +5,8 @@ import subprocess
 import time
 
 NAME = "fc"
+# A second collection of one server.
+OTHER = "rest"
 
 
 class Server:
@@ -17,9 +19,12 @@ class Server:
             free.bind(("127.0.0.1", 0))
             self.port = free.getsockname()[1]
         self.base = "http://127.0.0.1:%d/thredds/dodsC/%s/" % (self.port, NAME)
-        line = [program, "serve", "--name", NAME, "--proto", proto, "--listen", "127.0.0.1:%d" % self.port]
-        line += ["--workers", str(workers), "--epoch", "2020-01-01T00:00:00Z", self.inbox]
+        line = [program, *self.words(proto), "--listen", "127.0.0.1:%d" % self.port, "--workers", str(workers)]
         self.process = subprocess.Popen(line, stdout=subprocess.PIPE, stderr=subprocess.STDOUT, text=True)
+
+    def words(self, proto):
+        """The command, and what it serves."""
+        return ["serve", "--name", NAME, "--proto", proto, "--epoch", "2020-01-01T00:00:00Z", self.inbox]
 
     def __enter__(self):
         for _ in range(500):
@@ -42,15 +47,33 @@ class Server:
 
     def bring(self, path):
         """Brings a file into the folder by a rename, and waits until it is published."""
-        name = os.path.basename(path)
-        part = os.path.join(self.inbox, name + ".part")
-        os.link(path, part)
-        os.rename(part, os.path.join(self.inbox, name))
-        for _ in range(2000):
-            if os.path.exists(os.path.join(self.inbox, "done", name)):
-                return
-            for verdict in ("refused", "later"):
-                if os.path.exists(os.path.join(self.inbox, verdict, name)):
-                    raise OSError("%s went to %s" % (name, verdict))
-            time.sleep(0.01)
-        raise OSError("%s has no verdict" % name)
+        bring(path, self.inbox, os.path.basename(path))
+
+
+class Both(Server):
+    """A program that serves two collections over one prototype, each from a folder of its own."""
+
+    def words(self, proto):
+        self.other_inbox = self.inbox + "_" + OTHER
+        os.makedirs(self.other_inbox)
+        self.other_base = "http://127.0.0.1:%d/thredds/dodsC/%s/" % (self.port, OTHER)
+        return ["many", "=".join((NAME, proto, self.inbox)), "=".join((OTHER, proto, self.other_inbox))]
+
+    def bring_other(self, path):
+        """Brings a file of the first collection to the other one, under a name of that one."""
+        bring(path, self.other_inbox, OTHER + os.path.basename(path)[len(NAME):])
+
+
+def bring(path, inbox, name):
+    """Brings a file into a folder by a rename, and waits until it is published."""
+    part = os.path.join(inbox, name + ".part")
+    os.link(path, part)
+    os.rename(part, os.path.join(inbox, name))
+    for _ in range(2000):
+        if os.path.exists(os.path.join(inbox, "done", name)):
+            return
+        for verdict in ("refused", "later"):
+            if os.path.exists(os.path.join(inbox, verdict, name)):
+                raise OSError("%s went to %s" % (name, verdict))
+        time.sleep(0.01)
+    raise OSError("%s has no verdict" % name)

@@ -6,7 +6,7 @@ _fmrcd() {
     local serve="--listen --workers --connections --keep --ticks --quiet"
     COMPREPLY=()
     if [ "$COMP_CWORD" = 1 ]; then
-        mapfile -t COMPREPLY < <(compgen -W "serve once twod extract pull check load --help --version" -- "$word")
+        mapfile -t COMPREPLY < <(compgen -W "serve many once twod extract pull check load --help --version" -- "$word")
         return
     fi
     case $before in
@@ -30,6 +30,7 @@ _fmrcd() {
     [ "$COMP_CWORD" = 2 ] && help=--help
     case ${COMP_WORDS[1]}$word in
         serve-*) mapfile -t COMPREPLY < <(compgen -W "$site $serve $help" -- "$word") ;;
+        many-*) mapfile -t COMPREPLY < <(compgen -W "$serve $help" -- "$word") ;;
         once-*) mapfile -t COMPREPLY < <(compgen -W "$site $help" -- "$word") ;;
         twod-*) mapfile -t COMPREPLY < <(compgen -W "$site --service --ask $help" -- "$word") ;;
         extract-*) mapfile -t COMPREPLY < <(compgen -W "$site --view --ask --format $help" -- "$word") ;;

@@ -78,7 +78,7 @@ once="once --name gfs --proto $sample put:$sample ask:1"
 
 # Texts that are asked for.
 shows "the help" "Usage: fmrcd <COMMAND>" --help
-for command in serve once twod extract pull check load; do
+for command in serve many once twod extract pull check load; do
     shows "the help of $command" "Usage: fmrcd $command" "$command" --help
 done
 version=$(sed -n 's/^## \([0-9][0-9.]*\).*/\1/p' "$top/CHANGELOG.md" | head -n 1)
@@ -92,7 +92,7 @@ run "a sound file" 0 "ok CDF-1 dims 3 vars 4 records 3" "" "$folder/none" check 
 run "a file cut short" 3 "refused $folder/cut.nc code 14" "" "$folder/none" check "$folder/cut.nc"
 run "check without a file" 2 "bad words" "$no_file" "$folder/none" check
 tells "check without a file on a terminal" "$no_file" check
-missing="a command is missing: serve, once, twod, extract, pull, check or load"
+missing="a command is missing: serve, many, once, twod, extract, pull, check or load"
 run "no words" 2 "bad words" "fmrcd: $missing; see 'fmrcd --help'" "$folder/none"
 run "a file that isn't there" 10 "no file $folder/absent" "" "$folder/none" check "$folder/absent"
 run "a file of 512 MiB" 3 "refused $folder/most.nc code 1" "" "$folder/none" check "$folder/most.nc"
@@ -258,6 +258,11 @@ run "a server whose prototype is cut short" 3 "refused $folder/cut.nc code 14" "
     serve --name gfs --proto "$folder/cut.nc" --listen nowhere "$folder/inbox"
 run "a server whose prototype isn't there" 10 "no file $folder/absent" "" "$folder/none" \
     serve --name gfs --proto "$folder/absent" --listen nowhere "$folder/inbox"
+run "a second prototype that isn't there" 10 "no file $folder/absent" "" "$folder/none" \
+    many --listen nowhere "gfs=$sample=$folder/inbox" "wave=$folder/absent=$folder/other"
+run "a second collection whose folder isn't there" 8 "inbox fault 1" \
+    "~Z wave failing $folder/absent: it can't be opened: No such file" "$folder/none" \
+    many --listen 127.0.0.1:0 "gfs=$sample=$folder/inbox" "wave=$sample=$folder/absent"
 no_folder="fmrcd: the following required arguments were not provided: <INBOX>...; see 'fmrcd serve --help'"
 run "serve without a folder" 2 "bad words" "$no_folder" "$folder/none" $serve nowhere
 tells "serve without a folder on a terminal" "$no_folder" $serve nowhere

@@ -1,11 +1,10 @@
 -- The whole structure text is read exactly.
-use Rattle.std.proofs.Common.{◌≡◌, ℕ, zero, suc, ◌+◌, true, List, [], ◌++◌, codes, refl, sym, ap, ap₂, subst, ◌∙◌, append_assoc, append-nil, arith}
+use Rattle.std.proofs.Common.{◌≡◌, ℕ, true, List, [], ◌++◌, codes, refl, sym, ap, ap₂, subst, ◌∙◌, append_assoc, append-nil}
 use Rattle.std.specs.List.{AllByRecursion}
 use Rattle.fm_base.specs.Name.{is_name_byte}
 use Rattle.fm_base.proofs.Exact.{Then, Is, onto}
 use Rattle.dap_model.specs.declared.declaration.Decl.{Decl}
 use Rattle.dap_model.specs.StructureText.{close_text, dds_of, decls_text, indent, line_text}
-use Rattle.dap_client.specs.declared.opening.Opening.TheVariants as openings
 use Rattle.dap_client.specs.Message.{IsDecl, IsWord, is_label_byte}
 use Rattle.dap_client.specs.Reading.{fixed_at, items_at, mark_at, word_at}
 use Rattle.dap_client.specs.TextReading.{dataset_at, decl_at}

@@ -1,5 +1,5 @@
 -- Declarations are read exactly.
-use Rattle.std.proofs.Common.{◌≡◌, ℕ, zero, suc, ◌+◌, true, false, List, [], ◌∷◌, ◌++◌, length, codes, refl, sym, ap, ap₂, subst, ◌∙◌, append_assoc, append-nil, drop, arith}
+use Rattle.std.proofs.Common.{◌≡◌, ℕ, zero, suc, true, false, List, [], ◌∷◌, ◌++◌, length, codes, refl, sym, ap, ap₂, subst, ◌∙◌, append_assoc, append-nil, drop, arith}
 use Rattle.std.specs.List.{AllByRecursion}
 use Rattle.fm_base.proofs.Exact.{Then, Is, onto}
 use Rattle.dap_model.specs.declared.declaration.Array.{Array}

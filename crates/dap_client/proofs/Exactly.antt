@@ -1,6 +1,6 @@
 -- A reader that reads what is spelled and nothing else, and that fails at the greatest offset up to which some text
 -- that is spelled begins so.
-use Rattle.std.proofs.Common.{◌≡◌, ℕ, zero, suc, ◌+◌, ◌≤◌, List, [], ◌++◌, length, Ok, Err, refl, sym, ap, ◌∙◌, length-append, arith}
+use Rattle.std.proofs.Common.{◌≡◌, ℕ, ◌+◌, ◌≤◌, List, [], ◌++◌, length, Ok, Err, refl, sym, ap, ◌∙◌, length-append, arith}
 use Rattle.fm_base.specs.Input.{Input}
 use Rattle.fm_base.specs.Parser.{pure}
 use Rattle.nc_model.specs.Format.{IsBytes}

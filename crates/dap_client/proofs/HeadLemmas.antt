@@ -1,5 +1,5 @@
 -- What was taken for a head, by how that ended.
-use Rattle.std.proofs.Common.{◌≡◌, ℕ, ◌+◌, ◌<◌, ◌≤◌, true, false, List, [], length, take, Option, Some, None, IfSome, refl, sym, ap, subst, ◌∙◌, arith}
+use Rattle.std.proofs.Common.{◌≡◌, ℕ, ◌+◌, ◌<◌, ◌≤◌, true, false, List, [], length, take, Option, Some, None, IfSome, sym, ap, subst, ◌∙◌, arith}
 use Rattle.std.proofs.lemmas.List.{length-drop, length-take}
 use Rattle.dev_traits.specs.Link.{Wire}
 use Rattle.dev_traits.specs.Moved.{IsOver}
@@ -15,7 +15,7 @@ none-begun None = tt
 none-begun (Some w) = no_end-none w.left
 
 -- what was taken is the front of the input
-front_of : (w : Wire) (now : Option Wire) (bytes : List ℕ) → Gathers (Some w) now [] bytes
+pub front_of : (w : Wire) (now : Option Wire) (bytes : List ℕ) → Gathers (Some w) now [] bytes
     → take (length bytes) w.left ≡ bytes
 front_of w now bytes taken = subst (λ (l : List ℕ). take (length l) w.left ≡ l) (sym taken.grown) taken.taken.next
 

@@ -26,6 +26,7 @@ pub mod OneDimension
 pub mod Openings
 pub mod OutcomeLemmas
 pub mod PullLemmas
+pub mod PutLemmas
 pub mod Repeated
 pub mod Rooms
 pub mod RunLemmas

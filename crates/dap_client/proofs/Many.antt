@@ -1,5 +1,5 @@
 -- Items, each behind the mark of one more, are read exactly.
-use Rattle.std.proofs.Common.{◌≡◌, ℕ, zero, suc, ◌+◌, ◌<◌, Bool, true, false, cond, List, [], ◌++◌, length, refl, sym, ap, subst, ◌∙◌, append-nil, length-append, arith}
+use Rattle.std.proofs.Common.{◌≡◌, ℕ, zero, suc, ◌<◌, Bool, true, false, cond, List, [], ◌++◌, length, refl, sym, ap, subst, ◌∙◌, append-nil, length-append, arith}
 use Rattle.fm_base.specs.Parser.{◌>>=◌, pure}
 use Rattle.fm_base.proofs.Exact.{Then, Is, onto}
 use Rattle.fm_base.proofs.Local.{fault_is}

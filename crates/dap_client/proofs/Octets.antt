@@ -1,5 +1,5 @@
 -- A byte as a number is read exactly.
-use Rattle.std.proofs.Common.{◌≡◌, ℕ, zero, suc, ◌-◌, ◌<◌, List, [], ◌∷◌, refl, arith, slice_index}
+use Rattle.std.proofs.Common.{◌≡◌, ℕ, ◌<◌, List, [], ◌∷◌, refl, arith, slice_index}
 use Rattle.dap_client.specs.DataReading.{octet_at}
 use Rattle.dap_client.specs.Reading.{bytes_at}
 use Rattle.dap_client.proofs.Exactly.{ExactTo}

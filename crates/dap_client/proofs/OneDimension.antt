@@ -1,5 +1,5 @@
 -- A dimension is read exactly.
-use Rattle.std.proofs.Common.{◌≡◌, ℕ, zero, suc, ◌+◌, ◌^◌, ◌<◌, ◌≤◌, Bool, true, false, cond, List, [], ◌∷◌, ◌++◌, codes, decimal, refl, sym, ap, ap₂, ◌∙◌, append_assoc, append-nil, drop, arith}
+use Rattle.std.proofs.Common.{◌≡◌, ℕ, ◌^◌, ◌<◌, ◌≤◌, Bool, true, false, cond, List, [], ◌∷◌, ◌++◌, codes, decimal, refl, sym, ap, ap₂, ◌∙◌, append_assoc, append-nil, drop}
 use Rattle.fm_base.specs.Name.{is_name_byte}
 use Rattle.fm_base.proofs.Exact.{Then, Is, onto}
 use Rattle.nc_model.specs.declared.header.Dim.{Dim}

@@ -7,7 +7,7 @@ use Rattle.dev_traits.specs.Link.{Wire}
 use Rattle.dev_traits.specs.Moved.{AreNext, IsOver, moved}
 use Rattle.dev_traits.proofs.MovedLemmas.{moved-more, next-more}
 use Rattle.dap_client.specs.declared.fault.ClientFault.{ClientFault}
-use Rattle.dap_client.specs.declared.fault.ClientFault.TheVariants.{BadData, ReplyEnded}
+use Rattle.dap_client.specs.declared.fault.ClientFault.TheVariants.{BadData, BadHead, ReplyEnded}
 use Rattle.dap_client.specs.declared.fault.PullEnd.{PullEnd}
 use Rattle.dap_client.specs.declared.fault.PullEnd.TheVariants as ends
 use Rattle.dap_client.specs.declared.head.HeadEnd.TheVariants as heads
@@ -16,6 +16,7 @@ use Rattle.dap_client.specs.DataReading.{message_or_fault}
 use Rattle.dap_client.specs.Length.{IsLenAfter}
 use Rattle.dap_client.specs.Pull.{Gathers, IfPulled, IsHeadOf, IsOfLink, IsReadBehind, Pulls, said_of}
 use Rattle.dap_client.specs.Reply.{IsHeadIn, Says, body_taken, len_after, said_behind, said_by}
+use Rattle.dap_client.proofs.HeadLemmas.{front_of}
 
 -- an end of the link is no outcome
 pub unpulled : (end : PullEnd) (P : Result Message ClientFault → Type 0) → IsOfLink end → IfPulled (Err end) P
@@ -30,6 +31,61 @@ pulled_as (Ok message) P Q to said = to (Ok message) said
 pulled_as (Err ends.NoMemory) P Q to said = tt
 pulled_as (Err ends.LinkFault) P Q to said = tt
 pulled_as (Err (ends.Fault fault)) P Q to said = to (Err fault) said
+
+-- what was taken for a head says the outcome
+pub pulls-head : (held now : Option Wire) (head : List ℕ) (outcome : Result Message ClientFault)
+    → Gathers held now [] head → IfSome held (λ wire. Says wire.left (length head) outcome) → Pulls [] held now outcome
+pulls-head held now head outcome taken says =
+    let own : taken.bytes ≡ head = sym taken.grown in
+    record {
+      taken = head;
+      next = subst (λ (l : List ℕ). AreNext l held) own taken.taken.next;
+      now_is = taken.taken.now_is ∙ ap (λ (l : List ℕ). moved l [] held) own;
+      says = says;
+    }
+
+-- the input ends before its head does
+pub says-early : (held : Option Wire) (head : List ℕ) (count : ℕ) → count ≡ length head
+    → IfSome held (λ wire. IsHeadOf head heads.Early wire.left)
+    → IfSome held (λ wire. Says wire.left (length head) (Err (ReplyEnded count)))
+says-early None head count is early = tt
+says-early (Some w) head count is early = inl (record {
+  short = early.2;
+  no_end = early.1;
+  all = early.0;
+  outcome_is = ap (λ (n : ℕ). Err (ReplyEnded n)) (is ∙ early.0);
+})
+
+-- the head is too long
+pub says-long : (held now : Option Wire) (head : List ℕ) → Gathers held now [] head
+    → IfSome held (λ wire. IsHeadOf head heads.Long wire.left)
+    → IfSome held (λ wire. Says wire.left (length head) (Err BadHead))
+says-long None now head taken long = tt
+says-long (Some w) now head taken long = inr (inl (record {
+  long = omega (arith, long.0, ap length (front_of w now head taken), length-take (length head) w.left);
+  no_end = long.1;
+  most = long.0;
+  outcome_is = refl;
+}))
+
+-- the head is whole, and says no length
+pub says-refused : (held now : Option Wire) (head : List ℕ) (fault : ClientFault) → Gathers held now [] head
+    → IfSome held (λ wire. IsHeadOf head heads.Whole wire.left) → IsLenAfter head (Err fault)
+    → IfSome held (λ wire. Says wire.left (length head) (Err fault))
+says-refused None now head fault taken ends after = tt
+says-refused (Some w) now head fault taken ends after =
+    let left = length w.left - length head in
+    let none : 0 ≡ body_taken left (len_after after.head) = ap (body_taken left) after.len_is in
+    inr (inr (record {
+      n = length head;
+      few = ends.1;
+      ends = ends.0;
+      head = after.head;
+      head_is = subst (λ (l : List ℕ). IsHeadIn l after.head) (sym (front_of w now head taken)) after.head_is;
+      count_is = omega (arith, none);
+      outcome_is = ap (λ (r : Result ℕ ClientFault). r >>= said_by (length w.left) (drop (length head) w.left))
+          after.len_is;
+    }))
 
 -- as much of a body as there is, and what it says
 record IsBodyIn (rest : List ℕ) (n len : ℕ) (body : List ℕ) (outcome : Result Message ClientFault) : Type 0 where

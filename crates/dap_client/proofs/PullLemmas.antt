@@ -38,9 +38,9 @@ Gathers-given held now buf old new count given within is grown = record {
 }
 
 -- first these, and then those
-pub Gathers-then : (held between now : Option Wire) (old more new : List ℕ) → Gathers held between old more
+pub Gathers-then : {held between now : Option Wire} {old more new : List ℕ} → Gathers held between old more
     → Gathers between now more new → Gathers held now old new
-Gathers-then held between now old more new first then = record {
+Gathers-then {held} {between} {now} {old} {more} {new} first then = record {
   bytes = first.bytes ++ then.bytes;
   grown = then.grown ∙ ap (λ (l : List ℕ). l ++ then.bytes) first.grown ∙ append_assoc old first.bytes then.bytes;
   taken = record {
@@ -55,8 +55,6 @@ Gathers-then held between now old more new first then = record {
 pub put-taken : (count : ℕ) (held : Option Wire) → put_of (after_take count held) ≡ put_of held
 put-taken count None = refl
 put-taken count (Some w) = refl
-
-pub ruleset gathered = (Gathers-none, Gathers-end, Gathers-given, Gathers-then, put-taken)
 
 -- no head ends before the first byte
 pub no_end-none : (input : List ℕ) → HasNoEnd input 0
@@ -73,5 +71,3 @@ no_end-more input n none e = λ m below. elim (cases_lt n m) [
       subst (λ (k : ℕ). ends_head (take k input) ≡ false) last e
   | inr few ↦ none m few
 ]
-
-pub ruleset heads = (no_end-none, no_end-more)

@@ -1,5 +1,5 @@
 -- The room for the sizes of dimensions, which is divided by each of them, keeps their product within the limit.
-use Rattle.std.proofs.Common.{◌≡◌, ℕ, zero, suc, ◌*◌, ◌/◌, ◌≤◌, List, [], ◌∷◌, refl, arith}
+use Rattle.std.proofs.Common.{◌≡◌, ℕ, ◌*◌, ◌/◌, ◌≤◌, List, [], ◌∷◌, arith}
 use Rattle.std.proofs.Math.Nat.{div-mul-le_self, le-mul_of_pos_right, mul-le-mul_left, mul_comm, one-le-mul}
 use Rattle.std.proofs.lemmas.Nat.{le-div}
 use Rattle.std.specs.List.{AllByRecursion}

@@ -1,12 +1,11 @@
 -- Grids are read exactly, behind the line that opens them.
-use Rattle.std.proofs.Common.{◌≡◌, ℕ, zero, suc, ◌+◌, List, [], ◌++◌, codes, refl, sym, ap₂, ◌∙◌, append_assoc, append-nil, arith}
+use Rattle.std.proofs.Common.{◌≡◌, ℕ, List, [], ◌++◌, codes, refl, sym, ap₂, ◌∙◌, append_assoc, append-nil}
 use Rattle.std.proofs.lemmas.List.{append_cancel_left}
 use Rattle.fm_base.proofs.Exact.{Then, Is, onto}
 use Rattle.dap_model.specs.declared.declaration.Array.{Array}
 use Rattle.dap_model.specs.declared.declaration.Decl.{Decl}
 use Rattle.dap_model.specs.declared.declaration.Decl.TheVariants.{Grid}
 use Rattle.dap_model.specs.StructureText.{array_text, arrays_text, close_text, dims_text, grid_text, indent, kind_text, line_text}
-use Rattle.dap_client.specs.declared.opening.Opening.TheVariants as openings
 use Rattle.dap_client.specs.Message.{IsGrid}
 use Rattle.dap_client.specs.Reading.{fixed_at}
 use Rattle.dap_client.specs.TextReading.{grid_array_at, grid_at, maps_at}

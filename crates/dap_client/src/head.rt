@@ -34,7 +34,6 @@ fn ends_head(bytes: &[u8]) -> bool
 }
 
 // Takes a head byte by byte, so that none behind it is taken.
-#[tactic(auto, using(crate::proofs::PullLemmas::gathered, crate::proofs::PullLemmas::heads))]
 pub(crate) fn take_head<L: Link>(alloc: Global, link: &mut L) -> Result<Head, PullEnd>
     requires blocks { L.blocks }
     ensures taken { IfOk result (λ head.

@@ -63,7 +63,6 @@ fn read_behind<L: Link>(
 }
 
 // The message of the reply that comes.
-#[tactic(auto, using(crate::proofs::PullLemmas::gathered))]
 fn read_reply<L: Link>(alloc: Global, link: &mut L) -> Result<Message, PullEnd>
     requires blocks { L.blocks }
     ensures pulls { IfPulled result (Pulls [] (L.shown link.old).held (L.shown link.new).held) }
@@ -82,7 +81,6 @@ fn read_reply<L: Link>(alloc: Global, link: &mut L) -> Result<Message, PullEnd>
     }
 }
 
-#[tactic(auto, using(crate::proofs::PullLemmas::gathered))]
 /// Asks the peer of a link for a target, and reads the message of its reply. No byte behind the reply is taken.
 ///
 /// The address is 1 to 255 bytes and the target 1 to 8,000, from `!` to `~`; no clause needs it.

@@ -12,7 +12,6 @@ use std::alloc::Global;
 const BUFFER: usize = 65_536;
 
 // Takes some of the next bytes, at most `most`, to the end of `out`, and returns how many. 0 is the end of input.
-#[tactic(auto, using(crate::proofs::PullLemmas::gathered))]
 pub(crate) fn take_some<L: Link>(
     link: &mut L,
     buf: &mut [u8],
@@ -46,7 +45,6 @@ pub(crate) fn take_some<L: Link>(
 }
 
 // Takes a body of this length, or what there is of it where the input ends before.
-#[tactic(auto, using(crate::proofs::PullLemmas::gathered))]
 pub(crate) fn take_body<L: Link>(alloc: Global, link: &mut L, len: u64) -> Result<Bytes, PullEnd>
     requires blocks { L.blocks }
     ensures taken { IfOk result (λ body.

@@ -41,7 +41,7 @@ impl<R: rt::Files + rt::Clock + Drop, T: Tell + Drop> FolderInbox<R, T> {
             Some(error) => self.move_failed(error, now),
             None => {
                 if self.moving.works() {
-                    self.say(Event::Moved);
+                    self.say(Event::plain("working", "all files are moved"));
                 }
             }
         }
@@ -60,7 +60,7 @@ impl<R: rt::Files + rt::Clock + Drop, T: Tell + Drop> FolderInbox<R, T> {
         if self.moving.fails(now)
             && let Some(name) = self.held_back.first(true)
         {
-            self.say(Event::Unmoved(name.as_bytes(), error));
+            self.say(Event::failing(name.as_bytes(), " can't be moved", error));
         }
     }
 
@@ -94,7 +94,7 @@ impl<R: rt::Files + rt::Clock + Drop, T: Tell + Drop> FolderInbox<R, T> {
         self.offer(alloc, offered, now)?;
         self.say_mistaken(mistaken);
         if self.listing.works() {
-            self.say(Event::Listed);
+            self.say(Event::plain("working", "it is listed again"));
         }
         self.see_read();
         Ok(())
@@ -104,7 +104,7 @@ impl<R: rt::Files + rt::Clock + Drop, T: Tell + Drop> FolderInbox<R, T> {
     fn see_read(&mut self) {
         let is_left = !self.batch.is_empty() || self.held_back.first(false).is_some();
         if !is_left && self.reading.works() {
-            self.say(Event::Read);
+            self.say(Event::plain("working", "all files are read"));
         }
     }
 
@@ -114,7 +114,7 @@ impl<R: rt::Files + rt::Clock + Drop, T: Tell + Drop> FolderInbox<R, T> {
         names.sort_unstable();
         for name in names.as_slice() {
             if self.mistaken.as_slice().binary_search(name).is_err() {
-                self.say(Event::Mistaken(name.as_slice()));
+                self.say(Event::passed_over(name.as_slice(), " isn't offered"));
             }
         }
         drop(replace(&mut self.mistaken, names));
@@ -135,7 +135,7 @@ impl<R: rt::Files + rt::Clock + Drop, T: Tell + Drop> FolderInbox<R, T> {
     // What arrives where it isn't known what lies in the folder.
     pub(crate) fn unlisted(&mut self, error: Error) -> Arrival {
         if self.listing.fails(present(&self.mover.rt)) {
-            self.say(Event::Unlisted(error));
+            self.say(Event::failing(b"", "it can't be listed", error));
         }
         self.rest()
     }

@@ -33,7 +33,11 @@ pub(crate) fn bound_at<'a>(bound: &'a [Bound], address: &[u8]) -> Option<&'a Tcp
 
 // Tells why a folder or an address can't be opened, and returns why the call failed.
 pub(crate) fn unopened<T: Tell>(tell: &T, place: &str, error: Error) -> Fail<Failed> {
-    tell_of(tell, place, Event::Unopened(error));
+    tell_of(
+        tell,
+        place,
+        Event::failing(b"", "it can't be opened", error),
+    );
     fail_of(&error)
 }
 

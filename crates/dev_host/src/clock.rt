@@ -101,7 +101,8 @@ impl<R: rt::Clock + Drop, T: Tell + Drop> RealClock<R, T> {
             Ok(moment) => Some(moment),
             Err(error) => {
                 if let Some(tell) = &self.tell {
-                    tell_of(tell, "clock", Event::Unclocked(error));
+                    let text = "it can't be read, and no run goes any more";
+                    tell_of(tell, "clock", Event::failing(b"", text, error));
                 }
                 None
             }

@@ -74,9 +74,19 @@ fn connect<R: Net<Listener = TcpListener, Stream = TcpStream>>(
     patience: Duration,
 ) -> io::Result<TcpStream> {
     let stream = connect_any(rt, address, patience)?;
+    match set_patience(&stream, patience) {
+        Ok(()) => Ok(stream),
+        Err(error) => {
+            drop(stream);
+            Err(error)
+        }
+    }
+}
+
+// Has the calls of a socket wait only so long.
+fn set_patience(stream: &TcpStream, patience: Duration) -> io::Result<()> {
     stream.set_read_timeout(Some(patience))?;
-    stream.set_write_timeout(Some(patience))?;
-    Ok(stream)
+    stream.set_write_timeout(Some(patience))
 }
 
 // A socket to the first peer that can be reached of those that an address means.

@@ -100,8 +100,12 @@ impl<L: Listener + Drop> Entry<L> {
         ensures { self.new.listener ≡ self.old.listener }
     {
         match self.news.take() {
-            Some(News::Accepted) => Some(Event::Accepted),
-            Some(News::Unaccepted(error)) => Some(Event::Unaccepted(error)),
+            Some(News::Accepted) => Some(Event::plain("working", "connections are taken again")),
+            Some(News::Unaccepted(error)) => Some(Event::failing(
+                b"",
+                "no connection can be taken",
+                error,
+            )),
             None => None,
         }
     }

@@ -112,7 +112,7 @@ impl<R: rt::Files + rt::Clock + Drop, T: Tell + Drop> FolderInbox<R, T> {
             return Err(Fail::NoMemory);
         }
         if self.reading.fails(present(&self.mover.rt)) {
-            self.say(Event::Unread(name, error));
+            self.say(Event::failing(name, " can't be read", error));
         }
         Ok(Found::Absent)
     }
@@ -152,7 +152,11 @@ fn prepared<R: rt::Files, T: Tell>(
         return Err(Fail::Fault(Failed));
     };
     if let Err(error) = prepare(rt, alloc, folder) {
-        tell_of(tell, folder, Event::Unopened(error));
+        tell_of(
+            tell,
+            folder,
+            Event::failing(b"", "it can't be opened", error),
+        );
         return Err(fail_of(&error));
     }
     Ok(String::from_str(alloc, folder)?)
@@ -192,7 +196,7 @@ impl<R: rt::Files + rt::Clock + Drop + Send, T: Tell + Drop + Send> Inbox for Fo
         ) {
             Ok(read) => {
                 if read.is_relative {
-                    self.say(Event::Relative(name));
+                    self.say(Event::passed_over(name, " is a relative link"));
                 }
                 Ok(read.found)
             }

@@ -5,91 +5,47 @@ use crate::telling::{Line, Tell};
 use std::fmt::Write;
 use std::io::Error;
 
-// What became of a folder, an address or a clock. Names are those of files, and need not be text.
+// What became of a folder, an address or a clock, or of a file in a folder.
 #[derive(Clone, Copy)]
-pub(crate) enum Event<'a> {
-    // It couldn't be opened.
-    Unopened(Error),
-    // Another server takes in what comes to the folder.
-    InUse,
-    // No lock could be had, so no other server is kept from the folder.
-    Unlocked(Error),
-    // It isn't known what lies in the folder.
-    Unlisted(Error),
-    // It is known again.
-    Listed,
-    // A file that got its verdict couldn't be moved.
-    Unmoved(&'a [u8], Error),
-    // No file is left that couldn't be moved.
-    Moved,
-    // A file couldn't be read.
-    Unread(&'a [u8], Error),
-    // No file is left that couldn't be read.
-    Read,
-    // A relative link would be broken where it is moved.
-    Relative(&'a [u8]),
-    // A name isn't offered that looks as if it should be.
-    Mistaken(&'a [u8]),
-    // The system lacks something for a connection that waits.
-    Unaccepted(Error),
-    // Connections are taken again.
-    Accepted,
-    // The clock can't be read, and has ended.
-    Unclocked(Error),
+pub(crate) struct Event<'a> {
+    // how its line begins
+    word: &'a str,
+    // The name of the file, which need not be text.
+    name: &'a [u8],
+    // what the line says
+    text: &'a str,
+    // the error of the system that it is about
+    error: Option<Error>,
 }
 
 impl<'a> Event<'a> {
-    // How its line begins.
-    fn word(self) -> &'static str {
-        match self {
-            Event::Listed | Event::Moved | Event::Read | Event::Accepted => "working",
-            Event::Relative(_) | Event::Mistaken(_) => "passed over",
-            _ => "failing",
+    // A place fails, or the file of a name in it, for an error of the system.
+    pub fn failing(name: &'a [u8], text: &'a str, error: Error) -> Event<'a> {
+        Event {
+            word: "failing",
+            name,
+            text,
+            error: Some(error),
         }
     }
 
-    // The name of which it says something.
-    fn name(self) -> &'a [u8] {
-        match self {
-            Event::Unmoved(name, _)
-            | Event::Unread(name, _)
-            | Event::Relative(name)
-            | Event::Mistaken(name) => name,
-            _ => b"",
+    // A place works again, or fails with no error of the system.
+    pub fn plain(word: &'a str, text: &'a str) -> Event<'a> {
+        Event {
+            word,
+            name: b"",
+            text,
+            error: None,
         }
     }
 
-    // What it says.
-    fn text(self) -> &'static str {
-        match self {
-            Event::Unopened(_) => "it can't be opened",
-            Event::InUse => "the folder is in use",
-            Event::Unlocked(_) => "it can't be locked",
-            Event::Unlisted(_) => "it can't be listed",
-            Event::Listed => "it is listed again",
-            Event::Unmoved(_, _) => " can't be moved",
-            Event::Moved => "all files are moved",
-            Event::Unread(_, _) => " can't be read",
-            Event::Read => "all files are read",
-            Event::Relative(_) => " is a relative link",
-            Event::Mistaken(_) => " isn't offered",
-            Event::Unaccepted(_) => "no connection can be taken",
-            Event::Accepted => "connections are taken again",
-            Event::Unclocked(_) => "it can't be read, and no run goes any more",
-        }
-    }
-
-    // The error of the system that it is about.
-    fn error(self) -> Option<Error> {
-        match self {
-            Event::Unopened(error)
-            | Event::Unlocked(error)
-            | Event::Unlisted(error)
-            | Event::Unaccepted(error)
-            | Event::Unclocked(error)
-            | Event::Unmoved(_, error)
-            | Event::Unread(_, error) => Some(error),
-            _ => None,
+    // A name in a folder isn't taken in.
+    pub fn passed_over(name: &'a [u8], text: &'a str) -> Event<'a> {
+        Event {
+            word: "passed over",
+            name,
+            text,
+            error: None,
         }
     }
 }
@@ -118,15 +74,16 @@ impl<T: Tell + Drop> Voice<T> {
     }
 }
 
+const BLANK: &[u8] = b" ";
+
+const COLON: &[u8] = b": ";
+
 // Puts what became of a folder, an address or a clock.
 fn put_event(line: &mut Line, place: &str, event: Event<'_>) {
-    line.put(event.word().as_bytes());
-    line.put(b" ");
-    line.put(place.as_bytes());
-    line.put(b": ");
-    put_name(line, event.name());
-    line.put(event.text().as_bytes());
-    if let Some(error) = event.error() {
+    line.put_parts(&[event.word.as_bytes(), BLANK, place.as_bytes(), COLON]);
+    put_name(line, event.name);
+    line.put(event.text.as_bytes());
+    if let Some(error) = event.error {
         let _put = write!(line, ": {error}");
     }
 }
@@ -159,9 +116,7 @@ pub fn tell_with_room<T: Tell>(tell: &T, line: &[&[u8]], room: Option<u64>) {
         return;
     };
     let mut text = Line::new();
-    for part in line {
-        text.put(*part);
-    }
+    text.put_parts(line);
     let _put = write!(text, ", room for {count} connections");
     tell.tell(&[text.as_slice()]);
 }

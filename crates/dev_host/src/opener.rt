@@ -3,6 +3,7 @@ ghost use Rattle.std.specs.Prelude.{◌≡◌, None, IfOk};
 
 use crate::bound::{Bound, bind, bound_at, shared, unopened};
 use crate::clock::RealClock;
+use crate::collections::Collections;
 use crate::descriptors::connections_left;
 use crate::dial::TcpDial;
 use crate::door::TcpDoor;
@@ -13,7 +14,7 @@ use crate::notice::{Event, Voice, tell_of, tell_with_room};
 use crate::paths::folder_path;
 use crate::patience::Patience;
 use crate::stops::Stops;
-use crate::telling::Tell;
+use crate::telling::Teller;
 use dev_std::{RealFiles, StdLink, StdSink};
 use dev_traits::{Door, Failed, Inbox, Machine, OpenGate};
 use fm_base::{Bytes, Fail, List, NoMemory};
@@ -30,9 +31,11 @@ const INTERVAL: u64 = 60;
 /// Opens doors at sockets, inboxes of folders and the machine's clock. Doors that are opened at the same address share
 /// one socket, and a folder is opened by one opener of the machine at a time. It tells why what can't be opened can't.
 #[derive(Drop)]
-pub struct RealOpener<R: rt::Files + Drop, T: Drop> {
+pub struct RealOpener<R: rt::Files + Drop> {
     rt: R,
-    tell: T,
+    tell: Teller<R>,
+    // whose inboxes and clocks are opened
+    collections: Collections,
     bound: List<Bound>,
     // the folders of the inboxes, which are locked
     locked: Vec<R::File>,
@@ -41,14 +44,13 @@ pub struct RealOpener<R: rt::Files + Drop, T: Drop> {
     faults: u64,
 }
 
-impl<R, T> RealOpener<R, T>
+impl<R> RealOpener<R>
 where
     R: rt::Files + rt::Clock + Net + AllocGlobal + Clone + Drop,
     R::File: Lockable,
-    T: Tell + Clone + Drop,
 {
-    /// What opens by this runtime. Nothing is open, and no call has failed.
-    pub fn new(rt: R, tell: T) -> RealOpener<R, T>
+    /// What opens by this runtime, for these collections. Nothing is open, and no call has failed.
+    pub fn new(rt: R, tell: Teller<R>, collections: Collections) -> RealOpener<R>
         ensures { result.faults ≡ 0 }
     {
         let bound = List::new(rt.alloc());
@@ -56,6 +58,7 @@ where
         RealOpener {
             rt,
             tell,
+            collections,
             bound,
             locked,
             stops: None,
@@ -69,7 +72,7 @@ where
         alloc: Global,
         address: &[u8],
         connections: u32,
-    ) -> Result<TcpDoor<R, T>, Fail<Failed>>
+    ) -> Result<TcpDoor<R, Teller<R>>, Fail<Failed>>
         ensures faults { self.new.faults ≡ self.old.faults }
         ensures fresh { IfOk result (λ door. door.faults ≡ 0) }
         ensures patience { IfOk result (λ door. door.patience ≡ record { idle = 30_000; grace = 60_000 }) }
@@ -90,7 +93,7 @@ where
         alloc: Global,
         address: &[u8],
         connections: u32,
-    ) -> Result<TcpDoor<R, T>, Fail<Failed>>
+    ) -> Result<TcpDoor<R, Teller<R>>, Fail<Failed>>
         ensures faults { self.new.faults ≡ self.old.faults }
         ensures fresh { IfOk result (λ door. door.faults ≡ 0) }
         ensures patience { IfOk result (λ door. door.patience ≡ record { idle = 30_000; grace = 60_000 }) }
@@ -105,7 +108,11 @@ where
     }
 
     // What tells of the first door at an address. The system lacks what it lacks for all of them.
-    fn voice_at(&self, alloc: Global, address: &[u8]) -> Result<Option<Voice<T>>, NoMemory> {
+    fn voice_at(
+        &self,
+        alloc: Global,
+        address: &[u8],
+    ) -> Result<Option<Voice<Teller<R>>>, NoMemory> {
         if bound_at(self.bound.as_slice(), address).is_some() {
             return Ok(None);
         }
@@ -142,26 +149,39 @@ where
 
     // Locks a folder, so that no other server takes in what comes to it. Where the system has no lock for it, that is
     // said, and the folder is taken without one.
-    fn lock(&mut self, alloc: Global, folder: &str) -> Result<(), Fail<Failed>>
+    fn lock(&mut self, alloc: Global, tell: &Teller<R>, folder: &str) -> Result<(), Fail<Failed>>
         ensures { self.new.faults ≡ self.old.faults }
     {
         match open_folder(&self.rt, alloc, folder) {
-            Ok(opened) => self.lock_open(folder, opened),
-            Err(error) => Err(unopened(&self.tell, folder, error)),
+            Ok(opened) => self.lock_open(tell, folder, opened),
+            Err(error) => Err(unopened(tell, folder, error)),
         }
     }
 
     // The same of a folder that is open.
-    fn lock_open(&mut self, folder: &str, opened: R::File) -> Result<(), Fail<Failed>>
+    fn lock_open(
+        &mut self,
+        tell: &Teller<R>,
+        folder: &str,
+        opened: R::File,
+    ) -> Result<(), Fail<Failed>>
         ensures { self.new.faults ≡ self.old.faults }
     {
         match opened.lock_now() {
             Ok(true) => self.locked.push(opened)?,
             Ok(false) => {
-                tell_of(&self.tell, folder, Event::InUse);
+                tell_of(
+                    tell,
+                    folder,
+                    Event::plain("failing", "the folder is in use"),
+                );
                 return Err(Fail::Fault(Failed));
             }
-            Err(error) => tell_of(&self.tell, folder, Event::Unlocked(error)),
+            Err(error) => tell_of(
+                tell,
+                folder,
+                Event::failing(b"", "it can't be locked", error),
+            ),
         }
         Ok(())
     }
@@ -195,35 +215,52 @@ where
         Ok((rt, stops))
     }
 
+    // Locks the folder of an inbox. Returns what the inbox has for its own.
+    fn locked_parts(
+        &mut self,
+        alloc: Global,
+        tell: &Teller<R>,
+        folder: &str,
+    ) -> Result<(R, Stops), Fail<Failed>>
+        ensures { self.new.faults ≡ self.old.faults }
+    {
+        self.lock(alloc, tell, folder)?;
+        Ok(self.own_parts(alloc)?)
+    }
+
     // The inbox of a folder.
     fn open_inbox(
         &mut self,
         alloc: Global,
         folder: &[u8],
-    ) -> Result<FolderInbox<R, T>, Fail<Failed>>
+    ) -> Result<FolderInbox<R, Teller<R>>, Fail<Failed>>
         ensures { self.new.faults ≡ self.old.faults }
     {
         let Ok(path) = str::from_utf8(folder) else {
             return Err(Fail::Fault(Failed));
         };
-        self.lock(alloc, path)?;
-        let tell = self.tell.clone()?;
-        let (rt, stops) = self.own_parts(alloc)?;
-        FolderInbox::open(rt, tell, stops, alloc, folder)
+        let prefix = self.collections.next_inbox();
+        let tell = self.tell.about(prefix)?;
+        match self.locked_parts(alloc, &tell, path) {
+            Ok((rt, stops)) => FolderInbox::open(rt, tell, stops, alloc, folder),
+            Err(fail) => {
+                drop(tell);
+                Err(fail)
+            }
+        }
     }
 }
 
-impl<R, T> Machine for RealOpener<R, T>
+impl<R> Machine for RealOpener<R>
 where
     R: rt::Files + rt::Clock + Net + AllocGlobal + Clone + Drop + Send,
     R::File: Lockable,
-    T: Tell + Clone + Drop + Send,
 {
-    type D = TcpDoor<R, T>;
+    type D = TcpDoor<R, Teller<R>>;
 
-    type I = FolderInbox<R, T>;
+    type I = FolderInbox<R, Teller<R>>;
 
-    type C = RealClock<R, T>;
+    type C = RealClock<R, Teller<R>>;
 
     type F = RealFiles<R>;
 
@@ -246,21 +283,26 @@ where
         alloc: Global,
         address: &[u8],
         connections: u32,
-    ) -> Result<TcpDoor<R, T>, Fail<Failed>> {
+    ) -> Result<TcpDoor<R, Teller<R>>, Fail<Failed>> {
         let door = self.open_door(alloc, address, connections);
         counted_fault(&mut self.faults, door)
     }
 
-    fn inbox(&mut self, alloc: Global, folder: &[u8]) -> Result<FolderInbox<R, T>, Fail<Failed>> {
+    fn inbox(
+        &mut self,
+        alloc: Global,
+        folder: &[u8],
+    ) -> Result<FolderInbox<R, Teller<R>>, Fail<Failed>> {
         let inbox = self.open_inbox(alloc, folder);
         counted_fault(&mut self.faults, inbox)
     }
 
-    fn clock(&mut self, ticks: u32) -> RealClock<R, T> {
+    fn clock(&mut self, ticks: u32) -> RealClock<R, Teller<R>> {
         let interval = Duration::from_secs(INTERVAL);
+        let prefix = self.collections.next_clock();
         let clock = RealClock::of(
             self.rt.clone().ok(),
-            self.tell.clone().ok(),
+            self.tell.about(prefix).ok(),
             ticks,
             interval,
         );

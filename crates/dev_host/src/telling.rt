@@ -1,9 +1,11 @@
 //! Lines for who looks after a server.
 ghost use Rattle.std.specs.Prelude.{◌≤◌};
 
+use crate::collections::Prefix;
 use jiff_core::civil::Date;
 use mio::unix::SourceFd;
 use mio::{Events, Interest, Poll, Token};
+use std::alloc::AllocError;
 use std::fmt::{self, Write};
 use std::io::{self, Print, Stderr};
 use std::net::Net;
@@ -57,6 +59,13 @@ impl Line {
         }
     }
 
+    // Puts some parts.
+    pub fn put_parts(&mut self, parts: &[&[u8]]) {
+        for part in parts {
+            self.put(*part);
+        }
+    }
+
     // Puts the end.
     fn end(&mut self) {
         if self.is_cut {
@@ -86,13 +95,14 @@ pub trait Tell {
     fn tell(&self, line: &[&[u8]]);
 }
 
-/// Lines on standard error, each behind the time in UTC. A line is lost where standard error takes none at once, as a
-/// full pipe.
+/// Lines on standard error, each behind the time in UTC, and behind the name of the collection that it is about where
+/// there are several. A line is lost where standard error takes none at once, as a full pipe.
 #[derive(Clone, Drop)]
 pub struct Teller<R> {
     rt: R,
     errors: Stderr,
     is_quiet: bool,
+    prefix: Prefix,
 }
 
 impl<R: rt::Clock + Net + AllocGlobal> Teller<R> {
@@ -102,7 +112,17 @@ impl<R: rt::Clock + Net + AllocGlobal> Teller<R> {
             rt,
             errors,
             is_quiet,
+            prefix: Prefix::none(),
         }
+    }
+}
+
+impl<R: Clone + Drop> Teller<R> {
+    // The same, whose lines are about a collection.
+    pub(crate) fn about(&self, prefix: Prefix) -> Result<Teller<R>, AllocError> {
+        let mut tell = self.clone()?;
+        tell.prefix = prefix;
+        Ok(tell)
     }
 }
 
@@ -113,9 +133,8 @@ impl<R: rt::Clock + Net + AllocGlobal> Tell for Teller<R> {
         }
         let mut text = Line::new();
         put_time(&self.rt, &mut text);
-        for part in line {
-            text.put(*part);
-        }
+        text.put(self.prefix.as_slice());
+        text.put_parts(line);
         text.end();
         if !takes_now(&self.rt) {
             return;

@@ -69,11 +69,18 @@ pub(crate) struct Watch {
 
 impl Watch {
     pub fn new(net: &impl Net, alloc: Global) -> io::Result<Watch> {
-        Ok(Watch {
-            poll: Poll::new(net)?,
-            events: Events::with_capacity(alloc, MOST_EVENTS)?,
-            told: 0,
-        })
+        let events = Events::with_capacity(alloc, MOST_EVENTS)?;
+        match Poll::new(net) {
+            Ok(poll) => Ok(Watch {
+                poll,
+                events,
+                told: 0,
+            }),
+            Err(error) => {
+                drop(events);
+                Err(error)
+            }
+        }
     }
 
     // Watches a source from now on.

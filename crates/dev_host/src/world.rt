@@ -2,6 +2,7 @@
 ghost use Rattle.std.specs.Prelude.{◌≡◌, []};
 ghost use Rattle.dev_std.specs.Process.{is_errors, names_sender};
 
+use crate::collections::Collections;
 use crate::dial::TcpDial;
 use crate::opener::RealOpener;
 use crate::telling::Teller;
@@ -14,7 +15,7 @@ use std::time::Duration;
 const PATIENCE: u64 = 30;
 
 /// What opens the machine's sockets, folders and clock.
-pub type HostOpener = RealOpener<HostRuntime, Teller<HostRuntime>>;
+pub type HostOpener = RealOpener<HostRuntime>;
 
 /// The world of a process: the machine's sockets, folders, clock and files, and the standard streams.
 pub type HostWorld = World<HostOpener>;
@@ -34,7 +35,7 @@ pub fn host_world(rt: HostRuntime, words: &List<Bytes>) -> HostWorld
     ensures stream { is_errors result.sink.output ≡ names_sender words.now }
 {
     World {
-        opener: RealOpener::new(rt, Teller::new(rt, rt.stderr(), is_quiet(words.as_slice()))),
+        opener: opener_of(rt, words.as_slice()),
         devices: Devices::none(rt.alloc()),
         files: RealFiles::new(rt),
         link: StdLink::new(rt.stdin(), rt.stdout()),
@@ -42,6 +43,14 @@ pub fn host_world(rt: HostRuntime, words: &List<Bytes>) -> HostWorld
         gate: OpenGate,
         dial: TcpDial::new(rt, Duration::from_secs(PATIENCE)),
     }
+}
+
+// What opens the machine's devices for a run with these words.
+fn opener_of(rt: HostRuntime, words: &[Bytes]) -> HostOpener
+    ensures { (⟦<HostOpener as Machine>⟧.shown result).faults ≡ 0 }
+{
+    let tell = Teller::new(rt, rt.stderr(), is_quiet(words));
+    RealOpener::new(rt, tell, Collections::of_words(words))
 }
 
 // Whether the words of a server ask it to leave its lines out: `--quiet` stands before any `--`. No value is such a

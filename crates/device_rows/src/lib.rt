@@ -13,6 +13,7 @@ mod limited;
 mod linked;
 mod listed;
 mod machine;
+mod prefixed;
 mod turned;
 mod turns;
 
@@ -54,6 +55,7 @@ fn put_answer(
             "wheel" => keyed::put_wheel(alloc, row, out),
             "limits" => Ok(limited::put_limits(row, out)),
             "line" => Ok(limited::put_line(alloc, row, out)),
+            "collections" => prefixed::put_collections(alloc, row, out),
             "ticks" => clocked::put_moments(alloc, row, out),
             "names" => listed::put_names(rt, alloc, row, out),
             "folder" => foldered::put_folder(rt, alloc, row, out),

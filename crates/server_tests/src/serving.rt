@@ -1,5 +1,5 @@
-//! Runs of `serve` whose workers wait for each other, and runs of `once` over links that are cut or fail at every
-//! offset in turn. Several collections at one link. Memory is ample.
+//! Runs of `serve` and `many` whose workers wait for each other, and runs of `once` over links that are cut or fail at
+//! every offset in turn. Memory is ample.
 
 mod arriving;
 mod course;

@@ -18,8 +18,10 @@ pub mod TakenIn
 pub mod TakenLemmas
 pub mod UsedLemmas
 pub mod UsedUpLemmas
+pub mod UsedUpManyLemmas
 pub mod VerdictLemmas
 pub mod WellServedLemmas
 pub mod WellUsedLemmas
 pub mod WorkedLemmas
+pub mod WorkedManyLemmas
 pub mod WroteLemmas

@@ -1,23 +1,26 @@
 -- What a run of a job says, and which devices it leaves alone.
-use Rattle.std.proofs.Common.{◌≡◌, ◌≢◌, ◌⊎◌, inl, inr, ℕ, List, [], Option, Some, None, Result, Ok, Err, refl, sym, ap, subst, ◌∙◌, arith}
+use Rattle.std.proofs.Common.{◌≡◌, ◌≢◌, ◌⊎◌, inl, inr, ℕ, List, [], length, slice_get, IsSomeAnd, Option, Some, None, Result, Ok, Err, refl, sym, ap, subst, ◌∙◌, arith}
 use Rattle.nc_model.specs.declared.header.Header.{Header}
 use Rattle.dev_traits.specs.Shown.{SinkShown}
 use Rattle.dap_client.specs.declared.fault.PullEnd.{PullEnd}
 use Rattle.dap_client.specs.declared.message.Message.{Message}
 use Rattle.srv_words.specs.declared.job.Job.{Job}
-use Rattle.srv_words.specs.declared.job.Job.TheVariants.{Once, Twod, Extract, Pull, Check, Load, Serve}
+use Rattle.srv_words.specs.declared.job.Job.TheVariants.{Once, Twod, Extract, Pull, Check, Load, Serve, Many}
 use Rattle.srv_words.specs.declared.job.Serving.{Serving}
+use Rattle.srv_words.specs.declared.job.ServingMany.{ServingMany}
+use Rattle.srv_words.specs.declared.job.Spec.{Spec}
 use Rattle.srv_words.specs.declared.job.Stepping.{Stepping}
-use Rattle.srv_workers.specs.declared.outcome.Outcome.{Outcome}
 use Rattle.srv_alone.specs.declared.end.End.{End}
 use Rattle.srv_alone.specs.declared.end.End.TheVariants.{Done, BadWords, NoMemory, SinkFault}
 use Rattle.srv_alone.specs.Check.{EndsCheck}
-use Rattle.srv_serve.specs.Closing.{EndsServing, first_end}
+use Rattle.srv_serve.specs.Closing.{EndsWith, first_end, first_end_of, serve_line}
 use Rattle.srv_alone.specs.Load.{EndsLoad}
 use Rattle.srv_alone.specs.Report.{Reports, Said, status_of}
 use Rattle.srv_pull.specs.Pull.{Says, end_of}
-use Rattle.srv_run.specs.Run.{DoesJob, LacksMemory, Runs, UsesDialer, UsesFiles, UsesLink}
-use Rattle.srv_serve.specs.Serve.{EndsUnopened, GoesOn, ServesDevices}
+use Rattle.srv_run.specs.Run.{DoesJob, Runs, UsesDialer, UsesFiles, UsesLink}
+use Rattle.srv_serve.specs.Lines.{many_lines}
+use Rattle.srv_serve.specs.Many as many
+use Rattle.srv_serve.specs.Serve.{EndsUnopened, GoesOn}
 use Rattle.srv_serve.specs.Stage.{LeavesDialer, Shows, Stage}
 
 -- a line of what was done is no line of another status
@@ -43,13 +46,13 @@ said-load seed files SinkFault status sink sink' is done cut ends = not_cut Sink
 said-load seed files NoMemory status sink sink' is done cut ends = (NoMemory, [], is, ends)
 said-load seed files end status sink sink' is done cut ends = absurd ends
 
-said-served : (outcome : Outcome) (found : Option End) (end : End) (status : ℕ) (sink sink' : SinkShown)
-    → status ≡ status_of end → status ≢ 0 → status ≢ 7 → EndsServing outcome found end sink sink'
+said-served : (text : List ℕ) (found : Option End) (end : End) (status : ℕ) (sink sink' : SinkShown)
+    → status ≡ status_of end → status ≢ 0 → status ≢ 7 → EndsWith text found end sink sink'
     → Said status sink sink'
-said-served outcome None Done status sink sink' is done cut ends = not_done Done status is refl done
-said-served outcome None SinkFault status sink sink' is done cut ends = not_cut SinkFault status is refl cut
-said-served outcome None end status sink sink' is done cut ends = absurd ends
-said-served outcome (Some found) end status sink sink' is done cut ends =
+said-served text None Done status sink sink' is done cut ends = not_done Done status is refl done
+said-served text None SinkFault status sink sink' is done cut ends = not_cut SinkFault status is refl cut
+said-served text None end status sink sink' is done cut ends = absurd ends
+said-served text (Some found) end status sink sink' is done cut ends =
     (found, [], is ∙ ap status_of ends.0, ends.1)
 
 said-on : {D I C L : Type 0} (show : Shows D I C L) (serving : Serving) (end : End) (status : ℕ)
@@ -59,8 +62,28 @@ said-on : {D I C L : Type 0} (show : Shows D I C L) (serving : Serving) (end : E
 said-on show serving end status stage stage' is done cut (inl ends) = (end, serving.proto, is, ends.reports)
 said-on show serving end status stage stage' is done cut (inr on) = elim on.serves [
   | inl unserved ↦ (end, [], is, unserved.reports)
-  | inr served ↦ said-served served.outcome (first_end served.outcome) end status stage.outside.sink
+  | inr served ↦ said-served (serve_line served.outcome) (first_end served.outcome) end status stage.outside.sink
       stage'.outside.sink is done cut served.ends
+]
+
+said-at : {D I C : Type 0} (end : End) (status : ℕ) (stage stage' : Stage D I C) (found : Option Spec)
+    → status ≡ status_of end → IsSomeAnd found (λ spec. many.EndsAtSpec spec stage stage' end)
+    → Said status stage.outside.sink stage'.outside.sink
+said-at end status stage stage' (Some spec) is at = (end, spec.proto, is, at.reports)
+said-at end status stage stage' None is at = absurd at
+
+said-many : {D I C L : Type 0} (show : Shows D I C L) (serving : ServingMany) (end : End) (status : ℕ)
+    (stage stage' : Stage D I C) → status ≡ status_of end → status ≢ 0 → status ≢ 7
+    → many.EndsUnopened serving stage stage' end ⊎ many.GoesOn show serving stage stage' end
+    → Said status stage.outside.sink stage'.outside.sink
+said-many show serving end status stage stage' is done cut (inl ends) =
+    said-at end status stage stage' (slice_get serving.specs (length ends.protos)) is ends.at
+said-many show serving end status stage stage' is done cut (inr on) = elim on.serves [
+  | inl unserved ↦ (end, [], is, unserved.reports)
+  | inr served ↦
+      let them = served.outcomes in
+      said-served (many_lines serving.specs them) (first_end_of them.doors them.inboxes them.clocks) end status
+      stage.outside.sink stage'.outside.sink is done cut served.ends
 ]
 
 said-pulled : (pulled : Result Message PullEnd) (end : End) (status : ℕ) (sink sink' : SinkShown)
@@ -90,7 +113,8 @@ said-job show (Some (Load seed files)) end status stage stage' is done cut does 
     said-load seed files end status stage.outside.sink stage'.outside.sink is done cut does.0.ends
 said-job show (Some (Serve serving)) end status stage stage' is done cut does =
     said-on show serving end status stage stage' is done cut does.runs
-said-job show (Some job) end status stage stage' is done cut does = absurd does
+said-job show (Some (Many serving)) end status stage stage' is done cut does =
+    said-many show serving end status stage stage' is done cut does.runs
 
 -- a run whose status is neither 0 nor 7
 pub said : {D I C L : Type 0} (show : Shows D I C L) (job : Option Job) (status : ℕ) (stage stage' : Stage D I C)
@@ -131,7 +155,7 @@ unused-job show (Some (Pull address target)) end stage stage' does none = does.0
 unused-job show (Some (Check path)) end stage stage' does none = does.0.unused
 unused-job show (Some (Load seed files)) end stage stage' does none = does.0.unused
 unused-job show (Some (Serve serving)) end stage stage' does none = does.unused
-unused-job show (Some job) end stage stage' does none = absurd does
+unused-job show (Some (Many serving)) end stage stage' does none = does.unused
 
 pub unused : {D I C L : Type 0} (show : Shows D I C L) (job : Option Job) (status : ℕ) (stage stage' : Stage D I C)
     → Runs show job status stage stage' → (UsesLink job → ⊥) → stage'.outside.link ≡ stage.outside.link
@@ -150,7 +174,7 @@ unread-job show (Some (Extract stepping view constraint version)) end stage stag
 unread-job show (Some (Pull address target)) end stage stage' does none = does.0.unread
 unread-job show (Some (Check path)) end stage stage' does none = absurd (none tt)
 unread-job show (Some (Serve serving)) end stage stage' does none = absurd (none tt)
-unread-job show (Some job) end stage stage' does none = absurd does
+unread-job show (Some (Many serving)) end stage stage' does none = absurd (none tt)
 
 pub unread : {D I C L : Type 0} (show : Shows D I C L) (job : Option Job) (status : ℕ) (stage stage' : Stage D I C)
     → Runs show job status stage stage' → (UsesFiles job → ⊥) → stage'.outside.files ≡ stage.outside.files
@@ -169,7 +193,7 @@ undialled-job show (Some (Pull address target)) end stage stage' does none = abs
 undialled-job show (Some (Check path)) end stage stage' does none = does.1.1
 undialled-job show (Some (Load seed files)) end stage stage' does none = does.1.1
 undialled-job show (Some (Serve serving)) end stage stage' does none = does.undialled
-undialled-job show (Some job) end stage stage' does none = absurd does
+undialled-job show (Some (Many serving)) end stage stage' does none = does.undialled
 
 pub undialled : {D I C L : Type 0} (show : Shows D I C L) (job : Option Job) (status : ℕ) (stage stage' : Stage D I C)
     → Runs show job status stage stage' → (UsesDialer job → ⊥) → LeavesDialer stage stage'

@@ -8,12 +8,12 @@ use Rattle.fm_model.specs.declared.proto.Proto.{Proto}
 use Rattle.srv_alone.specs.declared.end.End.{End}
 use Rattle.srv_alone.specs.declared.end.End.TheVariants.{Done, NoMemory, SinkFault, DoorFault, InboxFault}
 use Rattle.srv_serve.specs.Closing.{EndsServing, first_end}
-use Rattle.srv_serve.specs.Devices.{HasFailedAt, StopsAt}
+use Rattle.srv_serve.specs.Devices.{asked_by, HasFailedAt, StopsAt}
 use Rattle.srv_run.specs.Run.{Runs}
 use Rattle.srv_serve.specs.Serve.{EndsUnopened, GoesOn, HasRun, RunsServe, ServesDevices}
 use Rattle.srv_serve.specs.Stage.{Shows, Stage}
 use Rattle.srv_laws.specs.WellServed.{IsWellServed}
-use Rattle.srv_run.proofs.BlameLemmas.{unopened_blamed}
+use Rattle.srv_run.proofs.ServedBlameLemmas.{unopened_blamed}
 use Rattle.srv_serve.proofs.RunLemmas.{by_device, door-failed, inbox-failed, IsOfWorkers}
 use Rattle.srv_alone.proofs.StepBlameLemmas.{at_file}
 use Rattle.srv_laws.proofs.TakenLemmas.{excused-value}
@@ -41,7 +41,7 @@ unopened show serving end stage stage' ends used =
 
 -- a run that can't open all
 unserved : {D I C L : Type 0} (show : Shows D I C L) (serving : Serving) (end : End) (stage stage' : Stage D I C)
-    → StopsAt serving stage'.devices stage.opener.faults stage'.opener.faults end
+    → StopsAt (asked_by serving) stage'.devices stage.opener.faults stage'.opener.faults end
     → IsWellServed show serving stage stage' → (end ≡ Done) ⊎ (end ≡ NoMemory)
 unserved show serving (DoorFault number) stage stage' stops used =
     absurd (omega (arith, stops.cause, used.opener))

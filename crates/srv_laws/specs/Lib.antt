@@ -4,3 +4,4 @@ pub mod Output
 pub mod WellFormed
 pub mod WellServed
 pub mod Worked
+pub mod WorkedMany

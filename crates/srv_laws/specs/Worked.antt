@@ -4,7 +4,7 @@ use Rattle.fm_model.specs.declared.proto.Proto.{Proto}
 use Rattle.dev_traits.specs.Opener.{OpenerShown}
 use Rattle.srv_words.specs.declared.job.Serving.{Serving}
 use Rattle.srv_workers.specs.declared.outcome.Outcome.{Outcome}
-use Rattle.srv_serve.specs.Devices.{OpensDevices}
+use Rattle.srv_serve.specs.Devices.{asked_by, OpensDevices}
 use Rattle.srv_alone.specs.Once.{Opens}
 use Rattle.srv_serve.specs.Serve.{HasRun}
 use Rattle.srv_serve.specs.Stage.{LeavesDevices, Shows, Stage}
@@ -20,8 +20,8 @@ pub record HasNotOpened {D I C : Type 0} (status : ℕ) (stage stage' : Stage D 
 pub record HasNotWorked {D I C L : Type 0} (show : Shows D I C L) (serving : Serving) (status : ℕ)
     (stage stage' : Stage D I C) : Type 0 where
   pub opened : OpenerShown D I C
-  pub told : (stage'.opener ≡ opened) ⊎ TellsServing serving opened stage'.opener
-  pub opens : OpensDevices show serving stage.opener.held opened.held stage'.devices
+  pub told : (stage'.opener ≡ opened) ⊎ TellsServing serving.site.name (asked_by serving) opened stage'.opener
+  pub opens : OpensDevices show (asked_by serving) stage.opener.held opened.held stage'.devices
   pub files : stage'.outside.files ≡ stage.outside.files
   pub status_is : (status ≡ 4) ⊎ (status ≡ 6) ⊎ (status ≡ 8)
 

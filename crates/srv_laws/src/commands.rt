@@ -17,8 +17,9 @@ ghost use Rattle.srv_ingest.specs.Expires.{IsRightAt};
 ghost use Rattle.srv_ingest.specs.Ingests.{AllRight, found_with};
 ghost use Rattle.srv_workers.specs.Runs.{IsClockRun, IsInboxRun, Run};
 ghost use Rattle.srv_words.specs.declared.job.Job.{Job};
-ghost use Rattle.srv_words.specs.declared.job.Job.TheVariants.{Check, Once, Serve};
+ghost use Rattle.srv_words.specs.declared.job.Job.TheVariants.{Check, Many, Once, Serve};
 ghost use Rattle.srv_words.specs.declared.job.Serving.{Serving};
+ghost use Rattle.srv_words.specs.declared.job.ServingMany.{ServingMany};
 ghost use Rattle.srv_words.specs.declared.job.Step.{Step};
 ghost use Rattle.srv_words.specs.declared.job.Stepping.{Stepping};
 ghost use Rattle.srv_alone.specs.declared.end.End.{End};
@@ -28,11 +29,13 @@ ghost use Rattle.srv_alone.specs.Once.{opened, RunsOnce, RunsSteps};
 ghost use Rattle.srv_laws.specs.Output.{revisions_of, WritesScript};
 ghost use Rattle.srv_alone.specs.Report.{Said, status_of};
 ghost use Rattle.srv_run.specs.Run.{IsAlone, Runs, UsesDialer, UsesFiles, UsesLink};
+ghost use Rattle.srv_serve.specs.Many.{RunsMany};
 ghost use Rattle.srv_serve.specs.Serve.{RunsServe};
 ghost use Rattle.srv_serve.specs.Stage.{LeavesDevices, LeavesDialer, Shows, Stage};
 ghost use Rattle.srv_laws.specs.WellFormed.{IsWellUsed};
 ghost use Rattle.srv_laws.specs.WellServed.{EndsWell, HasNoMomentLeft, IsUsedUp, IsWellServed, ShowsClocks};
 ghost use Rattle.srv_laws.specs.Worked.{HasNotOpened, HasNotWorked, HasWorked};
+ghost use Rattle.srv_laws.specs.WorkedMany as many;
 
 /// Well-formed use of `once` succeeds, unless memory runs out: where the files are there and are taken, the link has
 /// the requests that are asked for, and no call of the files or the link failed, every step is done, and the status is
@@ -78,10 +81,10 @@ pub fn well_formed_use_of_serve_succeeds<D, I, C, L>()
         → (status ≡ 0) ⊎ (status ≡ 4) }
 {}
 
-/// No job but `serve` touches the opener and the devices; nor do words that are no job, nor a run without memory for
-/// its words. A run of `serve` opened nothing, or no worker ran and its devices are as the opener gave them, or workers
-/// ran over all of them. Workers ran wherever all doors and inboxes were opened, unless the status is 4.
-pub fn only_serve_touches_devices<D, I, C, L>()
+/// No job but `serve` and `many` touches the opener and the devices; nor do words that are no job, nor a run without
+/// memory for its words. A run of either opened nothing, or no worker ran and its devices are as the opener gave them,
+/// or workers ran over all of them. Workers ran wherever all doors and inboxes were opened, unless the status is 4.
+pub fn only_servers_touch_devices<D, I, C, L>()
     ensures none { (show : Shows D I C L) (status : ℕ) (before after : Stage D I C)
         → Runs show None status before after → LeavesDevices before after }
     ensures others { (show : Shows D I C L) (job : Job) (status : ℕ) (before after : Stage D I C)
@@ -94,6 +97,14 @@ pub fn only_serve_touches_devices<D, I, C, L>()
         → Runs show (Some (Serve serving)) status before after → 0 < serving.workers → before.devices.doors ≡ []
         → length after.devices.doors ≡ serving.workers → length after.devices.inboxes ≡ length serving.inboxes
         → (status ≡ 4) ⊎ HasWorked show serving before after }
+    ensures many { (show : Shows D I C L) (serving : ServingMany) (status : ℕ) (before after : Stage D I C)
+        → Runs show (Some (Many serving)) status before after
+        → HasNotOpened status before after ⊎ many.HasNotWorked show serving status before after
+        ⊎ many.HasWorked show serving before after }
+    ensures all_many { (show : Shows D I C L) (serving : ServingMany) (status : ℕ) (before after : Stage D I C)
+        → Runs show (Some (Many serving)) status before after → 0 < serving.workers → before.devices.doors ≡ []
+        → length after.devices.doors ≡ serving.workers → length after.devices.inboxes ≡ length serving.specs
+        → (status ≡ 4) ⊎ many.HasWorked show serving before after }
 {}
 
 /// A check of a file without a fault ends with 0, or with 7 where its line couldn't be written. A check of another
@@ -132,19 +143,26 @@ pub fn a_run_says_how_it_ended<D, I, C, L>()
         → Runs show (Some (Once stepping)) 0 before after → after.outside.sink ≡ before.outside.sink }
 {}
 
-/// A run of `serve` whose workers all ended well, whether or not its line could be written, has served all links and
-/// settled all names that came. Where its opener shows the clocks, and these their moments, it has settled all moments.
+/// A run of `serve` or `many` whose workers all ended well, whether or not its lines could be written, has served all
+/// links and settled all names that came. Where its opener shows the clocks, and these their moments, it has settled
+/// all moments.
 pub fn a_run_that_ends_well_leaves_nothing<D, I, C, L>()
     ensures devices { (show : Shows D I C L) (serving : Serving) (end : End) (before after : Stage D I C)
         → RunsServe show serving end before after → EndsWell end → IsUsedUp show after }
     ensures clocks { (show : Shows D I C L) (serving : Serving) (end : End) (before after : Stage D I C)
         → RunsServe show serving end before after → EndsWell end → ShowsClocks show before.opener
         → HasNoMomentLeft show after }
+    ensures devices_many { (show : Shows D I C L) (serving : ServingMany) (end : End) (before after : Stage D I C)
+        → RunsMany show serving end before after → EndsWell end → IsUsedUp show after }
+    ensures clocks_many { (show : Shows D I C L) (serving : ServingMany) (end : End) (before after : Stage D I C)
+        → RunsMany show serving end before after → EndsWell end → ShowsClocks show before.opener
+        → HasNoMomentLeft show after }
 {}
 
 /// All verdicts of the workers of a run speak of its one log: each that says that a name or a moment became operation n
 /// names the n-th of the log, and each that speaks of a look at n operations speaks of the first n of the log. So does
-/// the verdict that was found at most on one name more, and that its inbox did not take.
+/// the verdict that was found at most on one name more, and that its inbox did not take. In a run of `many` the inbox
+/// and the clock of each collection have such runs over the log of that collection alone.
 pub fn verdicts_speak_of_one_log<I, C>()
     ensures names { (inbox : I → InboxShown) (proto : Proto) (log : List Op) (run : Run I IngestReport)
         → (is : IsInboxRun inbox proto log run)

@@ -1,5 +1,5 @@
--- The job of some words, where it is of a command, or of one that the program offers.
-use Rattle.std.proofs.Common.{◌≡◌, inl, inr, Bool, true, false, if◌then◌else◌, Option, Some, None, Ok, Err, IsTrue, refl, sym, ap, subst, ◌∙◌}
+-- The job of some words, where it is of a command.
+use Rattle.std.proofs.Common.{◌≡◌, inl, inr, Bool, true, false, if◌then◌else◌, Option, Some, None, Ok, Err, refl, sym, ap, subst, ◌∙◌}
 use Rattle.srv_words.specs.declared.job.Command.{Command}
 use Rattle.srv_words.specs.declared.job.Command.TheVariants as commands
 use Rattle.srv_words.specs.declared.job.Job.{Job}
@@ -7,7 +7,7 @@ use Rattle.srv_words.specs.Jobs.{command_of}
 use Rattle.srv_alone.specs.declared.end.End.{End}
 use Rattle.srv_alone.specs.declared.end.End.TheVariants.{BadWords, NoMemory}
 use Rattle.srv_serve.specs.Stage.{Says, Shows, Stage}
-use Rattle.srv_run.specs.Run.{DoesJob, IsAlone, IsAloneCommand, IsOffered, IsJobOrEnd, RunsTo, offers, offered_of, is_same, only}
+use Rattle.srv_run.specs.Run.{DoesJob, IsAlone, IsAloneCommand, IsJobOrEnd, RunsTo, is_same, only}
 
 -- a job of the command
 pub only-same : (command : Command) (found : Option Job) (job : Job) → found ≡ Some job
@@ -28,27 +28,6 @@ only-end command found BadWords is = ap (only command) is
 only-end command found NoMemory is = tt
 only-end command found end is = absurd is
 
--- a job of a command that the program offers
-pub offered-same : (found : Option Job) (job : Job) → found ≡ Some job → offers (command_of job) ≡ true
-    → offered_of found ≡ Some job
-offered-same found job is done = ap offered_of is ∙ ap (λ (b : Bool). if b then Some job else None) done
-
--- a job of a command that it does not offer
-pub offered-other : (found : Option Job) (job : Job) → found ≡ Some job → offers (command_of job) ≡ false
-    → offered_of found ≡ None
-offered-other found job is other = ap offered_of is ∙ ap (λ (b : Bool). if b then Some job else None) other
-
--- no job
-pub offered-end : (found : Option Job) (end : End) → IsJobOrEnd found (Err end)
-    → IsJobOrEnd (offered_of found) (Err end)
-offered-end found BadWords is = ap offered_of is
-offered-end found NoMemory is = tt
-offered-end found end is = absurd is
-
--- a job of a command that it offers, by the test
-pub is_offered : (job : Job) → offers (command_of job) ≡ true → IsOffered job
-is_offered job is = is
-
 -- commands that are the same by the test
 same_command : (command other : Command) → is_same command other ≡ true → command ≡ other
 same_command commands.Once commands.Once is = refl
@@ -60,12 +39,6 @@ same_command commands.Load commands.Load is = refl
 same_command commands.Serve commands.Serve is = refl
 same_command commands.Many commands.Many is = refl
 same_command command other is = absurd cc
-
--- a job of an offered command is offered
-pub offered-as : (command : Command) (job : Job) → is_same command (command_of job) ≡ true → IsTrue (offers command)
-    → IsOffered job
-offered-as command job same is =
-    subst (λ (c : Command). IsTrue (offers c)) (same_command command (command_of job) same) is
 
 -- a job of a command that waits for nobody waits for nobody
 pub alone-as : (command : Command) (job : Job) → is_same command (command_of job) ≡ true → IsAloneCommand command
@@ -88,5 +61,4 @@ says-found show job BadWords end' stage stage' is same says =
 says-found show job NoMemory end' stage stage' is same says = inr (same, says)
 says-found show job end end' stage stage' is same says = absurd is
 
-pub ruleset jobs =
-    (only-same, only-other, only-end, offered-same, offered-other, offered-end, is_offered, offered-as, alone-as)
+pub ruleset jobs = (only-same, only-other, only-end, alone-as)

@@ -1,5 +1,5 @@
 -- A run of the program, by its words, its world and its status.
-use Rattle.std.specs.Prelude.{◌≡◌, ◌⊎◌, ◌≤◌, ℕ, Bool, true, false, if◌then◌else◌, List, [], ⊤, Option, Some, None, IsTrue, Result, Ok, Err}
+use Rattle.std.specs.Prelude.{◌≡◌, ◌⊎◌, ◌≤◌, ℕ, Bool, true, false, if◌then◌else◌, List, [], ⊤, Option, Some, None, Result, Ok, Err}
 use Rattle.dev_traits.specs.Cause.{one_more}
 use Rattle.dev_traits.specs.World.{WorldShown}
 use Rattle.srv_words.specs.declared.job.Command.{Command}
@@ -10,13 +10,15 @@ use Rattle.srv_words.specs.Jobs.{command_of}
 use Rattle.srv_alone.specs.declared.end.End.{End}
 use Rattle.srv_alone.specs.declared.end.End.TheVariants.{BadWords, NoMemory, DoorFault, InboxFault}
 use Rattle.srv_alone.specs.Check.{ChecksFile}
-use Rattle.srv_serve.specs.Devices.{HasFailedAt, StopsAtDoor, StopsAtInbox}
+use Rattle.srv_serve.specs.Devices.{asked_by, HasFailedAt, StopsAtDoor, StopsAtInbox}
 use Rattle.srv_alone.specs.Load.{EndsLoad}
 use Rattle.srv_alone.specs.Once.{RunsOnce}
 use Rattle.srv_alone.specs.Report.{Reports, status_of}
 use Rattle.srv_pull.specs.Pull.{HasFailedLink, RunsPull}
 use Rattle.srv_views.specs.Extract.{RunsExtract}
 use Rattle.srv_views.specs.Views.{RunsTwod}
+use Rattle.srv_serve.specs.Many as many
+use Rattle.srv_serve.specs.Many.{RunsMany}
 use Rattle.srv_serve.specs.Serve.{RunsServe}
 use Rattle.srv_serve.specs.Stage.{LeavesDevices, LeavesDialer, Says, Shows, Stage}
 
@@ -41,8 +43,8 @@ pub record PullsAlone {D I C : Type 0} (address target : List ℕ) (end : End) (
 abbrev pub LeavesRest : {D I C : Type 0} → Stage D I C → Stage D I C → Type 0
 LeavesRest stage stage' = LeavesDevices stage stage' × LeavesDialer stage stage'
 
--- A run for a job ended so. Without a job only the line that says so was written. No job but `serve` touches the opener
--- and the devices, and none but `pull` the dialer. A job of a command that the program doesn't offer has no run.
+-- A run for a job ended so. Without a job only the line that says so was written. No job but `serve` and `many` touches
+-- the opener and the devices, and none but `pull` the dialer.
 abbrev pub DoesJob : {D I C L : Type 0} → Shows D I C L → Option Job → End → Stage D I C → Stage D I C → Type 0
 DoesJob show None end stage stage' = (end ≡ BadWords) × Says BadWords stage stage'
 DoesJob show (Some (Once stepping)) end stage stage' =
@@ -60,7 +62,7 @@ DoesJob show (Some (Extract stepping view constraint version)) end stage stage' 
     stage.outside stage'.outside × LeavesRest stage stage'
 DoesJob show (Some (Pull address target)) end stage stage' =
     PullsAlone address target end stage stage' × LeavesDevices stage stage'
-DoesJob show (Some (Many serving)) end stage stage' = ⊥
+DoesJob show (Some (Many serving)) end stage stage' = RunsMany show serving end stage stage'
 
 -- Memory ran out before the words were read, and only the line that says so was written.
 abbrev pub LacksMemory : {D I C : Type 0} → End → Stage D I C → Stage D I C → Type 0
@@ -93,26 +95,6 @@ is_same command other = false
 abbrev pub only : Command → Option Job → Option Job
 only command None = None
 only command (Some job) = if is_same command (command_of job) then Some job else None
-
--- whether the program offers a command
-abbrev pub offers : Command → Bool
-offers commands.Once = true
-offers commands.Twod = true
-offers commands.Extract = true
-offers commands.Pull = true
-offers commands.Check = true
-offers commands.Load = true
-offers commands.Serve = true
-offers command = false
-
--- a job of a command that the program offers
-abbrev pub IsOffered : Job → Type 0
-IsOffered job = IsTrue (offers (command_of job))
-
--- the job, where the program offers its command
-abbrev pub offered_of : Option Job → Option Job
-offered_of None = None
-offered_of (Some job) = if offers (command_of job) then Some job else None
 
 -- a command that waits for nobody
 abbrev pub IsAloneCommand : Command → Type 0
@@ -150,16 +132,20 @@ IsJobOrEnd job (Err BadWords) = job ≡ None
 IsJobOrEnd job (Err NoMemory) = ⊤
 IsJobOrEnd job (Err end) = ⊥
 
--- The door of this number wasn't opened, since a call of the opener failed. No job but `serve` opens one.
+-- The door of this number wasn't opened, since a call of the opener failed. No job but `serve` and `many` opens one.
 abbrev pub LacksDoor : {D I C : Type 0} → Option Job → Stage D I C → Stage D I C → ℕ → Type 0
 LacksDoor (Some (Serve serving)) stage stage' number =
-    StopsAtDoor serving stage'.devices stage.opener.faults stage'.opener.faults number
+    StopsAtDoor (asked_by serving) stage'.devices stage.opener.faults stage'.opener.faults number
+LacksDoor (Some (Many serving)) stage stage' number =
+    StopsAtDoor (many.asked_by serving) stage'.devices stage.opener.faults stage'.opener.faults number
 LacksDoor job stage stage' number = ⊥
 
 -- All doors were opened, and the inbox of this number wasn't, since a call of the opener failed.
 abbrev pub LacksInbox : {D I C : Type 0} → Option Job → Stage D I C → Stage D I C → ℕ → Type 0
 LacksInbox (Some (Serve serving)) stage stage' number =
-    StopsAtInbox serving stage'.devices stage.opener.faults stage'.opener.faults number
+    StopsAtInbox (asked_by serving) stage'.devices stage.opener.faults stage'.opener.faults number
+LacksInbox (Some (Many serving)) stage stage' number =
+    StopsAtInbox (many.asked_by serving) stage'.devices stage.opener.faults stage'.opener.faults number
 LacksInbox job stage stage' number = ⊥
 
 -- The line names a door. It wasn't opened, or one of its calls failed.

@@ -124,12 +124,11 @@ fn load_files<M: Machine>(alloc: Global, seed: u32, files: u32, world: &mut Worl
     load(alloc, &mut world.sink, seed, files)
 }
 
-/// Does a job of a command that the program offers, and that waits for nobody.
+/// Does a job that waits for nobody.
 pub(crate) fn do_alone<M: Machine>(alloc: Global, job: Job, world: &mut World<M>) -> End
     requires blocks { M.L.blocks }
     requires dialled { M.N.L.blocks }
     requires job { IsJob job }
-    requires offered { spec.IsOffered job }
     requires alone { spec.IsAlone job }
     ensures { let stage = stage_of M.shown M.F.shown M.L.shown M.S.shown (dial_shown M.N.shown M.N.L.shown) in
         spec.DoesJob (shows M.D.shown M.D.L.shown M.I.shown M.C.shown) (Some job) result

@@ -1,5 +1,5 @@
 //! Jobs: the work that the words ask for.
-ghost use Rattle.std.specs.Prelude.{◌≡◌, IfOk, IsTrue, Option, Some};
+ghost use Rattle.std.specs.Prelude.{◌≡◌, IfOk, Option, Some};
 ghost use Rattle.srv_words.specs.declared.job.Job.{Job as Work};
 ghost use Rattle.srv_words.specs.Jobs.{IsJob, command_of, job_of};
 ghost use Rattle.srv_serve.specs.Stage.{dial_shown, shows, stage_of};
@@ -9,7 +9,7 @@ use crate::alone::do_alone;
 use dev_traits::{Machine, World};
 use fm_base::{Bytes, Fail, List};
 use srv_alone::End;
-use srv_serve::{say, serve};
+use srv_serve::{many, say, serve};
 use srv_words::{Command, Job, read_job};
 use std::alloc::Global;
 use std::marker::Sync;
@@ -17,7 +17,7 @@ use std::sync::Wait;
 use std::thread::Threads;
 
 // The job of the words, or the end of a run without one.
-fn found_or_end(alloc: Global, words: &List<Bytes>) -> Result<Job, End>
+pub(crate) fn job_or_end(alloc: Global, words: &List<Bytes>) -> Result<Job, End>
     ensures job { spec.IsJobOrEnd (job_of words.now) result }
     ensures sound { IfOk result IsJob }
 {
@@ -25,38 +25,6 @@ fn found_or_end(alloc: Global, words: &List<Bytes>) -> Result<Job, End>
         Ok(job) => Ok(job),
         Err(Fail::NoMemory) => Err(End::NoMemory),
         Err(Fail::Fault(_)) => Err(End::BadWords),
-    }
-}
-
-// Whether the program offers the command of a job.
-fn is_offered(job: &Job) -> bool
-    ensures { result ≡ spec.offers (command_of job.now) }
-{
-    matches!(
-        job.command(),
-        Command::Once
-            | Command::Twod
-            | Command::Extract
-            | Command::Pull
-            | Command::Check
-            | Command::Load
-            | Command::Serve
-    )
-}
-
-// The job of the words where the program offers its command, or the end of a run without one.
-#[tactic(auto, using(crate::proofs::JobLemmas::jobs))]
-pub(crate) fn job_or_end(alloc: Global, words: &List<Bytes>) -> Result<Job, End>
-    ensures job { spec.IsJobOrEnd (spec.offered_of (job_of words.now)) result }
-    ensures sound { IfOk result IsJob }
-    ensures offered { IfOk result spec.IsOffered }
-{
-    let job = found_or_end(alloc, words)?;
-    if is_offered(&job) {
-        Ok(job)
-    } else {
-        drop(job);
-        Err(End::BadWords)
     }
 }
 
@@ -86,10 +54,9 @@ pub(crate) fn command_or_end(
 ) -> Result<Job, End>
     ensures job { spec.IsJobOrEnd (spec.only command (job_of words.now)) result }
     ensures sound { IfOk result IsJob }
-    ensures offered { IsTrue (spec.offers command) → IfOk result spec.IsOffered }
     ensures alone { spec.IsAloneCommand command → IfOk result spec.IsAlone }
 {
-    let job = found_or_end(alloc, words)?;
+    let job = job_or_end(alloc, words)?;
     if is_of(&job, command) {
         Ok(job)
     } else {
@@ -107,7 +74,6 @@ pub(crate) fn do_found_alone<M: Machine>(
     requires blocks { M.L.blocks }
     requires dialled { M.N.L.blocks }
     requires job { IfOk found IsJob }
-    requires offered { IfOk found spec.IsOffered }
     requires alone { IfOk found spec.IsAlone }
     ensures { let stage = stage_of M.shown M.F.shown M.L.shown M.S.shown (dial_shown M.N.shown M.N.L.shown) in
         (job : Option Work) → spec.IsJobOrEnd job found
@@ -120,7 +86,7 @@ pub(crate) fn do_found_alone<M: Machine>(
     }
 }
 
-// Does a job of a command that the program offers.
+// Does a job.
 fn do_job<R: Threads + Wait + Sync, M: Machine>(
     rt: &R,
     alloc: Global,
@@ -130,7 +96,6 @@ fn do_job<R: Threads + Wait + Sync, M: Machine>(
     requires blocks { M.L.blocks }
     requires dialled { M.N.L.blocks }
     requires job { IsJob job }
-    requires offered { spec.IsOffered job }
     ensures { let stage = stage_of M.shown M.F.shown M.L.shown M.S.shown (dial_shown M.N.shown M.N.L.shown) in
         spec.DoesJob (shows M.D.shown M.D.L.shown M.I.shown M.C.shown) (Some job) result
         (stage world.old) (stage world.new) }
@@ -141,7 +106,11 @@ fn do_job<R: Threads + Wait + Sync, M: Machine>(
             drop(serving);
             end
         }
-        Job::Many(_) => unreachable!(),
+        Job::Many(serving) => {
+            let end = many(rt, alloc, &serving, world);
+            drop(serving);
+            end
+        }
         job => do_alone(alloc, job, world),
     }
 }
@@ -156,7 +125,6 @@ pub(crate) fn do_found<R: Threads + Wait + Sync, M: Machine>(
     requires blocks { M.L.blocks }
     requires dialled { M.N.L.blocks }
     requires job { IfOk found IsJob }
-    requires offered { IfOk found spec.IsOffered }
     ensures { let stage = stage_of M.shown M.F.shown M.L.shown M.S.shown (dial_shown M.N.shown M.N.L.shown) in
         (job : Option Work) → spec.IsJobOrEnd job found
         → spec.RunsTo (shows M.D.shown M.D.L.shown M.I.shown M.C.shown) job result

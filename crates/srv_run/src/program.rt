@@ -1,5 +1,4 @@
 //! The top call of the program, and a call for each of its commands.
-ghost use Rattle.std.specs.Prelude.{◌≡◌, IsTrue};
 ghost use Rattle.std.specs.Process.{exit_status};
 ghost use Rattle.srv_words.specs.declared.job.Command.TheVariants as commands;
 ghost use Rattle.srv_words.specs.Jobs.{job_of};
@@ -26,7 +25,6 @@ fn run_alone<M: Machine>(
 ) -> u8
     requires blocks { M.L.blocks }
     requires dialled { M.N.L.blocks }
-    requires offered { IsTrue (spec.offers command) }
     requires alone { spec.IsAloneCommand command }
     ensures { let stage = stage_of M.shown M.F.shown M.L.shown M.S.shown (dial_shown M.N.shown M.N.L.shown) in
         spec.Ends (shows M.D.shown M.D.L.shown M.I.shown M.C.shown)
@@ -198,48 +196,8 @@ pub fn run_load<M: Machine>(alloc: Global, words: &List<Bytes>, world: &mut Worl
     run_alone(alloc, words, Command::Load, world)
 }
 
-/// Runs `serve --name NAME --proto PROTO --listen ADDRESS [--workers K] [--connections C] [--keep SECONDS] [--ticks
-/// T] [--epoch INSTANT] [--mark MARK] INBOX..`: reads the prototype PROTO, opens K doors at the address, an inbox for
-/// each INBOX, and with `--keep` a clock, and has a worker for each of them, all at once: links that come through the
-/// doors are served from the collection, files that arrive in the inboxes come to it or are taken back from it, and
-/// at each moment of the clock the runs go that are older than SECONDS. Once all workers have ended it says what they
-/// did. It waits for all of them. Returns the status of the program.
-///
-/// | Status | Line | Comes |
-/// |---|---|---|
-/// | 0 | `published P retracted T expired E held F rows R revision V` | all ended well, and the line was written |
-/// | 2 | `bad words` | exactly where the words aren't the command |
-/// | 3 | `refused PROTO code C` | exactly where the prototype is refused; C is the number of its first fault |
-/// | 4 | `no memory` | at any time |
-/// | 5 | `file fault PROTO` | only where a call of the files failed |
-/// | 6 | `door fault I` | only where door I, from 0, couldn't be opened, or one of its calls failed |
-/// | 7 | the first bytes of the line of 0 | only where a call of the sink failed |
-/// | 8 | `inbox fault I` | only where inbox I, from 0, couldn't be opened, or one of its calls failed |
-/// | 10 | `no file PROTO`, `too long PROTO LEN` | exactly where PROTO is no file, or has over 536,870,912 bytes |
-///
-/// P, T and E are the files that came, those that were taken back, and the times that runs went; F and R the files
-/// and times that the collection holds at the end, and V the operations that were published, P + T + E of them. The
-/// first worker that didn't end well gives the status: doors come before inboxes, and these before the clock. A line
-/// of another status that can't be written changes no status. The devices stand in the world as they were left.
-pub fn run_serve<R: Threads + Wait + Sync, M: Machine>(
-    rt: &R,
-    alloc: Global,
-    words: &List<Bytes>,
-    world: &mut World<M>,
-) -> u8
-    requires blocks { M.L.blocks }
-    requires dialled { M.N.L.blocks }
-    ensures { let stage = stage_of M.shown M.F.shown M.L.shown M.S.shown (dial_shown M.N.shown M.N.L.shown) in
-        spec.Ends (shows M.D.shown M.D.L.shown M.I.shown M.C.shown)
-        (spec.only commands.Serve (job_of words.now)) result (stage world.old) (stage world.new) }
-{
-    let found = command_or_end(alloc, words, Command::Serve);
-    do_found(rt, alloc, found, world).status()
-}
-
 /// Does what the words ask for, without the program's own name, reports how it ended, and returns the status of the
 /// program: as the call of the command that the words name, whose other calls have the same answers for bad words.
-/// Words of a command that isn't offered yet end as bad words.
 pub fn run<R: Threads + Wait + Sync, M: Machine>(
     rt: &R,
     alloc: Global,
@@ -250,7 +208,7 @@ pub fn run<R: Threads + Wait + Sync, M: Machine>(
     requires dialled { M.N.L.blocks }
     ensures { let stage = stage_of M.shown M.F.shown M.L.shown M.S.shown (dial_shown M.N.shown M.N.L.shown) in
         spec.Ends (shows M.D.shown M.D.L.shown M.I.shown M.C.shown)
-        (spec.offered_of (job_of words.now)) result (stage world.old) (stage world.new) }
+        (job_of words.now) result (stage world.old) (stage world.new) }
 {
     let found = job_or_end(alloc, words);
     do_found(rt, alloc, found, world).status()
@@ -276,7 +234,7 @@ pub fn run_process<R: Threads + Wait + Sync, M: Machine>(
     requires dialled { M.N.L.blocks }
     ensures { let stage = stage_of M.shown M.F.shown M.L.shown M.S.shown (dial_shown M.N.shown M.N.L.shown) in
         spec.Ends (shows M.D.shown M.D.L.shown M.I.shown M.C.shown)
-        (spec.offered_of (job_of words.now)) (exit_status result.0) (stage world.old) (stage world.new) }
+        (job_of words.now) (exit_status result.0) (stage world.old) (stage world.new) }
 {
     let found = job_or_end(alloc, words);
     let end = do_found(rt, alloc, found, world);

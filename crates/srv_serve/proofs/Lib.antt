@@ -1,6 +1,9 @@
 pub mod ClosingLemmas
 pub mod EndLemmas
+pub mod LinesLemmas
+pub mod ManyLemmas
 pub mod OpeningLemmas
+pub mod PrototypeLemmas
 pub mod RunLemmas
 pub mod StageLemmas
 pub mod TellingLemmas

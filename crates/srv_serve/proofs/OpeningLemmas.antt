@@ -1,4 +1,4 @@
--- Doors and inboxes that are opened one after the other.
+-- Doors, inboxes and clocks that are opened one after the other.
 use Rattle.std.proofs.Common.{◌≡◌, inl, inr, ◌<◌, ℕ, zero, suc, All, List, [], ◌∷◌, ◌++◌, length, map, take, drop, get_or, add-one, Option, Some, None, refl, sym, ap, subst, ◌∙◌, arith}
 use Rattle.std.proofs.lemmas.List.{drop-drop, length-append, map-append}
 use Rattle.std.proofs.lemmas.List.Elements.{All-append, All-cons, All-nil}
@@ -6,12 +6,13 @@ use Rattle.std.specs.Prelude.{IfSome}
 use Rattle.fm_base.specs.declared.fail.Fail.{Fail}
 use Rattle.fm_base.specs.declared.fail.Fail.TheVariants.{NoMemory, Fault}
 use Rattle.dev_traits.specs.Cause.{count_after}
+use Rattle.dev_traits.specs.Clock.{Moments}
 use Rattle.dev_traits.specs.declared.door.DoorAsked.{DoorAsked}
 use Rattle.dev_traits.specs.Door.{DoorShown}
 use Rattle.dev_traits.specs.Inbox.{InboxShown}
-use Rattle.dev_traits.specs.Opener.{Stock, IsNextDoor, IsNextInbox, after_door, after_inbox, door_asked, inbox_asked}
+use Rattle.dev_traits.specs.Opener.{Stock, IsNextDoor, IsNextInbox, after_clock, after_door, after_inbox, door_asked, inbox_asked, next_clock}
 use Rattle.srv_alone.specs.declared.end.End.{End}
-use Rattle.srv_serve.specs.Opening.{OpensDoors, OpensInboxes, StopsShort, after_doors, after_inboxes, asked_doors, asked_inboxes, end_of}
+use Rattle.srv_serve.specs.Opening.{OpensClocks, OpensDoors, OpensInboxes, StopsShort, after_doors, after_inboxes, asked_doors, asked_inboxes, end_of}
 
 -- one item more is there
 length-more : {X : Type 0} (xs : List X) (x : X) → length (xs ++ x ∷ []) ≡ suc (length xs)
@@ -152,3 +153,33 @@ OpensInboxes-more {D} {I} {C} shown folders n folder before now after inboxes in
         ∙ ap (λ (k : ℕ). drop k stock.inboxes) (sym (length-more inboxes inbox)))
 
 pub ruleset inboxes = (OpensInboxes-none)
+
+-- no clock was opened
+pub OpensClocks-none : {D I C : Type 0} (shown : C → Option Moments) (ticks : ℕ) (opener : Option (Stock D I C))
+    (clocks : List C) → clocks ≡ [] → OpensClocks shown ticks opener opener clocks
+OpensClocks-none {D} {I} {C} shown ticks opener clocks is =
+    subst (λ (l : List C). OpensClocks shown ticks opener opener l) (sym is) refl
+
+one-clock-more : {D I C : Type 0} (shown : C → Option Moments) (ticks : ℕ) (before now after : Option (Stock D I C))
+    (clocks : List C) (clock : C) → OpensClocks shown ticks before now clocks
+    → IfSome now (λ stock. shown clock ≡ next_clock shown stock.clocks ticks) → after ≡ after_clock now
+    → OpensClocks shown ticks before after (clocks ++ clock ∷ [])
+one-clock-more {D} {I} {C} shown ticks before now after [] clock opens next is = (
+  subst (λ (o : Option (Stock D I C)). IfSome o (λ stock. shown clock ≡ next_clock shown stock.clocks ticks)) opens
+      next,
+  is ∙ ap (λ (o : Option (Stock D I C)). after_clock o) opens,
+)
+one-clock-more shown ticks before now after (first ∷ clocks) clock opens next is =
+    (opens.0, one-clock-more shown ticks (after_clock before) now after clocks clock opens.1 next is)
+
+-- one clock more
+pub OpensClocks-more : {D I C : Type 0} (shown : C → Option Moments) (ticks : ℕ)
+    (before now after : Option (Stock D I C)) (clocks clocks' : List C) (clock : C)
+    → OpensClocks shown ticks before now clocks
+    → IfSome now (λ stock. shown clock ≡ next_clock shown stock.clocks ticks) → after ≡ after_clock now
+    → clocks' ≡ clocks ++ clock ∷ [] → OpensClocks shown ticks before after clocks'
+OpensClocks-more {D} {I} {C} shown ticks before now after clocks clocks' clock opens next is put =
+    subst (λ (l : List C). OpensClocks shown ticks before after l) (sym put)
+    (one-clock-more shown ticks before now after clocks clock opens next is)
+
+pub ruleset clocks = (OpensClocks-none)

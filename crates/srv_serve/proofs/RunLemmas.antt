@@ -1,6 +1,5 @@
 -- Which device a run of workers blames.
-use Rattle.std.proofs.Common.{◌≡◌, ℕ, ◌+◌, ◌^◌, ◌<◌, ◌≤◌, Bool, true, false, if◌then◌else◌, nat_lt, List, [], ◌∷◌, length, slice_get, Option, Some, None, IsSomeAnd, sym, ap, subst, ◌∙◌, arith}
-use Rattle.std.proofs.lemmas.List.{length-map}
+use Rattle.std.proofs.Common.{◌≡◌, ℕ, ◌+◌, ◌^◌, ◌<◌, ◌≤◌, Bool, true, false, if◌then◌else◌, nat_lt, List, [], ◌∷◌, length, Option, Some, None, sym, subst, arith}
 use Rattle.std.specs.Option.{option_or}
 use Rattle.std.specs.Prelude.{⊤}
 use Rattle.fm_model.specs.declared.proto.Proto.{Proto}
@@ -13,6 +12,7 @@ use Rattle.srv_conn.specs.declared.door_report.DoorEnd.{DoorEnd}
 use Rattle.srv_conn.specs.declared.door_report.DoorEnd.TheVariants as door_ends
 use Rattle.srv_conn.specs.declared.door_report.DoorReport.{DoorReport}
 use Rattle.srv_ingest.specs.Ingests.{EndsIngest}
+use Rattle.srv_ingest.specs.declared.report.ExpireReport.{ExpireReport}
 use Rattle.srv_ingest.specs.declared.report.IngestEnd.{IngestEnd}
 use Rattle.srv_ingest.specs.declared.report.IngestEnd.TheVariants as inbox_ends
 use Rattle.srv_ingest.specs.declared.report.IngestReport.{IngestReport}
@@ -22,55 +22,40 @@ use Rattle.srv_workers.specs.declared.outcome.Outcome.{Outcome}
 use Rattle.srv_workers.specs.Runs.{AreRuns, IsDoorRun, IsInboxRun, Run}
 use Rattle.srv_alone.specs.declared.end.End.{End}
 use Rattle.srv_alone.specs.declared.end.End.TheVariants.{BadWords, NoMemory, FileFault, SinkFault, LinkFault, DoorFault, InboxFault}
-use Rattle.srv_serve.specs.Closing.{clock_end, door_end, end_at_door, end_at_inbox, first_end, first_from, inbox_end}
-use Rattle.srv_serve.specs.Devices.{AreAllOpened, clocks_for, HasFailedAt}
+use Rattle.srv_serve.specs.Closing.{clock_end, door_end, end_at_door, end_at_inbox, first_end, first_end_of, first_from, inbox_end}
+use Rattle.srv_serve.specs.Devices.{AreAllOpened, asked_by, clocks_for, HasFailedAt}
 use Rattle.srv_serve.specs.Serve.{HasRun}
 use Rattle.srv_serve.specs.Stage.{Shows}
-use Rattle.srv_serve.proofs.EndLemmas.{door-end, inbox-end, left-at}
-
--- there are as many reports as devices
-reports-count : {X R : Type 0} (Is : Run X R → Type 0) (before after : List X) (reports : List R)
-    → AreRuns Is before after reports → length reports ≡ length before
-reports-count {X} {R} Is before after reports are =
-    ap length (sym are.told) ∙ length-map are.runs (λ (run : Run X R). run.report)
-    ∙ sym (length-map are.runs (λ (run : Run X R). run.came)) ∙ ap length are.came
+use Rattle.srv_serve.proofs.EndLemmas.{door-end, inbox-end, left-where, told-count}
 
 -- there are as few reports as devices
 pub few-reports : {X R : Type 0} {Is : Run X R → Type 0} {before after : List X} {reports : List R}
     → AreRuns Is before after reports → length before < 2 ^ 32 → length reports < 2 ^ 32
-few-reports {X} {R} {Is} {before} {after} {reports} are few =
-    omega (arith, few, reports-count Is before after reports are)
+few-reports {X} {R} are few =
+    let count = told-count (λ (run : Run X R). run.came) (λ (run : Run X R). run.report) are.runs are.came are.told in
+    omega (arith, few, count)
 
-one-clock : (keep : Option ℕ) → clocks_for keep ≤ 1
+-- there is one clock at most of one collection
+pub one-clock : (keep : Option ℕ) → clocks_for 1 keep ≤ 1
 one-clock None = omega arith
 one-clock (Some seconds) = omega arith
 
 -- a run has one clock at most
-pub few-clocks : {D I C : Type 0} {serving : Serving} {devices : Devices D I C} {faults faults' : ℕ}
-    → AreAllOpened serving devices faults faults' → length devices.clocks < 2 ^ 32
-few-clocks {serving = serving} all = omega (arith, all.clocks, one-clock serving.keep)
+pub few-clocks : {D I C : Type 0} (serving : Serving) {devices : Devices D I C} {faults faults' : ℕ}
+    → AreAllOpened (asked_by serving) devices faults faults' → length devices.clocks < 2 ^ 32
+few-clocks serving all = omega (arith, all.clocks, one-clock serving.keep)
 
 -- after one failure more a count isn't 0
 one_more-positive : (count : ℕ) → 0 < one_more count
 one_more-positive count = omega arith
 
--- where each kept what it saw of its log, what was left at a number is as what is told there says
-left-where : {X R : Type 0} (Is : Run X R → Type 0) (Q : R → Type 0) (Z : X → Type 0) (before after : List X)
-    (reports : List R) (n : ℕ) → AreRuns Is before after reports
-    → ((run : Run X R) → Is run → Q run.report → Z run.left) → IsSomeAnd (slice_get reports n) Q
-    → IsSomeAnd (slice_get after n) Z
-left-where {X} {R} Is Q Z before after reports n are so has =
-    subst (λ (xs : List X). IsSomeAnd (slice_get xs n) Z) are.left
-    (left-at Is Q Z are.runs n are.each so
-    (subst (λ (rs : List R). IsSomeAnd (slice_get rs n) Q) (sym are.told) has))
-
 -- a door at which serving ended by a fault has failed
-door-has-failed : {L : Type 0} (came left : DoorShown L) (end : DoorEnd) → EndsDoor came left end
+pub door-has-failed : {L : Type 0} (came left : DoorShown L) (end : DoorEnd) → EndsDoor came left end
     → end ≡ door_ends.DoorFault → 0 < left.faults
 door-has-failed came left door_ends.DoorFault ends is = omega (arith, ends, one_more-positive came.faults)
 door-has-failed came left door_ends.Closed ends is = absurd cc
 
-inbox-has-failed : (came left : InboxShown) (end : IngestEnd) → EndsIngest came left end
+pub inbox-has-failed : (came left : InboxShown) (end : IngestEnd) → EndsIngest came left end
     → end ≡ inbox_ends.InboxFault → 0 < left.faults
 unfolding EndsIngest
 inbox-has-failed came left inbox_ends.InboxFault ends is =
@@ -83,11 +68,13 @@ pub door-failed : {D I C L : Type 0} (show : Shows D I C L) (serving : Serving) 
     (opener opener' : OpenerShown D I C) (left : Devices D I C) (outcome : Outcome)
     → HasRun show serving proto opener opener' left outcome → (number : ℕ)
     → first_end outcome ≡ Some (DoorFault number) → HasFailedAt (λ door. (show.door door).faults) left.doors number
-door-failed show serving proto opener opener' left outcome run number first =
-    left-where (IsDoorRun show.door show.link proto run.ran.log) (λ (r : DoorReport). r.end ≡ door_ends.DoorFault)
-    (λ door. 0 < (show.door door).faults) run.devices.doors left.doors outcome.doors number run.ran.doors
+door-failed {D} show serving proto opener opener' left outcome run number first =
+    let are = run.ran.doors in
+    left-where (λ (r : Run D DoorReport). r.left) (λ (r : Run D DoorReport). r.report)
+    (IsDoorRun show.door show.link proto run.ran.log) (λ (r : DoorReport). r.end ≡ door_ends.DoorFault)
+    (λ door. 0 < (show.door door).faults) are.runs left.doors outcome.doors number are.left are.told are.each
     (λ it is fault. door-has-failed (show.door it.came) (show.door it.left) it.report.end is.ends fault)
-    (door-end outcome number first)
+    (door-end outcome.doors outcome.inboxes outcome.clocks number first)
 
 -- a run that ends at an inbox ends at one that has failed
 pub inbox-failed : {D I C L : Type 0} (show : Shows D I C L) (serving : Serving) (proto : Proto)
@@ -95,11 +82,13 @@ pub inbox-failed : {D I C L : Type 0} (show : Shows D I C L) (serving : Serving)
     → HasRun show serving proto opener opener' left outcome → (number : ℕ)
     → first_end outcome ≡ Some (InboxFault number)
     → HasFailedAt (λ inbox. (show.inbox inbox).faults) left.inboxes number
-inbox-failed show serving proto opener opener' left outcome run number first =
-    left-where (IsInboxRun show.inbox proto run.ran.log) (λ (r : IngestReport). r.end ≡ inbox_ends.InboxFault)
-    (λ inbox. 0 < (show.inbox inbox).faults) run.devices.inboxes left.inboxes outcome.inboxes number run.ran.inboxes
+inbox-failed {D} {I} show serving proto opener opener' left outcome run number first =
+    let are = run.ran.inboxes in
+    left-where (λ (r : Run I IngestReport). r.left) (λ (r : Run I IngestReport). r.report)
+    (IsInboxRun show.inbox proto run.ran.log) (λ (r : IngestReport). r.end ≡ inbox_ends.InboxFault)
+    (λ inbox. 0 < (show.inbox inbox).faults) are.runs left.inboxes outcome.inboxes number are.left are.told are.each
     (λ it is fault. inbox-has-failed (show.inbox it.came) (show.inbox it.left) it.report.end is.ends fault)
-    (inbox-end outcome number first)
+    (inbox-end outcome.doors outcome.inboxes outcome.clocks number first)
 
 -- a run of workers ends in one of these ways
 abbrev pub IsOfWorkers : End → Type 0
@@ -149,15 +138,23 @@ by_workers (DoorFault number) is = record { words = λ e. cc; files = λ e. cc; 
 by_workers (InboxFault number) is = record { words = λ e. cc; files = λ e. cc; sink = λ e. cc; link = λ e. cc }
 by_workers end is = absurd is
 
+-- a run ends at its devices in one of these ways
+pub by_devices : (doors : List DoorReport) (inboxes : List IngestReport) (clocks : List ExpireReport) (end : End)
+    → first_end_of doors inboxes clocks ≡ Some end → IsOfWorkers end
+by_devices doors inboxes clocks end first =
+    subst (λ (o : Option End). AreOfWorkers o) first (either-of (first_from door_end 0 doors)
+    (option_or (first_from inbox_end 0 inboxes) (first_from clock_end 0 clocks))
+    (first-of door_end (λ n r. door-of n r.end r.short) 0 doors)
+    (either-of (first_from inbox_end 0 inboxes) (first_from clock_end 0 clocks)
+    (first-of inbox_end (λ n r. inbox-of n r.end r.short) 0 inboxes)
+    (first-of clock_end (λ n r. short-of (nat_lt 0 r.short)) 0 clocks)))
+
 pub by_device : (outcome : Outcome) (end : End) → first_end outcome ≡ Some end → IsOfWorkers end
-by_device outcome end first =
-    subst (λ (o : Option End). AreOfWorkers o) first
-    (either-of (first_from door_end 0 outcome.doors)
-    (option_or (first_from inbox_end 0 outcome.inboxes) (first_from clock_end 0 outcome.clocks))
-    (first-of door_end (λ n r. door-of n r.end r.short) 0 outcome.doors)
-    (either-of (first_from inbox_end 0 outcome.inboxes) (first_from clock_end 0 outcome.clocks)
-    (first-of inbox_end (λ n r. inbox-of n r.end r.short) 0 outcome.inboxes)
-    (first-of clock_end (λ n r. short-of (nat_lt 0 r.short)) 0 outcome.clocks)))
+by_device outcome end first = by_devices outcome.doors outcome.inboxes outcome.clocks end first
+
+pub ends-at-device : (doors : List DoorReport) (inboxes : List IngestReport) (clocks : List ExpireReport) (end : End)
+    → first_end_of doors inboxes clocks ≡ Some end → ByWorkers end
+ends-at-device doors inboxes clocks end first = by_workers end (by_devices doors inboxes clocks end first)
 
 pub end-is-device : (outcome : Outcome) (end : End) → first_end outcome ≡ Some end → ByWorkers end
 end-is-device outcome end first = by_workers end (by_device outcome end first)

@@ -3,59 +3,60 @@ use Rattle.std.proofs.Common.{◌≡◌, ◌∙◌, inl, inr, ℕ, List, [], len
 use Rattle.dev_traits.specs.Cause.{one_more}
 use Rattle.dev_traits.specs.Opener.{OpenerShown, Stock}
 use Rattle.dev_traits.specs.Shown.{SinkShown}
-use Rattle.srv_words.specs.declared.job.Serving.{Serving}
 use Rattle.dev_traits.specs.declared.world.Devices.{Devices}
 use Rattle.srv_alone.specs.declared.end.End.{End}
-use Rattle.srv_alone.specs.declared.end.End.TheVariants.{DoorFault, InboxFault}
-use Rattle.srv_serve.specs.Devices.{door_request, OpensDevices, StopsAt}
-use Rattle.srv_serve.specs.Opening.{OpensClock, OpensDoors, OpensInboxes, StopsShort}
+use Rattle.srv_alone.specs.declared.end.End.TheVariants.{DoorFault, InboxFault, NoMemory}
+use Rattle.srv_serve.specs.Devices.{AreAllOpened, door_request, OpensDevices, StopsAt, Wanted}
+use Rattle.srv_serve.specs.Opening.{OpensDoors, OpensInboxes, StopsShort}
 use Rattle.srv_alone.specs.Report.{Reports}
-use Rattle.srv_serve.specs.Serve.{EndsUnserved, HasStopped}
+use Rattle.srv_serve.specs.Serve.{EndsUnserved, HasOpened, HasStopped}
 use Rattle.srv_serve.specs.Stage.{Says, Shows, Stage}
-use Rattle.srv_serve.proofs.OpeningLemmas.{OpensDoors-none, OpensInboxes-none}
+use Rattle.srv_serve.specs.Telling.{TellsLines}
+use Rattle.srv_serve.proofs.OpeningLemmas.{OpensClocks-none, OpensDoors-none, OpensInboxes-none}
+use Rattle.srv_serve.proofs.TellingLemmas.{AreAllOpened-told}
 
 -- only doors were opened
-pub OpensDevices-doors : {D I C L : Type 0} (show : Shows D I C L) (serving : Serving)
+pub OpensDevices-doors : {D I C L : Type 0} (show : Shows D I C L) (wanted : Wanted)
     (before after : Option (Stock D I C)) (doors : List D) (inboxes : List I) (clocks : List C)
-    → OpensDoors show.door (door_request serving) before after doors → inboxes ≡ [] → clocks ≡ []
-    → OpensDevices show serving before after (record { doors = doors; inboxes = inboxes; clocks = clocks })
-OpensDevices-doors {C = C} show serving before after doors inboxes clocks opens no_inboxes no_clocks = record {
+    → OpensDoors show.door (door_request wanted) before after doors → inboxes ≡ [] → clocks ≡ []
+    → OpensDevices show wanted before after (record { doors = doors; inboxes = inboxes; clocks = clocks })
+OpensDevices-doors show wanted before after doors inboxes clocks opens no_inboxes no_clocks = record {
   after_doors = after;
   after_inboxes = after;
   doors = opens;
-  inboxes = OpensInboxes-none show.inbox serving.inboxes after inboxes no_inboxes;
-  clock = subst (λ (l : List C). OpensClock show.clock serving.ticks after after l) (sym no_clocks) refl;
+  inboxes = OpensInboxes-none show.inbox wanted.inboxes after inboxes no_inboxes;
+  clocks = OpensClocks-none show.clock wanted.ticks after clocks no_clocks;
 }
 
 -- no clock was opened
-pub OpensDevices-inboxes : {D I C L : Type 0} (show : Shows D I C L) (serving : Serving)
+pub OpensDevices-inboxes : {D I C L : Type 0} (show : Shows D I C L) (wanted : Wanted)
     (before now after : Option (Stock D I C)) (doors : List D) (inboxes : List I) (clocks : List C)
-    → OpensDoors show.door (door_request serving) before now doors
-    → OpensInboxes show.inbox serving.inboxes now after inboxes → clocks ≡ []
-    → OpensDevices show serving before after (record { doors = doors; inboxes = inboxes; clocks = clocks })
-OpensDevices-inboxes {C = C} show serving before now after doors inboxes clocks opens opens' no_clocks = record {
+    → OpensDoors show.door (door_request wanted) before now doors
+    → OpensInboxes show.inbox wanted.inboxes now after inboxes → clocks ≡ []
+    → OpensDevices show wanted before after (record { doors = doors; inboxes = inboxes; clocks = clocks })
+OpensDevices-inboxes show wanted before now after doors inboxes clocks opens opens' no_clocks = record {
   after_doors = now;
   after_inboxes = after;
   doors = opens;
   inboxes = opens';
-  clock = subst (λ (l : List C). OpensClock show.clock serving.ticks after after l) (sym no_clocks) refl;
+  clocks = OpensClocks-none show.clock wanted.ticks after clocks no_clocks;
 }
 
 -- nothing was opened
-pub OpensDevices-none : {D I C L : Type 0} (show : Shows D I C L) (serving : Serving) (opener : Option (Stock D I C))
+pub OpensDevices-none : {D I C L : Type 0} (show : Shows D I C L) (wanted : Wanted) (opener : Option (Stock D I C))
     (devices : Devices D I C) → devices ≡ record { doors = []; inboxes = []; clocks = [] }
-    → OpensDevices show serving opener opener devices
-OpensDevices-none {D} {I} {C} show serving opener devices none =
-    subst (λ (d : Devices D I C). OpensDevices show serving opener opener d) (sym none)
-    (OpensDevices-doors show serving opener opener [] [] []
-    (OpensDoors-none show.door (door_request serving) opener [] refl) refl refl)
+    → OpensDevices show wanted opener opener devices
+OpensDevices-none {D} {I} {C} show wanted opener devices none =
+    subst (λ (d : Devices D I C). OpensDevices show wanted opener opener d) (sym none)
+    (OpensDevices-doors show wanted opener opener [] [] []
+    (OpensDoors-none show.door (door_request wanted) opener [] refl) refl refl)
 
 -- not all doors were opened
-pub StopsAt-doors : {D I C : Type 0} (serving : Serving) (doors : List D) (inboxes : List I) (clocks : List C)
-    (faults faults' : ℕ) (end : End) → StopsShort DoorFault (length doors) serving.workers faults faults' end
+pub StopsAt-doors : {D I C : Type 0} (wanted : Wanted) (doors : List D) (inboxes : List I) (clocks : List C)
+    (faults faults' : ℕ) (end : End) → StopsShort DoorFault (length doors) wanted.workers faults faults' end
     → inboxes ≡ [] → clocks ≡ []
-    → StopsAt serving (record { doors = doors; inboxes = inboxes; clocks = clocks }) faults faults' end
-StopsAt-doors {D} {I} {C} serving doors inboxes clocks faults faults' end short no_inboxes no_clocks = elim short [
+    → StopsAt wanted (record { doors = doors; inboxes = inboxes; clocks = clocks }) faults faults' end
+StopsAt-doors {D} {I} {C} wanted doors inboxes clocks faults faults' end short no_inboxes no_clocks = elim short [
   | inl memory ↦ subst Stops (sym memory.0) memory.1
   | inr next ↦ subst Stops (sym next.0) (record {
     number_is = refl;
@@ -67,14 +68,14 @@ StopsAt-doors {D} {I} {C} serving doors inboxes clocks faults faults' end short 
 ]
   where
     Stops : End → Type 0
-    Stops e = StopsAt serving (record { doors = doors; inboxes = inboxes; clocks = clocks }) faults faults' e
+    Stops e = StopsAt wanted (record { doors = doors; inboxes = inboxes; clocks = clocks }) faults faults' e
 
 -- all doors were opened, without a failure, and not all inboxes
-pub StopsAt-inboxes : {D I C : Type 0} (serving : Serving) (doors : List D) (inboxes : List I) (clocks : List C)
-    (faults now faults' : ℕ) (end : End) → length doors ≡ serving.workers → now ≡ faults
-    → StopsShort InboxFault (length inboxes) (length serving.inboxes) now faults' end → clocks ≡ []
-    → StopsAt serving (record { doors = doors; inboxes = inboxes; clocks = clocks }) faults faults' end
-StopsAt-inboxes {D} {I} {C} serving doors inboxes clocks faults now faults' end all calm short no_clocks = elim short [
+pub StopsAt-inboxes : {D I C : Type 0} (wanted : Wanted) (doors : List D) (inboxes : List I) (clocks : List C)
+    (faults now faults' : ℕ) (end : End) → length doors ≡ wanted.workers → now ≡ faults
+    → StopsShort InboxFault (length inboxes) (length wanted.inboxes) now faults' end → clocks ≡ []
+    → StopsAt wanted (record { doors = doors; inboxes = inboxes; clocks = clocks }) faults faults' end
+StopsAt-inboxes {D} {I} {C} wanted doors inboxes clocks faults now faults' end all calm short no_clocks = elim short [
   | inl memory ↦ subst Stops (sym memory.0) (memory.1 ∙ calm)
   | inr next ↦ subst Stops (sym next.0) (record {
     doors = all;
@@ -86,16 +87,56 @@ StopsAt-inboxes {D} {I} {C} serving doors inboxes clocks faults now faults' end 
 ]
   where
     Stops : End → Type 0
-    Stops e = StopsAt serving (record { doors = doors; inboxes = inboxes; clocks = clocks }) faults faults' e
+    Stops e = StopsAt wanted (record { doors = doors; inboxes = inboxes; clocks = clocks }) faults faults' e
+
+-- all were opened that these words ask for, and the opener was told so
+pub HasOpened-as : {D I C L : Type 0} {show : Shows D I C L} {lines : List (List ℕ)} {wanted wanted' : Wanted}
+    {opener opened opener' : OpenerShown D I C} {devices : Devices D I C} → wanted ≡ wanted'
+    → OpensDevices show wanted opener.held opened.held devices → AreAllOpened wanted devices opener.faults opened.faults
+    → TellsLines lines opened opener' → HasOpened show lines wanted' opener opener' devices
+HasOpened-as {D} {I} {C} {L} {show} {lines} {wanted} {wanted'} {opener} {opened} {opener'} {devices} is opens all told =
+    record {
+      opened = opened;
+      told = told;
+      opens = subst (λ (w : Wanted). OpensDevices show w opener.held opened.held devices) is opens;
+      all = subst (λ (w : Wanted). AreAllOpened w devices opener.faults opener'.faults) is
+          (AreAllOpened-told all told);
+    }
+
+-- not all were opened that these words ask for
+pub HasStopped-as : {D I C L : Type 0} {show : Shows D I C L} {lines : List (List ℕ)} {wanted wanted' : Wanted}
+    {opener opener' : OpenerShown D I C} {left : Devices D I C} {end : End} → wanted ≡ wanted'
+    → OpensDevices show wanted opener.held opener'.held left → StopsAt wanted left opener.faults opener'.faults end
+    → HasStopped show lines wanted' opener opener' left end
+HasStopped-as {D} {I} {C} {L} {show} {lines} {opener} {opener'} {left} {end} is opens stops = record {
+  opened = opener';
+  told = inl refl;
+  opens = subst (λ (w : Wanted). OpensDevices show w opener.held opener'.held left) is opens;
+  stops = subst (λ (w : Wanted). StopsAt w left opener.faults opener'.faults end) is stops;
+}
+
+-- all were opened, and memory ran out before a worker ran
+pub HasStopped-short : {D I C L : Type 0} {show : Shows D I C L} {lines : List (List ℕ)} {wanted wanted' : Wanted}
+    {opener opened opener' : OpenerShown D I C} {left : Devices D I C} → wanted ≡ wanted'
+    → OpensDevices show wanted opener.held opened.held left → AreAllOpened wanted left opener.faults opened.faults
+    → opener' ≡ opened → HasStopped show lines wanted' opener opener' left NoMemory
+HasStopped-short {D} {I} {C} {L} {show} {lines} {opener} {opened} {opener'} {left} is opens all same =
+    record {
+      opened = opened;
+      told = inl same;
+      opens = subst (λ (w : Wanted). OpensDevices show w opener.held opened.held left) is opens;
+      stops = ap (λ (o : OpenerShown D I C). o.faults) same ∙ all.calm;
+    }
 
 -- a run that stopped only said how it ended
-pub EndsUnserved-said : {D I C L : Type 0} {show : Shows D I C L} {serving : Serving} {stage left stage' : Stage D I C}
-    {end : End} → HasStopped show serving stage.opener left.opener left.devices end → Says end left stage'
-    → left.outside.sink ≡ stage.outside.sink → EndsUnserved show serving stage stage' end
-EndsUnserved-said {D} {I} {C} {L} {show} {serving} {stage} {left} {stage'} {end} stopped said same = record {
-  stopped = subst (λ (devices : Devices D I C). HasStopped show serving stage.opener stage'.opener devices end)
+pub EndsUnserved-said : {D I C L : Type 0} {show : Shows D I C L} {lines : List (List ℕ)} {wanted : Wanted}
+    {stage left stage' : Stage D I C} {end : End}
+    → HasStopped show lines wanted stage.opener left.opener left.devices end → Says end left stage'
+    → left.outside.sink ≡ stage.outside.sink → EndsUnserved show lines wanted stage stage' end
+EndsUnserved-said {D} {I} {C} {L} {show} {lines} {wanted} {stage} {left} {stage'} {end} stopped said same = record {
+  stopped = subst (λ (devices : Devices D I C). HasStopped show lines wanted stage.opener stage'.opener devices end)
       (sym said.leaves.devices_are)
-      (subst (λ (opener : OpenerShown D I C). HasStopped show serving stage.opener opener left.devices end)
+      (subst (λ (opener : OpenerShown D I C). HasStopped show lines wanted stage.opener opener left.devices end)
       (sym said.leaves.opener_is) stopped);
   reports = subst (λ (sink : SinkShown). Reports end [] sink stage'.outside.sink) same said.reports;
 }

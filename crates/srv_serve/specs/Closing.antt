@@ -46,10 +46,13 @@ unfoldable pub first_from : {R : Type 0} → (ℕ → R → Option End) → ℕ 
 first_from end_of number [] = None
 first_from end_of number (report ∷ more) = option_or (end_of number report) (first_from end_of (number + 1) more)
 
--- the first end of a run at the doors, the inboxes and the clocks
+-- the first end of a run at the doors, the inboxes and the clocks that these reports are of
+abbrev pub first_end_of : List DoorReport → List IngestReport → List ExpireReport → Option End
+first_end_of doors inboxes clocks =
+    option_or (first_from door_end 0 doors) (option_or (first_from inbox_end 0 inboxes) (first_from clock_end 0 clocks))
+
 abbrev pub first_end : Outcome → Option End
-first_end outcome = option_or (first_from door_end 0 outcome.doors)
-    (option_or (first_from inbox_end 0 outcome.inboxes) (first_from clock_end 0 outcome.clocks))
+first_end outcome = first_end_of outcome.doors outcome.inboxes outcome.clocks
 
 -- how many files came, were taken back, and how many times runs went
 unfoldable pub changes_text : ℕ → ℕ → ℕ → List ℕ
@@ -69,10 +72,13 @@ serve_line outcome =
     (sum_by (λ (report : ExpireReport). report.expired) outcome.clocks)
     ++ left_text outcome.tally outcome.revision
 
--- How a run ended and what was written: where all workers ended well, the line of what was served, or a front of it
+-- How a run ended and what was written: where all workers ended well, the text of what was served, or a front of it
 -- where the sink failed; else the line of the first end.
+abbrev pub EndsWith : List ℕ → Option End → End → SinkShown → SinkShown → Type 0
+EndsWith text None Done sink sink' = WritesLine text sink sink'
+EndsWith text None SinkFault sink sink' = CutsLine text sink sink'
+EndsWith text None end sink sink' = ⊥
+EndsWith text (Some found) end sink sink' = (end ≡ found) × Reports found [] sink sink'
+
 abbrev pub EndsServing : Outcome → Option End → End → SinkShown → SinkShown → Type 0
-EndsServing outcome None Done sink sink' = WritesLine (serve_line outcome) sink sink'
-EndsServing outcome None SinkFault sink sink' = CutsLine (serve_line outcome) sink sink'
-EndsServing outcome None end sink sink' = ⊥
-EndsServing outcome (Some found) end sink sink' = (end ≡ found) × Reports found [] sink sink'
+EndsServing outcome = EndsWith (serve_line outcome)

@@ -7,64 +7,97 @@ use Rattle.srv_words.specs.declared.job.Serving.{Serving}
 use Rattle.dev_traits.specs.declared.world.Devices.{Devices}
 use Rattle.srv_alone.specs.declared.end.End.{End}
 use Rattle.srv_alone.specs.declared.end.End.TheVariants.{NoMemory, DoorFault, InboxFault}
-use Rattle.srv_serve.specs.Opening.{OpensClock, OpensDoors, OpensInboxes}
+use Rattle.srv_serve.specs.declared.opening.Asked.{Asked}
+use Rattle.srv_serve.specs.Opening.{OpensClocks, OpensDoors, OpensInboxes}
 use Rattle.srv_serve.specs.Stage.{Shows}
 
--- the request for each door
-abbrev pub door_request : Serving → DoorAsked
-door_request serving = record { address = serving.listen; connections = serving.connections }
+-- the devices that are asked for: doors at an address, each for a number of connections, an inbox for each folder, and
+-- clocks, each of a number of ticks
+pub record Wanted : Type 0 where
+  pub listen : List ℕ
+  pub connections : ℕ
+  pub workers : ℕ
+  pub inboxes : List (List ℕ)
+  pub clocks : ℕ
+  pub ticks : ℕ
+
+-- the same, of a request in code
+abbrev pub wanted_of : Asked → Wanted
+wanted_of asked = record {
+  listen = asked.listen.now;
+  connections = asked.connections;
+  workers = asked.workers;
+  inboxes = asked.inboxes.now;
+  clocks = asked.clocks;
+  ticks = asked.ticks;
+}
 
 -- for how many seconds a run is kept; nothing asks where there is no clock
 abbrev pub kept_for : Option ℕ → ℕ
 kept_for None = 0
 kept_for (Some seconds) = seconds
 
--- how many clocks are asked for: one where runs are kept for a time
-abbrev pub clocks_for : Option ℕ → ℕ
-clocks_for None = 0
-clocks_for (Some seconds) = 1
+-- how many clocks are asked for: one for each collection where runs are kept for a time
+abbrev pub clocks_for : ℕ → Option ℕ → ℕ
+clocks_for collections None = 0
+clocks_for collections (Some seconds) = collections
 
--- These devices were opened: doors first, then inboxes, one for each of the first folders, and then a clock.
-pub record OpensDevices {D I C L : Type 0} (show : Shows D I C L) (serving : Serving)
+-- the devices that the options of `serve` ask for
+abbrev pub asked_by : Serving → Wanted
+asked_by serving = record {
+  listen = serving.listen;
+  connections = serving.connections;
+  workers = serving.workers;
+  inboxes = serving.inboxes;
+  clocks = clocks_for 1 serving.keep;
+  ticks = serving.ticks;
+}
+
+-- the request for each door
+abbrev pub door_request : Wanted → DoorAsked
+door_request wanted = record { address = wanted.listen; connections = wanted.connections }
+
+-- These devices were opened: doors first, then inboxes, one for each of the first folders, and then clocks.
+pub record OpensDevices {D I C L : Type 0} (show : Shows D I C L) (wanted : Wanted)
     (opener opener' : Option (Stock D I C)) (devices : Devices D I C) : Type 0 where
   pub after_doors : Option (Stock D I C)
   pub after_inboxes : Option (Stock D I C)
-  pub doors : OpensDoors show.door (door_request serving) opener after_doors devices.doors
-  pub inboxes : OpensInboxes show.inbox serving.inboxes after_doors after_inboxes devices.inboxes
-  pub clock : OpensClock show.clock serving.ticks after_inboxes opener' devices.clocks
+  pub doors : OpensDoors show.door (door_request wanted) opener after_doors devices.doors
+  pub inboxes : OpensInboxes show.inbox wanted.inboxes after_doors after_inboxes devices.inboxes
+  pub clocks : OpensClocks show.clock wanted.ticks after_inboxes opener' devices.clocks
 
 -- All devices were opened that are asked for, and no call of the opener failed.
-pub record AreAllOpened {D I C : Type 0} (serving : Serving) (devices : Devices D I C) (faults faults' : ℕ)
+pub record AreAllOpened {D I C : Type 0} (wanted : Wanted) (devices : Devices D I C) (faults faults' : ℕ)
     : Type 0 where
-  pub doors : length devices.doors ≡ serving.workers
-  pub inboxes : length devices.inboxes ≡ length serving.inboxes
-  pub clocks : length devices.clocks ≡ clocks_for serving.keep
+  pub doors : length devices.doors ≡ wanted.workers
+  pub inboxes : length devices.inboxes ≡ length wanted.inboxes
+  pub clocks : length devices.clocks ≡ wanted.clocks
   pub calm : faults' ≡ faults
 
 -- The door of this number wasn't opened, since a call of the opener failed, nor was anything after it.
-pub record StopsAtDoor {D I C : Type 0} (serving : Serving) (devices : Devices D I C) (faults faults' number : ℕ)
+pub record StopsAtDoor {D I C : Type 0} (wanted : Wanted) (devices : Devices D I C) (faults faults' number : ℕ)
     : Type 0 where
   pub number_is : number ≡ length devices.doors
-  pub few_doors : number < serving.workers
+  pub few_doors : number < wanted.workers
   pub no_inboxes : devices.inboxes ≡ []
   pub no_clocks : devices.clocks ≡ []
   pub cause : faults' ≡ one_more faults
 
 -- All doors were opened, and the inbox of this number wasn't, since a call of the opener failed.
-pub record StopsAtInbox {D I C : Type 0} (serving : Serving) (devices : Devices D I C) (faults faults' number : ℕ)
+pub record StopsAtInbox {D I C : Type 0} (wanted : Wanted) (devices : Devices D I C) (faults faults' number : ℕ)
     : Type 0 where
-  pub doors : length devices.doors ≡ serving.workers
+  pub doors : length devices.doors ≡ wanted.workers
   pub number_is : number ≡ length devices.inboxes
-  pub few_inboxes : number < length serving.inboxes
+  pub few_inboxes : number < length wanted.inboxes
   pub no_clocks : devices.clocks ≡ []
   pub cause : faults' ≡ one_more faults
 
 -- Opening stopped at a device, or memory ran out.
-abbrev pub StopsAt : {D I C : Type 0} → Serving → Devices D I C → ℕ → ℕ → End → Type 0
-StopsAt serving devices faults faults' (DoorFault number) = StopsAtDoor serving devices faults faults' number
-StopsAt serving devices faults faults' (InboxFault number) = StopsAtInbox serving devices faults faults' number
-StopsAt serving devices faults faults' NoMemory = faults' ≡ faults
-StopsAt serving devices faults faults' end = ⊥
+abbrev pub StopsAt : {D I C : Type 0} → Wanted → Devices D I C → ℕ → ℕ → End → Type 0
+StopsAt wanted devices faults faults' (DoorFault number) = StopsAtDoor wanted devices faults faults' number
+StopsAt wanted devices faults faults' (InboxFault number) = StopsAtInbox wanted devices faults faults' number
+StopsAt wanted devices faults faults' NoMemory = faults' ≡ faults
+StopsAt wanted devices faults faults' end = ⊥
 
 -- One of these devices has failed.
 abbrev pub HasFailedAt : {X : Type 0} → (X → ℕ) → List X → ℕ → Type 0

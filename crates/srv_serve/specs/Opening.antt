@@ -60,11 +60,11 @@ abbrev pub StopsShort : (ℕ → End) → ℕ → ℕ → ℕ → ℕ → End �
 StopsShort end_at opened wanted faults faults' end = ((end ≡ ends.NoMemory) × (faults' ≡ faults))
     ⊎ ((end ≡ end_at opened) × (opened < wanted) × (faults' ≡ one_more faults))
 
--- This clock was opened for this number of ticks, or none was: it is the next of an opener's clocks, which has the
--- others left.
-abbrev pub OpensClock : {D I C : Type 0} → (C → Option Moments) → ℕ → Option (Stock D I C) → Option (Stock D I C)
+-- These clocks were opened, each for this number of ticks: each is the next of an opener's clocks, which has the others
+-- left.
+abbrev pub OpensClocks : {D I C : Type 0} → (C → Option Moments) → ℕ → Option (Stock D I C) → Option (Stock D I C)
     → List C → Type 0
-OpensClock shown ticks opener opener' [] = opener' ≡ opener
-OpensClock shown ticks opener opener' (clock ∷ []) =
-    IfSome opener (λ stock. shown clock ≡ next_clock shown stock.clocks ticks) × (opener' ≡ after_clock opener)
-OpensClock shown ticks opener opener' clocks = ⊥
+OpensClocks shown ticks opener opener' [] = opener' ≡ opener
+OpensClocks shown ticks opener opener' (clock ∷ clocks) =
+    IfSome opener (λ stock. shown clock ≡ next_clock shown stock.clocks ticks)
+    × OpensClocks shown ticks (after_clock opener) opener' clocks

@@ -76,16 +76,18 @@ fn first_at<R: Reported>(reports: &[R]) -> Option<End>
     None
 }
 
-// The first end of a run at the doors, the inboxes and the clocks.
-fn first_end(outcome: &Outcome) -> Option<End>
-    requires doors { length outcome.now.doors < 2 ^ 32 }
-    requires inboxes { length outcome.now.inboxes < 2 ^ 32 }
-    requires clocks { length outcome.now.clocks < 2 ^ 32 }
-    ensures { result ≡ spec.first_end outcome.now }
+// The first end of a run at the doors, the inboxes and the clocks that these reports are of.
+pub(crate) fn first_end(
+    doors: &[DoorReport],
+    inboxes: &[IngestReport],
+    clocks: &[ExpireReport],
+) -> Option<End>
+    requires doors { length doors.now < 2 ^ 32 }
+    requires inboxes { length inboxes.now < 2 ^ 32 }
+    requires clocks { length clocks.now < 2 ^ 32 }
+    ensures { result ≡ spec.first_end_of doors.now inboxes.now clocks.now }
 {
-    first_at(outcome.doors.as_slice())
-        .or(first_at(outcome.inboxes.as_slice()))
-        .or(first_at(outcome.clocks.as_slice()))
+    first_at(doors).or(first_at(inboxes)).or(first_at(clocks))
 }
 
 // How many files came, and how many were taken back.
@@ -172,7 +174,7 @@ fn put_left<S: Sink>(sink: &mut S, tally: Tally, revision: u64) -> Result<(), Fa
 
 // Writes the counts of a run and the end of the line. It takes no memory.
 #[tactic(auto, using(srv_alone::proofs::PieceLemmas::texts))]
-fn put_counts<S: Sink>(
+pub(crate) fn put_counts<S: Sink>(
     sink: &mut S,
     published: u64,
     retracted: u64,
@@ -214,7 +216,10 @@ pub(crate) fn close<S: Sink>(sink: &mut S, outcome: &Outcome) -> End
     requires told { told_of outcome.now < 2 ^ 64 }
     ensures { spec.EndsServing outcome.now (spec.first_end outcome.now) result (S.shown sink.old) (S.shown sink.new) }
 {
-    if let Some(end) = first_end(outcome) {
+    let doors = outcome.doors.as_slice();
+    let inboxes = outcome.inboxes.as_slice();
+    let clocks = outcome.clocks.as_slice();
+    if let Some(end) = first_end(doors, inboxes, clocks) {
         report(sink, end, b"");
         return end;
     }

@@ -1,16 +1,40 @@
-//! Opens the doors, the inboxes and the clock of a server.
+//! Opens the doors, the inboxes and the clocks of a server.
 ghost use Rattle.std.specs.Prelude.{◌≡◌, ◌<◌, ◌^◌, [], length, IfErr, OnOk};
-ghost use Rattle.srv_words.specs.Serve.{IsServing};
 ghost use Rattle.srv_alone.specs.declared.end.End.TheVariants.{DoorFault, InboxFault};
-ghost use Rattle.srv_serve.specs.Devices as devices;
+ghost use Rattle.srv_serve.specs.Devices as asking;
 ghost use Rattle.srv_serve.specs.Opening as spec;
 ghost use Rattle.srv_serve.specs.Stage.{shows};
 
 use dev_traits::{Failed, Machine, Opened};
 use fm_base::{Bytes, Fail, List, NoMemory};
 use srv_alone::End;
-use srv_words::Serving;
+use srv_workers::can_start;
 use std::alloc::Global;
+use std::marker::Sync;
+use std::sync::Wait;
+use std::thread::Threads;
+
+// What a server is asked to open: doors at an address, each for a number of connections, an inbox for each folder, and
+// clocks, each of a number of ticks.
+#[derive(Clone, Copy)]
+pub(crate) struct Asked<'a> {
+    pub(crate) listen: &'a [u8],
+    pub(crate) connections: u32,
+    pub(crate) workers: u32,
+    pub(crate) inboxes: &'a [Bytes],
+    pub(crate) clocks: u32,
+    pub(crate) ticks: u32,
+}
+
+// For how many seconds a run is kept; nothing asks where there is no clock.
+pub(crate) fn kept(keep: Option<u32>) -> u32
+    ensures { result ≡ asking.kept_for keep }
+{
+    match keep {
+        Some(seconds) => seconds,
+        None => 0,
+    }
+}
 
 // The end of opening where a call failed, or memory ran out.
 fn end_of(fail: Fail<Failed>, end: End) -> End
@@ -82,55 +106,89 @@ fn open_inboxes<M: Machine>(
     Ok(())
 }
 
-// Opens the clock where runs are kept for a time. Room for it is made first.
-fn open_clock<M: Machine>(
+// Opens `count` clocks of `ticks` ticks each. Room for all is made first.
+#[tactic(auto, using(crate::proofs::OpeningLemmas::clocks))]
+fn open_clocks<M: Machine>(
     opener: &mut M,
     clocks: &mut List<M::C>,
-    serving: &Serving,
+    count: u32,
+    ticks: u32,
 ) -> Result<(), NoMemory>
     requires { clocks.old ≡ [] }
-    ensures opens { spec.OpensClock M.C.shown serving.now.ticks (M.shown opener.old).held (M.shown opener.new).held
-        clocks.new }
-    ensures all { OnOk result (length clocks.new ≡ devices.clocks_for serving.now.keep) }
+    ensures opens { spec.OpensClocks M.C.shown ticks (M.shown opener.old).held (M.shown opener.new).held clocks.new }
+    ensures all { OnOk result (length clocks.new ≡ count) }
     ensures calm { (M.shown opener.new).faults ≡ (M.shown opener.old).faults }
 {
-    if serving.keep.is_some() {
-        clocks.items.reserve(1)?;
-        clocks.items.push_reserved(opener.clock(serving.ticks));
+    let Ok(()) = clocks.items.reserve(count as usize) else {
+        return Err(NoMemory);
+    };
+    for _number in 0..count {
+        clocks.items.push_reserved(opener.clock(ticks));
     }
     Ok(())
 }
 
 // Opens all devices of a server. Where that stops short, the opened ones stand in their lists.
-pub(crate) fn open_devices<M: Machine>(
+fn open_devices<M: Machine>(
     alloc: Global,
     opener: &mut M,
-    serving: &Serving,
+    asked: &Asked<'_>,
     opened: &mut Opened<M>,
 ) -> Result<(), End>
-    requires serving { IsServing serving.now }
+    requires few { length asked.now.inboxes.now < 2 ^ 32 }
     requires none { opened.old ≡ record { doors = []; inboxes = []; clocks = [] } }
-    ensures opens { devices.OpensDevices (shows M.D.shown M.D.L.shown M.I.shown M.C.shown) serving.now
+    ensures opens { asking.OpensDevices (shows M.D.shown M.D.L.shown M.I.shown M.C.shown) (asking.wanted_of asked.now)
         (M.shown opener.old).held (M.shown opener.new).held opened.new }
     ensures all { OnOk result
-        (devices.AreAllOpened serving.now opened.new (M.shown opener.old).faults (M.shown opener.new).faults) }
+        (asking.AreAllOpened (asking.wanted_of asked.now) opened.new (M.shown opener.old).faults
+        (M.shown opener.new).faults) }
     ensures stops { IfErr result
-        (devices.StopsAt serving.now opened.new (M.shown opener.old).faults (M.shown opener.new).faults) }
+        (asking.StopsAt (asking.wanted_of asked.now) opened.new (M.shown opener.old).faults
+        (M.shown opener.new).faults) }
 {
     open_doors(
         alloc,
         opener,
         &mut opened.doors,
-        serving.listen.as_slice(),
-        serving.connections,
-        serving.workers,
+        asked.listen,
+        asked.connections,
+        asked.workers,
     )?;
-    open_inboxes(
-        alloc,
-        opener,
-        &mut opened.inboxes,
-        serving.inboxes.as_slice(),
-    )?;
-    open_clock(opener, &mut opened.clocks, serving)?;
+    open_inboxes(alloc, opener, &mut opened.inboxes, asked.inboxes)?;
+    open_clocks(opener, &mut opened.clocks, asked.clocks, asked.ticks)?;
     Ok(())
+}
+
+// How many threads a run needs beside its own: it has a worker for each device.
+fn threads_for(asked: &Asked<'_>) -> usize {
+    let workers = (asked.workers as usize)
+        .saturating_add(asked.inboxes.len())
+        .saturating_add(asked.clocks as usize);
+    workers.saturating_sub(1)
+}
+
+// Opens all devices of a server. Where a worker for each can't have a thread of its own, nothing is opened: one that
+// waits for another one would leave its links waiting.
+pub(crate) fn open_all<R: Threads + Wait + Sync, M: Machine>(
+    rt: &R,
+    alloc: Global,
+    asked: &Asked<'_>,
+    opener: &mut M,
+    devices: &mut Opened<M>,
+) -> Result<(), End>
+    requires few { length asked.now.inboxes.now < 2 ^ 32 }
+    requires none { devices.old ≡ record { doors = []; inboxes = []; clocks = [] } }
+    ensures opens { asking.OpensDevices (shows M.D.shown M.D.L.shown M.I.shown M.C.shown) (asking.wanted_of asked.now)
+        (M.shown opener.old).held (M.shown opener.new).held devices.new }
+    ensures all { OnOk result
+        (asking.AreAllOpened (asking.wanted_of asked.now) devices.new (M.shown opener.old).faults
+        (M.shown opener.new).faults) }
+    ensures stops { IfErr result
+        (asking.StopsAt (asking.wanted_of asked.now) devices.new (M.shown opener.old).faults
+        (M.shown opener.new).faults) }
+{
+    if !can_start(rt, threads_for(asked)) {
+        return Err(End::NoMemory);
+    }
+    open_devices(alloc, opener, asked, devices)
 }

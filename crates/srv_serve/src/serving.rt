@@ -1,63 +1,66 @@
 //! The command that serves a collection.
 ghost use Rattle.std.specs.Prelude.{◌≡◌, [], IfErr, IfOk, OnOk};
-ghost use Rattle.fm_model.specs.Site.{IsPrototype, IsSite};
+ghost use Rattle.fm_model.specs.Site.{IsPrototype};
 ghost use Rattle.srv_words.specs.Serve.{IsServing};
-ghost use Rattle.srv_alone.specs.Once.{EndsOpening, Opens};
+ghost use Rattle.srv_serve.specs.Devices as asking;
+ghost use Rattle.srv_serve.specs.Devices.{wanted_of};
 ghost use Rattle.srv_serve.specs.Serve as spec;
 ghost use Rattle.srv_serve.specs.Stage.{dial_shown, shows, stage_of};
 
 use crate::closing::close;
-use crate::opening::open_devices;
+use crate::opening::{Asked, kept, open_all};
+use crate::prototypes::read_shared;
 use crate::saying::say;
 use crate::telling::tell_serving;
-use dev_traits::{Devices, Files, Machine, Opened, World};
-use fm_base::{Arc, Bytes, NoMemory};
-use fm_model::{Proto, Site};
-use srv_alone::{End, read_prototype, report};
+use dev_traits::{Devices, Machine, Opened, World};
+use fm_base::Arc;
+use fm_model::Proto;
+use srv_alone::{End, report};
 use srv_words::Serving;
-use srv_workers::{Outcome, can_start, run_workers};
+use srv_workers::{Outcome, run_workers};
 use std::alloc::Global;
 use std::marker::Sync;
 use std::sync::Wait;
 use std::thread::Threads;
 
-// The same site once more.
-fn copy_of(alloc: Global, site: &Site) -> Result<Site, NoMemory>
-    ensures { IfOk result (λ copy. copy ≡ site.now) }
+// What the options ask for.
+fn asked_by(serving: &Serving) -> Asked<'_>
+    ensures { wanted_of result ≡ asking.asked_by serving.now }
 {
-    Ok(Site {
-        name: Bytes::copy_of(alloc, site.name.as_slice())?,
-        epoch: site.epoch,
-        mark: Bytes::copy_of(alloc, site.mark.as_slice())?,
-    })
+    Asked {
+        listen: serving.listen.as_slice(),
+        connections: serving.connections,
+        workers: serving.workers,
+        inboxes: serving.inboxes.as_slice(),
+        clocks: u32::from(serving.keep.is_some()),
+        ticks: serving.ticks,
+    }
 }
 
-// Reads the prototype of the served collection.
-fn read_shared<F: Files>(alloc: Global, files: &mut F, serving: &Serving) -> Result<Arc<Proto>, End>
-    requires { IsSite serving.now.site }
-    ensures opens { IfOk result (λ proto. Opens serving.now.site serving.now.proto (F.shown files.old) proto) }
-    ensures same { OnOk result (F.shown files.new ≡ F.shown files.old) }
-    ensures sound { IfOk result (λ proto. IsPrototype proto) }
-    ensures ends { IfErr result
-        (EndsOpening serving.now.site serving.now.proto (F.shown files.old) (F.shown files.new)) }
+// Opens all devices that the options ask for, and tells so.
+fn open_served<R: Threads + Wait + Sync, M: Machine>(
+    rt: &R,
+    alloc: Global,
+    serving: &Serving,
+    opener: &mut M,
+    devices: &mut Opened<M>,
+) -> Result<(), End>
+    requires serving { IsServing serving.now }
+    requires none { devices.old ≡ record { doors = []; inboxes = []; clocks = [] } }
+    ensures opens { OnOk result (spec.HasOpened (shows M.D.shown M.D.L.shown M.I.shown M.C.shown)
+        (spec.serving_lines serving.now) (asking.asked_by serving.now) (M.shown opener.old) (M.shown opener.new)
+        devices.new) }
+    ensures stopped { IfErr result (spec.HasStopped (shows M.D.shown M.D.L.shown M.I.shown M.C.shown)
+        (spec.serving_lines serving.now) (asking.asked_by serving.now) (M.shown opener.old) (M.shown opener.new)
+        devices.new) }
 {
-    let site = copy_of(alloc, &serving.site)?;
-    let proto = read_prototype(alloc, files, site, serving.proto.as_slice())?;
-    Ok(Arc::new(alloc, proto)?)
+    let asked = asked_by(serving);
+    open_all(rt, alloc, &asked, opener, devices)?;
+    tell_serving(alloc, opener, serving.site.name.as_slice(), &asked)?;
+    Ok(())
 }
 
-// How many threads a run needs beside its own: it has a worker for each device.
-fn threads_for(serving: &Serving) -> usize {
-    let doors = serving.workers as usize;
-    let clocks = usize::from(serving.keep.is_some());
-    let workers = doors
-        .saturating_add(serving.inboxes.len())
-        .saturating_add(clocks);
-    workers.saturating_sub(1)
-}
-
-// Opens all devices, tells so, and has workers run over them, each in a thread of its own. Where one can't be started,
-// nothing is opened: a worker that waits for another one would leave its links waiting.
+// Opens all devices, and has workers run over them, each in a thread of its own.
 fn run_in_threads<R: Threads + Wait + Sync, M: Machine>(
     rt: &R,
     alloc: Global,
@@ -72,15 +75,12 @@ fn run_in_threads<R: Threads + Wait + Sync, M: Machine>(
     requires none { devices.old ≡ record { doors = []; inboxes = []; clocks = [] } }
     ensures run { IfOk result (spec.HasRun (shows M.D.shown M.D.L.shown M.I.shown M.C.shown) serving.now proto.now
         (M.shown opener.old) (M.shown opener.new) devices.new) }
-    ensures stopped { IfErr result (spec.HasStopped (shows M.D.shown M.D.L.shown M.I.shown M.C.shown) serving.now
-        (M.shown opener.old) (M.shown opener.new) devices.new) }
+    ensures stopped { IfErr result (spec.HasStopped (shows M.D.shown M.D.L.shown M.I.shown M.C.shown)
+        (spec.serving_lines serving.now) (asking.asked_by serving.now) (M.shown opener.old) (M.shown opener.new)
+        devices.new) }
 {
-    if !can_start(rt, threads_for(serving)) {
-        return Err(End::NoMemory);
-    }
-    open_devices(alloc, opener, serving, devices)?;
-    tell_serving(alloc, opener, serving)?;
-    let keep = serving.keep.unwrap_or(0);
+    open_served(rt, alloc, serving, opener, devices)?;
+    let keep = kept(serving.keep);
     let outcome = run_workers::<R, M>(rt, alloc, proto, keep, gate, devices)?;
     Ok(outcome)
 }
@@ -98,10 +98,11 @@ pub fn serve<R: Threads + Wait + Sync, M: Machine>(
         spec.RunsServe (shows M.D.shown M.D.L.shown M.I.shown M.C.shown) serving.now result
         (stage world.old) (stage world.new) }
 {
-    let proto = match read_shared(alloc, &mut world.files, serving) {
+    let path = serving.proto.as_slice();
+    let proto = match read_shared(alloc, &mut world.files, &serving.site, path) {
         Ok(proto) => proto,
         Err(end) => {
-            report(&mut world.sink, end, serving.proto.as_slice());
+            report(&mut world.sink, end, path);
             return end;
         }
     };

@@ -28,19 +28,12 @@ fn help_of<'a>(command: job::Command) -> &'a str {
     }
 }
 
-// Whether the program doesn't offer a command yet, whose words are read.
-fn is_to_come(command: job::Command) -> bool {
-    matches!(command, job::Command::Many)
-}
-
-// A command without its arguments. The help of the program leaves out one that isn't offered.
+// A command without its arguments.
 fn named<'a>(alloc: Global, command: job::Command) -> Command<'a>
     ensures app { app_of result ≡ new_app (spec.name_of command) }
     ensures plain { (out-Command result).has_globals ≡ false }
 {
-    Command::new(alloc, command.name())
-        .about(help_of(command))
-        .hide(is_to_come(command))
+    Command::new(alloc, command.name()).about(help_of(command))
 }
 
 /// A command with all that stands behind it.

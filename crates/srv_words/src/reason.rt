@@ -12,11 +12,10 @@ use fm_base::{Bytes, Fail, List, NoMemory};
 use std::alloc::Global;
 use std::str;
 
-const NO_COMMAND: &str = "a command is missing: serve, once, twod, extract, pull, check or load";
+const NO_COMMAND: &str =
+    "a command is missing: serve, many, once, twod, extract, pull, check or load";
 
 const NONE_FAULTY: &str = "no faulty word was found";
-
-const NOT_OFFERED: &str = "the command isn't offered yet";
 
 const NOT_ALONE: &str = "help is asked for by '--help' alone, or by a command and '--help'";
 
@@ -82,7 +81,6 @@ fn put_value(alloc: Global, matches: &ArgMatches<'_>, out: &mut Line) {
 fn put_value_of(alloc: Global, name: &str, matches: &ArgMatches<'_>, out: &mut Line) {
     match faulty_in(alloc, name, matches) {
         Some(faulty) => put_faulty(&faulty, out),
-        None if name == "many" => out.put(NOT_OFFERED),
         None => out.put(NONE_FAULTY),
     }
 }

@@ -18,6 +18,7 @@ use Rattle.srv_ingest.specs.declared.report.ExpireReport.{ExpireReport}
 use Rattle.srv_ingest.specs.declared.report.IngestReport.{IngestReport}
 use Rattle.srv_ingest.specs.Expires.{AllSettledWith}
 use Rattle.srv_ingest.specs.Ingests.{SettledWith}
+use Rattle.srv_workers.specs.declared.given.Given.{Given}
 use Rattle.srv_workers.specs.declared.one.OwnHand.{OwnHand}
 use Rattle.srv_workers.specs.declared.outcome.Outcome.{Outcome}
 use Rattle.srv_workers.specs.declared.outcome.Outcomes.{Outcomes}
@@ -29,11 +30,11 @@ use Rattle.srv_workers.specs.Runs.{AreRuns, IsClockRun, IsDoorRun, IsInboxRun, R
 use Rattle.srv_workers.specs.Work.{sight}
 
 -- a run at a desk, with the pass at the end
-abbrev run_of : {X K R : Type 0} → (K → History) → DeskRun X K R → Run X R
+abbrev pub run_of : {X K R : Type 0} → (K → History) → DeskRun X K R → Run X R
 run_of pass run = record { came = run.came; left = run.left; pass = pass run.last; report = run.report }
 
 -- what is read off each, before and after
-same-map : {A B C : Type 0} (f : A → B) (g : B → C) (h : A → C) (xs : List A) → ((x : A) → g (f x) ≡ h x)
+pub same-map : {A B C : Type 0} (f : A → B) (g : B → C) (h : A → C) (xs : List A) → ((x : A) → g (f x) ≡ h x)
     → map g (map f xs) ≡ map h xs
 same-map f g h [] same = refl
 same-map {C = C} f g h (x ∷ xs) same = ap₂ (λ (y : C) (ys : List C). y ∷ ys) (same x) (same-map f g h xs same)
@@ -152,36 +153,38 @@ clocks-told {D} {I} {C} {L} {N} door link inbox clock proto keep log (run ∷ ru
 
 -- a run over one desk is one over one log
 pub RanTogether-one : {D I C L N : Type 0} (door : D → DoorShown L) (link : L → LinkShown) (inbox : I → InboxShown)
-    (clock : C → Option Moments) (proto : Proto) (keep : ℕ) (before after : Devices D I C) (outcomes : Outcomes)
-    (outcome : Outcome) → RanOver (shows door link inbox clock) keep (one_means {N = N} proto) before after outcomes
+    (clock : C → Option Moments) (proto : Proto) (keep : ℕ) (given : Given History (OwnHand N))
+    (before after : Devices D I C) (outcomes : Outcomes) (outcome : Outcome)
+    → RanOver (shows door link inbox clock) keep (one_means {N = N} proto) given before after outcomes
     → IsOfOne outcomes outcome → RanTogether door link inbox clock proto keep before after outcome
-RanTogether-one {D} {I} {C} {L} {N} door link inbox clock proto keep before after outcomes outcome ran of_one = record {
-  log = ran.log 0;
-  sound = ran.sound 0 (omega arith);
-  doors = subst (λ (reports : List DoorReport). AreRuns (IsDoorRun door link proto (ran.log 0)) before.doors after.doors
-      reports) (sym of_one.doors) (runs-alone (λ pass. pass)
-      (IsDoorRunAt (shows door link inbox clock) (one_means {N = N} proto) ran.log)
-      (IsDoorRun door link proto (ran.log 0)) before.doors after.doors outcomes.doors
-      (door-alone {N = N} door link inbox clock proto ran.log) ran.doors);
-  inboxes = subst (λ (reports : List IngestReport). AreRuns (IsInboxRun inbox proto (ran.log 0)) before.inboxes
-      after.inboxes reports) (sym of_one.inboxes) (runs-alone (λ hand. hand.own)
-      (IsInboxRunAt (shows door link inbox clock) (one_means {N = N} proto) ran.log)
-      (IsInboxRun inbox proto (ran.log 0)) before.inboxes after.inboxes outcomes.inboxes
-      (inbox-alone door link inbox clock proto ran.log) ran.inboxes);
-  clocks = subst (λ (reports : List ExpireReport). AreRuns (IsClockRun clock proto keep (ran.log 0)) before.clocks
-      after.clocks reports) (sym of_one.clocks) (runs-alone (λ hand. hand.own)
-      (IsClockRunAt (shows door link inbox clock) keep (one_means {N = N} proto) ran.log)
-      (IsClockRun clock proto keep (ran.log 0)) before.clocks after.clocks outcomes.clocks
-      (clock-alone door link inbox clock proto keep ran.log) ran.clocks);
-  tally_is = of_one.tally (closed_of (ran.log 0)) ran.closed;
-  revision_is = of_one.revision (closed_of (ran.log 0)) ran.closed;
-  told = ap₂ (λ (is : List IngestReport) (cs : List ExpireReport).
-      sum_by (λ (report : IngestReport). report.published) is
-      + sum_by (λ (report : IngestReport). report.retracted) is
-      + sum_by (λ (report : ExpireReport). report.expired) cs)
-      (of_one.inboxes ∙ sym ran.inboxes.told) (of_one.clocks ∙ sym ran.clocks.told)
-      ∙ ap₂ (λ (a b : ℕ). a + b)
-      (inboxes-told door link inbox clock proto ran.log ran.inboxes.runs ran.inboxes.each)
-      (clocks-told door link inbox clock proto keep ran.log ran.clocks.runs ran.clocks.each)
-      ∙ ran.told 0 (omega arith) ∙ sym (of_one.revision (closed_of (ran.log 0)) ran.closed);
-}
+RanTogether-one {D} {I} {C} {L} {N} door link inbox clock proto keep given before after outcomes outcome ran
+    of_one = record {
+      log = ran.log 0;
+      sound = ran.sound 0 (omega arith);
+      doors = subst (λ (all : List DoorReport). AreRuns (IsDoorRun door link proto (ran.log 0)) before.doors after.doors
+          all) (sym of_one.doors) (runs-alone (λ pass. pass)
+          (IsDoorRunAt (shows door link inbox clock) (one_means {N = N} proto) ran.log)
+          (IsDoorRun door link proto (ran.log 0)) before.doors after.doors outcomes.doors
+          (door-alone {N = N} door link inbox clock proto ran.log) ran.doors);
+      inboxes = subst (λ (reports : List IngestReport). AreRuns (IsInboxRun inbox proto (ran.log 0)) before.inboxes
+          after.inboxes reports) (sym of_one.inboxes) (runs-alone (λ hand. hand.own)
+          (IsInboxRunAt (shows door link inbox clock) (one_means {N = N} proto) ran.log)
+          (IsInboxRun inbox proto (ran.log 0)) before.inboxes after.inboxes outcomes.inboxes
+          (inbox-alone door link inbox clock proto ran.log) ran.inboxes);
+      clocks = subst (λ (reports : List ExpireReport). AreRuns (IsClockRun clock proto keep (ran.log 0)) before.clocks
+          after.clocks reports) (sym of_one.clocks) (runs-alone (λ hand. hand.own)
+          (IsClockRunAt (shows door link inbox clock) keep (one_means {N = N} proto) ran.log)
+          (IsClockRun clock proto keep (ran.log 0)) before.clocks after.clocks outcomes.clocks
+          (clock-alone door link inbox clock proto keep ran.log) ran.clocks);
+      tally_is = of_one.tally (closed_of (ran.log 0)) ran.closed;
+      revision_is = of_one.revision (closed_of (ran.log 0)) ran.closed;
+      told = ap₂ (λ (is : List IngestReport) (cs : List ExpireReport).
+          sum_by (λ (report : IngestReport). report.published) is
+          + sum_by (λ (report : IngestReport). report.retracted) is
+          + sum_by (λ (report : ExpireReport). report.expired) cs)
+          (of_one.inboxes ∙ sym ran.inboxes.told) (of_one.clocks ∙ sym ran.clocks.told)
+          ∙ ap₂ (λ (a b : ℕ). a + b)
+          (inboxes-told door link inbox clock proto ran.log ran.inboxes.runs ran.inboxes.each)
+          (clocks-told door link inbox clock proto keep ran.log ran.clocks.runs ran.clocks.each)
+          ∙ ran.told 0 (omega arith) ∙ sym (of_one.revision (closed_of (ran.log 0)) ran.closed);
+    }

@@ -52,5 +52,3 @@ Closes-is means slots log staff before after devices outcomes empty none puts do
           (slots before.back number) (slots after.back number) (none number below) (puts.shares number below)))
           ∙ counted number below;
     }
-
-pub ruleset closes = (shares-all, Closes-is)

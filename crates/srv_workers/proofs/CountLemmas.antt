@@ -1,13 +1,13 @@
 -- What the shares of workers have counted at a desk.
-use Rattle.std.proofs.Common.{◌≡◌, ℕ, List, [], ◌∷◌, ◌++◌, length, Bool, true, false, nat_eq, refl, sym, ap, ap₂, ◌∙◌, append-nil, length-append, arith}
+use Rattle.std.proofs.Common.{◌≡◌, ℕ, ◌+◌, List, [], ◌∷◌, ◌++◌, length, Bool, true, false, nat_eq, refl, sym, ap, ap₂, ◌∙◌, append-nil, length-append, arith}
 use Rattle.std.specs.Prelude.{if◌then◌else◌}
-use Rattle.std.specs.List.{AllZip}
+use Rattle.std.specs.List.{AllZip, filter_map}
 use Rattle.srv_workers.specs.declared.worker.Worker.{Worker}
 use Rattle.srv_workers.specs.declared.worker.Worker.TheVariants.{Serve, TakeIn, LetGo}
 use Rattle.srv_workers.specs.Course.{Keeps}
 use Rattle.srv_workers.specs.Desks.{counted_at, Means, Publisher}
 use Rattle.srv_workers.specs.Does.{Does, Shows}
-use Rattle.srv_workers.specs.Workers.{counted_by}
+use Rattle.srv_workers.specs.Workers.{clock_hand, counted_by, counted_with, inbox_hand}
 
 -- the count of the first, and of the others
 pub counted-cons : {D I C E H : Type 0} (means : Means E H) (number : ℕ) (w : Worker D I C E H)
@@ -71,3 +71,22 @@ counted-worked shown keep means number (TakeIn i h r ∷ vs) (Serve d n e r' ∷
 counted-worked shown keep means number (TakeIn i h r ∷ vs) (LetGo c h' r' ∷ ws) worked = absurd worked.0
 counted-worked shown keep means number (LetGo c h r ∷ vs) (Serve d n e r' ∷ ws) worked = absurd worked.0
 counted-worked shown keep means number (LetGo c h r ∷ vs) (TakeIn i h' r' ∷ ws) worked = absurd worked.0
+
+-- the counts of inboxes' workers, and those of clocks' workers
+pub counted-apart : {D I C E H : Type 0} (means : Means E H) (number : ℕ) (ws : List (Worker D I C E H))
+    → length (counted_by means number ws) ≡ length (counted_with means number (filter_map inbox_hand ws))
+    + length (counted_with means number (filter_map clock_hand ws))
+counted-apart means number [] = refl
+counted-apart means number (Serve d n e r ∷ ws) = counted-apart means number ws
+counted-apart means number (TakeIn i h r ∷ ws) = omega (
+  arith,
+  length-append (counted_at number (means.publisher h)) (counted_by means number ws),
+  length-append (counted_at number (means.publisher h)) (counted_with means number (filter_map inbox_hand ws)),
+  counted-apart means number ws,
+)
+counted-apart means number (LetGo c h r ∷ ws) = omega (
+  arith,
+  length-append (counted_at number (means.publisher h)) (counted_by means number ws),
+  length-append (counted_at number (means.publisher h)) (counted_with means number (filter_map clock_hand ws)),
+  counted-apart means number ws,
+)

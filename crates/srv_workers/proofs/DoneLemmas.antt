@@ -5,6 +5,7 @@ use Rattle.std.proofs.lemmas.List.Elements.{All-head, All-tail}
 use Rattle.std.proofs.lemmas.List.Sums.{sum_by-append}
 use Rattle.std.specs.List.{AllZip, cons_option, filter_map}
 use Rattle.fm_model.specs.declared.op.Op.{Op}
+use Rattle.srv_workers.specs.declared.given.Given.{Given}
 use Rattle.srv_workers.specs.declared.worker.Worker.{Worker}
 use Rattle.srv_workers.specs.declared.worker.Worker.TheVariants.{Serve, TakeIn, LetGo}
 use Rattle.srv_workers.specs.Course.{Begins, Keeps}
@@ -14,8 +15,8 @@ use Rattle.srv_workers.specs.Done.{AreDone, HaveWorked, IsHired}
 use Rattle.srv_workers.specs.Over.{AreDeskRuns, counted_in, DeskRun, IsClockRunAt, IsDoorRunAt, IsInboxRunAt}
 use Rattle.srv_workers.specs.Pairs.{pick}
 use Rattle.srv_workers.specs.Workers.{clock_of, clock_told, counted_by, counted_with, door_of, door_told, inbox_of, inbox_told, IsFirst}
-use Rattle.srv_workers.proofs.CountLemmas.{counted-kept, counted-worked}
-use Rattle.srv_workers.proofs.RunLemmas.{clock_run, clock-runs, door-runs, inbox_run, inbox-runs, IsFirstWork, runs-are}
+use Rattle.srv_workers.proofs.CountLemmas.{counted-apart, counted-kept, counted-worked}
+use Rattle.srv_workers.proofs.RunLemmas.{clock_run, clock-hands, clock-runs, door-runs, inbox_run, inbox-hands, inbox-runs, IsFirstWork, runs-are}
 use Rattle.dev_traits.specs.declared.world.Devices.{Devices}
 
 -- workers that had seen nothing and did their tasks
@@ -91,11 +92,11 @@ counted-all shown keep means log number (LetGo c h r ∷ vs) (TakeIn i h' r' ∷
 
 -- the tasks of hired workers are done once all have worked
 pub AreDone-is : {D I C L E H : Type 0} (shown : Shows D I C L) (keep : ℕ) (means : Means E H) (log : ℕ → List Op)
-    (devices : Devices D I C) (hands : List H) (before after : List (Worker D I C E H))
-    → IsHired means devices hands before → HaveWorked shown keep means log before after
-    → AreDone shown keep means log devices.doors devices.inboxes devices.clocks after
+    (devices : Devices D I C) (given : Given E H) (before after : List (Worker D I C E H))
+    → IsHired means devices given before → HaveWorked shown keep means log before after
+    → AreDone shown keep means log devices given after
 unfolding runs-equal runs-are inbox-runs clock-runs
-AreDone-is {D} {I} {C} {L} {E} {H} shown keep means log devices hands before after hired worked = record {
+AreDone-is {D} {I} {C} {L} {E} {H} shown keep means log devices given before after hired worked = record {
   doors = runs-equal (IsDoorRunAt shown means log) (filter_map door_of before) devices.doors
       (filter_map door_of worked.middle) (filter_map door_of after) (filter_map door_told worked.middle)
       (filter_map door_told after) hired.adds.doors_are (made-kept means door_of worked.middle after
@@ -111,6 +112,8 @@ AreDone-is {D} {I} {C} {L} {E} {H} shown keep means log devices hands before aft
       (filter_map clock_told after) hired.adds.clocks_are (made-kept means clock_of worked.middle after
       (λ v w kept. kept.clock) worked.kept) (made-kept means clock_told worked.middle after
       (λ v w kept. kept.clock_told) worked.kept) (clock-runs shown keep means log before worked.middle each);
+  at_inboxes_are = inbox-hands shown keep means log before worked.middle each ∙ hired.adds.at_inboxes_are;
+  at_clocks_are = clock-hands shown keep means log before worked.middle each ∙ hired.adds.at_clocks_are;
   counted = λ number. ap (λ (l : List ℕ). sum l) (counted-kept means number worked.middle after worked.kept)
       ∙ counted-all shown keep means log number before worked.middle each;
 }
@@ -120,13 +123,16 @@ AreDone-is {D} {I} {C} {L} {E} {H} shown keep means log devices hands before aft
 
 -- as many shares at each desk as there were hands
 pub counted-done : {D I C L E H : Type 0} (shown : Shows D I C L) (keep : ℕ) (means : Means E H) (log : ℕ → List Op)
-    (devices : Devices D I C) (hands : List H) (before after : List (Worker D I C E H)) (number : ℕ)
-    → IsHired means devices hands before → HaveWorked shown keep means log before after
-    → length (counted_by means number after) ≡ length (counted_with means number hands)
-counted-done {H = H} shown keep means log devices hands before after number hired worked =
+    (devices : Devices D I C) (given : Given E H) (before after : List (Worker D I C E H)) (number : ℕ)
+    → IsHired means devices given before → HaveWorked shown keep means log before after
+    → length (counted_by means number after) ≡ length (counted_with means number given.at_inboxes)
+    + length (counted_with means number given.at_clocks)
+counted-done {H = H} shown keep means log devices given before after number hired worked =
     ap (λ (l : List ℕ). length l) (counted-kept means number worked.middle after worked.kept)
     ∙ counted-worked shown keep means number before worked.middle worked.worked
-    ∙ ap (λ (l : List H). length (counted_with means number l)) hired.adds.hands_are
+    ∙ counted-apart means number before
+    ∙ ap₂ (λ (l m : List H). length (counted_with means number l) + length (counted_with means number m))
+    hired.adds.at_inboxes_are hired.adds.at_clocks_are
 
 -- as many devices as before
 pub runs-count : {X K R : Type 0} (Is : DeskRun X K R → Type 0) (before after : List X) (reports : List R)

@@ -1,10 +1,11 @@
 -- Workers that are hired, and the end of a run.
-use Rattle.std.proofs.Common.{◌≡◌, ℕ, ◌<◌, ◌≤◌, List, [], length, sym, ◌∙◌, arith}
+use Rattle.std.proofs.Common.{◌≡◌, ℕ, ◌<◌, ◌≤◌, List, [], length, sym, ap, ◌∙◌, arith}
 use Rattle.std.proofs.lemmas.List.Elements.{All-nil}
 use Rattle.std.specs.List.{filter_map}
 use Rattle.fm_edition.specs.Log.{IsLog}
 use Rattle.fm_model.specs.declared.op.Op.{Op}
 use Rattle.dev_traits.specs.declared.world.Devices.{Devices}
+use Rattle.srv_workers.specs.declared.given.Given.{Given}
 use Rattle.srv_workers.specs.declared.outcome.Outcomes.{Outcomes}
 use Rattle.srv_workers.specs.declared.parts.Parts.{Parts}
 use Rattle.srv_workers.specs.declared.worker.Worker.{Worker}
@@ -14,29 +15,33 @@ use Rattle.srv_workers.specs.Does.{Shows}
 use Rattle.srv_workers.specs.Done.{AreDone, IsHired}
 use Rattle.srv_workers.specs.Over.{AreDeskRuns, DeskRun, IsClockRunAt, IsDoorRunAt, IsInboxRunAt, RanOver}
 use Rattle.srv_workers.specs.Parts.{HasRoom}
-use Rattle.srv_workers.specs.Slots.{Slotted}
-use Rattle.srv_workers.specs.Workers.{Adds, clock_of, clock_told, counted_by, door_of, door_told, inbox_of, inbox_told, IsFirst}
+use Rattle.srv_workers.specs.Workers.{Adds, clock_of, clock_told, door_of, door_told, inbox_of, inbox_told, IsFirst}
 use Rattle.srv_workers.proofs.DoneLemmas.{runs-count, told-count}
 
 -- workers that were put where nothing was
-pub IsHired-is : {D I C E H : Type 0} (means : Means E H) (devices : Devices D I C) (hands : List H)
-    (staff : List (Worker D I C E H)) → Adds means [] staff devices.doors devices.inboxes devices.clocks hands
-    → IsHired means devices hands staff
-IsHired-is means devices hands staff adds = record { adds = adds; first = adds.first (All-nil (IsFirst means)) }
+pub IsHired-is : {D I C E H : Type 0} (means : Means E H) (devices : Devices D I C) (given : Given E H)
+    (staff : List (Worker D I C E H))
+    → Adds means [] staff devices.doors devices.inboxes devices.clocks given.at_inboxes given.at_clocks
+    → IsHired means devices given staff
+IsHired-is means devices given staff adds = record { adds = adds; first = adds.first (All-nil (IsFirst means)) }
+
+-- there is a door's worker where there is a door
+pub hired-some : {D I C E H : Type 0} (means : Means E H) (devices : Devices D I C) (given : Given E H)
+    (staff : List (Worker D I C E H)) → 1 ≤ length devices.doors → IsHired means devices given staff
+    → 0 < length (filter_map door_of staff)
+hired-some {D} means devices given staff some hired =
+    omega (arith, some, ap (λ (l : List D). length l) hired.adds.doors_are)
 
 -- there is room for the workers' parts
 pub HasRoom-done : {D I C L E H B : Type 0} (shown : Shows D I C L) (keep : ℕ) (means : Means E H)
-    (slots : B → ℕ → Slotted ℕ) (log : ℕ → List Op) (devices : Devices D I C) (staff : List (Worker D I C E H))
-    (parts : Parts D I C B)
-    → AreDone shown keep means log devices.doors devices.inboxes devices.clocks staff
+    (log : ℕ → List Op) (devices : Devices D I C) (given : Given E H) (staff : List (Worker D I C E H))
+    (parts : Parts D I C B) → AreDone shown keep means log devices given staff
     → length devices.doors ≤ parts.doors.free → length devices.doors ≤ parts.doors_told.free
     → length devices.inboxes ≤ parts.inboxes.free → length devices.inboxes ≤ parts.inboxes_told.free
     → length devices.clocks ≤ parts.clocks.free → length devices.clocks ≤ parts.clocks_told.free
-    → ((number : ℕ) → number < means.them.count
-    → length (counted_by means number staff) ≤ (slots parts.back number).free)
-    → HasRoom means slots staff parts
-HasRoom-done shown keep means slots log devices staff parts done doors doors_told inboxes inboxes_told clocks
-    clocks_told shares = record {
+    → HasRoom staff parts
+HasRoom-done shown keep means log devices given staff parts done doors doors_told inboxes inboxes_told clocks
+    clocks_told = record {
       doors = omega (
         arith,
         doors,
@@ -55,7 +60,6 @@ HasRoom-done shown keep means slots log devices staff parts done doors doors_tol
         runs-count (IsClockRunAt shown keep means log) devices.clocks
             (filter_map clock_of staff) (filter_map clock_told staff) done.clocks,
       );
-      shares = shares;
       doors_told = omega (
         arith,
         doors_told,
@@ -89,12 +93,12 @@ runs-end Is before after after' reports reports' one two runs = record {
 
 -- a run whose tasks are done and whose desks were closed
 pub RanOver-is : {D I C L E H : Type 0} (shown : Shows D I C L) (keep : ℕ) (means : Means E H) (log : ℕ → List Op)
-    (before after : Devices D I C) (staff : List (Worker D I C E H)) (outcomes : Outcomes)
-    → AreDone shown keep means log before.doors before.inboxes before.clocks staff
+    (before after : Devices D I C) (given : Given E H) (staff : List (Worker D I C E H)) (outcomes : Outcomes)
+    → AreDone shown keep means log before given staff
     → ((number : ℕ) → number < means.them.count → IsLog (means.them.proto number) (log number))
-    → Closes means log staff after outcomes → RanOver shown keep means before after outcomes
+    → Closes means log staff after outcomes → RanOver shown keep means given before after outcomes
 unfolding runs-end
-RanOver-is shown keep means log before after staff outcomes done sound closes = record {
+RanOver-is shown keep means log before after given staff outcomes done sound closes = record {
   log = log;
   sound = sound;
   doors = runs-end (IsDoorRunAt shown means log) before.doors (filter_map door_of staff) after.doors
@@ -103,6 +107,8 @@ RanOver-is shown keep means log before after staff outcomes done sound closes = 
       (filter_map inbox_told staff) outcomes.inboxes closes.inboxes closes.inboxes_told done.inboxes;
   clocks = runs-end (IsClockRunAt shown keep means log) before.clocks (filter_map clock_of staff) after.clocks
       (filter_map clock_told staff) outcomes.clocks closes.clocks closes.clocks_told done.clocks;
+  at_inboxes_are = done.at_inboxes_are;
+  at_clocks_are = done.at_clocks_are;
   closed = closes.desks;
   told = λ number below. sym (done.counted number) ∙ closes.counted number below;
 }

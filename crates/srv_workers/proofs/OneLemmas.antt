@@ -1,6 +1,7 @@
 -- What is said of each number below one.
 use Rattle.std.proofs.Common.{◌≡◌, ℕ, zero, suc, ◌<◌, List, [], ◌∷◌, length, nat_eq, false, refl, sym, subst, ◌∙◌, arith}
 use Rattle.std.specs.Prelude.{if◌then◌else◌}
+use Rattle.fm_edition.specs.Log.{IsLog}
 use Rattle.fm_model.specs.declared.op.Op.{Op}
 use Rattle.fm_model.specs.declared.proto.Proto.{Proto}
 use Rattle.fm_model.specs.Collection.{coll, tally}
@@ -12,7 +13,9 @@ use Rattle.dap_reply.specs.Collections.{alone, only}
 use Rattle.srv_conn.specs.declared.door_report.DoorReport.{DoorReport}
 use Rattle.srv_conn.specs.DoorTurns.{EndsDoor, ServesEachMany}
 use Rattle.srv_conn.specs.Sight.{views_of}
-use Rattle.srv_workers.specs.Desks.{closed_of, counted_at, LearnsEach, Publisher}
+use Rattle.srv_many.specs.Several.{nth, views_in}
+use Rattle.srv_workers.specs.Desks.{closed_of, counted_at, HasSeenEach, IsUnseen, LearnsEach, Publisher}
+use Rattle.srv_workers.specs.One.{row_of_one}
 use Rattle.srv_workers.specs.Slots.{PutsItems, Slotted}
 use Rattle.srv_workers.specs.Work.{ServesDoor, sight}
 
@@ -63,3 +66,37 @@ pub closed-is : (log : List Op) (end : Closed) → end.tally ≡ tally (coll log
     → end.total ≡ end.revision → end ≡ closed_of log
 closed-is log end sums number whole =
     λ i. record { tally = sums i; revision = number i; total = (whole ∙ number) i }
+
+-- the same of a row of one
+pub LearnsEach-row : (proto : Proto) (log : List Op) (before after : History) → Continues before.seen after.seen
+    → Continues log after.seen
+    → LearnsEach 1 (λ _. log) (views_in (row_of_one proto before)) (views_in (row_of_one proto after))
+LearnsEach-row proto log before after own told = record {
+  later = later;
+  told = for-one (λ number. Continues log (nth [] (after.seen ∷ []) number)) told;
+}
+  where
+    later : (number : ℕ) → Continues (nth [] (before.seen ∷ []) number) (nth [] (after.seen ∷ []) number)
+    later zero = own
+    later (suc number) = ([], refl)
+
+-- it has seen just that
+pub HasSeenEach-row : (proto : Proto) (log : List Op) (own : History) → length own.seen ≡ length log
+    → IsLog proto own.seen → HasSeenEach (alone proto false) (λ _. log) (views_in (row_of_one proto own))
+HasSeenEach-row proto log own level sound = record {
+  level = for-one (λ number. length (nth [] (own.seen ∷ []) number) ≡ length log) level;
+  sound = for-one (λ number. IsLog proto (nth [] (own.seen ∷ []) number)) sound;
+}
+
+-- what nothing was seen of in a row of one
+pub unseen-row : (proto : Proto) (own : History) → IsUnseen (views_in (row_of_one proto own))
+    → IsUnseen (views_of (sight own))
+unseen-row proto own unseen = record { seen = seen; looks = looks }
+  where
+    seen : (number : ℕ) → only own.seen number ≡ []
+    seen zero = unseen.seen 0
+    seen (suc number) = refl
+
+    looks : (number : ℕ) → only own.looks number ≡ []
+    looks zero = unseen.looks 0
+    looks (suc number) = refl

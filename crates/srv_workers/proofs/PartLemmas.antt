@@ -6,10 +6,10 @@ use Rattle.std.specs.List.{filter_map}
 use Rattle.srv_workers.specs.declared.parts.Parts.{Parts}
 use Rattle.srv_workers.specs.declared.worker.Worker.{Worker}
 use Rattle.srv_workers.specs.Desks.{counted_at, Means}
-use Rattle.srv_workers.specs.Parts.{HasRoom, PutsParts}
+use Rattle.srv_workers.specs.Parts.{HasRoom, PutsParts, TakesShares}
 use Rattle.srv_workers.specs.Slots.{PutsItems, Slotted}
 use Rattle.srv_workers.specs.Workers.{clock_of, clock_told, counted_by, counted_with, door_of, door_told, hand_of, inbox_of, inbox_told}
-use Rattle.srv_workers.proofs.StaffLemmas.{drop-next, take-next}
+use Rattle.srv_workers.proofs.StaffLemmas.{take-next}
 
 -- nothing was put behind others
 PutsItems-none : {T : Type 0} (slots : Slotted T) → PutsItems [] slots slots
@@ -118,11 +118,11 @@ PutsParts-both means slots ts us before middle after one two = record {
       (slots after.back number) (counted-both means number ts us) (one.shares number below) (two.shares number below);
 }
 
--- there is room for the parts of the next worker
+-- there is room for the devices and the reports of the next worker
 pub HasRoom-next : {D I C E H B : Type 0} (means : Means E H) (slots : B → ℕ → Slotted ℕ) (n : ℕ)
     (ts rest : List (Worker D I C E H)) (t : Worker D I C E H) (more : List (Worker D I C E H))
-    (before now : Parts D I C B) → HasRoom means slots ts before → PutsParts means slots (take n ts) before now
-    → rest ≡ drop n ts → rest ≡ t ∷ more → HasRoom means slots (t ∷ []) now
+    (before now : Parts D I C B) → HasRoom ts before → PutsParts means slots (take n ts) before now
+    → rest ≡ drop n ts → rest ≡ t ∷ more → HasRoom (t ∷ []) now
 HasRoom-next means slots n ts rest t more before now room puts is first = record {
   doors = room-next door_of n ts rest t more before.doors now.doors room.doors puts.doors is first;
   inboxes = room-next inbox_of n ts rest t more before.inboxes now.inboxes room.inboxes puts.inboxes is first;
@@ -133,9 +133,17 @@ HasRoom-next means slots n ts rest t more before now room puts is first = record
       puts.inboxes_told is first;
   clocks_told = room-next clock_told n ts rest t more before.clocks_told now.clocks_told room.clocks_told
       puts.clocks_told is first;
-  shares = λ number below. shares-next means number n ts rest t more (slots before.back number)
-      (slots now.back number) (room.shares number below) (puts.shares number below) is first;
 }
+
+-- there is room for its share
+pub TakesShares-next : {D I C E H B : Type 0} (means : Means E H) (slots : B → ℕ → Slotted ℕ) (n : ℕ)
+    (ts rest : List (Worker D I C E H)) (t : Worker D I C E H) (more : List (Worker D I C E H))
+    (before now : Parts D I C B) → TakesShares means slots ts before.back
+    → PutsParts means slots (take n ts) before now → rest ≡ drop n ts → rest ≡ t ∷ more
+    → TakesShares means slots (t ∷ []) now.back
+TakesShares-next means slots n ts rest t more before now room puts is first number below =
+    shares-next means number n ts rest t more (slots before.back number) (slots now.back number) (room number below)
+    (puts.shares number below) is first
 
 -- the parts of the next worker were put behind the others
 pub PutsParts-next : {D I C E H B : Type 0} (means : Means E H) (slots : B → ℕ → Slotted ℕ) (n : ℕ)
@@ -154,5 +162,3 @@ pub PutsParts-all : {D I C E H B : Type 0} (means : Means E H) (slots : B → �
 PutsParts-all {D} {I} {C} {E} {H} means slots n ts before after puts is =
     subst (λ (l : List (Worker D I C E H)). PutsParts means slots l before after)
     (take_all n ts (omega (arith, is))) puts
-
-pub ruleset parts = (PutsParts-none, PutsParts-all, HasRoom-next, PutsParts-next, drop-next)

@@ -1,5 +1,5 @@
 -- The runs of each kind of device, from workers before and after their work.
-use Rattle.std.proofs.Common.{◌≡◌, ℕ, List, Option, Some, None, IfSome, option_map, refl}
+use Rattle.std.proofs.Common.{◌≡◌, ℕ, List, map, Option, Some, None, IfSome, option_map, refl}
 use Rattle.std.specs.List.{AllZip, filter_map}
 use Rattle.fm_model.specs.declared.op.Op.{Op}
 use Rattle.srv_conn.specs.declared.door_report.DoorReport.{DoorReport}
@@ -12,7 +12,7 @@ use Rattle.srv_workers.specs.Desks.{Means}
 use Rattle.srv_workers.specs.Does.{Does, Shows}
 use Rattle.srv_workers.specs.Over.{AreDeskRuns, DeskRun, IsClockRunAt, IsDoorRunAt, IsInboxRunAt}
 use Rattle.srv_workers.specs.Pairs.{pick}
-use Rattle.srv_workers.specs.Workers.{clock_of, clock_told, door_of, door_told, inbox_of, inbox_told, IsFirst}
+use Rattle.srv_workers.specs.Workers.{clock_hand, clock_of, clock_told, door_of, door_told, inbox_hand, inbox_of, inbox_told, IsFirst}
 use Rattle.srv_workers.proofs.PairLemmas.{pick-all, pick-first, pick-second}
 
 -- a worker before and after its work makes a run of this device, or there is no such device
@@ -154,3 +154,37 @@ unfoldable pub clock-runs : {D I C L E H : Type 0} (shown : Shows D I C L) (keep
 clock-runs shown keep means log before after each =
     runs-are (IsClockRunAt shown keep means log) (IsFirstWork shown keep means log) clock_run clock_of clock_told
     before after each (clock-pick shown keep means log)
+
+-- the hand that an inbox's worker had at first
+inbox-first : {D I C L E H : Type 0} (shown : Shows D I C L) (keep : ℕ) (means : Means E H) (log : ℕ → List Op)
+    (w w' : Worker D I C E H) → IsFirstWork shown keep means log w w'
+    → option_map (λ (run : DeskRun I H IngestReport). run.first) (inbox_run w w') ≡ inbox_hand w
+inbox-first shown keep means log (TakeIn i h r) (TakeIn i' h' r') is = refl
+inbox-first shown keep means log (TakeIn i h r) (Serve d n e r') is = absurd is.worked
+inbox-first shown keep means log (TakeIn i h r) (LetGo c h' r') is = absurd is.worked
+inbox-first shown keep means log (Serve d n e r) w' is = refl
+inbox-first shown keep means log (LetGo c h r) w' is = refl
+
+pub inbox-hands : {D I C L E H : Type 0} (shown : Shows D I C L) (keep : ℕ) (means : Means E H) (log : ℕ → List Op)
+    (before after : List (Worker D I C E H)) → AllZip (IsFirstWork shown keep means log) before after
+    → map (λ (run : DeskRun I H IngestReport). run.first) (pick inbox_run before after) ≡ filter_map inbox_hand before
+inbox-hands {D} {I} {C} {L} {E} {H} shown keep means log before after each =
+    pick-first (IsFirstWork shown keep means log) inbox_run (λ (run : DeskRun I H IngestReport). run.first) inbox_hand
+    before after each (inbox-first shown keep means log)
+
+-- the hand that a clock's worker had at first
+clock-first : {D I C L E H : Type 0} (shown : Shows D I C L) (keep : ℕ) (means : Means E H) (log : ℕ → List Op)
+    (w w' : Worker D I C E H) → IsFirstWork shown keep means log w w'
+    → option_map (λ (run : DeskRun C H ExpireReport). run.first) (clock_run w w') ≡ clock_hand w
+clock-first shown keep means log (LetGo c h r) (LetGo c' h' r') is = refl
+clock-first shown keep means log (LetGo c h r) (Serve d n e r') is = absurd is.worked
+clock-first shown keep means log (LetGo c h r) (TakeIn i h' r') is = absurd is.worked
+clock-first shown keep means log (Serve d n e r) w' is = refl
+clock-first shown keep means log (TakeIn i h r) w' is = refl
+
+pub clock-hands : {D I C L E H : Type 0} (shown : Shows D I C L) (keep : ℕ) (means : Means E H) (log : ℕ → List Op)
+    (before after : List (Worker D I C E H)) → AllZip (IsFirstWork shown keep means log) before after
+    → map (λ (run : DeskRun C H ExpireReport). run.first) (pick clock_run before after) ≡ filter_map clock_hand before
+clock-hands {D} {I} {C} {L} {E} {H} shown keep means log before after each =
+    pick-first (IsFirstWork shown keep means log) clock_run (λ (run : DeskRun C H ExpireReport). run.first) clock_hand
+    before after each (clock-first shown keep means log)

@@ -5,6 +5,7 @@ use Rattle.pub_look.specs.History.{History}
 use Rattle.pub_snap.specs.declared.desk.Closed.{Closed}
 use Rattle.dap_reply.specs.Collections.{alone}
 use Rattle.srv_conn.specs.Sight.{views_of}
+use Rattle.srv_many.specs.Several.{Rowed}
 use Rattle.srv_workers.specs.declared.one.OwnHand.{OwnHand}
 use Rattle.srv_workers.specs.declared.outcome.Outcome.{Outcome}
 use Rattle.srv_workers.specs.declared.outcome.Outcomes.{Outcomes}
@@ -26,3 +27,8 @@ pub record IsOfOne (outcomes : Outcomes) (outcome : Outcome) : Type 0 where
   pub clocks : outcome.clocks ≡ outcomes.clocks
   pub tally : (closed : Closed) → outcomes.desks ≡ closed ∷ [] → outcome.tally ≡ closed.tally
   pub revision : (closed : Closed) → outcomes.desks ≡ closed ∷ [] → outcome.revision ≡ closed.revision
+
+-- a pass as a row of one
+abbrev pub row_of_one : Proto → History → Rowed
+row_of_one proto own =
+    record { protos = proto ∷ []; stills = false ∷ []; seen = own.seen ∷ []; looks = own.looks ∷ [] }

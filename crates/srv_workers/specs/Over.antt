@@ -8,6 +8,7 @@ use Rattle.srv_conn.specs.declared.door_report.DoorReport.{DoorReport}
 use Rattle.srv_ingest.specs.declared.report.ExpireReport.{ExpireReport}
 use Rattle.srv_ingest.specs.declared.report.IngestReport.{IngestReport}
 use Rattle.dev_traits.specs.declared.world.Devices.{Devices}
+use Rattle.srv_workers.specs.declared.given.Given.{Given}
 use Rattle.srv_workers.specs.declared.outcome.Outcomes.{Outcomes}
 use Rattle.srv_workers.specs.Desks.{closed_of, counted_at, first_of, IsNew, IsUnseen, Means}
 use Rattle.srv_workers.specs.Does.{Shows}
@@ -62,14 +63,17 @@ counted_in means number (run ∷ runs) =
     counted_at number (means.publisher run.last) ++ counted_in means number runs
 
 -- All devices were in the hands of workers over some desks, each with a log. Each of its operations could be done to
--- what those before it left, and the shares of its desk count as many.
-pub record RanOver {D I C L E H : Type 0} (shown : Shows D I C L) (keep : ℕ) (means : Means E H)
+-- what those before it left, and the shares of its desk count as many. Each inbox and each clock had the hand that was
+-- given for it.
+pub record RanOver {D I C L E H : Type 0} (shown : Shows D I C L) (keep : ℕ) (means : Means E H) (given : Given E H)
     (before after : Devices D I C) (outcomes : Outcomes) : Type 0 where
   pub log : ℕ → List Op
   pub sound : (number : ℕ) → number < means.them.count → IsLog (means.them.proto number) (log number)
   pub doors : AreDeskRuns (IsDoorRunAt shown means log) before.doors after.doors outcomes.doors
   pub inboxes : AreDeskRuns (IsInboxRunAt shown means log) before.inboxes after.inboxes outcomes.inboxes
   pub clocks : AreDeskRuns (IsClockRunAt shown keep means log) before.clocks after.clocks outcomes.clocks
+  pub at_inboxes_are : map (λ run. run.first) inboxes.runs ≡ given.at_inboxes
+  pub at_clocks_are : map (λ run. run.first) clocks.runs ≡ given.at_clocks
   pub closed : outcomes.desks ≡ map closed_of (first_of means.them.count log)
   pub told : (number : ℕ) → number < means.them.count
       → sum (counted_in means number inboxes.runs) + sum (counted_in means number clocks.runs) ≡ length (log number)

@@ -16,17 +16,19 @@ pub record IsEmpty {D I C B : Type 0} (parts : Parts D I C B) : Type 0 where
   pub inboxes_told : parts.inboxes_told.items ≡ []
   pub clocks_told : parts.clocks_told.items ≡ []
 
--- there is room for the parts of these workers
-pub record HasRoom {D I C E H B : Type 0} (means : Means E H) (slots : B → ℕ → Slotted ℕ)
-    (staff : List (Worker D I C E H)) (parts : Parts D I C B) : Type 0 where
+-- there is room for the devices and the reports of these workers
+pub record HasRoom {D I C E H B : Type 0} (staff : List (Worker D I C E H)) (parts : Parts D I C B) : Type 0 where
   pub doors : length (filter_map door_of staff) ≤ parts.doors.free
   pub inboxes : length (filter_map inbox_of staff) ≤ parts.inboxes.free
   pub clocks : length (filter_map clock_of staff) ≤ parts.clocks.free
-  pub shares : (number : ℕ) → number < means.them.count
-      → length (counted_by means number staff) ≤ (slots parts.back number).free
   pub doors_told : length (filter_map door_told staff) ≤ parts.doors_told.free
   pub inboxes_told : length (filter_map inbox_told staff) ≤ parts.inboxes_told.free
   pub clocks_told : length (filter_map clock_told staff) ≤ parts.clocks_told.free
+
+-- there is room for their shares
+abbrev pub TakesShares : {D I C E H B : Type 0} → Means E H → (B → ℕ → Slotted ℕ) → List (Worker D I C E H) → B → Type 0
+TakesShares means slots staff back =
+    (number : ℕ) → number < means.them.count → length (counted_by means number staff) ≤ (slots back number).free
 
 -- the parts of these workers were put behind others
 pub record PutsParts {D I C E H B : Type 0} (means : Means E H) (slots : B → ℕ → Slotted ℕ)

@@ -30,6 +30,16 @@ hand_of (Serve door number eyes report) = None
 hand_of (TakeIn inbox hand report) = Some hand
 hand_of (LetGo clock hand report) = Some hand
 
+-- what an inbox's worker publishes with
+abbrev pub inbox_hand : {D I C E H : Type 0} → Worker D I C E H → Option H
+inbox_hand (TakeIn inbox hand report) = Some hand
+inbox_hand worker = None
+
+-- what a clock's worker publishes with
+abbrev pub clock_hand : {D I C E H : Type 0} → Worker D I C E H → Option H
+clock_hand (LetGo clock hand report) = Some hand
+clock_hand worker = None
+
 -- the report of a door
 abbrev pub door_told : {D I C E H : Type 0} → Worker D I C E H → Option DoorReport
 door_told (Serve door number eyes report) = Some report
@@ -73,11 +83,12 @@ IsFirst means (Serve door number eyes report) = IsUnseen (means.views eyes)
 IsFirst means (TakeIn inbox hand report) = IsNew means.them (means.publisher hand)
 IsFirst means (LetGo clock hand report) = IsNew means.them (means.publisher hand)
 
--- workers for these devices, with these hands, were put behind others
+-- workers for these devices, with these hands for inboxes and for clocks, were put behind others
 pub record Adds {D I C E H : Type 0} (means : Means E H) (before after : List (Worker D I C E H)) (doors : List D)
-    (inboxes : List I) (clocks : List C) (hands : List H) : Type 0 where
+    (inboxes : List I) (clocks : List C) (at_inboxes at_clocks : List H) : Type 0 where
   pub doors_are : filter_map door_of after ≡ filter_map door_of before ++ doors
   pub inboxes_are : filter_map inbox_of after ≡ filter_map inbox_of before ++ inboxes
   pub clocks_are : filter_map clock_of after ≡ filter_map clock_of before ++ clocks
-  pub hands_are : filter_map hand_of after ≡ filter_map hand_of before ++ hands
+  pub at_inboxes_are : filter_map inbox_hand after ≡ filter_map inbox_hand before ++ at_inboxes
+  pub at_clocks_are : filter_map clock_hand after ≡ filter_map clock_hand before ++ at_clocks
   pub first : All (IsFirst means) before → All (IsFirst means) after

@@ -2,7 +2,7 @@
 ghost use Rattle.std.specs.Prelude.{◌≡◌, ◌<◌, ◌≤◌, [], length, map, sum, ℕ};
 ghost use Rattle.srv_workers.specs.Close.{Closes};
 ghost use Rattle.srv_workers.specs.Desks.{closed_of, first_of};
-ghost use Rattle.srv_workers.specs.Parts.{HasRoom, IsEmpty};
+ghost use Rattle.srv_workers.specs.Parts.{HasRoom, IsEmpty, TakesShares};
 ghost use Rattle.srv_workers.specs.Workers.{counted_by};
 
 use crate::desks::Desks;
@@ -47,7 +47,6 @@ fn close_with<R: Wait, D: Drop, I: Drop, C: Drop, X: Desks>(
 }
 
 // Takes all workers apart, gives their devices back, and closes the desks. It takes no memory.
-#[tactic(auto, using(crate::proofs::CloseLemmas::closes))]
 pub(crate) fn close_over<R: Wait, D: Drop, I: Drop, C: Drop, X: Desks>(
     rt: &R,
     desks: X,
@@ -56,7 +55,8 @@ pub(crate) fn close_over<R: Wait, D: Drop, I: Drop, C: Drop, X: Desks>(
     closed: Slots<Closed>,
     devices: &mut Devices<D, I, C>,
 ) -> Outcomes
-    requires room { HasRoom X.means X.slots staff parts }
+    requires room { HasRoom staff parts }
+    requires free { TakesShares X.means X.slots staff parts.back }
     requires empty { IsEmpty parts }
     requires none { (number : ℕ) → number < X.means.them.count → (X.slots parts.back number).items ≡ [] }
     requires shares { (number : ℕ) → number < X.means.them.count

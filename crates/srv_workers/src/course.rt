@@ -56,10 +56,11 @@ pub(crate) fn learn_all<R: Wait, D, I, C, X: Desks>(
     desks: &X,
     staff: &mut [Worker<D, I, C, X::Eyes, X::Hand>],
 )
-    requires { 0 < length (filter_map door_of staff.old) }
     ensures begin { All (Begins X.means (X.logs desks.now)) staff.old }
     ensures keep { AllZip (Keeps X.means) staff.old staff.new }
-    ensures sound { (number : ℕ) → number < X.means.them.count
+
+    // A door's worker looks at all desks.
+    ensures sound { 0 < length (filter_map door_of staff.old) → (number : ℕ) → number < X.means.them.count
         → IsLog (X.means.them.proto number) (X.logs desks.now number) }
 {
     for _ in rt.forever() {

@@ -1,5 +1,5 @@
 //! Desks that are open, each with a collection.
-ghost use Rattle.std.specs.Prelude.{◌≡◌, ◌++◌, ◌<◌, ◌≤◌, IsTrue, List, length, map, sum, ℕ};
+ghost use Rattle.std.specs.Prelude.{◌≡◌, ◌++◌, ◌-◌, ◌<◌, ◌≤◌, IsTrue, List, length, map, sum, ℕ};
 ghost use Rattle.fm_model.specs.declared.op.Op.{Op as Operation};
 ghost use Rattle.srv_workers.specs.Desks.{HasSeenEach, HasSeenItsLog, LearnsEach, LearnsItsLog};
 ghost use Rattle.srv_workers.specs.Desks.{closed_of, counted_at, first_of, Means};
@@ -107,6 +107,7 @@ pub(crate) trait Desks: Sized {
         requires free { means.them.count ≤ closed.old.free }
         ensures closed { closed.new.items
             ≡ closed.old.items ++ map closed_of (first_of means.them.count (logs self)) }
+        ensures left { closed.new.free ≡ closed.old.free - means.them.count }
         ensures counted { (number : ℕ) → number < means.them.count
             → sum (slots back number).items ≡ length (logs self number) };
 }

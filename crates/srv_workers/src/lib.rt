@@ -1,10 +1,20 @@
-//! Workers over one desk: a run opens a desk, has a worker for each device, all at once, and closes the desk once all
-//! of them have ended.
+//! Workers over one desk or several: a run opens the desks, has a worker for each device, all at once, and closes the
+//! desks once all of them have ended.
 #![tactic(auto)]
 
+mod ahead;
+mod behind;
+mod blanks;
+mod both;
 mod close;
 mod course;
 mod desks;
+mod eyes;
+mod given;
+mod joining;
+mod last;
+mod many;
+mod next;
 mod one;
 mod outcome;
 mod own;
@@ -12,6 +22,7 @@ mod parts;
 mod places;
 mod room;
 mod run;
+mod several;
 mod shift;
 mod slots;
 mod staff;
@@ -20,6 +31,7 @@ mod work;
 mod worker;
 mod workers;
 
-pub use outcome::Outcome;
+pub use outcome::{Outcome, Outcomes};
+pub use several::run_several;
 pub use threads::can_start;
 pub use workers::run_workers;

@@ -17,9 +17,9 @@ pub struct Outcome {
     pub revision: u64,
 }
 
-// The same over several desks, with the end of each.
+/// The same over several desks, with the end of each.
 #[derive(Drop)]
-pub(crate) struct Outcomes {
+pub struct Outcomes {
     pub doors: List<DoorReport>,
     pub inboxes: List<IngestReport>,
     pub clocks: List<ExpireReport>,

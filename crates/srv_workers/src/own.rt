@@ -1,12 +1,12 @@
 //! A pass with the prototype of its desk.
-ghost use Rattle.std.specs.Prelude.{◌≡◌, IfOk, length, replicate};
-ghost use Rattle.fm_edition.specs.Log.{IsLog};
+ghost use Rattle.std.specs.Prelude.{◌≡◌, IfOk, replicate};
 ghost use Rattle.pub_look.specs.History.{Continues};
 
 use fm_base::{Arc, List, NoMemory};
 use fm_model::Proto;
-use pub_look::Look;
+use pub_look::{Look, Query};
 use pub_snap::{Name, Pass, Receipt};
+use srv_many::Row;
 use std::alloc::Global;
 use std::marker::Model;
 
@@ -44,13 +44,54 @@ impl<N: Name> OwnPass<N> {
     {
         self.pass.learn(log);
     }
+}
 
-    // How many operations it has seen. Each of them could be done to what those before it left.
-    pub fn seen(&self) -> u64
-        ensures number { result ≡ length self.now.seen }
-        ensures sound { IsLog N.proto self.now.seen }
-    {
+// Its prototype is known by its type.
+impl<N: Name> Look for OwnPass<N> {
+    ghost use Rattle.std.specs.Prelude.{false};
+
+    ghost proto = { λ _. N.proto };
+
+    ghost still = { λ _. false };
+
+    ghost log = { λ own. own.seen };
+
+    ghost looks = { λ own. own.looks };
+
+    fn seen(&self) -> u64 {
         self.pass.seen()
+    }
+
+    fn ask<Q: Query>(&mut self, alloc: Global, query: &Q) -> Result<(Q::Out, u64), NoMemory> {
+        self.pass.ask(alloc, query)
+    }
+}
+
+// A pass is a row of one.
+impl<N: Name> Row for OwnPass<N> {
+    ghost use Rattle.srv_workers.specs.One.{row_of_one};
+
+    ghost known = { row_of_one N.proto };
+
+    fn seen_at(&self, index: usize) -> u64 {
+        if index == 0 {
+            self.seen()
+        } else {
+            unreachable!()
+        }
+    }
+
+    fn ask_at<Q: Query>(
+        &mut self,
+        alloc: Global,
+        index: usize,
+        query: &Q,
+    ) -> Result<(Q::Out, u64), NoMemory> {
+        if index == 0 {
+            self.ask(alloc, query)
+        } else {
+            unreachable!()
+        }
     }
 }
 

@@ -1,6 +1,6 @@
 //! Workers taken apart: the devices and the shares are given back, and the report of each is kept.
 ghost use Rattle.std.specs.Prelude.{◌≡◌, ◌≤◌, ◌∷◌, [], IfOk};
-ghost use Rattle.srv_workers.specs.Parts.{HasRoom, IsEmpty, PutsParts};
+ghost use Rattle.srv_workers.specs.Parts.{HasRoom, IsEmpty, PutsParts, TakesShares};
 
 use crate::desks::Desks;
 use crate::slots::{Slots, pair_with_room, take_off};
@@ -55,7 +55,8 @@ fn put<D: Drop, I: Drop, C: Drop, X: Desks>(
     parts: &mut Parts<D, I, C, X::Back>,
     worker: Worker<D, I, C, X::Eyes, X::Hand>,
 )
-    requires { HasRoom X.means X.slots (worker ∷ []) parts.old }
+    requires room { HasRoom (worker ∷ []) parts.old }
+    requires shares { TakesShares X.means X.slots (worker ∷ []) parts.old.back }
     ensures { PutsParts X.means X.slots (worker ∷ []) parts.old parts.new }
 {
     match worker {
@@ -85,12 +86,12 @@ fn put<D: Drop, I: Drop, C: Drop, X: Desks>(
 }
 
 // Takes workers apart, and puts their parts behind those of others. It takes no memory.
-#[tactic(auto, using(crate::proofs::PartLemmas::parts))]
 pub(crate) fn take_apart<D: Drop, I: Drop, C: Drop, X: Desks>(
     staff: List<Worker<D, I, C, X::Eyes, X::Hand>>,
     parts: &mut Parts<D, I, C, X::Back>,
 )
-    requires { HasRoom X.means X.slots staff parts.old }
+    requires room { HasRoom staff parts.old }
+    requires shares { TakesShares X.means X.slots staff parts.old.back }
     ensures { PutsParts X.means X.slots staff parts.old parts.new }
 {
     let mut staff = staff;

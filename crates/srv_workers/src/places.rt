@@ -1,10 +1,11 @@
 //! What the workers at one desk have: eyes for each door, a hand for each other device.
 ghost use Rattle.std.specs.Prelude.{◌≡◌, ◌+◌, ◌-◌, ◌<◌, ◌≤◌, ◌^◌, [], IfOk, length, replicate};
 ghost use Rattle.pub_snap.specs.Opening.{unused};
+ghost use Rattle.srv_workers.specs.Places.{HasPlaces, new_hand};
 
+use crate::given::{Given, Vacant, vacant_for};
 use crate::one::OwnHand;
 use crate::own::{OwnPass, copies_of};
-use crate::run::Given;
 use crate::slots::{Slots, take_off};
 use fm_base::{Arc, List, NoMemory};
 use fm_model::Proto;
@@ -14,31 +15,29 @@ use std::alloc::Global;
 // Room for eyes and hands, and a prototype for each.
 #[derive(Drop)]
 pub(crate) struct Places<N: Name> {
-    pub eyes: Slots<OwnPass<N>>,
-    pub hands: Slots<OwnHand<N>>,
+    pub vacant: Vacant<OwnPass<N>, OwnHand<N>>,
     pub protos: List<Arc<Proto>>,
 }
 
-// Room for as many.
+// Room for the workers of so many devices.
 pub(crate) fn places_for<N: Name>(
     alloc: Global,
     proto: &Arc<Proto>,
-    eyes: usize,
-    hands: usize,
+    doors: usize,
+    inboxes: usize,
+    clocks: usize,
 ) -> Result<Places<N>, NoMemory>
-    requires { eyes + hands < 2 ^ 64 }
-    ensures eyes { IfOk result (λ places. (places.eyes.items ≡ []) × (eyes ≤ places.eyes.free)) }
-    ensures hands { IfOk result (λ places. (places.hands.items ≡ []) × (hands ≤ places.hands.free)) }
-    ensures protos { IfOk result (λ places. places.protos ≡ replicate (eyes + hands) proto.now) }
+    requires { doors + inboxes + clocks < 2 ^ 64 }
+    ensures { IfOk result (HasPlaces proto.now doors inboxes clocks) }
 {
-    let protos = copies_of(alloc, proto, eyes + hands)?;
-    let eyes = Slots::with_room(alloc, eyes)?;
-    let hands = Slots::with_room(alloc, hands)?;
-    Ok(Places {
-        eyes,
-        hands,
-        protos,
-    })
+    let protos = copies_of(alloc, proto, doors + inboxes + clocks)?;
+    match vacant_for(alloc, doors, inboxes, clocks) {
+        Ok(vacant) => Ok(Places { vacant, protos }),
+        Err(NoMemory) => {
+            drop(protos);
+            Err(NoMemory)
+        }
+    }
 }
 
 // The first passes, each with a prototype.
@@ -66,29 +65,30 @@ fn eyes_of<N: Name>(
     eyes.into_list()
 }
 
-// All passes that are left, each with a prototype and a share.
+// The first of the passes that are left, each with a prototype and a share.
 fn hands_of<N: Name>(
-    passes: List<Pass<N>>,
-    protos: List<Arc<Proto>>,
-    shares: List<Share<N>>,
+    passes: &mut List<Pass<N>>,
+    protos: &mut List<Arc<Proto>>,
+    shares: &mut List<Share<N>>,
+    count: usize,
     room: Slots<OwnHand<N>>,
 ) -> List<OwnHand<N>>
-    requires passes { passes ≡ replicate (length shares) (unused N.proto) }
-    requires protos { protos ≡ replicate (length shares) N.proto }
-    requires shares { shares ≡ replicate (length shares) 0 }
+    requires passes { passes.old ≡ replicate (length shares.old) (unused N.proto) }
+    requires protos { protos.old ≡ replicate (length shares.old) N.proto }
+    requires shares { shares.old ≡ replicate (length shares.old) 0 }
+    requires count { count ≤ length shares.old }
     requires empty { room.items ≡ [] }
-    requires free { length shares ≤ room.free }
-    ensures { result ≡ replicate (length shares) (record { own = unused N.proto; share = 0 }) }
+    requires free { count ≤ room.free }
+    ensures hands { result ≡ replicate count (new_hand N.proto) }
+    ensures passes { passes.new ≡ replicate (length shares.old - count) (unused N.proto) }
+    ensures protos { protos.new ≡ replicate (length shares.old - count) N.proto }
+    ensures shares { shares.new ≡ replicate (length shares.old - count) 0 }
 {
     let mut hands = room;
-    let mut passes = passes;
-    let mut protos = protos;
-    let mut shares = shares;
-    let count = shares.len();
     for _number in 0..count {
-        let pass = take_off(&mut passes);
-        let proto = take_off(&mut protos);
-        let share = take_off(&mut shares);
+        let pass = take_off(passes);
+        let proto = take_off(protos);
+        let share = take_off(shares);
         hands.put(OwnHand {
             own: OwnPass::of(pass, proto),
             share,
@@ -103,23 +103,31 @@ pub(crate) fn given_at<N: Name>(
     shares: List<Share<N>>,
     places: Places<N>,
     doors: usize,
+    inboxes: usize,
+    clocks: usize,
 ) -> Given<OwnPass<N>, OwnHand<N>>
-    requires passes { passes ≡ replicate (doors + length shares) (unused N.proto) }
-    requires shares { shares ≡ replicate (length shares) 0 }
-    requires protos { places.protos ≡ replicate (doors + length shares) N.proto }
-    requires eyes { (places.eyes.items ≡ []) × (doors ≤ places.eyes.free) }
-    requires hands { (places.hands.items ≡ []) × (length shares ≤ places.hands.free) }
+    requires passes { passes ≡ replicate (doors + (inboxes + clocks)) (unused N.proto) }
+    requires shares { shares ≡ replicate (inboxes + clocks) 0 }
+    requires places { HasPlaces N.proto doors inboxes clocks places }
     ensures eyes { result.eyes ≡ replicate doors (unused N.proto) }
-    ensures hands { result.hands ≡ replicate (length shares) (record { own = unused N.proto; share = 0 }) }
+    ensures at_inboxes { result.at_inboxes ≡ replicate inboxes (new_hand N.proto) }
+    ensures at_clocks { result.at_clocks ≡ replicate clocks (new_hand N.proto) }
 {
-    let Places {
+    let Places { vacant, protos } = places;
+    let Vacant {
         eyes,
-        hands,
-        protos,
-    } = places;
+        at_inboxes,
+        at_clocks,
+    } = vacant;
     let mut passes = passes;
     let mut protos = protos;
+    let mut shares = shares;
     let eyes = eyes_of(&mut passes, &mut protos, doors, eyes);
-    let hands = hands_of(passes, protos, shares, hands);
-    Given { eyes, hands }
+    let taken = hands_of(&mut passes, &mut protos, &mut shares, inboxes, at_inboxes);
+    let gone = hands_of(&mut passes, &mut protos, &mut shares, clocks, at_clocks);
+    Given {
+        eyes,
+        at_inboxes: taken,
+        at_clocks: gone,
+    }
 }

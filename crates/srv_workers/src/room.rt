@@ -31,9 +31,9 @@ pub(crate) fn room_of<D: Drop, I: Drop, C: Drop, E: Drop, H: Drop, B: Drop>(
     let doors = devices.doors.len();
     let inboxes = devices.inboxes.len();
     let clocks = devices.clocks.len();
-    let parts = room_for(alloc, doors, inboxes, clocks, back)?;
     let staff = Slots::with_room(alloc, doors + inboxes + clocks)?;
     let closed = Slots::with_room(alloc, desks)?;
+    let parts = room_for(alloc, doors, inboxes, clocks, back)?;
     Ok(Room {
         staff,
         parts,

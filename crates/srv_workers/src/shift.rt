@@ -40,13 +40,12 @@ where
     X::Shared: Sync,
     X::Receipts: Send,
     X::Back: Send,
-    requires { 0 < length (filter_map door_of staff) }
     ensures done { HaveWorked (shows D.shown D.L.shown I.shown C.shown) keep X.means (X.logs result.0) staff result.1 }
-    ensures sound { (number : ℕ) → number < X.means.them.count
+    ensures sound { 0 < length (filter_map door_of staff) → (number : ℕ) → number < X.means.them.count
         → IsLog (X.means.them.proto number) (X.logs result.0 number) }
 {
     let mut staff = staff;
-    let threads = staff.len();
+    let threads = staff.len().max(1);
     let shared = desks.shared();
     let workers = staff.items.as_mut_slice();
     for_each_mut(

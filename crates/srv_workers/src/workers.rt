@@ -1,8 +1,9 @@
 //! All workers of a run over one desk, from its opening to its close.
-ghost use Rattle.std.specs.Prelude.{◌≡◌, ◌≤◌, ◌+◌, ◌<◌, ◌^◌, [], IfOk, OnErr, length, replicate};
+ghost use Rattle.std.specs.Prelude.{◌≡◌, ◌≤◌, ◌+◌, ◌<◌, ◌^◌, [], IfOk, OnErr, length};
 ghost use Rattle.fm_model.specs.Site.{IsPrototype};
 ghost use Rattle.pub_snap.specs.Opening.{IsNamed};
 ghost use Rattle.srv_workers.specs.One.{IsOfOne};
+ghost use Rattle.srv_workers.specs.Places.{HasPlaces};
 ghost use Rattle.srv_workers.specs.Room.{device_count, IsRoomFor};
 ghost use Rattle.srv_workers.specs.Runs.{RanTogether};
 
@@ -35,20 +36,23 @@ fn ready_for<D: Drop, I: Drop, C: Drop, N: Name>(
     devices: &Devices<D, I, C>,
 ) -> Result<Ready<D, I, C, N>, NoMemory>
     requires { device_count devices.now < 2 ^ 32 }
-    ensures eyes { IfOk result (λ ready.
-        (ready.places.eyes.items ≡ []) × (length devices.now.doors ≤ ready.places.eyes.free)) }
-    ensures hands { IfOk result (λ ready. (ready.places.hands.items ≡ [])
-        × (length devices.now.inboxes + length devices.now.clocks ≤ ready.places.hands.free)) }
-    ensures protos { IfOk result (λ ready. ready.places.protos ≡ replicate (device_count devices.now) proto.now) }
+    ensures places { IfOk result (λ ready. HasPlaces proto.now (length devices.now.doors)
+        (length devices.now.inboxes) (length devices.now.clocks) ready.places) }
     ensures room { IfOk result (λ ready. IsRoomFor devices.now 1 ready.room.parts.back ready.room) }
     ensures back { IfOk result (λ ready. (ready.room.parts.back.items ≡ [])
         × (length devices.now.inboxes + length devices.now.clocks ≤ ready.room.parts.back.free)) }
 {
-    let doors = devices.doors.len();
-    let others = devices.inboxes.len() + devices.clocks.len();
-    let places = places_for(alloc, proto, doors, others)?;
-    let back = Slots::with_room(alloc, others)?;
-    let room = room_of(alloc, devices, 1, back)?;
+    let inboxes = devices.inboxes.len();
+    let clocks = devices.clocks.len();
+    let back = Slots::with_room(alloc, inboxes + clocks)?;
+    let places = places_for(alloc, proto, devices.doors.len(), inboxes, clocks)?;
+    let room = match room_of(alloc, devices, 1, back) {
+        Ok(room) => room,
+        Err(NoMemory) => {
+            drop(places);
+            return Err(NoMemory);
+        }
+    };
     Ok(Ready { places, room })
 }
 
@@ -86,7 +90,8 @@ fn run_one<R: Threads + Wait + Sync, M: Machine, N: Name + Send + Sync>(
 ) -> Result<Outcome, NoMemory>
     requires named { IsNamed blank N.book N.name N.proto N.parts }
     requires proto { blank.proto ≡ proto.now }
-    requires passes { blank.passes ≡ device_count devices.old }
+    requires passes { blank.passes
+        ≡ length devices.old.doors + (length devices.old.inboxes + length devices.old.clocks) }
     requires shares { blank.shares ≡ length devices.old.inboxes + length devices.old.clocks }
     requires some { 1 ≤ length devices.old.doors }
     requires few { device_count devices.old < 2 ^ 32 }
@@ -109,7 +114,9 @@ fn run_one<R: Threads + Wait + Sync, M: Machine, N: Name + Send + Sync>(
         }
     };
     let Ready { places, room } = ready;
-    let given = given_at(passes, shares, places, devices.doors.len());
+    let doors = devices.doors.len();
+    let inboxes = devices.inboxes.len();
+    let given = given_at(passes, shares, places, doors, inboxes, devices.clocks.len());
     let outcomes = run_over::<R, M, Desk<N>>(rt, alloc, desk, given, room, keep, gate, devices);
     Ok(of_one(outcomes))
 }

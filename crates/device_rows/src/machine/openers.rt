@@ -1,7 +1,7 @@
 //! What the machine opens.
 
 use super::doors::{HostDoor, next_link};
-use dev_host::{HostOpener, RealOpener, Teller, connections_left, host_world};
+use dev_host::{Collections, HostOpener, RealOpener, Teller, connections_left, host_world};
 use dev_traits::{Clock, Door, Inbox, Machine};
 use fm_base::List;
 use std::alloc::Global;
@@ -9,7 +9,7 @@ use std::net::{SocketAddr, TcpListener, TcpStream};
 
 // An opener that tells nothing.
 fn opener_of(rt: HostRuntime) -> HostOpener {
-    RealOpener::new(rt, Teller::new(rt, rt.stderr(), true))
+    RealOpener::new(rt, Teller::new(rt, rt.stderr(), true), Collections::none())
 }
 
 // Whether each of two doors gives one link, which is given back.

@@ -48,12 +48,19 @@ pub(crate) fn link_of(
     MemLink::new(alloc, copy_of(rt, alloc, input), room, calls).expect(rt, "memory")
 }
 
-// A link that asks for the structure of the best view, no call of which would wait.
+// The same link as a door gives it, no call of which would wait.
+pub(crate) fn paused(alloc: Global, link: MemLink) -> PausedLink
+    requires { IsFresh (⟦<MemLink as Link>⟧.shown link) }
+    ensures { IsFresh (⟦<PausedLink as Link>⟧.shown result) }
+{
+    PausedLink::new(link, Pauses::none(alloc), Pauses::none(alloc))
+}
+
+// A link that asks for the structure of the best view.
 fn asking_link(rt: &impl Abort, alloc: Global) -> PausedLink
     ensures { IsFresh (⟦<PausedLink as Link>⟧.shown result) }
 {
-    let link = link_of(rt, alloc, STRUCTURE, 4_096, 0);
-    PausedLink::new(link, Pauses::none(alloc), Pauses::none(alloc))
+    paused(alloc, link_of(rt, alloc, STRUCTURE, 4_096, 0))
 }
 
 // A door to which one link comes that asks for the structure of the best view, and then another.
@@ -67,7 +74,7 @@ pub(crate) fn asking_door(rt: &impl Abort, alloc: Global) -> MemDoor
 }
 
 // An inbox to which these names come.
-fn inbox_of(rt: &impl Abort, alloc: Global, names: &str) -> MemInbox
+pub(crate) fn inbox_of(rt: &impl Abort, alloc: Global, names: &str) -> MemInbox
     ensures { (⟦<MemInbox as Inbox>⟧.shown result).faults ≡ 0 }
 {
     let names = words_of(rt, alloc, names);

@@ -1,23 +1,28 @@
-//! Two collections at one link.
-ghost use Rattle.std.specs.Prelude.{◌≡◌, ◌∷◌, ◌≤◌, codes, length, map, pos};
-ghost use Rattle.fm_model.specs.Site.{IsPrototype};
+//! A server of two collections, over one link that comes once a file of the first collection was settled.
+ghost use Rattle.std.specs.Prelude.{◌≡◌};
 
-use super::arriving::copy_of;
-use super::given::link_of;
+use super::course::{CountedOpener, Course};
+use super::gates::Watch;
+use super::given::{Left, inbox_of, link_of, paused, ran};
 use super::texts::REPLIES;
-use crate::publishing::files::{NAMES, sample};
-use crate::publishing::sampled::{bytes_of, prototype, shared};
-use dap_reply::Stop;
-use dev_memory::MemLink;
-use fm_base::{Arc, Bytes, List};
-use fm_model::{Op, Proto, Site};
-use fm_proto::read_proto;
-use fm_sample::File;
-use pub_look::{Look, Plain};
-use srv_many::{Several, serve_many};
+use dev_memory::{MemDoor, MemOpener};
+use dev_traits::Door;
+use fm_base::{Bytes, List};
 use std::alloc::Global;
+use std::marker::Sync;
 use std::process::Abort;
-use web_session::Session;
+use std::sync::Wait;
+use std::sync::atomic::Ordering;
+use std::thread::Threads;
+
+// The words of a run with one worker, and with the sample as the prototype of both collections.
+const MANY: &str =
+    "many --listen here --workers 1 gfs=gfs_20240101_0000.nc=one wave=gfs_20240101_0000.nc=other";
+
+// Its lines, where a file came to the first collection and none to the second.
+const LINES: &[u8] = b"gfs published 1 retracted 0 expired 0 held 1 rows 3 revision 1
+wave published 0 retracted 0 expired 0 held 0 rows 0 revision 0
+";
 
 // Requests for the first collection, for the second, for the first with an escape in its name, and for none.
 const REQUESTS: &[u8] = b"GET /thredds/dodsC/gfs/gfs_best.ncd.dds HTTP/1.1\r\n\r\n\
@@ -55,87 +60,37 @@ Error {
 };
 ";
 
-// The site of the second collection.
-fn wave_site(rt: &impl Abort, alloc: Global) -> Site
-    ensures { result ≡ record { name = codes "wave"; epoch = pos 1577836800; mark = codes "wave_" } }
+// A door to which one link comes that asks of both collections in turn.
+fn turning_door(rt: &impl Abort, alloc: Global) -> MemDoor
+    ensures { (⟦<MemDoor as Door>⟧.shown result).faults ≡ 0 }
 {
-    Site {
-        name: copy_of(rt, alloc, b"wave"),
-        epoch: 1_577_836_800,
-        mark: copy_of(rt, alloc, b"wave_"),
+    let mut links = List::new(alloc);
+    links
+        .push(paused(alloc, link_of(rt, alloc, REQUESTS, 4_096, 0)))
+        .expect(rt, "memory");
+    MemDoor::new(alloc, links, List::new(alloc)).expect(rt, "memory")
+}
+
+// What opens that door, and an inbox for each collection, of which the first gets a file.
+fn opener_of_two<'a>(rt: &impl Abort, alloc: Global, course: &'a Course) -> CountedOpener<'a> {
+    let mut doors = List::new(alloc);
+    doors.push(turning_door(rt, alloc)).expect(rt, "memory");
+    let mut inboxes = List::new(alloc);
+    inboxes
+        .push(inbox_of(rt, alloc, "gfs_20240101_0000.nc"))
+        .expect(rt, "memory");
+    inboxes.push(inbox_of(rt, alloc, "")).expect(rt, "memory");
+    CountedOpener {
+        opener: MemOpener::new(alloc, doors, inboxes, List::new(alloc), List::new(alloc)),
+        course,
     }
 }
 
-// The prototype of the second collection, which is that of the first under another name.
-#[tactic(auto, using(crate::proofs::WaveFacts::waves))]
-fn wave_prototype(rt: &impl Abort, alloc: Global) -> Arc<Proto>
-    ensures { IsPrototype result }
-{
-    let bytes = bytes_of(rt, alloc, File::Sample);
-    assert!(rt; bytes.len() <= 352);
-    let Ok(proto) = read_proto(alloc, bytes, wave_site(rt, alloc)) else {
-        panic!(rt; "the sample is a prototype");
-    };
-    Arc::new(alloc, proto).expect(rt, "memory")
-}
-
-// A collection over a prototype.
-fn opened(rt: &impl Abort, alloc: Global, proto: &Arc<Proto>) -> Plain
-    requires { IsPrototype proto.now }
-    ensures { result.proto ≡ proto.now }
-{
-    Plain::open(alloc, shared(rt, proto)).expect(rt, "memory")
-}
-
-// The same with one file.
-fn with_file(rt: &impl Abort, alloc: Global, proto: &Arc<Proto>) -> Plain
-    requires { IsPrototype proto.now }
-    ensures { result.proto ≡ proto.now }
-{
-    let mut plain = opened(rt, alloc, proto);
-    let file = sample(rt, alloc, NAMES[0], proto.get());
-    let Ok(_) = plain.publish(alloc, Op::Put(file)) else {
-        panic!(rt; "there is room for one file");
-    };
-    plain
-}
-
-// Serves four replies on a link over two collections.
-#[tactic(auto, using(crate::proofs::WaveFacts::waves))]
-fn serve_four(
-    rt: &impl Abort,
-    alloc: Global,
-    looks: &mut Several<Plain, List<Plain>>,
-    protos: &List<Arc<Proto>>,
-    link: &mut MemLink,
-)
-    requires protos { protos.now ≡ map ⟦<Plain as Look>⟧.proto (looks.old.first ∷ looks.old.others) }
-    requires few { length protos.now ≤ 8 }
-{
-    let mut session = Session::new(alloc).expect(rt, "memory");
-    let (stop, trail) = serve_many(alloc, looks, link, &mut session, protos, 4);
-    drop(session);
-    assert!(rt; matches!(stop, Stop::Enough));
-    assert!(rt; trail.len() == 4);
-    drop(trail);
-}
-
-// Serves four replies on a link over the first collection with one file, and the second without one.
-fn serve_both(rt: &impl Abort, alloc: Global, link: &mut MemLink) {
-    let gfs = prototype(rt, alloc);
-    let wave = wave_prototype(rt, alloc);
-    let mut others = List::new(alloc);
-    others.push(opened(rt, alloc, &wave)).expect(rt, "memory");
-    let mut looks = Several {
-        first: with_file(rt, alloc, &gfs),
-        others,
-    };
-    let mut protos = List::new(alloc);
-    protos.push(gfs).expect(rt, "memory");
-    protos.push(wave).expect(rt, "memory");
-    serve_four(rt, alloc, &mut looks, &protos, link);
-    drop(looks);
-    drop(protos);
+// Serves both with a gate that holds the link until the file was settled.
+fn served<R: Threads + Wait + Abort + Sync>(rt: &R, alloc: Global, course: &Course) -> Left {
+    let link = link_of(rt, alloc, b"", 0, 0);
+    let opener = opener_of_two(rt, alloc, course);
+    ran(rt, alloc, MANY, opener, link, Watch::InStep(course))
 }
 
 // The replies to the requests; those to the first and the third are the same.
@@ -148,10 +103,22 @@ fn replies(rt: &impl Abort, alloc: Global) -> Bytes {
     all
 }
 
+// Whether one link was put these replies.
+fn is_put(given: &[Bytes], wanted: &[u8]) -> bool {
+    match given {
+        [one] => one.as_slice() == wanted,
+        _ => false,
+    }
+}
+
 #[test]
 fn each_request_is_answered_from_its_own_collection(rt: HostRuntime) {
-    let mut link = link_of(&rt, rt.alloc(), REQUESTS, 4_096, 0);
-    serve_both(&rt, rt.alloc(), &mut link);
+    let course = Course::new();
+    let left = served(&rt, rt.alloc(), &course);
     let wanted = replies(&rt, rt.alloc());
-    assert!(rt; link.output() == wanted.as_slice());
+    assert!(rt; left.status == 0);
+    assert!(rt; course.gave_up.load(Ordering::SeqCst) == 0);
+    assert!(rt; left.line.as_slice() == LINES);
+    assert!(rt; is_put(left.replies.as_slice(), wanted.as_slice()));
+    drop(left);
 }

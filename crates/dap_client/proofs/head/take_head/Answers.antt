@@ -21,7 +21,7 @@ pub returns-then-branch-eq0-clause-head : goal.returns-then-branch-eq0-clause-he
 returns-then-branch-eq0-clause-head g c =
     let before = c.loop-turn.invariant in
     let one = c.in_ok-take_some.ensures in
-    head-early _ _ _ c.loop-turn._turn (Gathers-then _ _ _ _ _ _ before.taken one.taken)
+    head-early _ _ _ c.loop-turn._turn (Gathers-then before.taken one.taken)
     (omega (arith, one.count, before.count, c.if-branch-eq0.true)) (one.end c.if-branch-eq0.true) before.none
     c.loop-turn-test.true
 
@@ -29,7 +29,7 @@ pub returns-then-ends_head-clause-head : goal.returns-then-ends_head-clause-head
 returns-then-ends_head-clause-head g c =
     let before = c.loop-turn.invariant in
     let one = c.in_ok-take_some.ensures in
-    head-whole _ _ _ c.loop-turn._turn (Gathers-then _ _ _ _ _ _ before.taken one.taken)
+    head-whole _ _ _ c.loop-turn._turn (Gathers-then before.taken one.taken)
     (omega (arith, one.count, one.most, before.count, c.if-branch-eq0.false)) before.none
     (ap ends_head (sym c.as_slice.ensures) ∙ sym c.ends_head.ensures ∙ c.if-ends_head.true) c.loop-turn-test.true
 
@@ -37,7 +37,7 @@ pub loop-turn-preserved : goal.loop-turn-preserved
 loop-turn-preserved g c =
     let before = c.loop-turn.invariant in
     let one = c.in_ok-take_some.ensures in
-    let taken = Gathers-then _ _ _ _ _ _ before.taken one.taken in
+    let taken = Gathers-then before.taken one.taken in
     let count : length c.take_some.new.out ≡ c.loop-turn._turn + 1 =
     omega (arith, one.count, one.most, before.count, c.if-branch-eq0.false) in
     let none_ends : ends_head c.take_some.new.out ≡ false =
@@ -49,3 +49,23 @@ loop-turn-preserved g c =
       put = one.put ∙ before.put;
       faults = one.cause ∙ before.faults;
     }
+
+pub returns-then-branch-eq0-clause-taken : goal.returns-then-branch-eq0-clause-taken
+returns-then-branch-eq0-clause-taken g c =
+    Gathers-then c.loop-turn.invariant.taken c.in_ok-take_some.ensures.taken
+
+pub returns-then-branch-eq0-clause-put : goal.returns-then-branch-eq0-clause-put
+returns-then-branch-eq0-clause-put g c = c.in_ok-take_some.ensures.put ∙ c.loop-turn.invariant.put
+
+pub returns-then-branch-eq0-clause-cause : goal.returns-then-branch-eq0-clause-cause
+returns-then-branch-eq0-clause-cause g c = c.in_ok-take_some.ensures.cause ∙ c.loop-turn.invariant.faults
+
+pub returns-then-ends_head-clause-taken : goal.returns-then-ends_head-clause-taken
+returns-then-ends_head-clause-taken g c =
+    Gathers-then c.loop-turn.invariant.taken c.in_ok-take_some.ensures.taken
+
+pub returns-then-ends_head-clause-put : goal.returns-then-ends_head-clause-put
+returns-then-ends_head-clause-put g c = c.in_ok-take_some.ensures.put ∙ c.loop-turn.invariant.put
+
+pub returns-then-ends_head-clause-cause : goal.returns-then-ends_head-clause-cause
+returns-then-ends_head-clause-cause g c = c.in_ok-take_some.ensures.cause ∙ c.loop-turn.invariant.faults

@@ -1,6 +1,5 @@
 -- A run of the job that the words are blames what failed.
 use Rattle.srv_words.specs.Jobs.{job_of}
-use Rattle.srv_run.specs.Run.{offered_of}
 use Rattle.srv_run.proofs.BlameLemmas.{Ends-Runs}
 use Rattle.srv_run.proofs.program.run.Goals as goal
 
@@ -8,5 +7,5 @@ pub returns : goal.returns
 returns g c = Ends-Runs (record {
   end = c.do_found.result;
   status_is = c.status.ensures;
-  does = c.do_found.ensures (offered_of (job_of c.args.words.now)) c.job_or_end-found.ensures.job;
+  does = c.do_found.ensures (job_of c.args.words.now) c.job_or_end-found.ensures.job;
 })

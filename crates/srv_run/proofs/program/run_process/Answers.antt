@@ -1,6 +1,5 @@
 -- A run of the job that the words are blames what failed, and the process ends with its status.
 use Rattle.srv_words.specs.Jobs.{job_of}
-use Rattle.srv_run.specs.Run.{offered_of}
 use Rattle.srv_run.proofs.BlameLemmas.{Ends-Runs}
 use Rattle.srv_run.proofs.program.run_process.Goals as goal
 
@@ -8,5 +7,5 @@ pub returns : goal.returns
 returns g c = rw c.from.ensures (Ends-Runs (record {
   end = c.do_found-end.result;
   status_is = c.status.ensures;
-  does = c.do_found-end.ensures (offered_of (job_of c.args.words.now)) c.job_or_end-found.ensures.job;
+  does = c.do_found-end.ensures (job_of c.args.words.now) c.job_or_end-found.ensures.job;
 }))

@@ -7,9 +7,9 @@ use Rattle.srv_serve.proofs.serving.serve.Goals as goal
 pub returns-in-Err : goal.returns-in-Err
 returns-in-Err g c = record {
   runs = inl (record {
-    ends = c.in-Err.ensures.ends;
+    ends = rw c.as_slice-path.ensures at c.in-Err.ensures.ends;
     leaves = record { opener_is = refl; devices_are = refl };
-    reports = rw c.as_slice.ensures at c.report.ensures;
+    reports = rw c.as_slice-path.ensures at c.report.ensures;
   });
   unused = refl;
   undialled = refl;
@@ -18,23 +18,23 @@ returns-in-Err g c = record {
 pub close-end-requires-clause-doors : goal.close-end-requires-clause-doors
 close-end-requires-clause-doors g c =
     let run = c.in-Ok-run_in_threads.ensures.run in
-    few-reports run.ran.doors (omega (arith, run.all.doors, c.requires.few_workers))
+    few-reports run.ran.doors (omega (arith, run.opening.all.doors, c.requires.few_workers))
 
 pub close-end-requires-clause-inboxes : goal.close-end-requires-clause-inboxes
 close-end-requires-clause-inboxes g c =
     let run = c.in-Ok-run_in_threads.ensures.run in
-    few-reports run.ran.inboxes (omega (arith, run.all.inboxes, c.requires.few_inboxes))
+    few-reports run.ran.inboxes (omega (arith, run.opening.all.inboxes, c.requires.few_inboxes))
 
 pub close-end-requires-clause-clocks : goal.close-end-requires-clause-clocks
 close-end-requires-clause-clocks g c =
     let run = c.in-Ok-run_in_threads.ensures.run in
-    few-reports run.ran.clocks (few-clocks run.all)
+    few-reports run.ran.clocks (few-clocks c.args.serving.now run.opening.all)
 
 pub returns-in-Ok-run_in_threads : goal.returns-in-Ok-run_in_threads
 returns-in-Ok-run_in_threads g c = record {
   runs = inr (record {
     proto = c.in-Ok.proto;
-    reads = c.in-Ok.ensures.opens;
+    reads = rw c.as_slice-path.ensures at c.in-Ok.ensures.opens;
     files = c.in-Ok.ensures.same;
     serves = inr (record {
       outcome = c.in-Ok-run_in_threads.outcome;
@@ -52,7 +52,7 @@ returns g c =
     rw c.say.ensures.end (record {
       runs = inr (record {
         proto = c.in-Ok.proto;
-        reads = c.in-Ok.ensures.opens;
+        reads = rw c.as_slice-path.ensures at c.in-Ok.ensures.opens;
         files = said.unread ∙ c.in-Ok.ensures.same;
         serves = inl (EndsUnserved-said c.in-Err-run_in_threads.ensures.stopped said refl);
       });

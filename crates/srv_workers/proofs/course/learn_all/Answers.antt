@@ -19,9 +19,9 @@ returns-then-learn_once-clause-keep g c =
 
 -- the logs are sound
 pub returns-then-learn_once-clause-sound : goal.returns-then-learn_once-clause-sound
-returns-then-learn_once-clause-sound g c =
+returns-then-learn_once-clause-sound g c some =
     sound-turn g.X.Desks.means (g.X.Desks.logs c.args.desks.now) c.args.staff.now c.loop.staff c.learn_once.new.staff
-    c.requires c.loop.invariant.2 c.learn_once.ensures.learn (c.learn_once.ensures.seen c.if-learn_once.true)
+    some c.loop.invariant.2 c.learn_once.ensures.learn (c.learn_once.ensures.seen c.if-learn_once.true)
 
 -- each keeps what it has through one turn more
 pub loop-preserved : goal.loop-preserved

@@ -8,25 +8,6 @@ use Rattle.srv_workers.proofs.PairLemmas.{AllZip-at, of-equals}
 use Rattle.srv_workers.proofs.ShiftLemmas.{doors-worked, HaveWorked-is}
 use Rattle.srv_workers.proofs.shift.work_and_learn.Goals as goal
 
--- there is still a door's worker
-pub learn_all-requires : goal.learn_all-requires
-learn_all-requires g c =
-    let same : c.as_mut_slice-workers.result.now ≡ c.args.staff =
-    c.as_mut_slice-workers.ensures.value ∙ c.staff.view_is in
-    let shown = shows g.D.Door.shown g.D.L.Link.shown g.I.Inbox.shown g.C.Clock.shown in
-    omega (
-      arith,
-      c.requires,
-      ap (λ (l : List _). length (filter_map door_of l)) same,
-      doors-worked shown c.args.keep g.X.Desks.means c.as_mut_slice-workers.result.now c.for_each_mut.new.s
-          (AllZip-at (Does shown c.args.keep g.X.Desks.means) c.as_mut_slice-workers.result.now c.for_each_mut.new.s
-          (omega (arith, c.for_each_mut.auto.s))
-          (λ i d below. let left = (c.for_each_mut.ensures i d below).1 in
-          of-equals (Does shown c.args.keep g.X.Desks.means)
-          left.argument.now (slice_index_or c.as_mut_slice-workers.result.now i d) left.after_call.now
-          (slice_index_or c.for_each_mut.new.s i d) left.argument_is left.left left.call)),
-    )
-
 -- all did their tasks, and then learnt the logs
 pub returns-clause-done : goal.returns-clause-done
 returns-clause-done g c =
@@ -49,3 +30,22 @@ returns-clause-done g c =
     left.argument.now (slice_index_or c.as_mut_slice-workers.result.now i d) left.after_call.now
     (slice_index_or c.for_each_mut.new.s i d) left.argument_is left.left left.call)
     c.learn_all.ensures.begin c.learn_all.ensures.keep))
+
+-- each log is sound, as there is still a door's worker
+pub returns-clause-sound : goal.returns-clause-sound
+returns-clause-sound g c some =
+    let same : c.as_mut_slice-workers.result.now ≡ c.args.staff =
+    c.as_mut_slice-workers.ensures.value ∙ c.staff.view_is in
+    let shown = shows g.D.Door.shown g.D.L.Link.shown g.I.Inbox.shown g.C.Clock.shown in
+    c.learn_all.ensures.sound (omega (
+      arith,
+      some,
+      ap (λ (l : List _). length (filter_map door_of l)) same,
+      doors-worked shown c.args.keep g.X.Desks.means c.as_mut_slice-workers.result.now c.for_each_mut.new.s
+          (AllZip-at (Does shown c.args.keep g.X.Desks.means) c.as_mut_slice-workers.result.now c.for_each_mut.new.s
+          (omega (arith, c.for_each_mut.auto.s))
+          (λ i d below. let left = (c.for_each_mut.ensures i d below).1 in
+          of-equals (Does shown c.args.keep g.X.Desks.means)
+          left.argument.now (slice_index_or c.as_mut_slice-workers.result.now i d) left.after_call.now
+          (slice_index_or c.for_each_mut.new.s i d) left.argument_is left.left left.call)),
+    ))

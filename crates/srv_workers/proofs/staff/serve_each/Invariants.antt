@@ -6,7 +6,7 @@ use Rattle.srv_workers.proofs.staff.serve_each.Given as goal
 
 abbrev pub invariant-loop-number : goal.invariant-loop-number
 invariant-loop-number g l =
-    Adds g.X.Desks.means l.fn.staff.items l.staff.items (take l.number l.fn.doors) [] [] []
+    Adds g.X.Desks.means l.fn.staff.items l.staff.items (take l.number l.fn.doors) [] [] [] []
     × (l.doors ≡ drop l.number l.fn.doors)
     × (l.staff.free ≡ l.fn.staff.free - l.number)
     × (length l.eyes ≡ length l.fn.doors - l.number)

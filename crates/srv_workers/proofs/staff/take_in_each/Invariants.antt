@@ -7,7 +7,7 @@ use Rattle.srv_workers.proofs.staff.take_in_each.Given as goal
 abbrev pub invariant-loop-number : goal.invariant-loop-number
 invariant-loop-number g l =
     Adds g.X.Desks.means l.fn.staff.items l.staff.items [] (take l._number l.fn.inboxes) []
-    (take l._number l.fn.hands)
+    (take l._number l.fn.hands) []
     × (l.inboxes ≡ drop l._number l.fn.inboxes)
     × (l.staff.free ≡ l.fn.staff.free - l._number)
     × (l.hands ≡ drop l._number l.fn.hands)

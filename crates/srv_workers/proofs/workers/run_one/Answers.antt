@@ -1,31 +1,66 @@
-use Rattle.std.proofs.Common.{◌≡◌, ◌∙◌, List, ap, length, subst, sym}
+use Rattle.std.proofs.Common.{◌≡◌, ◌∙◌, ℕ, List, ap, arith, length, subst, sym}
 use Rattle.fm_model.specs.declared.proto.Proto.{Proto}
+use Rattle.srv_workers.specs.Places.{HasPlaces}
 use Rattle.srv_workers.specs.Runs.{RanTogether}
 use Rattle.srv_workers.proofs.AloneLemmas.{RanTogether-one}
-use Rattle.srv_workers.proofs.GivenLemmas.{all-new, all-unseen, counted-one, many-length}
+use Rattle.srv_workers.proofs.GivenLemmas.{IsGiven-one, of-many}
 use Rattle.srv_workers.proofs.workers.run_one.Goals as goal
 
--- there are eyes for each door, which have seen nothing
-pub run_over-outcomes-requires-clause-eyes : goal.run_over-outcomes-requires-clause-eyes
-run_over-outcomes-requires-clause-eyes g c _ _ = many-length _ _ _ c.given_at-given.ensures.eyes ∙ c.len.ensures
+-- there are passes, shares and prototypes for all
+pub given_at-given-requires-clause-passes : goal.given_at-given-requires-clause-passes
+given_at-given-requires-clause-passes g c = of-many _ _ _ _ c.in-Ok-open.ensures.passes (omega (
+  arith,
+  c.requires.passes,
+  c.len-doors.ensures,
+  c.len-inboxes.ensures,
+  c.len.ensures,
+))
 
-pub run_over-outcomes-requires-clause-unseen : goal.run_over-outcomes-requires-clause-unseen
-run_over-outcomes-requires-clause-unseen g c _ _ = all-unseen g.N.Name.proto _ _ c.given_at-given.ensures.eyes
+pub given_at-given-requires-clause-shares : goal.given_at-given-requires-clause-shares
+given_at-given-requires-clause-shares g c = of-many _ _ _ _ c.in-Ok-open.ensures.shares (omega (
+  arith,
+  c.requires.shares,
+  c.len-inboxes.ensures,
+  c.len.ensures,
+))
 
--- there is a hand for each other device, which has done nothing
-pub run_over-outcomes-requires-clause-hands : goal.run_over-outcomes-requires-clause-hands
-run_over-outcomes-requires-clause-hands g c _ _ =
-    many-length _ _ _ c.given_at-given.ensures.hands ∙ many-length _ _ _ c.in-Ok-open.ensures.shares
-    ∙ c.requires.shares
+pub given_at-given-requires-clause-places : goal.given_at-given-requires-clause-places
+given_at-given-requires-clause-places g c =
+    let devices = c.args.devices.now in
+    let proto = c.args.proto.now in
+    let places = c.in-Ok.ready.places in
+    let doors = c.len-doors.result in
+    let inboxes = c.len-inboxes.result in
+    let clocks = c.len.result in
+    subst (λ (p : Proto). HasPlaces p doors inboxes clocks places) (sym c.requires.proto ∙ c.requires.named.proto_is)
+    (subst (λ (n : ℕ). HasPlaces proto n inboxes clocks places) (sym c.len-doors.ensures)
+    (subst (λ (n : ℕ). HasPlaces proto (length devices.doors) n clocks places) (sym c.len-inboxes.ensures)
+    (subst (λ (n : ℕ). HasPlaces proto (length devices.doors) (length devices.inboxes) n places) (sym c.len.ensures)
+    c.in-Ok.ensures.places)))
 
-pub run_over-outcomes-requires-clause-new : goal.run_over-outcomes-requires-clause-new
-run_over-outcomes-requires-clause-new g c _ _ = all-new g.N.Name.proto _ _ c.given_at-given.ensures.hands
+-- each worker is given a pass, and each but the doors' a share
+pub run_over-outcomes-requires-clause-given : goal.run_over-outcomes-requires-clause-given
+run_over-outcomes-requires-clause-given g c _ _ =
+    IsGiven-one g.N.Name.proto _ c.len-doors.result c.len-inboxes.result c.len.result c.args.devices.now
+    c.given_at-given.result c.len-doors.ensures c.len-inboxes.ensures c.len.ensures
+    (omega (arith, c.requires.named.parts_are, c.requires.shares, c.len-inboxes.ensures, c.len.ensures))
+    c.given_at-given.ensures.eyes c.given_at-given.ensures.at_inboxes c.given_at-given.ensures.at_clocks
 
--- they have all shares
-pub run_over-outcomes-requires-clause-shares : goal.run_over-outcomes-requires-clause-shares
-run_over-outcomes-requires-clause-shares g c _ _ number below =
-    counted-one g.N.Name.proto _ _ _ c.given_at-given.ensures.hands number below
-    ∙ many-length _ _ _ c.in-Ok-open.ensures.shares ∙ c.requires.named.parts_are
+-- there is room
+pub run_over-outcomes-requires-clause-back : goal.run_over-outcomes-requires-clause-back
+run_over-outcomes-requires-clause-back g c _ _ = record {
+  none = λ number below. c.in-Ok.ensures.back.0;
+  free = λ number below. omega (arith, c.in-Ok.ensures.back.1, c.requires.named.parts_are, c.requires.shares);
+}
+
+pub run_over-outcomes-requires-clause-room : goal.run_over-outcomes-requires-clause-room
+run_over-outcomes-requires-clause-room g c _ _ = c.in-Ok.ensures.room
+
+pub run_over-outcomes-requires-clause-some : goal.run_over-outcomes-requires-clause-some
+run_over-outcomes-requires-clause-some g c _ _ = c.requires.some
+
+pub run_over-outcomes-requires-clause-few : goal.run_over-outcomes-requires-clause-few
+run_over-outcomes-requires-clause-few g c _ _ = c.requires.few
 
 -- one desk was closed
 pub of_one-requires : goal.of_one-requires
@@ -38,5 +73,5 @@ returns-clause-ran g c =
     subst (λ (p : Proto). RanTogether g.M.D.Door.shown g.M.D.L.Link.shown g.M.I.Inbox.shown g.M.C.Clock.shown p
     c.args.keep c.args.devices.now c.run_over-outcomes.new.devices c.of_one.result) same
     (RanTogether-one g.M.D.Door.shown g.M.D.L.Link.shown g.M.I.Inbox.shown g.M.C.Clock.shown g.N.Name.proto
-    c.args.keep c.args.devices.now c.run_over-outcomes.new.devices c.run_over-outcomes.result c.of_one.result
-    c.run_over-outcomes.ensures c.of_one.ensures)
+    c.args.keep c.given_at-given.result c.args.devices.now c.run_over-outcomes.new.devices c.run_over-outcomes.result
+    c.of_one.result c.run_over-outcomes.ensures c.of_one.ensures)

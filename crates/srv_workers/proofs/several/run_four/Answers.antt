@@ -1,0 +1,35 @@
+use Rattle.std.proofs.Common.{List, IfOk, arith, subst, sym}
+use Rattle.fm_model.specs.declared.proto.Proto.{Proto}
+use Rattle.srv_workers.specs.Several.{RanSeveral}
+use Rattle.srv_workers.proofs.several.run_four.Goals as goal
+
+pub run_with_three-requires-clause-first : goal.run_with_three-requires-clause-first
+run_with_three-requires-clause-first g c _ _ = c.requires.first
+
+pub run_with_three-requires-clause-second : goal.run_with_three-requires-clause-second
+run_with_three-requires-clause-second g c _ _ = c.requires.second
+
+pub run_with_three-requires-clause-third : goal.run_with_three-requires-clause-third
+run_with_three-requires-clause-third g c _ _ = c.requires.third
+
+pub run_with_three-requires-clause-sized : goal.run_with_three-requires-clause-sized
+run_with_three-requires-clause-sized g c _ _ = (c.requires.sized.0, c.requires.sized.1, c.requires.sized.2)
+
+pub run_with_three-requires-clause-others : goal.run_with_three-requires-clause-others
+run_with_three-requires-clause-others g c _ _ = (c.requires.fourth, c.requires.sized.3)
+
+pub run_with_three-requires-clause-protos : goal.run_with_three-requires-clause-protos
+run_with_three-requires-clause-protos g c _ _ = c.requires.protos
+
+pub run_with_three-requires-clause-devices : goal.run_with_three-requires-clause-devices
+run_with_three-requires-clause-devices g c _ _ = c.requires.devices
+
+pub run_with_three-requires-clause-few : goal.run_with_three-requires-clause-few
+run_with_three-requires-clause-few g c _ _ = omega arith
+
+-- the collections are those over the prototypes
+pub returns-clause-ran : goal.returns-clause-ran
+returns-clause-ran g c =
+    subst (λ (protos : List Proto). IfOk c.run_with_three.result (RanSeveral g.M.D.Door.shown g.M.D.L.Link.shown
+    g.M.I.Inbox.shown g.M.C.Clock.shown protos c.args.keep c.args.devices.now c.run_with_three.new.devices))
+    (sym c.requires.protos) c.run_with_three.ensures.ran

@@ -1,0 +1,42 @@
+//! What workers are given: a door's worker looks with eyes, and any other publishes with a hand.
+ghost use Rattle.std.specs.Prelude.{IfOk};
+ghost use Rattle.srv_workers.specs.Given.{IsVacant};
+
+use crate::slots::Slots;
+use fm_base::{List, NoMemory};
+use std::alloc::Global;
+
+// Eyes for each door, and a hand for each inbox and for each clock, in their order.
+#[derive(Drop)]
+pub(crate) struct Given<E, H> {
+    pub eyes: List<E>,
+    pub at_inboxes: List<H>,
+    pub at_clocks: List<H>,
+}
+
+// Room for them.
+#[derive(Drop)]
+pub(crate) struct Vacant<E, H> {
+    pub eyes: Slots<E>,
+    pub at_inboxes: Slots<H>,
+    pub at_clocks: Slots<H>,
+}
+
+// Room for what the workers of so many doors, inboxes and clocks are given.
+pub(crate) fn vacant_for<E: Drop, H: Drop>(
+    alloc: Global,
+    doors: usize,
+    inboxes: usize,
+    clocks: usize,
+) -> Result<Vacant<E, H>, NoMemory>
+    ensures { IfOk result (IsVacant doors inboxes clocks) }
+{
+    let eyes = Slots::with_room(alloc, doors)?;
+    let at_inboxes = Slots::with_room(alloc, inboxes)?;
+    let at_clocks = Slots::with_room(alloc, clocks)?;
+    Ok(Vacant {
+        eyes,
+        at_inboxes,
+        at_clocks,
+    })
+}
