@@ -11,7 +11,7 @@ from local_server import free_port, wait_for
 from serve_replies import APART, HOUR, OFFSETS, file_of, name_of, reply_of, target_of
 
 WORKERS = int(os.environ.get("WORKERS", "4"))
-# How many files come to each collection, so many seconds apart, and how many clients read meanwhile.
+# How many files come to each collection, how many seconds apart, and how many clients read meanwhile.
 FILES, PAUSE, CLIENTS = 100, 0.15, 12
 # The collections, and which of all runs each gets: no run of one is of the other.
 COLLECTIONS = {"gfs": 0, "wave": 1}
