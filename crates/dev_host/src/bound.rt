@@ -3,14 +3,16 @@ ghost use Rattle.std.specs.Option.{option_copied};
 ghost use Rattle.std.specs.Prelude.{◌≡◌};
 ghost use Rattle.dev_host.specs.Bound.{listener_at};
 
+use crate::addresses::bind;
+use crate::collections::Prefix;
 use crate::failing::fail_of;
-use crate::notice::{Event, tell_of};
-use crate::telling::Tell;
+use crate::notice::Voice;
+use crate::telling::{Tell, Teller};
 use dev_traits::Failed;
-use fm_base::{Bytes, Fail};
-use std::io::{self, Error, ErrorKind};
-use std::net::{Net, TcpListener, ToSocketAddrs};
-use std::str;
+use fm_base::{Bytes, Fail, List, NoMemory};
+use std::alloc::{AllocError, Global};
+use std::net::{Net, TcpListener};
+use std::{rt, str};
 
 // A socket that listens, by the address at which it was opened.
 #[derive(Drop)]
@@ -20,7 +22,7 @@ pub(crate) struct Bound {
 }
 
 // The socket that was opened at this very address.
-pub(crate) fn bound_at<'a>(bound: &'a [Bound], address: &[u8]) -> Option<&'a TcpListener>
+fn bound_at<'a>(bound: &'a [Bound], address: &[u8]) -> Option<&'a TcpListener>
     ensures { option_copied result ≡ listener_at bound.now address.now }
 {
     for one in bound {
@@ -31,45 +33,71 @@ pub(crate) fn bound_at<'a>(bound: &'a [Bound], address: &[u8]) -> Option<&'a Tcp
     None
 }
 
-// Tells why a folder or an address can't be opened, and returns why the call failed.
-pub(crate) fn unopened<T: Tell>(tell: &T, place: &str, error: Error) -> Fail<Failed> {
-    tell_of(
-        tell,
-        place,
-        Event::failing(b"", "it can't be opened", error),
-    );
-    fail_of(&error)
-}
-
-// Opens a socket that listens at an address, which is text, with the longest queue that the system allows.
-pub(crate) fn bind<R: Net, T: Tell>(
-    rt: &R,
-    tell: &T,
+// What tells of the first door at an address. The system lacks what it lacks for all of them.
+pub(crate) fn voice_at<R: rt::Clock + Net + AllocGlobal + Clone + Drop>(
+    bound: &[Bound],
+    tell: &Teller<R>,
+    alloc: Global,
     address: &[u8],
-) -> Result<TcpListener, Fail<Failed>> {
-    let Ok(address) = str::from_utf8(address) else {
-        return Err(Fail::Fault(Failed));
-    };
-    match bind_any(rt, address) {
-        Ok(listener) => Ok(listener),
-        Err(error) => Err(unopened(tell, address, error)),
+) -> Result<Option<Voice<Teller<R>>>, NoMemory> {
+    if bound_at(bound, address).is_some() {
+        return Ok(None);
     }
-}
-
-// The first socket that can be opened of those that an address means.
-pub(crate) fn bind_any<R: Net>(rt: &R, address: &str) -> io::Result<TcpListener> {
-    let mut failed = Error::from(ErrorKind::NotFound);
-    for address in address.to_socket_addrs(rt)? {
-        match mio::net::TcpListener::bind(rt, address) {
-            Ok(listener) => return Ok(TcpListener::from(listener)),
-            Err(error) => failed = error,
+    let place = String::from_str(alloc, str::from_utf8(address).unwrap_or(""))?;
+    match tell.about(Prefix::none()) {
+        Ok(tell) => Ok(Some(Voice { tell, place })),
+        Err(AllocError) => {
+            drop(place);
+            Err(NoMemory)
         }
     }
-    Err(failed)
+}
+
+// The socket that listens at an address, which is opened where it wasn't before.
+pub(crate) fn shared_listener<R: Net, T: Tell>(
+    bound: &mut List<Bound>,
+    rt: &R,
+    tell: &T,
+    alloc: Global,
+    address: &[u8],
+) -> Result<TcpListener, Fail<Failed>> {
+    if let Some(listener) = bound_at(bound.as_slice(), address) {
+        return shared(listener);
+    }
+    let listener = bind(rt, tell, address)?;
+    share_at(bound, alloc, address, listener)
+}
+
+// Keeps a socket for the next doors at its address. Returns it for this one.
+fn share_at(
+    bound: &mut List<Bound>,
+    alloc: Global,
+    address: &[u8],
+    listener: TcpListener,
+) -> Result<TcpListener, Fail<Failed>> {
+    let door = shared(&listener)?;
+    match keep_at(bound, alloc, address, listener) {
+        Ok(()) => Ok(door),
+        Err(NoMemory) => {
+            drop(door);
+            Err(Fail::NoMemory)
+        }
+    }
+}
+
+// Keeps a socket for the next doors at its address.
+fn keep_at(
+    bound: &mut List<Bound>,
+    alloc: Global,
+    address: &[u8],
+    listener: TcpListener,
+) -> Result<(), NoMemory> {
+    let address = List::copy_of(alloc, address)?;
+    bound.push(Bound { address, listener })
 }
 
 // The same socket for one more door.
-pub(crate) fn shared(listener: &TcpListener) -> Result<TcpListener, Fail<Failed>> {
+fn shared(listener: &TcpListener) -> Result<TcpListener, Fail<Failed>> {
     match listener.try_clone() {
         Ok(listener) => Ok(listener),
         Err(error) => Err(fail_of(&error)),

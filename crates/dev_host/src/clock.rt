@@ -2,7 +2,7 @@
 ghost use Rattle.std.specs.Prelude.{◌≡◌, ◌≢◌, None, IfSome};
 ghost use Rattle.dev_host.specs.Remaining.{one_less, remaining_of};
 
-use crate::moment::{Jump, Moment};
+use crate::moment::Moment;
 use crate::notice::{Event, tell_of, tell_skipped};
 use crate::remaining::Remaining;
 use crate::stops::Stops;
@@ -35,15 +35,17 @@ impl<R: rt::Clock + Drop, T: Tell + Drop> RealClock<R, T> {
     pub fn new(rt: R, tell: T, ticks: u32, interval: Duration) -> RealClock<R, T>
         ensures { result.remaining ≡ remaining_of ticks }
     {
-        RealClock::of(Some(rt), Some(tell), ticks, interval)
+        RealClock::of(Some(rt), Some(tell), ticks, interval, None)
     }
 
-    // The same. Without a machine it gives no moment, and without a teller its lines are lost.
+    // The same, which ends with these stops where it is without end. Without a machine it gives no moment, and without a
+    // teller its lines are lost.
     pub(crate) fn of(
         rt: Option<R>,
         tell: Option<T>,
         ticks: u32,
         interval: Duration,
+        stops: Option<Stops>,
     ) -> RealClock<R, T>
         ensures { result.remaining ≡ remaining_of ticks }
     {
@@ -53,22 +55,13 @@ impl<R: rt::Clock + Drop, T: Tell + Drop> RealClock<R, T> {
             interval,
             remaining: Remaining::of(ticks),
             last: None,
-            stops: None,
+            stops,
         }
     }
 
     /// What takes its lines.
     pub fn teller(&self) -> Option<&T> {
         self.tell.as_ref()
-    }
-
-    // The same clock, which ends with these where it is without end.
-    pub(crate) fn until(self, stops: Option<Stops>) -> RealClock<R, T>
-        ensures { result.remaining ≡ self.remaining }
-    {
-        let mut clock = self;
-        clock.stops = stops;
-        clock
     }
 
     // Whether taking in is over, and moments would come without end.
@@ -100,19 +93,10 @@ impl<R: rt::Clock + Drop, T: Tell + Drop> RealClock<R, T> {
         match Moment::now(self.rt.as_ref()?) {
             Ok(moment) => Some(moment),
             Err(error) => {
-                if let Some(tell) = &self.tell {
-                    let text = "it can't be read, and no run goes any more";
-                    tell_of(tell, "clock", Event::failing(b"", text, error));
-                }
+                let text = "it can't be read, and no run goes any more";
+                tell_of(&self.tell, "clock", Event::failing(b"", text, error));
                 None
             }
-        }
-    }
-
-    // Tells that a moment is skipped.
-    fn skip(&self, jump: Jump) {
-        if let Some(tell) = &self.tell {
-            tell_skipped(tell, jump);
         }
     }
 
@@ -130,7 +114,7 @@ impl<R: rt::Clock + Drop, T: Tell + Drop> RealClock<R, T> {
             let now = self.read()?;
             let last = self.last.replace(now).unwrap_or(now);
             match now.jump_since(last) {
-                Some(jump) => self.skip(jump),
+                Some(jump) => tell_skipped(&self.tell, jump),
                 None => return Some(now),
             }
         }
@@ -158,8 +142,6 @@ impl<R: rt::Clock + Drop + Send, T: Tell + Drop + Send> Clock for RealClock<R, T
     fn settle(&mut self, _verdict: Expiry) {}
 
     fn note(&mut self, line: &[&[u8]]) {
-        if let Some(tell) = &self.tell {
-            tell.tell(line);
-        }
+        self.tell.tell(line);
     }
 }

@@ -49,8 +49,7 @@ impl Prefix {
 fn name_in(word: &[u8]) -> Option<&[u8]> {
     let mut parts = word.split(|byte| *byte == b'=');
     let name = parts.next()?;
-    parts.next()?;
-    parts.next()?;
+    parts.nth(1)?;
     Some(name)
 }
 

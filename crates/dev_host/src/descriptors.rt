@@ -18,10 +18,15 @@ const LONGEST: u64 = 65_536;
 pub fn most_descriptors(limits: &str) -> Option<u64> {
     for line in limits.lines() {
         if let Some(rest) = line.strip_prefix("Max open files") {
-            return rest.split_whitespace().next()?.parse::<u64>().ok();
+            return first_number(rest);
         }
     }
     None
+}
+
+// The number that is the first word of a text.
+fn first_number(text: &str) -> Option<u64> {
+    text.split_whitespace().next()?.parse::<u64>().ok()
 }
 
 /// How many connections can be open at once beside what is open now: one for each descriptor that is left. `None` where
@@ -34,31 +39,16 @@ pub fn connections_left<R: rt::Files + Alloc + Clone + Drop>(rt: &R, alloc: Glob
 
 // The most descriptors that this process may have.
 fn most_of_process<R: rt::Files>(rt: &R, alloc: Global) -> Option<u64> {
-    match read_file(rt, alloc, LIMITS, LONGEST) {
-        Ok(Found::Content(text)) => {
-            let most = most_in(text.as_slice());
-            drop(text);
-            most
-        }
-        _ => None,
-    }
-}
-
-// The same in the bytes of the system's text.
-fn most_in(limits: &[u8]) -> Option<u64> {
-    match str::from_utf8(limits) {
-        Ok(limits) => most_descriptors(limits),
-        Err(_) => None,
-    }
+    let Ok(Found::Content(limits)) = read_file(rt, alloc, LIMITS, LONGEST) else {
+        return None;
+    };
+    let most = most_descriptors(str::from_utf8(limits.as_slice()).unwrap_or(""));
+    drop(limits);
+    most
 }
 
 // How many descriptors are open. That of the listing is one of them: a file that arrives needs one.
 fn open_descriptors<R: rt::Files + Alloc + Clone + Drop>(rt: &R) -> Option<u64> {
-    let mut count: u64 = 0;
-    for entry in fs::read_dir(rt, OPEN).ok()? {
-        if entry.is_ok() {
-            count = count.saturating_add(1);
-        }
-    }
-    Some(count)
+    let entries = fs::read_dir(rt, OPEN).ok()?;
+    Some(entries.filter(|entry| entry.is_ok()).count() as u64)
 }

@@ -2,13 +2,14 @@
 ghost use Rattle.std.specs.Prelude.{◌≡◌, None, IfOk};
 ghost use Rattle.dev_traits.specs.Door.{IsFresh};
 
+use crate::addresses::first_opened;
 use crate::failing::{counted_fault, fail_of};
 use dev_std::StreamLink;
 use dev_traits::{Dial, Failed, Link};
 use fm_base::Fail;
 use std::alloc::Global;
-use std::io::{self, Error, ErrorKind};
-use std::net::{Net, TcpListener, TcpStream, ToSocketAddrs};
+use std::io;
+use std::net::{Net, TcpListener, TcpStream};
 use std::str;
 use std::time::Duration;
 
@@ -44,7 +45,7 @@ impl<R: Net<Listener = TcpListener, Stream = TcpStream> + Drop> TcpDial<R> {
             return Err(Fail::Fault(Failed));
         };
         match connect(&self.rt, address, self.patience) {
-            Ok(stream) => link_over(stream),
+            Ok(link) => Ok(link),
             Err(error) => Err(fail_of(&error)),
         }
     }
@@ -67,50 +68,29 @@ impl<R: Net<Listener = TcpListener, Stream = TcpStream> + Drop> Dial for TcpDial
     fn done(&mut self, _link: DialledLink) {}
 }
 
-// A socket whose peer is waited for only so long.
+// A link to the first peer that can be reached of those that an address means.
 fn connect<R: Net<Listener = TcpListener, Stream = TcpStream>>(
     rt: &R,
     address: &str,
     patience: Duration,
-) -> io::Result<TcpStream> {
-    let stream = connect_any(rt, address, patience)?;
-    match set_patience(&stream, patience) {
-        Ok(()) => Ok(stream),
+) -> io::Result<DialledLink>
+    ensures { IfOk result (λ link. IsFresh (⟦<DialledLink as Link>⟧.shown link)) }
+{
+    let output = first_opened(rt, address, |address| {
+        TcpStream::connect_timeout(rt, &address, patience)
+    })?;
+    match input_of(&output, patience) {
+        Ok(input) => Ok(StreamLink::new(input, output)),
         Err(error) => {
-            drop(stream);
+            drop(output);
             Err(error)
         }
     }
 }
 
-// Has the calls of a socket wait only so long.
-fn set_patience(stream: &TcpStream, patience: Duration) -> io::Result<()> {
-    stream.set_read_timeout(Some(patience))?;
-    stream.set_write_timeout(Some(patience))
-}
-
-// A socket to the first peer that can be reached of those that an address means.
-fn connect_any<R: Net<Listener = TcpListener, Stream = TcpStream>>(
-    rt: &R,
-    address: &str,
-    patience: Duration,
-) -> io::Result<TcpStream> {
-    let mut failed = Error::from(ErrorKind::NotFound);
-    for address in address.to_socket_addrs(rt)? {
-        match TcpStream::connect_timeout(rt, &address, patience) {
-            Ok(stream) => return Ok(stream),
-            Err(error) => failed = error,
-        }
-    }
-    Err(failed)
-}
-
-// A link over a socket, both ways.
-fn link_over(stream: TcpStream) -> Result<DialledLink, Fail<Failed>>
-    ensures { IfOk result (λ link. IsFresh (⟦<DialledLink as Link>⟧.shown link)) }
-{
-    match stream.try_clone() {
-        Ok(input) => Ok(StreamLink::new(input, stream)),
-        Err(error) => Err(fail_of(&error)),
-    }
+// The same socket to take from, once its calls wait only so long.
+fn input_of(output: &TcpStream, patience: Duration) -> io::Result<TcpStream> {
+    output.set_read_timeout(Some(patience))?;
+    output.set_write_timeout(Some(patience))?;
+    output.try_clone()
 }

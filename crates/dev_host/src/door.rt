@@ -78,7 +78,7 @@ impl<R: rt::Clock + Clone + Drop, T: Tell + Drop> TcpDoor<R, T> {
 
     /// The address at which it listens.
     pub fn local_addr(&self) -> io::Result<SocketAddr> {
-        self.reactor.local_addr()
+        self.reactor.entry.listener.local_addr()
     }
 
     // Whether taking in is over, and links would come without end.
@@ -95,7 +95,7 @@ impl<R: rt::Clock + Clone + Drop, T: Tell + Drop> TcpDoor<R, T> {
     {
         if !self.has_hurried && self.is_stopped() {
             self.has_hurried = true;
-            self.reactor.hurry();
+            self.reactor.times.hurry();
         }
     }
 
@@ -112,10 +112,10 @@ impl<R: rt::Clock + Clone + Drop, T: Tell + Drop> TcpDoor<R, T> {
         ensures faults { self.new.faults ≡ self.old.faults }
         ensures remaining { self.new.remaining ≡ self.old.remaining }
     {
-        if let Some(event) = self.reactor.event()
+        if let Some(news) = self.reactor.entry.news.take()
             && let Some(voice) = &self.voice
         {
-            voice.say(event);
+            voice.say(news.event());
         }
     }
 
@@ -159,9 +159,6 @@ impl<R: rt::Clock + Clone + Drop, T: Tell + Drop> TcpDoor<R, T> {
             }
             if self.is_over() && self.reactor.is_empty() {
                 return Ok(Coming::Closed);
-            }
-            if self.reactor.has_failed() {
-                return Err(Failed);
             }
             let accepts = !self.is_over();
             self.reactor.wait(&self.rt, accepts)?;

@@ -60,7 +60,7 @@ impl Endings {
             return;
         };
         if ending.drop_more(now) {
-            self.table.try_remove(key);
+            drop(self.table.try_remove(key));
             return;
         }
         let until = ending.until();

@@ -25,11 +25,21 @@ enum Next {
 
 // What is to be said of the accepts. It holds no reference, as an `Event` may, so that none is in a door.
 #[derive(Clone, Copy)]
-enum News {
+pub(crate) enum News {
     // Connections are taken again.
     Accepted,
     // The system lacks something for one that waits.
     Unaccepted(Error),
+}
+
+impl News {
+    // What is said.
+    pub fn event(self) -> Event<'static> {
+        match self {
+            News::Accepted => Event::plain("working", "connections are taken again"),
+            News::Unaccepted(error) => Event::failing(b"", "no connection can be taken", error),
+        }
+    }
 }
 
 /// The accepts of a listener, which are made when one may give a connection.
@@ -39,7 +49,7 @@ pub struct Entry<L: Listener + Drop> {
     next: Next,
     trouble: Trouble,
     // what is to be said of it
-    news: Option<News>,
+    pub(crate) news: Option<News>,
 }
 
 impl<L: Listener + Drop> Entry<L> {
@@ -93,21 +103,6 @@ impl<L: Listener + Drop> Entry<L> {
             self.news = Some(News::Unaccepted(error));
         }
         self.pause(now);
-    }
-
-    // What is to be said of the accepts since it was asked last.
-    pub(crate) fn event(&mut self) -> Option<Event<'static>>
-        ensures { self.new.listener ≡ self.old.listener }
-    {
-        match self.news.take() {
-            Some(News::Accepted) => Some(Event::plain("working", "connections are taken again")),
-            Some(News::Unaccepted(error)) => Some(Event::failing(
-                b"",
-                "no connection can be taken",
-                error,
-            )),
-            None => None,
-        }
     }
 
     /// The next connection, where an accept is due and gives one. It fails once, where the socket is none any more.

@@ -4,6 +4,8 @@ ghost use Rattle.std.specs.IoError.{error_kind};
 ghost use Rattle.fm_base.specs.declared.fail.Fail.TheVariants as fails;
 ghost use Rattle.dev_traits.specs.Cause.{HasReadCause};
 
+use crate::notice::{Event, tell_of};
+use crate::telling::Tell;
 use dev_traits::{Failed, count_fault};
 use fm_base::Fail;
 use std::io::{Error, ErrorKind};
@@ -17,6 +19,16 @@ pub(crate) fn fail_of(error: &Error) -> Fail<Failed>
     } else {
         Fail::Fault(Failed)
     }
+}
+
+// Tells why a folder or an address can't be opened, and returns why the call failed.
+pub(crate) fn unopened<T: Tell>(tell: &T, place: &str, error: Error) -> Fail<Failed> {
+    tell_of(
+        tell,
+        place,
+        Event::failing(b"", "it can't be opened", error),
+    );
+    fail_of(&error)
 }
 
 // Counts a call that failed, and returns what it did. Where memory ran out nothing is counted.

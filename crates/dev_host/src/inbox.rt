@@ -3,23 +3,23 @@ ghost use Rattle.std.specs.Prelude.{IfOk, IsOk, None};
 ghost use Rattle.dev_traits.specs.Cause.{HasCause, HasReadCause};
 ghost use Rattle.dev_traits.specs.Files.{KeepsLimit};
 
-use crate::failing::fail_of;
-use crate::held_back::{Given, HeldBack, MINUTE, Reason};
-use crate::moving::{Mover, prepare};
+use crate::failing::unopened;
+use crate::held_back::{Given, MINUTE, Reason};
+use crate::moving::Mover;
 use crate::names::{Shelf, shelf_of};
 use crate::notice::{Event, tell_of};
+use crate::offers::Offers;
 use crate::paths::Move;
 use crate::present::present;
 use crate::reading::read_inside;
-use crate::stops::Stops;
+use crate::stops::{FolderStop, Stops};
 use crate::telling::Tell;
-use crate::trouble::Trouble;
+use crate::trouble::Troubles;
 use dev_traits::{Arrival, Failed, Found, Inbox, Verdict};
-use fm_base::{Bytes, Fail, List};
-use std::alloc::{AllocError, Global};
+use fm_base::Fail;
+use std::alloc::Global;
 use std::io::{Error, ErrorKind};
 use std::marker::Send;
-use std::mem::replace;
 use std::{rt, str};
 
 /// The files of a folder whose names end in `.nc` or `.retract`, in byte order of one listing after another. It is done
@@ -29,22 +29,13 @@ use std::{rt, str};
 pub struct FolderInbox<R: rt::Files + rt::Clock + Drop, T: Tell + Drop> {
     pub(crate) mover: Mover<R>,
     pub(crate) tell: T,
-    pub(crate) stops: Stops,
-    // whether `stops` counts it as stopped
-    pub(crate) is_stopped: bool,
-    // the files of the last listing that are left, the last first
-    pub(crate) batch: Vec<Given>,
-    // the file that was given last
-    pub(crate) given: Option<Given>,
-    // those that aren't offered again yet, and room for one
-    pub(crate) held_back: HeldBack,
+    pub(crate) stop: FolderStop,
+    pub(crate) offers: Offers,
     // the names of the last listing that aren't offered, and look as if they should be, in order
     pub(crate) mistaken: Vec<Vec<u8>>,
     // when the files that wait in `later` are brought back
     pub(crate) later: Option<u64>,
-    pub(crate) listing: Trouble,
-    pub(crate) moving: Trouble,
-    pub(crate) reading: Trouble,
+    pub(crate) troubles: Troubles,
 }
 
 impl<R: rt::Files + rt::Clock + Drop, T: Tell + Drop> FolderInbox<R, T> {
@@ -56,26 +47,16 @@ impl<R: rt::Files + rt::Clock + Drop, T: Tell + Drop> FolderInbox<R, T> {
         alloc: Global,
         folder: &[u8],
     ) -> Result<FolderInbox<R, T>, Fail<Failed>> {
-        let folder = prepared(&rt, &tell, alloc, folder)?;
-        let later = Some(present(&rt).saturating_add(MINUTE));
-        stops.add();
+        let mover = prepared(rt, &tell, alloc, folder)?;
+        let later = Some(present(&mover.rt).saturating_add(MINUTE));
         Ok(FolderInbox {
-            mover: Mover {
-                rt,
-                folder,
-                moves: Move::new(alloc),
-            },
+            mover,
             tell,
-            stops,
-            is_stopped: false,
-            batch: Vec::new(alloc),
-            given: None,
-            held_back: HeldBack::new(alloc),
+            stop: FolderStop::of(stops),
+            offers: Offers::new(alloc),
             mistaken: Vec::new(alloc),
             later,
-            listing: Trouble::none(),
-            moving: Trouble::none(),
-            reading: Trouble::none(),
+            troubles: Troubles::none(),
         })
     }
 
@@ -89,20 +70,6 @@ impl<R: rt::Files + rt::Clock + Drop, T: Tell + Drop> FolderInbox<R, T> {
         tell_of(&self.tell, self.mover.folder.as_str(), event);
     }
 
-    // The next name of the batch. Room is made first for all that its verdict takes.
-    pub(crate) fn next_name(&mut self, alloc: Global) -> Result<Option<Bytes>, AllocError> {
-        let Some(next) = self.batch.last() else {
-            return Ok(None);
-        };
-        self.mover.make_room(next.name.as_str())?;
-        self.held_back.make_room()?;
-        let name = String::from_str(alloc, next.name.as_str())?;
-        drop(replace(&mut self.given, self.batch.pop()));
-        Ok(Some(List {
-            items: name.into_bytes(),
-        }))
-    }
-
     // What was found of a file that couldn't be read: none, unless memory ran out.
     fn unread(&mut self, name: &[u8], error: Error) -> Result<Found, Fail<Failed>>
         ensures cause { HasReadCause 0 0 result }
@@ -111,7 +78,7 @@ impl<R: rt::Files + rt::Clock + Drop, T: Tell + Drop> FolderInbox<R, T> {
         if error.kind() == ErrorKind::OutOfMemory {
             return Err(Fail::NoMemory);
         }
-        if self.reading.fails(present(&self.mover.rt)) {
+        if self.troubles.reading.fails(present(&self.mover.rt)) {
             self.say(Event::failing(name, " can't be read", error));
         }
         Ok(Found::Absent)
@@ -122,7 +89,7 @@ impl<R: rt::Files + rt::Clock + Drop, T: Tell + Drop> FolderInbox<R, T> {
         let now = present(&self.mover.rt);
         match shelf_of(verdict) {
             Some(shelf) => self.put_on(shelf, given, now),
-            None => self.held_back.put(given, Reason::Unread(now)),
+            None => self.offers.held_back.put(given, Reason::Unread(now)),
         }
     }
 
@@ -134,32 +101,35 @@ impl<R: rt::Files + rt::Clock + Drop, T: Tell + Drop> FolderInbox<R, T> {
         match self.mover.settle_file(&given, shelf) {
             Ok(()) => drop(given),
             Err(error) => {
-                self.held_back.put(given, Reason::Unmoved(shelf));
+                self.offers.held_back.put(given, Reason::Unmoved(shelf));
                 self.move_failed(error, now);
             }
         }
     }
 }
 
-// The folder of an inbox, once those inside it are there. It is told where that can't be.
-fn prepared<R: rt::Files, T: Tell>(
-    rt: &R,
+// What moves the files of a folder, once the folders inside it are there. It is told where that can't be.
+fn prepared<R: rt::Files + Drop, T: Tell>(
+    rt: R,
     tell: &T,
     alloc: Global,
     folder: &[u8],
-) -> Result<String, Fail<Failed>> {
+) -> Result<Mover<R>, Fail<Failed>> {
     let Ok(folder) = str::from_utf8(folder) else {
         return Err(Fail::Fault(Failed));
     };
-    if let Err(error) = prepare(rt, alloc, folder) {
-        tell_of(
-            tell,
-            folder,
-            Event::failing(b"", "it can't be opened", error),
-        );
-        return Err(fail_of(&error));
+    let mut mover = Mover {
+        folder: String::from_str(alloc, folder)?,
+        moves: Move::new(alloc),
+        rt,
+    };
+    match mover.prepare(alloc) {
+        Ok(()) => Ok(mover),
+        Err(error) => {
+            drop(mover);
+            Err(unopened(tell, folder, error))
+        }
     }
-    Ok(String::from_str(alloc, folder)?)
 }
 
 impl<R: rt::Files + rt::Clock + Drop + Send, T: Tell + Drop + Send> Inbox for FolderInbox<R, T> {
@@ -209,7 +179,7 @@ impl<R: rt::Files + rt::Clock + Drop + Send, T: Tell + Drop + Send> Inbox for Fo
         ensures ok { IsOk result }
         ensures cause { HasCause 0 0 result }
     {
-        if let Some(given) = self.given.take() {
+        if let Some(given) = self.offers.given.take() {
             self.put_away(given, verdict);
         }
         Ok(())

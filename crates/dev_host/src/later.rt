@@ -1,9 +1,8 @@
 //! Files for which there was no room or no memory, which are brought back after a while.
 
-use crate::listing::{Names, names_at};
+use crate::listing::names_inside;
 use crate::moving::Mover;
 use crate::names::{Shelf, taken_back};
-use crate::paths::path_inside;
 use crate::stamp::Stamp;
 use std::alloc::{AllocError, Global};
 use std::io::{self, ErrorKind};
@@ -38,11 +37,12 @@ impl<R: rt::Files + Drop> Mover<R> {
     // Whether a name was published, or the name that takes it back got a verdict, after a file that waits in `later`.
     fn has_later_verdict(&mut self, name: &str, back: &str, waits: Stamp) -> io::Result<bool> {
         self.make_room(back)?;
-        Ok(
-            self.is_there_since(Shelf::Done, name, waits)?
-                || self.is_there_since(Shelf::Done, back, waits)?
-                || self.is_there_since(Shelf::Refused, back, waits)?,
-        )
+        if self.is_there_since(Shelf::Done, name, waits)?
+            || self.is_there_since(Shelf::Done, back, waits)?
+        {
+            return Ok(true);
+        }
+        self.is_there_since(Shelf::Refused, back, waits)
     }
 
     // Whether the file of a name was published or taken back after a file that waits in `later`.
@@ -58,7 +58,8 @@ impl<R: rt::Files + Drop> Mover<R> {
         if self.is_outdated(alloc, taken_back(name).unwrap_or(name), waits)? {
             return self.move_file(Some(Shelf::Later), name, Shelf::Taken);
         }
-        self.move_back(Shelf::Later, name)
+        let _vanished = self.rename(Some(Shelf::Later), name, None)?;
+        Ok(())
     }
 
     // Brings a file back that waits in `later`. One that lies in the folder goes first.
@@ -73,18 +74,10 @@ impl<R: rt::Files + Drop> Mover<R> {
         }
     }
 
-    // The names of the files that wait in `later`.
-    fn waiting(&self, alloc: Global) -> io::Result<Names> {
-        let path = path_inside(alloc, self.folder.as_str(), "later/")?;
-        let names = names_at(&self.rt, alloc, path.as_str());
-        drop(path);
-        names
-    }
-
     // Brings the files back that wait in `later`. Returns whether any waits. One that can't be brought back keeps no
     // other from coming.
     pub fn bring_back(&mut self, alloc: Global) -> io::Result<bool> {
-        let names = self.waiting(alloc)?;
+        let names = names_inside(self, alloc, "later/")?;
         for name in names.offered.as_slice() {
             let _brought = self.bring_back_one(alloc, name.as_str());
         }

@@ -2,6 +2,7 @@
 #![tactic(auto)]
 
 mod accepting;
+mod addresses;
 mod arriving;
 mod bound;
 mod clock;
@@ -14,6 +15,7 @@ mod endings;
 mod entry;
 mod failing;
 mod held_back;
+mod host;
 mod inbox;
 mod later;
 mod link;
@@ -23,6 +25,7 @@ mod moment;
 mod moving;
 mod names;
 mod notice;
+mod offers;
 mod opener;
 mod paths;
 mod patience;

@@ -1,12 +1,7 @@
 //! The names that lie in a folder.
-ghost use Rattle.std.specs.Prelude.{reverse};
-ghost use Rattle.std.specs.List.Sorted.{IsPermutation, IsSorted};
 
-use crate::held_back::{Given, HeldBack};
 use crate::moving::Mover;
 use crate::names::{is_mistaken, is_offered};
-use crate::paths::path_inside;
-use crate::stamp::{Lies, Stamp, look_at};
 use std::alloc::{AllocError, Global};
 use std::io::{self, Read};
 use std::{rt, str};
@@ -83,86 +78,12 @@ fn names_in<D: Read>(alloc: Global, folder: &mut D) -> io::Result<Names> {
     }
 }
 
-// The names in the folder at a path, which ends in a slash.
-pub(crate) fn names_at<R: rt::Files>(rt: &R, alloc: Global, path: &str) -> io::Result<Names> {
-    let mut folder = rt.open_dir(path)?;
+// The names in the folder of an inbox, or in one inside it.
+pub(crate) fn names_inside<R: rt::Files + Drop>(
+    mover: &Mover<R>,
+    alloc: Global,
+    inner: &str,
+) -> io::Result<Names> {
+    let mut folder = mover.open_dir(alloc, inner)?;
     names_in(alloc, &mut folder)
-}
-
-// What lies under a name in the folder of an inbox.
-pub(crate) fn lies_at<R: rt::Files + Drop>(
-    mover: &Mover<R>,
-    alloc: Global,
-    name: &str,
-) -> Result<Lies, AllocError> {
-    let path = path_inside(alloc, mover.folder.as_str(), name)?;
-    let lies = look_at(&mover.rt, path.as_str());
-    drop(path);
-    Ok(lies)
-}
-
-// The file that is offered under a name: one that lies there, unless it is held back. A name that can't be looked at
-// keeps no other from coming.
-fn offered_at<R: rt::Files + Drop>(
-    mover: &Mover<R>,
-    alloc: Global,
-    name: &str,
-    held_back: &mut HeldBack,
-    now: u64,
-) -> Result<Option<Stamp>, AllocError> {
-    match lies_at(mover, alloc, name)? {
-        Lies::File(stamp) => {
-            let is_held = held_back.holds(name, stamp, now);
-            Ok(if is_held { None } else { Some(stamp) })
-        }
-        Lies::Other => Ok(None),
-        Lies::Unknown(_) => {
-            held_back.keep(name);
-            Ok(None)
-        }
-    }
-}
-
-// Puts a name among those whose files are offered, where one is.
-fn put_file<R: rt::Files + Drop>(
-    mover: &Mover<R>,
-    alloc: Global,
-    name: String,
-    held_back: &mut HeldBack,
-    now: u64,
-    batch: &mut Vec<Given>,
-) -> Result<(), AllocError> {
-    match offered_at(mover, alloc, name.as_str(), held_back, now)? {
-        Some(stamp) => batch.push(Given { name, stamp })?,
-        None => drop(name),
-    }
-    Ok(())
-}
-
-// The files that are offered of these names, the last first.
-pub(crate) fn files_among<R: rt::Files + Drop>(
-    mover: &Mover<R>,
-    alloc: Global,
-    names: Vec<String>,
-    held_back: &mut HeldBack,
-    now: u64,
-) -> Result<Vec<Given>, AllocError> {
-    let mut names = names;
-    put_last_first(&mut names);
-    let mut batch = Vec::new(alloc);
-    held_back.begin();
-    for name in names {
-        put_file(mover, alloc, name, held_back, now, &mut batch)?;
-    }
-    held_back.end();
-    Ok(batch)
-}
-
-// Puts names in byte order, from the last to the first.
-fn put_last_first(names: &mut Vec<String>)
-    ensures same { IsPermutation names.old.items (reverse names.new.items) }
-    ensures order { IsSorted ⟦<String as Ord>⟧.cmp (reverse names.new.items) }
-{
-    names.sort_unstable();
-    names.reverse();
 }

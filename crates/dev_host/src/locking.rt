@@ -1,7 +1,14 @@
 //! Locks, which keep two servers from one folder.
 
+use crate::failing::unopened;
+use crate::notice::{Event, tell_of};
+use crate::paths::path_inside;
+use crate::telling::Tell;
+use dev_traits::Failed;
+use fm_base::Fail;
+use std::alloc::Global;
 use std::fs::{File, TryLockError};
-use std::io;
+use std::{io, rt};
 
 /// An open file or folder that one process at a time may lock.
 pub trait Lockable {
@@ -17,4 +24,50 @@ impl Lockable for File {
             Err(TryLockError::Error(error)) => Err(error),
         }
     }
+}
+
+// Locks a folder, so that no other server takes in what comes to it, and keeps it open.
+pub(crate) fn lock<R: rt::Files<File: Lockable>, T: Tell>(
+    rt: &R,
+    tell: &T,
+    alloc: Global,
+    folder: &str,
+    locked: &mut Vec<R::File>,
+) -> Result<(), Fail<Failed>> {
+    let opened = match open_folder(rt, alloc, folder) {
+        Ok(opened) => opened,
+        Err(error) => return Err(unopened(tell, folder, error)),
+    };
+    match lock_open(&opened, tell, folder) {
+        Ok(()) => Ok(locked.push(opened)?),
+        Err(Failed) => {
+            drop(opened);
+            Err(Fail::Fault(Failed))
+        }
+    }
+}
+
+// Locks a folder that is open. Where the system has no lock for it, that is said, and the folder is taken without one.
+fn lock_open<F: Lockable, T: Tell>(opened: &F, tell: &T, folder: &str) -> Result<(), Failed> {
+    match opened.lock_now() {
+        Ok(true) => Ok(()),
+        Ok(false) => {
+            let event = Event::plain("failing", "the folder is in use");
+            tell_of(tell, folder, event);
+            Err(Failed)
+        }
+        Err(error) => {
+            let event = Event::failing(b"", "it can't be locked", error);
+            tell_of(tell, folder, event);
+            Ok(())
+        }
+    }
+}
+
+// A folder that is open.
+fn open_folder<R: rt::Files>(rt: &R, alloc: Global, folder: &str) -> io::Result<R::File> {
+    let path = path_inside(alloc, folder, "")?;
+    let opened = File::open(rt, path.as_str());
+    drop(path);
+    opened
 }

@@ -2,37 +2,14 @@
 
 use crate::held_back::{Given, HeldBack, Reason};
 use crate::names::{Shelf, taken_back};
-use crate::paths::{Move, folder_path, path_inside};
+use crate::paths::{Move, path_inside};
 use crate::stamp::{Lies, Stamp, look_at};
 use std::alloc::{AllocError, Global};
 use std::io::{self, Error, ErrorKind};
 use std::{fs, rt};
 
-// Makes the folders inside a folder that can be listed.
-pub(crate) fn prepare<R: rt::Files>(rt: &R, alloc: Global, folder: &str) -> io::Result<()> {
-    open_once(rt, alloc, folder)?;
-    for shelf in [Shelf::Done, Shelf::Refused, Shelf::Later, Shelf::Taken] {
-        make_shelf(rt, alloc, folder, shelf)?;
-    }
-    Ok(())
-}
-
-// Opens a folder as one that is listed. It fails where that can't be done.
-fn open_once<R: rt::Files>(rt: &R, alloc: Global, folder: &str) -> io::Result<()> {
-    let path = folder_path(alloc, folder)?;
-    let opened = rt.open_dir(path.as_str());
-    drop(path);
-    let _folder = opened?;
-    Ok(())
-}
-
-// Makes a folder inside a folder, where it isn't there.
-fn make_shelf<R: rt::Files>(rt: &R, alloc: Global, folder: &str, shelf: Shelf) -> io::Result<()> {
-    let path = path_inside(alloc, folder, shelf.name())?;
-    let made = make_folder(rt, path.as_str());
-    drop(path);
-    made
-}
+// The folders inside a folder.
+const SHELVES: &[Shelf] = &[Shelf::Done, Shelf::Refused, Shelf::Later, Shelf::Taken];
 
 // Makes a folder that isn't there.
 fn make_folder<R: rt::Files>(rt: &R, path: &str) -> io::Result<()> {
@@ -48,7 +25,7 @@ fn make_folder<R: rt::Files>(rt: &R, path: &str) -> io::Result<()> {
     }
 }
 
-// What moves the files of a folder of the machine: the machine, the path of the folder, and the paths of a move.
+// Moves the files of a folder.
 #[derive(Drop)]
 pub(crate) struct Mover<R: rt::Files + Drop> {
     pub rt: R,
@@ -57,14 +34,36 @@ pub(crate) struct Mover<R: rt::Files + Drop> {
 }
 
 impl<R: rt::Files + Drop> Mover<R> {
-    // Makes room for a move of this name.
+    // The names in the folder, or in one inside it, as they are listed.
+    pub fn open_dir(&self, alloc: Global, inner: &str) -> io::Result<R::Dir> {
+        let path = path_inside(alloc, self.folder.as_str(), inner)?;
+        let opened = self.rt.open_dir(path.as_str());
+        drop(path);
+        opened
+    }
+
+    // Makes the folders inside the folder, which has to be one that can be listed.
+    pub fn prepare(&mut self, alloc: Global) -> io::Result<()> {
+        drop(self.open_dir(alloc, "")?);
+        for shelf in SHELVES {
+            self.make_missing(*shelf)?;
+        }
+        Ok(())
+    }
+
+    // Makes room for the moves of a name.
     pub fn make_room(&mut self, name: &str) -> Result<(), AllocError> {
         self.moves.make_room(self.folder.as_str(), name)
     }
 
     // Moves a file between the folder and those inside it. Returns whether there were the file and the folder that it
     // goes to.
-    fn rename(&mut self, from: Option<Shelf>, name: &str, to: Option<Shelf>) -> io::Result<bool> {
+    pub fn rename(
+        &mut self,
+        from: Option<Shelf>,
+        name: &str,
+        to: Option<Shelf>,
+    ) -> io::Result<bool> {
         self.moves.set(self.folder.as_str(), from, name, to)?;
         match fs::rename(&self.rt, self.moves.from.as_str(), self.moves.to.as_str()) {
             Ok(()) => Ok(true),
@@ -90,12 +89,6 @@ impl<R: rt::Files + Drop> Mover<R> {
         Ok(())
     }
 
-    // Moves a file back to the folder from one inside it.
-    pub fn move_back(&mut self, from: Shelf, name: &str) -> io::Result<()> {
-        let _vanished = self.rename(Some(from), name, None)?;
-        Ok(())
-    }
-
     // Moves a file from those that were published that a name takes back, so that no restart brings it back.
     fn take_back(&mut self, name: &str, to: Shelf) -> io::Result<()> {
         match (taken_back(name), to) {
@@ -104,10 +97,15 @@ impl<R: rt::Files + Drop> Mover<R> {
         }
     }
 
-    // The file that lies under a name, where one does.
-    fn file_at(&mut self, name: &str) -> io::Result<Option<Stamp>> {
+    // What lies under a name.
+    pub fn lies_at(&mut self, name: &str) -> Result<Lies, AllocError> {
         self.moves.set(self.folder.as_str(), None, name, None)?;
-        match look_at(&self.rt, self.moves.from.as_str()) {
+        Ok(look_at(&self.rt, self.moves.from.as_str()))
+    }
+
+    // The file that lies under a name, where one does.
+    pub fn file_at(&mut self, name: &str) -> io::Result<Option<Stamp>> {
+        match self.lies_at(name)? {
             Lies::File(stamp) => Ok(Some(stamp)),
             Lies::Other => Ok(None),
             Lies::Unknown(error) => Err(error),

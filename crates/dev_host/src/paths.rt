@@ -1,5 +1,5 @@
 //! The paths inside the folder of an inbox.
-ghost use Rattle.std.specs.Prelude.{◌≡◌, ◌+◌, ◌≤◌, [], length, IfOk, IsOk, OnOk};
+ghost use Rattle.std.specs.Prelude.{◌≡◌, ◌+◌, ◌≤◌, length, IfOk, IsOk, OnOk};
 ghost use Rattle.std.specs.String.{string_bytes, string_capacity, string_len};
 ghost use Rattle.dev_host.specs.Names.{shelf_name};
 ghost use Rattle.dev_host.specs.Paths.{HasRoom, inside, path_at};
@@ -21,8 +21,7 @@ fn set_inside(path: &mut String, folder: &str, name: &str) -> Result<(), AllocEr
     path.clear();
     path.push_str(folder)?;
     path.push_str("/")?;
-    path.push_str(name)?;
-    Ok(())
+    path.push_str(name)
 }
 
 // Makes the path of a name inside a folder inside a folder, over what was there.
@@ -38,8 +37,7 @@ fn set_twice_inside(
 {
     set_inside(path, folder, inner)?;
     path.push_str("/")?;
-    path.push_str(name)?;
-    Ok(())
+    path.push_str(name)
 }
 
 // Makes the path of a name in a folder, or in one inside it, over what was there.
@@ -61,23 +59,22 @@ fn set_at(
     }
 }
 
-// The path of a name inside a folder.
-pub(crate) fn path_inside(alloc: Global, folder: &str, name: &str) -> Result<String, AllocError>
+// The path of a name inside a folder; without a name it ends in a slash, so that a link to the folder is followed. No
+// folder has an empty path.
+pub(crate) fn path_inside(alloc: Global, folder: &str, name: &str) -> io::Result<String>
     ensures { IfOk result (λ path. string_bytes path ≡ inside folder.now name.now) }
-{
-    let mut path = String::new(alloc);
-    set_inside(&mut path, folder, name)?;
-    Ok(path)
-}
-
-// The path of a folder with a slash behind it, so that a link to it is followed. No folder has an empty path.
-pub(crate) fn folder_path(alloc: Global, folder: &str) -> io::Result<String>
-    ensures { IfOk result (λ path. string_bytes path ≡ inside folder.now []) }
 {
     if folder.is_empty() {
         return Err(Error::from(ErrorKind::NotFound));
     }
-    Ok(path_inside(alloc, folder, "")?)
+    let mut path = String::new(alloc);
+    match set_inside(&mut path, folder, name) {
+        Ok(()) => Ok(path),
+        Err(error) => {
+            drop(path);
+            Err(Error::from(error))
+        }
+    }
 }
 
 // An empty path with room for `room` bytes.
@@ -85,8 +82,7 @@ fn make_room_in(path: &mut String, room: usize) -> Result<(), AllocError>
     ensures { OnOk result (room ≤ string_capacity path.new) }
 {
     path.clear();
-    path.reserve(room)?;
-    Ok(())
+    path.reserve(room)
 }
 
 // The paths between which a file is moved. A move takes no memory once room was made for its name.

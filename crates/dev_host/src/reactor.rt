@@ -3,7 +3,6 @@ ghost use Rattle.std.specs.Prelude.{◌≡◌};
 
 use crate::endings::Endings;
 use crate::entry::Entry;
-use crate::notice::Event;
 use crate::present::present;
 use crate::socket::Socket;
 use crate::watching::{Watch, Watched};
@@ -11,7 +10,7 @@ use crate::wheel::{Wheel, second_after, second_of};
 use dev_traits::Failed;
 use mio::net::{TcpListener, TcpStream};
 use std::alloc::Global;
-use std::net::{self, Net, SocketAddr};
+use std::net::{self, Net};
 use std::{io, rt};
 
 // How many links come between two waits at most, so that those that are out go on.
@@ -23,10 +22,10 @@ const LONGEST: u64 = 1_000;
 // What the links of a door wait for, and what still comes of those that were given back.
 #[derive(Drop)]
 pub(crate) struct Reactor {
-    entry: Entry<TcpListener>,
+    pub entry: Entry<TcpListener>,
     watch: Watch,
     // when each link is to be stepped at the latest, since its time may be over
-    times: Wheel,
+    pub times: Wheel,
     out: usize,
     // the link that was told last, where that is by an event, and its peer's side was open then
     open: Option<usize>,
@@ -37,7 +36,7 @@ pub(crate) struct Reactor {
 }
 
 impl Reactor {
-    // No link is out. The listener doesn't wait from now on.
+    // The listener doesn't wait from now on.
     pub fn new(
         net: &impl Net,
         alloc: Global,
@@ -46,8 +45,18 @@ impl Reactor {
     ) -> io::Result<Reactor> {
         listener.set_nonblocking(true)?;
         let mut listener = TcpListener::from_std(listener);
-        let watch = watch_of(net, alloc, &mut listener)?;
-        Ok(Reactor {
+        match watch_of(net, alloc, &mut listener) {
+            Ok(watch) => Ok(Reactor::of(listener, watch, alloc, now)),
+            Err(error) => {
+                drop(listener);
+                Err(error)
+            }
+        }
+    }
+
+    // No link is out.
+    fn of(listener: TcpListener, watch: Watch, alloc: Global, now: u64) -> Reactor {
+        Reactor {
             entry: Entry::new(listener),
             watch,
             times: Wheel::new(alloc, second_of(now)),
@@ -56,11 +65,7 @@ impl Reactor {
             endings: Endings::new(alloc, now),
             now,
             in_a_row: 0,
-        })
-    }
-
-    pub fn local_addr(&self) -> io::Result<SocketAddr> {
-        self.entry.listener.local_addr()
+        }
     }
 
     // The key of a link that may go on, where one is known without waiting.
@@ -106,17 +111,13 @@ impl Reactor {
         };
         self.in_a_row = self.in_a_row.saturating_add(1);
         if set_up(&self.watch, &mut stream, key).is_err() {
+            drop(stream);
             return Ok(None);
         }
         self.out = self.out.saturating_add(1);
         // It is watched before it is read from, so that its first event says whether its peer's side is open.
         self.open = Some(key);
         Ok(Some(stream))
-    }
-
-    // What is to be said of the accepts since it was asked last.
-    pub fn event(&mut self) -> Option<Event<'static>> {
-        self.entry.event()
     }
 
     // Makes room for one more link, and for its end.
@@ -133,13 +134,12 @@ impl Reactor {
         self.out == 0 && self.endings.is_empty()
     }
 
-    // Whether no link comes any more since the listener has failed, and none is out.
-    pub fn has_failed(&self) -> bool {
-        self.out == 0 && self.entry.has_failed()
-    }
-
-    // Waits until something may have come. Links that come are waited for where `accepts` says so.
+    // Waits until something may have come. Links that come are waited for where `accepts` says so. It fails too where
+    // the listener has failed, and no link is out.
     pub fn wait<C: rt::Clock>(&mut self, clock: &C, accepts: bool) -> Result<(), Failed> {
+        if self.out == 0 && self.entry.has_failed() {
+            return Err(Failed);
+        }
         let limit = self
             .due(accepts)
             .saturating_sub(present(clock))
@@ -148,10 +148,10 @@ impl Reactor {
         let waited = self.watch.wait(limit);
         self.now = present(clock);
         self.in_a_row = 0;
-        if waited.is_err() {
-            return Err(Failed);
+        match waited {
+            Ok(()) => Ok(()),
+            Err(_) => Err(Failed),
         }
-        Ok(())
     }
 
     // Gives back the room for links where none is out, and for connections that have ended where each is closed too:
@@ -196,11 +196,6 @@ impl Reactor {
             return true;
         }
         self.watch.renew(stream, Watched::Link(key)).is_ok()
-    }
-
-    // Has each link that rests stepped again at once.
-    pub fn hurry(&mut self) {
-        self.times.hurry();
     }
 
     // Ends a connection.

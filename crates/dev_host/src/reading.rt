@@ -41,12 +41,14 @@ fn text_of(text: String, limit: u64) -> Found
     }
 }
 
-// The file at a path, which is one.
+// The file at a path. Where a pipe or a folder lies, there is none, and nothing is opened that might wait.
 fn read_file<R: rt::Files>(rt: &R, alloc: Global, path: &str, limit: u64) -> io::Result<Read>
     ensures { IfOk result (λ read. KeepsLimit limit read.found) }
 {
-    let file = File::open(rt, path)?;
-    match read_open(alloc, file, limit) {
+    if !fs::metadata(rt, path)?.is_file() {
+        return Ok(read_of(Found::Absent));
+    }
+    match read_open(alloc, File::open(rt, path)?, limit) {
         Ok(found) => Ok(read_of(found)),
         Err(Fail::NoMemory) => Err(Error::from(ErrorKind::OutOfMemory)),
         Err(Fail::Fault(_)) => Err(Error::other("reading failed")),
@@ -58,31 +60,25 @@ fn read_link<R: rt::Files>(rt: &R, alloc: Global, path: &str, limit: u64) -> io:
     ensures { IfOk result (λ read. KeepsLimit limit read.found) }
 {
     let text = rt.read_link(alloc, path)?.into_string();
-    if !text.as_str().starts_with('/') {
-        return Ok(Read {
-            found: text_of(text, limit),
-            is_relative: true,
-        });
+    if text.as_str().starts_with('/') {
+        drop(text);
+        return read_file(rt, alloc, path, limit);
     }
-    drop(text);
-    if !fs::metadata(rt, path)?.is_file() {
-        return Ok(read_of(Found::Absent));
-    }
-    read_file(rt, alloc, path, limit)
+    Ok(Read {
+        found: text_of(text, limit),
+        is_relative: true,
+    })
 }
 
-// What lies at a path. Where a pipe or a folder lies, there is no file, and nothing is opened that might wait.
+// What lies at a path.
 fn read_at<R: rt::Files>(rt: &R, alloc: Global, path: &str, limit: u64) -> io::Result<Read>
     ensures { IfOk result (λ read. KeepsLimit limit read.found) }
 {
-    let metadata = fs::symlink_metadata(rt, path)?;
-    if metadata.is_symlink() {
-        return read_link(rt, alloc, path, limit);
+    if fs::symlink_metadata(rt, path)?.is_symlink() {
+        read_link(rt, alloc, path, limit)
+    } else {
+        read_file(rt, alloc, path, limit)
     }
-    if !metadata.is_file() {
-        return Ok(read_of(Found::Absent));
-    }
-    read_file(rt, alloc, path, limit)
 }
 
 // The file of a name inside a folder. A name that isn't text has none.
@@ -99,8 +95,11 @@ pub(crate) fn read_inside<R: rt::Files>(
         return Ok(read_of(Found::Absent));
     };
     let path = path_inside(alloc, folder, name)?;
-    match read_at(rt, alloc, path.as_str(), limit) {
+    let read = read_at(rt, alloc, path.as_str(), limit);
+    drop(path);
+    match read {
+        Ok(read) => Ok(read),
         Err(error) if error.kind() == ErrorKind::NotFound => Ok(read_of(Found::Absent)),
-        read => read,
+        Err(error) => Err(error),
     }
 }

@@ -60,3 +60,47 @@ impl Stops {
         self.counts.over.load(Ordering::SeqCst) != 0
     }
 }
+
+// One folder of these.
+#[derive(Drop)]
+pub(crate) struct FolderStop {
+    pub stops: Stops,
+    // whether it counts as one that has stopped
+    is_stopped: bool,
+}
+
+impl FolderStop {
+    // One folder more, which goes on.
+    pub fn of(stops: Stops) -> FolderStop {
+        stops.add();
+        FolderStop {
+            stops,
+            is_stopped: false,
+        }
+    }
+
+    // Whether it has stopped from now on.
+    pub fn set(&mut self, is_stopped: bool) {
+        if is_stopped && !self.is_stopped {
+            self.stops.stop();
+        }
+        if self.is_stopped && !is_stopped {
+            self.stops.go_on();
+        }
+        self.is_stopped = is_stopped;
+    }
+}
+
+// The stops that the devices of an opener share, which the first of them makes.
+pub(crate) fn shared_stops(
+    stops: &mut Option<Stops>,
+    alloc: Global,
+) -> Result<Stops, AllocError> {
+    if let Some(stops) = stops {
+        return stops.share();
+    }
+    let first = Stops::new(alloc)?;
+    let shared = first.share();
+    drop(stops.replace(first));
+    shared
+}

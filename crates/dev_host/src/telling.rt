@@ -2,15 +2,14 @@
 ghost use Rattle.std.specs.Prelude.{◌≤◌};
 
 use crate::collections::Prefix;
+use crate::watching::Watch;
 use jiff_core::civil::Date;
 use mio::unix::SourceFd;
-use mio::{Events, Interest, Poll, Token};
 use std::alloc::AllocError;
 use std::fmt::{self, Write};
 use std::io::{self, Print, Stderr};
 use std::net::Net;
 use std::rt;
-use std::time::Duration;
 
 // The greatest length of a line, with its end.
 const LONGEST: usize = 512;
@@ -95,9 +94,17 @@ pub trait Tell {
     fn tell(&self, line: &[&[u8]]);
 }
 
+impl<T: Tell> Tell for Option<T> {
+    fn tell(&self, line: &[&[u8]]) {
+        if let Some(tell) = self {
+            tell.tell(line);
+        }
+    }
+}
+
 /// Lines on standard error, each behind the time in UTC, and behind the name of the collection that it is about where
 /// there are several. A line is lost where standard error takes none at once, as a full pipe.
-#[derive(Clone, Drop)]
+#[derive(Drop)]
 pub struct Teller<R> {
     rt: R,
     errors: Stderr,
@@ -118,11 +125,14 @@ impl<R: rt::Clock + Net + AllocGlobal> Teller<R> {
 }
 
 impl<R: Clone + Drop> Teller<R> {
-    // The same, whose lines are about a collection.
+    // One more, whose lines begin so.
     pub(crate) fn about(&self, prefix: Prefix) -> Result<Teller<R>, AllocError> {
-        let mut tell = self.clone()?;
-        tell.prefix = prefix;
-        Ok(tell)
+        Ok(Teller {
+            rt: self.rt.clone()?,
+            errors: self.errors,
+            is_quiet: self.is_quiet,
+            prefix,
+        })
     }
 }
 
@@ -153,13 +163,10 @@ fn takes_now<R: Net + AllocGlobal>(rt: &R) -> bool {
 
 // Whether a descriptor takes bytes at once.
 fn is_writable<R: Net + AllocGlobal>(rt: &R, descriptor: i32) -> io::Result<bool> {
-    let mut events = Events::with_capacity(rt.alloc(), 1)?;
-    let mut poll = Poll::new(rt)?;
-    let mut source = SourceFd(&descriptor);
-    poll.registry()
-        .register(&mut source, Token(0), Interest::WRITABLE)?;
-    poll.poll(&mut events, Some(Duration::from_secs(0)))?;
-    Ok(!events.is_empty())
+    let mut watch = Watch::new(rt, rt.alloc())?;
+    let is_writable = watch.is_writable(&mut SourceFd(&descriptor));
+    drop(watch);
+    is_writable
 }
 
 // The seconds of a day.

@@ -117,4 +117,13 @@ impl Watch {
         self.poll
             .poll(&mut self.events, Some(Duration::from_millis(limit)))
     }
+
+    // Whether a source that isn't watched takes bytes at once.
+    pub fn is_writable<S: Source>(&mut self, source: &mut S) -> io::Result<bool> {
+        self.poll
+            .registry()
+            .register(source, Token(0), Interest::WRITABLE)?;
+        self.wait(0)?;
+        Ok(!self.events.is_empty())
+    }
 }

@@ -87,15 +87,21 @@ impl Wheel {
         }
     }
 
+    // Takes out a key of the present second, if there is one.
+    fn pop_present(&mut self) -> Option<usize> {
+        let index = (self.second % SECONDS) as usize;
+        let first = self.firsts[index];
+        let place = self.places.get_mut(first)?;
+        self.firsts[index] = place.next;
+        place.is_in = false;
+        Some(first)
+    }
+
     /// Takes out a key that is due by this second, if there is one.
     pub fn pop(&mut self, now: u64) -> Option<usize> {
         for _ in 0..SECONDS {
-            let index = (self.second % SECONDS) as usize;
-            let first = self.firsts[index];
-            if let Some(place) = self.places.get_mut(first) {
-                self.firsts[index] = place.next;
-                place.is_in = false;
-                return Some(first);
+            if let Some(key) = self.pop_present() {
+                return Some(key);
             }
             if now <= self.second {
                 return None;
