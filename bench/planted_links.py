@@ -25,7 +25,7 @@ TAKES = """            Err(Failed) => %s,
 
     fn put("""
 REFUSAL = "a refusal reaches a client that still sends"
-SHORT = "                Accepting::Short => %s,\n"
+SHORT = "            Accepting::Short => %s,\n"
 BODIES = [
     Body("the_write_side_is_never_shut", "closing.rt",
          "let _ = stream.end_sending();", "let _ = &stream;", LOOPBACK, REFUSAL),

@@ -12,13 +12,13 @@ use std::str;
 pub(crate) fn first_opened<R: Net, T: Drop, F: Fn(SocketAddr) -> io::Result<T>>(
     rt: &R,
     address: &str,
-    open: F,
+    opens: F,
 ) -> io::Result<T>
-    requires { F.IsAlwaysCallable open }
+    requires { F.IsAlwaysCallable opens }
 {
     let mut opened = Err(Error::from(ErrorKind::NotFound));
     for address in address.to_socket_addrs(rt)? {
-        opened = open(address);
+        opened = opens(address);
         if opened.is_ok() {
             break;
         }

@@ -8,10 +8,9 @@ use dev_std::StreamLink;
 use dev_traits::{Dial, Failed, Link};
 use fm_base::Fail;
 use std::alloc::Global;
-use std::io;
 use std::net::{Net, TcpListener, TcpStream};
-use std::str;
 use std::time::Duration;
+use std::{io, str};
 
 /// A link over a socket that was dialled. It blocks: a read or a write that would wait longer than the dialer's
 /// patience has failed.

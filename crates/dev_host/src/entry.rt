@@ -12,7 +12,7 @@ use std::io::Error;
 const PAUSE: u64 = 100;
 
 // When the next accept is made.
-#[derive(Clone, Copy, PartialEq, Eq)]
+#[derive(Clone, Copy)]
 enum Next {
     Now,
     // once a connection comes
@@ -69,7 +69,7 @@ impl<L: Listener + Drop> Entry<L> {
     pub fn wake(&mut self)
         ensures { self.new.listener ≡ self.old.listener }
     {
-        if self.next == Next::Event {
+        if matches!(self.next, Next::Event) {
             self.next = Next::Now;
         }
     }
@@ -92,7 +92,7 @@ impl<L: Listener + Drop> Entry<L> {
 
     /// Whether the listener has failed.
     pub fn has_failed(&self) -> bool {
-        self.next == Next::Never
+        matches!(self.next, Next::Never)
     }
 
     // The system lacked something for a connection.
@@ -118,18 +118,25 @@ impl<L: Listener + Drop> Entry<L> {
                 if self.trouble.works() {
                     self.news = Some(News::Accepted);
                 }
-                return Ok(Some(stream));
+                Ok(Some(stream))
             }
-            Err(error) => match accepting_of(&error) {
-                Accepting::Again => {}
-                Accepting::Later => self.next = Next::Event,
-                Accepting::Short => self.lacks(now, error),
-                Accepting::Failed => {
-                    self.news = Some(News::Unaccepted(error));
-                    self.next = Next::Never;
-                    return Err(Failed);
-                }
-            },
+            Err(error) => self.unaccepted(now, error),
+        }
+    }
+
+    // No connection, after an accept that gave none.
+    fn unaccepted(&mut self, now: u64, error: Error) -> Result<Option<L::Stream>, Failed>
+        ensures { self.new.listener ≡ self.old.listener }
+    {
+        match accepting_of(&error) {
+            Accepting::Again => {}
+            Accepting::Later => self.next = Next::Event,
+            Accepting::Short => self.lacks(now, error),
+            Accepting::Failed => {
+                self.news = Some(News::Unaccepted(error));
+                self.next = Next::Never;
+                return Err(Failed);
+            }
         }
         Ok(None)
     }

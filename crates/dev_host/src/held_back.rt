@@ -81,20 +81,18 @@ impl HeldBack {
             .sort_unstable_by(|one, other| one.given.name.cmp(&other.given.name));
     }
 
-    // Where a name stands, in a listing, if it does.
-    fn find(&self, name: &str) -> Option<usize> {
-        self.all
+    // What is held back under a name, in a listing, if something is.
+    fn find(&mut self, name: &str) -> Option<&mut Held> {
+        let found = self
+            .all
             .as_slice()
-            .binary_search_by(|held| held.given.name.as_str().cmp(name))
-            .ok()
+            .binary_search_by(|held| held.given.name.as_str().cmp(name));
+        self.all.get_mut(found.ok()?)
     }
 
     // Whether a file is left alone that a listing found under a name.
     pub fn holds(&mut self, name: &str, stamp: Stamp, now: u64) -> bool {
-        let Some(index) = self.find(name) else {
-            return false;
-        };
-        match self.all.get_mut(index) {
+        match self.find(name) {
             Some(held) => {
                 held.is_kept = held.given.stamp == stamp && held.reason.holds(now);
                 held.is_kept
@@ -105,10 +103,7 @@ impl HeldBack {
 
     // Keeps a name of which a listing doesn't know what lies there.
     pub fn keep(&mut self, name: &str) {
-        let Some(index) = self.find(name) else {
-            return;
-        };
-        if let Some(held) = self.all.get_mut(index) {
+        if let Some(held) = self.find(name) {
             held.is_kept = true;
         }
     }

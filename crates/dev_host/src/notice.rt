@@ -83,7 +83,12 @@ fn put_event(line: &mut Line, place: &str, event: Event<'_>) {
     line.put_parts(&[event.word.as_bytes(), BLANK, place.as_bytes(), COLON]);
     put_name(line, event.name);
     line.put(event.text.as_bytes());
-    if let Some(error) = event.error {
+    put_error(line, event.error);
+}
+
+// Puts the error of the system that a line is about, where it is about one.
+fn put_error(line: &mut Line, error: Option<Error>) {
+    if let Some(error) = error {
         let _put = write!(line, ": {error}");
     }
 }

@@ -92,10 +92,7 @@ impl FolderStop {
 }
 
 // The stops that the devices of an opener share, which the first of them makes.
-pub(crate) fn shared_stops(
-    stops: &mut Option<Stops>,
-    alloc: Global,
-) -> Result<Stops, AllocError> {
+pub(crate) fn shared_stops(stops: &mut Option<Stops>, alloc: Global) -> Result<Stops, AllocError> {
     if let Some(stops) = stops {
         return stops.share();
     }
