@@ -124,10 +124,10 @@ impl<R: rt::Files + Drop> Mover<R> {
 
     // Moves a file that got its verdict before, unless it changed meanwhile, or another one came under its name.
     fn settle_same(&mut self, given: &Given, to: Shelf) -> io::Result<()> {
-        if self.file_at(given.name.as_str())? != Some(given.stamp) {
-            return Ok(());
+        match self.file_at(given.name.as_str())? {
+            Some(stamp) if stamp == given.stamp => self.settle_file(given, to),
+            _ => Ok(()),
         }
-        self.settle_file(given, to)
     }
 
     // Moves the files again that couldn't be moved. Returns the last error, if one still can't.
