@@ -38,8 +38,8 @@ impl<R: rt::Clock + Drop, T: Tell + Drop> RealClock<R, T> {
         RealClock::of(Some(rt), Some(tell), ticks, interval, None)
     }
 
-    // The same, which ends with these stops where it is without end. Without a machine it gives no moment, and without a
-    // teller its lines are lost.
+    // The same, which ends with these stops where it is without end. Without a machine it gives no moment, and
+    // without a teller its lines are lost.
     pub(crate) fn of(
         rt: Option<R>,
         tell: Option<T>,
