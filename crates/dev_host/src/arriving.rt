@@ -25,7 +25,10 @@ impl<R: rt::Files + rt::Clock + Drop, T: Tell + Drop> FolderInbox<R, T> {
         let is_stopped = self.list(alloc)?;
         match self.offers.next(&mut self.mover, alloc)? {
             Some(name) => Ok(Arrival::Name(name)),
-            None => Ok(self.nothing(is_stopped)),
+            None => {
+                self.stop.set(is_stopped);
+                Ok(self.rest())
+            }
         }
     }
 
@@ -102,12 +105,6 @@ impl<R: rt::Files + rt::Clock + Drop, T: Tell + Drop> FolderInbox<R, T> {
             }
         }
         drop(replace(&mut self.mistaken, names));
-    }
-
-    // What arrives where nothing lies in the folder.
-    fn nothing(&mut self, is_stopped: bool) -> Arrival {
-        self.stop.set(is_stopped);
-        self.rest()
     }
 
     // What arrives where it isn't known what lies in the folder.

@@ -3,15 +3,15 @@ ghost use Rattle.std.specs.Option.{option_copied};
 ghost use Rattle.std.specs.Prelude.{◌≡◌};
 ghost use Rattle.dev_host.specs.Bound.{listener_at};
 
-use crate::addresses::bind;
 use crate::collections::Prefix;
-use crate::failing::fail_of;
+use crate::failing::{fail_of, unopened};
 use crate::notice::Voice;
 use crate::telling::{Tell, Teller};
 use dev_traits::Failed;
 use fm_base::{Bytes, Fail, List, NoMemory};
 use std::alloc::{AllocError, Global};
-use std::net::{Net, TcpListener};
+use std::io::{self, Error, ErrorKind};
+use std::net::{Net, TcpListener, ToSocketAddrs};
 use std::{rt, str};
 
 // A socket that listens, by the address at which it was opened.
@@ -102,4 +102,27 @@ fn shared(listener: &TcpListener) -> Result<TcpListener, Fail<Failed>> {
         Ok(listener) => Ok(listener),
         Err(error) => Err(fail_of(&error)),
     }
+}
+
+// Opens a socket that listens at an address, which is text, with the longest queue that the system allows.
+fn bind<R: Net, T: Tell>(rt: &R, tell: &T, address: &[u8]) -> Result<TcpListener, Fail<Failed>> {
+    let Ok(address) = str::from_utf8(address) else {
+        return Err(Fail::Fault(Failed));
+    };
+    match bind_any(rt, address) {
+        Ok(listener) => Ok(TcpListener::from(listener)),
+        Err(error) => Err(unopened(tell, address, error)),
+    }
+}
+
+// The first socket that can be opened of those that an address means.
+fn bind_any<R: Net>(rt: &R, address: &str) -> io::Result<mio::net::TcpListener> {
+    let mut failed = Error::from(ErrorKind::NotFound);
+    for address in address.to_socket_addrs(rt)? {
+        match mio::net::TcpListener::bind(rt, address) {
+            Ok(listener) => return Ok(listener),
+            Err(error) => failed = error,
+        }
+    }
+    Err(failed)
 }

@@ -49,6 +49,9 @@ fn most_of_process<R: rt::Files>(rt: &R, alloc: Global) -> Option<u64> {
 
 // How many descriptors are open. That of the listing is one of them: a file that arrives needs one.
 fn open_descriptors<R: rt::Files + Alloc + Clone + Drop>(rt: &R) -> Option<u64> {
-    let entries = fs::read_dir(rt, OPEN).ok()?;
-    Some(entries.filter(|entry| entry.is_ok()).count() as u64)
+    let mut count: u64 = 0;
+    for entry in fs::read_dir(rt, OPEN).ok()? {
+        count = count.saturating_add(u64::from(entry.is_ok()));
+    }
+    Some(count)
 }

@@ -2,15 +2,15 @@
 ghost use Rattle.std.specs.Prelude.{◌≡◌, None, IfOk};
 ghost use Rattle.dev_traits.specs.Door.{IsFresh};
 
-use crate::addresses::first_opened;
 use crate::failing::{counted_fault, fail_of};
 use dev_std::StreamLink;
 use dev_traits::{Dial, Failed, Link};
 use fm_base::Fail;
 use std::alloc::Global;
-use std::net::{Net, TcpListener, TcpStream};
+use std::io::{self, Error, ErrorKind};
+use std::net::{Net, TcpListener, TcpStream, ToSocketAddrs};
+use std::str;
 use std::time::Duration;
-use std::{io, str};
 
 /// A link over a socket that was dialled. It blocks: a read or a write that would wait longer than the dialer's
 /// patience has failed.
@@ -67,7 +67,7 @@ impl<R: Net<Listener = TcpListener, Stream = TcpStream> + Drop> Dial for TcpDial
     fn done(&mut self, _link: DialledLink) {}
 }
 
-// A link to the first peer that can be reached of those that an address means.
+// A link to a peer at an address.
 fn connect<R: Net<Listener = TcpListener, Stream = TcpStream>>(
     rt: &R,
     address: &str,
@@ -75,9 +75,7 @@ fn connect<R: Net<Listener = TcpListener, Stream = TcpStream>>(
 ) -> io::Result<DialledLink>
     ensures { IfOk result (λ link. IsFresh (⟦<DialledLink as Link>⟧.shown link)) }
 {
-    let output = first_opened(rt, address, |address| {
-        TcpStream::connect_timeout(rt, &address, patience)
-    })?;
+    let output = connect_any(rt, address, patience)?;
     match input_of(&output, patience) {
         Ok(input) => Ok(StreamLink::new(input, output)),
         Err(error) => {
@@ -85,6 +83,22 @@ fn connect<R: Net<Listener = TcpListener, Stream = TcpStream>>(
             Err(error)
         }
     }
+}
+
+// A socket to the first peer that can be reached of those that an address means.
+fn connect_any<R: Net<Listener = TcpListener, Stream = TcpStream>>(
+    rt: &R,
+    address: &str,
+    patience: Duration,
+) -> io::Result<TcpStream> {
+    let mut failed = Error::from(ErrorKind::NotFound);
+    for address in address.to_socket_addrs(rt)? {
+        match TcpStream::connect_timeout(rt, &address, patience) {
+            Ok(stream) => return Ok(stream),
+            Err(error) => failed = error,
+        }
+    }
+    Err(failed)
 }
 
 // The same socket to take from, once its calls wait only so long.

@@ -2,7 +2,6 @@
 #![tactic(auto)]
 
 mod accepting;
-mod addresses;
 mod arriving;
 mod bound;
 mod clock;
