@@ -3,18 +3,12 @@
 
 use crate::wrong::Wrong;
 use dap_model::{Array, DapKind, Decl};
-use fm_base::{Bytes, Fail, List, NoMemory};
+use fm_base::{Bytes, Fail, List};
 use nc_model::Dim;
 use std::alloc::Global;
 
-/// The declarations of a text, one a line.
-pub fn read_decls(alloc: Global, text: &str) -> Result<List<Decl>, Fail<Wrong>> {
-    let mut decls = List::new(alloc);
-    let put = put_decls(alloc, text, &mut decls);
-    whole(decls, put)
-}
-
-fn put_decls(alloc: Global, text: &str, decls: &mut List<Decl>) -> Result<(), Fail<Wrong>> {
+/// Adds the declarations of a text, one a line.
+pub fn put_decls(alloc: Global, text: &str, decls: &mut List<Decl>) -> Result<(), Fail<Wrong>> {
     for line in text.lines() {
         put_decl(alloc, line, decls)?;
     }
@@ -23,29 +17,9 @@ fn put_decls(alloc: Global, text: &str, decls: &mut List<Decl>) -> Result<(), Fa
 
 /// Adds the declaration of a text.
 pub fn put_decl(alloc: Global, text: &str, decls: &mut List<Decl>) -> Result<(), Fail<Wrong>> {
-    put(read_decl(alloc, text), decls)
+    Ok(decls.push(read_decl(alloc, text)?)?)
 }
 
-// Adds what was read to a list.
-fn put<T: Drop>(read: Result<T, Fail<Wrong>>, list: &mut List<T>) -> Result<(), Fail<Wrong>> {
-    match read {
-        Ok(item) => Ok(list.push(item)?),
-        Err(fail) => Err(fail),
-    }
-}
-
-// A list to which all was added.
-fn whole<T: Drop>(list: List<T>, put: Result<(), Fail<Wrong>>) -> Result<List<T>, Fail<Wrong>> {
-    match put {
-        Ok(()) => Ok(list),
-        Err(fail) => {
-            drop(list);
-            Err(fail)
-        }
-    }
-}
-
-// A declaration.
 fn read_decl(alloc: Global, text: &str) -> Result<Decl, Fail<Wrong>> {
     match text.split_once('(') {
         Some((front, arrays)) => read_group(alloc, front, arrays),
@@ -57,7 +31,10 @@ fn read_decl(alloc: Global, text: &str) -> Result<Decl, Fail<Wrong>> {
 fn read_group(alloc: Global, front: &str, arrays: &str) -> Result<Decl, Fail<Wrong>> {
     match (front.split_once(' '), arrays.strip_suffix(')')) {
         (Some(("Grid", name)), Some(arrays)) => read_grid(alloc, name, arrays),
-        (Some(("Structure", name)), Some(arrays)) => read_structure(alloc, name, arrays),
+        (Some(("Structure", name)), Some(arrays)) => Ok(Decl::Structure {
+            name: Bytes::copy_of(alloc, name.as_bytes())?,
+            members: read_arrays(alloc, arrays)?,
+        }),
         _ => Err(Fail::Fault(Wrong::Form)),
     }
 }
@@ -71,22 +48,20 @@ fn read_grid(alloc: Global, name: &str, arrays: &str) -> Result<Decl, Fail<Wrong
     })
 }
 
-fn read_structure(alloc: Global, name: &str, arrays: &str) -> Result<Decl, Fail<Wrong>> {
-    Ok(Decl::Structure {
-        name: Bytes::copy_of(alloc, name.as_bytes())?,
-        members: read_arrays(alloc, arrays)?,
-    })
-}
-
 fn read_arrays(alloc: Global, text: &str) -> Result<List<Array>, Fail<Wrong>> {
     let mut arrays = List::new(alloc);
-    let put = put_arrays(alloc, text, &mut arrays);
-    whole(arrays, put)
+    match put_arrays(alloc, text, &mut arrays) {
+        Ok(()) => Ok(arrays),
+        Err(fail) => {
+            drop(arrays);
+            Err(fail)
+        }
+    }
 }
 
 fn put_arrays(alloc: Global, text: &str, arrays: &mut List<Array>) -> Result<(), Fail<Wrong>> {
     for array in text.split(", ") {
-        put(read_array(alloc, array), arrays)?;
+        arrays.push(read_array(alloc, array)?)?;
     }
     Ok(())
 }
@@ -95,26 +70,24 @@ fn read_array(alloc: Global, text: &str) -> Result<Array, Fail<Wrong>> {
     let (kind, rest) = text.split_once(' ').unwrap_or((text, ""));
     let (name, _) = rest.split_once('[').unwrap_or((rest, ""));
     let kind = read_kind(kind)?;
-    let dims = read_dims(alloc, rest)?;
-    match Bytes::copy_of(alloc, name.as_bytes()) {
-        Ok(name) => Ok(Array { kind, name, dims }),
-        Err(NoMemory) => {
-            drop(dims);
-            Err(Fail::NoMemory)
+    let mut array = Array {
+        name: Bytes::copy_of(alloc, name.as_bytes())?,
+        kind,
+        dims: List::new(alloc),
+    };
+    match put_dims(alloc, rest, &mut array.dims) {
+        Ok(()) => Ok(array),
+        Err(fail) => {
+            drop(array);
+            Err(fail)
         }
     }
 }
 
-// The dimensions of an array, each as `[NAME=SIZE]` behind its name.
-fn read_dims(alloc: Global, text: &str) -> Result<List<Dim>, Fail<Wrong>> {
-    let mut dims = List::new(alloc);
-    let put = put_dims(alloc, text, &mut dims);
-    whole(dims, put)
-}
-
+// Adds the dimensions of an array, each as `[NAME=SIZE]` behind its name.
 fn put_dims(alloc: Global, text: &str, dims: &mut List<Dim>) -> Result<(), Fail<Wrong>> {
     for part in text.split('[').skip(1) {
-        put(read_dim(alloc, part), dims)?;
+        dims.push(read_dim(alloc, part)?)?;
     }
     Ok(())
 }
