@@ -28,28 +28,34 @@ impl Answers for Files<'_> {
     }
 }
 
-// The keys that name a call.
-const CALLS: [&str; 6] = ["load", "made", "header", "layout", "elements", "prototype"];
-
-// The key by which a row names its call.
-fn call_of(row: &Row<'_>) -> Option<&'static str> {
-    for call in &CALLS {
-        if row.value(call).is_some() {
-            return Some(*call);
-        }
-    }
-    None
-}
-
 // Puts what comes out of a row; false where it isn't known.
 fn put_answer(alloc: Global, files: &[File], row: &Row<'_>, out: &mut Said) -> bool {
-    match call_of(row) {
-        Some("load") => put_load(alloc, files, row, out),
-        Some("made") => put_made(alloc, row, out),
-        Some(key) if row.has_only(&[key, "cuts"]) => {
-            put_asked(alloc, files, row, key, question_of(key), out)
+    if row.value("load").is_some() {
+        return put_load(alloc, files, row, out);
+    }
+    if row.value("made").is_some() {
+        return put_made(alloc, row, out);
+    }
+    match question_of(row) {
+        Some((key, question)) if row.has_only(&[key, "cuts"]) => {
+            put_asked(alloc, files, row, key, question, out)
         }
         _ => false,
+    }
+}
+
+// The question of a row about a file alone, and its key.
+fn question_of<'a>(row: &Row<'_>) -> Option<(&'static str, Question<'a>)> {
+    if row.value("header").is_some() {
+        Some(("header", Question::Header))
+    } else if row.value("layout").is_some() {
+        Some(("layout", Question::Layout))
+    } else if row.value("elements").is_some() {
+        Some(("elements", Question::Elements))
+    } else if row.value("prototype").is_some() {
+        Some(("prototype", Question::Prototype))
+    } else {
+        None
     }
 }
 
@@ -69,15 +75,5 @@ fn put_asked(
             out.run_short();
             true
         }
-    }
-}
-
-// The question of a key.
-fn question_of<'a>(key: &str) -> Question<'a> {
-    match key {
-        "header" => Question::Header,
-        "layout" => Question::Layout,
-        "elements" => Question::Elements,
-        _ => Question::Prototype,
     }
 }

@@ -159,11 +159,17 @@ fn session_event(
 }
 
 fn session_number(word: &str) -> Result<u32, Fail<Wrong>> {
-    word.parse::<u32>().ok().ok_or(Fail::Fault(Wrong::Form))
+    match word.parse::<u32>() {
+        Ok(number) => Ok(number),
+        Err(_) => Err(Fail::Fault(Wrong::Form)),
+    }
 }
 
 fn count(word: &str) -> Result<u64, Fail<Wrong>> {
-    word.parse::<u64>().ok().ok_or(Fail::Fault(Wrong::Form))
+    match word.parse::<u64>() {
+        Ok(number) => Ok(number),
+        Err(_) => Err(Fail::Fault(Wrong::Form)),
+    }
 }
 
 fn put_outcome(outcome: &Outcome, out: &mut Said) {

@@ -12,9 +12,14 @@ use std::alloc::{AllocError, Global};
 /// in hexadecimal digits behind it; false where it is something else.
 pub fn put_value(alloc: Global, value: &str, per: Option<u32>, out: &mut Said) -> bool {
     let (name, digits) = value.split_once(' ').unwrap_or((value, ""));
-    let Some(kind) = kind_of(name) else {
-        return false;
-    };
+    match kind_of(name) {
+        Some(kind) => put_digits(alloc, kind, digits, per, out),
+        None => false,
+    }
+}
+
+// The same of the bytes in hexadecimal digits of a value of a kind.
+fn put_digits(alloc: Global, kind: Kind, digits: &str, per: Option<u32>, out: &mut Said) -> bool {
     match hex(alloc, digits) {
         Ok(Some(bits)) => put_bits(alloc, kind, bits.as_slice(), per, out),
         Ok(None) => return false,
