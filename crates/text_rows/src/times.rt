@@ -33,13 +33,9 @@ pub fn put_seconds(seconds: Option<i64>, out: &mut Said) {
 
 /// Puts the instant of a text, and how it is written.
 pub fn put_instant(alloc: Global, text: &[u8], out: &mut Said) {
-    match read_instant(text) {
-        Some(seconds) => put_written(alloc, seconds, out),
-        None => out.put("none"),
-    }
-}
-
-fn put_written(alloc: Global, seconds: i64, out: &mut Said) {
+    let Some(seconds) = read_instant(text) else {
+        return out.put("none");
+    };
     out.put_number("", seconds);
     out.put(", written ");
     let mut written = Bytes::new(alloc);
