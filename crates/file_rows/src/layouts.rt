@@ -16,11 +16,15 @@ fn put_fault(fault: FormatFault, out: &mut Said) {
     }
 }
 
-/// Appends how many bytes a record takes, and where the parts of each variable lie.
-pub fn put_layout(alloc: Global, bytes: &[u8], out: &mut Said) {
+/// Appends the elements of each variable; or how many bytes a record takes, and where the parts of each variable lie.
+pub fn put_vars(alloc: Global, bytes: &[u8], with_elements: bool, out: &mut Said) {
     match read_sound(alloc, bytes) {
         Ok(file) => {
-            put_offsets(&file, out);
+            if with_elements {
+                put_all_elements(alloc, &file, out);
+            } else {
+                put_offsets(&file, out);
+            }
             drop(file);
         }
         Err(Fail::NoMemory) => out.run_short(),
@@ -46,18 +50,6 @@ fn put_parts(file: &FileView<'_>, number: u32, out: &mut Said)
     out.put(" bytes at");
     for k in 0..layout.part_count(number) {
         out.put_number(" ", layout.part_begin(number, k));
-    }
-}
-
-/// Appends the elements of each variable.
-pub fn put_elements(alloc: Global, bytes: &[u8], out: &mut Said) {
-    match read_sound(alloc, bytes) {
-        Ok(file) => {
-            put_all_elements(alloc, &file, out);
-            drop(file);
-        }
-        Err(Fail::NoMemory) => out.run_short(),
-        Err(Fail::Fault(fault)) => put_fault(fault, out),
     }
 }
 

@@ -1,9 +1,8 @@
 //! Rows about netCDF files: their headers, layouts and elements, what they are as a prototype and as a file of a
-//! collection, what a collection holds after some operations, and the sums of files that are made.
+//! collection, and the sums of files that are made.
 #![tactic(auto)]
 
 mod faults;
-mod held;
 mod layouts;
 mod loading;
 mod made;
@@ -11,31 +10,11 @@ mod prototypes;
 mod question;
 mod words;
 
-use fm_base::{Fail, NoMemory};
+use loading::put_load;
+use made::put_made;
 use question::Question;
 use row_text::{Answers, File, Row, Said, content};
 use std::alloc::{AllocError, Global};
-
-// The keys that name a call.
-const CALLS: [&str; 7] = [
-    "load",
-    "collection",
-    "made",
-    "header",
-    "layout",
-    "elements",
-    "prototype",
-];
-
-// The key by which a row names its call.
-fn call_of(row: &Row<'_>) -> Option<&'static str> {
-    for call in &CALLS {
-        if row.value(call).is_some() {
-            return Some(*call);
-        }
-    }
-    None
-}
 
 /// The files that rows begin from.
 #[derive(Clone, Copy)]
@@ -45,62 +24,56 @@ pub struct Files<'a> {
 
 impl Answers for Files<'_> {
     fn answer(&self, alloc: Global, row: &Row<'_>, out: &mut Said) -> Result<bool, AllocError> {
-        match self.put_answer(alloc, row, out) {
-            Ok(known) => Ok(known),
-            Err(NoMemory) => Err(AllocError),
-        }
+        Ok(put_answer(alloc, self.files, row, out))
     }
 }
 
-impl Files<'_> {
-    // Puts what comes out of a row.
-    fn put_answer(&self, alloc: Global, row: &Row<'_>, out: &mut Said) -> Result<bool, NoMemory> {
-        match call_of(row) {
-            Some("load") => loading::put_load(alloc, self.files, row, out),
-            Some("collection") => held::put_held(alloc, self.files, row, out),
-            Some("made") => Ok(made::put_made(alloc, row, out)),
-            Some(key) => self.put_asked(alloc, row, key, out),
-            None => Ok(false),
-        }
+// Puts what comes out of a row; false where it isn't known.
+fn put_answer(alloc: Global, files: &[File], row: &Row<'_>, out: &mut Said) -> bool {
+    if row.value("load").is_some() {
+        return put_load(alloc, files, row, out);
     }
-
-    // Puts what the question of a key says about the file that its value describes.
-    fn put_asked(
-        &self,
-        alloc: Global,
-        row: &Row<'_>,
-        key: &str,
-        out: &mut Said,
-    ) -> Result<bool, NoMemory> {
-        if !row.has_only(&[key, "cuts"]) {
-            return Ok(false);
+    if row.value("made").is_some() {
+        return put_made(alloc, row, out);
+    }
+    match question_of(row) {
+        Some((key, question)) if row.has_only(&[key, "cuts"]) => {
+            put_asked(alloc, files, row, key, question, out)
         }
-        match content(alloc, self.files, row.value(key).unwrap_or("")) {
-            Ok(Some(bytes)) => {
-                let put = question_of(key).put(alloc, bytes.as_slice(), row.value("cuts"), out);
-                drop(bytes);
-                Ok(put)
-            }
-            Ok(None) => Ok(false),
-            Err(AllocError) => Err(NoMemory),
-        }
+        _ => false,
     }
 }
 
-// The question of a key.
-fn question_of<'a>(key: &str) -> Question<'a> {
-    match key {
-        "header" => Question::Header,
-        "layout" => Question::Layout,
-        "elements" => Question::Elements,
-        _ => Question::Prototype,
+// The question of a row about a file alone, and its key.
+fn question_of<'a>(row: &Row<'_>) -> Option<(&'static str, Question<'a>)> {
+    if row.value("header").is_some() {
+        Some(("header", Question::Header))
+    } else if row.value("layout").is_some() {
+        Some(("layout", Question::Layout))
+    } else if row.value("elements").is_some() {
+        Some(("elements", Question::Elements))
+    } else if row.value("prototype").is_some() {
+        Some(("prototype", Question::Prototype))
+    } else {
+        None
     }
 }
 
-// That a row isn't known, where there is a fault.
-fn unknown<E: Drop>(fail: Fail<E>) -> Result<bool, NoMemory> {
-    match fail {
-        Fail::NoMemory => Err(NoMemory),
-        Fail::Fault(_) => Ok(false),
+// Puts the answer to a question about the file that the value of a key describes; false where there is none.
+fn put_asked(
+    alloc: Global,
+    files: &[File],
+    row: &Row<'_>,
+    key: &str,
+    question: Question<'_>,
+    out: &mut Said,
+) -> bool {
+    match content(alloc, files, row.value(key).unwrap_or("")) {
+        Ok(Some(bytes)) => question.put(alloc, bytes.as_slice(), row.value("cuts"), out),
+        Ok(None) => false,
+        Err(AllocError) => {
+            out.run_short();
+            true
+        }
     }
 }

@@ -4,8 +4,8 @@ ghost use Rattle.fm_model.specs.declared.limit.TheConstants.{MAX_FILE_BYTES};
 
 use super::faults::put_load_fault;
 use super::prototypes::{EPOCH, prototype};
+use super::put_asked;
 use super::question::Question;
-use super::unknown;
 use fm_base::{Bytes, Fail, NoMemory};
 use fm_load::load;
 use fm_model::{Loaded, Proto, Slot};
@@ -13,27 +13,26 @@ use row_text::{File, Row, Said, content};
 use std::alloc::{AllocError, Global};
 
 /// Puts what comes of a row that loads a file, as `called`, over the prototype `over`. Where it says no such thing,
-/// they are the name of the run of 2024-01-01 and `A.nc`; the epoch is the beginning of 2020.
-pub fn put_load(
-    alloc: Global,
-    files: &[File],
-    row: &Row<'_>,
-    out: &mut Said,
-) -> Result<bool, NoMemory> {
+/// they are the name of the run of 2024-01-01 and `A.nc`; the epoch is the beginning of 2020. It is false where the
+/// row isn't known.
+pub fn put_load(alloc: Global, files: &[File], row: &Row<'_>, out: &mut Said) -> bool {
     if !row.has_only(&["load", "called", "over", "epoch", "cuts"]) {
-        return Ok(false);
+        return false;
     }
     let Some(epoch) = epoch_of(row.value("epoch")) else {
-        return Ok(false);
+        return false;
     };
     match content(alloc, files, row.value("over").unwrap_or("A.nc")) {
         Ok(Some(over)) => put_over(alloc, files, over.as_slice(), epoch, row, out),
-        Ok(None) => Ok(false),
-        Err(AllocError) => Err(NoMemory),
+        Ok(None) => false,
+        Err(AllocError) => {
+            out.run_short();
+            true
+        }
     }
 }
 
-// Puts what comes of the file of a row over the prototype that some bytes are.
+// Puts what comes of the file of a row over the prototype that some bytes are; false where they are none.
 fn put_over(
     alloc: Global,
     files: &[File],
@@ -41,30 +40,29 @@ fn put_over(
     epoch: i64,
     row: &Row<'_>,
     out: &mut Said,
-) -> Result<bool, NoMemory> {
+) -> bool {
     match prototype(alloc, over, epoch) {
         Ok(proto) => {
-            let put = put_called(alloc, files, &proto, row, out);
+            let called = row.value("called").unwrap_or("gfs_20240101_0000.nc");
+            let known = put_asked(
+                alloc,
+                files,
+                row,
+                "load",
+                Question::Load(&proto, called),
+                out,
+            );
             drop(proto);
-            put
+            known
         }
-        Err(fail) => unknown(fail),
-    }
-}
-
-fn put_called(
-    alloc: Global,
-    files: &[File],
-    proto: &Proto,
-    row: &Row<'_>,
-    out: &mut Said,
-) -> Result<bool, NoMemory> {
-    let called = row.value("called").unwrap_or("gfs_20240101_0000.nc");
-    let question = Question::Load(proto, called);
-    match content(alloc, files, row.value("load").unwrap_or("")) {
-        Ok(Some(bytes)) => Ok(question.put(alloc, bytes.as_slice(), row.value("cuts"), out)),
-        Ok(None) => Ok(false),
-        Err(AllocError) => Err(NoMemory),
+        Err(Fail::Fault(fault)) => {
+            drop(fault);
+            false
+        }
+        Err(Fail::NoMemory) => {
+            out.run_short();
+            true
+        }
     }
 }
 

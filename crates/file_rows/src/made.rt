@@ -1,4 +1,5 @@
 //! Files that are made.
+ghost use Rattle.std.specs.Prelude.{◌<◌};
 
 use fm_base::NoMemory;
 use fm_gen::make_file;
@@ -10,12 +11,27 @@ pub fn put_made(alloc: Global, row: &Row<'_>, out: &mut Said) -> bool {
     if !row.has_only(&["made"]) {
         return false;
     }
-    let Some((seed, k)) = numbers_of(row.value("made").unwrap_or("")) else {
-        return false;
-    };
-    if k >= 400 {
-        return false;
+    let (seed, k) = row
+        .value("made")
+        .unwrap_or("")
+        .split_once(' ')
+        .unwrap_or(("", ""));
+    match (number(seed), number(k)) {
+        (Some(seed), Some(k)) if k < 400 => {
+            put_file(alloc, seed, k, out);
+            true
+        }
+        _ => false,
     }
+}
+
+fn number(word: &str) -> Option<u32> {
+    word.parse::<u32>().ok()
+}
+
+fn put_file(alloc: Global, seed: u32, k: u32, out: &mut Said)
+    requires { k < 400 }
+{
     match make_file(alloc, seed, k) {
         Ok(file) => {
             put_sum(file.as_slice(), out);
@@ -23,12 +39,6 @@ pub fn put_made(alloc: Global, row: &Row<'_>, out: &mut Said) -> bool {
         }
         Err(NoMemory) => out.run_short(),
     }
-    true
-}
-
-fn numbers_of(words: &str) -> Option<(u32, u32)> {
-    let (seed, k) = words.split_once(' ')?;
-    Some((seed.parse::<u32>().ok()?, k.parse::<u32>().ok()?))
 }
 
 fn put_sum(file: &[u8], out: &mut Said) {

@@ -2,7 +2,7 @@
 
 use super::faults::put_proto_fault;
 use super::words::{put_attrs, put_dims, put_front};
-use fm_base::{Bytes, Fail};
+use fm_base::{Bytes, Fail, NoMemory};
 use fm_model::{Proto, ProtoFault, ProtoVar, Site};
 use fm_proto::read_proto;
 use row_text::Said;
@@ -13,12 +13,22 @@ pub const EPOCH: i64 = 1_577_836_800;
 
 /// The prototype that some bytes are of the collection `gfs`, whose files' names begin with `gfs_`.
 pub fn prototype(alloc: Global, bytes: &[u8], epoch: i64) -> Result<Proto, Fail<ProtoFault>> {
-    let site = Site {
+    let site = site_of(alloc, epoch)?;
+    match Bytes::copy_of(alloc, bytes) {
+        Ok(bytes) => read_proto(alloc, bytes, site),
+        Err(NoMemory) => {
+            drop(site);
+            Err(Fail::NoMemory)
+        }
+    }
+}
+
+fn site_of(alloc: Global, epoch: i64) -> Result<Site, NoMemory> {
+    Ok(Site {
         name: Bytes::copy_of(alloc, b"gfs")?,
         epoch,
         mark: Bytes::copy_of(alloc, b"gfs_")?,
-    };
-    read_proto(alloc, Bytes::copy_of(alloc, bytes)?, site)
+    })
 }
 
 /// Appends what some bytes are as a prototype, or why they are none.

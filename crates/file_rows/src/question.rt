@@ -1,12 +1,12 @@
 //! Questions about a file.
 
-use super::layouts::{put_elements, put_layout};
+use super::layouts::put_vars;
 use super::loading::put_loaded;
 use super::prototypes::put_prototype;
 use super::words::put_header;
 use fm_model::{MAX_FILE_BYTES, Proto};
 use row_text::Said;
-use std::alloc::{AllocError, Global};
+use std::alloc::Global;
 
 /// A question about the bytes alone, or over a prototype and under a name.
 #[derive(Clone, Copy)]
@@ -29,7 +29,7 @@ impl Question<'_> {
         let Some((from, to)) = lengths(cuts) else {
             return false;
         };
-        let mut last = String::new(alloc);
+        let mut last = Said::new(alloc);
         for len in from..to.saturating_add(1) {
             if !self.put_cut(alloc, bytes, len, &mut last, out) {
                 return false;
@@ -44,7 +44,7 @@ impl Question<'_> {
         alloc: Global,
         bytes: &[u8],
         len: usize,
-        last: &mut String,
+        last: &mut Said,
         out: &mut Said,
     ) -> bool {
         let Some(front) = bytes.get(..len) else {
@@ -52,18 +52,15 @@ impl Question<'_> {
         };
         let mut answer = Said::new(alloc);
         let known = self.put_answer(alloc, front, &mut answer);
-        match answer.text() {
-            Ok(answer) => put_other(len, answer, last, out),
-            Err(AllocError) => out.run_short(),
-        }
+        put_other(len, answer, last, out);
         known
     }
 
     fn put_answer(&self, alloc: Global, bytes: &[u8], out: &mut Said) -> bool {
         match self {
             Question::Header => put_header(alloc, bytes, out),
-            Question::Layout => put_layout(alloc, bytes, out),
-            Question::Elements => put_elements(alloc, bytes, out),
+            Question::Layout => put_vars(alloc, bytes, false, out),
+            Question::Elements => put_vars(alloc, bytes, true, out),
             Question::Prototype => put_prototype(alloc, bytes, out),
             Question::Load(proto, name) => {
                 if bytes.len() as u64 > MAX_FILE_BYTES {
@@ -77,17 +74,22 @@ impl Question<'_> {
 }
 
 // Puts a line of an answer, where it isn't the last, and takes it as the last.
-fn put_other(len: usize, answer: String, last: &mut String, out: &mut Said) {
-    if answer.as_str() != last.as_str() {
-        out.begin_line();
-        out.put_number("", len);
-        out.put(": ");
-        out.put(answer.as_str());
-        *last = answer;
+fn put_other(len: usize, answer: Said, last: &mut Said, out: &mut Said) {
+    if answer.as_str() == last.as_str() {
+        return drop(answer);
     }
+    last.clear();
+    last.put(answer.as_str());
+    out.begin_line();
+    out.put_number("", len);
+    out.put(": ");
+    out.put_said(answer);
 }
 
 fn lengths(cuts: &str) -> Option<(usize, usize)> {
     let (from, to) = cuts.split_once(" to ")?;
-    Some((from.parse::<usize>().ok()?, to.parse::<usize>().ok()?))
+    match (from.parse::<usize>(), to.parse::<usize>()) {
+        (Ok(from), Ok(to)) => Some((from, to)),
+        _ => None,
+    }
 }

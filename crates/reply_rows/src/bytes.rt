@@ -24,26 +24,6 @@ fn in_pieces(alloc: Global, plan: &Plan, room: &mut [u8]) -> Result<Bytes, NoMem
     Ok(bytes)
 }
 
-// The bytes of a plan as they are lent, and one by one where none are.
-fn as_lent(alloc: Global, plan: &Plan) -> Result<Bytes, NoMemory> {
-    let mut bytes = Bytes::new(alloc);
-    let mut one = [0; 1];
-    for _turn in 0..plan.len() {
-        let from = bytes.len() as u64;
-        if from >= plan.len() {
-            break;
-        }
-        let lent = plan.lent(from);
-        if lent.is_empty() {
-            plan.piece(from, &mut one);
-            bytes.append(&one)?;
-        } else {
-            bytes.append(lent)?;
-        }
-    }
-    Ok(bytes)
-}
-
 // Whether a plan's bytes from an offset on fill a room with the first of these, or end in it with these.
 fn is_piece(plan: &Plan, from: u64, rest: &[u8], room: &mut [u8]) -> bool {
     if from > plan.len() {
@@ -127,44 +107,49 @@ fn agrees(plan: &Plan, bytes: &[u8], step: usize, room: &mut [u8]) -> bool {
 pub fn all_of(alloc: Global, plan: &Plan) -> Result<Bytes, Fail<Wrong>> {
     let mut room = [0; 8_192];
     let bytes = in_pieces(alloc, plan, &mut room)?;
-    if !is_taken_alike(alloc, plan, bytes.as_slice(), &mut room)? {
+    if !is_taken_alike(plan, bytes.as_slice(), &mut room) {
+        drop(bytes);
         return Err(Fail::Fault(Wrong::Taken));
     }
     Ok(bytes)
 }
 
 // Whether a plan has these bytes, however they are taken.
-fn is_taken_alike(
-    alloc: Global,
-    plan: &Plan,
-    bytes: &[u8],
-    room: &mut [u8],
-) -> Result<bool, NoMemory> {
-    if !is_each_alike(plan, bytes, room) || !is_in_large(alloc, plan, bytes)? {
-        return Ok(false);
-    }
-    is_lent(alloc, plan, bytes)
-}
-
-// Whether a plan has these bytes in pieces of 65,536.
-fn is_in_large(alloc: Global, plan: &Plan, bytes: &[u8]) -> Result<bool, NoMemory> {
-    let mut large = [0; 65_536];
-    Ok(in_pieces(alloc, plan, &mut large)?.as_slice() == bytes)
-}
-
-// Whether a plan has these bytes as they are lent.
-fn is_lent(alloc: Global, plan: &Plan, bytes: &[u8]) -> Result<bool, NoMemory> {
-    Ok(as_lent(alloc, plan)?.as_slice() == bytes)
-}
-
-// Whether a plan has these bytes in pieces of 7, and from other offsets.
-fn is_each_alike(plan: &Plan, bytes: &[u8], room: &mut [u8]) -> bool {
+fn is_taken_alike(plan: &Plan, bytes: &[u8], room: &mut [u8]) -> bool {
     let mut few = [0; 64];
     let step = step_of(bytes.len());
     bytes.len() as u64 == plan.len()
         && is_in_sevens(plan, bytes)
         && agrees(plan, bytes, step, &mut few)
         && agrees(plan, bytes, step.max(61), room)
+        && is_in_large(plan, bytes)
+        && is_lent(plan, bytes)
+}
+
+// Whether a plan has these bytes in pieces of 65,536.
+fn is_in_large(plan: &Plan, bytes: &[u8]) -> bool {
+    let mut large = [0; 65_536];
+    is_stretch(plan, 0, bytes.len(), bytes, &mut large)
+}
+
+// Whether a plan has these bytes as they are lent, and one by one where none are.
+fn is_lent(plan: &Plan, bytes: &[u8]) -> bool {
+    let mut one = [0; 1];
+    let mut from = 0usize;
+    for _turn in 0..bytes.len() {
+        let Some(rest) = bytes.get(from..) else {
+            return false;
+        };
+        let lent = plan.lent(from as u64);
+        if rest.is_empty() {
+            break;
+        }
+        if !rest.starts_with(lent) || !is_piece(plan, from as u64, rest, &mut one) {
+            return false;
+        }
+        from = from.saturating_add(lent.len().max(1));
+    }
+    from == bytes.len()
 }
 
 /// Adds bytes as lines of eight words of eight hexadecimal digits.

@@ -14,13 +14,18 @@ use row_text::{File, Row, Said, content};
 use std::alloc::{AllocError, Global};
 use text_rows::{Wrong, wrong_form};
 
-/// The bytes that some words describe.
-pub fn described(alloc: Global, files: &[File], words: &str) -> Result<Bytes, Fail<Wrong>> {
-    match content(alloc, files, words) {
+/// Bytes that a row gives, where it gives any.
+pub fn given(items: Result<Option<Vec<u8>>, AllocError>) -> Result<Bytes, Fail<Wrong>> {
+    match items {
         Ok(Some(items)) => Ok(Bytes { items }),
         Ok(None) => Err(Fail::Fault(Wrong::Form)),
         Err(AllocError) => Err(Fail::NoMemory),
     }
+}
+
+/// The bytes that some words describe.
+pub fn described(alloc: Global, files: &[File], words: &str) -> Result<Bytes, Fail<Wrong>> {
+    given(content(alloc, files, words))
 }
 
 /// The instant of a row's key `epoch`, as Unix seconds, which is the beginning of 2020.

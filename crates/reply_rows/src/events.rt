@@ -4,14 +4,14 @@ ghost use Rattle.fm_model.specs.Site.{IsPrototype};
 ghost use Rattle.pub_core.specs.Outcome.{EventFits};
 
 use super::bytes::end;
-use super::collection::{described, epoch_of, prototype};
+use super::collection::{described, epoch_of, given, prototype};
 use super::moments::read_moment;
 use fm_base::{Arc, Bytes, Fail, List, NoMemory};
 use fm_load::load;
 use fm_model::{Op, Proto};
 use pub_core::{Event, Outcome, run_all};
 use row_text::{File, Row, Said, bytes};
-use std::alloc::{AllocError, Global};
+use std::alloc::Global;
 use text_rows::{Wrong, wrong_form};
 
 /// Puts the outcome of a row's events: the number of operations, and for each session its revision and its bytes.
@@ -150,11 +150,7 @@ fn session_event(
     match what {
         "look" => Ok(Event::Look(session)),
         "learn" => Ok(Event::Learn(session, count(rest)?)),
-        "bytes" => match bytes(alloc, rest) {
-            Ok(Some(items)) => Ok(Event::Bytes(session, Bytes { items })),
-            Ok(None) => Err(Fail::Fault(Wrong::Form)),
-            Err(AllocError) => Err(Fail::NoMemory),
-        },
+        "bytes" => Ok(Event::Bytes(session, given(bytes(alloc, rest))?)),
         "sent" => Ok(Event::Sent(session, count(rest)?)),
         "end" => Ok(Event::End(session)),
         "fault" => Ok(Event::Fault(session)),
@@ -163,11 +159,17 @@ fn session_event(
 }
 
 fn session_number(word: &str) -> Result<u32, Fail<Wrong>> {
-    word.parse::<u32>().ok().ok_or(Fail::Fault(Wrong::Form))
+    match word.parse::<u32>() {
+        Ok(number) => Ok(number),
+        Err(_) => Err(Fail::Fault(Wrong::Form)),
+    }
 }
 
 fn count(word: &str) -> Result<u64, Fail<Wrong>> {
-    word.parse::<u64>().ok().ok_or(Fail::Fault(Wrong::Form))
+    match word.parse::<u64>() {
+        Ok(number) => Ok(number),
+        Err(_) => Err(Fail::Fault(Wrong::Form)),
+    }
 }
 
 fn put_outcome(outcome: &Outcome, out: &mut Said) {

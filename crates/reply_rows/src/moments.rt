@@ -16,7 +16,10 @@ pub fn read_moment(epoch: i64, word: &str) -> Result<i64, Fail<Wrong>> {
 
 /// The number of a word.
 pub fn read_number(word: &str) -> Result<i64, Fail<Wrong>> {
-    word.parse::<i64>().ok().ok_or(Fail::Fault(Wrong::Form))
+    match word.parse::<i64>() {
+        Ok(number) => Ok(number),
+        Err(_) => Err(Fail::Fault(Wrong::Form)),
+    }
 }
 
 /// Adds the instant `moment` seconds from an epoch, or the seconds where it lies outside the years 0 to 9999.

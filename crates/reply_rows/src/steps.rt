@@ -1,6 +1,6 @@
 //! The steps of a row over a collection: operations, questions and a request, in the order of its lines.
 
-use super::collection::{described, epoch_of, prototype, put_done};
+use super::collection::{described, epoch_of, given, prototype, put_done};
 use super::keys::{goes_on, opens};
 use super::moments::read_moment;
 use super::operations::{put_asked, put_many, put_one};
@@ -8,10 +8,10 @@ use super::replies::put_planned;
 use super::requests::{Wanted, first_of, get, plan_for};
 use super::twod::put_twod;
 use dap_reply::Plan;
-use fm_base::Fail;
+use fm_base::{Bytes, Fail};
 use pub_look::Plain;
 use row_text::{File, Row, Said, bytes};
-use std::alloc::{AllocError, Global};
+use std::alloc::Global;
 use text_rows::Wrong;
 
 // A collection with its epoch, and the plan of a reply from where it was asked for.
@@ -126,7 +126,7 @@ impl Steps {
         }
     }
 
-    // Asks for the reply that a line asks for.
+    // Asks for the reply that a line asks for, if it asks for one.
     fn request_by(
         &mut self,
         alloc: Global,
@@ -136,29 +136,11 @@ impl Steps {
     ) -> Result<(), Fail<Wrong>> {
         match key {
             "target" => self.request(alloc, value.as_bytes(), false),
-            "request" => self.request_head(alloc, value),
-            "stream" => self.request_described(alloc, files, value),
+            "request" | "stream" => {
+                let head = head_of(alloc, files, key, value)?;
+                self.request(alloc, head.as_slice(), true)
+            }
             _ => Ok(()),
-        }
-    }
-
-    // Asks for the reply to the head that some words describe.
-    fn request_described(
-        &mut self,
-        alloc: Global,
-        files: &[File],
-        words: &str,
-    ) -> Result<(), Fail<Wrong>> {
-        let head = described(alloc, files, words)?;
-        self.request(alloc, head.as_slice(), true)
-    }
-
-    // Asks for the reply to the head that a value stands for.
-    fn request_head(&mut self, alloc: Global, value: &str) -> Result<(), Fail<Wrong>> {
-        match bytes(alloc, value) {
-            Ok(Some(head)) => self.request(alloc, head.as_slice(), true),
-            Ok(None) => Err(Fail::Fault(Wrong::Form)),
-            Err(AllocError) => Err(Fail::NoMemory),
         }
     }
 
@@ -229,6 +211,14 @@ impl Steps {
             }
             None => Ok(()),
         }
+    }
+}
+
+// The head that a line stands for or describes.
+fn head_of(alloc: Global, files: &[File], key: &str, value: &str) -> Result<Bytes, Fail<Wrong>> {
+    match key {
+        "request" => given(bytes(alloc, value)),
+        _ => described(alloc, files, value),
     }
 }
 

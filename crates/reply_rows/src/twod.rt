@@ -48,17 +48,6 @@ fn is_in_pieces(
     Ok(in_pieces(alloc, twod, room)?.as_slice() == bytes)
 }
 
-// All bytes of a view, which are the same in pieces of 8,192, of 7 and of 1.
-fn all_of(alloc: Global, twod: &Twod) -> Result<Bytes, Fail<Wrong>> {
-    let bytes = in_pieces(alloc, twod, &mut [0; 8_192])?;
-    let sevens = is_in_pieces(alloc, twod, bytes.as_slice(), &mut [0; 7])?;
-    let ones = is_in_pieces(alloc, twod, bytes.as_slice(), &mut [0; 1])?;
-    if !sevens || !ones {
-        return Err(Fail::Fault(Wrong::Taken));
-    }
-    Ok(bytes)
-}
-
 // Where the data begins among some bytes: behind the line before it, or at their end.
 fn data_at(bytes: &[u8]) -> usize
     ensures { result ≤ length bytes.now }
@@ -73,11 +62,22 @@ fn data_at(bytes: &[u8]) -> usize
     bytes.len()
 }
 
-// Puts the bytes of a view: the structure text as text, and data in hexadecimal digits.
+// Puts the bytes of a view, which are the same in pieces of 8,192, of 7 and of 1.
 fn put_view(alloc: Global, twod: &Twod, out: &mut Said) -> Result<(), Fail<Wrong>> {
-    let bytes = all_of(alloc, twod)?;
-    let shown = bytes.as_slice();
-    let (front, data) = shown.split_at(data_at(shown));
+    let bytes = in_pieces(alloc, twod, &mut [0; 8_192])?;
+    let put = put_bytes(alloc, twod, bytes.as_slice(), out);
+    drop(bytes);
+    put
+}
+
+// Puts the bytes of a view, the structure text as text and data in hexadecimal digits, where smaller pieces agree.
+fn put_bytes(alloc: Global, twod: &Twod, bytes: &[u8], out: &mut Said) -> Result<(), Fail<Wrong>> {
+    if !is_in_pieces(alloc, twod, bytes, &mut [0; 7])?
+        || !is_in_pieces(alloc, twod, bytes, &mut [0; 1])?
+    {
+        return Err(Fail::Fault(Wrong::Taken));
+    }
+    let (front, data) = bytes.split_at(data_at(bytes));
     out.put_shown(front);
     put_lines(data, out);
     end(out);

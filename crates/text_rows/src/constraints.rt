@@ -1,25 +1,13 @@
 //! Constraints: names with dots, slabs as `start:stride:stop`, and clauses with semicolons.
 
-use super::only;
 use dap_ce::read_constraint;
 use dap_model::{CeFault, Clause, Slab};
-use fm_base::{Fail, NoMemory};
-use row_text::{Row, Said};
-use std::alloc::{AllocError, Global};
+use fm_base::Fail;
+use row_text::Said;
+use std::alloc::Global;
 
 /// Puts the clauses of a constraint, or its fault with the offset.
-pub fn put_constraint(alloc: Global, row: &Row<'_>, out: &mut Said) -> Result<bool, NoMemory> {
-    match only(alloc, row, "constraint") {
-        Ok(Some(text)) => {
-            put_read(alloc, text.as_slice(), out);
-            Ok(true)
-        }
-        Ok(None) => Ok(false),
-        Err(AllocError) => Err(NoMemory),
-    }
-}
-
-fn put_read(alloc: Global, text: &[u8], out: &mut Said) {
+pub fn put_constraint(alloc: Global, text: &[u8], out: &mut Said) {
     match read_constraint(alloc, text) {
         Ok(projection) => {
             put_clauses(projection.clauses.as_slice(), out);
@@ -31,10 +19,9 @@ fn put_read(alloc: Global, text: &[u8], out: &mut Said) {
 }
 
 fn put_fault(fault: CeFault, out: &mut Said) {
-    match fault {
-        CeFault::BadConstraint(at) => out.put_number("refused 21 at ", at),
-        CeFault::Selection(at) => out.put_number("refused 22 at ", at),
-    }
+    let (CeFault::BadConstraint(at) | CeFault::Selection(at)) = fault;
+    out.put_number("refused ", fault.code());
+    out.put_number(" at ", at);
 }
 
 fn put_clauses(clauses: &[Clause], out: &mut Said) {

@@ -7,14 +7,8 @@ use fm_base::{Bytes, Fail, List, NoMemory};
 use nc_model::Dim;
 use std::alloc::Global;
 
-/// The declarations of a text, one a line.
-pub fn read_decls(alloc: Global, text: &str) -> Result<List<Decl>, Fail<Wrong>> {
-    let mut decls = List::new(alloc);
-    let put = put_decls(alloc, text, &mut decls);
-    whole(decls, put)
-}
-
-fn put_decls(alloc: Global, text: &str, decls: &mut List<Decl>) -> Result<(), Fail<Wrong>> {
+/// Adds the declarations of a text, one a line.
+pub fn put_decls(alloc: Global, text: &str, decls: &mut List<Decl>) -> Result<(), Fail<Wrong>> {
     for line in text.lines() {
         put_decl(alloc, line, decls)?;
     }
@@ -23,29 +17,9 @@ fn put_decls(alloc: Global, text: &str, decls: &mut List<Decl>) -> Result<(), Fa
 
 /// Adds the declaration of a text.
 pub fn put_decl(alloc: Global, text: &str, decls: &mut List<Decl>) -> Result<(), Fail<Wrong>> {
-    put(read_decl(alloc, text), decls)
+    Ok(decls.push(read_decl(alloc, text)?)?)
 }
 
-// Adds what was read to a list.
-fn put<T: Drop>(read: Result<T, Fail<Wrong>>, list: &mut List<T>) -> Result<(), Fail<Wrong>> {
-    match read {
-        Ok(item) => Ok(list.push(item)?),
-        Err(fail) => Err(fail),
-    }
-}
-
-// A list to which all was added.
-fn whole<T: Drop>(list: List<T>, put: Result<(), Fail<Wrong>>) -> Result<List<T>, Fail<Wrong>> {
-    match put {
-        Ok(()) => Ok(list),
-        Err(fail) => {
-            drop(list);
-            Err(fail)
-        }
-    }
-}
-
-// A declaration.
 fn read_decl(alloc: Global, text: &str) -> Result<Decl, Fail<Wrong>> {
     match text.split_once('(') {
         Some((front, arrays)) => read_group(alloc, front, arrays),
@@ -55,94 +29,116 @@ fn read_decl(alloc: Global, text: &str) -> Result<Decl, Fail<Wrong>> {
 
 // A grid or a structure, of the texts before and behind the opening parenthesis.
 fn read_group(alloc: Global, front: &str, arrays: &str) -> Result<Decl, Fail<Wrong>> {
-    match (front.split_once(' '), arrays.strip_suffix(')')) {
-        (Some(("Grid", name)), Some(arrays)) => read_grid(alloc, name, arrays),
-        (Some(("Structure", name)), Some(arrays)) => read_structure(alloc, name, arrays),
-        _ => Err(Fail::Fault(Wrong::Form)),
+    let Some(arrays) = arrays.strip_suffix(')') else {
+        return Err(Fail::Fault(Wrong::Form));
+    };
+    if let Some(name) = front.strip_prefix("Grid ") {
+        read_grid(alloc, name, arrays)
+    } else if let Some(name) = front.strip_prefix("Structure ") {
+        let (name, members) = read_named(alloc, name, arrays)?;
+        Ok(Decl::Structure { name, members })
+    } else {
+        Err(Fail::Fault(Wrong::Form))
     }
 }
 
 fn read_grid(alloc: Global, name: &str, arrays: &str) -> Result<Decl, Fail<Wrong>> {
     let (array, maps) = arrays.split_once(", ").unwrap_or((arrays, ""));
-    Ok(Decl::Grid {
-        name: Bytes::copy_of(alloc, name.as_bytes())?,
-        array: read_array(alloc, array)?,
-        maps: read_arrays(alloc, maps)?,
-    })
+    let array = read_array(alloc, array)?;
+    match read_named(alloc, name, maps) {
+        Ok((name, maps)) => Ok(Decl::Grid { name, array, maps }),
+        Err(fail) => {
+            drop(array);
+            Err(fail)
+        }
+    }
 }
 
-fn read_structure(alloc: Global, name: &str, arrays: &str) -> Result<Decl, Fail<Wrong>> {
-    Ok(Decl::Structure {
-        name: Bytes::copy_of(alloc, name.as_bytes())?,
-        members: read_arrays(alloc, arrays)?,
-    })
+// A name, and the arrays of a text.
+fn read_named(
+    alloc: Global,
+    name: &str,
+    arrays: &str,
+) -> Result<(Bytes, List<Array>), Fail<Wrong>> {
+    let arrays = read_arrays(alloc, arrays)?;
+    match Bytes::copy_of(alloc, name.as_bytes()) {
+        Ok(name) => Ok((name, arrays)),
+        Err(NoMemory) => {
+            drop(arrays);
+            Err(Fail::NoMemory)
+        }
+    }
 }
 
 fn read_arrays(alloc: Global, text: &str) -> Result<List<Array>, Fail<Wrong>> {
     let mut arrays = List::new(alloc);
-    let put = put_arrays(alloc, text, &mut arrays);
-    whole(arrays, put)
+    match put_arrays(alloc, text, &mut arrays) {
+        Ok(()) => Ok(arrays),
+        Err(fail) => {
+            drop(arrays);
+            Err(fail)
+        }
+    }
 }
 
 fn put_arrays(alloc: Global, text: &str, arrays: &mut List<Array>) -> Result<(), Fail<Wrong>> {
     for array in text.split(", ") {
-        put(read_array(alloc, array), arrays)?;
+        arrays.push(read_array(alloc, array)?)?;
     }
     Ok(())
 }
 
 fn read_array(alloc: Global, text: &str) -> Result<Array, Fail<Wrong>> {
     let (kind, rest) = text.split_once(' ').unwrap_or((text, ""));
-    let (name, _) = rest.split_once('[').unwrap_or((rest, ""));
-    let kind = read_kind(kind)?;
-    let dims = read_dims(alloc, rest)?;
-    match Bytes::copy_of(alloc, name.as_bytes()) {
-        Ok(name) => Ok(Array { kind, name, dims }),
-        Err(NoMemory) => {
+    match kind_of(kind) {
+        Some(kind) => read_array_of(alloc, kind, rest),
+        None => Err(Fail::Fault(Wrong::Form)),
+    }
+}
+
+// An array of a kind, by its name and its dimensions.
+fn read_array_of(alloc: Global, kind: DapKind, text: &str) -> Result<Array, Fail<Wrong>> {
+    let (name, _) = text.split_once('[').unwrap_or((text, ""));
+    let name = Bytes::copy_of(alloc, name.as_bytes())?;
+    let mut dims = List::new(alloc);
+    match put_dims(alloc, text, &mut dims) {
+        Ok(()) => Ok(Array { name, kind, dims }),
+        Err(fail) => {
+            drop(name);
             drop(dims);
-            Err(Fail::NoMemory)
+            Err(fail)
         }
     }
 }
 
-// The dimensions of an array, each as `[NAME=SIZE]` behind its name.
-fn read_dims(alloc: Global, text: &str) -> Result<List<Dim>, Fail<Wrong>> {
-    let mut dims = List::new(alloc);
-    let put = put_dims(alloc, text, &mut dims);
-    whole(dims, put)
-}
-
+// Adds the dimensions of an array, each as `[NAME=SIZE]` behind its name.
 fn put_dims(alloc: Global, text: &str, dims: &mut List<Dim>) -> Result<(), Fail<Wrong>> {
     for part in text.split('[').skip(1) {
-        put(read_dim(alloc, part), dims)?;
+        dims.push(read_dim(alloc, part)?)?;
     }
     Ok(())
 }
 
+// A dimension, as `NAME=SIZE]`.
 fn read_dim(alloc: Global, text: &str) -> Result<Dim, Fail<Wrong>> {
-    let Some((name, size)) = dim_in(text) else {
-        return Err(Fail::Fault(Wrong::Form));
-    };
-    Ok(Dim {
-        name: Bytes::copy_of(alloc, name.as_bytes())?,
-        size,
-    })
+    let (name, size) = text.split_once('=').unwrap_or((text, ""));
+    match size.strip_suffix(']').unwrap_or("").parse::<u64>() {
+        Ok(size) => Ok(Dim {
+            name: Bytes::copy_of(alloc, name.as_bytes())?,
+            size,
+        }),
+        Err(_) => Err(Fail::Fault(Wrong::Form)),
+    }
 }
 
-// A dimension's name and its size, as `NAME=SIZE]`.
-fn dim_in(text: &str) -> Option<(&str, u64)> {
-    let (name, size) = text.strip_suffix(']')?.split_once('=')?;
-    Some((name, size.parse::<u64>().ok()?))
-}
-
-fn read_kind(word: &str) -> Result<DapKind, Fail<Wrong>> {
+fn kind_of(word: &str) -> Option<DapKind> {
     match word {
-        "Byte" => Ok(DapKind::Byte),
-        "Int16" => Ok(DapKind::Int16),
-        "Int32" => Ok(DapKind::Int32),
-        "Float32" => Ok(DapKind::Float32),
-        "Float64" => Ok(DapKind::Float64),
-        "String" => Ok(DapKind::Text),
-        _ => Err(Fail::Fault(Wrong::Form)),
+        "Byte" => Some(DapKind::Byte),
+        "Int16" => Some(DapKind::Int16),
+        "Int32" => Some(DapKind::Int32),
+        "Float32" => Some(DapKind::Float32),
+        "Float64" => Some(DapKind::Float64),
+        "String" => Some(DapKind::Text),
+        _ => None,
     }
 }

@@ -1,24 +1,13 @@
 //! Request heads: one, however it is cut, and those of a stream.
 
-use super::only;
+use super::bytes_at;
 use fm_base::NoMemory;
-use row_text::{Field, Row, Said, bytes, content};
+use row_text::{Field, Row, Said};
 use std::alloc::{AllocError, Global};
 use web_frame::{Frame, Method, Next, Request};
 
 /// Puts the item that a head is read as. It comes whole, cut in two at each offset, and byte by byte.
-pub fn put_head(alloc: Global, row: &Row<'_>, out: &mut Said) -> Result<bool, NoMemory> {
-    match only(alloc, row, "head") {
-        Ok(Some(head)) => {
-            put_item(alloc, head.as_slice(), out);
-            Ok(true)
-        }
-        Ok(None) => Ok(false),
-        Err(AllocError) => Err(NoMemory),
-    }
-}
-
-fn put_item(alloc: Global, head: &[u8], out: &mut Said) {
+pub fn put_head(alloc: Global, head: &[u8], out: &mut Said) {
     match Frame::new(alloc) {
         Ok(mut frame) => {
             put_read(&mut frame, head, out);
@@ -71,52 +60,44 @@ fn is_read_by_bytes(frame: &mut Frame, head: &[u8], want: Next) -> bool {
 }
 
 /// Puts the heads of a stream, a line for each. Its slices are fed one after the other, and all heads of one are read
-/// before the next comes.
-pub fn put_stream(alloc: Global, row: &Row<'_>, out: &mut Said) -> Result<bool, NoMemory> {
+/// before the next comes. It is false where a slice isn't known.
+pub fn put_stream(alloc: Global, row: &Row<'_>, out: &mut Said) -> bool {
     if !row.has_only(&["feed", "feed file"]) {
-        return Ok(false);
+        return false;
     }
-    let mut frame = Frame::new(alloc)?;
-    let put = put_slices(alloc, &mut frame, row, out);
-    drop(frame);
-    put
-}
-
-fn put_slices(
-    alloc: Global,
-    frame: &mut Frame,
-    row: &Row<'_>,
-    out: &mut Said,
-) -> Result<bool, NoMemory> {
-    for field in &row.fields {
-        if field.key.starts_with("feed") && !put_slice(alloc, frame, field, out)? {
-            return Ok(false);
+    match Frame::new(alloc) {
+        Ok(mut frame) => {
+            let known = put_slices(alloc, &mut frame, row, out);
+            drop(frame);
+            known
+        }
+        Err(NoMemory) => {
+            out.run_short();
+            true
         }
     }
-    Ok(true)
+}
+
+fn put_slices(alloc: Global, frame: &mut Frame, row: &Row<'_>, out: &mut Said) -> bool {
+    for field in &row.fields {
+        if field.key.starts_with("feed") && !put_slice(alloc, frame, field, out) {
+            return false;
+        }
+    }
+    true
 }
 
 // Feeds the bytes of a field, and appends the heads that end in them; false where it stands for none.
-fn put_slice(
-    alloc: Global,
-    frame: &mut Frame,
-    field: &Field<'_>,
-    out: &mut Said,
-) -> Result<bool, NoMemory> {
-    let value = field.value.as_str();
-    let slice = match field.key {
-        "feed" => bytes(alloc, value),
-        _ => content(alloc, &[], value),
-    };
-    match slice {
+fn put_slice(alloc: Global, frame: &mut Frame, field: &Field<'_>, out: &mut Said) -> bool {
+    match bytes_at(alloc, field.key, field.value.as_str()) {
         Ok(Some(slice)) => {
             frame.feed(slice.as_slice());
             put_heads(frame, out);
-            Ok(true)
         }
-        Ok(None) => Ok(false),
-        Err(AllocError) => Err(NoMemory),
+        Ok(None) => return false,
+        Err(AllocError) => out.run_short(),
     }
+    true
 }
 
 // Appends the heads that end in what a frame holds, at most 16 of them, and what is left.

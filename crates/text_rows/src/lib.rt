@@ -2,6 +2,7 @@
 //! command, targets, the heads of a stream of bytes, and sessions.
 #![tactic(auto)]
 
+mod calls;
 mod constraints;
 mod declarations;
 mod heads;
@@ -14,9 +15,9 @@ mod values;
 mod words;
 mod wrong;
 
+use calls::{Call, call_of, put_call};
 pub use declarations::put_decl;
-use fm_base::{Fail, NoMemory};
-use row_text::{Answers, File, Row, Said};
+use row_text::{Answers, File, Row, Said, bytes, content};
 use std::alloc::{AllocError, Global};
 pub use wrong::{Wrong, wrong_form};
 
@@ -28,98 +29,55 @@ pub struct Texts<'a> {
 
 impl Answers for Texts<'_> {
     fn answer(&self, alloc: Global, row: &Row<'_>, out: &mut Said) -> Result<bool, AllocError> {
-        match put_answer(alloc, self.files, row, out) {
-            Ok(known) => Ok(known),
-            Err(NoMemory) => Err(AllocError),
+        let Some((key, other, call)) = call_of(row) else {
+            return Ok(put_course(alloc, row, out));
+        };
+        match row.bytes(alloc, key) {
+            Ok(Some(text)) => self.put_text(alloc, row, call, text.as_slice(), other, out),
+            Ok(None) => Ok(false),
+            Err(AllocError) => Err(AllocError),
         }
     }
 }
 
-// The keys that name a call.
-const CALLS: [&str; 17] = [
-    "units",
-    "mark",
-    "instant",
-    "value",
-    "quoted",
-    "constraint",
-    "message",
-    "asks",
-    "words",
-    "no words",
-    "target",
-    "head",
-    "feed",
-    "feed file",
-    "input",
-    "on",
-    "on file",
-];
-
-// The key by which a row names its call.
-fn call_of(row: &Row<'_>) -> Option<&'static str> {
-    for call in &CALLS {
-        if row.value(call).is_some() {
-            return Some(*call);
+impl Texts<'_> {
+    // Puts what comes out of a call about a text, and what else a row has at a key, where there is one.
+    fn put_text(
+        &self,
+        alloc: Global,
+        row: &Row<'_>,
+        call: Call,
+        text: &[u8],
+        key: &str,
+        out: &mut Said,
+    ) -> Result<bool, AllocError> {
+        if key.is_empty() {
+            return Ok(put_call(alloc, self.files, call, text, b"", out));
+        }
+        match row.bytes(alloc, key) {
+            Ok(Some(other)) => Ok(put_call(alloc, self.files, call, text, other.as_slice(), out)),
+            Ok(None) => Ok(false),
+            Err(AllocError) => Err(AllocError),
         }
     }
-    None
 }
 
-// Puts what comes out of a row.
-fn put_answer(
-    alloc: Global,
-    files: &[File],
-    row: &Row<'_>,
-    out: &mut Said,
-) -> Result<bool, NoMemory> {
-    match call_of(row) {
-        Some("asks") => projections::put_projection(alloc, files, row, out),
-        Some(key) => put_value(alloc, key, row, out),
-        None => Ok(false),
-    }
-}
-
-// Puts what comes out of a row about a value, a constraint or a target, by its key.
-fn put_value(alloc: Global, key: &str, row: &Row<'_>, out: &mut Said) -> Result<bool, NoMemory> {
-    match key {
-        "units" => times::put_units(alloc, row, out),
-        "mark" => times::put_mark(alloc, row, out),
-        "instant" => times::put_instant(alloc, row, out),
-        "value" => values::put_value(alloc, row, out),
-        "quoted" => values::put_quote(alloc, row, out),
-        "constraint" => constraints::put_constraint(alloc, row, out),
-        "target" => targets::put_target(alloc, row, out),
-        _ => put_course(alloc, key, row, out),
-    }
-}
-
-// Puts what comes out of a row about a message, the words of a command or the bytes of a stream, by its key.
-fn put_course(alloc: Global, key: &str, row: &Row<'_>, out: &mut Said) -> Result<bool, NoMemory> {
-    match key {
-        "message" => messages::put_message(alloc, row, out),
-        "words" => words::put_words(alloc, row, out),
-        "no words" => Ok(words::put_no_words(alloc, row, out)),
-        "head" => heads::put_head(alloc, row, out),
-        "feed" | "feed file" => heads::put_stream(alloc, row, out),
-        "input" => sessions::put_input(alloc, row, out),
-        _ => sessions::put_events(alloc, row, out),
-    }
-}
-
-// That a row isn't known, where there is a fault.
-fn unknown<E: Drop>(fail: Fail<E>) -> Result<bool, NoMemory> {
-    match fail {
-        Fail::NoMemory => Err(NoMemory),
-        Fail::Fault(_) => Ok(false),
-    }
-}
-
-// The bytes of the one key that a row has beside `name` and `want`; `None` where it is another row.
-fn only(alloc: Global, row: &Row<'_>, key: &str) -> Result<Option<Vec<u8>>, AllocError> {
-    if row.has_each(&[key]) {
-        row.bytes(alloc, key)
+// Puts what comes out of the lines of a row, one after the other: the heads of a stream, or what a session does.
+fn put_course(alloc: Global, row: &Row<'_>, out: &mut Said) -> bool {
+    if row.value("feed").is_some() || row.value("feed file").is_some() {
+        heads::put_stream(alloc, row, out)
+    } else if row.value("on").is_some() || row.value("on file").is_some() {
+        sessions::put_events(alloc, row, out)
     } else {
-        Ok(None)
+        false
+    }
+}
+
+// The bytes of a line: those that its value stands for, or where its key says `file` those that it describes.
+fn bytes_at(alloc: Global, key: &str, value: &str) -> Result<Option<Vec<u8>>, AllocError> {
+    if key.ends_with(" file") {
+        content(alloc, &[], value)
+    } else {
+        bytes(alloc, value)
     }
 }

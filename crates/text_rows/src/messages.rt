@@ -1,45 +1,27 @@
 //! Bodies of data replies: a structure text with the line `Data:`, and values in hexadecimal digits.
 
 use dap_client::{Column, Message, read_message};
-use fm_base::{Bytes, Fail, NoMemory};
-use row_text::{Row, Said, hex};
+use fm_base::{Bytes, Fail};
+use row_text::{Said, hex};
 use std::alloc::{AllocError, Global};
 
 /// Puts the label and the columns of the message that a body spells, or the offset up to which some message begins so.
-pub fn put_message(alloc: Global, row: &Row<'_>, out: &mut Said) -> Result<bool, NoMemory> {
-    match body_of(alloc, row) {
-        Ok(Some(body)) => {
-            put_read(alloc, body.as_slice(), out);
-            Ok(true)
-        }
-        Ok(None) => Ok(false),
-        Err(AllocError) => Err(NoMemory),
-    }
-}
-
-// The body of a row: its text, and the bytes of its values.
-fn body_of(alloc: Global, row: &Row<'_>) -> Result<Option<Vec<u8>>, AllocError> {
-    if !row.has_each(&["message", "data"]) {
-        return Ok(None);
-    }
-    match row.bytes(alloc, "message") {
-        Ok(Some(text)) => with_data(alloc, text, row.value("data").unwrap_or("")),
-        Ok(None) => Ok(None),
-        Err(AllocError) => Err(AllocError),
-    }
-}
-
-// A text with the bytes of hexadecimal digits behind it.
-fn with_data(alloc: Global, text: Vec<u8>, digits: &str) -> Result<Option<Vec<u8>>, AllocError> {
-    let mut body = text;
+/// The body is a text and the bytes of some digits; it is false where these are none.
+pub fn put_message(alloc: Global, text: &[u8], digits: &str, out: &mut Said) -> bool {
     match hex(alloc, digits) {
-        Ok(Some(data)) => {
-            body.extend_from_slice(data.as_slice())?;
-            Ok(Some(body))
-        }
-        Ok(None) => Ok(None),
-        Err(AllocError) => Err(AllocError),
+        Ok(Some(data)) => put_joined(alloc, text, data.as_slice(), out),
+        Ok(None) => return false,
+        Err(AllocError) => out.run_short(),
     }
+    true
+}
+
+fn put_joined(alloc: Global, text: &[u8], data: &[u8], out: &mut Said) {
+    let mut body = Bytes::new(alloc);
+    if body.append(text).is_err() || body.append(data).is_err() {
+        out.run_short();
+    }
+    put_read(alloc, body.as_slice(), out);
 }
 
 fn put_read(alloc: Global, body: &[u8], out: &mut Said) {

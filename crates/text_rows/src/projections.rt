@@ -2,65 +2,58 @@
 //! number of its declaration and its own, with its slabs.
 
 use super::constraints::put_slabs;
-use super::unknown;
-use crate::declarations::read_decls;
+use crate::declarations::put_decls;
 use dap_ce::read_constraint;
 use dap_model::{Array, Decl, ProjectFault, Projected, Projection, Sent};
 use dap_project::project;
-use fm_base::{Bytes, Fail, NoMemory};
-use row_text::{File, Row, Said};
-use std::alloc::{AllocError, Global};
+use fm_base::{Bytes, Fail, List};
+use row_text::{File, Said};
+use std::alloc::Global;
 use std::str;
 
-/// Puts what is sent of the declarations of a file for a constraint, or its fault.
+/// Puts what is sent of the declarations of a file for a constraint, or its fault. It is false where the file has no
+/// declarations, or the constraint is none.
 pub fn put_projection(
     alloc: Global,
     files: &[File],
-    row: &Row<'_>,
+    asked: &[u8],
+    name: &[u8],
     out: &mut Said,
-) -> Result<bool, NoMemory> {
-    if !row.has_each(&["of", "asks"]) {
-        return Ok(false);
-    }
-    match read_decls(alloc, named(files, row.value("of").unwrap_or(""))) {
-        Ok(decls) => put_asked(alloc, decls.as_slice(), row, out),
-        Err(fail) => unknown(fail),
-    }
+) -> bool {
+    let mut decls = List::new(alloc);
+    let known = match put_decls(alloc, named(files, name), &mut decls) {
+        Ok(()) => put_for(alloc, decls.as_slice(), asked, out),
+        Err(Fail::Fault(_)) => false,
+        Err(Fail::NoMemory) => {
+            out.run_short();
+            true
+        }
+    };
+    drop(decls);
+    known
 }
 
 // The text of a file; no text where there is no such file.
-fn named<'a>(files: &'a [File], name: &str) -> &'a str {
+fn named<'a>(files: &'a [File], name: &[u8]) -> &'a str {
     for file in files {
-        if file.name.as_str() == name {
+        if file.name.as_str().as_bytes() == name {
             return str::from_utf8(file.content.as_slice()).unwrap_or("");
         }
     }
     ""
 }
 
-fn put_asked(
-    alloc: Global,
-    decls: &[Decl],
-    row: &Row<'_>,
-    out: &mut Said,
-) -> Result<bool, NoMemory> {
-    match row.bytes(alloc, "asks") {
-        Ok(Some(text)) => put_for(alloc, decls, text.as_slice(), out),
-        Ok(None) => Ok(false),
-        Err(AllocError) => Err(NoMemory),
-    }
-}
-
 // Puts what is sent for the constraint of a text. It is false where it is none.
-fn put_for(alloc: Global, decls: &[Decl], text: &[u8], out: &mut Said) -> Result<bool, NoMemory> {
+fn put_for(alloc: Global, decls: &[Decl], text: &[u8], out: &mut Said) -> bool {
     match read_constraint(alloc, text) {
         Ok(asked) => {
             put_sent(alloc, decls, &asked, out);
             drop(asked);
-            Ok(true)
         }
-        Err(fail) => unknown(fail),
+        Err(Fail::Fault(_)) => return false,
+        Err(Fail::NoMemory) => out.run_short(),
     }
+    true
 }
 
 fn put_sent(alloc: Global, decls: &[Decl], asked: &Projection, out: &mut Said) {
@@ -136,23 +129,21 @@ fn put_part(before: &str, part: &Sent, out: &mut Said) {
 }
 
 fn put_fault(fault: &ProjectFault, out: &mut Said) {
+    out.put_number("refused ", fault.code());
+    out.put(" ");
     match fault {
-        ProjectFault::NoSuchVariable(name) => put_refused("refused 23 ", name, out),
+        ProjectFault::NoSuchVariable(name) | ProjectFault::SlabConflict(name) => {
+            out.put_shown(name.as_slice())
+        }
         ProjectFault::SlabRank { name, got, rank } => {
-            put_refused("refused 24 ", name, out);
+            out.put_shown(name.as_slice());
             out.put_number(", ", *got);
             out.put_number(" slabs for ", *rank);
         }
         ProjectFault::SlabRange { name, dim, size } => {
-            put_refused("refused 25 ", name, out);
+            out.put_shown(name.as_slice());
             out.put_number(", slab ", *dim);
             out.put_number(" of ", *size);
         }
-        ProjectFault::SlabConflict(name) => put_refused("refused 26 ", name, out),
     }
-}
-
-fn put_refused(refused: &str, name: &Bytes, out: &mut Said) {
-    out.put(refused);
-    out.put_shown(name.as_slice());
 }

@@ -1,42 +1,30 @@
 //! Sessions: what they do over whole input, however it is cut, and at each of some events.
 
+use super::bytes_at;
 use super::heads::put_request;
-use super::only;
 use fm_base::NoMemory;
-use row_text::{Field, Row, Said, bytes, content};
+use row_text::{Field, Row, Said};
 use std::alloc::{AllocError, Global};
 use web_session::{Action, Asked, End, Event, Session};
 
 /// Puts what a session does over some input, a line for each action. Each reply has 5 bytes, of which at most 2 are
 /// sent at a time. Reads are left out: the input comes whole, and in pieces of at most 1 to 100 bytes.
-pub fn put_input(alloc: Global, row: &Row<'_>, out: &mut Said) -> Result<bool, NoMemory> {
-    match only(alloc, row, "input") {
-        Ok(Some(input)) => put_all(alloc, input.as_slice(), out),
-        Ok(None) => Ok(false),
-        Err(AllocError) => Err(NoMemory),
-    }
-}
-
-fn put_all(alloc: Global, input: &[u8], out: &mut Said) -> Result<bool, NoMemory> {
+pub fn put_input(alloc: Global, input: &[u8], out: &mut Said) {
     put_actions(alloc, input, input.len(), out);
     for most in 1..101usize {
-        if !is_done(alloc, input, most, out.as_str())? {
+        if !is_done(alloc, input, most, out.as_str()) {
             out.put_number("\nbut not in pieces of ", most);
             out.put(" bytes");
             break;
         }
     }
-    Ok(true)
 }
 
 // Whether this is what a session does over some input, of which it reads at most `most` bytes at a time.
-fn is_done(alloc: Global, input: &[u8], most: usize, want: &str) -> Result<bool, NoMemory> {
+fn is_done(alloc: Global, input: &[u8], most: usize, want: &str) -> bool {
     let mut got = Said::new(alloc);
     put_actions(alloc, input, most, &mut got);
-    match got.text() {
-        Ok(text) => Ok(text.as_str() == want),
-        Err(AllocError) => Err(NoMemory),
-    }
+    got.as_str() == want
 }
 
 // Puts what a session does over some input, of which it reads at most `most` bytes at a time.
@@ -88,44 +76,41 @@ fn after(session: &mut Session, action: Action) -> Action {
     }
 }
 
-/// Puts what a session does at each of some events, a line for each, after requests that were answered before.
-pub fn put_events(alloc: Global, row: &Row<'_>, out: &mut Said) -> Result<bool, NoMemory> {
+/// Puts what a session does at each of some events, a line for each, after requests that were answered before. It is
+/// false where one of them isn't known.
+pub fn put_events(alloc: Global, row: &Row<'_>, out: &mut Said) -> bool {
     if !row.has_only(&["answered", "on", "on file"]) {
-        return Ok(false);
+        return false;
     }
-    let mut session = Session::new(alloc)?;
-    let put = put_fields(alloc, &mut session, row, out);
-    drop(session);
-    put
-}
-
-fn put_fields(
-    alloc: Global,
-    session: &mut Session,
-    row: &Row<'_>,
-    out: &mut Said,
-) -> Result<bool, NoMemory> {
-    for field in &row.fields {
-        if !put_field(alloc, session, field, out)? {
-            return Ok(false);
+    match Session::new(alloc) {
+        Ok(mut session) => {
+            let known = put_fields(alloc, &mut session, row, out);
+            drop(session);
+            known
+        }
+        Err(NoMemory) => {
+            out.run_short();
+            true
         }
     }
-    Ok(true)
+}
+
+fn put_fields(alloc: Global, session: &mut Session, row: &Row<'_>, out: &mut Said) -> bool {
+    for field in &row.fields {
+        if !put_field(alloc, session, field, out) {
+            return false;
+        }
+    }
+    true
 }
 
 // Does what a field says, and appends what the session does then; false where that isn't known.
-fn put_field(
-    alloc: Global,
-    session: &mut Session,
-    field: &Field<'_>,
-    out: &mut Said,
-) -> Result<bool, NoMemory> {
+fn put_field(alloc: Global, session: &mut Session, field: &Field<'_>, out: &mut Said) -> bool {
     let value = field.value.as_str();
     match field.key {
-        "answered" => Ok(answer(session, value)),
-        "on" => put_after(alloc, session, value, out),
-        "on file" => put_after_file(alloc, session, value, out),
-        _ => Ok(true),
+        "answered" => answer(session, value),
+        "on" | "on file" => put_after(alloc, session, field.key, value, out),
+        _ => true,
     }
 }
 
@@ -142,18 +127,19 @@ fn answer(session: &mut Session, count: &str) -> bool {
     true
 }
 
-// Appends what a session does at the event of a text; false where the text is none.
-fn put_after(
-    alloc: Global,
-    session: &mut Session,
-    text: &str,
-    out: &mut Said,
-) -> Result<bool, NoMemory> {
-    let (name, value) = text.split_once(' ').unwrap_or((text, ""));
-    match bytes(alloc, value) {
-        Ok(Some(bytes)) => Ok(put_on(session, event_of(name, value, bytes.as_slice()), out)),
-        Ok(None) => Ok(false),
-        Err(AllocError) => Err(NoMemory),
+// Appends what a session does at the event of a line, or with the bytes that a line describes; false where it is none.
+fn put_after(alloc: Global, session: &mut Session, key: &str, value: &str, out: &mut Said) -> bool {
+    let (name, value) = match key {
+        "on" => value.split_once(' ').unwrap_or((value, "")),
+        _ => ("bytes", value),
+    };
+    match bytes_at(alloc, key, value) {
+        Ok(Some(bytes)) => put_on(session, event_of(name, value, bytes.as_slice()), out),
+        Ok(None) => false,
+        Err(AllocError) => {
+            out.run_short();
+            true
+        }
     }
 }
 
@@ -165,20 +151,6 @@ fn put_on(session: &mut Session, event: Option<Event<'_>>, out: &mut Said) -> bo
     let action = session.on(event);
     put_action(session, action, out);
     true
-}
-
-// Appends what a session does with the bytes that a text describes; false where it describes none.
-fn put_after_file(
-    alloc: Global,
-    session: &mut Session,
-    text: &str,
-    out: &mut Said,
-) -> Result<bool, NoMemory> {
-    match content(alloc, &[], text) {
-        Ok(Some(bytes)) => Ok(put_on(session, Some(Event::Bytes(bytes.as_slice())), out)),
-        Ok(None) => Ok(false),
-        Err(AllocError) => Err(NoMemory),
-    }
 }
 
 fn event_of<'a>(name: &str, value: &str, bytes: &'a [u8]) -> Option<Event<'a>> {

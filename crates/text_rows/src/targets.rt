@@ -2,27 +2,15 @@
 
 use fm_base::{Bytes, Fail, NoMemory};
 use fm_model::{Site, ViewName};
-use row_text::{Row, Said};
-use std::alloc::{AllocError, Global};
+use row_text::Said;
+use std::alloc::Global;
 use web_path::{PathFault, Service, Target, read_target};
 
-/// Puts what a target asks for in the collection of an epoch, or its fault.
-pub fn put_target(alloc: Global, row: &Row<'_>, out: &mut Said) -> Result<bool, NoMemory> {
-    let Some(epoch) = epoch_of(row) else {
-        return Ok(false);
+/// Puts what a target asks for in the collection of an epoch, or its fault; false where the epoch is no number.
+pub fn put_target(alloc: Global, epoch: &str, target: &[u8], out: &mut Said) -> bool {
+    let Ok(epoch) = epoch.parse::<i64>() else {
+        return false;
     };
-    match row.bytes(alloc, "target") {
-        Ok(Some(target)) => {
-            put_in(alloc, epoch, target.as_slice(), out);
-            Ok(true)
-        }
-        Ok(None) => Ok(false),
-        Err(AllocError) => Err(NoMemory),
-    }
-}
-
-// Puts what a target asks for in the collection of an epoch.
-fn put_in(alloc: Global, epoch: i64, target: &[u8], out: &mut Said) {
     match site_of(alloc, epoch) {
         Ok(site) => {
             put_asked(alloc, target, &site, out);
@@ -30,15 +18,7 @@ fn put_in(alloc: Global, epoch: i64, target: &[u8], out: &mut Said) {
         }
         Err(NoMemory) => out.run_short(),
     }
-}
-
-// The epoch of a row that has one beside its target.
-fn epoch_of(row: &Row<'_>) -> Option<i64> {
-    if row.has_each(&["target", "epoch"]) {
-        row.value("epoch")?.parse::<i64>().ok()
-    } else {
-        None
-    }
+    true
 }
 
 fn site_of(alloc: Global, epoch: i64) -> Result<Site, NoMemory> {
@@ -61,20 +41,16 @@ fn put_asked(alloc: Global, target: &[u8], site: &Site, out: &mut Said) {
 }
 
 fn put_read(target: &Target, out: &mut Said) {
-    out.put(service_name(target.service));
+    out.put(match target.service {
+        Service::Dds => "dds of ",
+        Service::Das => "das of ",
+        Service::Dods => "dods of ",
+    });
     put_view(target.view, out);
     out.put(", asks [");
     out.put_shown(target.constraint.as_slice());
     out.put("], label ");
     out.put_shown(target.label.as_slice());
-}
-
-fn service_name(service: Service) -> &'static str {
-    match service {
-        Service::Dds => "dds of ",
-        Service::Das => "das of ",
-        Service::Dods => "dods of ",
-    }
 }
 
 fn put_view(view: ViewName, out: &mut Said) {
@@ -88,9 +64,8 @@ fn put_view(view: ViewName, out: &mut Said) {
 }
 
 fn put_fault(fault: PathFault, out: &mut Said) {
-    match fault {
-        PathFault::BadEscape(at) => out.put_number("refused 31 at ", at),
-        PathFault::NoSuchDataset => out.put("refused 32"),
-        PathFault::NoSuchService => out.put("refused 33"),
+    out.put_number("refused ", fault.code());
+    if let PathFault::BadEscape(at) = fault {
+        out.put_number(" at ", at);
     }
 }

@@ -2,51 +2,56 @@
 
 use fm_base::{Bytes, Fail, List, NoMemory};
 use fm_model::Site;
-use row_text::{Row, Said};
+use row_text::Said;
 use srv_words::{Job, Serving, ServingMany, Spec, Step, Stepping, read_job, reason_of, text_asked};
-use std::alloc::{AllocError, Global};
+use std::alloc::Global;
 
-/// Puts the job of words, whether the text that they ask for has a part, or why they are no job.
-pub fn put_words(alloc: Global, row: &Row<'_>, out: &mut Said) -> Result<bool, NoMemory> {
-    match row.bytes(alloc, "words") {
-        Ok(Some(line)) => put_line(alloc, line.as_slice(), row, out),
-        Ok(None) => Ok(false),
-        Err(AllocError) => Err(NoMemory),
-    }
+/// What is wanted of words: their job, whether the text that they ask for has a part, or why they are no job.
+#[derive(Clone, Copy)]
+pub enum Wanted<'a> {
+    Job,
+    Part(&'a str),
+    Reason,
 }
 
-fn put_line(alloc: Global, line: &[u8], row: &Row<'_>, out: &mut Said) -> Result<bool, NoMemory> {
-    match words_of(alloc, line) {
-        Ok(words) => Ok(put_wanted(alloc, &words, row, out)),
-        Err(NoMemory) => Err(NoMemory),
+/// Puts what is wanted of the words between the bars of a line, or of no words.
+pub fn put_words(alloc: Global, line: Option<&[u8]>, wanted: Wanted<'_>, out: &mut Said) {
+    let mut words = List::new(alloc);
+    match put_each(alloc, line, &mut words) {
+        Ok(()) => put_wanted(alloc, &words, wanted, out),
+        Err(NoMemory) => out.run_short(),
     }
+    drop(words);
 }
 
-// Puts what a row wants to know of words.
-fn put_wanted(alloc: Global, words: &List<Bytes>, row: &Row<'_>, out: &mut Said) -> bool {
-    match row.value("shows") {
-        None if row.has_each(&["words"]) => put_read(alloc, words, out),
-        None if row.has_each(&["words", "says"]) => put_reason(alloc, words, out),
-        Some(part) if row.has_each(&["words", "shows"]) => put_found(alloc, words, part, out),
-        _ => return false,
+fn put_each(alloc: Global, line: Option<&[u8]>, out: &mut List<Bytes>) -> Result<(), NoMemory> {
+    let Some(line) = line else {
+        return Ok(());
+    };
+    for word in line.split(|byte| *byte == b'|') {
+        out.push(Bytes::copy_of(alloc, word)?)?;
     }
-    true
+    Ok(())
+}
+
+fn put_wanted(alloc: Global, words: &List<Bytes>, wanted: Wanted<'_>, out: &mut Said) {
+    match wanted {
+        Wanted::Job => put_read(alloc, words, out),
+        Wanted::Part(part) => put_found(alloc, words, part, out),
+        Wanted::Reason => put_reason(alloc, words, out),
+    }
 }
 
 // Puts whether words ask for a text that has this part.
 fn put_found(alloc: Global, words: &List<Bytes>, part: &str, out: &mut Said) {
     match text_asked(alloc, words) {
-        Ok(text) => out.put(found_in(text, part)),
+        Ok(Some(text)) => out.put(if text.as_str().contains(part) {
+            "yes"
+        } else {
+            "no"
+        }),
+        Ok(None) => out.put("no text"),
         Err(NoMemory) => out.run_short(),
-    }
-}
-
-// Whether a text that was asked for has a part.
-fn found_in(text: Option<String>, part: &str) -> &'static str {
-    match &text {
-        Some(text) if text.as_str().contains(part) => "yes",
-        Some(_) => "no",
-        None => "no text",
     }
 }
 
@@ -56,27 +61,6 @@ fn put_reason(alloc: Global, words: &List<Bytes>, out: &mut Said) {
         Ok(line) => out.put(line.as_str()),
         Err(NoMemory) => out.run_short(),
     }
-}
-
-/// Puts the job of no words, or why they are none.
-pub fn put_no_words(alloc: Global, row: &Row<'_>, out: &mut Said) -> bool {
-    if row.has_each(&["no words"]) {
-        put_read(alloc, &List::new(alloc), out);
-        true
-    } else if row.has_each(&["no words", "says"]) {
-        put_reason(alloc, &List::new(alloc), out);
-        true
-    } else {
-        false
-    }
-}
-
-fn words_of(alloc: Global, line: &[u8]) -> Result<List<Bytes>, NoMemory> {
-    let mut words = List::new(alloc);
-    for word in line.split(|byte| *byte == b'|') {
-        words.push(Bytes::copy_of(alloc, word)?)?;
-    }
-    Ok(words)
 }
 
 fn put_read(alloc: Global, words: &List<Bytes>, out: &mut Said) {
