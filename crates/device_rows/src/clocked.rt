@@ -60,19 +60,18 @@ fn reading_of(word: &str) -> Option<Reading> {
     })
 }
 
-// The readings that words say; `none` says that there are none.
-fn readings_of(alloc: Global, words: &str) -> Result<Option<Vec<Reading>>, NoMemory> {
-    let mut readings = Vec::new(alloc);
+// Adds the readings that words say; `none` says that there are none. It is false where a word says something else.
+fn put_readings(words: &str, readings: &mut Vec<Reading>) -> Result<bool, NoMemory> {
     if words == "none" {
-        return Ok(Some(readings));
+        return Ok(true);
     }
     for word in words.split_whitespace() {
         match reading_of(word) {
             Some(reading) => readings.push(reading)?,
-            None => return Ok(None),
+            None => return Ok(false),
         }
     }
-    Ok(Some(readings))
+    Ok(true)
 }
 
 /// Puts the moments of a clock of this number of ticks, whose machine reads as the row says, and what it tells.
@@ -86,14 +85,13 @@ pub fn put_moments(alloc: Global, row: &Row<'_>, out: &mut Said) -> Result<bool,
     let Ok(ticks) = ticks.parse::<u32>() else {
         return Ok(false);
     };
-    match readings_of(alloc, words) {
-        Ok(Some(readings)) => {
-            put_by(alloc, ticks, readings.as_slice(), out);
-            Ok(true)
-        }
-        Ok(None) => Ok(false),
-        Err(NoMemory) => Err(NoMemory),
+    let mut readings = Vec::new(alloc);
+    let known = put_readings(words, &mut readings);
+    if let Ok(true) = known {
+        put_by(alloc, ticks, readings.as_slice(), out);
     }
+    drop(readings);
+    known
 }
 
 fn put_by(alloc: Global, ticks: u32, readings: &[Reading], out: &mut Said) {

@@ -3,7 +3,7 @@
 use crate::accepted::put_accepts;
 use crate::linked::{put_end, put_link};
 use crate::streamed::{put_blocking, put_sink, put_whole};
-use crate::turns::{Turn, turns_of};
+use crate::turns::{Turn, put_turns};
 use fm_base::NoMemory;
 use row_text::{Row, Said};
 use std::alloc::Global;
@@ -64,11 +64,13 @@ pub fn put_over_turns(
     let Some((words, steps)) = text_and_steps(row, device.key()) else {
         return Ok(false);
     };
-    match turns_of(alloc, words) {
-        Ok(Some(turns)) => Ok(put_done(alloc, device, turns.as_slice(), steps, out)),
-        Ok(None) => Ok(false),
-        Err(NoMemory) => Err(NoMemory),
-    }
+    let mut turns = Vec::new(alloc);
+    let done = match put_turns(words, &mut turns) {
+        Ok(true) => Ok(put_done(alloc, device, turns.as_slice(), steps, out)),
+        other => other,
+    };
+    drop(turns);
+    done
 }
 
 // Appends what the steps do. It is false where one is unknown.

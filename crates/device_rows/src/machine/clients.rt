@@ -5,6 +5,10 @@ use row_text::Said;
 use std::alloc::Global;
 use std::io::{Read, Write};
 use std::net::{Shutdown, SocketAddr, TcpStream};
+use std::time::Duration;
+
+// For how many seconds a client waits for what it hears.
+const PATIENCE: u64 = 20;
 
 // Does a step of a client: `connect` adds one, a client of the last door; `other client` has the first and the last
 // change their turns; `leave` closes the last one's connection; and what the last one says and hears. It is false where
@@ -30,7 +34,9 @@ fn connect(
     clients: &mut Vec<TcpStream>,
 ) -> Option<()> {
     let client = TcpStream::connect(rt, address?).ok()?;
-    clients.push(client).ok()
+    let waits = client.set_read_timeout(Some(Duration::from_secs(PATIENCE)));
+    clients.push(client).ok()?;
+    waits.ok()
 }
 
 /// Has the first and the last of these change their turns.
