@@ -46,7 +46,7 @@ impl Folder {
 fn path_of(rt: &HostRuntime, line: usize) -> io::Result<PathBuf> {
     let alloc = rt.alloc();
     let name = format!(in alloc; "fmrcd-rows-{}-{line}", process::id(rt.process()))?;
-    env::temp_dir(rt)?.join(alloc, name.as_str())
+    Ok(env::temp_dir(rt)?.join(alloc, name.as_str())?)
 }
 
 // Does what a word says at the path of a name.

@@ -22,7 +22,7 @@ mod turns;
 use fm_base::NoMemory;
 use row_text::{Answers, Row, Said};
 use std::alloc::{AllocError, Global};
-use turned::{Device, put_over_turns};
+use turned::put_over_turns;
 
 /// The machine on which rows run.
 #[derive(Drop)]
@@ -48,12 +48,9 @@ fn put_answer(
 ) -> Result<bool, NoMemory> {
     for field in &row.fields {
         return match field.key {
-            "link" => put_over_turns(alloc, row, Device::Link, out),
-            "ending" => put_over_turns(alloc, row, Device::Ending, out),
-            "accepts" => put_over_turns(alloc, row, Device::Accepts, out),
-            "blocking" => put_over_turns(alloc, row, Device::Blocking, out),
-            "sink" => put_over_turns(alloc, row, Device::Sink, out),
-            "whole" => put_over_turns(alloc, row, Device::Whole, out),
+            "link" | "ending" | "accepts" | "blocking" | "sink" | "whole" => {
+                put_over_turns(alloc, row, field.key, out)
+            }
             "room" => remembered::put_room(alloc, row, out),
             "play" => Ok(machine::put_play(rt, row, out)),
             "of" => Ok(machine::put_fact(rt, row, out)),
