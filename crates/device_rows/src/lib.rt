@@ -39,31 +39,40 @@ impl Answers for Devices {
     }
 }
 
-// Puts what comes out of a row's steps, by the device that its first key names.
+// Puts what comes out of a row, by the device that the key behind its name says.
 fn put_answer(
     rt: HostRuntime,
     alloc: Global,
     row: &Row<'_>,
     out: &mut Said,
 ) -> Result<bool, NoMemory> {
-    for field in &row.fields {
-        return match field.key {
-            "link" | "ending" | "accepts" | "blocking" | "sink" | "whole" => {
-                put_over_turns(alloc, row, field.key, out)
-            }
-            "room" => remembered::put_room(alloc, row, out),
-            "play" => Ok(machine::put_play(rt, row, out)),
-            "of" => Ok(machine::put_fact(rt, row, out)),
-            "sending" => Ok(linked::put_sending(row, out)),
-            "wheel" => keyed::put_wheel(alloc, row, out),
-            "limits" => Ok(limited::put_limits(row, out)),
-            "line" => Ok(limited::put_line(alloc, row, out)),
-            "collections" => prefixed::put_collections(alloc, row, out),
-            "ticks" => clocked::put_moments(alloc, row, out),
-            "names" => listed::put_names(rt, alloc, row, out),
-            "folder" => foldered::put_folder(rt, alloc, row, out),
-            _ => continue,
-        };
+    let Some(field) = row.fields.get(1) else {
+        return Ok(false);
+    };
+    match field.key {
+        "play" => Ok(machine::put_play(rt, row, out)),
+        "of" => Ok(machine::put_fact(rt, row, out)),
+        "names" => listed::put_names(rt, alloc, row, out),
+        "folder" => foldered::put_folder(rt, alloc, row, out),
+        key => put_in_memory(alloc, key, row, out),
     }
-    Ok(false)
+}
+
+// Puts what comes out of a row of a device that isn't the machine's.
+fn put_in_memory(
+    alloc: Global,
+    key: &str,
+    row: &Row<'_>,
+    out: &mut Said,
+) -> Result<bool, NoMemory> {
+    match key {
+        "memory" => remembered::put_memory(alloc, row, out),
+        "wheel" => keyed::put_wheel(alloc, row, out),
+        "collections" => prefixed::put_collections(alloc, row, out),
+        "ticks" => clocked::put_moments(alloc, row, out),
+        "sending" => Ok(linked::put_sending(row, out)),
+        "limits" => Ok(limited::put_limits(row, out)),
+        "line" => Ok(limited::put_line(alloc, row, out)),
+        _ => put_over_turns(alloc, row, key, out),
+    }
 }
