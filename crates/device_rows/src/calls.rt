@@ -56,10 +56,10 @@ fn put_text<L: Link>(link: &mut L, bytes: &[u8], out: &mut Said) -> bool {
 /// Appends whether a sink puts each text whole. It is false where a line isn't `put TEXT`.
 pub(crate) fn put_texts<S: Sink>(sink: &mut S, steps: &str, out: &mut Said) -> bool {
     for line in steps.lines() {
-        let ("put", text) = line.split_once(' ').unwrap_or((line, "")) else {
+        let Some(text) = line.strip_prefix("put") else {
             return false;
         };
-        match sink.put(text.as_bytes()) {
+        match sink.put(text.trim_start().as_bytes()) {
             Ok(()) => out.put("whole\n"),
             Err(Failed) => put_fault(sink.faults(), out),
         }

@@ -60,18 +60,19 @@ fn reading_of(word: &str) -> Option<Reading> {
     })
 }
 
-// Adds the readings that words say; `none` says that there are none. It is false where a word says something else.
-fn put_readings(words: &str, readings: &mut Vec<Reading>) -> Result<bool, NoMemory> {
+// The readings that words say; `none` says that there are none.
+fn readings_of(alloc: Global, words: &str) -> Result<Option<Vec<Reading>>, NoMemory> {
+    let mut readings = Vec::new(alloc);
     if words == "none" {
-        return Ok(true);
+        return Ok(Some(readings));
     }
     for word in words.split_whitespace() {
         match reading_of(word) {
             Some(reading) => readings.push(reading)?,
-            None => return Ok(false),
+            None => return Ok(None),
         }
     }
-    Ok(true)
+    Ok(Some(readings))
 }
 
 /// Puts the moments of a clock of this number of ticks, whose machine reads as the row says, and what it tells.
@@ -85,13 +86,14 @@ pub fn put_moments(alloc: Global, row: &Row<'_>, out: &mut Said) -> Result<bool,
     let Ok(ticks) = ticks.parse::<u32>() else {
         return Ok(false);
     };
-    let mut readings = Vec::new(alloc);
-    let known = put_readings(words, &mut readings);
-    if let Ok(true) = known {
-        put_by(alloc, ticks, readings.as_slice(), out);
+    match readings_of(alloc, words) {
+        Ok(Some(readings)) => {
+            put_by(alloc, ticks, readings.as_slice(), out);
+            Ok(true)
+        }
+        Ok(None) => Ok(false),
+        Err(NoMemory) => Err(NoMemory),
     }
-    drop(readings);
-    known
 }
 
 fn put_by(alloc: Global, ticks: u32, readings: &[Reading], out: &mut Said) {

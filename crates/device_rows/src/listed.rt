@@ -123,8 +123,7 @@ fn names_of(alloc: Global, words: &str, fails: bool) -> Result<Option<Names>, Al
 
 // The names between blanks, where there is room for them, each ended by a NUL.
 fn listed(names: &mut Vec<u8>, fails: bool) -> Result<Option<Names>, AllocError> {
-    end_each(names.as_mut_slice());
-    names.push(0)?;
+    end_each(names)?;
     let mut room = [0; ROOM];
     let mut left = names.as_slice();
     let Ok(len) = left.read(&mut room) else {
@@ -196,11 +195,13 @@ fn put_steps(
     true
 }
 
-// Puts a NUL in place of each blank.
-fn end_each(names: &mut [u8]) {
-    for byte in names {
+// Ends each name by a NUL.
+fn end_each(names: &mut Vec<u8>) -> Result<(), AllocError> {
+    for byte in names.as_mut_slice() {
         if *byte == b' ' {
             *byte = 0;
         }
     }
+    names.push(0)?;
+    Ok(())
 }

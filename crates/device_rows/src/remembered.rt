@@ -27,15 +27,15 @@ fn formed(link: MemLink, form: &str) -> Option<MemLink> {
 }
 
 // The room and the form of a row's link, or of its sink, and its steps.
-fn given<'a>(row: &'a Row<'_>) -> Option<(usize, &'a str, &'a str)> {
-    let (words, steps) = text_and_steps(row, "memory")?;
+fn given<'a>(row: &'a Row<'_>, key: &str) -> Option<(usize, &'a str, &'a str)> {
+    let (words, steps) = text_and_steps(row, key)?;
     let (room, form) = words.split_once(' ').unwrap_or((words, ""));
     Some((room.parse::<usize>().ok()?, form, steps))
 }
 
-/// Puts what calls of a link in memory give that a row describes, and then what it has put.
-pub fn put_memory(alloc: Global, row: &Row<'_>, out: &mut Said) -> Result<bool, NoMemory> {
-    match given(row) {
+/// Puts what calls of a link in memory give that a row's `room` describes, and then what it has put.
+pub fn put_room(alloc: Global, row: &Row<'_>, out: &mut Said) -> Result<bool, NoMemory> {
+    match given(row, "room") {
         Some((room, "sink", steps)) => put_sink(alloc, room, steps, out),
         Some((room, form, steps)) => put_link(alloc, room, form, steps, out),
         None => Ok(false),

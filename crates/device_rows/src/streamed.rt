@@ -76,7 +76,7 @@ pub fn put_blocking(alloc: Global, turns: &[Turn], steps: &str, out: &mut Said) 
     let mut link = StreamLink::new(reader, Writer::new(&heard, turns));
     let known = put_calls(&mut link, steps, out);
     drop(link);
-    put_pieces(heard, out);
+    end(heard, out);
     known
 }
 
@@ -87,11 +87,11 @@ pub fn put_sink(alloc: Global, turns: &[Turn], steps: &str, out: &mut Said) -> b
     let mut sink = StreamSink::new(Writer::new(&heard, turns));
     let known = put_texts(&mut sink, steps, out);
     drop(sink);
-    put_pieces(heard, out);
+    end(heard, out);
     known
 }
 
-fn put_pieces(heard: Heard, out: &mut Said) {
+fn end(heard: Heard, out: &mut Said) {
     heard.put_all(out);
     drop(heard);
     out.pop();

@@ -3,6 +3,7 @@ ghost use Rattle.std.specs.Prelude.{◌≤◌, IfOk};
 
 use dev_host::{Listener as Listens, Socket};
 use fm_base::NoMemory;
+use std::alloc::Global;
 use std::cell::Cell;
 use std::io::{self, Error, ErrorKind, Read, Write};
 use std::rt;
@@ -38,15 +39,16 @@ fn turn_of(word: &str) -> Option<Turn> {
     }
 }
 
-// Adds the turns that words say. It is false where there are none, or a word says something else.
-pub(crate) fn put_turns(words: &str, turns: &mut Vec<Turn>) -> Result<bool, NoMemory> {
+// The turns that words say, at least one.
+pub(crate) fn turns_of(alloc: Global, words: &str) -> Result<Option<Vec<Turn>>, NoMemory> {
+    let mut turns = Vec::new(alloc);
     for word in words.split_whitespace() {
         match turn_of(word) {
             Some(turn) => turns.push(turn)?,
-            None => return Ok(false),
+            None => return Ok(None),
         }
     }
-    Ok(!turns.is_empty())
+    Ok(if turns.is_empty() { None } else { Some(turns) })
 }
 
 // The bytes, at most `most`, that a call takes.

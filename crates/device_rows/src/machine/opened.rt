@@ -27,7 +27,9 @@ impl Opened {
             opener: RealOpener::new(rt, tell, Collections::none()),
         }
     }
+}
 
+impl Opened {
     // Does a step that opens something: `door CONNECTIONS PATIENCE` at a port of its own; by the opener `open ADDRESS`,
     // where the address may be `door` for that of the last door, or `inbox PATH`; `other door` has the first and the
     // last door change their turns; `same` tells whether these are at one address. It is false where a line says none.
