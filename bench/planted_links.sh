@@ -14,7 +14,7 @@ cat > "$crate/src/main.rt" << 'PROGRAM'
 //! Runs rows of devices and of the machine.
 #![tactic(auto)]
 
-use device_rows::{Devices, tried};
+use device_rows::Devices;
 use row_text::{Count, end, read_inputs, run};
 use std::io;
 use std::process::ExitCode;
@@ -25,11 +25,7 @@ fn main(rt: HostRuntime) -> io::Result<ExitCode> {
     let mut count = Count::default();
     for text in inputs.texts.as_slice() {
         let (path, rows) = (text.path.as_str(), text.text.as_str());
-        if text.folder() == "machine" {
-            run(&rt, rt.alloc(), path, rows, &tried(&rt, rt, rows)?, &mut count)?;
-        } else {
-            run(&rt, rt.alloc(), path, rows, &devices, &mut count)?;
-        }
+        run(&rt, rt.alloc(), path, rows, &devices, &mut count)?;
     }
     end(&rt, count)
 }

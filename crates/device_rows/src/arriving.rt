@@ -126,7 +126,8 @@ fn put_arrival(next: &Result<Arrival, Fail<Failed>>, out: &mut Said) {
     }
 }
 
-fn put_found(found: &Result<Found, Fail<Failed>>, out: &mut Said) {
+/// Appends what was found of a file.
+pub fn put_found(found: &Result<Found, Fail<Failed>>, out: &mut Said) {
     match found {
         Ok(Found::Content(content)) => put_count(content.len() as u64, " bytes\n", out),
         Ok(Found::TooLong(len)) => put_number_line("too long: ", *len, out),

@@ -1,10 +1,13 @@
 //! Inboxes over folders of the machine.
 
-use crate::arriving::put_step;
+use crate::arriving::{put_found, put_step};
+use crate::calls::{put_fault, put_shown_line};
 use crate::hearing::Heard;
 use dev_host::{FolderInbox, Stops};
+use dev_std::RealFiles;
+use dev_traits::{Files, Found};
 use fm_base::{Fail, NoMemory};
-use row_text::{Row, Said};
+use row_text::{Row, Said, bytes};
 use std::alloc::Global;
 use std::os::unix::fs::symlink;
 use std::path::PathBuf;
@@ -56,6 +59,43 @@ fn change_at(
     };
     done?;
     Ok(true)
+}
+
+// Appends what is read of a file, up to a limit: `read LIMIT NAME`. It is false where a line says something else.
+fn put_read(rt: &HostRuntime, folder: &Folder, line: &str, out: &mut Said) -> bool {
+    let Some(("read", words)) = line.split_once(' ') else {
+        return false;
+    };
+    let Some((limit, name)) = words.split_once(' ') else {
+        return false;
+    };
+    match (limit.parse::<u64>(), folder.path.join(rt.alloc(), name)) {
+        (Ok(limit), Ok(path)) => put_content(rt, path.as_str(), limit, out),
+        _ => false,
+    }
+}
+
+// Appends what is read of the file at a path, in which `\xNN` is a byte.
+fn put_content(rt: &HostRuntime, path: &str, limit: u64, out: &mut Said) -> bool {
+    match bytes(rt.alloc(), path) {
+        Ok(Some(path)) => {
+            put_read_at(rt, path.as_slice(), limit, out);
+            drop(path);
+            true
+        }
+        _ => false,
+    }
+}
+
+fn put_read_at(rt: &HostRuntime, path: &[u8], limit: u64, out: &mut Said) {
+    let mut files = RealFiles::new(*rt);
+    let found = files.read(rt.alloc(), path, limit);
+    match &found {
+        Ok(Found::Content(content)) => put_shown_line(content.as_slice(), out),
+        Err(Fail::Fault(_)) => put_fault(files.faults(), out),
+        _ => put_found(&found, out),
+    }
+    drop(found);
 }
 
 fn put_there(rt: &HostRuntime, path: &str, out: &mut Said) -> io::Result<()> {
@@ -170,6 +210,7 @@ fn do_steps(
     for line in steps.lines() {
         let is_done = put_step(alloc, inbox, folder.path.as_str(), line, out)
             || change_others(stops, line)
+            || put_read(rt, folder, line, out)
             || folder.change(rt, line, out).unwrap_or(false);
         if !is_done {
             return false;

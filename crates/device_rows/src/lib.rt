@@ -4,8 +4,8 @@
 
 mod accepted;
 mod arriving;
+mod calls;
 mod clocked;
-mod facts;
 mod foldered;
 mod hearing;
 mod keyed;
@@ -14,12 +14,12 @@ mod linked;
 mod listed;
 mod machine;
 mod prefixed;
+mod remembered;
+mod streamed;
 mod turned;
 mod turns;
 
-pub use facts::Facts;
 use fm_base::NoMemory;
-pub use machine::tried;
 use row_text::{Answers, Row, Said};
 use std::alloc::{AllocError, Global};
 use turned::{Device, put_over_turns};
@@ -51,6 +51,12 @@ fn put_answer(
             "link" => put_over_turns(alloc, row, Device::Link, out),
             "ending" => put_over_turns(alloc, row, Device::Ending, out),
             "accepts" => put_over_turns(alloc, row, Device::Accepts, out),
+            "blocking" => put_over_turns(alloc, row, Device::Blocking, out),
+            "sink" => put_over_turns(alloc, row, Device::Sink, out),
+            "whole" => put_over_turns(alloc, row, Device::Whole, out),
+            "room" => remembered::put_room(alloc, row, out),
+            "play" => Ok(machine::put_play(rt, row, out)),
+            "of" => Ok(machine::put_fact(rt, row, out)),
             "sending" => Ok(linked::put_sending(row, out)),
             "wheel" => keyed::put_wheel(alloc, row, out),
             "limits" => Ok(limited::put_limits(row, out)),

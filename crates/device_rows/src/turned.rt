@@ -2,6 +2,7 @@
 
 use crate::accepted::put_accepts;
 use crate::linked::{put_end, put_link};
+use crate::streamed::{put_blocking, put_sink, put_whole};
 use crate::turns::{Turn, turns_of};
 use fm_base::NoMemory;
 use row_text::{Row, Said};
@@ -17,6 +18,12 @@ pub enum Device {
     Ending,
     /// The accepts of a listener.
     Accepts,
+    /// A link that blocks, over a stream.
+    Blocking,
+    /// A sink over a stream.
+    Sink,
+    /// Reads of all that a stream has.
+    Whole,
 }
 
 impl Device {
@@ -26,6 +33,9 @@ impl Device {
             Device::Link => "link",
             Device::Ending => "ending",
             Device::Accepts => "accepts",
+            Device::Blocking => "blocking",
+            Device::Sink => "sink",
+            Device::Whole => "whole",
         }
     }
 }
@@ -55,17 +65,20 @@ pub fn put_over_turns(
         return Ok(false);
     };
     match turns_of(alloc, words) {
-        Ok(Some(turns)) => Ok(put_done(device, turns.as_slice(), steps, out)),
+        Ok(Some(turns)) => Ok(put_done(alloc, device, turns.as_slice(), steps, out)),
         Ok(None) => Ok(false),
         Err(NoMemory) => Err(NoMemory),
     }
 }
 
 // Appends what the steps do. It is false where one is unknown.
-fn put_done(device: Device, turns: &[Turn], steps: &str, out: &mut Said) -> bool {
+fn put_done(alloc: Global, device: Device, turns: &[Turn], steps: &str, out: &mut Said) -> bool {
     match device {
         Device::Link => put_link(turns, steps, out),
         Device::Ending => put_end(turns, steps, out),
         Device::Accepts => put_accepts(turns, steps, out),
+        Device::Blocking => put_blocking(alloc, turns, steps, out),
+        Device::Sink => put_sink(alloc, turns, steps, out),
+        Device::Whole => put_whole(alloc, turns, steps, out),
     }
 }

@@ -52,7 +52,7 @@ pub(crate) fn turns_of(alloc: Global, words: &str) -> Result<Option<Vec<Turn>>, 
 }
 
 // The bytes, at most `most`, that a call takes.
-fn taken(turn: Turn, most: usize) -> io::Result<usize>
+pub(crate) fn taken(turn: Turn, most: usize) -> io::Result<usize>
     ensures { IfOk result (λ count. count ≤ most) }
 {
     match turn {
@@ -65,7 +65,7 @@ fn taken(turn: Turn, most: usize) -> io::Result<usize>
 }
 
 // The turn at an index, which goes on by one. After the last one it stays.
-fn next_turn(turns: &[Turn], index: &Cell<usize>) -> Turn {
+pub(crate) fn next_turn(turns: &[Turn], index: &Cell<usize>) -> Turn {
     let at = index.get();
     match turns.get(at) {
         Some(turn) => {

@@ -4,7 +4,7 @@
 
 mod commands;
 
-use device_rows::{Devices, tried};
+use device_rows::Devices;
 use file_rows::Files;
 use reply_rows::Collections;
 use row_text::{Answers, Count, File, Row, Said, Text, end, read_inputs, run};
@@ -44,11 +44,7 @@ fn run_text<R: Threads + Wait + Eprint + Sync>(
         "texts" => run(rt, alloc, path, rows, &Texts { files }, count),
         "files" => run(rt, alloc, path, rows, &Files { files }, count),
         "replies" => run(rt, alloc, path, rows, collections, count),
-        "devices" => run(rt, alloc, path, rows, devices, count),
-        "machine" => {
-            let facts = tried(rt, devices.rt, rows)?;
-            run(rt, alloc, path, rows, &facts, count)
-        }
+        "devices" | "machine" => run(rt, alloc, path, rows, devices, count),
         _ => run(rt, alloc, path, rows, &Unknown, count),
     }
 }

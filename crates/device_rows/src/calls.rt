@@ -1,0 +1,79 @@
+//! Calls of links and sinks, and what they give.
+
+use crate::turned::put_number_line;
+use dev_traits::{Failed, Link, Sent, Sink, Taken};
+use row_text::Said;
+
+/// Appends what a call of a link gives: `take` with room for four bytes, `put TEXT`. It is false where a line says
+/// none.
+pub(crate) fn put_call<L: Link>(link: &mut L, line: &str, out: &mut Said) -> bool {
+    match line.split_once(' ') {
+        None if line == "take" => put_take(link, out),
+        Some(("put", text)) => return put_text(link, text.as_bytes(), out),
+        _ => return false,
+    }
+    true
+}
+
+/// Appends what calls of a link give. It is false where a line says none.
+pub(crate) fn put_calls<L: Link>(link: &mut L, steps: &str, out: &mut Said) -> bool {
+    for line in steps.lines() {
+        if !put_call(link, line, out) {
+            return false;
+        }
+    }
+    true
+}
+
+fn put_take<L: Link>(link: &mut L, out: &mut Said) {
+    let mut buf = [0u8; 4];
+    let taken = link.take(&mut buf);
+    put_taken(taken, &buf, link.faults(), out);
+}
+
+/// Appends what a take gave at the front of a buffer; `faults` is how many calls have failed with it.
+pub(crate) fn put_taken(taken: Result<Taken, Failed>, buf: &[u8], faults: u64, out: &mut Said) {
+    match taken {
+        Ok(Taken::Bytes(count)) => put_shown_line(buf.get(..count).unwrap_or(b""), out),
+        Ok(Taken::End) => out.put("the end\n"),
+        Ok(Taken::Later) => out.put("later\n"),
+        Err(Failed) => put_fault(faults, out),
+    }
+}
+
+fn put_text<L: Link>(link: &mut L, bytes: &[u8], out: &mut Said) -> bool {
+    if bytes.is_empty() {
+        return false;
+    }
+    match link.put(bytes) {
+        Ok(Sent::Bytes(count)) => put_number_line("", count, out),
+        Ok(Sent::Later) => out.put("later\n"),
+        Err(Failed) => put_fault(link.faults(), out),
+    }
+    true
+}
+
+/// Appends whether a sink puts each text whole. It is false where a line isn't `put TEXT`.
+pub(crate) fn put_texts<S: Sink>(sink: &mut S, steps: &str, out: &mut Said) -> bool {
+    for line in steps.lines() {
+        let Some(text) = line.strip_prefix("put") else {
+            return false;
+        };
+        match sink.put(text.trim_start().as_bytes()) {
+            Ok(()) => out.put("whole\n"),
+            Err(Failed) => put_fault(sink.faults(), out),
+        }
+    }
+    true
+}
+
+/// Appends a line that says how many calls have failed with this one.
+pub(crate) fn put_fault(faults: u64, out: &mut Said) {
+    put_number_line("fault ", faults, out);
+}
+
+/// Appends a line of bytes, as a person reads them.
+pub(crate) fn put_shown_line(bytes: &[u8], out: &mut Said) {
+    out.put_shown(bytes);
+    out.put("\n");
+}

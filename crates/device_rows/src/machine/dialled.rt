@@ -1,0 +1,96 @@
+//! A dialer of the machine, and its link.
+
+use crate::calls::{put_call, put_fault};
+use crate::turned::put_number_line;
+use dev_host::{DialledLink, TcpDial};
+use dev_traits::Dial;
+use row_text::{Said, bytes};
+use std::alloc::Global;
+use std::net::SocketAddr;
+use std::time::Duration;
+
+// A link, and the dialer that gave it.
+#[derive(Drop)]
+pub(crate) struct Dialled {
+    dial: TcpDial<HostRuntime>,
+    link: DialledLink,
+}
+
+// Does a step of a dialer: `dial PATIENCE ADDRESS`, where the address may be `door` for that of the last door;
+// `dialled CALL` for a call of its link; `hang up`. It is false where a line says none.
+pub(crate) fn put_dial_step(
+    rt: &HostRuntime,
+    address: Option<SocketAddr>,
+    dialled: &mut Option<Dialled>,
+    step: &str,
+    out: &mut Said,
+) -> bool {
+    match step.split_once(' ') {
+        Some(("dial", words)) => put_dial(rt, address, dialled, words, out).is_some(),
+        Some(("dialled", call)) => put_dialled(dialled, call, out),
+        Some(("hang", "up")) => hang_up(dialled, out),
+        _ => false,
+    }
+}
+
+// Dials the address that words say, or that of a door.
+fn put_dial(
+    rt: &HostRuntime,
+    address: Option<SocketAddr>,
+    dialled: &mut Option<Dialled>,
+    words: &str,
+    out: &mut Said,
+) -> Option<()> {
+    let (patience, word) = words.split_once(' ')?;
+    let patience = patience.parse::<u64>().ok()?;
+    let peer = address_of(rt.alloc(), address, word)?;
+    put_dial_at(*rt, patience, peer.as_slice(), dialled, out);
+    drop(peer);
+    Some(())
+}
+
+// The bytes of an address that a word says, or of that of a door.
+pub(crate) fn address_of(
+    alloc: Global,
+    address: Option<SocketAddr>,
+    word: &str,
+) -> Option<Vec<u8>> {
+    if word != "door" {
+        return bytes(alloc, word).ok()?;
+    }
+    let address = address?;
+    let text = format!(in alloc; "{address}").ok()?;
+    bytes(alloc, text.as_str()).ok()?
+}
+
+fn put_dial_at(
+    rt: HostRuntime,
+    patience: u64,
+    peer: &[u8],
+    dialled: &mut Option<Dialled>,
+    out: &mut Said,
+) {
+    let mut dial = TcpDial::new(rt, Duration::from_millis(patience));
+    match dial.dial(rt.alloc(), peer) {
+        Ok(link) => *dialled = Some(Dialled { dial, link }),
+        Err(_) => put_fault(dial.faults(), out),
+    }
+}
+
+fn put_dialled(dialled: &mut Option<Dialled>, call: &str, out: &mut Said) -> bool {
+    match dialled {
+        Some(dialled) => put_call(&mut dialled.link, call, out),
+        None => false,
+    }
+}
+
+// Gives the link back. The line says how many dials failed.
+fn hang_up(dialled: &mut Option<Dialled>, out: &mut Said) -> bool {
+    let Some(Dialled { mut dial, link }) = dialled.take() else {
+        return false;
+    };
+    dial.done(link);
+    put_number_line("faults of the dialer: ", dial.faults(), out);
+    drop(dial);
+    true
+}
