@@ -1,19 +1,16 @@
 -- How much is held after an operation.
 use Rattle.std.proofs.Common.{◌≡◌, ℕ, ◌≤◌, List, [], ◌∷◌, ◌++◌, length, take, refl, sym, ap, subst, ◌∙◌, arith}
 use Rattle.std.proofs.lemmas.List.{take_all}
-use Rattle.std.proofs.lemmas.List.Elements.{All-cons, All-head, All-nil}
-use Rattle.dev_traits.specs.declared.inbox.Verdict.{Verdict}
-use Rattle.dev_traits.specs.declared.inbox.Verdict.TheVariants as verdicts
+use Rattle.std.proofs.lemmas.List.Elements.{All-cons, All-nil}
 use Rattle.fm_model.specs.declared.full.Tally.{Tally}
 use Rattle.fm_model.specs.declared.op.Op.{Op}
 use Rattle.fm_model.specs.Collection.{coll, tally}
 use Rattle.pub_look.specs.History.{History}
 use Rattle.pub_snap.specs.Rule.{longer}
-use Rattle.srv_ingest.specs.declared.attempt.Attempt.{Attempt}
-use Rattle.srv_ingest.specs.declared.attempt.Attempt.TheVariants.{Done}
-use Rattle.srv_ingest.specs.Attempts.{HeldAfter, HeldAt, published_number}
-use Rattle.srv_ingest.specs.Lines.{held_after, put_lines}
-use Rattle.srv_ingest.proofs.AttemptLemmas.{learnt_by, longer-more}
+use Rattle.srv_verdict.specs.declared.attempt.Attempt.{Attempt}
+use Rattle.srv_verdict.specs.declared.attempt.Attempt.TheVariants.{Done}
+use Rattle.srv_verdict.specs.Attempts.{HeldAfter, HeldAt}
+use Rattle.srv_verdict.proofs.AttemptLemmas.{learnt_by, longer-more}
 
 -- what is held after all operations, the last of which was just published
 pub HeldAt-learnt : (op : Op) (pass pass' : History) (log log' : List Op) (held : Tally) (result : Attempt)
@@ -38,19 +35,5 @@ pub HeldAfter-one : (ops : List Op) (held : Tally) {number : ℕ} {numbers : Lis
 HeldAfter-one ops held {number} {numbers} is one =
     let P : ℕ → Type 0 = λ n. held ≡ tally (coll (take n ops)) in
     subst (λ (l : List ℕ). HeldAfter ops held l) (sym one) (All-cons P number [] is (All-nil P))
-
--- the line of a verdict says what is held after its operation
-pub put_lines-held : (ops : List Op) (name : List ℕ) (held : Tally) (verdict : Verdict)
-    → HeldAfter ops held (published_number verdict)
-    → put_lines name held verdict ≡ put_lines name (held_after ops verdict) verdict
-unfolding put_lines
-put_lines-held ops name held (verdicts.Published number) all =
-    ap (λ (h : Tally). put_lines name h (verdicts.Published number))
-    (All-head (λ (n : ℕ). held ≡ tally (coll (take n ops))) number [] all)
-put_lines-held ops name held (verdicts.Full count) all = refl
-put_lines-held ops name held (verdicts.Refused code) all = refl
-put_lines-held ops name held (verdicts.NotHeld count) all = refl
-put_lines-held ops name held verdicts.Gone all = refl
-put_lines-held ops name held verdicts.Short all = refl
 
 pub ruleset helds = (HeldAt-learnt)

@@ -2,7 +2,7 @@
 use Rattle.std.proofs.Common.{ℕ, ◌≤◌, List, [], ◌∷◌, ◌++◌, length, inl, inr, refl, sym, ap, subst, ◌∙◌, append_assoc, append-nil, arith}
 use Rattle.pub_look.specs.History.{History}
 use Rattle.pub_look.proofs.HistoryLemmas.{continues_on}
-use Rattle.srv_ingest.specs.Attempts.{IsPickedFrom, RiseBetween, Sees}
+use Rattle.srv_verdict.specs.Attempts.{IsPickedFrom, RiseBetween, Sees}
 
 -- the bounds between which numbers rise are in order
 pub RiseBetween-le : (low high : ℕ) (numbers : List ℕ) → RiseBetween low high numbers → low ≤ high

@@ -2,8 +2,8 @@
 use Rattle.std.proofs.Common.{List, true, arith, subst}
 use Rattle.fm_edition.specs.Log.{held_of}
 use Rattle.fm_model.specs.declared.op.Op.{Op}
-use Rattle.srv_ingest.proofs.LookLemmas.{Sees-found, Sees-maybe, Sees-unfound, take-all}
-use Rattle.srv_ingest.proofs.deciding.look_for.Goals as goal
+use Rattle.srv_verdict.proofs.LookLemmas.{Sees-found, Sees-maybe, Sees-unfound, take-all}
+use Rattle.srv_verdict.proofs.deciding.look_for.Goals as goal
 
 pub returns-in-Ok-true-default-clause-verdict : goal.returns-in-Ok-true-default-clause-verdict
 returns-in-Ok-true-default-clause-verdict g c =

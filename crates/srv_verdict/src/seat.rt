@@ -5,7 +5,7 @@ use pub_snap::{Desk, Name, Pass, Share};
 use std::sync::Mutex;
 
 /// What is held before anything was published.
-pub(crate) const NOTHING: Tally = Tally {
+pub const NOTHING: Tally = Tally {
     files: 0,
     rows: 0,
     size: 0,
@@ -14,7 +14,7 @@ pub(crate) const NOTHING: Tally = Tally {
 /// A desk under its lock, the pass that looks at its log, the share that counts what is published from here, and how
 /// much was held after the last operation that was.
 #[derive(Drop)]
-pub(crate) struct Seat<'a, N: Name> {
+pub struct Seat<'a, N: Name> {
     pub desk: &'a Mutex<Desk<N>>,
     pub pass: &'a mut Pass<N>,
     pub share: &'a mut Share<N>,

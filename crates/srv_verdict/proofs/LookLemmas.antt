@@ -4,8 +4,8 @@ use Rattle.std.proofs.lemmas.List.{take_all}
 use Rattle.fm_model.specs.declared.op.Op.{Op}
 use Rattle.pub_look.specs.History.{Continues, History, MayHaveLooked}
 use Rattle.pub_look.proofs.HistoryLemmas.{continues_length}
-use Rattle.srv_ingest.specs.Attempts.{IsPickedFrom, RiseBetween, Sees}
-use Rattle.srv_ingest.proofs.SeesLemmas.{IsPickedFrom-none, IsPickedFrom-one}
+use Rattle.srv_verdict.specs.Attempts.{IsPickedFrom, RiseBetween, Sees}
+use Rattle.srv_verdict.proofs.SeesLemmas.{IsPickedFrom-none, IsPickedFrom-one}
 
 -- a look that is spoken of
 pub Sees-found : (pass pass' : History) (count : ℕ) {spoken : List ℕ} → pass'.proto ≡ pass.proto

@@ -1,21 +1,16 @@
--- Attempts to publish at a desk under its lock, and the search for a verdict on one name or moment.
-use Rattle.std.specs.Prelude.{⊤, ◌≡◌, ◌⊎◌, All, ℕ, ◌+◌, ◌<◌, ◌≤◌, List, [], ◌∷◌, ◌++◌, length, take, Option, Some, None, IfSome, Result, MatchResult}
+-- Attempts to publish at a desk under its lock, and the search for a verdict on one change.
+use Rattle.std.specs.Prelude.{⊤, ◌≡◌, ◌⊎◌, All, ℕ, ◌+◌, ◌<◌, ◌≤◌, List, [], ◌∷◌, ◌++◌, length, take, Option, Some, None}
 use Rattle.fm_model.specs.declared.full.Tally.{Tally}
 use Rattle.fm_model.specs.declared.op.Op.{Op}
-use Rattle.fm_model.specs.declared.proto.Proto.{Proto}
 use Rattle.fm_model.specs.Collection.{coll, tally}
-use Rattle.dev_traits.specs.Cause.{one_more}
 use Rattle.dev_traits.specs.declared.clock.Expiry.{Expiry}
 use Rattle.dev_traits.specs.declared.clock.Expiry.TheVariants as expiries
 use Rattle.dev_traits.specs.declared.inbox.Verdict.{Verdict}
 use Rattle.dev_traits.specs.declared.inbox.Verdict.TheVariants as verdicts
-use Rattle.dev_traits.specs.Inbox.{InboxShown, with_lines}
-use Rattle.dev_traits.specs.Lines.{Tells, Told}
 use Rattle.pub_look.specs.History.{Continues, History}
-use Rattle.srv_ingest.specs.declared.attempt.Attempt.{Attempt}
-use Rattle.srv_ingest.specs.declared.attempt.Attempt.TheVariants.{Done, Again, Short}
-use Rattle.srv_ingest.specs.Lines.{lines_of}
-use Rattle.srv_ingest.specs.Verdicts.{IsNumbered, IsVerdict, taken_back}
+use Rattle.srv_verdict.specs.declared.attempt.Attempt.{Attempt}
+use Rattle.srv_verdict.specs.declared.attempt.Attempt.TheVariants.{Done, Again, Short}
+use Rattle.srv_verdict.specs.Verdicts.{IsNumbered}
 
 -- an attempt to publish an operation: the pass had not seen it and now has, and one more is counted; or nothing
 -- changed
@@ -93,28 +88,3 @@ numbers_by number (Some verdict) = number verdict
 pub record Decides (pass pass' : History) (share share' : ℕ) (published looked : List ℕ) : Type 0 where
   pub sees : Sees pass pass' published looked
   pub counted : share' ≡ share + length published
-
--- a verdict was found on a name and told, and else the inbox is as before
-pub record DecidesName (proto : Proto) (name : List ℕ) (inbox inbox' : InboxShown) (pass pass' : History)
-    (share share' : ℕ) (verdict : Verdict) : Type 0 where
-  pub is : IfSome inbox.held (λ post. IsVerdict proto pass'.seen post.content name (taken_back name) verdict)
-  pub decides : Decides pass pass' share share' (published_number verdict) (looked_number verdict)
-  pub told : Told
-  pub lines : IfSome inbox.held
-      (λ post. Tells (lines_of proto pass'.seen post.content name (taken_back name) verdict) post.lines told)
-  pub held_is : inbox'.held ≡ with_lines told inbox.held
-  pub faults_are : inbox'.faults ≡ inbox.faults
-
--- the inbox failed before there was a verdict, and nothing else changed
-pub record FailsBefore (inbox inbox' : InboxShown) (pass pass' : History) (share share' : ℕ) : Type 0 where
-  pub pass_is : pass' ≡ pass
-  pub share_is : share' ≡ share
-  pub held_is : inbox'.held ≡ inbox.held
-  pub faults_are : inbox'.faults ≡ one_more inbox.faults
-
--- a verdict was found on a name, or the inbox failed before
-abbrev pub FindsVerdict : {E : Type 0} → Proto → List ℕ → InboxShown → InboxShown → History → History → ℕ → ℕ
-    → Result Verdict E → Type 0
-FindsVerdict proto name inbox inbox' pass pass' share share' result =
-    MatchResult result (DecidesName proto name inbox inbox' pass pass' share share')
-    (λ _. FailsBefore inbox inbox' pass pass' share share')

@@ -1,6 +1,6 @@
 //! The verdict on a change.
 ghost use Rattle.std.specs.Prelude.{◌≡◌, [], IfSome};
-ghost use Rattle.srv_ingest.specs.Attempts.{Decides, HeldAfter, numbers_by, Sees};
+ghost use Rattle.srv_verdict.specs.Attempts.{Decides, HeldAfter, numbers_by, Sees};
 
 use crate::attempt::{Attempt, try_once};
 use crate::change::Change;
@@ -26,7 +26,7 @@ fn look_for<N: Name, C: Change>(alloc: Global, pass: &mut Pass<N>, change: &C) -
 
 /// Asks the desk of a seat for a change, under its lock, until it is made, or a look shows that nothing is to be done,
 /// or memory runs out. The seat then says what is held after the change.
-pub(crate) fn decide<N: Name, R: Wait, C: Change>(
+pub fn decide<N: Name, R: Wait, C: Change>(
     rt: &R,
     alloc: Global,
     seat: &mut Seat<'_, N>,

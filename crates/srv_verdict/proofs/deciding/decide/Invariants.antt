@@ -1,7 +1,7 @@
 -- No verdict was found yet: nothing was published, and no look is spoken of. The seat is the same.
 use Rattle.std.proofs.Common.{◌≡◌, []}
-use Rattle.srv_ingest.specs.Attempts.{Decides}
-use Rattle.srv_ingest.proofs.deciding.decide.Given as goal
+use Rattle.srv_verdict.specs.Attempts.{Decides}
+use Rattle.srv_verdict.proofs.deciding.decide.Given as goal
 
 abbrev pub invariant-loop : goal.invariant-loop
 invariant-loop g l =

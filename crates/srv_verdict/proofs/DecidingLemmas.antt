@@ -3,9 +3,9 @@ use Rattle.std.proofs.Common.{◌≡◌, ℕ, ◌+◌, ◌<◌, ◌≤◌, List,
 use Rattle.std.proofs.lemmas.Option.{slice_get_within}
 use Rattle.fm_model.specs.declared.op.Op.{Op}
 use Rattle.pub_look.specs.History.{History}
-use Rattle.srv_ingest.specs.Attempts.{Decides, OnlyLearnt, RiseBetween, Sees}
-use Rattle.srv_ingest.specs.Verdicts.{IsNumbered}
-use Rattle.srv_ingest.proofs.SeesLemmas.{IsPickedFrom-none, Sees-itself, Sees-then}
+use Rattle.srv_verdict.specs.Attempts.{Decides, OnlyLearnt, RiseBetween, Sees}
+use Rattle.srv_verdict.specs.Verdicts.{IsNumbered}
+use Rattle.srv_verdict.proofs.SeesLemmas.{IsPickedFrom-none, Sees-itself, Sees-then}
 
 -- the numbers that a verdict says and speaks of
 Decides-as : {a b : History} {s t : ℕ} {published published' looked looked' : List ℕ} → Decides a b s t published looked

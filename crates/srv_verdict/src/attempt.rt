@@ -2,7 +2,7 @@
 ghost use Rattle.std.specs.Prelude.{◌≡◌, length};
 ghost use Rattle.pub_look.specs.History.{Continues};
 ghost use Rattle.pub_snap.specs.Rule.{longer};
-ghost use Rattle.srv_ingest.specs.Attempts.{HeldAt, OnlyLearnt, Tried};
+ghost use Rattle.srv_verdict.specs.Attempts.{HeldAt, OnlyLearnt, Tried};
 
 use crate::change::Change;
 use fm_model::Tally;

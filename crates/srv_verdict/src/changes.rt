@@ -13,7 +13,7 @@ use std::sync::Wait;
 
 /// A file comes to the collection. Nothing is to be done where there is no room for it.
 #[derive(Drop)]
-pub(crate) struct Putting {
+pub struct Putting {
     pub file: Arc<Loaded>,
 }
 
@@ -39,8 +39,8 @@ impl Change for Putting {
     ghost use Rattle.dev_traits.specs.declared.inbox.Verdict.TheVariants as verdicts;
     ghost use Rattle.fm_model.specs.declared.op.Op.TheVariants.{Put};
     ghost use Rattle.fm_model.specs.Load.{Fits};
-    ghost use Rattle.srv_ingest.specs.Attempts.{looked_number, published_number};
-    ghost use Rattle.srv_ingest.specs.Verdicts.{IsVerdictOnFile};
+    ghost use Rattle.srv_verdict.specs.Attempts.{looked_number, published_number};
+    ghost use Rattle.srv_verdict.specs.Verdicts.{IsVerdictOnFile};
 
     ghost operation = { λ putting. Put putting.file };
 
@@ -83,7 +83,7 @@ impl Change for Putting {
 
 /// The file of a name goes. Nothing is to be done where none is held.
 #[derive(Clone, Copy)]
-pub(crate) struct Retracting<'a> {
+pub struct Retracting<'a> {
     pub name: &'a [u8],
 }
 
@@ -106,8 +106,8 @@ impl<'a> Change for Retracting<'a> {
     ghost use Rattle.std.specs.Prelude.{◌≡◌, ◌⊎◌};
     ghost use Rattle.dev_traits.specs.declared.inbox.Verdict.TheVariants as verdicts;
     ghost use Rattle.fm_model.specs.declared.op.Op.TheVariants.{Retract};
-    ghost use Rattle.srv_ingest.specs.Attempts.{looked_number, published_number};
-    ghost use Rattle.srv_ingest.specs.Verdicts.{IsVerdictOnRetraction};
+    ghost use Rattle.srv_verdict.specs.Attempts.{looked_number, published_number};
+    ghost use Rattle.srv_verdict.specs.Verdicts.{IsVerdictOnRetraction};
 
     ghost operation = { λ retracting. Retract retracting.name.now };
 
@@ -149,7 +149,7 @@ impl<'a> Change for Retracting<'a> {
 
 /// The runs below a cutoff go, in seconds from the collection's epoch. Nothing is to be done where none is held.
 #[derive(Clone, Copy)]
-pub(crate) struct Expiring {
+pub struct Expiring {
     pub cutoff: i64,
 }
 
@@ -170,8 +170,8 @@ impl Change for Expiring {
     type Verdict = Expiry;
 
     ghost use Rattle.fm_model.specs.declared.op.Op.TheVariants.{Expire};
-    ghost use Rattle.srv_ingest.specs.Attempts.{expired_number, idle_number};
-    ghost use Rattle.srv_ingest.specs.Verdicts.{IsExpiry};
+    ghost use Rattle.srv_verdict.specs.Attempts.{expired_number, idle_number};
+    ghost use Rattle.srv_verdict.specs.Verdicts.{IsExpiry};
 
     ghost operation = { λ expiring. Expire expiring.cutoff };
 

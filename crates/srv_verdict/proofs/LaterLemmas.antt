@@ -1,5 +1,5 @@
 -- A verdict stays right as more operations are seen.
-use Rattle.std.proofs.Common.{◌≡◌, ℕ, zero, suc, ℤ, ◌≤◌, List, [], ◌∷◌, ◌++◌, length, take, slice_get, Option, Some, None, Result, Ok, Err, IsSome, false, inl, inr, sym, ap, subst, ◌∙◌, arith}
+use Rattle.std.proofs.Common.{◌≡◌, ℕ, zero, suc, ℤ, ◌≤◌, List, [], ◌∷◌, ◌++◌, length, take, slice_get, Some, Result, Ok, Err, IsSome, false, sym, ap, subst, ◌∙◌, arith}
 use Rattle.std.proofs.lemmas.List.{take-append-le}
 use Rattle.std.proofs.lemmas.Option.{none-some}
 use Rattle.dev_traits.specs.declared.clock.Expiry.{Expiry}
@@ -9,13 +9,10 @@ use Rattle.dev_traits.specs.declared.inbox.Verdict.TheVariants as verdicts
 use Rattle.fm_model.specs.declared.loaded.Loaded.{Loaded}
 use Rattle.fm_model.specs.declared.op.Op.{Op}
 use Rattle.fm_model.specs.declared.op.Op.TheVariants.{Expire, Put, Retract}
-use Rattle.fm_model.specs.declared.limit.TheConstants.{MAX_FILE_BYTES}
-use Rattle.fm_model.specs.declared.proto.Proto.{Proto}
 use Rattle.fm_model.specs.Collection.{coll, full_at, holds, holds_older}
-use Rattle.dev_traits.specs.Files.{found_of}
 use Rattle.pub_look.specs.History.{Continues}
 use Rattle.pub_look.proofs.HistoryLemmas.{continues_length}
-use Rattle.srv_ingest.specs.Verdicts.{file_or_verdict, IsExpiry, IsNumbered, IsVerdict, IsVerdictOnFile, IsVerdictOnRetraction}
+use Rattle.srv_verdict.specs.Verdicts.{IsExpiry, IsNumbered, IsVerdictOnFile, IsVerdictOnRetraction}
 
 -- an item at an index stays there in a longer list
 slice_get-front : {A : Type 0} (xs ys : List A) (index : ℕ) (x : A) → slice_get xs index ≡ Some x
@@ -44,7 +41,7 @@ within-later : (ops ops' : List Op) (count : ℕ) → Continues ops ops' → cou
 within-later ops ops' count later within = omega (arith, within, continues_length ops ops' later)
 
 -- a verdict on a file stays right
-IsVerdictOnFile-later : (ops ops' : List Op) (found : Result Loaded Verdict) (verdict : Verdict) → Continues ops ops'
+pub IsVerdictOnFile-later : (ops ops' : List Op) (found : Result Loaded Verdict) (verdict : Verdict) → Continues ops ops'
     → IsVerdictOnFile ops found verdict → IsVerdictOnFile ops' found verdict
 IsVerdictOnFile-later ops ops' (Err given) verdict later is = is
 IsVerdictOnFile-later ops ops' (Ok file) (verdicts.Published number) later is =
@@ -57,7 +54,7 @@ IsVerdictOnFile-later ops ops' (Ok file) (verdicts.Full count) later is = (
 IsVerdictOnFile-later ops ops' (Ok file) verdict later is = absurd is
 
 -- a verdict on a retraction stays right
-IsVerdictOnRetraction-later : (ops ops' : List Op) (name : List ℕ) (verdict : Verdict) → Continues ops ops'
+pub IsVerdictOnRetraction-later : (ops ops' : List Op) (name : List ℕ) (verdict : Verdict) → Continues ops ops'
     → IsVerdictOnRetraction ops name verdict → IsVerdictOnRetraction ops' name verdict
 IsVerdictOnRetraction-later ops ops' name (verdicts.Published number) later is =
     IsNumbered-later ops ops' number (Retract name) later is
@@ -67,21 +64,6 @@ IsVerdictOnRetraction-later ops ops' name (verdicts.NotHeld count) later is = (
       (take-later ops ops' count later is.0) is.1,
 )
 IsVerdictOnRetraction-later ops ops' name verdict later is = absurd is
-
--- a verdict on a name stays right
-pub IsVerdict-later : (proto : Proto) (ops ops' : List Op) (content : List ℕ → Option (List ℕ)) (name : List ℕ)
-    (back : Option (List ℕ)) (verdict : Verdict) → Continues ops ops'
-    → IsVerdict proto ops content name back verdict → IsVerdict proto ops' content name back verdict
-unfolding IsVerdict
-IsVerdict-later proto ops ops' content name (Some back) verdict later is = elim is [
-  | inl short ↦ inl short
-  | inr right ↦ inr (IsVerdictOnRetraction-later ops ops' back verdict later right)
-]
-IsVerdict-later proto ops ops' content name None verdict later is = elim is [
-  | inl short ↦ inl short
-  | inr right ↦ inr (IsVerdictOnFile-later ops ops'
-      (file_or_verdict proto name (found_of MAX_FILE_BYTES (content name))) verdict later right)
-]
 
 -- a verdict on a moment stays right
 pub IsExpiry-later : (ops ops' : List Op) (cutoff : ℤ) (verdict : Expiry) → Continues ops ops'

@@ -3,7 +3,7 @@ ghost use Rattle.std.specs.Prelude.{◌≡◌, ◌+◌, ◌≤◌, ◌∷◌, �
 ghost use Rattle.fm_edition.specs.Log.{held_of};
 ghost use Rattle.fm_model.specs.declared.op.Op.{Op as Operation};
 ghost use Rattle.fm_model.specs.declared.proto.Proto.{Proto as Prototype};
-ghost use Rattle.srv_ingest.specs.Verdicts.{IsNumbered};
+ghost use Rattle.srv_verdict.specs.Verdicts.{IsNumbered};
 
 use fm_base::NoMemory;
 use pub_look::Query;
@@ -13,7 +13,7 @@ use std::sync::Wait;
 
 /// A change that is asked of a collection: an operation, the question whether nothing is to be done, and the verdict.
 /// As a `Query` it asks whether there is no room for the file that would come, or nothing that would go.
-pub(crate) trait Change: Query<Out = bool> {
+pub trait Change: Query<Out = bool> {
     type Verdict: Copy;
 
     /// The operation.

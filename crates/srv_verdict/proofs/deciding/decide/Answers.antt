@@ -1,9 +1,9 @@
 -- Nothing was done before the first turn, and each turn goes on from what those before it did: an attempt published the
 -- operation, or changed nothing; then a look was made where memory lasted.
 use Rattle.std.proofs.Common.{refl}
-use Rattle.srv_ingest.proofs.DecidingLemmas.{Decides-after, Decides-done, Decides-itself, Decides-looked, Decides-unchanged}
-use Rattle.srv_ingest.proofs.HeldLemmas.{HeldAfter-none, HeldAfter-one}
-use Rattle.srv_ingest.proofs.deciding.decide.Goals as goal
+use Rattle.srv_verdict.proofs.DecidingLemmas.{Decides-after, Decides-done, Decides-itself, Decides-looked, Decides-unchanged}
+use Rattle.srv_verdict.proofs.HeldLemmas.{HeldAfter-none, HeldAfter-one}
+use Rattle.srv_verdict.proofs.deciding.decide.Goals as goal
 
 pub loop-init : goal.loop-init
 loop-init g c = (tt, tt, Decides-itself, refl, refl)

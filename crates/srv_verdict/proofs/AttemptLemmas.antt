@@ -4,10 +4,10 @@ use Rattle.fm_base.proofs.ListLemmas.{slice_get-push}
 use Rattle.fm_model.specs.declared.op.Op.{Op}
 use Rattle.pub_look.specs.History.{Continues, History}
 use Rattle.pub_snap.specs.Rule.{longer}
-use Rattle.srv_ingest.specs.declared.attempt.Attempt.{Attempt}
-use Rattle.srv_ingest.specs.declared.attempt.Attempt.TheVariants.{Done}
-use Rattle.srv_ingest.specs.Attempts.{OnlyLearnt, Tried}
-use Rattle.srv_ingest.specs.Verdicts.{IsNumbered}
+use Rattle.srv_verdict.specs.declared.attempt.Attempt.{Attempt}
+use Rattle.srv_verdict.specs.declared.attempt.Attempt.TheVariants.{Done}
+use Rattle.srv_verdict.specs.Attempts.{OnlyLearnt, Tried}
+use Rattle.srv_verdict.specs.Verdicts.{IsNumbered}
 
 -- the last operation has the length for its number
 IsNumbered-last : (ops : List Op) (op : Op) → IsNumbered (ops ++ op ∷ []) (length (ops ++ op ∷ [])) op
