@@ -3,19 +3,16 @@ ghost use Rattle.std.specs.Prelude.{◌≡◌, ◌≤◌, ◌<◌, [], replicate
 ghost use Rattle.fm_model.specs.Site.{IsPrototype};
 ghost use Rattle.left_right.specs.Sides.{view};
 ghost use Rattle.pub_snap.specs.Opening.{unused, IsNamed};
-ghost use Rattle.pub_snap.specs.Rule.{IsOf};
+ghost use Rattle.pub_pass.specs.Copies.{IsOf};
 
 use crate::desk::Desk;
-use crate::log::{Front, Page, open};
-use crate::name::Name;
-use crate::pass::Pass;
 use crate::share::{Share, cut};
-use crate::shown::Shown;
 use crate::swap::Board;
 use fm_base::{Arc, List, NoMemory};
 use fm_edition::Edition;
 use fm_model::Proto;
 use left_right::writer::Writer;
+use pub_pass::{Front, Name, Page, Pass, Shown, open};
 use std::alloc::Global;
 use std::marker::Model;
 use std::sync::ledger;

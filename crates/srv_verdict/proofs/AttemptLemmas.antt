@@ -3,7 +3,7 @@ use Rattle.std.proofs.Common.{◌≡◌, ℕ, ◌+◌, ◌≤◌, List, [], ◌�
 use Rattle.fm_base.proofs.ListLemmas.{slice_get-push}
 use Rattle.fm_model.specs.declared.op.Op.{Op}
 use Rattle.pub_look.specs.History.{Continues, History}
-use Rattle.pub_snap.specs.Rule.{longer}
+use Rattle.pub_pass.specs.Copies.{longer}
 use Rattle.srv_verdict.specs.declared.attempt.Attempt.{Attempt}
 use Rattle.srv_verdict.specs.declared.attempt.Attempt.TheVariants.{Done}
 use Rattle.srv_verdict.specs.Attempts.{OnlyLearnt, Tried}

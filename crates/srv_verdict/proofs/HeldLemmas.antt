@@ -6,7 +6,7 @@ use Rattle.fm_model.specs.declared.full.Tally.{Tally}
 use Rattle.fm_model.specs.declared.op.Op.{Op}
 use Rattle.fm_model.specs.Collection.{coll, tally}
 use Rattle.pub_look.specs.History.{History}
-use Rattle.pub_snap.specs.Rule.{longer}
+use Rattle.pub_pass.specs.Copies.{longer}
 use Rattle.srv_verdict.specs.declared.attempt.Attempt.{Attempt}
 use Rattle.srv_verdict.specs.declared.attempt.Attempt.TheVariants.{Done}
 use Rattle.srv_verdict.specs.Attempts.{HeldAfter, HeldAt}

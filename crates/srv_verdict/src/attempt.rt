@@ -1,7 +1,7 @@
 //! An attempt to publish at a desk.
 ghost use Rattle.std.specs.Prelude.{◌≡◌, length};
 ghost use Rattle.pub_look.specs.History.{Continues};
-ghost use Rattle.pub_snap.specs.Rule.{longer};
+ghost use Rattle.pub_pass.specs.Copies.{longer};
 ghost use Rattle.srv_verdict.specs.Attempts.{HeldAt, OnlyLearnt, Tried};
 
 use crate::change::Change;
