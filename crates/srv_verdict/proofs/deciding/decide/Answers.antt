@@ -1,6 +1,6 @@
 -- Nothing was done before the first turn, and each turn goes on from what those before it did: an attempt published the
 -- operation, or changed nothing; then a look was made where memory lasted.
-use Rattle.std.proofs.Common.{refl}
+use Rattle.std.proofs.Common.{refl, ◌∙◌}
 use Rattle.srv_verdict.proofs.DecidingLemmas.{Decides-after, Decides-done, Decides-itself, Decides-looked, Decides-unchanged}
 use Rattle.srv_verdict.proofs.HeldLemmas.{HeldAfter-none, HeldAfter-one}
 use Rattle.srv_verdict.proofs.deciding.decide.Goals as goal
@@ -48,6 +48,6 @@ loop-preserved g c =
       tt,
       tt,
       Decides-after c.loop.invariant.2 (Decides-looked tried.0 tried.1 looked.sees looked.unpublished refl),
-      c.loop.invariant.3,
-      c.loop.invariant.4,
+      c.ask_under_lock.ensures.same.0 ∙ c.loop.invariant.3,
+      c.ask_under_lock.ensures.same.1 ∙ c.loop.invariant.4,
     )
