@@ -92,12 +92,12 @@ BODIES = [
         "                leave(session, doing);\n"
         "                return Err(NoMemory);\n"
         "            }\n")),
-    Body("a_name_that_changed_meanwhile", "srv_ingest/src/deciding.rt", *instead(
+    Body("a_name_that_changed_meanwhile", "srv_verdict/src/deciding.rt", *instead(
         "        Ok((false, _)) => None,\n", "        Ok((false, _)) => Some(change.when_short()),\n")),
     Body("no_spare_room_at_a_desk", "pub_snap/src/desk.rt", *instead(
         "            level: false,\n", "            level: true,\n"), first=("publisher",)),
     # Two that go wrong once memory runs out.
-    Body("a_change_is_tried_until_there_is_memory", "srv_ingest/src/deciding.rt", *instead(
+    Body("a_change_is_tried_until_there_is_memory", "srv_verdict/src/deciding.rt", *instead(
         "            Attempt::Short => return change.when_short(),\n", "            Attempt::Short => {}\n"),
         first=("memory",)),
     Body("a_file_takes_memory_of_the_limit", "dev_std/src/content.rt", *instead(

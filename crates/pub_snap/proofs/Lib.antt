@@ -1,4 +1,2 @@
-pub mod Adding
-pub mod Beginnings
 pub mod Keeping
 pub mod RuleLemmas

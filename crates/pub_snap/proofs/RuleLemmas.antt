@@ -13,10 +13,12 @@ use Rattle.fm_edition.specs.Log.{held_of, CanFollow, IsLog}
 use Rattle.fm_edition.proofs.EditionLemmas.{IsLog-push}
 use Rattle.pub_look.specs.History.{Continues, Keeps}
 use Rattle.pub_look.proofs.HistoryLemmas.{continues_on, continues_itself}
-use Rattle.pub_snap.specs.declared.rule.Known.{Known}
-use Rattle.pub_snap.specs.Rule.{longer, AllKnown, IsKept, IsShown, Publication}
+use Rattle.pub_pass.specs.declared.rule.Known.{Known}
+use Rattle.pub_pass.specs.Copies.{longer, IsShown}
+use Rattle.pub_pass.proofs.Entering.{comes, enters, newcomer_begins}
+use Rattle.pub_snap.specs.Rule.{AllKnown, IsKept, Publication}
 use Rattle.pub_snap.specs.Steps.{caught_up, copy_of, entered, looks_after, opened, published, receipted, seat_after, unseated, with_learnt, with_seat}
-use Rattle.pub_snap.proofs.Keeping.{comes, enters, newcomer_begins, shows}
+use Rattle.pub_snap.proofs.Keeping.{shows}
 
 -- what a log leaves stands for it
 keeps_log : (proto : Proto) (log : List Op) → IsPrototype proto → IsLog proto log → Keeps (held_of proto log) log

@@ -1,8 +1,8 @@
 -- The values that a desk, its passes and its shares are opened with.
-use Rattle.std.specs.Prelude.{◌≡◌, ℕ, [], pos}
+use Rattle.std.specs.Prelude.{◌≡◌, ℕ}
 use Rattle.logbook.specs.Pages.{Book}
 use Rattle.fm_model.specs.declared.proto.Proto.{Proto}
-use Rattle.pub_look.specs.History.{History}
+pub use Rattle.pub_pass.specs.Opening.{no_proto, unused}
 
 -- the book of the log, the name of the ledger, the prototype, and the numbers of passes and shares
 pub record Opening : Type 0 where
@@ -18,11 +18,3 @@ pub record IsNamed (opening : Opening) (book : Book) (ledger : ℕ) (proto : Pro
   pub ledger_is : opening.ledger ≡ ledger
   pub proto_is : opening.proto ≡ proto
   pub parts_are : opening.shares ≡ parts
-
--- a pass that has seen nothing
-abbrev pub unused : Proto → History
-unused proto = record { proto = proto; seen = []; looks = [] }
-
--- the prototype of a desk that no proof has named
-abbrev pub no_proto : Proto
-no_proto = record { site = record { name = []; epoch = pos 0; mark = [] }; axis = []; dims = []; attrs = []; vars = [] }

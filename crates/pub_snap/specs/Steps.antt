@@ -4,8 +4,9 @@ use Rattle.logbook.specs.Pages.{Book}
 use Rattle.fm_model.specs.declared.op.Op.{Op}
 use Rattle.fm_model.specs.declared.proto.Proto.{Proto}
 use Rattle.fm_edition.specs.Log.{held_of}
-use Rattle.pub_snap.specs.declared.rule.Known.{Known}
-use Rattle.pub_snap.specs.Rule.{longer, Copy, Publication}
+use Rattle.pub_pass.specs.declared.rule.Known.{Known}
+use Rattle.pub_pass.specs.Copies.{longer, Copy}
+use Rattle.pub_snap.specs.Rule.{Publication}
 
 -- the copy that stands for a log
 abbrev pub copy_of : Book → Proto → List Op → Copy

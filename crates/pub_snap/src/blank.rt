@@ -1,21 +1,18 @@
 //! Opening a desk with its passes and shares.
-ghost use Rattle.std.specs.Prelude.{◌≡◌, ◌≤◌, ◌<◌, [], replicate, IfOk};
+ghost use Rattle.std.specs.Prelude.{◌≡◌, ◌≤◌, ◌<◌, [], replicate, IfOk, OnOk};
 ghost use Rattle.fm_model.specs.Site.{IsPrototype};
 ghost use Rattle.left_right.specs.Sides.{view};
 ghost use Rattle.pub_snap.specs.Opening.{unused, IsNamed};
-ghost use Rattle.pub_snap.specs.Rule.{IsOf};
+ghost use Rattle.pub_pass.specs.Copies.{IsOf};
 
 use crate::desk::Desk;
-use crate::log::{Front, Page, open};
-use crate::name::Name;
-use crate::pass::Pass;
 use crate::share::{Share, cut};
-use crate::shown::Shown;
 use crate::swap::Board;
 use fm_base::{Arc, List, NoMemory};
 use fm_edition::Edition;
 use fm_model::Proto;
 use left_right::writer::Writer;
+use pub_pass::{Front, Name, Page, Pass, Shown, open};
 use std::alloc::Global;
 use std::marker::Model;
 use std::sync::ledger;
@@ -93,16 +90,36 @@ impl Blank {
             ledger,
         } = self;
         let (total, mut rest) = ledger.open::<N>();
-        let shares = cut(alloc, &mut rest, shares)?;
-        let mut seats = unseated(alloc, first.front(), passes)?;
         let front = first.front().again();
-        // A writer ends by waiting alone, so nothing may fail once it is there. Each call of the desk that publishes
-        // asks for the room that it needs.
-        let board = board_of(alloc, first, passes)?;
-        seat_all(&board, seats.items.as_mut_slice());
+        let (board, seats, shares) = seated(alloc, first, passes, &mut rest, shares)?;
         let desk = Desk::of(board, page, front, total, rest, List::new(alloc));
         Ok((desk, seats, shares))
     }
+}
+
+// The writer, the passes with their seats, and the shares. A writer ends by waiting alone, so nothing may fail once it
+// is there. Each call of the desk that publishes asks for the room that it needs.
+fn seated<N: Name>(
+    alloc: Global,
+    first: Shown,
+    passes: u32,
+    rest: &mut ledger::Share<N>,
+    shares: u32,
+) -> Result<(Board<N>, List<Pass<N>>, List<Share<N>>), NoMemory>
+    requires of { (first.book ≡ N.book) × (first.held.proto ≡ N.proto) × (first.log ≡ []) }
+    requires passes { (0 < passes) × (passes ≤ 25) }
+    requires rest { (rest.old.parts ≡ shares) × (rest.old.amount ≡ 0) }
+    ensures shown { IfOk result (λ seated. seated.0.desk.shown.value ≡ first) }
+    ensures seen { IfOk result (λ seated. (view seated.0.desk.place).seen ≡ []) }
+    ensures passes { IfOk result (λ seated. seated.1 ≡ replicate passes (unused N.proto)) }
+    ensures shares { IfOk result (λ seated. seated.2 ≡ replicate shares 0) }
+    ensures rest { OnOk result ((rest.new.parts ≡ 0) × (rest.new.amount ≡ 0)) }
+{
+    let shares = cut(alloc, rest, shares)?;
+    let mut seats = unseated(alloc, first.front(), passes)?;
+    let board = board_of(alloc, first, passes)?;
+    seat_all(&board, seats.items.as_mut_slice());
+    Ok((board, seats, shares))
 }
 
 // A writer of two copies that hold the same, for `readers` readers.

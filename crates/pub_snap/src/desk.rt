@@ -3,18 +3,16 @@ ghost use Rattle.std.specs.Prelude.{◌≡◌, [], length, sum};
 ghost use Rattle.fm_model.specs.Collection.{coll, tally};
 ghost use Rattle.left_right.specs.Sides.{view};
 ghost use Rattle.pub_look.specs.History.{Keeps};
-ghost use Rattle.pub_snap.specs.Rule.{IsOf};
+ghost use Rattle.pub_pass.specs.Copies.{IsOf};
 
 mod publishing;
 
-use crate::log::{Front, Page};
-use crate::name::Name;
-use crate::receipt::Receipt;
 use crate::share::{Share, count_all};
 use crate::swap::Board;
 use fm_base::{Bytes, List};
 use fm_edition::Edition;
 use fm_model::Tally;
+use pub_pass::{Front, Name, Page, Receipt};
 use std::marker::Model;
 use std::sync::{Wait, ledger};
 
@@ -36,8 +34,9 @@ impl<N: Name> Model for Desk<N> {
     ghost use Rattle.std.specs.Prelude.{◌≡◌, length, List, IsSomeAnd};
     ghost use Rattle.fm_model.specs.declared.op.Op.{Op as Operation};
     ghost use Rattle.left_right.specs.Sides.{view as view_of};
-    ghost use Rattle.pub_snap.specs.declared.rule.Known.{Known};
-    ghost use Rattle.pub_snap.specs.Rule.{IsAtDesk, IsOf};
+    ghost use Rattle.pub_pass.specs.declared.rule.Known.{Known};
+    ghost use Rattle.pub_pass.specs.Copies.{IsOf};
+    ghost use Rattle.pub_snap.specs.Rule.{IsAtDesk};
 
     ghost Value = { List Operation };
 

@@ -8,7 +8,7 @@ ghost use Rattle.fm_model.specs.declared.proto.Proto.{Proto};
 ghost use Rattle.fm_model.specs.Collection.{coll};
 ghost use Rattle.fm_model.specs.Site.{IsPrototype};
 ghost use Rattle.fm_edition.specs.Log.{CanFollow};
-ghost use Rattle.pub_snap.specs.declared.rule.Known.{Known};
+ghost use Rattle.pub_pass.specs.declared.rule.Known.{Known};
 ghost use Rattle.pub_snap.specs.Rule.{IsKept, Publication};
 ghost use Rattle.pub_snap.specs.Steps.{caught_up, entered, opened, published, receipted, with_learnt, with_seat};
 

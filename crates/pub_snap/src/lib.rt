@@ -4,18 +4,10 @@
 mod blank;
 mod desk;
 pub mod laws;
-mod log;
-mod name;
-mod pass;
-mod receipt;
-mod rule;
 mod share;
-mod shown;
 mod swap;
 
 pub use blank::{Blank, prepare};
 pub use desk::{Closed, Desk};
-pub use name::Name;
-pub use pass::Pass;
-pub use receipt::Receipt;
+pub use pub_pass::{Name, Pass, Receipt};
 pub use share::Share;

@@ -1,8 +1,8 @@
 //! The operations that one publisher has published.
 ghost use Rattle.std.specs.Prelude.{◌≡◌, ◌+◌, ◌<◌, ◌^◌, length, replicate, sum, IfOk, OnOk};
 
-use crate::name::Name;
 use fm_base::{List, NoMemory};
+use pub_pass::Name;
 use std::alloc::Global;
 use std::marker::Model;
 use std::sync::ledger;

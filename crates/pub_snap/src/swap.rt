@@ -2,18 +2,27 @@
 ghost use Rattle.std.specs.Prelude.{◌≡◌, ℕ, List, drop, IsSome, IsSomeAnd};
 ghost use Rattle.fm_model.specs.declared.op.Op.{Op};
 ghost use Rattle.left_right.specs.Sides.{view};
-ghost use Rattle.pub_snap.specs.Rule.{Copy, EndsWith, Follows, IsAtDesk, MayFollow};
+ghost use Rattle.pub_pass.specs.Copies.{Copy};
+ghost use Rattle.pub_snap.specs.Rule.{EndsWith, Follows, IsAtDesk, MayFollow};
 
-use crate::name::Name;
-use crate::rule::{Known, Publication, Publishes};
-use crate::shown::Shown;
+use crossbeam_utils::rule::Outcome;
 use fm_base::NoMemory;
 use left_right::writer::Writer;
+use pub_pass::{Known, Name, Publication, Shown};
 use std::mem;
 use std::sync::Wait;
 
 // The writer under the rule.
 pub(crate) type Board<N> = Writer<Shown, Shown, Known, Publication<N>>;
+
+// Showing the other copy: the writer has seen all that it stands for.
+pub struct Publishes;
+
+impl Outcome<Shown, Known> for Publishes {
+    ghost use Rattle.std.specs.Prelude.{◌≡◌};
+
+    ghost then = { λ _ _ shown after. after.seen ≡ shown.log };
+}
 
 // Shows the next copy, whose log goes on from the one that is shown. It waits until it has done so, and takes no memory
 // where there is room for one more copy.

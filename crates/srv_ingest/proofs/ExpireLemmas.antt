@@ -10,12 +10,12 @@ use Rattle.dev_traits.proofs.TellLemmas.{Tells-none, Tells-then}
 use Rattle.dev_traits.specs.Door.{first_of}
 use Rattle.dev_traits.specs.Cause.{capped, one_more}
 use Rattle.pub_look.specs.History.{History}
-use Rattle.srv_ingest.specs.Attempts.{expired_number, idle_number, Sees}
+use Rattle.srv_verdict.specs.Attempts.{expired_number, idle_number, Sees}
 use Rattle.srv_ingest.specs.Expires.{expired_numbers, idle_numbers, is_expired, IsRightAt, is_short_moment, line_at, SettledMoment}
 use Rattle.srv_ingest.specs.Turns.{SettlesMoment}
 use Rattle.srv_ingest.specs.Verdicts.{cutoff_at}
-use Rattle.srv_ingest.proofs.LaterLemmas.{IsExpiry-later}
-use Rattle.srv_ingest.proofs.SeesLemmas.{Sees-itself, Sees-then}
+use Rattle.srv_verdict.proofs.LaterLemmas.{IsExpiry-later}
+use Rattle.srv_verdict.proofs.SeesLemmas.{Sees-itself, Sees-then}
 use Rattle.srv_ingest.proofs.MomentCounts.{count-more, expired-one, lines-more, numbers-more, short-one}
 
 -- these moments were the next of a clock, and were settled

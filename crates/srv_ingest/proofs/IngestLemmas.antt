@@ -1,5 +1,5 @@
 -- The names that were settled so far, and one more.
-use Rattle.std.proofs.Common.{◌≡◌, ℕ, All, List, [], ◌∷◌, ◌++◌, map, Option, Some, None, IfSome, IsSomeAnd, option_to_list, flat_map, refl, sym, ap, ap₂, subst, ◌∙◌, append_assoc, append-nil}
+use Rattle.std.proofs.Common.{◌≡◌, ℕ, All, List, [], ◌∷◌, ◌++◌, map, Option, Some, None, IfSome, IsSomeAnd, option_to_list, flat_map, inl, inr, refl, sym, ap, ap₂, subst, ◌∙◌, append_assoc, append-nil}
 use Rattle.std.proofs.lemmas.List.{map-append}
 use Rattle.std.proofs.lemmas.List.Elements.{All-append, All-weaker}
 use Rattle.std.proofs.lemmas.Grind.{flat_map-append}
@@ -8,16 +8,33 @@ use Rattle.dev_traits.specs.declared.inbox.Verdict.{Verdict}
 use Rattle.dev_traits.specs.Door.{first_of}
 use Rattle.dev_traits.specs.Inbox.{after_next, after_settle, inbox_lines, Post, with_lines}
 use Rattle.dev_traits.specs.Lines.{Tells, Told}
+use Rattle.dev_traits.specs.Files.{found_of}
+use Rattle.fm_model.specs.declared.limit.TheConstants.{MAX_FILE_BYTES}
 use Rattle.fm_model.specs.declared.op.Op.{Op}
 use Rattle.fm_model.specs.declared.proto.Proto.{Proto}
 use Rattle.pub_look.specs.History.{Continues, History}
-use Rattle.srv_ingest.specs.Attempts.{looked_number, published_number, Sees}
+use Rattle.srv_verdict.specs.Attempts.{looked_number, published_number, Sees}
+use Rattle.srv_verdict.proofs.LaterLemmas.{IsVerdictOnFile-later, IsVerdictOnRetraction-later}
+use Rattle.srv_verdict.proofs.SeesLemmas.{Sees-itself, Sees-then}
 use Rattle.srv_ingest.specs.Ingests.{AllRight, IsRight, line_on, looked_numbers, MovesOn, MovesIn, published_numbers, Settled, Settlement, TellsAll}
-use Rattle.srv_ingest.specs.Verdicts.{taken_back}
-use Rattle.srv_ingest.proofs.LaterLemmas.{IsVerdict-later}
+use Rattle.srv_ingest.specs.Verdicts.{file_or_verdict, IsVerdict, taken_back}
 use Rattle.srv_ingest.proofs.LineLemmas.{TellsAll-later, TellsAll-none, TellsAll-one, TellsAll-then}
-use Rattle.srv_ingest.proofs.SeesLemmas.{Sees-itself, Sees-then}
 use Rattle.srv_ingest.proofs.TurnLemmas.{AllRight-none, AllRight-one, first-is, lines-itself, MovesIn-itself, Sees-one}
+
+-- a verdict on a name stays right
+pub IsVerdict-later : (proto : Proto) (ops ops' : List Op) (content : List ℕ → Option (List ℕ)) (name : List ℕ)
+    (back : Option (List ℕ)) (verdict : Verdict) → Continues ops ops'
+    → IsVerdict proto ops content name back verdict → IsVerdict proto ops' content name back verdict
+unfolding IsVerdict
+IsVerdict-later proto ops ops' content name (Some back) verdict later is = elim is [
+  | inl short ↦ inl short
+  | inr right ↦ inr (IsVerdictOnRetraction-later ops ops' back verdict later right)
+]
+IsVerdict-later proto ops ops' content name None verdict later is = elim is [
+  | inl short ↦ inl short
+  | inr right ↦ inr (IsVerdictOnFile-later ops ops'
+      (file_or_verdict proto name (found_of MAX_FILE_BYTES (content name))) verdict later right)
+]
 
 -- the names that are left, where some were settled and then others
 left-then : (xs ys : List Settlement) (end names names' names'' : List (List ℕ))

@@ -1,5 +1,5 @@
 -- The lines of verdicts, as more operations are seen, and of several verdicts.
-use Rattle.std.proofs.Common.{◌≡◌, ◌⊎◌, inl, inr, ℕ, All, List, [], ◌∷◌, ◌++◌, Option, Some, None, Result, Ok, Err, IfSome, flat_map, refl, sym, ap, ap₂, subst, append-nil}
+use Rattle.std.proofs.Common.{◌≡◌, ◌⊎◌, inl, inr, ℕ, All, List, [], ◌∷◌, ◌++◌, Option, Some, None, Result, Ok, Err, IfSome, take, flat_map, refl, sym, ap, ap₂, subst, append-nil}
 use Rattle.std.proofs.lemmas.List.Concat.{flat_map-append}
 use Rattle.std.proofs.lemmas.List.Elements.{All-head, All-tail}
 use Rattle.dev_traits.specs.declared.inbox.Verdict.{Verdict}
@@ -8,6 +8,7 @@ use Rattle.dev_traits.specs.Inbox.{inbox_lines, Post}
 use Rattle.dev_traits.specs.Lines.{Tells, Told}
 use Rattle.dev_traits.specs.Files.{found_of}
 use Rattle.dev_traits.proofs.TellLemmas.{Tells-none, Tells-then}
+use Rattle.fm_model.specs.declared.full.Tally.{Tally}
 use Rattle.fm_model.specs.declared.limit.TheConstants.{MAX_FILE_BYTES}
 use Rattle.fm_model.specs.declared.loaded.Loaded.{Loaded}
 use Rattle.fm_model.specs.declared.op.Op.{Op}
@@ -15,12 +16,28 @@ use Rattle.fm_model.specs.declared.op.Op.TheVariants.{Put}
 use Rattle.fm_model.specs.declared.proto.Proto.{Proto}
 use Rattle.fm_model.specs.Collection.{coll, tally}
 use Rattle.pub_look.specs.History.{Continues}
+use Rattle.srv_verdict.specs.Attempts.{HeldAfter, published_number}
+use Rattle.srv_verdict.specs.Verdicts.{IsVerdictOnFile}
+use Rattle.srv_verdict.proofs.DecidingLemmas.{IsNumbered-within}
+use Rattle.srv_verdict.proofs.LaterLemmas.{take-later}
 use Rattle.srv_ingest.specs.declared.file.Refusal.{Refusal}
 use Rattle.srv_ingest.specs.Ingests.{AllRight, IsRight, line_on, MovesIn, Settlement, TellsAll}
-use Rattle.srv_ingest.specs.Lines.{back_lines, file_lines, later_line, lines_of, put_lines}
-use Rattle.srv_ingest.specs.Verdicts.{file_or_refusal, IsVerdict, IsVerdictOnFile, taken_back, unless_refused}
-use Rattle.srv_ingest.proofs.DecidingLemmas.{IsNumbered-within}
-use Rattle.srv_ingest.proofs.LaterLemmas.{take-later}
+use Rattle.srv_ingest.specs.Lines.{back_lines, file_lines, held_after, later_line, lines_of, put_lines}
+use Rattle.srv_ingest.specs.Verdicts.{file_or_refusal, IsVerdict, taken_back, unless_refused}
+
+-- the line of a verdict says what is held after its operation
+pub put_lines-held : (ops : List Op) (name : List ℕ) (held : Tally) (verdict : Verdict)
+    → HeldAfter ops held (published_number verdict)
+    → put_lines name held verdict ≡ put_lines name (held_after ops verdict) verdict
+unfolding put_lines
+put_lines-held ops name held (verdicts.Published number) all =
+    ap (λ (h : Tally). put_lines name h (verdicts.Published number))
+    (All-head (λ (n : ℕ). held ≡ tally (coll (take n ops))) number [] all)
+put_lines-held ops name held (verdicts.Full count) all = refl
+put_lines-held ops name held (verdicts.Refused code) all = refl
+put_lines-held ops name held (verdicts.NotHeld count) all = refl
+put_lines-held ops name held verdicts.Gone all = refl
+put_lines-held ops name held verdicts.Short all = refl
 
 -- the line that memory ran out at a name
 pub lines_of-short : (proto : Proto) (ops : List Op) (content : List ℕ → Option (List ℕ)) (name : List ℕ)

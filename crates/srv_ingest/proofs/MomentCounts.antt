@@ -5,7 +5,7 @@ use Rattle.std.proofs.lemmas.Grind.{flat_map-append}
 use Rattle.dev_traits.specs.declared.clock.Expiry.{Expiry}
 use Rattle.dev_traits.specs.declared.clock.Expiry.TheVariants as kinds
 use Rattle.dev_traits.specs.Cause.{capped, one_more}
-use Rattle.srv_ingest.specs.Attempts.{expired_number}
+use Rattle.srv_verdict.specs.Attempts.{expired_number}
 use Rattle.srv_ingest.specs.Expires.{is_expired, is_short_moment, SettledMoment}
 
 -- the numbers of one moment more

@@ -6,11 +6,12 @@ use Rattle.dev_traits.specs.Clock.{after_moment, after_verdict, clock_lines, Mom
 use Rattle.dev_traits.specs.Lines.{Tells, Told}
 use Rattle.dev_traits.specs.Door.{first_of}
 use Rattle.pub_look.specs.History.{History}
-use Rattle.srv_ingest.specs.Attempts.{Decides, expired_number, idle_number}
+use Rattle.srv_verdict.specs.Attempts.{Decides, expired_number, idle_number}
 use Rattle.srv_ingest.specs.Lines.{expiry_lines, moment_lines, shown_instant}
 use Rattle.srv_ingest.specs.Telling.{TellsClock}
 use Rattle.srv_ingest.specs.Turns.{HasNoMoment, SettlesMoment}
-use Rattle.srv_ingest.specs.Verdicts.{cutoff_at, IsExpiry}
+use Rattle.srv_verdict.specs.Verdicts.{IsExpiry}
+use Rattle.srv_ingest.specs.Verdicts.{cutoff_at}
 
 -- a clock that gave no moment is as before
 pub HasNoMoment-none : (clock clock' : Option Moments) (pass : History) (share : ℕ)

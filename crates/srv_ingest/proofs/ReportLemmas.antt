@@ -3,7 +3,7 @@ use Rattle.std.proofs.Common.{◌≡◌, ℕ, ◌+◌, List, length, Option, Som
 use Rattle.dev_traits.specs.declared.inbox.Verdict.{Verdict}
 use Rattle.dev_traits.specs.declared.inbox.Verdict.TheVariants as kinds
 use Rattle.srv_ingest.specs.declared.report.IngestReport.{IngestReport}
-use Rattle.srv_ingest.specs.Attempts.{published_number}
+use Rattle.srv_verdict.specs.Attempts.{published_number}
 use Rattle.srv_ingest.specs.Turns.{operations, with_published, with_settled}
 
 -- a report with one more name that became an operation counts one operation more

@@ -11,16 +11,16 @@ use Rattle.fm_model.specs.declared.op.Op.{Op}
 use Rattle.fm_model.specs.declared.proto.Proto.{Proto}
 use Rattle.dev_traits.specs.Cause.{one_more}
 use Rattle.pub_look.specs.History.{History}
+use Rattle.srv_verdict.specs.Attempts.{looked_number, published_number, Sees}
+use Rattle.srv_verdict.proofs.SeesLemmas.{Sees-itself}
 use Rattle.srv_ingest.specs.declared.report.IngestEnd.{IngestEnd}
 use Rattle.srv_ingest.specs.declared.report.IngestEnd.TheVariants as ends
 use Rattle.srv_ingest.specs.declared.report.IngestReport.{IngestReport}
-use Rattle.srv_ingest.specs.Attempts.{DecidesName, FailsBefore, looked_number, published_number, Sees}
 use Rattle.srv_ingest.specs.Ingests.{AllRight, EndsIngest, IsRight, line_on, looked_numbers, MovesOn, MovesIn, published_numbers, Settlement}
 use Rattle.srv_ingest.specs.Lines.{lines_of}
-use Rattle.srv_ingest.specs.Turns.{SettlesNext, StopsNext, with_published, with_settled}
+use Rattle.srv_ingest.specs.Turns.{DecidesName, FailsBefore, SettlesNext, StopsNext, with_published, with_settled}
 use Rattle.srv_ingest.specs.Verdicts.{IsVerdict, taken_back}
 use Rattle.srv_ingest.proofs.LineLemmas.{TellsAll-none, TellsAll-one}
-use Rattle.srv_ingest.proofs.SeesLemmas.{Sees-itself}
 use Rattle.srv_ingest.proofs.ReportLemmas.{operations-published, operations-settled}
 
 -- an inbox of which nothing was taken

@@ -12,15 +12,16 @@ use Rattle.fm_model.specs.declared.proto.Proto.{Proto}
 use Rattle.dev_traits.specs.declared.files.Found.{Found}
 use Rattle.dev_traits.specs.Files.{found_of}
 use Rattle.pub_look.specs.History.{History}
+use Rattle.srv_verdict.specs.Attempts.{Decides, HeldAfter, looked_number, published_number}
+use Rattle.srv_verdict.specs.Verdicts.{IsVerdictOnFile, IsVerdictOnRetraction}
+use Rattle.srv_verdict.proofs.DecidingLemmas.{Decides-itself}
 use Rattle.srv_ingest.specs.declared.file.Refusal.{Refusal}
 use Rattle.srv_ingest.specs.declared.file.Refusal.TheVariants as refusals
-use Rattle.srv_ingest.specs.Attempts.{Decides, DecidesName, HeldAfter, looked_number, published_number}
 use Rattle.srv_ingest.specs.Lines.{back_lines, file_lines, later_line, lines_of, put_lines, refusal_lines}
 use Rattle.srv_ingest.specs.Telling.{TellsInbox}
-use Rattle.srv_ingest.specs.Verdicts.{file_or_refusal, file_or_verdict, IsVerdict, IsVerdictOnFile, IsVerdictOnRetraction, taken_back, unless_refused, verdict_of}
-use Rattle.srv_ingest.proofs.DecidingLemmas.{Decides-itself}
-use Rattle.srv_ingest.proofs.HeldLemmas.{put_lines-held}
-use Rattle.srv_ingest.proofs.LineLemmas.{lines_of-short}
+use Rattle.srv_ingest.specs.Turns.{DecidesName}
+use Rattle.srv_ingest.specs.Verdicts.{file_or_refusal, file_or_verdict, IsVerdict, taken_back, unless_refused, verdict_of}
+use Rattle.srv_ingest.proofs.LineLemmas.{lines_of-short, put_lines-held}
 use Rattle.srv_ingest.proofs.ToldLemmas.{told-by}
 
 -- whatever an inbox holds

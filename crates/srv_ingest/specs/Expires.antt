@@ -9,9 +9,10 @@ use Rattle.dev_traits.specs.Lines.{Tells}
 use Rattle.dev_traits.specs.Cause.{capped}
 use Rattle.pub_look.specs.History.{History}
 use Rattle.srv_ingest.specs.declared.report.ExpireReport.{ExpireReport}
-use Rattle.srv_ingest.specs.Attempts.{expired_number, idle_number, Sees}
+use Rattle.srv_verdict.specs.Attempts.{expired_number, idle_number, Sees}
 use Rattle.srv_ingest.specs.Lines.{moment_lines}
-use Rattle.srv_ingest.specs.Verdicts.{cutoff_at, IsExpiry}
+use Rattle.srv_verdict.specs.Verdicts.{IsExpiry}
+use Rattle.srv_ingest.specs.Verdicts.{cutoff_at}
 
 -- a moment that a clock gave, and its verdict
 pub record SettledMoment : Type 0 where

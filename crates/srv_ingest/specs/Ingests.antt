@@ -12,7 +12,7 @@ use Rattle.pub_look.specs.History.{History}
 use Rattle.srv_ingest.specs.declared.report.IngestEnd.{IngestEnd}
 use Rattle.srv_ingest.specs.declared.report.IngestEnd.TheVariants as ends
 use Rattle.srv_ingest.specs.declared.report.IngestReport.{IngestReport}
-use Rattle.srv_ingest.specs.Attempts.{looked_number, published_number, Sees}
+use Rattle.srv_verdict.specs.Attempts.{looked_number, published_number, Sees}
 use Rattle.srv_ingest.specs.Lines.{lines_of}
 use Rattle.srv_ingest.specs.Verdicts.{IsVerdict, taken_back}
 

@@ -1,4 +1,3 @@
-pub mod Attempts
 pub mod Expires
 pub mod Ingests
 pub mod Lines

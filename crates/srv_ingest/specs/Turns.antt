@@ -14,10 +14,36 @@ use Rattle.pub_look.specs.History.{History}
 use Rattle.srv_ingest.specs.declared.report.IngestEnd.{IngestEnd}
 use Rattle.srv_ingest.specs.declared.report.IngestEnd.TheVariants as ends
 use Rattle.srv_ingest.specs.declared.report.IngestReport.{IngestReport}
-use Rattle.srv_ingest.specs.Attempts.{Decides, expired_number, idle_number, looked_number, published_number, Sees}
+use Rattle.srv_verdict.specs.Attempts.{Decides, expired_number, idle_number, looked_number, published_number, Sees}
+use Rattle.srv_verdict.specs.Verdicts.{IsExpiry}
 use Rattle.srv_ingest.specs.Ingests.{AllRight, EndsIngest, IsRight, line_on, looked_numbers, MovesIn, published_numbers, Settlement, TellsAll}
-use Rattle.srv_ingest.specs.Lines.{moment_lines}
-use Rattle.srv_ingest.specs.Verdicts.{cutoff_at, IsExpiry, taken_back}
+use Rattle.srv_ingest.specs.Lines.{lines_of, moment_lines}
+use Rattle.srv_ingest.specs.Verdicts.{cutoff_at, IsVerdict, taken_back}
+
+-- a verdict was found on a name and told, and else the inbox is as before
+pub record DecidesName (proto : Proto) (name : List ℕ) (inbox inbox' : InboxShown) (pass pass' : History)
+    (share share' : ℕ) (verdict : Verdict) : Type 0 where
+  pub is : IfSome inbox.held (λ post. IsVerdict proto pass'.seen post.content name (taken_back name) verdict)
+  pub decides : Decides pass pass' share share' (published_number verdict) (looked_number verdict)
+  pub told : Told
+  pub lines : IfSome inbox.held
+      (λ post. Tells (lines_of proto pass'.seen post.content name (taken_back name) verdict) post.lines told)
+  pub held_is : inbox'.held ≡ with_lines told inbox.held
+  pub faults_are : inbox'.faults ≡ inbox.faults
+
+-- the inbox failed before there was a verdict, and nothing else changed
+pub record FailsBefore (inbox inbox' : InboxShown) (pass pass' : History) (share share' : ℕ) : Type 0 where
+  pub pass_is : pass' ≡ pass
+  pub share_is : share' ≡ share
+  pub held_is : inbox'.held ≡ inbox.held
+  pub faults_are : inbox'.faults ≡ one_more inbox.faults
+
+-- a verdict was found on a name, or the inbox failed before
+abbrev pub FindsVerdict : {E : Type 0} → Proto → List ℕ → InboxShown → InboxShown → History → History → ℕ → ℕ
+    → Result Verdict E → Type 0
+FindsVerdict proto name inbox inbox' pass pass' share share' result =
+    MatchResult result (DecidesName proto name inbox inbox' pass pass' share share')
+    (λ _. FailsBefore inbox inbox' pass pass' share share')
 
 -- the next name was given, or why there is none
 abbrev pub NextName : InboxShown → InboxShown → Result (List ℕ) IngestEnd → Type 0

@@ -1,31 +1,22 @@
--- Verdicts on names that arrived, and on moments at which runs were too old.
-use Rattle.std.specs.Prelude.{◌≡◌, ◌⊎◌, ℕ, ℤ, ◌+◌, ◌-◌, ◌≤◌, neg_ℤ, List, length, take, drop, slice_get, false, if◌then◌else◌, Option, Some, None, IsSome, codes, Result, Ok, Err, ◌-ℤ◌, pos}
+-- Verdicts on names that arrived, and the cutoff at a moment.
+use Rattle.std.specs.Prelude.{◌≡◌, ◌⊎◌, ℕ, ℤ, ◌-◌, neg_ℤ, List, length, take, drop, if◌then◌else◌, Option, Some, None, codes, Result, Ok, Err, ◌-ℤ◌, pos}
 use Rattle.std.specs.Int.{int_max, int_min}
 use Rattle.std.specs.Str.{bytes_eq}
 use Rattle.fm_model.specs.declared.limit.TheConstants.{MAX_FILE_BYTES, MAX_INSTANT}
 use Rattle.fm_model.specs.declared.loaded.Loaded.{Loaded}
 use Rattle.fm_model.specs.declared.loaded.LoadFault.{LoadFault}
 use Rattle.fm_model.specs.declared.op.Op.{Op}
-use Rattle.fm_model.specs.declared.op.Op.TheVariants.{Put, Expire, Retract}
 use Rattle.fm_model.specs.declared.proto.Proto.{Proto}
 use Rattle.fm_model.specs.Code.{load_code}
-use Rattle.fm_model.specs.Collection.{coll, full_at, holds, holds_older}
 use Rattle.fm_model.specs.Load.{load_of}
 use Rattle.dev_traits.specs.declared.files.Found.{Found}
 use Rattle.dev_traits.specs.declared.files.Found.TheVariants as found
 use Rattle.dev_traits.specs.Files.{found_of}
-use Rattle.dev_traits.specs.declared.clock.Expiry.{Expiry}
-use Rattle.dev_traits.specs.declared.clock.Expiry.TheVariants as expiries
 use Rattle.dev_traits.specs.declared.inbox.Verdict.{Verdict}
 use Rattle.dev_traits.specs.declared.inbox.Verdict.TheVariants as verdicts
+use Rattle.srv_verdict.specs.Verdicts.{IsVerdictOnFile, IsVerdictOnRetraction}
 use Rattle.srv_ingest.specs.declared.file.Refusal.{Refusal}
 use Rattle.srv_ingest.specs.declared.file.Refusal.TheVariants as refusals
-
--- an operation is the one of this number, counted from 1
-pub record IsNumbered (ops : List Op) (number : ℕ) (op : Op) : Type 0 where
-  pub index : ℕ
-  pub number_is : number ≡ index + 1
-  pub op_is : slice_get ops index ≡ Some op
 
 -- the name of the file that is taken back, where a name ends in `.retract`
 unfoldable pub taken_back : List ℕ → Option (List ℕ)
@@ -58,21 +49,6 @@ unless_refused (Err refusal) = Err (verdict_of refusal)
 abbrev pub file_or_verdict : Proto → List ℕ → Found → Result Loaded Verdict
 file_or_verdict proto name it = unless_refused (file_or_refusal proto name it)
 
--- the verdict on a file, or on a name without one, by the operations that were seen
-abbrev pub IsVerdictOnFile : List Op → Result Loaded Verdict → Verdict → Type 0
-IsVerdictOnFile ops (Err given) verdict = verdict ≡ given
-IsVerdictOnFile ops (Ok file) (verdicts.Published number) = IsNumbered ops number (Put file)
-IsVerdictOnFile ops (Ok file) (verdicts.Full count) =
-    (count ≤ length ops) × IsSome (full_at (coll (take count ops)) (Put file))
-IsVerdictOnFile ops (Ok file) verdict = ⊥
-
--- the verdict on a name that is taken back, by the operations that were seen
-abbrev pub IsVerdictOnRetraction : List Op → List ℕ → Verdict → Type 0
-IsVerdictOnRetraction ops name (verdicts.Published number) = IsNumbered ops number (Retract name)
-IsVerdictOnRetraction ops name (verdicts.NotHeld count) =
-    (count ≤ length ops) × (holds (coll (take count ops)) name ≡ false)
-IsVerdictOnRetraction ops name verdict = ⊥
-
 -- the verdict on a name by its content; memory may run out at any name
 unfoldable pub IsVerdict : Proto → List Op → (List ℕ → Option (List ℕ)) → List ℕ → Option (List ℕ) → Verdict → Type 0
 IsVerdict proto ops content name (Some back) verdict =
@@ -83,10 +59,3 @@ IsVerdict proto ops content name None verdict = (verdict ≡ verdicts.Short)
 -- the cutoff at a moment, from the collection's epoch: runs older than `keep` seconds go
 abbrev pub cutoff_at : ℤ → ℕ → ℤ → ℤ
 cutoff_at moment keep epoch = int_max (neg_ℤ MAX_INSTANT) (int_min MAX_INSTANT (moment -ℤ pos keep -ℤ epoch))
-
--- the verdict on a moment with this cutoff, by the operations that were seen; memory may run out at any moment
-abbrev pub IsExpiry : List Op → ℤ → Expiry → Type 0
-IsExpiry ops cutoff (expiries.Expired number) = IsNumbered ops number (Expire cutoff)
-IsExpiry ops cutoff (expiries.Idle count) =
-    (count ≤ length ops) × (holds_older (coll (take count ops)) cutoff ≡ false)
-IsExpiry ops cutoff expiries.Short = Unit {0}

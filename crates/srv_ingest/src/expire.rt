@@ -3,17 +3,17 @@ ghost use Rattle.std.specs.Prelude.{◌≡◌, ◌+◌, ◌≤◌, ◌-ℤ◌, l
 ghost use Rattle.std.specs.Int.{int_max, int_min};
 ghost use Rattle.dev_traits.specs.Cause.{one_more};
 ghost use Rattle.pub_look.specs.History.{Continues};
-ghost use Rattle.srv_ingest.specs.Attempts.{expired_number};
+ghost use Rattle.srv_verdict.specs.Attempts.{expired_number};
 ghost use Rattle.srv_ingest.specs.Expires.{AllSettledWith, is_short_moment};
 ghost use Rattle.srv_ingest.specs.Turns.{TakesMoment};
 ghost use Rattle.srv_ingest.specs.Verdicts.{cutoff_at};
 
 use crate::moment::judge;
 use crate::report::ExpireReport;
-use crate::seat::{NOTHING, Seat};
 use dev_traits::{Clock, Expiry};
 use fm_model::{MAX_INSTANT, Site};
 use pub_snap::{Desk, Name, Pass, Share};
+use srv_verdict::{NOTHING, Seat};
 use std::alloc::Global;
 use std::sync::{Mutex, Wait};
 

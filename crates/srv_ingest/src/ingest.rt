@@ -4,12 +4,12 @@ ghost use Rattle.pub_look.specs.History.{Continues};
 ghost use Rattle.srv_ingest.specs.Ingests.{EndsIngest, SettledWith};
 
 use crate::report::{IngestEnd, IngestReport};
-use crate::seat::{NOTHING, Seat};
 use crate::turn::take_next;
 use dev_traits::Inbox;
 use fm_base::Arc;
 use fm_model::Proto;
 use pub_snap::{Desk, Name, Pass, Share};
+use srv_verdict::{NOTHING, Seat};
 use std::alloc::Global;
 use std::sync::{Mutex, Wait};
 

@@ -1,17 +1,12 @@
 //! Files that arrive come to a collection, and runs that get too old go: each name and each moment gets its verdict.
 #![tactic(auto)]
 
-mod attempt;
-mod change;
-mod changes;
-mod deciding;
 mod expire;
 mod file;
 mod ingest;
 mod lines;
 mod moment;
 mod report;
-mod seat;
 mod turn;
 
 pub use expire::expire_all;

@@ -1,18 +1,16 @@
 //! The verdict on a moment, and its line.
 ghost use Rattle.std.specs.Prelude.{◌≡◌, ◌+ℤ◌, ◌∷◌, [], IfOk};
 ghost use Rattle.nc_model.specs.Instant.{HasFourDigitYear, instant_text_of};
-ghost use Rattle.srv_ingest.specs.Attempts.{Decides, expired_number, idle_number};
+ghost use Rattle.srv_verdict.specs.Attempts.{Decides, expired_number, idle_number};
 ghost use Rattle.srv_ingest.specs.Lines as spec;
 ghost use Rattle.srv_ingest.specs.Telling.{TellsClock};
-ghost use Rattle.srv_ingest.specs.Verdicts.{IsExpiry};
+ghost use Rattle.srv_verdict.specs.Verdicts.{IsExpiry};
 
-use crate::changes::Expiring;
-use crate::deciding::decide;
-use crate::seat::Seat;
 use dev_traits::{Clock, Expiry};
 use fm_base::{Bytes, List, NoMemory};
 use itoa::Buffer;
 use pub_snap::Name;
+use srv_verdict::{Expiring, Seat, decide};
 use std::alloc::Global;
 use std::sync::Wait;
 use tm_units::instant_text;

@@ -1,6 +1,6 @@
 //! The reports on files taken in and runs let go.
 ghost use Rattle.std.specs.Prelude.{◌≡◌, ◌+◌, ◌≤◌, length};
-ghost use Rattle.srv_ingest.specs.Attempts.{published_number};
+ghost use Rattle.srv_verdict.specs.Attempts.{published_number};
 ghost use Rattle.srv_ingest.specs.Turns.{operations, with_published, with_settled};
 ghost use Rattle.srv_ingest.specs.Verdicts.{taken_back};
 

@@ -1,18 +1,15 @@
 //! The turn of one name.
 ghost use Rattle.std.specs.Prelude.{◌≡◌, ◌+◌, ◌≤◌};
-ghost use Rattle.srv_ingest.specs.Attempts.{FindsVerdict};
-ghost use Rattle.srv_ingest.specs.Turns.{NextName, TakesNext, operations};
+ghost use Rattle.srv_ingest.specs.Turns.{FindsVerdict, NextName, TakesNext, operations};
 
-use crate::changes::{Putting, Retracting};
-use crate::deciding::decide;
 use crate::file::{file_of, taken_back};
 use crate::lines::{note_back, note_put, refused, short};
 use crate::report::{IngestEnd, IngestReport, count_published, count_settled};
-use crate::seat::Seat;
 use dev_traits::{Arrival, Failed, Inbox, Verdict};
 use fm_base::{Arc, Bytes, Fail};
 use fm_model::{MAX_FILE_BYTES, Proto};
 use pub_snap::Name;
+use srv_verdict::{Putting, Retracting, Seat, decide};
 use std::alloc::Global;
 use std::sync::Wait;
 

@@ -18,7 +18,8 @@ use Rattle.srv_ingest.specs.declared.report.IngestEnd.TheVariants as ends
 use Rattle.srv_ingest.specs.declared.report.IngestReport.{IngestReport}
 use Rattle.srv_laws.specs.Accepted.{IsAccepted, IsPublishedOrFull}
 use Rattle.srv_ingest.specs.Ingests.{found_with, IsRight, SettledWith}
-use Rattle.srv_ingest.specs.Verdicts.{file_or_refusal, file_or_verdict, IsVerdict, IsVerdictOnFile, taken_back, unless_faulty, unless_refused}
+use Rattle.srv_verdict.specs.Verdicts.{IsVerdictOnFile}
+use Rattle.srv_ingest.specs.Verdicts.{file_or_refusal, file_or_verdict, IsVerdict, taken_back, unless_faulty, unless_refused}
 
 -- the verdict on a file is that it was published, or that there was no room
 on-file : (ops : List Op) (file : Loaded) (verdict : Verdict) → IsVerdictOnFile ops (Ok file) verdict

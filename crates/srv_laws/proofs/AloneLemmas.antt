@@ -19,14 +19,15 @@ use Rattle.pub_look.proofs.HistoryLemmas.{continues_length}
 use Rattle.srv_ingest.specs.declared.report.ExpireReport.{ExpireReport}
 use Rattle.srv_ingest.specs.declared.report.IngestReport.{IngestReport}
 use Rattle.srv_laws.specs.Alone.{IsOfBoth, verdicts_on}
-use Rattle.srv_ingest.specs.Attempts.{expired_number, published_number, RiseBetween}
+use Rattle.srv_verdict.specs.Attempts.{expired_number, published_number, RiseBetween}
 use Rattle.srv_ingest.specs.Expires.{expired_numbers, is_expired, AllSettledWith, IsRightAt, SettledMoment}
 use Rattle.srv_ingest.specs.Ingests.{found_with, has_come, is_published, is_retracted, IsRight, published_numbers, SettledWith, Settlement}
-use Rattle.srv_ingest.specs.Verdicts.{cutoff_at, file_or_refusal, file_or_verdict, IsExpiry, IsNumbered, IsVerdict, IsVerdictOnFile, IsVerdictOnRetraction, taken_back}
-use Rattle.srv_ingest.proofs.LaterLemmas.{IsNumbered-later}
+use Rattle.srv_verdict.specs.Verdicts.{IsExpiry, IsNumbered, IsVerdictOnFile, IsVerdictOnRetraction}
+use Rattle.srv_ingest.specs.Verdicts.{cutoff_at, file_or_refusal, file_or_verdict, IsVerdict, taken_back}
+use Rattle.srv_verdict.proofs.LaterLemmas.{IsNumbered-later}
 use Rattle.srv_ingest.proofs.MomentCounts.{expired-one}
 use Rattle.srv_laws.proofs.RisingNumbers.{at-most, each-once, many, many-both, none-without}
-use Rattle.srv_ingest.proofs.SeesLemmas.{RiseBetween-lower, RiseBetween-higher}
+use Rattle.srv_verdict.proofs.SeesLemmas.{RiseBetween-lower, RiseBetween-higher}
 use Rattle.srv_ingest.proofs.VerdictLemmas.{given-numbers}
 
 -- whether an operation lets runs go

@@ -3,8 +3,8 @@ use Rattle.std.proofs.Common.{◌≡◌, ℕ, zero, suc, ◌+◌, ◌<◌, ◌�
 use Rattle.std.proofs.lemmas.Bool.{eqb-false, eqb-true, ne_eqb}
 use Rattle.std.proofs.lemmas.List.Elements.{All-head, All-tail}
 use Rattle.std.proofs.lemmas.List.Sums.{sum_by-cons}
-use Rattle.srv_ingest.specs.Attempts.{RiseBetween}
-use Rattle.srv_ingest.proofs.SeesLemmas.{RiseBetween-le}
+use Rattle.srv_verdict.specs.Attempts.{RiseBetween}
+use Rattle.srv_verdict.proofs.SeesLemmas.{RiseBetween-le}
 
 -- how many numbers have a property, of the `room` numbers above `low`
 abbrev pub many : (ℕ → Bool) → ℕ → ℕ → ℕ

@@ -15,10 +15,11 @@ use Rattle.fm_model.specs.Collection.{coll, holds, holds_older}
 use Rattle.pub_look.specs.History.{History}
 use Rattle.srv_ingest.specs.declared.report.ExpireReport.{ExpireReport}
 use Rattle.srv_ingest.specs.declared.report.IngestReport.{IngestReport}
-use Rattle.srv_ingest.specs.Attempts.{IsPickedFrom, Sees}
+use Rattle.srv_verdict.specs.Attempts.{IsPickedFrom, Sees}
 use Rattle.srv_ingest.specs.Expires.{idle_numbers, AllSettledWith, IsRightAt}
 use Rattle.srv_ingest.specs.Ingests.{found_with, looked_numbers, IsRight, SettledWith}
-use Rattle.srv_ingest.specs.Verdicts.{cutoff_at, taken_back, IsExpiry, IsVerdict, IsVerdictOnRetraction}
+use Rattle.srv_verdict.specs.Verdicts.{IsExpiry, IsVerdictOnRetraction}
+use Rattle.srv_ingest.specs.Verdicts.{cutoff_at, taken_back, IsVerdict}
 
 -- how many of some numbers are this one
 abbrev of_number : ℕ → List ℕ → ℕ

@@ -16,7 +16,8 @@ use Rattle.fm_model.specs.Collection.{coll, full_at, holds, holds_older}
 use Rattle.pub_look.specs.History.{Continues}
 use Rattle.srv_ingest.specs.Expires.{IsRightAt, SettledMoment}
 use Rattle.srv_ingest.specs.Ingests.{AllRight, IsRight, Settlement}
-use Rattle.srv_ingest.specs.Verdicts.{cutoff_at, IsExpiry, IsNumbered, IsVerdict, IsVerdictOnFile, IsVerdictOnRetraction, taken_back}
+use Rattle.srv_verdict.specs.Verdicts.{IsExpiry, IsNumbered, IsVerdictOnFile, IsVerdictOnRetraction}
+use Rattle.srv_ingest.specs.Verdicts.{cutoff_at, IsVerdict, taken_back}
 use Rattle.srv_laws.proofs.RequestLemmas.{front-there}
 
 -- an operation has its number in the log too

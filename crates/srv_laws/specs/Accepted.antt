@@ -11,7 +11,8 @@ use Rattle.fm_model.specs.Collection.{coll, full_at}
 use Rattle.fm_model.specs.Load.{load_of}
 use Rattle.dev_traits.specs.declared.files.Found.TheVariants as found
 use Rattle.dev_traits.specs.Files.{found_of}
-use Rattle.srv_ingest.specs.Verdicts.{IsNumbered, taken_back}
+use Rattle.srv_verdict.specs.Verdicts.{IsNumbered}
+use Rattle.srv_ingest.specs.Verdicts.{taken_back}
 
 -- the content of a name is accepted as this file
 pub record IsAccepted (proto : Proto) (content : List ℕ → Option (List ℕ)) (name : List ℕ) (file : Loaded)

@@ -7,14 +7,12 @@ ghost use Rattle.fm_edition.specs.Held.{unless_full, OpFits};
 ghost use Rattle.pub_look.specs.History.{Keeps};
 
 use super::Desk;
-use crate::name::Name;
-use crate::receipt::Receipt;
 use crate::share::Share;
-use crate::shown::Shown;
 use crate::swap::{catch_up, make_room, show};
 use fm_base::{Arc, Bytes, Fail, NoMemory};
 use fm_edition::Edition;
 use fm_model::{Full, Op};
+use pub_pass::{Name, Receipt, Shown};
 use std::alloc::Global;
 use std::sync::Wait;
 

@@ -1,7 +1,7 @@
 -- What readers see is shown once more, or the board is as before.
 use Rattle.std.proofs.Common.{◌≡◌, List, drop, ◌∙◌}
 use Rattle.left_right.specs.Sides.{view}
-use Rattle.pub_snap.specs.Rule.{Copy}
+use Rattle.pub_pass.specs.Copies.{Copy}
 use Rattle.pub_snap.proofs.Keeping.{again_ends, at_desk_again}
 use Rattle.pub_snap.proofs.swap.show_again.Goals.{in-Ok-append, in-Err}
 use Rattle.pub_snap.proofs.swap.show_again.Goals as goal

@@ -1,7 +1,8 @@
 -- The last copy that waits follows the one that is shown.
 use Rattle.std.proofs.Common.{◌≡◌, List, drop, sym, subst, refl}
 use Rattle.left_right.specs.Sides.{view}
-use Rattle.pub_snap.specs.Rule.{Copy, Follows, MayFollow}
+use Rattle.pub_pass.specs.Copies.{Copy}
+use Rattle.pub_snap.specs.Rule.{Follows, MayFollow}
 use Rattle.pub_snap.proofs.Keeping.{last_stays, shows}
 use Rattle.pub_snap.proofs.swap.swap.Goals as goal
 

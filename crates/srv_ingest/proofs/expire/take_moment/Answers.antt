@@ -2,7 +2,8 @@
 use Rattle.std.proofs.Common.{◌≡◌, ◌∙◌, ap₂, subst, ℤ, ◌+ℤ◌, w64, to_z, of_z, rules}
 use Rattle.srv_ingest.specs.Lines.{expiry_lines, shown_instant}
 use Rattle.srv_ingest.specs.Telling.{TellsClock}
-use Rattle.srv_ingest.specs.Verdicts.{cutoff_at, IsExpiry}
+use Rattle.srv_verdict.specs.Verdicts.{IsExpiry}
+use Rattle.srv_ingest.specs.Verdicts.{cutoff_at}
 use Rattle.srv_ingest.proofs.MomentLemmas.{SettlesMoment-given, waits-some}
 use Rattle.srv_ingest.proofs.expire.take_moment.Goals as goal
 

@@ -3,7 +3,7 @@ use Rattle.std.proofs.Common.{◌≡◌, ◌∙◌, ap, subst, List, ℕ, ◌+�
 use Rattle.std.proofs.lemmas.Int.{to_z-of_z}
 use Rattle.srv_ingest.specs.Lines.{expiry_lines, shown_instant}
 use Rattle.srv_ingest.specs.Telling.{TellsClock}
-use Rattle.srv_ingest.proofs.DecidingLemmas.{Decides-itself}
+use Rattle.srv_verdict.proofs.DecidingLemmas.{Decides-itself}
 use Rattle.srv_ingest.proofs.moment.judge.Goals as goal
 
 pub returns-in_default-clause-decides : goal.returns-in_default-clause-decides
