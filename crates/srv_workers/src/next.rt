@@ -35,12 +35,7 @@ impl<N: Name + Send + Sync, X: Behind> Behind for And<Desk<N>, X> {
 
     type Blanks = And<Blank, X::Blanks>;
 
-    type Places = Joint<
-        Places<N>,
-        X::Places,
-        Several<OwnPass<N>, X::Passes>,
-        OneOf<OwnHand<N>, X::Hand>,
-    >;
+    type Places = Joint<Places<N>, X::Places, Self::Passes, Self::Hand>;
 
     ghost are_blank = { λ doors clocks blanks. IsNamed blanks.first N.book N.name N.proto N.parts
         × IsSized doors clocks blanks.first × X.are_blank doors clocks blanks.others };
@@ -53,10 +48,7 @@ impl<N: Name + Send + Sync, X: Behind> Behind for And<Desk<N>, X> {
         X::know();
     }
 
-    fn learn_passes(
-        passes: &mut Several<OwnPass<N>, X::Passes>,
-        all: &And<Receipt<N>, X::Receipts>,
-    ) -> bool {
+    fn learn_passes(passes: &mut Self::Passes, all: &Self::Receipts) -> bool {
         X::know();
         let level = X::learn_passes(&mut passes.others, &all.others);
         passes.first.learn(&all.first);
@@ -71,10 +63,7 @@ impl<N: Name + Send + Sync, X: Behind> Behind for And<Desk<N>, X> {
         protos: &[Arc<Proto>],
         doors: usize,
         clocks: usize,
-    ) -> Result<
-        Joint<Places<N>, X::Places, Several<OwnPass<N>, X::Passes>, OneOf<OwnHand<N>, X::Hand>>,
-        NoMemory,
-    > {
+    ) -> Result<Self::Places, NoMemory> {
         match protos {
             [proto, rest @ ..] => {
                 let others = X::places(alloc, rest, doors, clocks)?;
@@ -86,15 +75,12 @@ impl<N: Name + Send + Sync, X: Behind> Behind for And<Desk<N>, X> {
         }
     }
 
-    fn eyes(
-        passes: Several<OwnPass<N>, X::Passes>,
-        protos: List<Arc<Proto>>,
-    ) -> AllEyes<N, X::Passes> {
+    fn eyes(passes: Self::Passes, protos: List<Arc<Proto>>) -> Self::Eyes {
         X::know();
         AllEyes::of(passes, protos)
     }
 
-    fn back(alloc: Global, shares: usize) -> Result<And<Slots<Share<N>>, X::Back>, NoMemory> {
+    fn back(alloc: Global, shares: usize) -> Result<Self::Back, NoMemory> {
         let others = X::back(alloc, shares)?;
         let first = Slots::with_room(alloc, shares)?;
         Ok(And { first, others })
@@ -103,22 +89,11 @@ impl<N: Name + Send + Sync, X: Behind> Behind for And<Desk<N>, X> {
     fn open<R: Wait>(
         rt: &R,
         alloc: Global,
-        blanks: And<Blank, X::Blanks>,
-        places: Joint<
-            Places<N>,
-            X::Places,
-            Several<OwnPass<N>, X::Passes>,
-            OneOf<OwnHand<N>, X::Hand>,
-        >,
+        blanks: Self::Blanks,
+        places: Self::Places,
         doors: usize,
         clocks: usize,
-    ) -> Result<
-        (
-            And<Desk<N>, X>,
-            Given<Several<OwnPass<N>, X::Passes>, OneOf<OwnHand<N>, X::Hand>>,
-        ),
-        NoMemory,
-    > {
+    ) -> Result<(Self, Given<Self::Passes, Self::Hand>), NoMemory> {
         let And {
             first: blank,
             others: behind,
