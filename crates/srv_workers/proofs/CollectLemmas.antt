@@ -38,20 +38,21 @@ protos-from protos i item first proto others below same is behind =
     ∙ ap (λ (l : List Proto). first ∷ l) (behind ∙ sym (all-protos proto others))
 
 -- the prototype of the last desk
-pub last-one : (protos : List Proto) (i : ℕ) (item last : Proto) → i + 1 ≡ length protos → last ≡ item
-    → item ≡ get_or protos i item → drop (length protos - 1) protos ≡ last ∷ []
-last-one protos i item last at same is =
-    let here : length protos - 1 ≡ i = omega (arith, at) in
-    ap (λ (n : ℕ). drop n protos) here ∙ from-at protos i item last (omega (arith, at)) same is
-    ∙ ap (λ (l : List Proto). last ∷ l) (drop_all (i + 1) protos (omega (arith, at)))
+pub last-one : (protos : List Proto) (item last : Proto) → 1 ≤ length protos → last ≡ item
+    → item ≡ get_or protos (length protos - 1) item → drop (length protos - 1) protos ≡ last ∷ []
+last-one protos item last some same is =
+    from-at protos (length protos - 1) item last (omega (arith, some)) same is
+    ∙ ap (λ (l : List Proto). last ∷ l) (drop_all (length protos - 1 + 1) protos (omega (arith, some)))
 
 -- those of the last two
-pub last-two : (protos : List Proto) (i k : ℕ) (item first last : Proto) → i + 2 ≡ length protos → k ≡ i
-    → first ≡ item → item ≡ get_or protos i item → drop (length protos - 1) protos ≡ last ∷ []
-    → drop k protos ≡ first ∷ last ∷ []
-last-two protos i k item first last at here same is end =
-    let next : i + 1 ≡ length protos - 1 = omega (arith, at) in
-    ap (λ (n : ℕ). drop n protos) here ∙ from-at protos i item first (omega (arith, at)) same is
+pub last-two : (protos last : List Proto) (item first : Proto) (ahead : ℕ) → ahead + 2 ≡ length protos
+    → first ≡ item → item ≡ get_or protos (length protos - 2) item → drop (length protos - 1) protos ≡ last
+    → drop ahead protos ≡ first ∷ last
+last-two protos last item first ahead all same is end =
+    let here : length protos - 2 ≡ ahead = omega (arith, all) in
+    let next : ahead + 1 ≡ length protos - 1 = omega (arith, all) in
+    from-at protos ahead item first (omega (arith, all)) same
+        (is ∙ ap (λ (n : ℕ). get_or protos n item) here)
     ∙ ap (λ (l : List Proto). first ∷ l) (ap (λ (n : ℕ). drop n protos) next ∙ end)
 
 -- the collections of a desk and of others are those over their prototypes
@@ -67,13 +68,6 @@ over-all protos proto others are =
       still = λ _. false;
       choice = choice_of (all_protos proto others);
     }
-
--- a blank that is equal to that of a desk
-pub blank-as : (book : Book) (name : ℕ) (proto : Proto) (parts doors clocks : ℕ) (blank blank' : Opening)
-    → blank' ≡ blank → IsNamed blank book name proto parts → IsSized doors clocks blank
-    → IsNamed blank' book name proto parts × IsSized doors clocks blank'
-blank-as book name proto parts doors clocks blank blank' same named sized =
-    subst (λ (b : Opening). IsNamed b book name proto parts × IsSized doors clocks b) (sym same) (named, sized)
 
 -- blanks that are equal to those of a desk and of others
 pub blanks-as : {B : Type 0} (are_blank : ℕ → ℕ → B → Type 0) (book : Book) (name : ℕ) (proto : Proto)

@@ -1,13 +1,13 @@
-use Rattle.std.proofs.Common.{ℕ, arith, subst}
+use Rattle.std.proofs.Common.{ℕ, ◌-◌, arith, length, subst, sym}
 use Rattle.fm_model.specs.Site.{IsPrototype}
 use Rattle.srv_workers.specs.Opened.{IsSized}
-use Rattle.srv_workers.proofs.CollectLemmas.{all-at, blank-as, last-two}
+use Rattle.srv_workers.proofs.CollectLemmas.{all-at, last-two}
 use Rattle.srv_workers.proofs.several.run_before.Goals as goal
 
 pub blank_before-requires-clause-proto : goal.blank_before-requires-clause-proto
 blank_before-requires-clause-proto g c =
-    all-at IsPrototype c.args.protos.now c.ahead c.index-protos-ahead.result c.requires.prototypes
-    (omega (arith, c.requires.few.0, c.len.ensures)) c.index-protos-ahead.is
+    all-at IsPrototype c.args.protos.now (length c.args.protos.now - 2) c.index-protos-ahead.result
+    c.requires.prototypes (omega (arith, c.requires.few.0)) c.index-protos-ahead.is
 
 pub blank_before-requires-clause-few : goal.blank_before-requires-clause-few
 blank_before-requires-clause-few g c = (
@@ -24,14 +24,13 @@ run_with-requires-clause-sized g c _ _ =
 
 pub run_with-requires-clause-others : goal.run_with-requires-clause-others
 run_with-requires-clause-others g c _ _ =
-    blank-as g.N.Name.book g.N.Ledger.name g.N.Name.proto g.N.Ledger.parts _ c.args.clocks c.args.last
-    c.in_ok-both.both.others c.in_ok-both.ensures.others c.requires.last c.requires.sized
+    subst (λ last. g.X.Behind.are_blank _ c.args.clocks last) (sym c.in_ok-both.ensures.others) c.requires.last
 
 pub run_with-requires-clause-protos : goal.run_with-requires-clause-protos
 run_with-requires-clause-protos g c _ _ =
-    last-two c.args.protos.now c.ahead 0 c.index-protos-ahead.result c.in_ok-both.both.first.proto g.N.Name.proto
-    (omega (arith, c.requires.few.0, c.len.ensures)) (omega (arith, c.requires.few.1, c.len.ensures))
-    c.in_ok-both.ensures.proto c.index-protos-ahead.is c.requires.protos
+    last-two c.args.protos.now _ c.index-protos-ahead.result c.in_ok-both.both.first.proto 0
+    (omega (arith, c.requires.few.0, c.requires.few.1)) c.in_ok-both.ensures.proto c.index-protos-ahead.is
+    c.requires.protos
 
 pub run_with-requires-clause-devices : goal.run_with-requires-clause-devices
 run_with-requires-clause-devices g c _ _ = c.requires.devices
@@ -47,14 +46,13 @@ run_with_one-requires-clause-sized g c _ _ =
 
 pub run_with_one-requires-clause-others : goal.run_with_one-requires-clause-others
 run_with_one-requires-clause-others g c _ _ =
-    blank-as g.N.Name.book g.N.Ledger.name g.N.Name.proto g.N.Ledger.parts _ c.args.clocks c.args.last
-    c.in_ok-both.both.others c.in_ok-both.ensures.others c.requires.last c.requires.sized
+    subst (λ last. g.X.Behind.are_blank _ c.args.clocks last) (sym c.in_ok-both.ensures.others) c.requires.last
 
 pub run_with_one-requires-clause-protos : goal.run_with_one-requires-clause-protos
 run_with_one-requires-clause-protos g c _ _ =
-    last-two c.args.protos.now c.ahead 1 c.index-protos-ahead.result c.in_ok-both.both.first.proto g.N.Name.proto
-    (omega (arith, c.requires.few.0, c.len.ensures)) (omega (arith, c.requires.few.1, c.len.ensures))
-    c.in_ok-both.ensures.proto c.index-protos-ahead.is c.requires.protos
+    last-two c.args.protos.now _ c.index-protos-ahead.result c.in_ok-both.both.first.proto 1
+    (omega (arith, c.requires.few.0, c.requires.few.1)) c.in_ok-both.ensures.proto c.index-protos-ahead.is
+    c.requires.protos
 
 pub run_with_one-requires-clause-prototypes : goal.run_with_one-requires-clause-prototypes
 run_with_one-requires-clause-prototypes g c _ _ = c.requires.prototypes
@@ -63,7 +61,7 @@ pub run_with_one-requires-clause-devices : goal.run_with_one-requires-clause-dev
 run_with_one-requires-clause-devices g c _ _ = c.requires.devices
 
 pub run_with_one-requires-clause-few : goal.run_with_one-requires-clause-few
-run_with_one-requires-clause-few g c _ _ = (omega (arith, c.len.ensures), omega (arith, c.requires.few.1))
+run_with_one-requires-clause-few g c _ _ = (omega arith, omega (arith, c.requires.few.1))
 
 -- two stand before both
 pub run_with_two-requires-clause-sized : goal.run_with_two-requires-clause-sized
@@ -73,14 +71,13 @@ run_with_two-requires-clause-sized g c _ _ =
 
 pub run_with_two-requires-clause-others : goal.run_with_two-requires-clause-others
 run_with_two-requires-clause-others g c _ _ =
-    blank-as g.N.Name.book g.N.Ledger.name g.N.Name.proto g.N.Ledger.parts _ c.args.clocks c.args.last
-    c.in_ok-both.both.others c.in_ok-both.ensures.others c.requires.last c.requires.sized
+    subst (λ last. g.X.Behind.are_blank _ c.args.clocks last) (sym c.in_ok-both.ensures.others) c.requires.last
 
 pub run_with_two-requires-clause-protos : goal.run_with_two-requires-clause-protos
 run_with_two-requires-clause-protos g c _ _ =
-    last-two c.args.protos.now c.ahead 2 c.index-protos-ahead.result c.in_ok-both.both.first.proto g.N.Name.proto
-    (omega (arith, c.requires.few.0, c.len.ensures)) (omega (arith, c.requires.few.1, c.len.ensures))
-    c.in_ok-both.ensures.proto c.index-protos-ahead.is c.requires.protos
+    last-two c.args.protos.now _ c.index-protos-ahead.result c.in_ok-both.both.first.proto 2
+    (omega (arith, c.requires.few.0, c.requires.few.1)) c.in_ok-both.ensures.proto c.index-protos-ahead.is
+    c.requires.protos
 
 pub run_with_two-requires-clause-prototypes : goal.run_with_two-requires-clause-prototypes
 run_with_two-requires-clause-prototypes g c _ _ = c.requires.prototypes
@@ -89,4 +86,4 @@ pub run_with_two-requires-clause-devices : goal.run_with_two-requires-clause-dev
 run_with_two-requires-clause-devices g c _ _ = c.requires.devices
 
 pub run_with_two-requires-clause-few : goal.run_with_two-requires-clause-few
-run_with_two-requires-clause-few g c _ _ = (omega (arith, c.len.ensures), omega (arith, c.requires.few.1))
+run_with_two-requires-clause-few g c _ _ = (omega arith, omega (arith, c.requires.few.1))
