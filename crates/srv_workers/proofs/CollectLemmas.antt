@@ -1,10 +1,9 @@
 -- The collections of a run: their prototypes, and the blanks and devices for each.
 use Rattle.std.proofs.Common.{◌≡◌, ◌⊎◌, inl, inr, ℕ, suc, ◌+◌, ◌-◌, ◌<◌, ◌≤◌, List, [], ◌∷◌, length, All, drop, get_or, false, sym, ap, subst, ◌∙◌, arith}
 use Rattle.std.proofs.lemmas.List.{drop_all, drop_more}
-use Rattle.logbook.specs.Pages.{Book}
 use Rattle.fm_model.specs.declared.proto.Proto.{Proto}
 use Rattle.dev_traits.specs.declared.world.Devices.{Devices}
-use Rattle.pub_snap.specs.Opening.{IsNamed, Opening}
+use Rattle.pub_snap.specs.Opening.{Opening}
 use Rattle.dap_reply.specs.Collections.{Collections}
 use Rattle.srv_many.specs.Choice.{choice_of}
 use Rattle.srv_many.specs.Several.{nth}
@@ -12,7 +11,7 @@ use Rattle.srv_workers.specs.declared.both.And.{And}
 use Rattle.srv_workers.specs.Both.{all_collections, all_protos}
 use Rattle.srv_workers.specs.Desks.{first_of}
 use Rattle.srv_workers.specs.Given.{each_of}
-use Rattle.srv_workers.specs.Opened.{HasOneEach, IsSized}
+use Rattle.srv_workers.specs.Opened.{HasOneEach}
 use Rattle.srv_workers.specs.Several.{collections_over}
 use Rattle.srv_workers.proofs.BothLemmas.{all-protos}
 use Rattle.srv_workers.proofs.EachLemmas.{length-never, length-once}
@@ -52,7 +51,7 @@ last-two protos last item first ahead all same is end =
     let here : length protos - 2 ≡ ahead = omega (arith, all) in
     let next : ahead + 1 ≡ length protos - 1 = omega (arith, all) in
     from-at protos ahead item first (omega (arith, all)) same
-        (is ∙ ap (λ (n : ℕ). get_or protos n item) here)
+    (is ∙ ap (λ (n : ℕ). get_or protos n item) here)
     ∙ ap (λ (l : List Proto). first ∷ l) (ap (λ (n : ℕ). drop n protos) next ∙ end)
 
 -- the collections of a desk and of others are those over their prototypes
@@ -69,16 +68,12 @@ over-all protos proto others are =
       choice = choice_of (all_protos proto others);
     }
 
--- blanks that are equal to those of a desk and of others
-pub blanks-as : {B : Type 0} (are_blank : ℕ → ℕ → B → Type 0) (book : Book) (name : ℕ) (proto : Proto)
-    (parts doors clocks : ℕ) (blanks blanks' : And Opening B) → blanks' ≡ blanks
-    → IsNamed blanks.first book name proto parts → IsSized doors clocks blanks.first
-    → are_blank doors clocks blanks.others
-    → IsNamed blanks'.first book name proto parts × IsSized doors clocks blanks'.first
-    × are_blank doors clocks blanks'.others
-blanks-as {B} are_blank book name proto parts doors clocks blanks blanks' same named sized others =
-    subst (λ (b : And Opening B). IsNamed b.first book name proto parts × IsSized doors clocks b.first
-    × are_blank doors clocks b.others) (sym same) (named, sized, others)
+-- what holds of the blanks of a desk and of others holds of equal ones
+pub blanks-as : {B : Type 0} (named sized : Opening → Type 0) (are_blank : B → Type 0) (blanks blanks' : And Opening B)
+    → blanks' ≡ blanks → named blanks.first → sized blanks.first → are_blank blanks.others
+    → named blanks'.first × sized blanks'.first × are_blank blanks'.others
+blanks-as {B} named sized are_blank blanks blanks' same one two others =
+    subst (λ (b : And Opening B). named b.first × sized b.first × are_blank b.others) (sym same) (one, two, others)
 
 -- an inbox for each collection, and a clock for each or for none
 pub HasOneEach-is : {D I C : Type 0} (count clocks all : ℕ) (devices : Devices D I C) → all ≡ count → 0 < count

@@ -20,7 +20,14 @@ use std::sync::Wait;
 use std::thread::Threads;
 
 // Room for all workers of a run over desks.
-type WorkRoom<D, I, C, X> = Room<D, I, C, <X as Desks>::Eyes, <X as Desks>::Hand, <X as Desks>::Back>;
+type WorkRoom<D, I, C, X> = Room<
+    D,
+    I,
+    C,
+    <X as Desks>::Eyes,
+    <X as Desks>::Hand,
+    <X as Desks>::Back,
+>;
 
 // All room that is made before the desks are opened.
 #[derive(Drop)]

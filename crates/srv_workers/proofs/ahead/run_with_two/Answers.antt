@@ -1,6 +1,7 @@
 -- One desk more stands before the others.
-use Rattle.std.proofs.Common.{ℕ, arith, subst}
+use Rattle.std.proofs.Common.{ℕ, arith, length, subst}
 use Rattle.fm_model.specs.Site.{IsPrototype}
+use Rattle.pub_snap.specs.Opening.{IsNamed}
 use Rattle.srv_workers.specs.Opened.{IsSized}
 use Rattle.srv_workers.proofs.CollectLemmas.{all-at, blanks-as, protos-from}
 use Rattle.srv_workers.proofs.ahead.run_with_two.Goals as goal
@@ -24,9 +25,10 @@ run_with_one-requires-clause-sized g c _ _ =
 
 pub run_with_one-requires-clause-others : goal.run_with_one-requires-clause-others
 run_with_one-requires-clause-others g c _ _ =
-    blanks-as g.X.Behind.are_blank g.N.Name.book g.N.Ledger.name g.N.Name.proto g.N.Ledger.parts _ c.args.clocks
-    c.args.blanks c.in_ok-all.all.others c.in_ok-all.ensures.others c.requires.first c.requires.sized
-    c.requires.others
+    let doors = length c.args.devices.now.doors in
+    blanks-as (λ first. IsNamed first g.N.Name.book g.N.Ledger.name g.N.Name.proto g.N.Ledger.parts)
+    (λ first. IsSized doors c.args.clocks first) (λ others. g.X.Behind.are_blank doors c.args.clocks others)
+    c.args.blanks c.in_ok-all.all.others c.in_ok-all.ensures.others c.requires.first c.requires.sized c.requires.others
 
 pub run_with_one-requires-clause-protos : goal.run_with_one-requires-clause-protos
 run_with_one-requires-clause-protos g c _ _ =

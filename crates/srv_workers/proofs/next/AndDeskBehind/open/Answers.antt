@@ -1,4 +1,5 @@
 use Rattle.std.proofs.Common.{◌∙◌, ◌+◌, ◌≡◌, ℕ, List, ap, drop, get_or, length, subst, sym}
+use Rattle.std.proofs.lemmas.List.{take_rest}
 use Rattle.fm_model.specs.declared.proto.Proto.{Proto}
 use Rattle.srv_workers.proofs.BothLemmas.{all-protos, count-all}
 use Rattle.srv_workers.proofs.FirstLemmas.{for-each}
@@ -15,7 +16,8 @@ open-requires-2-clause-blanks g c = c.requires.blanks.2
 
 pub open-requires-2-clause-protos : goal.open-requires-2-clause-protos
 open-requires-2-clause-protos g c =
-    ap (λ (l : List Proto). drop 1 l) (c.requires.protos ∙ all-protos g.N.Name.proto g.X.Desks.means.them)
+    take_rest c.args.protos.now 1 ∙ ap (λ (l : List Proto). drop 1 l)
+    (c.requires.protos ∙ all-protos g.N.Name.proto g.X.Desks.means.them)
 
 pub open-requires-2-clause-few : goal.open-requires-2-clause-few
 open-requires-2-clause-few g c = c.requires.few
