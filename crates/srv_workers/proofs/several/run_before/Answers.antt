@@ -24,7 +24,8 @@ run_with-requires-clause-sized g c _ _ =
 
 pub run_with-requires-clause-others : goal.run_with-requires-clause-others
 run_with-requires-clause-others g c _ _ =
-    subst (λ last. g.X.Behind.are_blank (length c.args.devices.now.doors) c.args.clocks last) (sym c.in_ok-both.ensures.others) c.requires.last
+    subst (λ last. g.X.Behind.are_blank (length c.args.devices.now.doors) c.args.clocks last)
+    (sym c.in_ok-both.ensures.others) c.requires.last
 
 pub run_with-requires-clause-protos : goal.run_with-requires-clause-protos
 run_with-requires-clause-protos g c _ _ =
@@ -46,7 +47,8 @@ run_with_one-requires-clause-sized g c _ _ =
 
 pub run_with_one-requires-clause-others : goal.run_with_one-requires-clause-others
 run_with_one-requires-clause-others g c _ _ =
-    subst (λ last. g.X.Behind.are_blank (length c.args.devices.now.doors) c.args.clocks last) (sym c.in_ok-both.ensures.others) c.requires.last
+    subst (λ last. g.X.Behind.are_blank (length c.args.devices.now.doors) c.args.clocks last)
+    (sym c.in_ok-both.ensures.others) c.requires.last
 
 pub run_with_one-requires-clause-protos : goal.run_with_one-requires-clause-protos
 run_with_one-requires-clause-protos g c _ _ =
@@ -71,7 +73,8 @@ run_with_two-requires-clause-sized g c _ _ =
 
 pub run_with_two-requires-clause-others : goal.run_with_two-requires-clause-others
 run_with_two-requires-clause-others g c _ _ =
-    subst (λ last. g.X.Behind.are_blank (length c.args.devices.now.doors) c.args.clocks last) (sym c.in_ok-both.ensures.others) c.requires.last
+    subst (λ last. g.X.Behind.are_blank (length c.args.devices.now.doors) c.args.clocks last)
+    (sym c.in_ok-both.ensures.others) c.requires.last
 
 pub run_with_two-requires-clause-protos : goal.run_with_two-requires-clause-protos
 run_with_two-requires-clause-protos g c _ _ =
