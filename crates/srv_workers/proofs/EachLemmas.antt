@@ -1,4 +1,4 @@
--- So many of each number below a count.
+-- Equally many of each number below a count.
 use Rattle.std.proofs.Common.{◌≡◌, ℕ, zero, suc, ◌<◌, ◌≤◌, List, [], ◌∷◌, ◌++◌, length, map, All, replicate, refl, ap, ap₂, ◌∙◌, length-append, arith}
 use Rattle.std.proofs.lemmas.List.{length-replicate, map-append}
 use Rattle.std.proofs.lemmas.List.Elements.{All-append, All-cons, All-head, All-nil, All-replicate, All-tail}
@@ -9,7 +9,7 @@ pub map-equals : {A B : Type 0} (f : A → B) (n : ℕ) (x : A) → map f (repli
 map-equals f zero x = refl
 map-equals {B = B} f (suc n) x = ap (λ (l : List B). f x ∷ l) (map-equals f n x)
 
--- a function of so many of each
+-- a function of n of each
 pub map-each : {A B : Type 0} (f : A → B) (times count : ℕ) (made : ℕ → A)
     → map f (each_of times count made) ≡ each_of times count (λ (n : ℕ). f (made n))
 map-each f times zero made = refl
@@ -61,7 +61,7 @@ length-each-le times (suc count) f few = omega (
   length-each-le times count (λ (n : ℕ). f (suc n)) few,
 )
 
--- what holds of each number below a count holds of so many of each
+-- what holds of each number below a count holds of n of each
 pub all-each : {A : Type 0} (P : A → Type 0) (times count : ℕ) (made : ℕ → A) → ((n : ℕ) → n < count → P (made n))
     → All P (each_of times count made)
 all-each P times zero made is = All-nil P

@@ -67,7 +67,7 @@ counted-other number (suc times) p differs = omega (
   counted-other number times p differs,
 )
 
--- so many of each of other desks
+-- n of each of other desks
 counted-none : (number times count : ℕ) (made : ℕ → Publisher) → ((n : ℕ) → (made n).desk ≡ number → ⊥)
     → length (counted_of number (each_of times count made)) ≡ 0
 counted-none number times zero made differs = refl
@@ -78,7 +78,7 @@ counted-none number times (suc count) made differs = omega (
   counted-none number times count (λ (n : ℕ). made (suc n)) (λ n. differs (suc n)),
 )
 
--- so many of each of desks that follow one another: as many at each
+-- n of each of desks that follow one another: n at each
 counted-each : (first number times count : ℕ) (made : ℕ → Publisher) → ((n : ℕ) → (made n).desk ≡ first + n)
     → number < count → length (counted_of (first + number) (each_of times count made)) ≡ times
 counted-each first number times zero made desks below = absurd (omega (arith, below))
@@ -100,7 +100,7 @@ counted-each first (suc number) times (suc count) made desks below = omega (
     next : suc first + number ≡ first + suc number
     next = omega arith
 
--- new hands at each desk, so many of each
+-- new hands at each desk, n of each
 new-each : {E H : Type 0} (means : Means E H) (times : ℕ) (hands : List H)
     → map means.publisher hands ≡ each_of times means.them.count (new_at means.them)
     → AreNewHands means (length (each_of times means.them.count (λ (n : ℕ). n))) hands
@@ -112,7 +112,7 @@ new-each {E} {H} means times hands are = record {
       (new_at means.them) (λ n below. record { within = below; pass_is = refl; share_is = refl })));
 }
 
--- so many shares at each
+-- n shares at each
 shares-each : {E H : Type 0} (means : Means E H) (times : ℕ) (hands : List H) (number : ℕ) → number < means.them.count
     → map means.publisher hands ≡ each_of times means.them.count (new_at means.them)
     → length (counted_with means number hands) ≡ times

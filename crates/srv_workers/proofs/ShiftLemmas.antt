@@ -1,5 +1,5 @@
 -- Workers that did their tasks and then learnt the logs.
-use Rattle.std.proofs.Common.{◌≡◌, ℕ, suc, ◌<◌, List, [], ◌∷◌, length, All, refl, ap, slice_index_or}
+use Rattle.std.proofs.Common.{◌≡◌, ℕ, suc, List, [], ◌∷◌, length, All, refl, ap}
 use Rattle.std.specs.List.{AllZip, filter_map}
 use Rattle.fm_model.specs.declared.op.Op.{Op}
 use Rattle.srv_workers.specs.declared.worker.Worker.{Worker}
@@ -9,18 +9,15 @@ use Rattle.srv_workers.specs.Desks.{Means}
 use Rattle.srv_workers.specs.Does.{Does, Shows}
 use Rattle.srv_workers.specs.Done.{HaveWorked}
 use Rattle.srv_workers.specs.Workers.{door_of}
-use Rattle.srv_workers.proofs.PairLemmas.{AllZip-at}
 
 -- workers that did their tasks, had seen beginnings of the logs, and kept what they had
 pub HaveWorked-is : {D I C L E H : Type 0} (shown : Shows D I C L) (keep : ℕ) (means : Means E H)
-    (log : ℕ → List Op) (before middle after : List (Worker D I C E H)) → length middle ≡ length before
-    → ((i : ℕ) (d : Worker D I C E H) → i < length before
-    → Does shown keep means (slice_index_or before i d) (slice_index_or middle i d))
+    (log : ℕ → List Op) (before middle after : List (Worker D I C E H)) → AllZip (Does shown keep means) before middle
     → All (Begins means log) middle → AllZip (Keeps means) middle after
     → HaveWorked shown keep means log before after
-HaveWorked-is shown keep means log before middle after same each begin kept = record {
+HaveWorked-is shown keep means log before middle after worked begin kept = record {
   middle = middle;
-  worked = AllZip-at (Does shown keep means) before middle same each;
+  worked = worked;
   begin = begin;
   kept = kept;
 }

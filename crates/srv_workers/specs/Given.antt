@@ -30,7 +30,7 @@ pub record IsBackFor {B : Type 0} (slots : B → ℕ → Slotted ℕ) (count : �
   pub none : (number : ℕ) → number < count → (slots back number).items ≡ []
   pub free : (number : ℕ) → number < count → parts number ≤ (slots back number).free
 
--- nothing is there yet, and there is room for what the workers of so many devices are given
+-- nothing is there yet, and there is room for what the workers of these numbers of devices are given
 pub record IsVacant {E H : Type 0} (doors inboxes clocks : ℕ) (vacant : Vacant E H) : Type 0 where
   pub no_eyes : vacant.eyes.items ≡ []
   pub eyes : doors ≤ vacant.eyes.free
@@ -43,13 +43,13 @@ pub record IsVacant {E H : Type 0} (doors inboxes clocks : ℕ) (vacant : Vacant
 abbrev pub new_at : Collections → ℕ → Publisher
 new_at them number = record { desk = number; pass = unused (them.proto number); share = 0 }
 
--- so many of each number below a count, in order
+-- n of each number below a count, in order
 abbrev pub each_of : {A : Type 0} → ℕ → ℕ → (ℕ → A) → List A
 each_of times zero made = []
 each_of times (suc count) made = replicate times (made 0) ++ each_of times count (λ number. made (suc number))
 
 -- what was given out by some desks: what gives looks at all of them for each door, which has seen nothing, and of each
--- desk a new hand for its inbox, and one for each of so many clocks
+-- desk a new hand for its inbox, and one for each of its clocks
 pub record AreGivenOut {E H : Type 0} (them : Collections) (views : E → Views) (publisher : H → Publisher)
     (doors clocks : ℕ) (given : Given E H) : Type 0 where
   pub eyes_are : length given.eyes ≡ doors

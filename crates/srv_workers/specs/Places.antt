@@ -10,7 +10,7 @@ use Rattle.srv_workers.specs.Given.{IsVacant}
 abbrev pub new_hand : {N : Type 0} → Proto → OwnHand N
 new_hand proto = record { own = unused proto; share = 0 }
 
--- there is room for the workers of so many devices, and a prototype for each
+-- there is room for the workers of these numbers of devices, and a prototype for each
 pub record HasPlaces {N : Type 0} (proto : Proto) (doors inboxes clocks : ℕ) (places : Places N) : Type 0 where
   pub vacant : IsVacant doors inboxes clocks places.vacant
   pub protos_are : places.protos ≡ replicate (doors + inboxes + clocks) proto

@@ -1,34 +1,74 @@
-//! All workers of a run over desks, of which the first ones are added one by one in front of others. Each call adds one
+//! All workers of a run over desks, of which the first ones are opened one by one in front of others. Each call adds one
 //! desk to whatever stands behind it, since what a proof has to see of desks inside desks grows fast.
-ghost use Rattle.std.specs.Prelude.{◌≡◌, ◌≤◌, IfOk, OnErr, length, suc};
+ghost use Rattle.std.specs.Prelude.{◌≡◌, ◌∷◌, ◌<◌, ◌≤◌, All, IfOk, OnErr, drop, length};
+ghost use Rattle.fm_model.specs.Site.{IsPrototype};
 ghost use Rattle.pub_snap.specs.Opening.{IsNamed};
-ghost use Rattle.srv_workers.specs.Both.{all_collections};
 ghost use Rattle.srv_workers.specs.Desks.{first_of};
 ghost use Rattle.srv_workers.specs.Opened.{HasOneEach, IsSized};
-ghost use Rattle.srv_workers.specs.Several.{RanAmong};
+ghost use Rattle.srv_workers.specs.Several.{RanSeveral};
 
 use crate::behind::Behind;
+use crate::blanks::{BlanksWith, blank_before};
 use crate::both::And;
 use crate::many::run_desks;
 use crate::outcome::Outcomes;
 use dev_traits::{Machine, Opened};
-use fm_base::{Arc, List, NoMemory};
+use fm_base::{Arc, NoMemory};
 use fm_model::Proto;
-use pub_snap::{Blank, Desk, Name};
+use pub_snap::{Desk, Name};
 use std::alloc::Global;
+use std::marker::Brand;
 use std::sync::Wait;
 use std::thread::Threads;
 
 // Runs workers over a desk, and others behind it.
+pub(crate) fn run_with<
+    R: Threads + Wait + Sync,
+    M: Machine,
+    N: Name + Send + Sync,
+    X: Behind + Send,
+>(
+    rt: &R,
+    alloc: Global,
+    blanks: BlanksWith<X>,
+    protos: &[Arc<Proto>],
+    clocks: usize,
+    keep: u32,
+    gate: &M::G,
+    devices: &mut Opened<M>,
+) -> Result<Outcomes, NoMemory>
+where
+    X::Eyes: Send,
+    X::Passes: Send,
+    X::Blanks: Send,
+    X::Hand: Send,
+    X::Shared: Sync,
+    X::Receipts: Send,
+    X::Back: Send,
+    requires first { IsNamed blanks.first N.book N.name N.proto N.parts }
+    requires sized { IsSized (length devices.old.doors) clocks blanks.first }
+    requires others { X.are_blank (length devices.old.doors) clocks blanks.others }
+    requires protos { protos.now
+        ≡ N.proto ∷ first_of X.means.them.count X.means.them.proto }
+    requires few { length protos.now ≤ 8 }
+    requires devices { HasOneEach (length protos.now) clocks devices.old }
+    ensures ran { IfOk result
+        (RanSeveral M.D.shown M.D.L.shown M.I.shown M.C.shown protos.now keep devices.old devices.new) }
+    ensures none { OnErr result (devices.new ≡ devices.old) }
+{
+    run_desks::<R, M, And<Desk<N>, X>>(rt, alloc, blanks, protos, clocks, keep, gate, devices)
+}
+
+// Opens one desk more in front of those, and runs workers over all.
 pub(crate) fn run_with_one<
     R: Threads + Wait + Sync,
     M: Machine,
-    A: Name + Send + Sync,
+    N: Name + Send + Sync,
     X: Behind + Send,
 >(
     rt: &R,
     alloc: Global,
-    blanks: And<Blank, X::Blanks>,
+    blanks: BlanksWith<X>,
     protos: &[Arc<Proto>],
     clocks: usize,
     keep: u32,
@@ -39,36 +79,37 @@ where
     X::Eyes: Send,
     X::Passes: Send,
     X::Blanks: Send,
-    X::Places: Send,
     X::Hand: Send,
     X::Shared: Sync,
     X::Receipts: Send,
     X::Back: Send,
-    requires first { IsNamed blanks.first A.book A.name A.proto A.parts }
+    requires first { IsNamed blanks.first N.book N.name N.proto N.parts }
     requires sized { IsSized (length devices.old.doors) clocks blanks.first }
     requires others { X.are_blank (length devices.old.doors) clocks blanks.others }
-    requires protos { protos.now ≡ first_of (suc X.means.them.count)
-        (all_collections A.proto X.means.them).proto }
-    requires devices { HasOneEach (suc X.means.them.count) clocks devices.old }
-    requires few { suc X.means.them.count ≤ 8 }
-    ensures ran { IfOk result (RanAmong M.D.shown M.D.L.shown M.I.shown M.C.shown
-        (all_collections A.proto X.means.them) keep devices.old devices.new) }
+    requires protos { drop 1 protos.now
+        ≡ N.proto ∷ first_of X.means.them.count X.means.them.proto }
+    requires prototypes { All IsPrototype protos.now }
+    requires few { (1 < length protos.now) × (length protos.now ≤ 8) }
+    requires devices { HasOneEach (length protos.now) clocks devices.old }
+    ensures ran { IfOk result
+        (RanSeveral M.D.shown M.D.L.shown M.I.shown M.C.shown protos.now keep devices.old devices.new) }
     ensures none { OnErr result (devices.new ≡ devices.old) }
 {
-    run_desks::<R, M, And<Desk<A>, X>>(rt, alloc, blanks, protos, clocks, keep, gate, devices)
+    let doors = devices.doors.len();
+    let all = blank_before(alloc, &protos[0], doors, clocks, blanks)?;
+    run_with::<R, M, Brand, And<Desk<N>, X>>(rt, alloc, all, protos, clocks, keep, gate, devices)
 }
 
-// Runs workers over two desks, and others behind them.
+// Opens two desks more in front of those, and runs workers over all.
 pub(crate) fn run_with_two<
     R: Threads + Wait + Sync,
     M: Machine,
-    A: Name + Send + Sync,
-    B: Name + Send + Sync,
+    N: Name + Send + Sync,
     X: Behind + Send,
 >(
     rt: &R,
     alloc: Global,
-    blanks: And<Blank, And<Blank, X::Blanks>>,
+    blanks: BlanksWith<X>,
     protos: &[Arc<Proto>],
     clocks: usize,
     keep: u32,
@@ -79,71 +120,25 @@ where
     X::Eyes: Send,
     X::Passes: Send,
     X::Blanks: Send,
-    X::Places: Send,
     X::Hand: Send,
     X::Shared: Sync,
     X::Receipts: Send,
     X::Back: Send,
-    requires first { IsNamed blanks.first A.book A.name A.proto A.parts }
-    requires second { IsNamed blanks.others.first B.book B.name B.proto B.parts }
-    requires sized { IsSized (length devices.old.doors) clocks blanks.first
-        × IsSized (length devices.old.doors) clocks blanks.others.first }
-    requires others { X.are_blank (length devices.old.doors) clocks blanks.others.others }
-    requires protos { protos.now ≡ first_of (suc (suc X.means.them.count))
-        (all_collections A.proto (all_collections B.proto X.means.them)).proto }
-    requires devices { HasOneEach (suc (suc X.means.them.count)) clocks devices.old }
-    requires few { suc (suc X.means.them.count) ≤ 8 }
-    ensures ran { IfOk result (RanAmong M.D.shown M.D.L.shown M.I.shown M.C.shown
-        (all_collections A.proto (all_collections B.proto X.means.them)) keep devices.old devices.new) }
+    requires first { IsNamed blanks.first N.book N.name N.proto N.parts }
+    requires sized { IsSized (length devices.old.doors) clocks blanks.first }
+    requires others { X.are_blank (length devices.old.doors) clocks blanks.others }
+    requires protos { drop 2 protos.now
+        ≡ N.proto ∷ first_of X.means.them.count X.means.them.proto }
+    requires prototypes { All IsPrototype protos.now }
+    requires few { (2 < length protos.now) × (length protos.now ≤ 8) }
+    requires devices { HasOneEach (length protos.now) clocks devices.old }
+    ensures ran { IfOk result
+        (RanSeveral M.D.shown M.D.L.shown M.I.shown M.C.shown protos.now keep devices.old devices.new) }
     ensures none { OnErr result (devices.new ≡ devices.old) }
 {
-    run_with_one::<R, M, A, And<Desk<B>, X>>(rt, alloc, blanks, protos, clocks, keep, gate, devices)
-}
-
-// Runs workers over three desks, and others behind them.
-pub(crate) fn run_with_three<
-    R: Threads + Wait + Sync,
-    M: Machine,
-    A: Name + Send + Sync,
-    B: Name + Send + Sync,
-    C: Name + Send + Sync,
-    X: Behind + Send,
->(
-    rt: &R,
-    alloc: Global,
-    blanks: And<Blank, And<Blank, And<Blank, X::Blanks>>>,
-    protos: &[Arc<Proto>],
-    clocks: usize,
-    keep: u32,
-    gate: &M::G,
-    devices: &mut Opened<M>,
-) -> Result<Outcomes, NoMemory>
-where
-    X::Eyes: Send,
-    X::Passes: Send,
-    X::Blanks: Send,
-    X::Places: Send,
-    X::Hand: Send,
-    X::Shared: Sync,
-    X::Receipts: Send,
-    X::Back: Send,
-    requires first { IsNamed blanks.first A.book A.name A.proto A.parts }
-    requires second { IsNamed blanks.others.first B.book B.name B.proto B.parts }
-    requires third { IsNamed blanks.others.others.first C.book C.name C.proto C.parts }
-    requires sized { IsSized (length devices.old.doors) clocks blanks.first
-        × IsSized (length devices.old.doors) clocks blanks.others.first
-        × IsSized (length devices.old.doors) clocks blanks.others.others.first }
-    requires others { X.are_blank (length devices.old.doors) clocks blanks.others.others.others }
-    requires protos { protos.now ≡ first_of (suc (suc (suc X.means.them.count)))
-        (all_collections A.proto (all_collections B.proto (all_collections C.proto X.means.them))).proto }
-    requires devices { HasOneEach (suc (suc (suc X.means.them.count))) clocks devices.old }
-    requires few { suc (suc (suc X.means.them.count)) ≤ 8 }
-    ensures ran { IfOk result (RanAmong M.D.shown M.D.L.shown M.I.shown M.C.shown
-        (all_collections A.proto (all_collections B.proto (all_collections C.proto X.means.them)))
-        keep devices.old devices.new) }
-    ensures none { OnErr result (devices.new ≡ devices.old) }
-{
-    run_with_two::<R, M, A, B, And<Desk<C>, X>>(
-        rt, alloc, blanks, protos, clocks, keep, gate, devices,
+    let doors = devices.doors.len();
+    let all = blank_before(alloc, &protos[1], doors, clocks, blanks)?;
+    run_with_one::<R, M, Brand, And<Desk<N>, X>>(
+        rt, alloc, all, protos, clocks, keep, gate, devices,
     )
 }

@@ -20,14 +20,8 @@ pub(crate) trait Behind: Desks {
     // The desks before they have names.
     type Blanks: Drop;
 
-    // Room for what their workers are given.
-    type Places: Drop;
-
-    // Blanks that they are opened from, with passes for so many doors, and for so many clocks of each.
+    // Blanks that they are opened from, with passes for n doors, and for k clocks of each.
     ghost are_blank: { ℕ → ℕ → Self.Blanks → Type 0 };
-
-    // Places for as many.
-    ghost have_places: { ℕ → ℕ → Self.Places → Type 0 };
 
     // What is known by the types: the prototypes, that a look may see more, and that a hand is of one of the desks.
     fn know()
@@ -44,17 +38,6 @@ pub(crate) trait Behind: Desks {
         ensures seen { IsTrue result
             → HasSeenEach Self.means.them (Self.told all.now) (views_in (Self.Passes.known passes.new)) };
 
-    // Places over these prototypes, one for each desk.
-    fn places(
-        alloc: Global,
-        protos: &[Arc<Proto>],
-        doors: usize,
-        clocks: usize,
-    ) -> Result<Self::Places, NoMemory>
-        requires protos { protos.now ≡ first_of Self.means.them.count Self.means.them.proto }
-        requires few { (doors < 2 ^ 32) × (clocks ≤ 1) }
-        ensures { IfOk result (have_places doors clocks) };
-
     // Eyes of a row of passes, over these prototypes. It takes no memory.
     fn eyes(passes: Self::Passes, protos: List<Arc<Proto>>) -> Self::Eyes
         requires protos { protos ≡ first_of Self.means.them.count Self.means.them.proto }
@@ -62,22 +45,23 @@ pub(crate) trait Behind: Desks {
         requires unseen { IsUnseen (views_in (Self.Passes.known passes)) }
         ensures { IsUnseen (Self.means.views result) };
 
-    // Room for so many shares of each.
+    // Room for `shares` shares of each.
     fn back(alloc: Global, shares: usize) -> Result<Self::Back, NoMemory>
         ensures { IfOk result (IsBackFor Self.slots Self.means.them.count (λ _. shares)) };
 
-    // Opens all desks, and gives out their passes and shares. Where memory runs out, none stays open.
+    // Opens all desks over these prototypes, and gives out their passes and shares. Where memory runs out, none stays
+    // open.
     fn open<R: Wait>(
         rt: &R,
         alloc: Global,
         blanks: Self::Blanks,
-        places: Self::Places,
+        protos: &[Arc<Proto>],
         doors: usize,
         clocks: usize,
     ) -> Result<(Self, Given<Self::Passes, Self::Hand>), NoMemory>
         requires blanks { are_blank doors clocks blanks }
-        requires places { have_places doors clocks places }
-        requires few { clocks ≤ 1 }
+        requires protos { protos.now ≡ first_of Self.means.them.count Self.means.them.proto }
+        requires few { (doors < 2 ^ 32) × (clocks ≤ 1) }
         ensures given { IfOk result (λ opened. AreGivenOut Self.means.them
             (λ passes. views_in (Self.Passes.known passes)) Self.means.publisher doors clocks opened.1) }
         ensures parts { IfOk result (λ _.

@@ -3,11 +3,15 @@ ghost use Rattle.std.specs.Prelude.{◌≡◌, ◌≤◌, IfOk};
 ghost use Rattle.fm_model.specs.Site.{IsPrototype};
 ghost use Rattle.srv_workers.specs.Opened.{IsSized};
 
+use crate::behind::Behind;
 use crate::both::And;
 use fm_base::{Arc, NoMemory};
 use fm_model::Proto;
 use pub_snap::{Blank, prepare};
 use std::alloc::Global;
+
+// A blank, and the blanks of desks behind it.
+pub(crate) type BlanksWith<X> = And<Blank, <X as Behind>::Blanks>;
 
 // A blank over a prototype.
 pub(crate) fn blank_of(

@@ -5,6 +5,7 @@ ghost use Rattle.srv_workers.specs.Both.{rowed_with};
 ghost use Rattle.srv_workers.specs.Desks.{first_of, IsUnseen};
 
 use crate::behind::Behind;
+use crate::given::Given;
 use crate::own::OwnPass;
 use crate::slots::{Slots, take_off};
 use fm_base::{Arc, List, NoMemory};
@@ -44,6 +45,13 @@ impl<N: Name, F: Row> AllEyes<N, F> {
     }
 }
 
+// Room for eyes, and a copy of the prototypes for each of them.
+#[derive(Drop)]
+pub(crate) struct EyeRoom<E> {
+    pub copies: List<List<Arc<Proto>>>,
+    pub slots: Slots<E>,
+}
+
 // A copy of the prototypes.
 fn copy_of(alloc: Global, protos: &[Arc<Proto>]) -> Result<List<Arc<Proto>>, NoMemory>
     ensures { IfOk result (λ copy. copy ≡ protos.now) }
@@ -56,7 +64,7 @@ fn copy_of(alloc: Global, protos: &[Arc<Proto>]) -> Result<List<Arc<Proto>>, NoM
 }
 
 // A copy of them for each door.
-pub(crate) fn copies_for(
+fn copies_for(
     alloc: Global,
     protos: &[Arc<Proto>],
     doors: usize,
@@ -70,8 +78,27 @@ pub(crate) fn copies_for(
     Ok(copies)
 }
 
+// Room for the eyes of each door.
+pub(crate) fn eye_room<E: Drop>(
+    alloc: Global,
+    protos: &[Arc<Proto>],
+    doors: usize,
+) -> Result<EyeRoom<E>, NoMemory>
+    ensures copies { IfOk result (λ room. room.copies ≡ replicate doors protos.now) }
+    ensures slots { IfOk result (λ room. (room.slots.items ≡ []) × (doors ≤ room.slots.free)) }
+{
+    let slots = Slots::with_room(alloc, doors)?;
+    match copies_for(alloc, protos, doors) {
+        Ok(copies) => Ok(EyeRoom { copies, slots }),
+        Err(NoMemory) => {
+            drop(slots);
+            Err(NoMemory)
+        }
+    }
+}
+
 // Eyes of a row of passes for each door. It takes no memory.
-pub(crate) fn eyes_with<X: Behind>(
+fn eyes_with<X: Behind>(
     passes: List<X::Passes>,
     copies: List<List<Arc<Proto>>>,
     room: Slots<X::Eyes>,
@@ -94,4 +121,32 @@ pub(crate) fn eyes_with<X: Behind>(
         eyes.put(those);
     }
     eyes.into_list()
+}
+
+// What workers are given, with eyes for each row of passes. It takes no memory.
+pub(crate) fn given_with<X: Behind>(
+    given: Given<X::Passes, X::Hand>,
+    room: EyeRoom<X::Eyes>,
+) -> Given<X::Eyes, X::Hand>
+    requires copies { room.copies
+        ≡ replicate (length given.eyes) (first_of X.means.them.count X.means.them.proto) }
+    requires few { X.means.them.count ≤ 8 }
+    requires unseen { All (λ those. IsUnseen (views_in (X.Passes.known those))) given.eyes }
+    requires room { (room.slots.items ≡ []) × (length given.eyes ≤ room.slots.free) }
+    ensures each { length result.eyes ≡ length given.eyes }
+    ensures unseen { All (λ those. IsUnseen (X.means.views those)) result.eyes }
+    ensures at_inboxes { result.at_inboxes ≡ given.at_inboxes }
+    ensures at_clocks { result.at_clocks ≡ given.at_clocks }
+{
+    let Given {
+        eyes,
+        at_inboxes,
+        at_clocks,
+    } = given;
+    let eyes = eyes_with::<X>(eyes, room.copies, room.slots);
+    Given {
+        eyes,
+        at_inboxes,
+        at_clocks,
+    }
 }

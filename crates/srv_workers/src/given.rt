@@ -22,7 +22,7 @@ pub(crate) struct Vacant<E, H> {
     pub at_clocks: Slots<H>,
 }
 
-// Room for what the workers of so many doors, inboxes and clocks are given.
+// Room for what is given to the workers of `doors` doors, `inboxes` inboxes and `clocks` clocks.
 pub(crate) fn vacant_for<E: Drop, H: Drop>(
     alloc: Global,
     doors: usize,

@@ -1,13 +1,12 @@
 //! One desk behind others.
 ghost use Rattle.pub_snap.specs.Opening.{IsNamed};
 ghost use Rattle.srv_workers.specs.Opened.{IsSized};
-ghost use Rattle.srv_workers.specs.Places.{HasPlaces};
 
 use crate::behind::Behind;
 use crate::given::Given;
 use crate::one::OwnHand;
 use crate::own::OwnPass;
-use crate::places::{Places, given_at, places_for};
+use crate::places::{given_at, places_for};
 use crate::slots::Slots;
 use fm_base::{Arc, List, NoMemory};
 use fm_model::Proto;
@@ -21,28 +20,14 @@ impl<N: Name + Send + Sync> Behind for Desk<N> {
 
     type Blanks = Blank;
 
-    type Places = Places<N>;
-
     ghost are_blank = { λ doors clocks blank. IsNamed blank N.book N.name N.proto N.parts
         × IsSized doors clocks blank };
-
-    ghost have_places = { λ doors clocks places. HasPlaces N.proto doors 1 clocks places };
 
     fn know() {}
 
     fn learn_passes(passes: &mut OwnPass<N>, all: &Receipt<N>) -> bool {
         passes.learn(all);
         passes.seen() == all.revision()
-    }
-
-    fn places(
-        alloc: Global,
-        protos: &[Arc<Proto>],
-        doors: usize,
-        clocks: usize,
-    ) -> Result<Places<N>, NoMemory> {
-        let places = places_for(alloc, &protos[0], doors, 1, clocks)?;
-        Ok(places)
     }
 
     fn eyes(passes: OwnPass<N>, _protos: List<Arc<Proto>>) -> OwnPass<N> {
@@ -58,10 +43,17 @@ impl<N: Name + Send + Sync> Behind for Desk<N> {
         _rt: &R,
         alloc: Global,
         blank: Blank,
-        places: Places<N>,
+        protos: &[Arc<Proto>],
         doors: usize,
         clocks: usize,
     ) -> Result<(Desk<N>, Given<OwnPass<N>, OwnHand<N>>), NoMemory> {
+        let places = match places_for(alloc, &protos[0], doors, 1, clocks) {
+            Ok(places) => places,
+            Err(NoMemory) => {
+                drop(blank);
+                return Err(NoMemory);
+            }
+        };
         match blank.open::<N>(alloc) {
             Ok((desk, passes, shares)) => {
                 let given = given_at(passes, shares, places, doors, 1, clocks);

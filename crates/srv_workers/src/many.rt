@@ -7,75 +7,75 @@ ghost use Rattle.srv_workers.specs.Room.{device_count, IsRoomFor};
 ghost use Rattle.srv_workers.specs.Several.{RanAmong};
 
 use crate::behind::Behind;
-use crate::eyes::{copies_for, eyes_with};
-use crate::given::Given;
+use crate::desks::Desks;
+use crate::eyes::{EyeRoom, eye_room, given_with};
 use crate::outcome::Outcomes;
 use crate::room::{Room, room_of};
 use crate::run::run_over;
-use crate::slots::Slots;
 use dev_traits::{Devices, Machine, Opened};
-use fm_base::{Arc, List, NoMemory};
+use fm_base::{Arc, NoMemory};
 use fm_model::Proto;
 use std::alloc::Global;
 use std::sync::Wait;
 use std::thread::Threads;
 
-// All that is made before the desks are opened.
+// Room for all workers of a run over desks.
+type WorkRoom<D, I, C, X> = Room<
+    D,
+    I,
+    C,
+    <X as Desks>::Eyes,
+    <X as Desks>::Hand,
+    <X as Desks>::Back,
+>;
+
+// All room that is made before the desks are opened.
 #[derive(Drop)]
-struct Made<P, E, O> {
-    places: P,
-    copies: List<List<Arc<Proto>>>,
-    eyes: Slots<E>,
+struct Made<E, O> {
+    eyes: EyeRoom<E>,
     room: O,
 }
 
-// All that is made before desks over these prototypes are opened, each with an inbox and so many clocks.
+// Room for all workers, and for the shares of an inbox and of `clocks` clocks of each desk.
+fn room_over<D: Drop, I: Drop, C: Drop, X: Behind>(
+    alloc: Global,
+    desks: usize,
+    clocks: usize,
+    devices: &Devices<D, I, C>,
+) -> Result<WorkRoom<D, I, C, X>, NoMemory>
+    requires few { device_count devices.now < 2 ^ 32 }
+    requires clocks { clocks ≤ 1 }
+    ensures room { IfOk result (λ room. IsRoomFor devices.now desks room.parts.back room) }
+    ensures back { IfOk result (λ room.
+        IsBackFor X.slots X.means.them.count (λ _. 1 + clocks) room.parts.back) }
+{
+    let back = X::back(alloc, 1 + clocks)?;
+    let room = room_of(alloc, devices, desks, back)?;
+    Ok(room)
+}
+
+// All room that is made before desks over these prototypes are opened.
 fn made_for<D: Drop, I: Drop, C: Drop, X: Behind>(
     alloc: Global,
     protos: &[Arc<Proto>],
     clocks: usize,
     devices: &Devices<D, I, C>,
-) -> Result<Made<X::Places, X::Eyes, Room<D, I, C, X::Eyes, X::Hand, X::Back>>, NoMemory>
-    requires protos { protos.now ≡ first_of X.means.them.count X.means.them.proto }
-    requires few { (device_count devices.now < 2 ^ 32) × (clocks ≤ 1) }
-    ensures places { IfOk result (λ made. X.have_places (length devices.now.doors) clocks made.places) }
-    ensures copies { IfOk result (λ made. made.copies ≡ replicate (length devices.now.doors) protos.now) }
-    ensures eyes { IfOk result (λ made.
-        (made.eyes.items ≡ []) × (length devices.now.doors ≤ made.eyes.free)) }
+) -> Result<Made<X::Eyes, WorkRoom<D, I, C, X>>, NoMemory>
+    requires few { device_count devices.now < 2 ^ 32 }
+    requires clocks { clocks ≤ 1 }
+    ensures copies { IfOk result (λ made. made.eyes.copies ≡ replicate (length devices.now.doors) protos.now) }
+    ensures slots { IfOk result (λ made.
+        (made.eyes.slots.items ≡ []) × (length devices.now.doors ≤ made.eyes.slots.free)) }
     ensures room { IfOk result (λ made.
         IsRoomFor devices.now (length protos.now) made.room.parts.back made.room) }
     ensures back { IfOk result (λ made.
         IsBackFor X.slots X.means.them.count (λ _. 1 + clocks) made.room.parts.back) }
 {
-    let doors = devices.doors.len();
-    let back = X::back(alloc, 1 + clocks)?;
-    let room = room_of(alloc, devices, protos.len(), back)?;
-    let eyes = match Slots::with_room(alloc, doors) {
-        Ok(eyes) => eyes,
-        Err(NoMemory) => {
-            drop(room);
-            return Err(NoMemory);
-        }
-    };
-    let copies = match copies_for(alloc, protos, doors) {
-        Ok(copies) => copies,
+    let eyes = eye_room(alloc, protos, devices.doors.len())?;
+    match room_over::<D, I, C, X>(alloc, protos.len(), clocks, devices) {
+        Ok(room) => Ok(Made { eyes, room }),
         Err(NoMemory) => {
             drop(eyes);
-            drop(room);
-            return Err(NoMemory);
-        }
-    };
-    match X::places(alloc, protos, doors, clocks) {
-        Ok(places) => Ok(Made {
-            places,
-            copies,
-            eyes,
-            room,
-        }),
-        Err(NoMemory) => {
-            drop(copies);
-            drop(eyes);
-            drop(room);
             Err(NoMemory)
         }
     }
@@ -114,32 +114,16 @@ where
             return Err(NoMemory);
         }
     };
-    let Made {
-        places,
-        copies,
-        eyes,
-        room,
-    } = made;
-    let (desks, given) = match X::open(rt, alloc, blanks, places, devices.doors.len(), clocks) {
+    let doors = devices.doors.len();
+    let (desks, given) = match X::open(rt, alloc, blanks, protos, doors, clocks) {
         Ok(opened) => opened,
         Err(NoMemory) => {
-            drop(copies);
-            drop(eyes);
-            drop(room);
+            drop(made);
             return Err(NoMemory);
         }
     };
-    let Given {
-        eyes: passes,
-        at_inboxes,
-        at_clocks,
-    } = given;
-    let eyes = eyes_with::<X>(passes, copies, eyes);
-    let given = Given {
-        eyes,
-        at_inboxes,
-        at_clocks,
-    };
+    let Made { eyes, room } = made;
+    let given = given_with::<X>(given, eyes);
     let outcomes = run_over::<R, M, X>(rt, alloc, desks, given, room, keep, gate, devices);
     Ok(outcomes)
 }

@@ -1,5 +1,5 @@
 //! A desk with others behind it, all behind another one.
-ghost use Rattle.std.specs.Prelude.{suc};
+ghost use Rattle.std.specs.Prelude.{◌<◌, ◌≤◌, ◌^◌, IfOk};
 ghost use Rattle.pub_snap.specs.Opening.{IsNamed};
 ghost use Rattle.srv_workers.specs.Given.{IsVacant};
 ghost use Rattle.srv_workers.specs.Opened.{IsSized};
@@ -22,12 +22,33 @@ use srv_many::Several;
 use std::alloc::Global;
 use std::sync::Wait;
 
-// Places of the first desk and of the others, and room for what all of them are given together.
+// Places of the first desk, and room for what the workers of all desks are given.
 #[derive(Drop)]
-pub(crate) struct Joint<A, B, P, H> {
-    pub first: A,
-    pub others: B,
-    pub all: Vacant<P, H>,
+struct Joint<A, P, H> {
+    first: A,
+    all: Vacant<P, H>,
+}
+
+// Places of the first of `desks` desks, which is over this prototype, and room for all.
+fn joint_for<N: Name, P: Drop, H: Drop>(
+    alloc: Global,
+    proto: &Arc<Proto>,
+    desks: usize,
+    doors: usize,
+    clocks: usize,
+) -> Result<Joint<Places<N>, P, H>, NoMemory>
+    requires { (doors < 2 ^ 32) × (clocks ≤ 1) }
+    ensures first { IfOk result (λ joint. HasPlaces proto.now doors 1 clocks joint.first) }
+    ensures all { IfOk result (λ joint. IsVacant doors desks desks joint.all) }
+{
+    let all = vacant_for(alloc, doors, desks, desks)?;
+    match places_for(alloc, proto, doors, 1, clocks) {
+        Ok(first) => Ok(Joint { first, all }),
+        Err(NoMemory) => {
+            drop(all);
+            Err(NoMemory)
+        }
+    }
 }
 
 impl<N: Name + Send + Sync, X: Behind> Behind for And<Desk<N>, X> {
@@ -35,28 +56,14 @@ impl<N: Name + Send + Sync, X: Behind> Behind for And<Desk<N>, X> {
 
     type Blanks = And<Blank, X::Blanks>;
 
-    type Places = Joint<
-        Places<N>,
-        X::Places,
-        Several<OwnPass<N>, X::Passes>,
-        OneOf<OwnHand<N>, X::Hand>,
-    >;
-
     ghost are_blank = { λ doors clocks blanks. IsNamed blanks.first N.book N.name N.proto N.parts
         × IsSized doors clocks blanks.first × X.are_blank doors clocks blanks.others };
-
-    ghost have_places = { λ doors clocks places. HasPlaces N.proto doors 1 clocks places.first
-        × X.have_places doors clocks places.others
-        × IsVacant doors (suc X.means.them.count) (suc X.means.them.count) places.all };
 
     fn know() {
         X::know();
     }
 
-    fn learn_passes(
-        passes: &mut Several<OwnPass<N>, X::Passes>,
-        all: &And<Receipt<N>, X::Receipts>,
-    ) -> bool {
+    fn learn_passes(passes: &mut Self::Passes, all: &Self::Receipts) -> bool {
         X::know();
         let level = X::learn_passes(&mut passes.others, &all.others);
         passes.first.learn(&all.first);
@@ -66,35 +73,12 @@ impl<N: Name + Send + Sync, X: Behind> Behind for And<Desk<N>, X> {
         passes.first.seen() == all.first.revision()
     }
 
-    fn places(
-        alloc: Global,
-        protos: &[Arc<Proto>],
-        doors: usize,
-        clocks: usize,
-    ) -> Result<
-        Joint<Places<N>, X::Places, Several<OwnPass<N>, X::Passes>, OneOf<OwnHand<N>, X::Hand>>,
-        NoMemory,
-    > {
-        match protos {
-            [proto, rest @ ..] => {
-                let others = X::places(alloc, rest, doors, clocks)?;
-                let all = vacant_for(alloc, doors, protos.len(), protos.len())?;
-                let first = places_for(alloc, proto, doors, 1, clocks)?;
-                Ok(Joint { first, others, all })
-            }
-            [] => unreachable!(),
-        }
-    }
-
-    fn eyes(
-        passes: Several<OwnPass<N>, X::Passes>,
-        protos: List<Arc<Proto>>,
-    ) -> AllEyes<N, X::Passes> {
+    fn eyes(passes: Self::Passes, protos: List<Arc<Proto>>) -> Self::Eyes {
         X::know();
         AllEyes::of(passes, protos)
     }
 
-    fn back(alloc: Global, shares: usize) -> Result<And<Slots<Share<N>>, X::Back>, NoMemory> {
+    fn back(alloc: Global, shares: usize) -> Result<Self::Back, NoMemory> {
         let others = X::back(alloc, shares)?;
         let first = Slots::with_room(alloc, shares)?;
         Ok(And { first, others })
@@ -103,22 +87,24 @@ impl<N: Name + Send + Sync, X: Behind> Behind for And<Desk<N>, X> {
     fn open<R: Wait>(
         rt: &R,
         alloc: Global,
-        blanks: And<Blank, X::Blanks>,
-        places: Joint<
-            Places<N>,
-            X::Places,
-            Several<OwnPass<N>, X::Passes>,
-            OneOf<OwnHand<N>, X::Hand>,
-        >,
+        blanks: Self::Blanks,
+        protos: &[Arc<Proto>],
         doors: usize,
         clocks: usize,
-    ) -> Result<
-        (
-            And<Desk<N>, X>,
-            Given<Several<OwnPass<N>, X::Passes>, OneOf<OwnHand<N>, X::Hand>>,
-        ),
-        NoMemory,
-    > {
+    ) -> Result<(Self, Given<Self::Passes, Self::Hand>), NoMemory> {
+        let joint = match joint_for::<N, Self::Passes, Self::Hand>(
+            alloc,
+            &protos[0],
+            protos.len(),
+            doors,
+            clocks,
+        ) {
+            Ok(joint) => joint,
+            Err(NoMemory) => {
+                drop(blanks);
+                return Err(NoMemory);
+            }
+        };
         let And {
             first: blank,
             others: behind,
@@ -127,31 +113,24 @@ impl<N: Name + Send + Sync, X: Behind> Behind for And<Desk<N>, X> {
             Ok(opened) => opened,
             Err(NoMemory) => {
                 drop(behind);
-                drop(places);
+                drop(joint);
                 return Err(NoMemory);
             }
         };
-        let Joint {
-            first: own,
-            others: rest,
-            all,
-        } = places;
-        match X::open(rt, alloc, behind, rest, doors, clocks) {
+        match X::open(rt, alloc, behind, &protos[1..], doors, clocks) {
             Ok((others, given)) => {
+                let Joint { first: own, all } = joint;
                 let first = given_at(passes, shares, own, doors, 1, clocks);
-                Ok((
-                    And {
-                        first: desk,
-                        others,
-                    },
-                    given_all(first, given, all),
-                ))
+                let desks = And {
+                    first: desk,
+                    others,
+                };
+                Ok((desks, given_all(first, given, all)))
             }
             Err(NoMemory) => {
                 Desk::close(desk, rt, shares);
                 drop(passes);
-                drop(own);
-                drop(all);
+                drop(joint);
                 Err(NoMemory)
             }
         }

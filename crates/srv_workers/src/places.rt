@@ -19,7 +19,7 @@ pub(crate) struct Places<N: Name> {
     pub protos: List<Arc<Proto>>,
 }
 
-// Room for the workers of so many devices.
+// Room for the workers of `doors` doors, `inboxes` inboxes and `clocks` clocks.
 pub(crate) fn places_for<N: Name>(
     alloc: Global,
     proto: &Arc<Proto>,

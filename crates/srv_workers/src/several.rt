@@ -1,13 +1,14 @@
 //! All workers of a run over two to four desks, whose names are of the run.
-ghost use Rattle.std.specs.Prelude.{◌≡◌, ◌⊎◌, ◌∷◌, ◌<◌, ◌≤◌, [], All, IfOk, OnErr, length};
+ghost use Rattle.std.specs.Prelude.{◌≡◌, ◌⊎◌, ◌∷◌, ◌-◌, ◌<◌, ◌≤◌, [], All, IfOk, OnErr, drop, length};
 ghost use Rattle.fm_model.specs.Site.{IsPrototype};
 ghost use Rattle.pub_snap.specs.Opening.{IsNamed};
+ghost use Rattle.srv_workers.specs.Desks.{first_of};
 ghost use Rattle.srv_workers.specs.Opened.{HasOneEach, IsSized};
 ghost use Rattle.srv_workers.specs.Several.{RanSeveral};
 
-use crate::ahead::{run_with_one, run_with_three, run_with_two};
+use crate::ahead::{run_with, run_with_one, run_with_two};
+use crate::behind::Behind;
 use crate::blanks::{blank_before, blank_of};
-use crate::both::And;
 use crate::outcome::Outcomes;
 use dev_traits::{Machine, Opened};
 use fm_base::{Arc, List, NoMemory};
@@ -18,172 +19,74 @@ use std::marker::Brand;
 use std::sync::Wait;
 use std::thread::Threads;
 
-// Runs workers over two desks.
-fn run_two<R: Threads + Wait + Sync, M: Machine, A: Name + Send + Sync, B: Name + Send + Sync>(
+// Opens a desk before the last one, and one or two more where there are more prototypes, and runs workers over all.
+fn run_before<R: Threads + Wait + Sync, M: Machine, X: Behind + Send>(
     rt: &R,
     alloc: Global,
-    blanks: And<Blank, Blank>,
+    last: X::Blanks,
     protos: &[Arc<Proto>],
     clocks: usize,
     keep: u32,
     gate: &M::G,
     devices: &mut Opened<M>,
 ) -> Result<Outcomes, NoMemory>
-    requires first { IsNamed blanks.first A.book A.name A.proto A.parts }
-    requires second { IsNamed blanks.others B.book B.name B.proto B.parts }
-    requires sized { IsSized (length devices.old.doors) clocks blanks.first
-        × IsSized (length devices.old.doors) clocks blanks.others }
-    requires protos { protos.now ≡ A.proto ∷ B.proto ∷ [] }
-    requires devices { HasOneEach 2 clocks devices.old }
-    ensures ran { IfOk result
-        (RanSeveral M.D.shown M.D.L.shown M.I.shown M.C.shown protos.now keep devices.old devices.new) }
-    ensures none { OnErr result (devices.new ≡ devices.old) }
-{
-    run_with_one::<R, M, A, Desk<B>>(rt, alloc, blanks, protos, clocks, keep, gate, devices)
-}
-
-// Runs workers over three desks.
-fn run_three<
-    R: Threads + Wait + Sync,
-    M: Machine,
-    A: Name + Send + Sync,
-    B: Name + Send + Sync,
-    C: Name + Send + Sync,
->(
-    rt: &R,
-    alloc: Global,
-    blanks: And<Blank, And<Blank, Blank>>,
-    protos: &[Arc<Proto>],
-    clocks: usize,
-    keep: u32,
-    gate: &M::G,
-    devices: &mut Opened<M>,
-) -> Result<Outcomes, NoMemory>
-    requires first { IsNamed blanks.first A.book A.name A.proto A.parts }
-    requires second { IsNamed blanks.others.first B.book B.name B.proto B.parts }
-    requires third { IsNamed blanks.others.others C.book C.name C.proto C.parts }
-    requires sized { IsSized (length devices.old.doors) clocks blanks.first
-        × IsSized (length devices.old.doors) clocks blanks.others.first
-        × IsSized (length devices.old.doors) clocks blanks.others.others }
-    requires protos { protos.now ≡ A.proto ∷ B.proto ∷ C.proto ∷ [] }
-    requires devices { HasOneEach 3 clocks devices.old }
-    ensures ran { IfOk result
-        (RanSeveral M.D.shown M.D.L.shown M.I.shown M.C.shown protos.now keep devices.old devices.new) }
-    ensures none { OnErr result (devices.new ≡ devices.old) }
-{
-    run_with_two::<R, M, A, B, Desk<C>>(rt, alloc, blanks, protos, clocks, keep, gate, devices)
-}
-
-// Runs workers over four desks.
-fn run_four<
-    R: Threads + Wait + Sync,
-    M: Machine,
-    A: Name + Send + Sync,
-    B: Name + Send + Sync,
-    C: Name + Send + Sync,
-    N: Name + Send + Sync,
->(
-    rt: &R,
-    alloc: Global,
-    blanks: And<Blank, And<Blank, And<Blank, Blank>>>,
-    protos: &[Arc<Proto>],
-    clocks: usize,
-    keep: u32,
-    gate: &M::G,
-    devices: &mut Opened<M>,
-) -> Result<Outcomes, NoMemory>
-    requires first { IsNamed blanks.first A.book A.name A.proto A.parts }
-    requires second { IsNamed blanks.others.first B.book B.name B.proto B.parts }
-    requires third { IsNamed blanks.others.others.first C.book C.name C.proto C.parts }
-    requires fourth { IsNamed blanks.others.others.others N.book N.name N.proto N.parts }
-    requires sized { IsSized (length devices.old.doors) clocks blanks.first
-        × IsSized (length devices.old.doors) clocks blanks.others.first
-        × IsSized (length devices.old.doors) clocks blanks.others.others.first
-        × IsSized (length devices.old.doors) clocks blanks.others.others.others }
-    requires protos { protos.now ≡ A.proto ∷ B.proto ∷ C.proto ∷ N.proto ∷ [] }
-    requires devices { HasOneEach 4 clocks devices.old }
-    ensures ran { IfOk result
-        (RanSeveral M.D.shown M.D.L.shown M.I.shown M.C.shown protos.now keep devices.old devices.new) }
-    ensures none { OnErr result (devices.new ≡ devices.old) }
-{
-    run_with_three::<R, M, A, B, C, Desk<N>>(rt, alloc, blanks, protos, clocks, keep, gate, devices)
-}
-
-// Opens two desks, and runs workers over them.
-fn open_two<R: Threads + Wait + Sync, M: Machine>(
-    rt: &R,
-    alloc: Global,
-    protos: &[Arc<Proto>],
-    clocks: usize,
-    keep: u32,
-    gate: &M::G,
-    devices: &mut Opened<M>,
-) -> Result<Outcomes, NoMemory>
-    requires protos { (length protos.now ≡ 2) × All IsPrototype protos.now }
-    requires devices { HasOneEach 2 clocks devices.old }
+where
+    X::Eyes: Send,
+    X::Passes: Send,
+    X::Blanks: Send,
+    X::Hand: Send,
+    X::Shared: Sync,
+    X::Receipts: Send,
+    X::Back: Send,
+    requires last { X.are_blank (length devices.old.doors) clocks last }
+    requires protos { drop (length protos.now - 1) protos.now
+        ≡ first_of X.means.them.count X.means.them.proto }
+    requires prototypes { All IsPrototype protos.now }
+    requires few { (2 ≤ length protos.now) × (length protos.now ≤ 4) }
+    requires devices { HasOneEach (length protos.now) clocks devices.old }
     ensures ran { IfOk result
         (RanSeveral M.D.shown M.D.L.shown M.I.shown M.C.shown protos.now keep devices.old devices.new) }
     ensures none { OnErr result (devices.new ≡ devices.old) }
 {
     let doors = devices.doors.len();
-    let second = blank_of(alloc, &protos[1], doors, clocks)?;
-    let blanks = blank_before(alloc, &protos[0], doors, clocks, second)?;
-    run_two::<R, M, Brand, Brand>(rt, alloc, blanks, protos, clocks, keep, gate, devices)
+    let ahead = protos.len() - 2;
+    let both = blank_before(alloc, &protos[ahead], doors, clocks, last)?;
+    match ahead {
+        0 => run_with::<R, M, Brand, X>(rt, alloc, both, protos, clocks, keep, gate, devices),
+        1 => run_with_one::<R, M, Brand, X>(rt, alloc, both, protos, clocks, keep, gate, devices),
+        _ => run_with_two::<R, M, Brand, X>(rt, alloc, both, protos, clocks, keep, gate, devices),
+    }
 }
 
-// Opens three desks, and runs workers over them.
-fn open_three<R: Threads + Wait + Sync, M: Machine>(
+// Runs workers over the last desk, which has a name, and those before it.
+fn run_last<R: Threads + Wait + Sync, M: Machine, N: Name + Send + Sync>(
     rt: &R,
     alloc: Global,
+    last: Blank,
     protos: &[Arc<Proto>],
     clocks: usize,
     keep: u32,
     gate: &M::G,
     devices: &mut Opened<M>,
 ) -> Result<Outcomes, NoMemory>
-    requires protos { (length protos.now ≡ 3) × All IsPrototype protos.now }
-    requires devices { HasOneEach 3 clocks devices.old }
+    requires last { IsNamed last N.book N.name N.proto N.parts }
+    requires sized { IsSized (length devices.old.doors) clocks last }
+    requires protos { drop (length protos.now - 1) protos.now ≡ N.proto ∷ [] }
+    requires prototypes { All IsPrototype protos.now }
+    requires few { (2 ≤ length protos.now) × (length protos.now ≤ 4) }
+    requires devices { HasOneEach (length protos.now) clocks devices.old }
     ensures ran { IfOk result
         (RanSeveral M.D.shown M.D.L.shown M.I.shown M.C.shown protos.now keep devices.old devices.new) }
     ensures none { OnErr result (devices.new ≡ devices.old) }
 {
-    let doors = devices.doors.len();
-    let third = blank_of(alloc, &protos[2], doors, clocks)?;
-    let second = blank_before(alloc, &protos[1], doors, clocks, third)?;
-    let blanks = blank_before(alloc, &protos[0], doors, clocks, second)?;
-    run_three::<R, M, Brand, Brand, Brand>(rt, alloc, blanks, protos, clocks, keep, gate, devices)
-}
-
-// Opens four desks, and runs workers over them.
-fn open_four<R: Threads + Wait + Sync, M: Machine>(
-    rt: &R,
-    alloc: Global,
-    protos: &[Arc<Proto>],
-    clocks: usize,
-    keep: u32,
-    gate: &M::G,
-    devices: &mut Opened<M>,
-) -> Result<Outcomes, NoMemory>
-    requires protos { (length protos.now ≡ 4) × All IsPrototype protos.now }
-    requires devices { HasOneEach 4 clocks devices.old }
-    ensures ran { IfOk result
-        (RanSeveral M.D.shown M.D.L.shown M.I.shown M.C.shown protos.now keep devices.old devices.new) }
-    ensures none { OnErr result (devices.new ≡ devices.old) }
-{
-    let doors = devices.doors.len();
-    let fourth = blank_of(alloc, &protos[3], doors, clocks)?;
-    let third = blank_before(alloc, &protos[2], doors, clocks, fourth)?;
-    let second = blank_before(alloc, &protos[1], doors, clocks, third)?;
-    let blanks = blank_before(alloc, &protos[0], doors, clocks, second)?;
-    run_four::<R, M, Brand, Brand, Brand, Brand>(
-        rt, alloc, blanks, protos, clocks, keep, gate, devices,
-    )
+    run_before::<R, M, Desk<N>>(rt, alloc, last, protos, clocks, keep, gate, devices)
 }
 
 // How many clocks there are of each collection: none, or one.
 fn clocks_each<C>(clocks: &List<C>) -> usize
     ensures none { length clocks.now ≡ 0 → result ≡ 0 }
     ensures some { 0 < length clocks.now → result ≡ 1 }
+    ensures few { result ≤ 1 }
 {
     if clocks.is_empty() { 0 } else { 1 }
 }
@@ -210,9 +113,8 @@ pub fn run_several<R: Threads + Wait + Sync, M: Machine>(
     ensures none { OnErr result (devices.new ≡ devices.old) }
 {
     let clocks = clocks_each(&devices.clocks);
-    match protos.len() {
-        2 => open_two::<R, M>(rt, alloc, protos, clocks, keep, gate, devices),
-        3 => open_three::<R, M>(rt, alloc, protos, clocks, keep, gate, devices),
-        _ => open_four::<R, M>(rt, alloc, protos, clocks, keep, gate, devices),
-    }
+    let doors = devices.doors.len();
+    let end = protos.len() - 1;
+    let last = blank_of(alloc, &protos[end], doors, clocks)?;
+    run_last::<R, M, Brand>(rt, alloc, last, protos, clocks, keep, gate, devices)
 }

@@ -1,7 +1,7 @@
 //! All workers of a run over one desk, from its opening to its close.
-ghost use Rattle.std.specs.Prelude.{◌≡◌, ◌≤◌, ◌+◌, ◌<◌, ◌^◌, [], IfOk, OnErr, length};
+ghost use Rattle.std.specs.Prelude.{◌≡◌, ◌≤◌, ◌+◌, ◌<◌, ◌^◌, [], IfOk, OnErr, length, replicate};
 ghost use Rattle.fm_model.specs.Site.{IsPrototype};
-ghost use Rattle.pub_snap.specs.Opening.{IsNamed};
+ghost use Rattle.pub_snap.specs.Opening.{IsNamed, unused};
 ghost use Rattle.srv_workers.specs.One.{IsOfOne};
 ghost use Rattle.srv_workers.specs.Places.{HasPlaces};
 ghost use Rattle.srv_workers.specs.Room.{device_count, IsRoomFor};
@@ -15,9 +15,9 @@ use crate::room::{Room, room_of};
 use crate::run::run_over;
 use crate::slots::Slots;
 use dev_traits::{Devices, Machine, Opened};
-use fm_base::{Arc, NoMemory};
+use fm_base::{Arc, List, NoMemory};
 use fm_model::Proto;
-use pub_snap::{Blank, Desk, Name, Share, prepare};
+use pub_snap::{Blank, Desk, Name, Pass, Share, prepare};
 use std::alloc::Global;
 use std::marker::Brand;
 use std::sync::Wait;
@@ -56,6 +56,9 @@ fn ready_for<D: Drop, I: Drop, C: Drop, N: Name>(
     Ok(Ready { places, room })
 }
 
+// A desk that was opened, its passes and its shares.
+type OpenDesk<N> = (Desk<N>, List<Pass<N>>, List<Share<N>>);
+
 // The outcome over one desk.
 fn of_one(outcomes: Outcomes) -> Outcome
     requires { length outcomes.desks ≡ 1 }
@@ -75,6 +78,38 @@ fn of_one(outcomes: Outcomes) -> Outcome
         tally: closed.tally,
         revision: closed.revision,
     }
+}
+
+// Runs workers over a desk that was opened, with its passes and shares, and closes it. It takes no memory but what the
+// workers ask for.
+fn run_opened<R: Threads + Wait + Sync, M: Machine, N: Name + Send + Sync>(
+    rt: &R,
+    alloc: Global,
+    opened: OpenDesk<N>,
+    ready: Ready<M::D, M::I, M::C, N>,
+    keep: u32,
+    gate: &M::G,
+    devices: &mut Opened<M>,
+) -> Outcome
+    requires passes { opened.1 ≡ replicate (length devices.old.doors
+        + (length devices.old.inboxes + length devices.old.clocks)) (unused N.proto) }
+    requires shares { opened.2 ≡ replicate (length devices.old.inboxes + length devices.old.clocks) 0 }
+    requires parts { N.parts ≡ length devices.old.inboxes + length devices.old.clocks }
+    requires places { HasPlaces N.proto (length devices.old.doors) (length devices.old.inboxes)
+        (length devices.old.clocks) ready.places }
+    requires room { IsRoomFor devices.old 1 ready.room.parts.back ready.room }
+    requires back { (ready.room.parts.back.items ≡ []) × (N.parts ≤ ready.room.parts.back.free) }
+    requires some { 1 ≤ length devices.old.doors }
+    requires few { device_count devices.old < 2 ^ 32 }
+    ensures { RanTogether M.D.shown M.D.L.shown M.I.shown M.C.shown N.proto keep devices.old devices.new result }
+{
+    let (desk, passes, shares) = opened;
+    let Ready { places, room } = ready;
+    let doors = devices.doors.len();
+    let inboxes = devices.inboxes.len();
+    let given = given_at(passes, shares, places, doors, inboxes, devices.clocks.len());
+    let outcomes = run_over::<R, M, Desk<N>>(rt, alloc, desk, given, room, keep, gate, devices);
+    of_one(outcomes)
 }
 
 // Runs workers over a desk that is opened under a name, and closes it. Once it is open this takes no memory but what
@@ -106,19 +141,13 @@ fn run_one<R: Threads + Wait + Sync, M: Machine, N: Name + Send + Sync>(
             return Err(NoMemory);
         }
     };
-    let (desk, passes, shares) = match blank.open::<N>(alloc) {
-        Ok(opened) => opened,
+    match blank.open::<N>(alloc) {
+        Ok(opened) => Ok(run_opened::<R, M, N>(rt, alloc, opened, ready, keep, gate, devices)),
         Err(NoMemory) => {
             drop(ready);
-            return Err(NoMemory);
+            Err(NoMemory)
         }
-    };
-    let Ready { places, room } = ready;
-    let doors = devices.doors.len();
-    let inboxes = devices.inboxes.len();
-    let given = given_at(passes, shares, places, doors, inboxes, devices.clocks.len());
-    let outcomes = run_over::<R, M, Desk<N>>(rt, alloc, desk, given, room, keep, gate, devices);
-    Ok(of_one(outcomes))
+    }
 }
 
 /// Opens a desk over a prototype, and has a worker for each device, all at once: each door is served, what arrives in

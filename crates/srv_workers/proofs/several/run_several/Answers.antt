@@ -1,33 +1,39 @@
-use Rattle.std.proofs.Common.{◌≡◌, arith, length}
-use Rattle.srv_workers.proofs.CollectLemmas.{HasOneEach-is}
+use Rattle.std.proofs.Common.{ℕ, ◌-◌, arith, length, refl, subst}
+use Rattle.fm_model.specs.Site.{IsPrototype}
+use Rattle.srv_workers.specs.Opened.{IsSized}
+use Rattle.srv_workers.proofs.CollectLemmas.{all-at, HasOneEach-is, last-one}
 use Rattle.srv_workers.proofs.several.run_several.Goals as goal
 
-pub open_two-requires-clause-protos : goal.open_two-requires-clause-protos
-open_two-requires-clause-protos g c _ _ = (omega arith, c.requires.protos.2)
+pub blank_of-requires-clause-proto : goal.blank_of-requires-clause-proto
+blank_of-requires-clause-proto g c =
+    all-at IsPrototype c.args.protos.now (length c.args.protos.now - 1) c.index-protos-end.result c.requires.protos.2
+    (omega (arith, c.requires.protos.0)) c.index-protos-end.is
 
-pub open_two-requires-clause-devices : goal.open_two-requires-clause-devices
-open_two-requires-clause-devices g c _ _ =
-    HasOneEach-is 2 c.clocks_each-clocks.result (length c.args.protos.now) c.args.devices.now (omega arith)
-    (omega arith) c.requires.doors c.requires.inboxes c.requires.clocks c.clocks_each-clocks.ensures.none
-    c.clocks_each-clocks.ensures.some
+pub blank_of-requires-clause-few : goal.blank_of-requires-clause-few
+blank_of-requires-clause-few g c = (
+  omega (arith, c.requires.doors.0, c.len-doors.ensures),
+  omega (arith, c.requires.doors.1, c.len-doors.ensures),
+  c.clocks_each-clocks.ensures.few,
+)
 
-pub open_three-requires-clause-protos : goal.open_three-requires-clause-protos
-open_three-requires-clause-protos g c _ _ = (omega arith, c.requires.protos.2)
+pub run_last-requires-clause-sized : goal.run_last-requires-clause-sized
+run_last-requires-clause-sized g c _ _ =
+    subst (λ (doors : ℕ). IsSized doors c.clocks_each-clocks.result c.in_ok-last.last) c.len-doors.ensures
+    c.in_ok-last.ensures.sized
 
-pub open_three-requires-clause-devices : goal.open_three-requires-clause-devices
-open_three-requires-clause-devices g c _ _ =
-    HasOneEach-is 3 c.clocks_each-clocks.result (length c.args.protos.now) c.args.devices.now (omega arith)
-    (omega arith) c.requires.doors c.requires.inboxes c.requires.clocks c.clocks_each-clocks.ensures.none
-    c.clocks_each-clocks.ensures.some
+pub run_last-requires-clause-protos : goal.run_last-requires-clause-protos
+run_last-requires-clause-protos g c _ _ =
+    last-one c.args.protos.now c.index-protos-end.result c.in_ok-last.last.proto
+    (omega (arith, c.requires.protos.0)) c.in_ok-last.ensures.proto c.index-protos-end.is
 
-pub open_four-requires-clause-protos : goal.open_four-requires-clause-protos
-open_four-requires-clause-protos g c _ _ =
-    let all : length c.args.protos.now ≡ 4 = omega (arith, c.requires.protos.0, c.requires.protos.1) in
-    (all, c.requires.protos.2)
+pub run_last-requires-clause-prototypes : goal.run_last-requires-clause-prototypes
+run_last-requires-clause-prototypes g c _ _ = c.requires.protos.2
 
-pub open_four-requires-clause-devices : goal.open_four-requires-clause-devices
-open_four-requires-clause-devices g c _ _ =
-    let all : length c.args.protos.now ≡ 4 = omega (arith, c.requires.protos.0, c.requires.protos.1) in
-    HasOneEach-is 4 c.clocks_each-clocks.result (length c.args.protos.now) c.args.devices.now all (omega arith)
-    c.requires.doors c.requires.inboxes c.requires.clocks c.clocks_each-clocks.ensures.none
-    c.clocks_each-clocks.ensures.some
+pub run_last-requires-clause-few : goal.run_last-requires-clause-few
+run_last-requires-clause-few g c _ _ = (c.requires.protos.0, c.requires.protos.1)
+
+pub run_last-requires-clause-devices : goal.run_last-requires-clause-devices
+run_last-requires-clause-devices g c _ _ =
+    HasOneEach-is (length c.args.protos.now) c.clocks_each-clocks.result (length c.args.protos.now)
+    c.args.devices.now refl (omega (arith, c.requires.protos.0)) c.requires.doors c.requires.inboxes
+    c.requires.clocks c.clocks_each-clocks.ensures.none c.clocks_each-clocks.ensures.some

@@ -1,6 +1,11 @@
-use Rattle.std.proofs.Common.{◌∙◌, ◌+◌, ◌≡◌, ℕ, sym}
+use Rattle.std.proofs.Common.{◌∙◌, ◌+◌, ◌≡◌, ℕ, List, ap, drop, get_or, length, subst, sym}
+use Rattle.std.proofs.lemmas.List.{take_rest}
+use Rattle.fm_model.specs.declared.proto.Proto.{Proto}
+use Rattle.srv_workers.proofs.BothLemmas.{all-protos, count-all}
 use Rattle.srv_workers.proofs.FirstLemmas.{for-each}
 use Rattle.srv_workers.specs.Both.{first_then}
+use Rattle.srv_workers.specs.Given.{IsVacant}
+use Rattle.srv_workers.specs.Places.{HasPlaces}
 use Rattle.srv_workers.proofs.GivenLemmas.{many-length, of-many}
 use Rattle.srv_workers.proofs.OutLemmas.{AreGivenOut-all, IsVacant-all}
 use Rattle.srv_workers.proofs.next.AndDeskBehind.open.Goals as goal
@@ -9,8 +14,10 @@ use Rattle.srv_workers.proofs.next.AndDeskBehind.open.Goals as goal
 pub open-requires-2-clause-blanks : goal.open-requires-2-clause-blanks
 open-requires-2-clause-blanks g c = c.requires.blanks.2
 
-pub open-requires-2-clause-places : goal.open-requires-2-clause-places
-open-requires-2-clause-places g c = c.requires.places.1
+pub open-requires-2-clause-protos : goal.open-requires-2-clause-protos
+open-requires-2-clause-protos g c =
+    take_rest c.args.protos.now 1 ∙ ap (λ (l : List Proto). drop 1 l)
+    (c.requires.protos ∙ all-protos g.N.Name.proto g.X.Desks.means.them)
 
 pub open-requires-2-clause-few : goal.open-requires-2-clause-few
 open-requires-2-clause-few g c = c.requires.few
@@ -18,42 +25,47 @@ open-requires-2-clause-few g c = c.requires.few
 -- there are passes and shares for all of the first desk
 pub given_at-first-requires-clause-passes : goal.given_at-first-requires-clause-passes
 given_at-first-requires-clause-passes g c =
-    of-many _ _ _ _ c.in-Ok.ensures.passes c.requires.blanks.1.passes_are
+    of-many _ _ _ _ c.in-Ok-open.ensures.passes c.requires.blanks.1.passes_are
 
 pub given_at-first-requires-clause-shares : goal.given_at-first-requires-clause-shares
 given_at-first-requires-clause-shares g c =
-    of-many _ _ _ _ c.in-Ok.ensures.shares c.requires.blanks.1.shares_are
+    of-many _ _ _ _ c.in-Ok-open.ensures.shares c.requires.blanks.1.shares_are
 
 pub given_at-first-requires-clause-places : goal.given_at-first-requires-clause-places
-given_at-first-requires-clause-places g c = c.requires.places.0
+given_at-first-requires-clause-places g c =
+    subst (λ (p : Proto). HasPlaces p c.args.doors 1 c.args.clocks c.in-Ok.joint.first)
+    (c.index-protos-0.is ∙ ap (λ (l : List Proto). get_or l 0 c.index-protos-0.result) c.requires.protos)
+    c.in-Ok.ensures.first
 
 -- there is room for what all are given
 pub given_all-requires-clause-each : goal.given_all-requires-clause-each
 given_all-requires-clause-each g c =
-    c.in-Ok-open.ensures.given.eyes_are ∙ sym (many-length _ _ _ c.given_at-first.ensures.eyes)
+    c.in-Ok-open-2.ensures.given.eyes_are ∙ sym (many-length _ _ _ c.given_at-first.ensures.eyes)
 
 pub given_all-requires-clause-vacant : goal.given_all-requires-clause-vacant
 given_all-requires-clause-vacant g c =
     IsVacant-all g.N.Name.proto g.X.Desks.means.them _ g.X.Desks.means.publisher c.args.doors c.args.clocks
-    c.given_at-first.result c.in-Ok-open.given c.args.places.all c.requires.few c.given_at-first.ensures.eyes
-    c.given_at-first.ensures.at_inboxes c.given_at-first.ensures.at_clocks c.in-Ok-open.ensures.given
-    c.requires.places.2
+    c.given_at-first.result c.in-Ok-open-2.given c.in-Ok.joint.all c.requires.few.1 c.given_at-first.ensures.eyes
+    c.given_at-first.ensures.at_inboxes c.given_at-first.ensures.at_clocks c.in-Ok-open-2.ensures.given
+    (subst (λ (n : ℕ). IsVacant c.args.doors n n c.in-Ok.joint.all)
+    (ap (λ (l : List Proto). length l) (c.requires.protos ∙ all-protos g.N.Name.proto g.X.Desks.means.them)
+    ∙ count-all g.N.Name.proto g.X.Desks.means.them) c.in-Ok.ensures.all)
 
 -- where the others couldn't be opened, the first desk has all its shares back
 pub close-requires : goal.close-requires
 close-requires g c =
-    many-length _ _ _ c.in-Ok.ensures.shares ∙ c.requires.blanks.0.parts_are
+    many-length _ _ _ c.in-Ok-open.ensures.shares ∙ c.requires.blanks.0.parts_are
 
 -- all were given out
-pub returns-in-Ok-open-clause-given : goal.returns-in-Ok-open-clause-given
-returns-in-Ok-open-clause-given g c =
+pub returns-in-Ok-open-2-clause-given : goal.returns-in-Ok-open-2-clause-given
+returns-in-Ok-open-2-clause-given g c =
     AreGivenOut-all g.N.Name.proto g.X.Desks.means.them g.X.Passes.Row.known g.X.Desks.means.publisher c.args.doors
-    c.args.clocks c.given_at-first.result c.in-Ok-open.given c.given_all.result c.given_at-first.ensures.eyes
-    c.given_at-first.ensures.at_inboxes c.given_at-first.ensures.at_clocks c.in-Ok-open.ensures.given
+    c.args.clocks c.given_at-first.result c.in-Ok-open-2.given c.given_all.result c.given_at-first.ensures.eyes
+    c.given_at-first.ensures.at_inboxes c.given_at-first.ensures.at_clocks c.in-Ok-open-2.ensures.given
     c.given_all.ensures.eyes c.given_all.ensures.at_inboxes c.given_all.ensures.at_clocks
 
-pub returns-in-Ok-open-clause-parts : goal.returns-in-Ok-open-clause-parts
-returns-in-Ok-open-clause-parts g c =
+pub returns-in-Ok-open-2-clause-parts : goal.returns-in-Ok-open-2-clause-parts
+returns-in-Ok-open-2-clause-parts g c =
     for-each (λ (number : ℕ). first_then g.N.Ledger.parts g.X.Desks.parts number ≡ 1 + c.args.clocks)
     g.X.Desks.means.them.count (sym c.requires.blanks.0.parts_are ∙ c.requires.blanks.1.shares_are)
-    c.in-Ok-open.ensures.parts
+    c.in-Ok-open-2.ensures.parts
