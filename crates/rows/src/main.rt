@@ -8,6 +8,7 @@ use device_rows::{Devices, tried};
 use file_rows::Files;
 use reply_rows::Collections;
 use row_text::{Answers, Count, File, Row, Said, Text, end, read_inputs, run};
+use server_rows::run_race;
 use std::alloc::{AllocError, Global};
 use std::io::{self, Eprint, Print};
 use std::marker::Sync;
@@ -49,6 +50,7 @@ fn run_text<R: Threads + Wait + Eprint + Sync>(
             let facts = tried(rt, devices.rt, rows)?;
             run(rt, alloc, path, rows, &facts, count)
         }
+        "publisher" => run(rt, alloc, path, rows, &run_race(rt, alloc), count),
         _ => run(rt, alloc, path, rows, &Unknown, count),
     }
 }
