@@ -1,13 +1,13 @@
 #!/bin/sh
-# Shows how many looks a second 1, 2 and 4 readers make, with and without a thread that publishes: each through its own pass
-# of a desk, and each through one Mutex round the same edition. It builds a small program in a folder of its own.
+# Shows how many looks a second 1, 2 and 4 readers make, with and without a thread that publishes: each through its own
+# pass of a desk, and each through one Mutex round the same edition. It builds a small program in a folder of its own.
 # Use: bench/looks.sh.
 set -eu
 . "$(dirname "$0")/common.sh"
 make_folder
 "$top/bench/crates.sh" "$folder" looks fm_load fm_sample pub_snap
 cp "$top/HANDLES" "$folder/HANDLES"
-cp "$top/crates/server_tests/src/publishing/sampled.rt" "$top/crates/server_tests/src/publishing/files.rt" "$folder/crates/looks/src/"
+cp "$top/crates/server_rows/src/files.rt" "$folder/crates/looks/src/"
 mkdir -p "$folder/crates/looks/proofs/row" "$folder/crates/looks/proofs/write_on"
 : > "$folder/crates/looks/proofs/Lib.antt"
 cat > "$folder/crates/looks/proofs/write_on/Invariants.antt" << 'TURNS'
@@ -31,23 +31,21 @@ cat > "$folder/crates/looks/src/main.rt" << 'PROGRAM'
 //! publishes, the thousands of looks a second by passes and by a Mutex.
 #![tactic(auto)]
 
-ghost use Rattle.std.specs.Prelude.{◌≡◌, ◌≤◌, length};
+ghost use Rattle.std.specs.Prelude.{◌≡◌, ◌≤◌, length, IfOk};
 ghost use Rattle.fm_model.specs.Site.{IsPrototype};
 ghost use Rattle.pub_snap.specs.Opening.{IsNamed};
 
 mod files;
-mod sampled;
 
 use files::Files;
 use fm_base::{Arc, List, NoMemory};
 use fm_edition::Edition;
 use fm_model::{Op, Proto, Tally};
+use fm_sample::{File, edition_of};
 use pub_look::{Look, Query};
 use pub_snap::{Blank, Desk, Name, Pass, Share, prepare};
-use sampled::prototype;
 use std::alloc::Global;
 use std::marker::Brand;
-use std::process::Abort;
 use std::rt::Clock;
 use std::sync::atomic::AtomicBool;
 use std::sync::atomic::Ordering::SeqCst;
@@ -146,7 +144,7 @@ fn look_and_write<N: Name + Send + Sync, R: Threads + Wait + Sync>(
 }
 
 // The nanoseconds that all looks of `passes` passes take.
-fn by_passes<N: Name + Send + Sync, R: Threads + Wait + Clock + Abort + Sync>(
+fn by_passes<N: Name + Send + Sync, R: Threads + Wait + Clock + Sync>(
     rt: &R,
     alloc: Global,
     blank: Blank,
@@ -157,7 +155,7 @@ fn by_passes<N: Name + Send + Sync, R: Threads + Wait + Clock + Abort + Sync>(
     requires some { 1 ≤ blank.shares }
     requires proto { proto ≡ N.proto }
 {
-    let files: Files<N> = Files::of(rt, alloc, proto.get());
+    let files: Files<N> = Files::of(alloc, proto.get()).ok_or(NoMemory)?;
     let start = Instant::now(rt)?;
     let (desk, mut passes, shares) = blank.open::<N>(alloc)?;
     let mut publisher = Publisher { desk, shares, files };
@@ -265,7 +263,7 @@ fn take_turns<R: Wait>(rt: &R, locked: &Locked) {
 }
 
 // The thousands of looks a second, by passes and by a Mutex.
-fn row<R: Threads + Wait + Clock + Abort + Sync>(
+fn row<R: Threads + Wait + Clock + Sync>(
     rt: &R,
     alloc: Global,
     proto: &Arc<Proto>,
@@ -283,9 +281,19 @@ fn row<R: Threads + Wait + Clock + Abort + Sync>(
     Ok((looks / passes.max(1), looks / locked.max(1)))
 }
 
+// The prototype of the sample.
+fn prototype(alloc: Global) -> Result<Arc<Proto>, NoMemory>
+    ensures { IfOk result IsPrototype }
+{
+    match edition_of(alloc, File::Sample.bytes(alloc)?) {
+        Ok(edition) => edition.proto().share(),
+        Err(_) => Err(NoMemory),
+    }
+}
+
 fn main(rt: HostRuntime) -> Result<(), Fail> {
     let alloc = rt.alloc();
-    let proto = prototype(&rt, alloc);
+    let proto = prototype(alloc)?;
     for readers in [1u32, 2, 4] {
         for writing in [false, true] {
             let (passes, locked) = row(&rt, alloc, &proto, readers, writing)?;

@@ -20,7 +20,7 @@ class Body:
 
     def __init__(self, name, file, old, new, first=()):
         self.name, self.file, self.old, self.new = name, os.path.join(TREE, "crates", file), old, new
-        # What refuses it, where the rows, the tests and the limits can't. It wants a proof of the body.
+        # What refuses it, where the rows and the limits can't. It wants a proof of the body.
         self.first = first
 
     def put_in(self):
@@ -166,13 +166,8 @@ def publisher(_program):
     return counted(said, r"refused.*: (\d+) wrong$", r"^.* refused: .{0,80}", 2)
 
 
-def tests(_program):
-    said = run(["rt", "try", "--seconds", "600", "--test"], os.path.join(TREE, "crates", "server_tests"))
-    return counted(said, r"^\d+ passed, (\d+) failed$", r"^.*FAILED.*$")
-
-
-CHECKS = {"rows": rows, "tests": tests, "limits": limits, "memory": memory, "publisher": publisher}
-USUAL = ("rows", "tests", "limits")
+CHECKS = {"rows": rows, "limits": limits, "memory": memory, "publisher": publisher}
+USUAL = ("rows", "limits")
 
 
 class Program:

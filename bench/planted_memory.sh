@@ -1,11 +1,11 @@
 #!/bin/sh
 # Tries bodies that say for large input that memory ran out, and two that go wrong once it does. Each meets its
 # contract, so no proof refuses it, and running has to. The work is done on a copy of the tree, where one body after the
-# other is put in. The rows, the tests of server_tests and tests/limits.sh are run, all unproved, until one of them
-# refuses it. Three bodies show only where memory is refused. They are tried only by their names, and first by
-# bench/out_of_memory.sh or bench/refused_publisher.sh, which want a proof; the libraries that `make build` or
-# `rt check` left in the tree are used. Before any body all has to pass without one. It says for each body what refused
-# it. The status is 1 where nothing did, and where a body can't be put in any more or doesn't compile.
+# other is put in. The rows and tests/limits.sh are run, unproved, until one of them refuses it. Three bodies show only
+# where memory is refused. They are tried only by their names, and first by bench/out_of_memory.sh or
+# bench/refused_publisher.sh, which want a proof; the libraries that `make build` or `rt check` left in the tree are
+# used. Before any body all has to pass without one. It says for each body what refused it. The status is 1 where
+# nothing did, and where a body can't be put in any more or doesn't compile.
 # Use: bench/planted_memory.sh [BODY..]; by default those that need no proof, which takes some hours.
 set -eu
 . "$(dirname "$0")/common.sh"

@@ -12,6 +12,7 @@ mod world;
 use fm_base::NoMemory;
 use given::Given;
 use row_text::{Answers, File, Row, Said, rows};
+use server_rows::Course;
 use std::alloc::{AllocError, Global};
 use std::marker::Sync;
 use std::sync::Wait;
@@ -70,7 +71,16 @@ fn ran_in<R: Threads + Wait + Sync>(
     alloc: Global,
     given: &Given,
 ) -> Result<String, NoMemory> {
-    let mut world = world_of(alloc, given)?;
+    ran_on(rt, alloc, given, &Course::new(given.order))
+}
+
+fn ran_on<R: Threads + Wait + Sync>(
+    rt: &R,
+    alloc: Global,
+    given: &Given,
+    course: &Course,
+) -> Result<String, NoMemory> {
+    let mut world = world_of(alloc, given, course)?;
     let left = ran_over(rt, alloc, given, &mut world);
     drop(world);
     left
@@ -81,10 +91,10 @@ fn ran_over<R: Threads + Wait + Sync>(
     rt: &R,
     alloc: Global,
     given: &Given,
-    world: &mut MemWorld,
+    world: &mut MemWorld<'_>,
 ) -> Result<String, NoMemory> {
     let status = srv_run::run(rt, alloc, &given.words, world);
-    shown::left(alloc, status, world, given.shows_lines)
+    shown::left(alloc, status, world, given)
 }
 
 /// Runs the rows of a text.

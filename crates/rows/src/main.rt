@@ -8,6 +8,7 @@ use device_rows::Devices;
 use file_rows::Files;
 use reply_rows::Collections;
 use row_text::{Answers, Count, File, Row, Said, Text, end, read_inputs, run};
+use server_rows::run_race;
 use std::alloc::{AllocError, Global};
 use std::io::{self, Eprint, Print};
 use std::marker::Sync;
@@ -45,6 +46,7 @@ fn run_text<R: Threads + Wait + Eprint + Sync>(
         "files" => run(rt, alloc, path, rows, &Files { files }, count),
         "replies" => run(rt, alloc, path, rows, collections, count),
         "devices" | "machine" => run(rt, alloc, path, rows, devices, count),
+        "publisher" => run(rt, alloc, path, rows, &run_race(rt, alloc), count),
         _ => run(rt, alloc, path, rows, &Unknown, count),
     }
 }

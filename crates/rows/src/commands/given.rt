@@ -7,13 +7,16 @@ use super::values::{append, entry, numbers, put_numbers};
 use dev_memory::Entry;
 use fm_base::{Bytes, List, NoMemory};
 use row_text::{Field, File, Row};
+use server_rows::Order;
 use std::alloc::Global;
 
 // The keys of a row beside `name` and `want`.
-const KEYS: [&str; 28] = [
+const KEYS: [&str; 31] = [
     "words",
     "word",
     "lines",
+    "turns",
+    "sent by",
     "file",
     "files fail",
     "sink fails",
@@ -22,6 +25,7 @@ const KEYS: [&str; 28] = [
     "input",
     "fill",
     "link fails",
+    "room",
     "take",
     "put",
     "hold",
@@ -52,6 +56,10 @@ pub struct Given {
     pub words: List<Bytes>,
     /// Whether the lines of the journal are shown.
     pub shows_lines: bool,
+    /// How the devices wait for each other.
+    pub order: Order,
+    /// In pieces of how many bytes it is shown what was sent.
+    pub piece: usize,
     pub files: List<Entry>,
     pub failing_files: List<u64>,
     pub failing_sink: List<u64>,
@@ -73,6 +81,8 @@ impl Given {
         Ok(Given {
             words: List::new(alloc),
             shows_lines: false,
+            order: Order::Free,
+            piece: usize::MAX,
             files: List::new(alloc),
             failing_files: List::new(alloc),
             failing_sink: List::new(alloc),
@@ -121,10 +131,7 @@ impl Given {
         match field.key {
             "name" | "want" => Ok(true),
             "words" | "word" => self.add_words(alloc, field.key, value),
-            "lines" => {
-                self.shows_lines = true;
-                Ok(value == "shown")
-            }
+            "lines" | "turns" | "sent by" => Ok(self.add_mode(field.key, value)),
             "file" => self.add_file(alloc, bases, value),
             "files fail" => put_numbers(alloc, value, &mut self.failing_files),
             "sink fails" => put_numbers(alloc, value, &mut self.failing_sink),
@@ -132,6 +139,18 @@ impl Given {
             "dial fails" => put_numbers(alloc, value, &mut self.failing_dial),
             _ => self.add_device(alloc, bases, field),
         }
+    }
+
+    // Takes how devices wait for each other, or how it is shown what they are left with.
+    fn add_mode(&mut self, key: &str, value: &str) -> bool {
+        match (key, value, value.parse::<u32>()) {
+            ("lines", "shown", _) => self.shows_lines = true,
+            ("turns", "in step", _) => self.order = Order::InStep,
+            ("turns", "meeting", _) => self.order = Order::Meeting,
+            ("sent by", _, Ok(bytes)) => self.piece = bytes as usize,
+            _ => return false,
+        }
+        true
     }
 
     // Adds a word, or the words between blanks.

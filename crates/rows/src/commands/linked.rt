@@ -1,17 +1,19 @@
 //! A link that a row describes.
 
 use super::values::{append, numbers, put_numbers};
+use super::world::ROOM;
 use dev_memory::Hold;
 use fm_base::{Bytes, List, NoMemory};
 use row_text::Field;
 use std::alloc::Global;
 
-/// The input of a link, the calls that fail, in which pieces bytes come and go, where calls would wait, and the number
-/// of its door; 0 stands for none.
+/// The input of a link, how many bytes it takes, the calls that fail, in which pieces bytes come and go, where calls
+/// would wait, and the number of its door; 0 stands for none.
 #[derive(Drop)]
 pub struct Linked {
     pub door: usize,
     pub input: Bytes,
+    pub room: usize,
     pub failing: List<u64>,
     pub most_taken: usize,
     pub most_put: usize,
@@ -29,6 +31,7 @@ impl Linked {
         Linked {
             door,
             input: Bytes::new(alloc),
+            room: ROOM,
             failing: List::new(alloc),
             most_taken: usize::MAX,
             most_put: usize::MAX,
@@ -100,10 +103,11 @@ impl Linked {
         Ok(true)
     }
 
-    // Takes the numbers that say in which pieces bytes come and go.
+    // Takes the numbers that say how many bytes go, and in which pieces bytes come and go.
     fn add_pieces(&mut self, alloc: Global, key: &str, value: &str) -> Result<bool, NoMemory> {
         let numbers = numbers(alloc, value)?.unwrap_or(List::new(alloc));
         match (key, numbers.as_slice()) {
+            ("room", [room]) => self.room = *room as usize,
             ("take", [most]) => self.most_taken = *most as usize,
             ("put", [most]) => self.most_put = *most as usize,
             ("hold", [offset, put]) => {

@@ -1,5 +1,6 @@
 //! What a run left, as text.
 
+use super::given::Given;
 use super::output::put_output;
 use super::world::MemWorld;
 use dev_memory::PausedLink;
@@ -14,15 +15,16 @@ use std::alloc::{AllocError, Global};
 pub fn left(
     alloc: Global,
     status: u8,
-    world: &MemWorld,
-    shows_lines: bool,
+    world: &MemWorld<'_>,
+    given: &Given,
 ) -> Result<String, NoMemory> {
     let mut out = Said::new(alloc);
-    put_end(status, world, &mut out);
+    put_end(status, world, given.piece, &mut out);
     put_dialled(world, &mut out);
     put_doors(world, &mut out);
     put_verdicts(world, &mut out);
-    if shows_lines {
+    world.gate.course.put(&mut out);
+    if given.shows_lines {
         put_told(world, &mut out);
     }
     out.pop();
@@ -32,7 +34,7 @@ pub fn left(
     }
 }
 
-fn put_end(status: u8, world: &MemWorld, out: &mut Said) {
+fn put_end(status: u8, world: &MemWorld<'_>, piece: usize, out: &mut Said) {
     let line = world.sink.bytes();
     out.put_number("status ", status);
     if line.is_empty() {
@@ -44,7 +46,31 @@ fn put_end(status: u8, world: &MemWorld, out: &mut Said) {
     let sent = world.link.output();
     if !sent.is_empty() {
         out.put("-- sent\n");
-        put_output(sent, out);
+        put_pieces(sent, piece, out);
+    }
+}
+
+// Appends bytes in pieces of a length. Those that are the same as the one before are counted.
+fn put_pieces(bytes: &[u8], length: usize, out: &mut Said) {
+    let mut last = b"".as_slice();
+    let mut same = 0u64;
+    for piece in bytes.chunks(length.max(1)) {
+        if piece == last {
+            same = same.saturating_add(1);
+        } else {
+            put_same(same, out);
+            put_output(piece, out);
+            same = 0;
+        }
+        last = piece;
+    }
+    put_same(same, out);
+}
+
+fn put_same(count: u64, out: &mut Said) {
+    if count > 0 {
+        out.put_number("-- the same again: ", count);
+        out.put("\n");
     }
 }
 
@@ -54,7 +80,7 @@ fn put_device(device: &str, number: usize, out: &mut Said) {
     out.put("\n");
 }
 
-fn put_dialled(world: &MemWorld, out: &mut Said) {
+fn put_dialled(world: &MemWorld<'_>, out: &mut Said) {
     for address in world.dial.dialled() {
         out.put("-- dialled ");
         out.put_shown(address.as_slice());
@@ -66,7 +92,7 @@ fn put_dialled(world: &MemWorld, out: &mut Said) {
     }
 }
 
-fn put_doors(world: &MemWorld, out: &mut Said) {
+fn put_doors(world: &MemWorld<'_>, out: &mut Said) {
     for (number, door) in world.devices.doors.as_slice().iter().enumerate() {
         put_device("-- door ", number, out);
         put_links(door.given(), out);
@@ -80,29 +106,29 @@ fn put_links(links: &[PausedLink], out: &mut Said) {
     }
 }
 
-fn put_verdicts(world: &MemWorld, out: &mut Said) {
+fn put_verdicts(world: &MemWorld<'_>, out: &mut Said) {
     for (number, inbox) in world.devices.inboxes.as_slice().iter().enumerate() {
         out.put_number("-- inbox ", number);
-        out.put_debug(": ", inbox.verdicts());
+        out.put_debug(": ", inbox.inbox.verdicts());
         out.put("\n");
     }
     for (number, clock) in world.devices.clocks.as_slice().iter().enumerate() {
         out.put_number("-- clock ", number);
-        out.put_debug(": ", clock.verdicts());
+        out.put_debug(": ", clock.clock.verdicts());
         out.put("\n");
     }
 }
 
-fn put_told(world: &MemWorld, out: &mut Said) {
+fn put_told(world: &MemWorld<'_>, out: &mut Said) {
     out.put("-- lines of the server\n");
-    put_lines(world.opener.lines(), out);
+    put_lines(world.opener.opener.lines(), out);
     for (number, inbox) in world.devices.inboxes.as_slice().iter().enumerate() {
         put_device("-- lines of inbox ", number, out);
-        put_lines(inbox.lines(), out);
+        put_lines(inbox.inbox.lines(), out);
     }
     for (number, clock) in world.devices.clocks.as_slice().iter().enumerate() {
         put_device("-- lines of clock ", number, out);
-        put_lines(clock.lines(), out);
+        put_lines(clock.clock.lines(), out);
     }
 }
 

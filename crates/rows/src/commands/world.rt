@@ -11,12 +11,13 @@ use dev_memory::{
     Entry, MemClock, MemDial, MemDoor, MemFiles, MemInbox, MemLink, MemOpener, MemSink, PausedLink,
     Pauses,
 };
-use dev_traits::{Devices, Door, Inbox, Link, OpenGate, World};
+use dev_traits::{Devices, Door, Inbox, Link, World};
 use fm_base::{Bytes, List, NoMemory};
+use server_rows::{Course, Paced, Watch};
 use std::alloc::Global;
 
 /// A world in memory.
-pub type MemWorld = World<MemOpener>;
+pub type MemWorld<'a> = World<Paced<'a>>;
 
 // Links to come, none of which was used.
 #[derive(Drop)]
@@ -81,8 +82,8 @@ impl Inboxes {
     }
 }
 
-// The bytes that a link or the sink takes before it fails.
-const ROOM: usize = 65_536;
+/// The bytes that a link or the sink takes before it fails, where a row says nothing else.
+pub const ROOM: usize = 65_536;
 
 fn copy_of<T: Copy + Drop>(alloc: Global, items: &List<T>) -> Result<List<T>, NoMemory> {
     let mut copy = List::new(alloc);
@@ -119,7 +120,7 @@ fn link_of(alloc: Global, linked: &Linked) -> Result<MemLink, NoMemory>
     ensures { IfOk result (λ link. IsFresh (⟦<MemLink as Link>⟧.shown link)) }
 {
     let input = Bytes::copy_of(alloc, linked.input.as_slice())?;
-    let link = MemLink::new(alloc, input, ROOM, copy_of(alloc, &linked.failing)?)?;
+    let link = MemLink::new(alloc, input, linked.room, copy_of(alloc, &linked.failing)?)?;
     let link = link.in_pieces(linked.most_taken, linked.most_put);
     Ok(match linked.hold {
         Some(hold) => link.held_back(hold.offset, hold.put),
@@ -239,18 +240,22 @@ fn dial_of(alloc: Global, given: &Given) -> Result<MemDial, NoMemory> {
     MemDial::new(alloc, link, copy_of(alloc, &given.failing_dial)?)
 }
 
-/// The world that a row describes.
-pub fn world_of(alloc: Global, given: &Given) -> Result<MemWorld, NoMemory> {
+/// The world that a row describes, with a course that its devices take.
+pub fn world_of<'a>(
+    alloc: Global,
+    given: &Given,
+    course: &'a Course,
+) -> Result<MemWorld<'a>, NoMemory> {
     let served = both(opener_of(alloc, given), files_of(alloc, given));
     let own = both(own_link(alloc, given), sink_of(alloc, given));
     let ((opener, files), ((link, sink), dial)) = both(served, both(own, dial_of(alloc, given)))?;
     Ok(World {
-        opener,
+        opener: Paced { opener, course },
         devices: Devices::none(alloc),
         files,
         link,
         sink,
-        gate: OpenGate,
+        gate: Watch { course },
         dial,
     })
 }

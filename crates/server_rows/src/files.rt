@@ -1,15 +1,14 @@
-//! The files that the tests publish.
-ghost use Rattle.std.specs.Prelude.{◌≡◌, IfOk};
+//! The files that are published.
+ghost use Rattle.std.specs.Prelude.{◌≡◌, IfOk, IfSome};
 ghost use Rattle.fm_model.specs.Load.{Fits};
 
-use super::sampled::{bytes_of, loaded};
 use fm_base::{Arc, NoMemory};
+use fm_load::load;
 use fm_model::{Loaded, Proto};
 use fm_sample::File;
 use pub_snap::Name;
 use std::alloc::Global;
 use std::marker::{Model, PhantomData};
-use std::process::Abort;
 
 /// The first run, the beginning of 2024, from the epoch of the collection.
 pub const FIRST_RUN: i64 = 126_230_400;
@@ -49,16 +48,17 @@ impl<N: Name> Model for Files<N> {
 }
 
 impl<N: Name> Files<N> {
-    pub fn of(rt: &impl Abort, alloc: Global, proto: &Proto) -> Files<N>
+    /// The files over a prototype. `None` where memory runs out.
+    pub fn of(alloc: Global, proto: &Proto) -> Option<Files<N>>
         requires { proto.now ≡ N.proto }
     {
-        Files {
-            first: sample(rt, alloc, NAMES[0], proto),
-            second: sample(rt, alloc, NAMES[1], proto),
-            third: sample(rt, alloc, NAMES[2], proto),
-            fourth: sample(rt, alloc, NAMES[3], proto),
+        Some(Files {
+            first: sample(alloc, NAMES[0], proto)?,
+            second: sample(alloc, NAMES[1], proto)?,
+            third: sample(alloc, NAMES[2], proto)?,
+            fourth: sample(alloc, NAMES[3], proto)?,
             of: PhantomData,
-        }
+        })
     }
 
     /// The file of this number.
@@ -74,9 +74,14 @@ impl<N: Name> Files<N> {
     }
 }
 
-/// The first file as the file of a run, by the mark in its name.
-pub fn sample(rt: &impl Abort, alloc: Global, name: &[u8], proto: &Proto) -> Arc<Loaded>
-    ensures { Fits result proto.now }
+// The sample as the file of a run, by the mark in its name. It has 352 bytes.
+fn sample(alloc: Global, name: &[u8], proto: &Proto) -> Option<Arc<Loaded>>
+    ensures { IfSome result (λ file. Fits file proto.now) }
 {
-    loaded(rt, alloc, name, bytes_of(rt, alloc, File::Sample), proto)
+    let bytes = File::Sample.bytes(alloc).ok()?;
+    if bytes.len() > 352 {
+        return None;
+    }
+    let file = load(alloc, name, bytes, proto).ok()?;
+    Arc::new(alloc, file).ok()
 }

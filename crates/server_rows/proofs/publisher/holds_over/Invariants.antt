@@ -1,5 +1,5 @@
 -- The desk that is then opened.
-use Rattle.server_tests.proofs.publishing.desk.raced.Given as goal
+use Rattle.server_rows.proofs.publisher.holds_over.Given as goal
 
 abbrev pub ghosts-closed-N-Name : goal.ghosts-closed-N-Name
 ghosts-closed-N-Name g a = record { book = a.blank.book; proto = a.blank.proto }

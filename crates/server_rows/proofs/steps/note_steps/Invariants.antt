@@ -1,5 +1,5 @@
 use Rattle.std.proofs.Common.{◌≡◌}
-use Rattle.server_tests.proofs.publishing.course.note_all.Given as goal
+use Rattle.server_rows.proofs.steps.note_steps.Given as goal
 
 -- the collection has the prototype of the desk
 abbrev pub invariant-loop-number : goal.invariant-loop-number
