@@ -41,8 +41,8 @@ within-later : (ops ops' : List Op) (count : ℕ) → Continues ops ops' → cou
 within-later ops ops' count later within = omega (arith, within, continues_length ops ops' later)
 
 -- a verdict on a file stays right
-pub IsVerdictOnFile-later : (ops ops' : List Op) (found : Result Loaded Verdict) (verdict : Verdict) → Continues ops ops'
-    → IsVerdictOnFile ops found verdict → IsVerdictOnFile ops' found verdict
+pub IsVerdictOnFile-later : (ops ops' : List Op) (found : Result Loaded Verdict) (verdict : Verdict)
+    → Continues ops ops' → IsVerdictOnFile ops found verdict → IsVerdictOnFile ops' found verdict
 IsVerdictOnFile-later ops ops' (Err given) verdict later is = is
 IsVerdictOnFile-later ops ops' (Ok file) (verdicts.Published number) later is =
     IsNumbered-later ops ops' number (Put file) later is

@@ -1,4 +1,4 @@
-//! All workers of a run over desks, of which the first ones are opened one by one in front of others. Each call adds one
+//! All workers of a run over desks, of which the first ones are opened one by one in front of others. Each call adds a
 //! desk to whatever stands behind it, since what a proof has to see of desks inside desks grows fast.
 ghost use Rattle.std.specs.Prelude.{◌≡◌, ◌∷◌, ◌<◌, ◌≤◌, All, IfOk, OnErr, drop, length};
 ghost use Rattle.fm_model.specs.Site.{IsPrototype};
