@@ -2,7 +2,7 @@
 ghost use Rattle.std.specs.Prelude.{◌≡◌};
 ghost use Rattle.nc_model.specs.Calendar as spec;
 
-use jiff::civil::Date;
+use jiff_core::civil::Date;
 
 const SECONDS_PER_DAY: i64 = 86_400;
 
@@ -15,7 +15,7 @@ pub(crate) fn day_number(year: u32, month: u32, day: u32) -> Option<i32>
         return None;
     }
     match Date::new(year as i16, month as i8, day as i8) {
-        Ok(date) => Some(date.to_plain().to_unix_epoch_day()),
+        Ok(date) => Some(date.to_unix_epoch_day()),
         Err(_) => None,
     }
 }

@@ -12,7 +12,7 @@ use crate::number::letters;
 use crate::scanner::{BadOffset, Scanner};
 use crate::time::after_date;
 use crate::unit::{is_same_word, unit};
-use jiff::civil::Date;
+use jiff_core::civil::Date;
 use nc_model::{Units, UnitsFault};
 
 const SECONDS_PER_DAY: i64 = 86_400;
@@ -73,7 +73,12 @@ fn is_gregorian(calendar: Option<&[u8]>) -> bool
 fn is_before_gregorian(day: i32) -> bool
     ensures { result ≡ spec.is_before_gregorian day }
 {
-    day < Date::constant(1582, 10, 15).to_plain().to_unix_epoch_day()
+    let first = Date {
+        year: 1582,
+        month: 10,
+        day: 15,
+    };
+    day < first.to_unix_epoch_day()
 }
 
 // The Unix seconds of an origin, by its day and the seconds from the midnight that begins it.
