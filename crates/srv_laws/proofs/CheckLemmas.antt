@@ -10,7 +10,8 @@ use Rattle.srv_alone.specs.Check.{checked_or_end, EndsCheck}
 use Rattle.srv_alone.specs.Reading.{Gives, IsEndOf}
 use Rattle.srv_alone.specs.Report.{status_of}
 use Rattle.srv_run.specs.Run.{Runs}
-use Rattle.srv_serve.specs.Stage.{Shows, Stage}
+use Rattle.srv_serve.specs.Shows.{Shows}
+use Rattle.srv_serve.specs.Stage.{Stage}
 use Rattle.srv_laws.proofs.UsedLemmas.{told}
 
 -- an end is no value

@@ -14,7 +14,7 @@ use Rattle.srv_workers.specs.Runs.{IsClockRun, Run}
 use Rattle.srv_serve.specs.Devices.{asked_by, kept_for, OpensDevices, Wanted}
 use Rattle.srv_serve.specs.Opening.{after_doors, after_inboxes, OpensClocks}
 use Rattle.srv_serve.specs.Serve.{HasRun}
-use Rattle.srv_serve.specs.Stage.{Shows}
+use Rattle.srv_serve.specs.Shows.{Shows}
 use Rattle.srv_laws.specs.WellServed.{ShowsClocks}
 
 -- a clock shows its moments

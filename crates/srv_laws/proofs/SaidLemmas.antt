@@ -21,7 +21,8 @@ use Rattle.srv_run.specs.Run.{DoesJob, Runs, UsesDialer, UsesFiles, UsesLink}
 use Rattle.srv_serve.specs.Lines.{many_lines}
 use Rattle.srv_serve.specs.Many as many
 use Rattle.srv_serve.specs.Serve.{EndsUnopened, GoesOn}
-use Rattle.srv_serve.specs.Stage.{LeavesDialer, Shows, Stage}
+use Rattle.srv_serve.specs.Shows.{Shows}
+use Rattle.srv_serve.specs.Stage.{LeavesDialer, Stage}
 
 -- a line of what was done is no line of another status
 not_done : {A : Type 0} (end : End) (status : ℕ) → status ≡ status_of end → end ≡ Done → status ≢ 0 → A

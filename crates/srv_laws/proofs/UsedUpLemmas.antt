@@ -25,7 +25,8 @@ use Rattle.srv_serve.specs.Closing.{clock_end, door_end, end_at_door, end_at_inb
 use Rattle.srv_serve.specs.Devices.{asked_by, StopsAt, Wanted}
 use Rattle.srv_alone.specs.Reading.{IsEndAtFile}
 use Rattle.srv_serve.specs.Serve.{EndsUnopened, GoesOn, HasRun, RunsServe, ServesDevices}
-use Rattle.srv_serve.specs.Stage.{Shows, Stage}
+use Rattle.srv_serve.specs.Shows.{Shows}
+use Rattle.srv_serve.specs.Stage.{Stage}
 use Rattle.srv_laws.specs.WellServed.{EndsWell, HasNoMomentLeft, IsUsedUp, ShowsClocks}
 use Rattle.srv_laws.proofs.ClockLemmas.{clocks-used}
 use Rattle.srv_serve.proofs.RunLemmas.{by_device, IsOfWorkers}

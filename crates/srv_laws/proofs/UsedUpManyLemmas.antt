@@ -19,7 +19,8 @@ use Rattle.srv_serve.specs.Closing.{clock_end, door_end, first_end_of, first_fro
 use Rattle.srv_serve.specs.Devices.{kept_for}
 use Rattle.srv_serve.specs.Lines.{many_lines}
 use Rattle.srv_serve.specs.Many.{asked_by, EndsUnopened, GoesOn, HasRun, RunsMany, ServesDevices}
-use Rattle.srv_serve.specs.Stage.{Shows, Stage}
+use Rattle.srv_serve.specs.Shows.{Shows}
+use Rattle.srv_serve.specs.Stage.{Stage}
 use Rattle.srv_serve.proofs.ManyLemmas.{by-some, BySome}
 use Rattle.srv_serve.proofs.RunLemmas.{by_devices}
 use Rattle.srv_laws.specs.WellServed.{EndsWell, HasNoMomentLeft, IsUsedUp, ShowsClocks}

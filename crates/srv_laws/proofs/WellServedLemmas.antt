@@ -11,7 +11,8 @@ use Rattle.srv_serve.specs.Closing.{EndsServing, first_end}
 use Rattle.srv_serve.specs.Devices.{asked_by, HasFailedAt, StopsAt}
 use Rattle.srv_run.specs.Run.{Runs}
 use Rattle.srv_serve.specs.Serve.{EndsUnopened, GoesOn, HasRun, RunsServe, ServesDevices}
-use Rattle.srv_serve.specs.Stage.{Shows, Stage}
+use Rattle.srv_serve.specs.Shows.{Shows}
+use Rattle.srv_serve.specs.Stage.{Stage}
 use Rattle.srv_laws.specs.WellServed.{IsWellServed}
 use Rattle.srv_run.proofs.ServedBlameLemmas.{unopened_blamed}
 use Rattle.srv_serve.proofs.RunLemmas.{by_device, door-failed, inbox-failed, IsOfWorkers}

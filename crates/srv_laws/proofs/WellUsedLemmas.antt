@@ -17,7 +17,8 @@ use Rattle.srv_alone.specs.Once.{opened, EndsAtPrototype, RunsOnce, RunsSteps}
 use Rattle.srv_alone.specs.Reading.{file_or_end, proto_or_end}
 use Rattle.srv_alone.specs.Report.{status_of}
 use Rattle.srv_run.specs.Run.{Runs}
-use Rattle.srv_serve.specs.Stage.{Shows, Stage}
+use Rattle.srv_serve.specs.Shows.{Shows}
+use Rattle.srv_serve.specs.Stage.{Stage}
 use Rattle.srv_alone.specs.Steps.{progress}
 use Rattle.srv_laws.specs.WellFormed.{IsWellUsed}
 use Rattle.srv_laws.proofs.AskedLemmas.{IsOpen}

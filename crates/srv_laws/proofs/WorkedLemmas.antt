@@ -11,7 +11,8 @@ use Rattle.srv_alone.specs.Reading.{IsEndAtFile}
 use Rattle.srv_alone.specs.Report.{status_of}
 use Rattle.srv_run.specs.Run.{DoesJob, IsAlone, Runs}
 use Rattle.srv_serve.specs.Serve.{EndsUnopened, GoesOn, HasServed}
-use Rattle.srv_serve.specs.Stage.{LeavesDevices, Shows, Stage}
+use Rattle.srv_serve.specs.Shows.{Shows}
+use Rattle.srv_serve.specs.Stage.{LeavesDevices, Stage}
 use Rattle.srv_laws.specs.Worked.{HasNotOpened, HasNotWorked, HasWorked}
 
 -- words that are no job

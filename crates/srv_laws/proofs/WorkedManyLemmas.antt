@@ -10,7 +10,8 @@ use Rattle.srv_alone.specs.Reading.{IsEndAtFile}
 use Rattle.srv_alone.specs.Report.{status_of}
 use Rattle.srv_run.specs.Run.{Runs}
 use Rattle.srv_serve.specs.Many.{asked_by, EndsAtSpec, EndsUnopened, GoesOn, HasServed}
-use Rattle.srv_serve.specs.Stage.{Shows, Stage}
+use Rattle.srv_serve.specs.Shows.{Shows}
+use Rattle.srv_serve.specs.Stage.{Stage}
 use Rattle.srv_laws.specs.Worked.{HasNotOpened}
 use Rattle.srv_laws.specs.WorkedMany.{HasNotWorked, HasWorked}
 use Rattle.srv_laws.proofs.WorkedLemmas.{AllOpen, file-status, opened-none, status-worked, stop-status, stops-short}

@@ -7,7 +7,8 @@ use Rattle.srv_words.specs.declared.job.Serving.{Serving}
 use Rattle.srv_alone.specs.declared.end.End.{End}
 use Rattle.srv_alone.specs.declared.end.End.TheVariants.{Done, SinkFault}
 use Rattle.srv_alone.specs.Reading.{file_or_end, proto_or_end}
-use Rattle.srv_serve.specs.Stage.{Shows, Stage}
+use Rattle.srv_serve.specs.Shows.{Shows}
+use Rattle.srv_serve.specs.Stage.{Stage}
 use Rattle.srv_laws.specs.WellFormed.{HasNotFailed}
 
 -- the prototype of a run of `serve` is there and is one, and no call of a device failed

@@ -7,7 +7,8 @@ use Rattle.srv_workers.specs.declared.outcome.Outcome.{Outcome}
 use Rattle.srv_serve.specs.Devices.{asked_by, OpensDevices}
 use Rattle.srv_alone.specs.Once.{Opens}
 use Rattle.srv_serve.specs.Serve.{HasRun}
-use Rattle.srv_serve.specs.Stage.{LeavesDevices, Shows, Stage}
+use Rattle.srv_serve.specs.Shows.{Shows}
+use Rattle.srv_serve.specs.Stage.{LeavesDevices, Stage}
 use Rattle.srv_serve.specs.Telling.{TellsServing}
 
 -- Nothing was opened: memory ran out, or the prototype wasn't there, or it was refused.

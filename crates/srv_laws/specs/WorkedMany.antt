@@ -6,7 +6,8 @@ use Rattle.srv_words.specs.declared.job.ServingMany.{ServingMany}
 use Rattle.srv_workers.specs.declared.outcome.Outcomes.{Outcomes}
 use Rattle.srv_serve.specs.Devices.{OpensDevices}
 use Rattle.srv_serve.specs.Many.{asked_by, HasRun, OpensEach, serving_lines}
-use Rattle.srv_serve.specs.Stage.{Shows, Stage}
+use Rattle.srv_serve.specs.Shows.{Shows}
+use Rattle.srv_serve.specs.Stage.{Stage}
 use Rattle.srv_serve.specs.Telling.{TellsLines}
 
 -- No worker ran: the devices are as the opener gave them, and at most it was told that all were opened. Memory ran out,

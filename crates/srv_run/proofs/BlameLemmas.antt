@@ -6,7 +6,8 @@ use Rattle.srv_alone.specs.declared.end.End.{End}
 use Rattle.srv_alone.specs.declared.end.End.TheVariants.{BadWords, FileFault, SinkFault, LinkFault, DoorFault, InboxFault}
 use Rattle.srv_alone.specs.Report.{status_of}
 use Rattle.srv_run.specs.Run.{Blames, DoesJob, Ends, LacksMemory, Runs}
-use Rattle.srv_serve.specs.Stage.{Shows, Stage}
+use Rattle.srv_serve.specs.Shows.{Shows}
+use Rattle.srv_serve.specs.Stage.{Stage}
 use Rattle.srv_run.proofs.AloneBlameLemmas.{check_blamed, load_blamed, once_blamed, pull_blamed, view_blamed}
 use Rattle.srv_run.proofs.OpenedBlameLemmas.{alone, BlamedOn}
 use Rattle.srv_run.proofs.ServedBlameLemmas.{many_blamed, serve_blamed}

@@ -6,7 +6,8 @@ use Rattle.srv_words.specs.declared.job.Job.{Job}
 use Rattle.srv_words.specs.Jobs.{command_of}
 use Rattle.srv_alone.specs.declared.end.End.{End}
 use Rattle.srv_alone.specs.declared.end.End.TheVariants.{BadWords, NoMemory}
-use Rattle.srv_serve.specs.Stage.{Says, Shows, Stage}
+use Rattle.srv_serve.specs.Shows.{Shows}
+use Rattle.srv_serve.specs.Stage.{Says, Stage}
 use Rattle.srv_run.specs.Run.{DoesJob, IsAlone, IsAloneCommand, IsJobOrEnd, RunsTo, is_same, only}
 
 -- a job of the command

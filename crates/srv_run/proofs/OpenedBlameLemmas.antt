@@ -10,7 +10,8 @@ use Rattle.srv_alone.specs.Report.{Reports}
 use Rattle.srv_alone.proofs.StepBlameLemmas.{at_file, IsAtDevice}
 use Rattle.srv_serve.specs.Closing.{EndsWith}
 use Rattle.srv_serve.specs.Devices.{HasFailedAt, StopsAt, StopsAtDoor, StopsAtInbox, Wanted}
-use Rattle.srv_serve.specs.Stage.{Shows, Stage}
+use Rattle.srv_serve.specs.Shows.{Shows}
+use Rattle.srv_serve.specs.Stage.{Stage}
 use Rattle.srv_serve.proofs.RunLemmas.{ByWorkers}
 use Rattle.srv_run.specs.Run.{BlamesDoor, BlamesInbox, BlamesLink, LacksDoor, LacksInbox}
 use Rattle.srv_run.proofs.AloneBlameLemmas.{BlamedBy}

@@ -11,7 +11,8 @@ use Rattle.srv_serve.specs.Devices.{asked_by}
 use Rattle.srv_serve.specs.Lines.{many_lines}
 use Rattle.srv_serve.specs.Many as many
 use Rattle.srv_serve.specs.Serve.{EndsUnopened, GoesOn, ServesDevices}
-use Rattle.srv_serve.specs.Stage.{Shows, Stage}
+use Rattle.srv_serve.specs.Shows.{Shows}
+use Rattle.srv_serve.specs.Stage.{Stage}
 use Rattle.srv_serve.proofs.ManyLemmas as several
 use Rattle.srv_serve.proofs.RunLemmas.{door-failed, end-is-device, ends-at-device, inbox-failed}
 use Rattle.srv_run.proofs.OpenedBlameLemmas.{BlamedOn, ended_blamed, file_blamed, stopped_blamed}

@@ -20,7 +20,8 @@ use Rattle.srv_views.specs.Views.{RunsTwod}
 use Rattle.srv_serve.specs.Many as many
 use Rattle.srv_serve.specs.Many.{RunsMany}
 use Rattle.srv_serve.specs.Serve.{RunsServe}
-use Rattle.srv_serve.specs.Stage.{LeavesDevices, LeavesDialer, Says, Shows, Stage}
+use Rattle.srv_serve.specs.Shows.{Shows}
+use Rattle.srv_serve.specs.Stage.{LeavesDevices, LeavesDialer, Says, Stage}
 
 -- A run of `check` ended so; the link wasn't used.
 pub record RunsCheck (path : List ℕ) (end : End) (world world' : WorldShown) : Type 0 where

@@ -7,7 +7,8 @@ ghost use Rattle.srv_words.specs.Stepping.{IsChanging};
 ghost use Rattle.srv_alone.specs.Once.{RunsOnce};
 ghost use Rattle.srv_views.specs.Extract.{RunsExtract};
 ghost use Rattle.srv_views.specs.Views.{RunsTwod};
-ghost use Rattle.srv_serve.specs.Stage.{LeavesDevices, dial_shown, shows, stage_of};
+ghost use Rattle.srv_serve.specs.Shows.{shows};
+ghost use Rattle.srv_serve.specs.Stage.{LeavesDevices, dial_shown, stage_of};
 ghost use Rattle.srv_run.specs.Run as spec;
 
 use dev_traits::{Machine, World};

@@ -2,14 +2,16 @@
 ghost use Rattle.std.specs.Prelude.{◌≡◌, IfOk, Option, Some};
 ghost use Rattle.srv_words.specs.declared.job.Job.{Job as Work};
 ghost use Rattle.srv_words.specs.Jobs.{IsJob, command_of, job_of};
-ghost use Rattle.srv_serve.specs.Stage.{dial_shown, shows, stage_of};
+ghost use Rattle.srv_serve.specs.Shows.{shows};
+ghost use Rattle.srv_serve.specs.Stage.{dial_shown, stage_of};
 ghost use Rattle.srv_run.specs.Run as spec;
 
 use crate::alone::do_alone;
 use dev_traits::{Machine, World};
 use fm_base::{Bytes, Fail, List};
 use srv_alone::End;
-use srv_serve::{many, say, serve};
+use srv_closing::say;
+use srv_serve::{many, serve};
 use srv_words::{Command, Job, read_job};
 use std::alloc::Global;
 use std::marker::Sync;

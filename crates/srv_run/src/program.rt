@@ -3,7 +3,8 @@ ghost use Rattle.std.specs.Process.{exit_status};
 ghost use Rattle.srv_words.specs.declared.job.Command.TheVariants as commands;
 ghost use Rattle.srv_words.specs.Jobs.{job_of};
 ghost use Rattle.srv_run.specs.Run as spec;
-ghost use Rattle.srv_serve.specs.Stage.{dial_shown, shows, stage_of};
+ghost use Rattle.srv_serve.specs.Shows.{shows};
+ghost use Rattle.srv_serve.specs.Stage.{dial_shown, stage_of};
 
 use crate::job::{command_or_end, do_found, do_found_alone, job_or_end};
 use dev_traits::{Machine, World};

@@ -2,7 +2,8 @@
 ghost use Rattle.srv_words.specs.declared.job.Command.TheVariants as commands;
 ghost use Rattle.srv_words.specs.Jobs.{job_of};
 ghost use Rattle.srv_run.specs.Run as spec;
-ghost use Rattle.srv_serve.specs.Stage.{dial_shown, shows, stage_of};
+ghost use Rattle.srv_serve.specs.Shows.{shows};
+ghost use Rattle.srv_serve.specs.Stage.{dial_shown, stage_of};
 
 use crate::job::{command_or_end, do_found};
 use dev_traits::{Machine, World};

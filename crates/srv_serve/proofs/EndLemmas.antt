@@ -13,7 +13,7 @@ use Rattle.srv_ingest.specs.declared.report.IngestReport.{IngestReport}
 use Rattle.srv_words.proofs.SomeLemmas.{or_some}
 use Rattle.srv_alone.specs.declared.end.End.{End}
 use Rattle.srv_alone.specs.declared.end.End.TheVariants.{NoMemory, DoorFault, InboxFault}
-use Rattle.srv_serve.specs.Closing.{clock_end, door_end, end_at_door, end_at_inbox, first_end_of, first_from, inbox_end, short_end}
+use Rattle.srv_closing.specs.Closing.{clock_end, door_end, end_at_door, end_at_inbox, first_end_of, first_from, inbox_end, short_end}
 
 -- what holds of the first end of some devices holds of the end at one of them
 pub at-device : {R : Type 0} (end_of : ℕ → R → Option End) (k : ℕ) (reports : List R) (end : End)

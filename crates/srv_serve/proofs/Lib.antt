@@ -1,8 +1,5 @@
-pub mod ClosingLemmas
 pub mod EndLemmas
-pub mod LinesLemmas
 pub mod ManyLemmas
-pub mod OpeningLemmas
 pub mod PrototypeLemmas
 pub mod RunLemmas
 pub mod StageLemmas

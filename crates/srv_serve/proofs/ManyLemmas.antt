@@ -22,10 +22,11 @@ use Rattle.srv_workers.specs.Desks.{closed_of, first_of}
 use Rattle.srv_workers.specs.Over.{AreDeskRuns, DeskRun}
 use Rattle.srv_workers.specs.Runs.{IsInboxRun, Run}
 use Rattle.srv_workers.specs.Several.{AreRunsInOrder, collections_over, EachInOrder, IsDoorRunOver}
-use Rattle.srv_serve.specs.Closing.{first_end_of}
-use Rattle.srv_serve.specs.Devices.{clocks_for, HasFailedAt}
+use Rattle.srv_closing.specs.Closing.{first_end_of}
+use Rattle.srv_open.specs.Devices.{clocks_for, HasFailedAt}
 use Rattle.srv_serve.specs.Many.{EndsAt, EndsAtSpec, HasRun, OpensEach}
-use Rattle.srv_serve.specs.Stage.{Shows, Stage}
+use Rattle.srv_open.specs.Shows.{Shows}
+use Rattle.srv_closing.specs.Stage.{Stage}
 use Rattle.srv_serve.proofs.EndLemmas.{door-end, inbox-end, left-where, told-count}
 use Rattle.srv_serve.proofs.RunLemmas.{door-has-failed, inbox-has-failed}
 

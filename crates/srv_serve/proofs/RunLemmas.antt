@@ -22,10 +22,10 @@ use Rattle.srv_workers.specs.declared.outcome.Outcome.{Outcome}
 use Rattle.srv_workers.specs.Runs.{AreRuns, IsDoorRun, IsInboxRun, Run}
 use Rattle.srv_alone.specs.declared.end.End.{End}
 use Rattle.srv_alone.specs.declared.end.End.TheVariants.{BadWords, NoMemory, FileFault, SinkFault, LinkFault, DoorFault, InboxFault}
-use Rattle.srv_serve.specs.Closing.{clock_end, door_end, end_at_door, end_at_inbox, first_end, first_end_of, first_from, inbox_end}
-use Rattle.srv_serve.specs.Devices.{AreAllOpened, asked_by, clocks_for, HasFailedAt}
+use Rattle.srv_closing.specs.Closing.{clock_end, door_end, end_at_door, end_at_inbox, first_end, first_end_of, first_from, inbox_end}
+use Rattle.srv_open.specs.Devices.{AreAllOpened, asked_by, clocks_for, HasFailedAt}
 use Rattle.srv_serve.specs.Serve.{HasRun}
-use Rattle.srv_serve.specs.Stage.{Shows}
+use Rattle.srv_open.specs.Shows.{Shows}
 use Rattle.srv_serve.proofs.EndLemmas.{door-end, inbox-end, left-where, told-count}
 
 -- there are as few reports as devices

@@ -8,7 +8,7 @@ use Rattle.dev_traits.proofs.TellLemmas.{Tells-none, Tells-one, Tells-then}
 use Rattle.dev_traits.specs.declared.world.Devices.{Devices}
 use Rattle.srv_words.specs.declared.job.ServingMany.{ServingMany}
 use Rattle.srv_words.specs.declared.job.Spec.{Spec}
-use Rattle.srv_serve.specs.Devices.{AreAllOpened, Wanted}
+use Rattle.srv_open.specs.Devices.{AreAllOpened, Wanted}
 use Rattle.srv_serve.specs.Many.{spec_line}
 use Rattle.srv_serve.specs.Telling.{folders_text, open_line, TellsLines}
 

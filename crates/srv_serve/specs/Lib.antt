@@ -1,8 +1,9 @@
-pub mod Closing
-pub mod Devices
-pub mod Lines
 pub mod Many
-pub mod Opening
 pub mod Serve
-pub mod Stage
 pub mod Telling
+pub use Rattle.srv_closing.specs.Closing
+pub use Rattle.srv_closing.specs.Lines
+pub use Rattle.srv_closing.specs.Stage
+pub use Rattle.srv_open.specs.Devices
+pub use Rattle.srv_open.specs.Opening
+pub use Rattle.srv_open.specs.Shows

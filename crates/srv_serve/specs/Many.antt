@@ -13,11 +13,12 @@ use Rattle.srv_workers.specs.Several.{RanSeveral}
 use Rattle.srv_alone.specs.declared.end.End.{End}
 use Rattle.srv_alone.specs.Once.{EndsOpening, Opens}
 use Rattle.srv_alone.specs.Report.{Reports}
-use Rattle.srv_serve.specs.Closing.{EndsWith, first_end_of}
-use Rattle.srv_serve.specs.Devices.{clocks_for, kept_for, Wanted}
-use Rattle.srv_serve.specs.Lines.{many_lines}
+use Rattle.srv_closing.specs.Closing.{EndsWith, first_end_of}
+use Rattle.srv_open.specs.Devices.{clocks_for, kept_for, Wanted}
+use Rattle.srv_closing.specs.Lines.{many_lines}
 use Rattle.srv_serve.specs.Serve.{EndsUnserved, HasOpened}
-use Rattle.srv_serve.specs.Stage.{LeavesDevices, LeavesDialer, Shows, Stage}
+use Rattle.srv_open.specs.Shows.{Shows}
+use Rattle.srv_closing.specs.Stage.{LeavesDevices, LeavesDialer, Stage}
 use Rattle.srv_serve.specs.Telling.{folders_text, open_line}
 
 -- the devices that the options of `many` ask for

@@ -8,11 +8,12 @@ use Rattle.dev_traits.specs.declared.world.Devices.{Devices}
 use Rattle.srv_workers.specs.declared.outcome.Outcome.{Outcome}
 use Rattle.srv_workers.specs.Runs.{RanTogether}
 use Rattle.srv_alone.specs.declared.end.End.{End}
-use Rattle.srv_serve.specs.Closing.{EndsServing, first_end}
-use Rattle.srv_serve.specs.Devices.{AreAllOpened, asked_by, kept_for, OpensDevices, StopsAt, Wanted}
+use Rattle.srv_closing.specs.Closing.{EndsServing, first_end}
+use Rattle.srv_open.specs.Devices.{AreAllOpened, asked_by, kept_for, OpensDevices, StopsAt, Wanted}
 use Rattle.srv_alone.specs.Once.{EndsOpening, Opens}
 use Rattle.srv_alone.specs.Report.{Reports}
-use Rattle.srv_serve.specs.Stage.{LeavesDevices, LeavesDialer, Shows, Stage}
+use Rattle.srv_open.specs.Shows.{Shows}
+use Rattle.srv_closing.specs.Stage.{LeavesDevices, LeavesDialer, Stage}
 use Rattle.srv_serve.specs.Telling.{serving_line, TellsLines}
 
 -- The run ended at the file of its prototype, so with status 3, 4, 5 or 10: nothing was opened.

@@ -3,7 +3,7 @@ use Rattle.std.specs.Prelude.{◌≡◌, ℕ, List, [], ◌∷◌, ◌++◌, cod
 use Rattle.std.specs.List.{flat_map}
 use Rattle.dev_traits.specs.Lines.{Tells, Told}
 use Rattle.dev_traits.specs.Opener.{opener_lines, OpenerShown, with_opener_lines}
-use Rattle.srv_serve.specs.Devices.{Wanted}
+use Rattle.srv_open.specs.Devices.{Wanted}
 
 -- folders, each behind a blank
 abbrev pub folders_text : List (List ℕ) → List ℕ

@@ -2,26 +2,36 @@
 ghost use Rattle.std.specs.Prelude.{◌≡◌, [], IfErr, IfOk, OnOk};
 ghost use Rattle.fm_model.specs.Site.{IsPrototype};
 ghost use Rattle.srv_words.specs.Serve.{IsServing};
-ghost use Rattle.srv_serve.specs.Devices as asking;
-ghost use Rattle.srv_serve.specs.Devices.{wanted_of};
+ghost use Rattle.srv_open.specs.Devices as asking;
+ghost use Rattle.srv_open.specs.Devices.{wanted_of};
 ghost use Rattle.srv_serve.specs.Serve as spec;
-ghost use Rattle.srv_serve.specs.Stage.{dial_shown, shows, stage_of};
+ghost use Rattle.srv_open.specs.Shows.{shows};
+ghost use Rattle.srv_closing.specs.Stage.{dial_shown, stage_of};
 
-use crate::closing::close;
-use crate::opening::{Asked, kept, open_all};
 use crate::prototypes::read_shared;
-use crate::saying::say;
 use crate::telling::tell_serving;
 use dev_traits::{Devices, Machine, Opened, World};
 use fm_base::Arc;
 use fm_model::Proto;
 use srv_alone::{End, report};
+use srv_closing::{close, say};
+use srv_open::{Asked, open_all};
 use srv_words::Serving;
 use srv_workers::{Outcome, run_workers};
 use std::alloc::Global;
 use std::marker::Sync;
 use std::sync::Wait;
 use std::thread::Threads;
+
+// For how many seconds a run is kept; nothing asks where there is no clock.
+pub(crate) fn kept(keep: Option<u32>) -> u32
+    ensures { result ≡ asking.kept_for keep }
+{
+    match keep {
+        Some(seconds) => seconds,
+        None => 0,
+    }
+}
 
 // What the options ask for.
 fn asked_by(serving: &Serving) -> Asked<'_>

@@ -2,21 +2,22 @@
 ghost use Rattle.std.specs.Prelude.{◌≡◌, ◌∷◌, ◌++◌, [], All, IfErr, IfOk, OnOk, length, map};
 ghost use Rattle.fm_model.specs.Site.{IsPrototype};
 ghost use Rattle.srv_words.specs.Many.{IsServingMany};
-ghost use Rattle.srv_serve.specs.Devices as asking;
-ghost use Rattle.srv_serve.specs.Devices.{wanted_of};
+ghost use Rattle.srv_open.specs.Devices as asking;
+ghost use Rattle.srv_open.specs.Devices.{wanted_of};
 ghost use Rattle.srv_serve.specs.Many as spec;
 ghost use Rattle.srv_serve.specs.Serve.{HasOpened, HasStopped};
-ghost use Rattle.srv_serve.specs.Stage.{dial_shown, shows, stage_of};
+ghost use Rattle.srv_open.specs.Shows.{shows};
+ghost use Rattle.srv_closing.specs.Stage.{dial_shown, stage_of};
 
-use crate::lines::close_many;
-use crate::opening::{Asked, kept, open_all};
 use crate::prototypes::read_each;
-use crate::saying::say;
+use crate::serving::kept;
 use crate::telling::tell_each;
 use dev_traits::{Devices, Machine, Opened, World};
 use fm_base::{Arc, Bytes, List, NoMemory};
 use fm_model::Proto;
 use srv_alone::{End, report};
+use srv_closing::{close_many, say};
+use srv_open::{Asked, open_all};
 use srv_words::{ServingMany, Spec};
 use srv_workers::{Outcomes, run_several};
 use std::alloc::Global;

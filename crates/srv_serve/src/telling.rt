@@ -1,13 +1,13 @@
 //! The line of a server that is open.
 ghost use Rattle.std.specs.Prelude.{◌≡◌, ◌∷◌, [], IfOk, OnErr, OnOk};
-ghost use Rattle.srv_serve.specs.Devices.{wanted_of};
+ghost use Rattle.srv_open.specs.Devices.{wanted_of};
 ghost use Rattle.srv_serve.specs.Many as many;
 ghost use Rattle.srv_serve.specs.Telling as spec;
 
-use crate::opening::Asked;
 use dev_traits::Machine;
 use fm_base::{Bytes, List, NoMemory};
 use itoa::Buffer;
+use srv_open::Asked;
 use srv_words::ServingMany;
 use std::alloc::Global;
 

@@ -1,7 +1,7 @@
 -- What is opened is what the options ask for.
 use Rattle.std.proofs.Common.{◌≡◌, List, [], ◌∷◌, ℕ, length, ap, subst, arith}
 use Rattle.std.proofs.lemmas.Result.{err_from_is_err_and}
-use Rattle.srv_serve.specs.Devices.{asked_by, Wanted}
+use Rattle.srv_open.specs.Devices.{asked_by, Wanted}
 use Rattle.srv_serve.specs.Telling.{serving_line, TellsLines}
 use Rattle.srv_serve.proofs.StageLemmas.{HasOpened-as, HasStopped-as, HasStopped-short}
 use Rattle.srv_serve.proofs.serving.open_served.Goals as goal

@@ -1,7 +1,8 @@
 -- Where memory runs out for the folders, nothing is opened.
 use Rattle.std.proofs.Common.{refl}
 use Rattle.srv_serve.specs.Many.{asked_by}
-use Rattle.srv_serve.proofs.StageLemmas.{HasStopped-as, OpensDevices-none}
+use Rattle.srv_open.proofs.DevicesLemmas.{OpensDevices-none}
+use Rattle.srv_serve.proofs.StageLemmas.{HasStopped-as}
 use Rattle.srv_serve.proofs.several.open_each.Goals as goal
 
 pub returns-in_default-clause-stopped : goal.returns-in_default-clause-stopped

@@ -3,7 +3,7 @@ use Rattle.std.proofs.Common.{◌≡◌, ◌∙◌, length, ap, arith}
 use Rattle.std.proofs.lemmas.List.{length-map}
 use Rattle.std.proofs.lemmas.Result.{err_from_is_err_and}
 use Rattle.srv_words.specs.declared.job.Spec.{Spec}
-use Rattle.srv_serve.specs.Devices.{Wanted}
+use Rattle.srv_open.specs.Devices.{Wanted}
 use Rattle.srv_serve.proofs.StageLemmas.{HasOpened-as, HasStopped-as}
 use Rattle.srv_serve.proofs.several.open_with.Goals as goal
 
