@@ -1,13 +1,13 @@
 -- The end of a run of `serve` by its workers' reports.
 use Rattle.std.specs.Prelude.{◌≡◌, ℕ, ◌+◌, if◌then◌else◌, nat_lt, List, [], ◌∷◌, ◌++◌, codes, sum_by, Option, Some, None}
 use Rattle.std.specs.Option.{option_or}
-use Rattle.srv_conn.specs.declared.door_report.DoorEnd.TheVariants as door_ends
-use Rattle.srv_conn.specs.declared.door_report.DoorReport.{DoorReport}
+use Rattle.srv_door.specs.declared.door_report.DoorEnd.TheVariants as door_ends
+use Rattle.srv_door.specs.declared.door_report.DoorReport.{DoorReport}
 use Rattle.srv_ingest.specs.declared.report.ExpireReport.{ExpireReport}
 use Rattle.srv_ingest.specs.declared.report.IngestEnd.{IngestEnd}
 use Rattle.srv_ingest.specs.declared.report.IngestEnd.TheVariants as inbox_ends
 use Rattle.srv_ingest.specs.declared.report.IngestReport.{IngestReport}
-use Rattle.srv_conn.specs.declared.door_report.DoorEnd.{DoorEnd}
+use Rattle.srv_door.specs.declared.door_report.DoorEnd.{DoorEnd}
 use Rattle.fm_model.specs.declared.full.Tally.{Tally}
 use Rattle.dev_traits.specs.Shown.{SinkShown}
 use Rattle.srv_workers.specs.declared.outcome.Outcome.{Outcome}

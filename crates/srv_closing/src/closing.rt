@@ -10,7 +10,7 @@ use dev_traits::{Failed, Sink};
 use fm_model::Tally;
 use itoa::Buffer;
 use srv_alone::{End, put_pieces, report};
-use srv_conn::{DoorEnd, DoorReport};
+use srv_door::{DoorEnd, DoorReport};
 use srv_ingest::{ExpireReport, IngestEnd, IngestReport};
 use srv_workers::Outcome;
 

@@ -12,11 +12,12 @@ use Rattle.dap_reply.specs.declared.served.Stop.TheVariants as stops
 use Rattle.dap_reply.specs.Collections.{Collections, Views}
 use Rattle.dap_reply.specs.Head.{no_memory_reply}
 use Rattle.dap_reply.specs.Parts.{bytes_of, Parts as Plan}
-use Rattle.srv_conn.specs.declared.acting.Acted.{Acted}
-use Rattle.srv_conn.specs.declared.acting.Acted.TheVariants as acts
-use Rattle.srv_conn.specs.declared.doing.Doing.{Doing}
-use Rattle.srv_conn.specs.declared.doing.Doing.TheVariants as does
-use Rattle.srv_conn.specs.Acts.{doing_after, ActsIn, IsBroken, IsDone, IsOngoing, IsParted, IsReading, IsSame, Notes, Parts, Reads, SaysMore, Sends, SendsMore, Stand}
+use Rattle.srv_action.specs.declared.acting.Acted.{Acted}
+use Rattle.srv_action.specs.declared.acting.Acted.TheVariants as acts
+use Rattle.srv_action.specs.declared.doing.Doing.{Doing}
+use Rattle.srv_action.specs.declared.doing.Doing.TheVariants as does
+use Rattle.srv_action.specs.Acts.{doing_after, ActsIn, IsBroken, IsDone, IsOngoing, IsParted, IsReading, IsSame, Parts, Reads, SaysMore, Sends, SendsMore, Stand}
+use Rattle.srv_conn.specs.Marks.{Notes}
 use Rattle.srv_conn.specs.ServesMany.{point_of, Point, ServesMany}
 use Rattle.srv_conn.specs.SoFar.{Parting, Sending, Serving, SoFar}
 use Rattle.srv_conn.specs.Turn.{reply_of_turn, IsCut, IsShort, IsWhole}

@@ -20,7 +20,7 @@ use Rattle.dap_reply.specs.Collections.{is_wanted_of, proto_for, Collections, Vi
 use Rattle.dap_reply.specs.Head.{no_memory_reply}
 use Rattle.dap_reply.specs.Parts.{bytes_of}
 use Rattle.dap_reply.specs.Reply.{answer_to, answered, has_head_alone, is_last, is_wanted, reply_of, reply_text, target_wanted}
-use Rattle.srv_conn.specs.declared.doing.Doing.{Doing}
+use Rattle.srv_action.specs.declared.doing.Doing.{Doing}
 use Rattle.srv_conn.specs.Begins.{looks_for, revision_for, seen_for, IsReplyTo, IsShortOf}
 use Rattle.srv_conn.specs.ServesMany.{point_of, Point}
 use Rattle.srv_conn.specs.Sight.{sight_in, IsBehind, OthersStay, Sight}

@@ -24,7 +24,7 @@ use Rattle.srv_conn.proofs.Ran.{moves_of, no-farewell, no_more, serves-so, Ran-b
 use Rattle.srv_conn.proofs.ServedParts.{ended-of, ends-input, failed, front-at, Answered}
 use Rattle.srv_conn.specs.SoFar.{Begun, Each, GoesOn, Serving}
 use Rattle.srv_conn.proofs.Serving.{reads-more, with_taken, Begun-takes}
-use Rattle.srv_conn.proofs.SessionLemmas.{rests-at, waiting-cut}
+use Rattle.srv_action.proofs.SessionLemmas.{rests-at, waiting-cut}
 
 -- no reply that goes on is a connection's last
 pub goes-on-at : (call : ManyCall) (done others : List Item) → all_items call ≡ done ++ others

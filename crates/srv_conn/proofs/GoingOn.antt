@@ -21,7 +21,7 @@ use Rattle.srv_conn.proofs.EachLemmas.{Each-append}
 use Rattle.srv_conn.proofs.HeadLemmas.{asked-first, leaves-passed, passes}
 use Rattle.srv_conn.specs.SoFar.{Each, GoesOn, Serving}
 use Rattle.srv_conn.proofs.Serving.{begun-grows, each-later, Begun-replies}
-use Rattle.srv_conn.proofs.SessionLemmas.{held-at}
+use Rattle.srv_action.proofs.SessionLemmas.{held-at}
 
 -- the question of an item is the session's question
 pub asked-back : (asked : Asked) (held : Held) → asked_of (item_asked asked held) ≡ asked

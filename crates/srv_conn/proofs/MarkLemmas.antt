@@ -10,12 +10,13 @@ use Rattle.web_session.specs.State.{end_after, replied, State}
 use Rattle.dap_reply.specs.declared.served.Mark.{Mark}
 use Rattle.dap_reply.specs.Collections.{Collections, Views}
 use Rattle.dap_reply.specs.Parts.{Parts as Plan}
-use Rattle.srv_conn.specs.declared.acting.Acted.{Acted}
-use Rattle.srv_conn.specs.declared.acting.Acted.TheVariants as acts
-use Rattle.srv_conn.specs.declared.doing.Doing.{Doing}
-use Rattle.srv_conn.specs.declared.doing.Doing.TheVariants as does
+use Rattle.srv_action.specs.declared.acting.Acted.{Acted}
+use Rattle.srv_action.specs.declared.acting.Acted.TheVariants as acts
+use Rattle.srv_action.specs.declared.doing.Doing.{Doing}
+use Rattle.srv_action.specs.declared.doing.Doing.TheVariants as does
 use Rattle.srv_conn.specs.declared.revisions.Revisions.{Revisions}
-use Rattle.srv_conn.specs.Acts.{doing_after, ActsIn, IsOngoing, IsReading, IsReady, Notes, Stand}
+use Rattle.srv_action.specs.Acts.{doing_after, ActsIn, IsOngoing, IsReading, IsReady, Stand}
+use Rattle.srv_conn.specs.Marks.{Notes}
 use Rattle.srv_conn.specs.Out.{AreRevisions, KnowsRevisions, MOST_REPLIES}
 use Rattle.srv_conn.specs.Revisions.{revision_at}
 use Rattle.srv_conn.specs.Sight.{OthersStay}

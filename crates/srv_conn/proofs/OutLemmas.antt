@@ -9,13 +9,13 @@ use Rattle.web_session.specs.Run.{item_asked}
 use Rattle.web_session.specs.State.{State}
 use Rattle.dap_reply.specs.Collections.{Collections, Views}
 use Rattle.dap_reply.specs.Reply.{is_wanted}
-use Rattle.srv_conn.specs.declared.acting.Acted.{Acted}
-use Rattle.srv_conn.specs.declared.acting.Acted.TheVariants as acts
+use Rattle.srv_action.specs.declared.acting.Acted.{Acted}
+use Rattle.srv_action.specs.declared.acting.Acted.TheVariants as acts
 use Rattle.srv_conn.specs.declared.connection.Connection.{Connection}
-use Rattle.srv_conn.specs.declared.doing.Doing.{Doing}
-use Rattle.srv_conn.specs.declared.doing.Doing.TheVariants as does
+use Rattle.srv_action.specs.declared.doing.Doing.{Doing}
+use Rattle.srv_action.specs.declared.doing.Doing.TheVariants as does
 use Rattle.srv_conn.specs.declared.revisions.Revisions.{Revisions}
-use Rattle.srv_conn.specs.Acts.{stand, Acts, IsOngoing, IsReading, IsReady, Stand}
+use Rattle.srv_action.specs.Acts.{stand, Acts, IsOngoing, IsReading, IsReady, Stand}
 use Rattle.srv_conn.specs.Begins.{looks_for, revision_for, seen_for, IsReplyTo, IsShortOf}
 use Rattle.srv_conn.specs.Out.{point_at, AreRevisions, HasEnded, IsOut, KnowsRevisions, LooksFor, MOST_REPLIES, Own, StaysOut}
 use Rattle.srv_conn.specs.ServesMany.{point_of, Point}

@@ -15,7 +15,7 @@ use Rattle.web_session.specs.State.{ends_link, State}
 use Rattle.dap_reply.specs.Order.{item_by}
 use Rattle.dap_reply.specs.Parts.{bytes_of, Parts}
 use Rattle.dap_reply.specs.Reply.{answer_to, has_head_alone, is_last, is_wanted, reply_of, reply_text}
-use Rattle.srv_conn.specs.declared.doing.Doing.TheVariants.{Replying}
+use Rattle.srv_action.specs.declared.doing.Doing.TheVariants.{Replying}
 use Rattle.srv_conn.specs.Begins.{looks_for, revision_for, IsReplyTo}
 use Rattle.srv_conn.specs.Sight.{Sight}
 use Rattle.srv_conn.proofs.GoingOn.{last-said}

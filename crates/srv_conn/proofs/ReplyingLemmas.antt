@@ -13,9 +13,10 @@ use Rattle.web_session.specs.State.{State}
 use Rattle.dap_reply.specs.declared.served.Mark.{Mark}
 use Rattle.dap_reply.specs.Collections.{Collections, Views}
 use Rattle.dap_reply.specs.Reply.{is_wanted}
-use Rattle.srv_conn.specs.declared.doing.Doing.{Doing}
-use Rattle.srv_conn.specs.declared.doing.Doing.TheVariants as does
-use Rattle.srv_conn.specs.Acts.{IsLeaving, IsOneMore, IsReading, IsReady}
+use Rattle.srv_action.specs.declared.doing.Doing.{Doing}
+use Rattle.srv_action.specs.declared.doing.Doing.TheVariants as does
+use Rattle.srv_action.specs.Acts.{IsLeaving, IsReading, IsReady}
+use Rattle.srv_conn.specs.Marks.{IsOneMore}
 use Rattle.srv_conn.specs.Begins.{Begins, IsReplyTo, IsShortOf}
 use Rattle.srv_conn.specs.Follows.{Follows}
 use Rattle.srv_conn.specs.ServesMany.{point_of, Point}

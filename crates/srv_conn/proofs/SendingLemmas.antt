@@ -5,11 +5,11 @@ use Rattle.web_session.specs.declared.action.Asked.{Asked}
 use Rattle.web_session.specs.declared.action.End.{End}
 use Rattle.dap_reply.specs.Head.{no_memory_reply}
 use Rattle.dap_reply.specs.Parts.{bytes_of, Parts as Plan}
-use Rattle.srv_conn.specs.declared.acting.Acted.{Acted}
-use Rattle.srv_conn.specs.declared.acting.Acted.TheVariants as acts
-use Rattle.srv_conn.specs.declared.doing.Doing.{Doing}
-use Rattle.srv_conn.specs.declared.doing.Doing.TheVariants as does
-use Rattle.srv_conn.specs.Acts.{doing_after, ActsIn, IsReading, Parts, Sends, Stand}
+use Rattle.srv_action.specs.declared.acting.Acted.{Acted}
+use Rattle.srv_action.specs.declared.acting.Acted.TheVariants as acts
+use Rattle.srv_action.specs.declared.doing.Doing.{Doing}
+use Rattle.srv_action.specs.declared.doing.Doing.TheVariants as does
+use Rattle.srv_action.specs.Acts.{doing_after, ActsIn, IsReading, Parts, Sends, Stand}
 
 -- how many bytes are left to send
 abbrev pub left_of : Doing → ℕ

@@ -17,12 +17,13 @@ use Rattle.dap_reply.specs.ServedMany.{reply_for, sent_for}
 use Rattle.dev_traits.specs.Moved.{moved, AreNext}
 use Rattle.srv_conn.specs.ServesMany.{Point}
 use Rattle.srv_conn.specs.SoFar.{Begun, Each, GoesOn, Serving}
-use Rattle.srv_conn.specs.Turn.{item_of_turn, reply_of_turn, IsBegun, Takes}
+use Rattle.srv_conn.specs.Turn.{item_of_turn, reply_of_turn, IsBegun}
+use Rattle.srv_action.specs.Taking.{Takes}
 use Rattle.srv_conn.proofs.EachLemmas.{Each-map}
 use Rattle.srv_conn.proofs.GoesLemmas.{goes-on, goes-start}
 use Rattle.dev_traits.proofs.MovedLemmas.{moved-more, moved-none, moved-put, next-more, next-none}
 use Rattle.srv_conn.proofs.ScriptLemmas.{reply-later, sent-append, sent-later, sent-none, sent-one}
-use Rattle.srv_conn.proofs.SessionLemmas.{held-at}
+use Rattle.srv_action.proofs.SessionLemmas.{held-at}
 use Rattle.srv_conn.proofs.ViewLemmas.{all-behind}
 
 -- ---- the start

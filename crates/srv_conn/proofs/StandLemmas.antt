@@ -10,62 +10,17 @@ use Rattle.dap_reply.specs.Collections.{Collections}
 use Rattle.dap_reply.specs.Head.{no_memory_reply}
 use Rattle.dap_reply.specs.Parts.{bytes_of, Parts as Plan}
 use Rattle.dap_reply.specs.Served.{IsAtRest}
-use Rattle.srv_conn.specs.declared.acting.Acted.{Acted}
-use Rattle.srv_conn.specs.declared.acting.Acted.TheVariants as acts
-use Rattle.srv_conn.specs.declared.doing.Doing.{Doing}
-use Rattle.srv_conn.specs.declared.doing.Doing.TheVariants as does
-use Rattle.srv_conn.specs.Acts.{doing_after, settled, stand, Acts, ActsIn, ActsOn, IsAsking, IsLeaving, IsOneMore, IsOngoing, IsReading, IsReady, Notes, Parts, Reads, Sends, Stand}
+use Rattle.srv_action.specs.declared.acting.Acted.{Acted}
+use Rattle.srv_action.specs.declared.acting.Acted.TheVariants as acts
+use Rattle.srv_action.specs.declared.doing.Doing.{Doing}
+use Rattle.srv_action.specs.declared.doing.Doing.TheVariants as does
+use Rattle.srv_action.specs.Acts.{doing_after, ActsIn, IsAsking, IsLeaving, IsOngoing, IsReading, IsReady, Parts, Reads, Sends, Stand}
+use Rattle.srv_conn.specs.Marks.{IsOneMore, Notes}
 use Rattle.srv_conn.specs.ServesMany.{Point}
 use Rattle.srv_conn.specs.SoFar.{SoFar}
 use Rattle.srv_conn.proofs.GoingOn.{leads-on}
-use Rattle.srv_conn.proofs.SessionLemmas.{rests-at}
+use Rattle.srv_action.proofs.SessionLemmas.{rests-at}
 use Rattle.srv_conn.proofs.TakesLemmas.{takes-rests}
-
--- ---- the next action, with what is done after it
-
-finished-in : (doing : Doing) (before : Stand) (link : LinkShown) (session : State) (mid : Doing)
-    → ActsIn doing before (stand link session mid) acts.Finished does.Replying
-    → ActsIn doing before (stand link session does.Reading) acts.Finished
-    (λ plan sent. doing_after plan sent acts.Finished)
-finished-in does.Reading before link session mid a = absurd a.1
-finished-in (does.Replying plan sent) before link session mid a =
-    record { sent' = a.sent'; doing_is = refl; sends = a.sends }
-finished-in (does.Leaving said) before link session mid a = absurd a.parts
-
-other-doing : (acted : Acted) (plan : Plan) (sent : ℕ) → acted ≢ acts.Finished
-    → does.Replying plan sent ≡ doing_after plan sent acted
-other-doing acts.Moved plan sent differs = refl
-other-doing (acts.Asks asked) plan sent differs = refl
-other-doing (acts.Sent count total) plan sent differs = refl
-other-doing acts.Finished plan sent differs = absurd (differs refl)
-other-doing acts.Later plan sent differs = refl
-other-doing (acts.Ended end) plan sent differs = refl
-
-other-in : (doing : Doing) (before after : Stand) (acted : Acted) → acted ≢ acts.Finished
-    → ActsIn doing before after acted does.Replying
-    → ActsIn doing before after acted (λ plan sent. doing_after plan sent acted)
-other-in does.Reading before after acted differs a = a
-other-in (does.Replying plan sent) before after acted differs a = record {
-  sent' = a.sent';
-  doing_is = a.doing_is ∙ other-doing acted plan a.sent' differs;
-  sends = a.sends;
-}
-other-in (does.Leaving said) before after acted differs a = a
-
--- a reply that was whole is let go
-pub acts-settled : (before : Stand) (link : LinkShown) (session : State) (mid : Doing) (acted : Acted)
-    → ActsOn before (stand link session mid) acted → Acts before (stand link session (settled mid acted)) acted
-acts-settled before link session mid acts.Moved a =
-    other-in before.doing before (stand link session mid) acts.Moved (λ same. cc) a
-acts-settled before link session mid (acts.Asks asked) a =
-    other-in before.doing before (stand link session mid) (acts.Asks asked) (λ same. cc) a
-acts-settled before link session mid (acts.Sent count total) a =
-    other-in before.doing before (stand link session mid) (acts.Sent count total) (λ same. cc) a
-acts-settled before link session mid acts.Finished a = finished-in before.doing before link session mid a
-acts-settled before link session mid acts.Later a =
-    other-in before.doing before (stand link session mid) acts.Later (λ same. cc) a
-acts-settled before link session mid (acts.Ended end) a =
-    other-in before.doing before (stand link session mid) (acts.Ended end) (λ same. cc) a
 
 -- ---- whether an action may be done
 

@@ -5,11 +5,12 @@ use Rattle.web_frame.specs.Limit.{MAX_HEAD}
 use Rattle.web_session.specs.declared.action.End.{End}
 use Rattle.web_session.specs.State.{resting, State}
 use Rattle.dap_reply.specs.Served.{held_bytes, IsAtRest}
-use Rattle.srv_conn.specs.Acts.{EndsWaiting}
+use Rattle.srv_action.specs.Acts.{EndsWaiting}
 use Rattle.dev_traits.specs.Moved.{moved, AreNext}
-use Rattle.srv_conn.specs.Turn.{EndsReading, FindsNone, Takes, TakesSome}
+use Rattle.srv_action.specs.Taking.{EndsReading, Takes, TakesSome}
+use Rattle.srv_conn.specs.Turn.{FindsNone}
 use Rattle.dev_traits.proofs.MovedLemmas.{moved-more, moved-none, next-more, next-none}
-use Rattle.srv_conn.proofs.SessionLemmas.{held-at, rests-at}
+use Rattle.srv_action.proofs.SessionLemmas.{held-at, rests-at}
 
 -- what a session holds after bytes were taken
 takes-held : {link now : LinkShown} {s after : State} {taken : List ℕ} → Takes link now s after taken

@@ -12,8 +12,8 @@ use Rattle.web_session.specs.Run.{item_asked}
 use Rattle.web_session.specs.State.{State}
 use Rattle.dap_reply.specs.Parts.{bytes_of, Parts}
 use Rattle.dap_reply.specs.Reply.{is_wanted, reply_of}
-use Rattle.srv_conn.specs.declared.doing.Doing.{Doing}
-use Rattle.srv_conn.specs.declared.doing.Doing.TheVariants.{Replying, Leaving}
+use Rattle.srv_action.specs.declared.doing.Doing.{Doing}
+use Rattle.srv_action.specs.declared.doing.Doing.TheVariants.{Replying, Leaving}
 use Rattle.srv_conn.specs.Sight.{IsBehind, Sight}
 
 -- the looks for an item: one at this many operations, where a collection is looked at

@@ -3,7 +3,7 @@ use Rattle.std.specs.Prelude.{ℕ, Option, Some, None}
 use Rattle.web_session.specs.declared.action.End.{End}
 use Rattle.dap_reply.specs.declared.served.Stop.TheVariants.{Ended}
 use Rattle.dap_reply.specs.Collections.{Collections}
-use Rattle.srv_conn.specs.declared.doing.Doing.TheVariants.{Reading}
+use Rattle.srv_action.specs.declared.doing.Doing.TheVariants.{Reading}
 use Rattle.srv_conn.specs.ServesMany.{Point, ServesMany}
 use Rattle.srv_conn.specs.SoFar.{SoFar}
 

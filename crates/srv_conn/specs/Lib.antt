@@ -1,11 +1,7 @@
-pub mod Acts
 pub mod Answered
-pub mod AtDoor
 pub mod Begins
-pub mod DoorOfOne
-pub mod DoorTurns
 pub mod Follows
-pub mod Kept
+pub mod Marks
 pub mod Out
 pub mod Revisions
 pub mod Serves

@@ -8,8 +8,8 @@ use Rattle.dap_reply.specs.declared.served.Mark.{Mark}
 use Rattle.dap_reply.specs.declared.served.Stop.TheVariants.{Ended}
 use Rattle.dap_reply.specs.Collections.{Collections, Views}
 use Rattle.srv_conn.specs.declared.connection.Connection.{Connection}
-use Rattle.srv_conn.specs.declared.doing.Doing.{Doing}
-use Rattle.srv_conn.specs.declared.doing.Doing.TheVariants as does
+use Rattle.srv_action.specs.declared.doing.Doing.{Doing}
+use Rattle.srv_action.specs.declared.doing.Doing.TheVariants as does
 use Rattle.srv_conn.specs.declared.revisions.Revisions.{Revisions}
 use Rattle.srv_conn.specs.declared.stepping.Stepped.{Stepped}
 use Rattle.srv_conn.specs.declared.stepping.Stepped.TheVariants as steps

@@ -17,8 +17,8 @@ use Rattle.dap_reply.specs.Parts.{bytes_of}
 use Rattle.dap_reply.specs.Reply.{is_last}
 use Rattle.dap_reply.specs.Served.{held_bytes, wanted_revisions, RepeatsUnwanted, Rises}
 use Rattle.dap_reply.specs.ServedMany.{items_for, marks_for, reply_for, sent_for}
-use Rattle.srv_conn.specs.declared.doing.Doing.{Doing}
-use Rattle.srv_conn.specs.declared.doing.Doing.TheVariants as does
+use Rattle.srv_action.specs.declared.doing.Doing.{Doing}
+use Rattle.srv_action.specs.declared.doing.Doing.TheVariants as does
 use Rattle.dev_traits.specs.Moved.{moved, AreNext}
 use Rattle.srv_conn.specs.ServesMany.{Point}
 use Rattle.srv_conn.specs.Sight.{sight_in, IsBehind, OthersStay, Sight}

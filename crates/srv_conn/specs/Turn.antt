@@ -1,55 +1,26 @@
 -- What is taken from a served link, and what becomes of a reply to it.
-use Rattle.std.specs.Prelude.{◌≡◌, ◌⊎◌, ℕ, ◌+◌, ◌<◌, ◌≤◌, List, [], ◌∷◌, ◌++◌, length, take, Bool, true, false, if◌then◌else◌, Option, Some, None}
+use Rattle.std.specs.Prelude.{◌≡◌, ◌⊎◌, ℕ, ◌+◌, ◌≤◌, List, [], ◌∷◌, ◌++◌, length, take, false, if◌then◌else◌, Option, Some}
 use Rattle.dev_traits.specs.Cause.{one_more}
 use Rattle.dev_traits.specs.Link.{after_put}
 use Rattle.dev_traits.specs.Shown.{LinkShown}
 use Rattle.pub_look.specs.History.{MayHaveLooked}
 use Rattle.web_frame.specs.Items.{Item}
-use Rattle.web_frame.specs.Limit.{MAX_HEAD}
 use Rattle.web_frame.specs.Stream.{next_of}
-use Rattle.web_session.specs.declared.action.Action.{Action}
-use Rattle.web_session.specs.declared.action.Action.TheVariants.{Read, Ask, Send, Close}
 use Rattle.web_session.specs.declared.action.Asked.{Asked}
 use Rattle.web_session.specs.declared.action.End.{End}
 use Rattle.web_session.specs.declared.action.End.TheVariants as ends
 use Rattle.web_session.specs.declared.phase.Phase.TheVariants.{Waiting, Asking, Ended}
 use Rattle.web_session.specs.Run.{item_asked}
-use Rattle.web_session.specs.State.{end_after, end_of_input, phase_after, replied, resting, State}
+use Rattle.web_session.specs.State.{end_after, phase_after, replied, State}
 use Rattle.dap_reply.specs.declared.served.Mark.{Mark}
 use Rattle.dap_reply.specs.Collections.{is_wanted_of, Collections, Views}
 use Rattle.dap_reply.specs.Head.{no_memory_reply}
 use Rattle.dap_reply.specs.Served.{held_bytes}
 use Rattle.dap_reply.specs.ServedMany.{reply_for}
-use Rattle.dev_traits.specs.Moved.{moved, AreNext, IsOver}
+use Rattle.dev_traits.specs.Moved.{moved, AreNext}
+use Rattle.srv_action.specs.Taking.{EndsReading, Takes}
 use Rattle.srv_conn.specs.ServesMany.{Point}
 use Rattle.srv_conn.specs.Sight.{IsBehind, OthersStay}
-
--- the end that an action says
-abbrev pub end_said : Action → Option End
-end_said (Close end) = Some end
-end_said (Read count) = None
-end_said (Ask asked) = None
-end_said (Send from) = None
-
--- these bytes were taken from a link, no call failed, and the session that rested has them too
-pub record Takes (before after : LinkShown) (session session_after : State) (taken : List ℕ) : Type 0 where
-  pub moved_is : after.held ≡ moved taken [] before.held
-  pub next : AreNext taken before.held
-  pub faults_are : after.faults ≡ before.faults
-  pub session_is : session_after ≡ resting (held_bytes session ++ taken) session.before
-
--- some bytes were taken for a session that had room for them
-pub record TakesSome (before after : LinkShown) (session session_after : State) : Type 0 where
-  pub taken : List ℕ
-  pub some : 0 < length taken
-  pub room : length (held_bytes session) < MAX_HEAD
-  pub takes : Takes before after session session_after taken
-
--- a link that was read from ends a session: a call failed, or input is over and these bytes are left
-abbrev pub EndsReading : LinkShown → LinkShown → List ℕ → End → Type 0
-EndsReading before after left end =
-    ((end ≡ ends.LinkFault) × (after.faults ≡ one_more before.faults))
-    ⊎ ((end ≡ end_of_input left) × (after.faults ≡ before.faults) × IsOver after.held)
 
 -- bytes were taken until a session asks for a reply
 pub record Finds (before after : LinkShown) (session session_after : State) (asked : Asked) : Type 0 where

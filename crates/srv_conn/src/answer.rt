@@ -10,12 +10,11 @@ ghost use Rattle.web_session.specs.Run.{item_asked};
 ghost use Rattle.srv_conn.specs.Begins.{looks_for, revision_for, Begins};
 ghost use Rattle.srv_conn.specs.Sight.{sight_in, OthersStay};
 
-use crate::doing::Doing;
-use crate::farewell::leave;
 use crate::looks::Looks;
 use dap_reply::{Order, Plan, order, refusal};
 use fm_base::NoMemory;
 use fm_model::Site;
+use srv_action::{Doing, leave};
 use std::alloc::Global;
 use std::mem::replace;
 use web_session::{Asked, Session};

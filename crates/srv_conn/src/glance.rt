@@ -26,7 +26,7 @@ impl Query for Glance {
 }
 
 /// Makes one look at each collection, and returns how many operations it sees.
-pub(crate) fn glance_at_all<K: Looks>(
+pub fn glance_at_all<K: Looks>(
     alloc: Global,
     looks: &mut K,
     sites: &K::Sites,

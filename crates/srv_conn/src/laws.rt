@@ -1,7 +1,5 @@
 //! Laws of served links, each as the contract of a call that does nothing.
-ghost use Rattle.std.specs.Prelude.{◌≡◌, ◌≢◌, ◌<◌, ℕ, Bool, length, slice_get, Option, Some};
-ghost use Rattle.fm_model.specs.declared.proto.Proto.{Proto};
-ghost use Rattle.dev_traits.specs.Door.{Doorway};
+ghost use Rattle.std.specs.Prelude.{◌≡◌, ◌≢◌, ◌<◌, ℕ, length, slice_get, Some};
 ghost use Rattle.web_frame.specs.Items.{Item};
 ghost use Rattle.web_session.specs.declared.action.End.TheVariants.{NoMemory};
 ghost use Rattle.dap_reply.specs.declared.served.Mark.{Mark};
@@ -9,12 +7,7 @@ ghost use Rattle.dap_reply.specs.declared.served.Stop.TheVariants.{Ended};
 ghost use Rattle.dap_reply.specs.Served.{items_of, marked_reply, number_at, HasFailed, LinkCall, Served};
 ghost use Rattle.dap_reply.specs.ServedMany.{all_items, call_in, reply_for, ManyCall, ServedMany};
 ghost use Rattle.srv_conn.specs.Answered.{GoesOnBefore, IsAnswered, IsAnsweredFor};
-ghost use Rattle.srv_conn.specs.DoorOfOne.{ServesEachLink};
-ghost use Rattle.srv_conn.specs.DoorTurns.{ServesEach};
-ghost use Rattle.srv_conn.specs.Sight.{Sight};
 ghost use Rattle.srv_conn.specs.WrittenAt.{GetsData, GetsDataFor};
-
-use dev_traits::Door;
 
 /// Where no call of the link failed and memory didn't run out, each of the first `most` requests that were read has its
 /// whole reply, up to the one after which the connection ends.
@@ -63,12 +56,4 @@ pub fn a_well_formed_request_gets_data_of_its_own_collection()
     ensures { (call : ManyCall) → ServedMany call → ¬ (HasFailed (call_in call 0)) → call.stop ≢ Ended NoMemory
         → (index : ℕ) (item : Item) → index < call.most → slice_get (all_items call) index ≡ Some item
         → GoesOnBefore (call_in call 0) index → GetsDataFor call index item }
-{}
-
-/// A door of one collection serves each of its links as `serve_link` serves one: from a fresh session, after one look
-/// when it came, over what was seen then and from then on. Each look was made for one of the links, with its number.
-pub fn a_door_of_one_collection_serves_each_link<D: Door>()
-    ensures { (proto : Proto) (still : Bool) (door door' : Option (Doorway D.L)) (sight sight' : Sight)
-        (served short : ℕ) → ServesEach D.L.shown proto still door door' sight sight' served short
-        → ServesEachLink D.L.shown proto still door door' sight sight' }
 {}

@@ -4,22 +4,21 @@ ghost use Rattle.web_session.specs.declared.phase.Phase.TheVariants.{Asking};
 ghost use Rattle.web_session.specs.Run.{item_asked};
 ghost use Rattle.dap_reply.specs.declared.served.Mark.{Mark as Noted};
 ghost use Rattle.dap_reply.specs.Collections.{Collections, Views};
-ghost use Rattle.srv_conn.specs.Acts.{stand, Acts, IsLeaving, IsOneMore, IsReading, IsReady, Notes};
+ghost use Rattle.srv_action.specs.Acts.{stand, Acts, IsLeaving, IsReading, IsReady};
+ghost use Rattle.srv_conn.specs.Marks.{IsOneMore, Notes};
 ghost use Rattle.srv_conn.specs.Begins.{Begins};
 ghost use Rattle.srv_conn.specs.ServesMany.{point_of, Point};
 ghost use Rattle.srv_conn.specs.SoFar.{Asks, SoFar};
 ghost use Rattle.srv_conn.specs.Follows.{Follows};
 ghost use Rattle.srv_conn.specs.Sight.{sight_in, OthersStay};
 
-use crate::acting::{Acted, act};
 use crate::answer::{Request, begin};
-use crate::doing::Doing;
-use crate::farewell::leave;
 use crate::looks::Looks;
 use crate::trail::{Trail, note};
 use dap_reply::Mark;
 use dev_traits::Link;
 use fm_base::NoMemory;
+use srv_action::{Acted, Doing, act, leave};
 use std::alloc::Global;
 use web_session::{End, Session};
 

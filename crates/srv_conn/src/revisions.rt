@@ -6,7 +6,7 @@ use crate::looks::MOST_COLLECTIONS;
 
 /// Of each collection the revision of a link's last reply, or of what was seen when the link came.
 #[derive(Clone, Copy)]
-pub(crate) struct Revisions {
+pub struct Revisions {
     numbers: [u64; MOST_COLLECTIONS],
 }
 

@@ -16,8 +16,8 @@ use pub_look::Look;
 use std::alloc::Global;
 use web_session::Session;
 
-// The bytes that whoever serves a link has for its own use.
-pub(crate) const ROOM: usize = 65_536;
+/// The bytes that whoever serves a link has for its own use.
+pub const ROOM: usize = 65_536;
 
 /// Serves a link that blocks until `most` replies were written in this call, or the link has ended: the requests that
 /// come are answered in order, each whole, over collections that never get older. It waits for nobody but the link.

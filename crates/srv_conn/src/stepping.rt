@@ -2,15 +2,15 @@
 ghost use Rattle.std.specs.Prelude.{◌≡◌, ◌<◌, IfNone, None, length};
 ghost use Rattle.srv_conn.specs.Sight.{AreBehind};
 ghost use Rattle.web_session.specs.declared.phase.Phase.TheVariants.{Asking};
-ghost use Rattle.srv_conn.specs.Acts.{IsReading, IsReady};
+ghost use Rattle.srv_action.specs.Acts.{IsReading, IsReady};
 ghost use Rattle.srv_conn.specs.Out.{end_in, IsOut, Own, WentOn};
 ghost use Rattle.srv_conn.specs.ServesMany.{Point};
 
-use crate::acting::{Acted, act};
 use crate::answer::{Request, begin, choice_of};
 use crate::connection::Connection;
 use crate::looks::Looks;
 use dev_traits::Link;
+use srv_action::{Acted, act};
 use std::alloc::Global;
 use web_session::{Asked, End};
 
@@ -111,7 +111,7 @@ fn step<L: Link, K: Looks>(
 }
 
 /// Has a connection go on until a call would wait, or it has had enough for a turn. Returns its end, if it has ended.
-pub(crate) fn go_on<L: Link, K: Looks>(
+pub fn go_on<L: Link, K: Looks>(
     alloc: Global,
     looks: &mut K,
     connection: &mut Connection<L>,

@@ -7,10 +7,10 @@ use Rattle.dev_traits.specs.Door.{DoorShown}
 use Rattle.dev_traits.specs.Inbox.{InboxShown}
 use Rattle.dev_traits.specs.Shown.{SinkShown}
 use Rattle.fm_model.specs.declared.proto.Proto.{Proto}
-use Rattle.srv_conn.specs.DoorTurns.{EndsDoor}
-use Rattle.srv_conn.specs.declared.door_report.DoorEnd.{DoorEnd}
-use Rattle.srv_conn.specs.declared.door_report.DoorEnd.TheVariants as door_ends
-use Rattle.srv_conn.specs.declared.door_report.DoorReport.{DoorReport}
+use Rattle.srv_door.specs.DoorTurns.{EndsDoor}
+use Rattle.srv_door.specs.declared.door_report.DoorEnd.{DoorEnd}
+use Rattle.srv_door.specs.declared.door_report.DoorEnd.TheVariants as door_ends
+use Rattle.srv_door.specs.declared.door_report.DoorReport.{DoorReport}
 use Rattle.srv_ingest.specs.Ingests.{EndsIngest}
 use Rattle.srv_ingest.specs.declared.report.IngestEnd.{IngestEnd}
 use Rattle.srv_ingest.specs.declared.report.IngestEnd.TheVariants as inbox_ends

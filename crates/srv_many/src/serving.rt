@@ -1,7 +1,7 @@
 //! Serving links and doors over several collections.
 ghost use Rattle.std.specs.Prelude.{◌≡◌, ◌≤◌, [], length};
 ghost use Rattle.dap_reply.specs.Served.{IsAtRest};
-ghost use Rattle.srv_conn.specs.DoorTurns.{EndsDoor, ServesEachMany};
+ghost use Rattle.srv_door.specs.DoorTurns.{EndsDoor, ServesEachMany};
 ghost use Rattle.srv_conn.specs.ServesMany.{point_of, ServesMany};
 ghost use Rattle.srv_many.specs.Several.{collections_with, row_with, views_with};
 
@@ -12,7 +12,8 @@ use dev_traits::{Door, Gate, Link};
 use fm_base::{Arc, List};
 use fm_model::Proto;
 use pub_look::Look;
-use srv_conn::{DoorReport, Trail, serve_door_looks, serve_looks};
+use srv_conn::{Trail, serve_looks};
+use srv_door::{DoorReport, serve_door_looks};
 use std::alloc::Global;
 use std::sync::Wait;
 use web_session::Session;

@@ -11,8 +11,8 @@ use Rattle.pub_snap.specs.declared.desk.Closed.{Closed}
 use Rattle.srv_alone.specs.declared.end.End.{End}
 use Rattle.srv_alone.specs.declared.end.End.TheVariants.{DoorFault, InboxFault}
 use Rattle.srv_alone.specs.Report.{Reports}
-use Rattle.srv_conn.specs.declared.door_report.DoorEnd.TheVariants as door_ends
-use Rattle.srv_conn.specs.declared.door_report.DoorReport.{DoorReport}
+use Rattle.srv_door.specs.declared.door_report.DoorEnd.TheVariants as door_ends
+use Rattle.srv_door.specs.declared.door_report.DoorReport.{DoorReport}
 use Rattle.srv_ingest.specs.declared.report.IngestEnd.TheVariants as inbox_ends
 use Rattle.srv_ingest.specs.declared.report.IngestReport.{IngestReport}
 use Rattle.srv_words.specs.declared.job.ServingMany.{ServingMany}

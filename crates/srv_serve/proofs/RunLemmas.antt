@@ -7,10 +7,10 @@ use Rattle.dev_traits.specs.Cause.{one_more}
 use Rattle.dev_traits.specs.Door.{DoorShown}
 use Rattle.dev_traits.specs.Inbox.{InboxShown}
 use Rattle.dev_traits.specs.Opener.{OpenerShown}
-use Rattle.srv_conn.specs.DoorTurns.{EndsDoor}
-use Rattle.srv_conn.specs.declared.door_report.DoorEnd.{DoorEnd}
-use Rattle.srv_conn.specs.declared.door_report.DoorEnd.TheVariants as door_ends
-use Rattle.srv_conn.specs.declared.door_report.DoorReport.{DoorReport}
+use Rattle.srv_door.specs.DoorTurns.{EndsDoor}
+use Rattle.srv_door.specs.declared.door_report.DoorEnd.{DoorEnd}
+use Rattle.srv_door.specs.declared.door_report.DoorEnd.TheVariants as door_ends
+use Rattle.srv_door.specs.declared.door_report.DoorReport.{DoorReport}
 use Rattle.srv_ingest.specs.Ingests.{EndsIngest}
 use Rattle.srv_ingest.specs.declared.report.ExpireReport.{ExpireReport}
 use Rattle.srv_ingest.specs.declared.report.IngestEnd.{IngestEnd}

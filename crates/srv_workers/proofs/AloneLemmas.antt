@@ -11,8 +11,8 @@ use Rattle.dev_traits.specs.Inbox.{InboxShown}
 use Rattle.dev_traits.specs.declared.world.Devices.{Devices}
 use Rattle.pub_look.specs.History.{History}
 use Rattle.dap_reply.specs.Collections.{alone}
-use Rattle.srv_conn.specs.declared.door_report.DoorReport.{DoorReport}
-use Rattle.srv_conn.specs.DoorTurns.{ServesEach, ServesEachMany}
+use Rattle.srv_door.specs.declared.door_report.DoorReport.{DoorReport}
+use Rattle.srv_door.specs.DoorTurns.{ServesEach, ServesEachMany}
 use Rattle.srv_conn.specs.Sight.{views_of}
 use Rattle.srv_ingest.specs.declared.report.ExpireReport.{ExpireReport}
 use Rattle.srv_ingest.specs.declared.report.IngestReport.{IngestReport}

@@ -12,8 +12,8 @@ use Rattle.dev_traits.specs.Inbox.{InboxShown}
 use Rattle.pub_look.specs.History.{Continues, History}
 use Rattle.pub_snap.specs.declared.desk.Closed.{Closed}
 use Rattle.dap_reply.specs.Collections.{Collections}
-use Rattle.srv_conn.specs.declared.door_report.DoorReport.{DoorReport}
-use Rattle.srv_conn.specs.DoorTurns.{EndsDoor, ServesEachMany}
+use Rattle.srv_door.specs.declared.door_report.DoorReport.{DoorReport}
+use Rattle.srv_door.specs.DoorTurns.{EndsDoor, ServesEachMany}
 use Rattle.srv_ingest.specs.declared.report.ExpireReport.{ExpireReport}
 use Rattle.srv_ingest.specs.declared.report.IngestReport.{IngestReport}
 use Rattle.srv_ingest.specs.Expires.{AllSettledWith}

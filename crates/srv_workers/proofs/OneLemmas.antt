@@ -10,8 +10,8 @@ use Rattle.dev_traits.specs.Door.{DoorShown}
 use Rattle.pub_look.specs.History.{Continues, History}
 use Rattle.pub_snap.specs.declared.desk.Closed.{Closed}
 use Rattle.dap_reply.specs.Collections.{alone, only}
-use Rattle.srv_conn.specs.declared.door_report.DoorReport.{DoorReport}
-use Rattle.srv_conn.specs.DoorTurns.{EndsDoor, ServesEachMany}
+use Rattle.srv_door.specs.declared.door_report.DoorReport.{DoorReport}
+use Rattle.srv_door.specs.DoorTurns.{EndsDoor, ServesEachMany}
 use Rattle.srv_conn.specs.Sight.{views_of}
 use Rattle.srv_many.specs.Several.{nth, views_in}
 use Rattle.srv_workers.specs.Desks.{closed_of, counted_at, HasSeenEach, IsUnseen, LearnsEach, Publisher}

@@ -10,10 +10,10 @@ use Rattle.dev_traits.specs.Door.{DoorShown}
 use Rattle.dev_traits.specs.Inbox.{InboxShown}
 use Rattle.pub_look.specs.History.{Continues, History}
 use Rattle.pub_snap.specs.Opening.{unused}
-use Rattle.srv_conn.specs.DoorTurns.{EndsDoor, ServesEach}
+use Rattle.srv_door.specs.DoorTurns.{EndsDoor, ServesEach}
 use Rattle.srv_ingest.specs.Expires.{AllSettledWith}
 use Rattle.srv_ingest.specs.Ingests.{EndsIngest, SettledWith}
-use Rattle.srv_conn.specs.declared.door_report.DoorReport.{DoorReport}
+use Rattle.srv_door.specs.declared.door_report.DoorReport.{DoorReport}
 use Rattle.srv_ingest.specs.declared.report.ExpireReport.{ExpireReport}
 use Rattle.srv_ingest.specs.declared.report.IngestReport.{IngestReport}
 use Rattle.dev_traits.specs.declared.world.Devices.{Devices}

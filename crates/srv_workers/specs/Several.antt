@@ -12,7 +12,7 @@ use Rattle.dev_traits.specs.declared.world.Devices.{Devices}
 use Rattle.pub_look.specs.History.{Continues}
 use Rattle.pub_snap.specs.Opening.{no_proto}
 use Rattle.dap_reply.specs.Collections.{Collections, Views}
-use Rattle.srv_conn.specs.declared.door_report.DoorReport.{DoorReport}
+use Rattle.srv_door.specs.declared.door_report.DoorReport.{DoorReport}
 use Rattle.srv_ingest.specs.declared.report.ExpireReport.{ExpireReport}
 use Rattle.srv_ingest.specs.declared.report.IngestReport.{IngestReport}
 use Rattle.srv_many.specs.Choice.{choice_of}

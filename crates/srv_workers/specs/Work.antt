@@ -6,8 +6,8 @@ use Rattle.dev_traits.specs.Door.{DoorShown}
 use Rattle.dev_traits.specs.Inbox.{InboxShown}
 use Rattle.pub_look.specs.History.{History}
 use Rattle.dap_reply.specs.Collections.{Collections, Views}
-use Rattle.srv_conn.specs.declared.door_report.DoorReport.{DoorReport}
-use Rattle.srv_conn.specs.DoorTurns.{EndsDoor, ServesEachMany}
+use Rattle.srv_door.specs.declared.door_report.DoorReport.{DoorReport}
+use Rattle.srv_door.specs.DoorTurns.{EndsDoor, ServesEachMany}
 use Rattle.srv_conn.specs.Sight.{Sight}
 use Rattle.srv_ingest.specs.declared.report.ExpireReport.{ExpireReport}
 use Rattle.srv_ingest.specs.declared.report.IngestReport.{IngestReport}

@@ -8,7 +8,7 @@ use crate::one::OwnHand;
 use crate::slots::Slots;
 use dev_traits::{Clock, Door, Gate, Inbox};
 use pub_snap::{Closed, Desk, Name, Receipt, Share};
-use srv_conn::DoorReport;
+use srv_door::DoorReport;
 use srv_ingest::{ExpireReport, IngestReport};
 use srv_many::serve_many_door;
 use std::alloc::Global;

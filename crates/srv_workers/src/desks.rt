@@ -9,7 +9,7 @@ ghost use Rattle.srv_workers.specs.Work.{LetsGo, ServesDoor, TakesIn};
 use crate::slots::Slots;
 use dev_traits::{Clock, Door, Gate, Inbox};
 use pub_snap::Closed;
-use srv_conn::DoorReport;
+use srv_door::DoorReport;
 use srv_ingest::{ExpireReport, IngestReport};
 use std::alloc::Global;
 use std::sync::Wait;

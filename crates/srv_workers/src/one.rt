@@ -7,7 +7,7 @@ use crate::slots::Slots;
 use dev_traits::{Clock, Door, Gate, Inbox};
 use pub_look::Look;
 use pub_snap::{Closed, Desk, Name, Receipt, Share};
-use srv_conn::{DoorReport, serve_door_looks};
+use srv_door::{DoorReport, serve_door_looks};
 use srv_ingest::{ExpireReport, IngestReport, expire_all, ingest_all};
 use std::alloc::Global;
 use std::sync::{Mutex, Wait};

@@ -3,7 +3,7 @@
 use fm_base::List;
 use fm_model::Tally;
 use pub_snap::Closed;
-use srv_conn::DoorReport;
+use srv_door::DoorReport;
 use srv_ingest::{ExpireReport, IngestReport};
 
 /// The outcome of all workers: the report of each, in the order of the devices, the tally at the end, and the number of

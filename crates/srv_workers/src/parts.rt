@@ -6,7 +6,7 @@ use crate::desks::Desks;
 use crate::slots::{Slots, pair_with_room, take_off};
 use crate::worker::Worker;
 use fm_base::{List, NoMemory};
-use srv_conn::DoorReport;
+use srv_door::DoorReport;
 use srv_ingest::{ExpireReport, IngestReport};
 use std::alloc::Global;
 

@@ -1,6 +1,6 @@
 //! Workers.
 
-use srv_conn::{DoorEnd, DoorReport};
+use srv_door::{DoorEnd, DoorReport};
 use srv_ingest::{ExpireReport, IngestEnd, IngestReport};
 
 // A worker: its device, what it looks or publishes with, and its report. A door has a number.

@@ -3,7 +3,7 @@ use Rattle.std.proofs.Common.{◌≡◌, sym, subst}
 use Rattle.dev_traits.specs.Shown.{LinkShown}
 use Rattle.web_session.specs.declared.phase.Phase.TheVariants.{Asking}
 use Rattle.web_session.specs.State.{State}
-use Rattle.srv_conn.specs.Turn.{Takes}
+use Rattle.srv_action.specs.Taking.{Takes}
 use Rattle.srv_conn.proofs.ActLemmas.{same-link}
 use Rattle.srv_conn.proofs.StandLemmas.{reads-only}
 use Rattle.srv_conn.proofs.TakesLemmas.{takes-ends, takes-less, takes-rests, takes-then, Takes-nothing}

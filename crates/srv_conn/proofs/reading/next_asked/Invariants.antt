@@ -2,7 +2,7 @@
 use Rattle.std.proofs.Common.{ℕ, ◌-◌, List, length}
 use Rattle.web_frame.specs.Limit.{MAX_HEAD}
 use Rattle.dap_reply.specs.Served.{held_bytes}
-use Rattle.srv_conn.specs.Turn.{Takes}
+use Rattle.srv_action.specs.Taking.{Takes}
 use Rattle.srv_conn.proofs.reading.next_asked.Given as goal
 
 abbrev pub invariant-asks : goal.invariant-asks

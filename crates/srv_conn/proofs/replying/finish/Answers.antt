@@ -2,8 +2,8 @@
 use Rattle.std.proofs.Common.{List, sym, subst}
 use Rattle.dap_reply.specs.declared.served.Mark.{Mark}
 use Rattle.dap_reply.specs.declared.served.Stop.TheVariants as stops
-use Rattle.srv_conn.specs.declared.acting.Acted.TheVariants as acts
-use Rattle.srv_conn.specs.Acts.{stand, Stand}
+use Rattle.srv_action.specs.declared.acting.Acted.TheVariants as acts
+use Rattle.srv_action.specs.Acts.{stand, Stand}
 use Rattle.srv_conn.specs.ServesMany.{point_of, ServesMany}
 use Rattle.srv_conn.specs.SoFar.{SoFar}
 use Rattle.srv_conn.proofs.ActLemmas.{ends-in, goes-in}

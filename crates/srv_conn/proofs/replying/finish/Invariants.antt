@@ -2,7 +2,8 @@
 use Rattle.std.proofs.Common.{ℕ, Bool, List}
 use Rattle.dap_reply.specs.declared.served.Mark.{Mark}
 use Rattle.dap_reply.specs.Collections.{Collections, Views}
-use Rattle.srv_conn.specs.Acts.{IsLeaving, IsOneMore, IsReading, IsReady}
+use Rattle.srv_action.specs.Acts.{IsLeaving, IsReading, IsReady}
+use Rattle.srv_conn.specs.Marks.{IsOneMore}
 use Rattle.srv_conn.specs.ServesMany.{point_of, Point}
 use Rattle.srv_conn.specs.SoFar.{SoFar}
 use Rattle.srv_conn.proofs.SendingLemmas.{left_of}

@@ -11,7 +11,7 @@ use Rattle.srv_conn.specs.ServesMany.{point_of, Point}
 use Rattle.srv_conn.specs.SoFar.{Asks, Serving}
 use Rattle.srv_conn.proofs.Exits.{serves-enough, serves-none}
 use Rattle.srv_conn.proofs.Serving.{Serving-start, Serving-takes}
-use Rattle.srv_conn.proofs.SessionLemmas.{rests-at}
+use Rattle.srv_action.proofs.SessionLemmas.{rests-at}
 use Rattle.srv_conn.proofs.serve.serve_looks.Goals as goal
 
 -- a reply over the collections of the call's start

@@ -1,6 +1,6 @@
 -- The connection went on, and may go on.
 use Rattle.std.proofs.Common.{◌≡◌}
-use Rattle.srv_conn.specs.Acts.{IsReady}
+use Rattle.srv_action.specs.Acts.{IsReady}
 use Rattle.srv_conn.specs.Out.{IsOut, Own, StaysOut}
 use Rattle.srv_conn.specs.ServesMany.{Point}
 use Rattle.srv_conn.specs.Sight.{AreBehind}

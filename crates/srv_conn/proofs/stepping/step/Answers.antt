@@ -1,6 +1,6 @@
 -- Each action leaves the link out, or ends it.
 use Rattle.std.proofs.Common.{refl, None}
-use Rattle.srv_conn.specs.declared.acting.Acted.TheVariants as acts
+use Rattle.srv_action.specs.declared.acting.Acted.TheVariants as acts
 use Rattle.srv_conn.proofs.OutLemmas.{out-ends, out-goes}
 use Rattle.srv_conn.proofs.StandLemmas.{asks-phase, asks-still, ready-after}
 use Rattle.srv_conn.proofs.stepping.step.Goals as goal

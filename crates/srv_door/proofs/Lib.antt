@@ -1,0 +1,10 @@
+pub mod AtKey
+pub mod ComingLemmas
+pub mod DoorLemmas
+pub mod DoorwayLemmas
+pub mod FreshLemmas
+pub mod HallLemmas
+pub mod KeyLemmas
+pub mod LinkLemmas
+pub mod NextLemmas
+pub mod TagLemmas

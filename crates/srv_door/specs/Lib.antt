@@ -1,0 +1,4 @@
+pub mod AtDoor
+pub mod DoorOfOne
+pub mod DoorTurns
+pub mod Kept
