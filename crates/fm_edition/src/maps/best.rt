@@ -30,13 +30,14 @@ fn rows_of(alloc: Global, page: &Page, wanted: Wanted) -> Result<List<Row>, NoMe
     Ok(rows)
 }
 
-// What is kept of a page.
-fn kept_of(alloc: Global, page: &Page) -> Result<PageRows, NoMemory>
+// What is kept of a page, for many to share.
+fn kept_of(alloc: Global, page: &Page) -> Result<Shared<PageRows>, NoMemory>
     requires { All spec.IsTimed page.now.entries }
     ensures { IfOk result (λ kept. kept ≡ spec.page_rows page.now) }
 {
     let rows = rows_of(alloc, page, Wanted::Best(None))?;
-    PageRows::new(alloc, rows, each_one(page), each_rises(page))
+    let kept = PageRows::new(alloc, rows, each_one(page), each_rises(page))?;
+    Shared::new(alloc, kept)
 }
 
 // Makes the rows of the page of a number anew. Where there is no such page, there are no rows.
@@ -51,7 +52,7 @@ fn set_rows(alloc: Global, best: &mut RowPages, pages: &Pages, number: i64) -> R
     match pages.get(&number) {
         Some(page) => {
             let rows = kept_of(alloc, page.get())?;
-            best.insert(number, Shared::new(alloc, rows)?)?;
+            best.insert(number, rows)?;
         }
         None => {
             best.remove(&number);

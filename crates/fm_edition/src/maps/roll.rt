@@ -107,9 +107,12 @@ fn gone_of_pieces(alloc: Global, pieces: &[Piece], op: &Op) -> Result<List<Place
 fn has_older_piece(pieces: &[Piece], cutoff: i64) -> bool
     ensures { result ≡ list_any (λ (piece : Items File). holds_older piece cutoff) pieces.now }
 {
-    pieces
-        .iter()
-        .any(|piece| has_older(piece.get().as_slice(), cutoff))
+    for piece in pieces {
+        if has_older(piece.get().as_slice(), cutoff) {
+            return true;
+        }
+    }
+    false
 }
 
 impl Model for Roll {
