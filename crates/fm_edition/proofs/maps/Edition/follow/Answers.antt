@@ -1,10 +1,10 @@
 -- What an operation leaves is an edition where it can be done.
 use Rattle.std.proofs.Common.{◌≡◌, sym, ap, subst, ◌∙◌}
 use Rattle.fm_model.specs.declared.full.Tally.{Tally}
-use Rattle.fm_model.specs.Collection.{after_op, full_at, tally, IsWithin}
+use Rattle.fm_model.specs.Collection.{after_op, tally, IsWithin}
 use Rattle.fm_model.proofs.FullLemmas.{full_at-none}
 use Rattle.fm_list.specs.Change.{gone}
-use Rattle.fm_edition.specs.Amounts.{less, with_added, IsPartOf}
+use Rattle.fm_edition.specs.Amounts.{less, with_added}
 use Rattle.fm_edition.specs.Held.{Held}
 use Rattle.fm_edition.specs.Indexes.{AreMaps}
 use Rattle.fm_edition.specs.Log.{CanFollow}

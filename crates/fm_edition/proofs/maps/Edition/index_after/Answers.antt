@@ -1,5 +1,5 @@
 -- What goes and what comes are the files that change.
-use Rattle.std.proofs.Common.{◌≡◌, ◌++◌, ap, ◌∙◌}
+use Rattle.std.proofs.Common.{◌++◌, ap, ◌∙◌}
 use Rattle.fm_list.specs.Change.{added, changed}
 use Rattle.fm_edition.proofs.maps.Edition.index_after.Goals as goal
 

@@ -1,8 +1,8 @@
 -- The clone of the pages, one more page, and all of them.
-use Rattle.std.proofs.Common.{rules, ◌≡◌, ◌∙◌, ap, arith, false, get_or, pos, refl, subst, sym, take, SFits, w64}
+use Rattle.std.proofs.Common.{rules, ◌≡◌, ◌∙◌, ap, arith, get_or, pos, refl, subst, sym, take, SFits, w64}
 use Rattle.std.proofs.lemmas.Int.{to_z-of_z}
 use Rattle.std.proofs.lemmas.List.{get_or_default, take_all}
-use Rattle.fm_edition.specs.Indexes.{in_page, page_of, page_set, touches}
+use Rattle.fm_edition.specs.Indexes.{in_page, page_of, page_set}
 use Rattle.fm_edition.specs.Steps.{AreDone}
 use Rattle.fm_edition.proofs.BestLemmas.{touches-less}
 use Rattle.fm_edition.proofs.PageLemmas.{same_entries, set_in, in_page-same, page_set-none, AreOrdered-same}
