@@ -9,7 +9,8 @@ take_next : {A : Type 0} (list : List A) (at : ℕ) (item : A) → at < length l
     → take (at + 1) list ≡ take at list ++ item ∷ []
 take_next list at item lt is = take_more list at item lt ∙ ap (λ y. take at list ++ y ∷ []) (sym is)
 
-filter_next : {A : Type 0} (f : A → Bool) (list : List A) (at : ℕ) (item : A) → at < length list
+-- one item more, of which a test is asked
+pub filter_next : {A : Type 0} (f : A → Bool) (list : List A) (at : ℕ) (item : A) → at < length list
     → item ≡ get_or list at item
     → filter f (take (at + 1) list) ≡ filter f (take at list) ++ filter f (item ∷ [])
 filter_next f list at item lt is =

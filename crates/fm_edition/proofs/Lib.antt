@@ -4,6 +4,7 @@ pub mod ChangeLemmas
 pub mod CountLemmas
 pub mod EditionLemmas
 pub mod EntryLemmas
+pub mod GoneLemmas
 pub mod IndexLemmas
 pub mod KeepLemmas
 pub mod KeyLemmas
@@ -17,5 +18,6 @@ pub mod PieceLemmas
 pub mod RisingLemmas
 pub mod RowLemmas
 pub mod RunLemmas
+pub mod SetLemmas
 pub mod TallyLemmas
 pub mod WalkLemmas

@@ -143,6 +143,16 @@ page_set-none by op held number key = by_page (int_eq (page_of key) number)
     by_page true = refl
     by_page false = refl
 
+-- one more page is set, where what it has is made for its number, and what stood at another number for that
+pub set_in : {A : Type 0} (made : ℤ → A) (page held set : A) (number other : ℤ)
+    → set ≡ cond (int_eq number other) page held → page ≡ made number
+    → (int_eq number other ≡ false → held ≡ made other) → set ≡ made other
+set_in made page held set number other is own rest = by_test (int_eq number other) refl
+  where
+    by_test : (same : Bool) → int_eq number other ≡ same → set ≡ made other
+    by_test true same = is ∙ ap (λ b. cond b page held) same ∙ own ∙ ap made ((signed_Decides number other).0 same)
+    by_test false same = is ∙ ap (λ b. cond b page held) same ∙ rest same
+
 -- pages with the same entries hold the same
 pub in_page-same : (pages next : Pages) → next.entries ≡ pages.entries → (number key : ℤ)
     → in_page next number key ≡ in_page pages number key

@@ -105,7 +105,8 @@ left_is files op =
     let size_is : sum_by size left ≡ sum_by size files - sum_by size out = omega (arith, sum_parts size files op) in
     cc (count_is, rows_is, size_is)
 
-added_is : (left : List Loaded) (op : Op) → tally (left ++ added op) ≡ with_added op (tally left)
+-- how much there is once an operation has added its file
+pub added_is : (left : List Loaded) (op : Op) → tally (left ++ added op) ≡ with_added op (tally left)
 unfolding tally
 added_is left (Put file) =
     let rows = λ (f : Loaded). length f.times in

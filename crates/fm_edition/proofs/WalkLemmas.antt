@@ -15,6 +15,16 @@ pub key_taken : (keys total : List ℤ) (key : ℤ) (files : List Loaded) (rest 
 key_taken keys total key files rest before is sum = append_assoc keys (key ∷ []) (keys_of rest)
     ∙ ap (λ l. keys ++ keys_of l) (sym is) ∙ sum
 
+keys-append : (entries rest : List (ℤ × List Loaded)) → keys_of (entries ++ rest) ≡ keys_of entries ++ keys_of rest
+keys-append [] rest = refl
+keys-append (entry ∷ entries) rest = ap (λ l. entry.0 ∷ l) (keys-append entries rest)
+
+-- some more keys
+pub keys_taken : (keys total : List ℤ) (entries rest : List (ℤ × List Loaded))
+    → keys ++ keys_of (entries ++ rest) ≡ total → (keys ++ keys_of entries) ++ keys_of rest ≡ total
+keys_taken keys total entries rest sum = append_assoc keys (keys_of entries) (keys_of rest)
+    ∙ ap (λ l. keys ++ l) (sym (keys-append entries rest)) ∙ sum
+
 pub filter_map-more : {A B : Type 0} (make : A → Option B) (items : List A) (i : ℕ) (d : A) → i < length items
     → filter_map make (take (i + 1) items) ≡ filter_map make (take i items) ++ option_to_list (make (get_or items i d))
 filter_map-more {A} {B} make items i d lt =

@@ -1,10 +1,12 @@
 pub mod Amounts
 pub mod Held
 pub mod Indexes
+pub mod Instants
 pub mod Kept
 pub mod Least
 pub mod Log
 pub mod Pieces
+pub mod Steps
 pub use Rattle.fm_model.specs.Collection
 pub use Rattle.fm_model.specs.Cell
 pub use Rattle.fm_model.specs.Rising

@@ -1,6 +1,5 @@
 //! How much some files are, and which limit they would pass.
-ghost use Rattle.std.specs.Prelude.{◌≡◌, ◌+◌, ◌<◌, ◌≤◌, ◌^◌, length, sum_by};
-ghost use Rattle.fm_model.specs.declared.loaded.Loaded.{Loaded as File};
+ghost use Rattle.std.specs.Prelude.{◌≡◌, ◌+◌, ◌<◌, ◌≤◌, ◌^◌, length};
 ghost use Rattle.fm_model.specs.Collection.{full_of, tally, IsWithin};
 ghost use Rattle.fm_list.specs.Change.{gone};
 ghost use Rattle.fm_edition.specs.Amounts as spec;
@@ -25,94 +24,6 @@ fn rows_of(file: &Loaded) -> u64
     file.times.items.len() as u64
 }
 
-// How many times some files have.
-fn rows_in(files: &[Placed]) -> u64
-    requires { sum_by (λ (file : File). length file.times) files.now < 2 ^ 32 }
-    ensures { result ≡ sum_by (λ (file : File). length file.times) files.now }
-{
-    files.iter().map(|file| rows_of(file.get())).sum()
-}
-
-// How many bytes some files have.
-fn size_in(files: &[Placed]) -> u64
-    requires { sum_by (λ (file : File). length file.content) files.now < 2 ^ 32 }
-    ensures { result ≡ sum_by (λ (file : File). length file.content) files.now }
-{
-    files.iter().map(|file| size_of(file.get())).sum()
-}
-
-// How much some files are.
-fn tally_of(files: &[Placed]) -> Tally
-    requires { IsWithin (tally files.now) }
-    ensures { result ≡ tally files.now }
-{
-    Tally {
-        files: files.len() as u32,
-        rows: rows_in(files) as u32,
-        size: size_in(files),
-    }
-}
-
-// How many files an operation takes out of some.
-#[tactic(auto, unfolding(fm_list::specs::Change::gone))]
-fn count_gone(files: &[Placed], op: &Op) -> u64
-    ensures { result ≡ length (gone files.now op.now) }
-{
-    files.iter().filter(|file| !keeps(op, file.get())).count() as u64
-}
-
-// How many times they have.
-#[tactic(auto, unfolding(fm_list::specs::Change::gone))]
-fn rows_gone(files: &[Placed], op: &Op) -> u64
-    requires { sum_by (λ (file : File). length file.times) (gone files.now op.now) < 2 ^ 32 }
-    ensures { result ≡ sum_by (λ (file : File). length file.times) (gone files.now op.now) }
-{
-    files
-        .iter()
-        .filter(|file| !keeps(op, file.get()))
-        .map(|file| rows_of(file.get()))
-        .sum()
-}
-
-// How many bytes they have.
-#[tactic(auto, unfolding(fm_list::specs::Change::gone))]
-fn size_gone(files: &[Placed], op: &Op) -> u64
-    requires { sum_by (λ (file : File). length file.content) (gone files.now op.now) < 2 ^ 32 }
-    ensures { result ≡ sum_by (λ (file : File). length file.content) (gone files.now op.now) }
-{
-    files
-        .iter()
-        .filter(|file| !keeps(op, file.get()))
-        .map(|file| size_of(file.get()))
-        .sum()
-}
-
-// How much an operation takes out of some files.
-fn tally_gone(files: &[Placed], op: &Op) -> Tally
-    requires { IsWithin (tally (gone files.now op.now)) }
-    ensures { result ≡ tally (gone files.now op.now) }
-{
-    Tally {
-        files: count_gone(files, op) as u32,
-        rows: rows_gone(files, op) as u32,
-        size: size_gone(files, op),
-    }
-}
-
-// What is left of what is held.
-fn less(held: Tally, part: Tally) -> Tally
-    requires files { part.files ≤ held.files }
-    requires rows { part.rows ≤ held.rows }
-    requires size { part.size ≤ held.size }
-    ensures { result ≡ spec.less held part }
-{
-    Tally {
-        files: held.files - part.files,
-        rows: held.rows - part.rows,
-        size: held.size - part.size,
-    }
-}
-
 // How much there is where a file is added.
 fn with_file(left: Tally, file: &Loaded) -> Tally
     requires files { left.files < MAX_FILES }
@@ -131,14 +42,47 @@ fn with_file(left: Tally, file: &Loaded) -> Tally
     }
 }
 
-// How much there is after an operation, where `held` is how much there was, and `went` what it takes out.
-pub(crate) fn tally_after(held: Tally, went: &[Placed], op: &Op) -> Tally
-    requires part { spec.IsPartOf held (tally went.now) }
-    requires held { IsWithin held }
-    requires within { IsWithin (spec.with_added op.now (spec.less held (tally went.now))) }
-    ensures { result ≡ spec.with_added op.now (spec.less held (tally went.now)) }
+// How much an operation takes out of some files.
+fn tally_gone(files: &[Placed], op: &Op) -> Tally
+    requires { IsWithin (tally (gone files.now op.now)) }
+    ensures { result ≡ tally (gone files.now op.now) }
 {
-    let left = less(held, tally_of(went));
+    let mut tally = Tally {
+        files: 0,
+        rows: 0,
+        size: 0,
+    };
+    for file in files {
+        let file = file.get();
+        if !keeps(op, file) {
+            tally = with_file(tally, file);
+        }
+    }
+    tally
+}
+
+// What is left of what is held without what an operation takes out of some files.
+fn left_of(held: Tally, files: &[Placed], op: &Op) -> Tally
+    requires held { IsWithin held }
+    requires part { spec.IsPartOf held (tally (gone files.now op.now)) }
+    ensures { result ≡ spec.less held (tally (gone files.now op.now)) }
+{
+    let gone = tally_gone(files, op);
+    Tally {
+        files: held.files - gone.files,
+        rows: held.rows - gone.rows,
+        size: held.size - gone.size,
+    }
+}
+
+// How much there is after an operation, where `held` is how much there was, and `near` has what it takes out.
+pub(crate) fn tally_after(held: Tally, near: &[Placed], op: &Op) -> Tally
+    requires held { IsWithin held }
+    requires part { spec.IsPartOf held (tally (gone near.now op.now)) }
+    requires within { IsWithin (spec.with_added op.now (spec.less held (tally (gone near.now op.now)))) }
+    ensures { result ≡ spec.with_added op.now (spec.less held (tally (gone near.now op.now))) }
+{
+    let left = left_of(held, near, op);
     match op {
         Op::Put(file) => with_file(left, file.get()),
         Op::Expire(_) => left,
@@ -186,7 +130,7 @@ pub(crate) fn full_after(held: Tally, near: &[Placed], op: &Op) -> Option<Full>
     requires part { spec.IsPartOf held (tally (gone near.now op.now)) }
     ensures { result ≡ full_of (spec.with_added op.now (spec.less held (tally (gone near.now op.now)))) }
 {
-    let left = less(held, tally_gone(near, op));
+    let left = left_of(held, near, op);
     match op {
         Op::Put(file) => full_with(left, file.get()),
         Op::Expire(_) => None,

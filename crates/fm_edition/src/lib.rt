@@ -1,7 +1,6 @@
 //! What a collection holds at one moment. An operation makes a new edition from an old one, and both share the files.
 #![tactic(auto)]
 
-mod changing;
 mod counting;
 mod instants;
 pub mod laws;

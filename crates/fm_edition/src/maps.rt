@@ -7,7 +7,8 @@ ghost use Rattle.fm_model.specs.Collection.{full_at, holds, holds_older, tally};
 ghost use Rattle.fm_model.specs.Rows.{best_row};
 ghost use Rattle.fm_model.specs.Site.{IsPrototype};
 ghost use Rattle.fm_list.specs.Change as taken;
-ghost use Rattle.fm_edition.specs.Held.{next_or_full, IsEdition, OpFits};
+ghost use Rattle.fm_edition.specs.Held.{held_after, next_or_full, IsEdition, OpFits};
+ghost use Rattle.fm_edition.specs.Log.{CanFollow};
 
 mod best;
 mod by_run;
@@ -24,7 +25,7 @@ mod wanted;
 
 use crate::{counting, instants};
 use fm_base::{Arc, Fail, List, NoMemory};
-use fm_list::{Placed, change, finding, part};
+use fm_list::{Placed, finding, part};
 use fm_model::{Full, Loaded, Op, Proto, Tally};
 use fm_rows::Rows;
 use index::{Index, no_maps};
@@ -82,11 +83,19 @@ impl Edition {
             return Err(Fail::Fault(full));
         }
         let gone = self.gone(alloc, op)?;
-        let files = self.files.after(alloc, gone.as_slice(), op)?;
-        let tally = counting::tally_after(self.tally, gone.as_slice(), op);
+        Ok(self.follow(alloc, gone, op)?)
+    }
+
+    // The edition after an operation that can be done, where `gone` are the files that it takes out.
+    fn follow(&self, alloc: Global, gone: List<Placed>, op: &Op) -> Result<Edition, NoMemory>
+        requires can { CanFollow self.now.proto self.now.files op.now }
+        requires gone { gone ≡ taken.gone self.now.files op.now }
+        ensures { IfOk result (λ next. next ≡ held_after self.now op.now) }
+    {
         let proto = self.proto.share()?;
-        let changed = change::changed(gone, op)?;
-        let index = self.index_after(alloc, changed.as_slice(), op)?;
+        let tally = counting::tally_after(self.tally, gone.as_slice(), op);
+        let files = self.files.after(alloc, gone.as_slice(), op)?;
+        let index = self.index_after(alloc, gone, op)?;
         Ok(Edition {
             proto,
             files,

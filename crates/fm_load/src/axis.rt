@@ -1,8 +1,10 @@
 //! The header of a file that is to be taken, and its axis.
-ghost use Rattle.std.specs.Prelude.{◌≡◌, ◌≤◌, ◌<◌, ◌^◌, IfOk, length};
-ghost use Rattle.fm_base.specs.Answer.{AnswersAs};
+ghost use Rattle.std.specs.Prelude.{◌≡◌, ◌≤◌, ◌<◌, ◌^◌, IfOk, length, not, true};
+ghost use Rattle.fm_base.specs.Answer.{Answers, AnswersAs};
+ghost use Rattle.fm_base.specs.Chain.{refuse_if};
 ghost use Rattle.nc_model.specs.Layout.{record_size};
 ghost use Rattle.fm_model.specs.LoadAxis as spec;
+ghost use Rattle.fm_model.specs.declared.loaded.LoadFault.TheVariants.{VariableDiffers};
 ghost use Rattle.fm_model.specs.declared.limit.TheConstants.{MAX_FILE_BYTES};
 ghost use Rattle.nc_layout.specs.LaidOut.{IsVar};
 
@@ -68,6 +70,18 @@ pub(crate) fn file_var<'a>(
     }
 }
 
+// Nothing, where a variable of this name is alike, or the fault that it differs.
+pub(crate) fn unless_alike(alloc: Global, alike: bool, name: &[u8]) -> Result<(), Fail<LoadFault>>
+    ensures exact { Answers (refuse_if (not alike) (VariableDiffers name.now)) result }
+    ensures alike { IfOk result (λ _. alike ≡ true) }
+{
+    if alike {
+        return Ok(());
+    }
+    let name = Bytes::copy_of(alloc, name)?;
+    Err(Fail::Fault(LoadFault::VariableDiffers(name)))
+}
+
 // The file's axis, with its number: the variable with the name of the prototype's axis, which is a coordinate variable.
 #[tactic(auto, using(crate::proofs::LengthLemmas::axes), unfolding(fm_model::specs::LoadAxis::file_axis))]
 pub(crate) fn file_axis<'a>(
@@ -79,11 +93,10 @@ pub(crate) fn file_axis<'a>(
     ensures number { IfOk result (λ found. IsVar file.now.layout found.0 found.1.now) }
     ensures rank { IfOk result (λ found. length found.1.now.dims ≡ 1) }
 {
-    let (number, axis) = file_var(alloc, file, proto.axis.as_slice())?;
+    let name = proto.axis.as_slice();
+    let (number, axis) = file_var(alloc, file, name)?;
     let dims = file.header().dims.as_slice();
-    if !is_coordinate(dims, axis.name.as_slice(), axis.kind, axis.dims.as_slice()) {
-        let name = Bytes::copy_of(alloc, proto.axis.as_slice())?;
-        return Err(Fail::Fault(LoadFault::VariableDiffers(name)));
-    }
+    let alike = is_coordinate(dims, axis.name.as_slice(), axis.kind, axis.dims.as_slice());
+    unless_alike(alloc, alike, name)?;
     Ok((number, axis))
 }

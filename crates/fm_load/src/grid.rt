@@ -3,7 +3,7 @@ ghost use Rattle.std.specs.Prelude.{◌≡◌};
 ghost use Rattle.fm_base.specs.Answer.{Answers};
 ghost use Rattle.fm_model.specs.LoadVars as spec;
 
-use crate::axis::file_var;
+use crate::axis::{file_var, unless_alike};
 use crate::lengths::same_lengths;
 use fm_base::{Bytes, Fail};
 use fm_file::is_same_kind;
@@ -34,10 +34,8 @@ pub(crate) fn same_grid(
 {
     let name = wanted.name.as_slice();
     let (number, var) = file_var(alloc, file, name)?;
-    if !is_like_fixed(proto, file.header(), wanted, var) {
-        let name = Bytes::copy_of(alloc, name)?;
-        return Err(Fail::Fault(LoadFault::VariableDiffers(name)));
-    }
+    let alike = is_like_fixed(proto, file.header(), wanted, var);
+    unless_alike(alloc, alike, name)?;
     let mut elements = Bytes::new(alloc);
     file.append_elements(number, &mut elements)?;
     same_bytes(alloc, name, wanted.fixed.as_slice(), elements.as_slice())

@@ -80,9 +80,10 @@ pub fn load(
     // What is taken fits the prototype.
     ensures fits { IfOk result (λ file. Fits file proto.now) }
 {
+    let copy = Bytes::copy_of(alloc, name)?;
     let Taken { run, times, slots } = take(alloc, name, bytes.as_slice(), proto)?;
     Ok(Loaded {
-        name: Bytes::copy_of(alloc, name)?,
+        name: copy,
         run,
         times,
         content: bytes,

@@ -36,9 +36,11 @@ fn is_one_number(header: &Header, var: &NcVar) -> bool
 fn first_index(alloc: Global, ids: &[u32]) -> Result<List<u64>, NoMemory>
     ensures { IfOk result (λ index. index ≡ map (λ id. 0) ids.now) }
 {
-    Ok(List {
-        items: ids.iter().map(|_id| 0).collect(alloc)?,
-    })
+    let mut index = List::new(alloc);
+    for _id in ids {
+        index.push(0)?;
+    }
+    Ok(index)
 }
 
 // The run by the variable of the run's time: its only element.

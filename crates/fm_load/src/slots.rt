@@ -1,17 +1,17 @@
 //! Where the data of the variables along the axis lies.
 ghost use Rattle.std.specs.Prelude.{◌≡◌, ◌<◌, ◌^◌, true};
-ghost use Rattle.fm_base.specs.Answer.{Answers};
+ghost use Rattle.fm_base.specs.Answer.{Answers, AnswersAs};
 ghost use Rattle.nc_model.specs.Layout.{record_size};
 ghost use Rattle.fm_load.specs.Axis.{IsAxis};
 ghost use Rattle.fm_model.specs.LoadVars as spec;
 ghost use Rattle.fm_model.specs.Variable.{dim_of_axis, stands_first_alone};
 ghost use Rattle.nc_layout.specs.LaidOut.{IsVar};
 
-use crate::axis::{Axis, file_var};
+use crate::axis::{Axis, file_var, unless_alike};
 use crate::grid::same_grid;
 use crate::lengths::{others, same_lengths};
 use crate::packing::same_packing;
-use fm_base::{Bytes, Fail, List};
+use fm_base::{Fail, List};
 use fm_file::{dim_of_axis, is_coordinate, is_same_kind, stands_first_alone};
 use fm_model::{LoadFault, Proto, ProtoVar, Slot};
 use nc_array::FileView;
@@ -76,10 +76,8 @@ fn file_slot(
 {
     let name = wanted.name.as_slice();
     let (number, var) = file_var(alloc, file, name)?;
-    if !is_like_timed(proto, file.header(), axis.var, wanted, var) {
-        let name = Bytes::copy_of(alloc, name)?;
-        return Err(Fail::Fault(LoadFault::VariableDiffers(name)));
-    }
+    let alike = is_like_timed(proto, file.header(), axis.var, wanted, var);
+    unless_alike(alloc, alike, name)?;
     same_packing(alloc, wanted, var)?;
     Ok(slot_in(file, axis, number, var))
 }
@@ -107,20 +105,20 @@ fn slots_after(
     proto: &Proto,
     file: &FileView<'_>,
     axis: &Axis<'_>,
-    mut found: List<Slot>,
     wanted: &ProtoVar,
-) -> Result<List<Slot>, Fail<LoadFault>>
+    found: &mut List<Slot>,
+) -> Result<(), Fail<LoadFault>>
     requires small { record_size file.now.layout.header < 2 ^ 64 }
     requires axis { IsAxis file.now.layout axis.now.number axis.now.var.now axis.now.count }
-    ensures { Answers (spec.slots_after proto.now file.now.bytes file.now.layout.header
-        axis.now.var.now found wanted.now) result }
+    ensures { AnswersAs (λ _. found.new) (spec.slots_after proto.now file.now.bytes file.now.layout.header
+        axis.now.var.now found.old wanted.now) result }
 {
     if wanted.timed {
         found.push(file_slot(alloc, proto, file, axis, wanted)?)?;
     } else {
         same_grid(alloc, proto, file, wanted)?;
     }
-    Ok(found)
+    Ok(())
 }
 
 // The slots of a file, in the prototype's order: one for each variable along the axis but for the axis itself. On the
@@ -139,7 +137,7 @@ pub(crate) fn file_slots(
     let mut found = List::new(alloc);
     for wanted in proto.vars.as_slice() {
         if is_compared(proto, wanted) {
-            found = slots_after(alloc, proto, file, axis, found, wanted)?;
+            slots_after(alloc, proto, file, axis, wanted, &mut found)?;
         }
     }
     Ok(found)

@@ -3,5 +3,5 @@ pub use Rattle.nc_model.specs.Reading
 pub use Rattle.nc_model.specs.Spelling
 pub mod Names
 pub mod NoHeader
+pub mod Parts
 pub mod Turns
-pub mod Variable

@@ -1,8 +1,9 @@
 //! Lists of attributes, of the file and of a variable.
-ghost use Rattle.std.specs.Prelude.{◌≡◌, []};
+ghost use Rattle.std.specs.Prelude.{◌≡◌, [], IfOk};
 ghost use Rattle.nc_model.specs.Format.{ATTRIBUTE_TAG};
 ghost use Rattle.nc_model.specs.Reading as spec;
 ghost use Rattle.nc_model.specs.Reading.{Reads};
+ghost use Rattle.nc_header.specs.Parts.{attr_from};
 ghost use Rattle.nc_header.specs.Turns.{one_more};
 
 use crate::found::Found;
@@ -15,7 +16,23 @@ use std::alloc::Global;
 // The tag of the list.
 const TAG: u32 = 12;
 
-#[tactic(auto, unfolding(nc_model::specs::Reading::attr_at, crate::specs::Turns::one_more))]
+// Reads an attribute from its kind on.
+#[tactic(auto, unfolding(crate::specs::Parts::attr_from))]
+fn read_rest(alloc: Global, reader: &mut Reader<'_>, name: &[u8]) -> Result<Attr, Fail<HeaderFault>>
+    ensures read { Reads (λ attr. attr) (attr_from name.now reader.old) result reader.new }
+    ensures name { IfOk result (λ attr. attr.name ≡ name.now) }
+{
+    let kind = reader.kind()?;
+    let count = reader.count()?;
+    let values = reader.padded(u64::from(count) * u64::from(kind.size()))?;
+    Ok(Attr {
+        name: Bytes::copy_of(alloc, name)?,
+        kind,
+        values: Bytes::copy_of(alloc, values)?,
+    })
+}
+
+#[tactic(auto, unfolding(nc_model::specs::Reading::attr_at, crate::specs::Turns::one_more, crate::specs::Parts::attr_from))]
 fn read_attr<'a>(
     alloc: Global,
     reader: &mut Reader<'a>,
@@ -25,14 +42,7 @@ fn read_attr<'a>(
         (one_more spec.attr_at found.old reader.old) result reader.new }
 {
     let name = read_name(reader, found)?;
-    let kind = reader.kind()?;
-    let count = reader.count()?;
-    let values = reader.padded(u64::from(count) * u64::from(kind.size()))?;
-    let attr = Attr {
-        name: Bytes::copy_of(alloc, name)?,
-        kind,
-        values: Bytes::copy_of(alloc, values)?,
-    };
+    let attr = read_rest(alloc, reader, name)?;
     found.push(name, attr)?;
     Ok(())
 }

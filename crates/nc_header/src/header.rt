@@ -5,6 +5,7 @@ ghost use Rattle.nc_model.specs.Reading.{Reads, header_or_fault};
 ghost use Rattle.nc_model.specs.Spelling.{HeaderOf};
 ghost use Rattle.fm_base.specs.Answer.{Answers, IsReadAs, OnFault};
 ghost use Rattle.nc_header.specs.NoHeader.{HasNoHeader};
+ghost use Rattle.nc_header.specs.Parts.{header_from};
 
 use crate::attrs::read_attr_list;
 use crate::dims::read_dim_list;
@@ -14,12 +15,16 @@ use nc_model::{Header, HeaderFault};
 use nc_reader::Reader;
 use std::alloc::Global;
 
-#[tactic(auto, unfolding(nc_model::specs::Reading::header_at))]
-fn read_fields(alloc: Global, reader: &mut Reader<'_>) -> Result<Header, Fail<HeaderFault>>
-    ensures { Reads (λ header. header) (spec.header_at reader.old) result reader.new }
+// Reads the lists of a header of this version with this many records.
+#[tactic(auto, unfolding(crate::specs::Parts::header_from))]
+fn read_lists(
+    alloc: Global,
+    reader: &mut Reader<'_>,
+    version: u8,
+    numrecs: u32,
+) -> Result<Header, Fail<HeaderFault>>
+    ensures { Reads (λ header. header) (header_from version numrecs reader.old) result reader.new }
 {
-    let version = reader.version()?;
-    let numrecs = reader.numrecs()?;
     let dims = read_dim_list(alloc, reader)?;
     let attrs = read_attr_list(alloc, reader)?;
     let vars = read_var_list(alloc, reader, version, dims.as_slice())?;
@@ -30,6 +35,15 @@ fn read_fields(alloc: Global, reader: &mut Reader<'_>) -> Result<Header, Fail<He
         attrs,
         vars,
     })
+}
+
+#[tactic(auto, unfolding(nc_model::specs::Reading::header_at, crate::specs::Parts::header_from))]
+fn read_fields(alloc: Global, reader: &mut Reader<'_>) -> Result<Header, Fail<HeaderFault>>
+    ensures { Reads (λ header. header) (spec.header_at reader.old) result reader.new }
+{
+    let version = reader.version()?;
+    let numrecs = reader.numrecs()?;
+    read_lists(alloc, reader, version, numrecs)
 }
 
 /// The header that a file in the netCDF classic format begins with (CDF-1 or CDF-2), or its first fault in the order

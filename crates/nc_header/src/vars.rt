@@ -4,7 +4,7 @@ ghost use Rattle.nc_model.specs.Format.{VARIABLE_TAG};
 ghost use Rattle.nc_model.specs.Reading as spec;
 ghost use Rattle.nc_model.specs.Reading.{Reads};
 ghost use Rattle.nc_header.specs.Turns.{one_more};
-ghost use Rattle.nc_header.specs.Variable.{var_from};
+ghost use Rattle.nc_header.specs.Parts.{var_from};
 
 use crate::attrs::read_attr_list;
 use crate::found::Found;
@@ -55,7 +55,7 @@ fn read_dim_ids(
 }
 
 // Reads a variable from its kind on.
-#[tactic(auto, unfolding(crate::specs::Variable::var_from))]
+#[tactic(auto, unfolding(crate::specs::Parts::var_from))]
 fn read_rest(
     alloc: Global,
     reader: &mut Reader<'_>,
@@ -79,7 +79,7 @@ fn read_rest(
     })
 }
 
-#[tactic(auto, unfolding(nc_model::specs::Reading::var_at, crate::specs::Turns::one_more, crate::specs::Variable::var_from))]
+#[tactic(auto, unfolding(nc_model::specs::Reading::var_at, crate::specs::Turns::one_more, crate::specs::Parts::var_from))]
 fn read_var<'a>(
     alloc: Global,
     reader: &mut Reader<'a>,

@@ -20,34 +20,24 @@ use std::collections::BTreeMap;
 /// The rows of each page by its number.
 pub(crate) type RowPages = BTreeMap<i64, Shared<PageRows>>;
 
-// The rows of a page, also with a least offset.
-fn rows_of(alloc: Global, page: &Page, least: Option<i64>) -> Result<List<Row>, NoMemory>
-    requires { All spec.IsTimed page.now.entries }
-    ensures { IfOk result (λ rows. rows ≡ filter_map (spec.best_of_entry least) page.now.entries) }
+// The rows of a page.
+fn rows_of(alloc: Global, page: &Page, wanted: Wanted) -> Result<List<Row>, NoMemory>
+    requires { All (spec.IsReady wanted) page.now.entries }
+    ensures { IfOk result (λ rows. rows ≡ filter_map (spec.entry_row wanted) page.now.entries) }
 {
     let mut rows = List::new(alloc);
-    push_page(&mut rows, page, Wanted::Best(least))?;
+    push_page(&mut rows, page, wanted)?;
     Ok(rows)
 }
 
-// The same, where the runs of the files of each valid time rise.
-fn newest_rows(alloc: Global, page: &Page, least: Option<i64>) -> Result<List<Row>, NoMemory>
-    requires timed { All spec.IsTimed page.now.entries }
-    requires rise { spec.each_rises page.now.entries ≡ true }
-    ensures { IfOk result (λ rows. rows ≡ filter_map (spec.best_of_entry least) page.now.entries) }
-{
-    let mut rows = List::new(alloc);
-    push_page(&mut rows, page, Wanted::Newest(least))?;
-    Ok(rows)
-}
-
-// What is kept of a page.
-fn kept_of(alloc: Global, page: &Page) -> Result<PageRows, NoMemory>
+// What is kept of a page, for many to share.
+fn kept_of(alloc: Global, page: &Page) -> Result<Shared<PageRows>, NoMemory>
     requires { All spec.IsTimed page.now.entries }
     ensures { IfOk result (λ kept. kept ≡ spec.page_rows page.now) }
 {
-    let rows = rows_of(alloc, page, None)?;
-    PageRows::new(alloc, rows, each_one(page), each_rises(page))
+    let rows = rows_of(alloc, page, Wanted::Best(None))?;
+    let kept = PageRows::new(alloc, rows, each_one(page), each_rises(page))?;
+    Shared::new(alloc, kept)
 }
 
 // Makes the rows of the page of a number anew. Where there is no such page, there are no rows.
@@ -62,7 +52,7 @@ fn set_rows(alloc: Global, best: &mut RowPages, pages: &Pages, number: i64) -> R
     match pages.get(&number) {
         Some(page) => {
             let rows = kept_of(alloc, page.get())?;
-            best.insert(number, Shared::new(alloc, rows)?)?;
+            best.insert(number, rows)?;
         }
         None => {
             best.remove(&number);
@@ -128,9 +118,9 @@ fn rows_from(
     ensures { IfOk result (λ rows. rows ≡ filter_map (spec.best_of_entry least) page.now.entries) }
 {
     if kept.is_rising() {
-        newest_rows(alloc, page, least)
+        rows_of(alloc, page, Wanted::Newest(least))
     } else {
-        rows_of(alloc, page, least)
+        rows_of(alloc, page, Wanted::Best(least))
     }
 }
 

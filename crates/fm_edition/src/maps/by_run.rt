@@ -18,10 +18,7 @@ impl Edition {
         ensures { IfOk result (λ rows.
             rows ≡ filter_map (λ run. row_at self.now.files run (run +ℤ seconds)) (runs_of self.now.files)) }
     {
-        Rows::of_page(
-            alloc,
-            rows_in(alloc, &self.index.by_run, Wanted::After(seconds))?,
-        )
+        rows_in(alloc, &self.index.by_run, Wanted::After(seconds))
     }
 
     /// How many runs have the valid time that many seconds after them.
@@ -37,10 +34,7 @@ impl Edition {
         ensures { IfOk result (λ rows.
             rows ≡ filter_map (λ run. row_at self.now.files run valid) (runs_of self.now.files)) }
     {
-        Rows::of_page(
-            alloc,
-            rows_in(alloc, &self.index.by_run, Wanted::At(valid))?,
-        )
+        rows_in(alloc, &self.index.by_run, Wanted::At(valid))
     }
 
     /// How many runs have the valid time.

@@ -1,9 +1,8 @@
 //! The maps of an edition.
-ghost use Rattle.std.specs.Prelude.{◌≡◌, [], ℤ, IfOk, false};
-ghost use Rattle.std.specs.BTreeMap as tree;
-ghost use Rattle.std.specs.Ordering.{int_cmp};
+ghost use Rattle.std.specs.Prelude.{◌≡◌, [], IfOk};
 ghost use Rattle.fm_list.specs.Selected.{AreOwn};
 ghost use Rattle.fm_edition.specs.Indexes as spec;
+ghost use Rattle.fm_edition.specs.Steps.{AreDone};
 
 use crate::instants::instants_in;
 use crate::maps::Edition;
@@ -55,11 +54,7 @@ fn after_change(
     op: &Op,
 ) -> Result<Pages, NoMemory>
     requires { spec.AreOrdered pages.now }
-    ensures ordered { IfOk result spec.AreOrdered }
-    ensures set { IfOk result (λ next. (number key : ℤ) → spec.in_page next number key
-        ≡ spec.page_set by touched.now op.now (spec.in_page pages.now) number key) }
-    ensures same { IfOk result (λ next. (number : ℤ) → spec.touches touched.now number ≡ false
-        → tree.get int_cmp next number ≡ tree.get int_cmp pages.now number) }
+    ensures { IfOk result (AreDone by touched.now op.now pages.now) }
 {
     let own = own_of(alloc, by, op)?;
     let change = Change {
@@ -80,9 +75,7 @@ fn map_after(
     op: &Op,
 ) -> Result<Pages, NoMemory>
     requires { spec.AreOrdered pages.now }
-    ensures ordered { IfOk result spec.AreOrdered }
-    ensures set { IfOk result (λ next. (number key : ℤ) → spec.in_page next number key
-        ≡ spec.page_set by (spec.instants by changed.now) op.now (spec.in_page pages.now) number key) }
+    ensures { IfOk result (AreDone by (spec.instants by changed.now) op.now pages.now) }
 {
     let touched = instants_in(alloc, by, changed)?;
     after_change(alloc, pages, by, touched.as_slice(), op)
@@ -94,12 +87,7 @@ impl Edition {
     ghost use Rattle.fm_edition.specs.Log.{CanFollow};
 
     // The maps after an operation that takes out and adds some files.
-    pub(crate) fn index_after(
-        &self,
-        alloc: Global,
-        changed: &[Placed],
-        op: &Op,
-    ) -> Result<Index, NoMemory>
+    fn maps_after(&self, alloc: Global, changed: &[Placed], op: &Op) -> Result<Index, NoMemory>
         requires changed { changed.now ≡ change.changed self.now.files op.now }
         requires can { CanFollow self.now.proto self.now.files op.now }
         ensures { IfOk result (λ index. spec.AreMaps (after_op self.now.files op.now) index) }
@@ -115,5 +103,20 @@ impl Edition {
             by_name,
             best,
         })
+    }
+
+    // The maps after an operation that can be done, where `gone` are the files that it takes out.
+    pub(crate) fn index_after(
+        &self,
+        alloc: Global,
+        gone: List<Placed>,
+        op: &Op,
+    ) -> Result<Index, NoMemory>
+        requires gone { gone ≡ change.gone self.now.files op.now }
+        requires can { CanFollow self.now.proto self.now.files op.now }
+        ensures { IfOk result (λ index. spec.AreMaps (after_op self.now.files op.now) index) }
+    {
+        let changed = changed(gone, op)?;
+        self.maps_after(alloc, changed.as_slice(), op)
     }
 }

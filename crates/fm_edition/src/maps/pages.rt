@@ -1,10 +1,11 @@
 //! The files by an instant, in pages of some days that editions share.
-ghost use Rattle.std.specs.Prelude.{◌≡◌, ◌<◌, ◌≤◌, ℤ, IfOk, OnOk, false, if◌then◌else◌, length, take};
+ghost use Rattle.std.specs.Prelude.{◌≡◌, ◌<◌, ℤ, IfOk, OnOk, length, take};
 ghost use Rattle.std.specs.BTreeMap as tree;
 ghost use Rattle.std.specs.List.{slice_index_or};
-ghost use Rattle.std.specs.Ordering.{int_cmp, int_eq};
+ghost use Rattle.std.specs.Ordering.{int_cmp};
 ghost use Rattle.fm_list.specs.Selected.{AreOwn};
 ghost use Rattle.fm_edition.specs.Indexes as spec;
+ghost use Rattle.fm_edition.specs.Steps as steps;
 
 use crate::maps::shared::Shared;
 use fm_base::{List, NoMemory};
@@ -59,11 +60,7 @@ fn set_part(alloc: Global, page: &mut Page, key: i64, files: List<Placed>) -> Re
 fn set_page(alloc: Global, pages: &mut Pages, number: i64, page: Page) -> Result<(), NoMemory>
     requires page { tree.IsOrdered int_cmp page }
     requires pages { spec.AreOrdered pages.old }
-    ensures ordered { OnOk result (spec.AreOrdered pages.new) }
-    ensures set { OnOk result ((other key : ℤ) → spec.in_page pages.new other key
-        ≡ if int_eq number other then tree.get int_cmp page key else spec.in_page pages.old other key) }
-    ensures others { OnOk result ((other : ℤ) → int_eq number other ≡ false
-        → tree.get int_cmp pages.new other ≡ tree.get int_cmp pages.old other) }
+    ensures { OnOk result (steps.HasPage number page pages.old pages.new) }
 {
     if page.is_empty() {
         pages.remove(&number);
@@ -112,16 +109,8 @@ fn page_after(
     requires done { (key : ℤ) → tree.get int_cmp page.old key
         ≡ spec.page_set change.now.by (take from change.now.touched.now) change.now.op.now
         (spec.in_page pages.now) number key }
-    ensures ordered { OnOk result (tree.IsOrdered int_cmp page.new) }
-    ensures index { IfOk result (λ at. (from < at) × (at ≤ length change.now.touched.now)) }
-    ensures done { IfOk result (λ at. (key : ℤ) → tree.get int_cmp page.new key
-        ≡ spec.page_set change.now.by (take at change.now.touched.now) change.now.op.now
-        (spec.in_page pages.now) number key) }
-    ensures others { IfOk result (λ at. (other key : ℤ) → int_eq number other ≡ false →
-        spec.page_set change.now.by (take at change.now.touched.now) change.now.op.now
-        (spec.in_page pages.now) other key
-        ≡ spec.page_set change.now.by (take from change.now.touched.now) change.now.op.now
-        (spec.in_page pages.now) other key) }
+    ensures { IfOk result (λ at. (from < at) × steps.IsDoneTo change.now.by change.now.touched.now
+        change.now.op.now pages.now number from at page.new) }
 {
     let touched = change.touched;
     let mut at = from;
@@ -149,11 +138,7 @@ pub(crate) fn pages_after(
 ) -> Result<Pages, NoMemory>
     requires own { AreOwn change.now.by change.now.op.now change.now.own.now }
     requires ordered { spec.AreOrdered pages.now }
-    ensures ordered { IfOk result spec.AreOrdered }
-    ensures set { IfOk result (λ next. (number key : ℤ) → spec.in_page next number key
-        ≡ spec.page_set change.now.by change.now.touched.now change.now.op.now (spec.in_page pages.now) number key) }
-    ensures same { IfOk result (λ next. (number : ℤ) → spec.touches change.now.touched.now number ≡ false
-        → tree.get int_cmp next number ≡ tree.get int_cmp pages.now number) }
+    ensures { IfOk result (steps.AreDone change.now.by change.now.touched.now change.now.op.now pages.now) }
 {
     let mut next = pages.clone()?;
     let mut at = 0;

@@ -2,15 +2,14 @@
 ghost use Rattle.std.specs.Prelude.{◌≡◌, ◌++◌, All, IfOk, List as Items, OnOk, filter, false};
 ghost use Rattle.std.specs.List.{list_any};
 ghost use Rattle.fm_model.specs.declared.loaded.Loaded.{Loaded as File};
-ghost use Rattle.fm_model.specs.Collection.{holds_older};
+ghost use Rattle.fm_model.specs.Collection.{after_op, holds_older};
 ghost use Rattle.fm_list.specs.Change as change;
 ghost use Rattle.fm_edition.specs.Pieces as spec;
 
-use crate::changing::files_after;
 use crate::maps::shared::Shared;
 use fm_base::{List, NoMemory};
 use fm_list::Placed;
-use fm_list::change::{kept, push_gone};
+use fm_list::change::{changed, kept, push_gone};
 use fm_list::finding::{has_older, shares_run};
 use fm_model::Op;
 use std::alloc::Global;
@@ -36,6 +35,13 @@ fn may_lose(files: &[Placed], went: &[Placed], op: &Op) -> bool
         Op::Expire(cutoff) => has_older(files, *cutoff),
         Op::Retract(_) => shares_run(files, went),
     }
+}
+
+// The files after an operation. They are shared and not copied.
+fn files_after(alloc: Global, files: &[Placed], op: &Op) -> Result<List<Placed>, NoMemory>
+    ensures { IfOk result (λ next. next ≡ after_op files.now op.now) }
+{
+    changed(kept(alloc, files, op)?, op)
 }
 
 // Adds a piece, unless it is empty.
@@ -101,9 +107,12 @@ fn gone_of_pieces(alloc: Global, pieces: &[Piece], op: &Op) -> Result<List<Place
 fn has_older_piece(pieces: &[Piece], cutoff: i64) -> bool
     ensures { result ≡ list_any (λ (piece : Items File). holds_older piece cutoff) pieces.now }
 {
-    pieces
-        .iter()
-        .any(|piece| has_older(piece.get().as_slice(), cutoff))
+    for piece in pieces {
+        if has_older(piece.get().as_slice(), cutoff) {
+            return true;
+        }
+    }
+    false
 }
 
 impl Model for Roll {

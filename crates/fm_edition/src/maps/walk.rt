@@ -11,6 +11,7 @@ use fm_base::{List, NoMemory};
 use fm_list::Placed;
 use fm_list::part::have_rising_runs;
 use fm_model::Row;
+use fm_rows::Rows;
 use std::alloc::Global;
 
 // Adds the instants of a page.
@@ -46,7 +47,7 @@ pub(crate) fn push_page(rows: &mut List<Row>, page: &Page, wanted: Wanted) -> Re
 }
 
 // The rows of all pages.
-pub(crate) fn rows_in(alloc: Global, pages: &Pages, wanted: Wanted) -> Result<List<Row>, NoMemory>
+pub(crate) fn rows_in(alloc: Global, pages: &Pages, wanted: Wanted) -> Result<Rows, NoMemory>
     requires { All (spec.IsReady wanted) (spec.entries_of pages.now) }
     ensures { IfOk result (λ rows. rows ≡ filter_map (spec.entry_row wanted) (spec.entries_of pages.now)) }
 {
@@ -54,7 +55,7 @@ pub(crate) fn rows_in(alloc: Global, pages: &Pages, wanted: Wanted) -> Result<Li
     for (_, page) in pages {
         push_page(&mut rows, page.get(), wanted)?;
     }
-    Ok(rows)
+    Rows::of_page(alloc, rows)
 }
 
 // Whether there is one file.

@@ -8,34 +8,19 @@ use Rattle.fm_model.specs.declared.op.Op.TheVariants.{Put}
 use Rattle.fm_model.specs.Collection.{full_of, tally}
 use Rattle.fm_list.specs.Change.{gone}
 use Rattle.fm_edition.specs.Amounts.{less, with_added}
-use Rattle.fm_edition.proofs.TallyLemmas.{full_of-within, less_within, part_within}
+use Rattle.fm_edition.proofs.TallyLemmas.{full_of-within, less_within}
 use Rattle.fm_edition.proofs.counting.full_after.Goals as goal
 
-pub tally_gone-requires : goal.tally_gone-requires
-tally_gone-requires c = part_within c.args.held (tally (gone c.args.near.now c.args.op.now)) c.requires.part
-    c.requires.held
-
-pub less-left-requires-clause-files : goal.less-left-requires-clause-files
-less-left-requires-clause-files c = rw c.tally_gone.ensures c.requires.part.files
-
-pub less-left-requires-clause-rows : goal.less-left-requires-clause-rows
-less-left-requires-clause-rows c = rw c.tally_gone.ensures c.requires.part.rows
-
-pub less-left-requires-clause-size : goal.less-left-requires-clause-size
-less-left-requires-clause-size c = rw c.tally_gone.ensures c.requires.part.size
-
 pub full_with-requires : goal.full_with-requires
-full_with-requires c = let most : c.args.held.size ≤ MAX_BYTES = c.requires.held Size in rw c.less-left.ensures
+full_with-requires c = let most : c.args.held.size ≤ MAX_BYTES = c.requires.held Size in rw c.left_of-left.ensures
     (omega (arith, most))
 
 pub returns-in-Put : goal.returns-in-Put
 returns-in-Put c =
     let part = tally (gone c.args.near.now c.args.op.now) in
-    let left_is : c.less-left.result ≡ less c.args.held part = c.less-left.ensures
-    ∙ ap (less c.args.held) c.tally_gone.ensures in
     subst (λ o. c.full_with.result ≡ full_of (with_added o (less c.args.held part))) (sym c.in-Put.is)
-    (c.full_with.ensures ∙ ap (λ (f : Loaded). full_of (with_added (Put f) c.less-left.result)) c.get.ensures
-    ∙ ap (λ (t : Tally). full_of (with_added (Put c.in-Put.file) t)) left_is)
+    (c.full_with.ensures ∙ ap (λ (f : Loaded). full_of (with_added (Put f) c.left_of-left.result)) c.get.ensures
+    ∙ ap (λ (t : Tally). full_of (with_added (Put c.in-Put.file) t)) c.left_of-left.ensures)
 
 pub returns-in-Expire : goal.returns-in-Expire
 returns-in-Expire c =

@@ -1,26 +1,49 @@
--- The sums are within the limits.
-use Rattle.std.proofs.Common.{arith}
+-- One more file goes or stays.
+use Rattle.std.proofs.Common.{◌≡◌, false, take, refl, sym, ap, ◌∙◌}
+use Rattle.fm_model.specs.declared.full.Tally.{Tally}
+use Rattle.fm_model.specs.declared.loaded.Loaded.{Loaded}
+use Rattle.fm_model.specs.declared.op.Op.TheVariants.{Put}
 use Rattle.fm_model.specs.Collection.{tally}
-use Rattle.fm_list.specs.Change.{gone}
-use Rattle.fm_edition.proofs.TallyLemmas.{bounds}
+use Rattle.fm_list.specs.Change.{gone, keeps}
+use Rattle.fm_edition.specs.Amounts.{with_added}
+use Rattle.fm_edition.proofs.GoneLemmas.{HasRoom-gone, tally-gone, tally-kept}
 use Rattle.fm_edition.proofs.counting.tally_gone.Goals as goal
+use Rattle.fm_edition.proofs.counting.tally_gone.Goals.{then-not-keeps, else-not-keeps}
 
-pub overflow_cast-result : goal.overflow_cast-result
-overflow_cast-result c =
-    let most = bounds (gone c.args.files.now c.args.op.now) c.requires in
-    omega (arith, most.count, c.count_gone.ensures)
+pub loop-file-init : goal.loop-file-init
+unfolding tally gone
+loop-file-init c = refl
 
-pub rows_gone-requires : goal.rows_gone-requires
-rows_gone-requires c = let most = bounds (gone c.args.files.now c.args.op.now) c.requires in omega (arith, most.rows)
+pub with_file-tally-requires : goal.with_file-tally-requires
+with_file-tally-requires c =
+    let files = c.args.files.now in
+    let op = c.args.op.now in
+    let at = c.loop-file.file-index in
+    let file = c.file-item.result in
+    let goes : keeps op file ≡ false = sym (c.keeps.ensures ∙ ap (keeps op) c.get-file.ensures)
+    ∙ c.if-not-keeps.true in
+    let so_far : c.loop-file.tally ≡ tally (gone (take at files) op) = c.loop-file.invariant in
+    let room = HasRoom-gone files op at file c.loop-file-test.true c.file-item.is goes c.requires in
+    record {
+      files = rw so_far room.files;
+      rows = rw (so_far, c.get-file.ensures) room.rows;
+      size = rw (so_far, c.get-file.ensures) room.size;
+    }
 
-pub overflow_cast-result-2 : goal.overflow_cast-result-2
-overflow_cast-result-2 c =
-    let most = bounds (gone c.args.files.now c.args.op.now) c.requires in
-    omega (arith, most.rows, c.rows_gone.ensures)
-
-pub size_gone-requires : goal.size_gone-requires
-size_gone-requires c = let most = bounds (gone c.args.files.now c.args.op.now) c.requires in omega (arith, most.size)
-
-pub returns : goal.returns
-unfolding tally
-returns c = cc (c.count_gone.ensures, c.rows_gone.ensures, c.size_gone.ensures)
+pub loop-file-preserved : goal.loop-file-preserved
+loop-file-preserved c =
+    let files = c.args.files.now in
+    let op = c.args.op.now in
+    let at = c.loop-file.file-index in
+    let file = c.file-item.result in
+    let test : keeps op file ≡ c.keeps.result = sym (c.keeps.ensures ∙ ap (keeps op) c.get-file.ensures) in
+    elim c.if-not-keeps.branch [
+      | then-not-keeps w ↦
+          w.tally-is ∙ w.with_file-tally.ensures
+          ∙ ap (λ (f : Loaded). with_added (Put f) c.loop-file.tally) c.get-file.ensures
+          ∙ ap (λ (t : Tally). with_added (Put file) t) c.loop-file.invariant
+          ∙ sym (tally-gone files op at file c.loop-file-test.true c.file-item.is (test ∙ w.if-not-keeps.true))
+      | else-not-keeps w ↦
+          w.tally-is ∙ c.loop-file.invariant
+          ∙ sym (tally-kept files op at file c.loop-file-test.true c.file-item.is (test ∙ w.if-not-keeps.false))
+    ]

@@ -12,9 +12,8 @@ rows_in-requires c = entries_sound c.self.inside.files c.self.inside.index.by_ru
 pub returns : goal.returns
 returns c =
     let a : SFits w64 c.args.valid = search rules in
-    let made = simp to_z-of_z at c.in_ok-rows_in.ensures in
+    let made = simp to_z-of_z at c.rows_in.ensures in
     rw (
       ← c.self.view_is,
       ← rows-at_valid c.self.inside.files c.args.valid c.self.inside.index.by_run c.self.invariant.maps.of_runs,
-      ← made,
-    ) c.of_page.ensures
+    ) made

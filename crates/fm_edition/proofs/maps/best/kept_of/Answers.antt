@@ -13,4 +13,5 @@ returns c =
     ap₂ (λ (rows : List Row) (alone : Bool). kept rows alone c.each_rises.result) c.in_ok-rows.ensures
     c.each_one.ensures
     ∙ ap (kept (page_rows c.args.page.now).rows (each_one c.args.page.now.entries)) c.each_rises.ensures in
-    subst (λ (rows : KeptRows). IfOk c.new.result (λ made. made ≡ rows)) same c.new.ensures
+    subst (λ (rows : KeptRows). IfOk c.new-2.result (λ made. made ≡ rows)) (c.in_ok-kept.ensures ∙ same)
+    c.new-2.ensures

@@ -23,8 +23,8 @@ returns-in_ok-insert-in-Some-clause-set c other =
     let value = simp to_z-of_z at c.get.ensures.value in
     let found : get int_cmp c.args.pages.now c.args.number ≡ Some c.in-Some.page.now =
     sym value ∙ ap option_copied c.in-Some.is in
-    let same : Some c.in_ok-new-in-Some.field-0 ≡ rows_at c.args.pages.now c.args.number =
-    ap Some (c.in_ok-new-in-Some.ensures ∙ c.in_ok-rows-in-Some.ensures ∙ ap page_rows c.get-in-Some.ensures)
+    let same : Some c.in_ok-rows-in-Some.rows ≡ rows_at c.args.pages.now c.args.number =
+    ap Some (c.in_ok-rows-in-Some.ensures ∙ ap page_rows c.get-in-Some.ensures)
     ∙ ap (option_map page_rows) (sym found) in
     simp to_z-of_z at (c.in_ok-insert-in-Some.ensures.updates.0 other)
     ∙ ap (λ rows. if int_eq c.args.number other then rows else get int_cmp c.args.best.now other) same

@@ -2,5 +2,5 @@
 use Rattle.std.proofs.Common.{◌∙◌}
 use Rattle.fm_edition.proofs.maps.index.map_after.Goals as goal
 
-pub returns-clause-set : goal.returns-clause-set
-returns-clause-set c = rw (← (c.as_slice.ensures ∙ c.in_ok-touched.ensures)) c.after_change.ensures.set
+pub returns : goal.returns
+returns c = rw (← (c.as_slice.ensures ∙ c.in_ok-touched.ensures)) c.after_change.ensures

@@ -11,6 +11,12 @@ use Rattle.fm_edition.proofs.CountLemmas.{counted_page}
 use Rattle.fm_edition.proofs.WalkLemmas.{all_parts}
 use Rattle.fm_edition.proofs.maps.walk.count_in.Goals as goal
 
+pub count_page-count-requires-clause-count : goal.count_page-count-requires-clause-count
+count_page-count-requires-clause-count c =
+    let few : length (c.in-Some.page.now.entries ++ entries_in c.next.new.self) < 2 ^ 32 =
+    subst (λ l. length (entries_in l) < 2 ^ 32) c.in-Some.ensures.steps c.loop-page.invariant.few in
+    rw c.get.ensures (omega (arith, few, length-append c.in-Some.page.now.entries (entries_in c.next.new.self)))
+
 pub count_page-count-requires-clause-ready : goal.count_page-count-requires-clause-ready
 count_page-count-requires-clause-ready c =
     let all : All (IsReady c.args.wanted) (c.in-Some.page.now.entries ++ entries_in c.next.new.self) =

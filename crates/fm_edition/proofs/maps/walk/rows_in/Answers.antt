@@ -1,7 +1,8 @@
 -- One more page.
-use Rattle.std.proofs.Common.{◌≡◌, ◌++◌, subst, refl}
+use Rattle.std.proofs.Common.{rules, ◌≡◌, ◌++◌, IfOk, List, subst, refl}
 use Rattle.std.specs.Prelude.{All}
 use Rattle.std.specs.List.{filter_map}
+use Rattle.fm_model.specs.declared.row.Row.{Row}
 use Rattle.fm_edition.specs.Indexes.{entries_in, entries_of, entry_row, IsReady}
 use Rattle.fm_edition.proofs.WalkLemmas.{all_parts, some_taken}
 use Rattle.fm_edition.proofs.maps.walk.rows_in.Goals as goal
@@ -33,3 +34,8 @@ loop-page-init c =
     let is : c.into_iter-page-iterator.result ≡ c.args.pages.now.entries =
     c.into_iter-page-iterator.ensures.into_iter_gives.0 in
     record { ready = rw is c.requires; made = rw (is, c.new-rows.ensures) refl }
+
+pub returns : goal.returns
+returns c =
+    let made : c.loop-page.rows ≡ filter_map (entry_row c.args.wanted) (entries_of c.args.pages.now) = search rules in
+    subst (λ (page : List Row). IfOk c.of_page.result (λ rows. rows ≡ page)) made c.of_page.ensures
