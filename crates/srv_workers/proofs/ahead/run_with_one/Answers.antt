@@ -9,7 +9,8 @@ pub run_with-requires-clause-blanks : goal.run_with-requires-clause-blanks
 run_with-requires-clause-blanks g c _ _ = c.requires.blanks
 
 pub run_with-requires-clause-first : goal.run_with-requires-clause-first
-run_with-requires-clause-first g c _ _ = record { book_is = refl; ledger_is = refl; proto_is = refl; parts_are = refl }
+run_with-requires-clause-first g c _ _ =
+    record { book_is = refl; ledger_is = refl; proto_is = refl; parts_are = refl }
 
 pub run_with-requires-clause-others : goal.run_with-requires-clause-others
 run_with-requires-clause-others g c _ _ =

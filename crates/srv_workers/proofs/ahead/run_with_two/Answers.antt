@@ -9,7 +9,8 @@ pub run_with_one-requires-clause-blanks : goal.run_with_one-requires-clause-blan
 run_with_one-requires-clause-blanks g c _ _ = c.requires.blanks
 
 pub run_with_one-requires-clause-first : goal.run_with_one-requires-clause-first
-run_with_one-requires-clause-first g c _ _ = record { book_is = refl; ledger_is = refl; proto_is = refl; parts_are = refl }
+run_with_one-requires-clause-first g c _ _ =
+    record { book_is = refl; ledger_is = refl; proto_is = refl; parts_are = refl }
 
 pub run_with_one-requires-clause-others : goal.run_with_one-requires-clause-others
 run_with_one-requires-clause-others g c _ _ =

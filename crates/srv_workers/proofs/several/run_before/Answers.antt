@@ -8,13 +8,14 @@ pub run_with-requires-clause-blanks : goal.run_with-requires-clause-blanks
 run_with-requires-clause-blanks g c _ _ = c.requires.blanks
 
 pub run_with-requires-clause-first : goal.run_with-requires-clause-first
-run_with-requires-clause-first g c _ _ = record { book_is = refl; ledger_is = refl; proto_is = refl; parts_are = refl }
+run_with-requires-clause-first g c _ _ =
+    record { book_is = refl; ledger_is = refl; proto_is = refl; parts_are = refl }
 
 pub run_with-requires-clause-others : goal.run_with-requires-clause-others
 run_with-requires-clause-others g c _ _ =
     let last : length c.args.protos.now - 1 ≡ 1 = omega (arith, c.requires.few.0, c.requires.few.1) in
-    subst (λ (n : ℕ). g.X.Behind.are_blank (length c.args.devices.now.doors) c.args.clocks (drop n c.args.blanks)) last
-    c.requires.last
+    let doors = length c.args.devices.now.doors in
+    subst (λ (n : ℕ). g.X.Behind.are_blank doors c.args.clocks (drop n c.args.blanks)) last c.requires.last
 
 pub run_with-requires-clause-protos : goal.run_with-requires-clause-protos
 run_with-requires-clause-protos g c _ _ =
@@ -34,13 +35,14 @@ pub run_with_one-requires-clause-blanks : goal.run_with_one-requires-clause-blan
 run_with_one-requires-clause-blanks g c _ _ = c.requires.blanks
 
 pub run_with_one-requires-clause-first : goal.run_with_one-requires-clause-first
-run_with_one-requires-clause-first g c _ _ = record { book_is = refl; ledger_is = refl; proto_is = refl; parts_are = refl }
+run_with_one-requires-clause-first g c _ _ =
+    record { book_is = refl; ledger_is = refl; proto_is = refl; parts_are = refl }
 
 pub run_with_one-requires-clause-others : goal.run_with_one-requires-clause-others
 run_with_one-requires-clause-others g c _ _ =
     let last : length c.args.protos.now - 1 ≡ 2 = omega (arith, c.requires.few.0, c.requires.few.1) in
-    subst (λ (n : ℕ). g.X.Behind.are_blank (length c.args.devices.now.doors) c.args.clocks (drop n c.args.blanks)) last
-    c.requires.last
+    let doors = length c.args.devices.now.doors in
+    subst (λ (n : ℕ). g.X.Behind.are_blank doors c.args.clocks (drop n c.args.blanks)) last c.requires.last
 
 pub run_with_one-requires-clause-protos : goal.run_with_one-requires-clause-protos
 run_with_one-requires-clause-protos g c _ _ =
@@ -60,13 +62,14 @@ pub run_with_two-requires-clause-blanks : goal.run_with_two-requires-clause-blan
 run_with_two-requires-clause-blanks g c _ _ = c.requires.blanks
 
 pub run_with_two-requires-clause-first : goal.run_with_two-requires-clause-first
-run_with_two-requires-clause-first g c _ _ = record { book_is = refl; ledger_is = refl; proto_is = refl; parts_are = refl }
+run_with_two-requires-clause-first g c _ _ =
+    record { book_is = refl; ledger_is = refl; proto_is = refl; parts_are = refl }
 
 pub run_with_two-requires-clause-others : goal.run_with_two-requires-clause-others
 run_with_two-requires-clause-others g c _ _ =
     let last : length c.args.protos.now - 1 ≡ 3 = omega (arith, c.requires.few.0, c.requires.few.1) in
-    subst (λ (n : ℕ). g.X.Behind.are_blank (length c.args.devices.now.doors) c.args.clocks (drop n c.args.blanks)) last
-    c.requires.last
+    let doors = length c.args.devices.now.doors in
+    subst (λ (n : ℕ). g.X.Behind.are_blank doors c.args.clocks (drop n c.args.blanks)) last c.requires.last
 
 pub run_with_two-requires-clause-protos : goal.run_with_two-requires-clause-protos
 run_with_two-requires-clause-protos g c _ _ =

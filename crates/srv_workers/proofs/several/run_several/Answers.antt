@@ -20,7 +20,8 @@ run_last-requires-clause-blanks g c _ _ =
     c.len.ensures c.in_ok-blanks.ensures
 
 pub run_last-requires-clause-last : goal.run_last-requires-clause-last
-run_last-requires-clause-last g c _ _ = record { book_is = refl; ledger_is = refl; proto_is = refl; parts_are = refl }
+run_last-requires-clause-last g c _ _ =
+    record { book_is = refl; ledger_is = refl; proto_is = refl; parts_are = refl }
 
 pub run_last-requires-clause-protos : goal.run_last-requires-clause-protos
 run_last-requires-clause-protos g c _ _ =

@@ -16,11 +16,13 @@ open-requires g c = (first-and _ _ _ c.requires.blanks c.first_blank.ensures).0.
 -- there are passes, shares and places for all
 pub given_at-given-requires-clause-passes : goal.given_at-given-requires-clause-passes
 given_at-given-requires-clause-passes g c =
-    of-many _ _ _ _ c.in-Ok-open.ensures.passes (first-and _ _ _ c.requires.blanks c.first_blank.ensures).0.1.passes_are
+    let first = (first-and _ _ _ c.requires.blanks c.first_blank.ensures).0 in
+    of-many _ _ _ _ c.in-Ok-open.ensures.passes first.1.passes_are
 
 pub given_at-given-requires-clause-shares : goal.given_at-given-requires-clause-shares
 given_at-given-requires-clause-shares g c =
-    of-many _ _ _ _ c.in-Ok-open.ensures.shares (first-and _ _ _ c.requires.blanks c.first_blank.ensures).0.1.shares_are
+    let first = (first-and _ _ _ c.requires.blanks c.first_blank.ensures).0 in
+    of-many _ _ _ _ c.in-Ok-open.ensures.shares first.1.shares_are
 
 pub given_at-given-requires-clause-places : goal.given_at-given-requires-clause-places
 given_at-given-requires-clause-places g c =
@@ -36,4 +38,5 @@ returns-in-Ok-open-clause-given g c =
 
 pub returns-in-Ok-open-clause-parts : goal.returns-in-Ok-open-clause-parts
 returns-in-Ok-open-clause-parts g c number below =
-    sym (first-and _ _ _ c.requires.blanks c.first_blank.ensures).0.0.parts_are ∙ (first-and _ _ _ c.requires.blanks c.first_blank.ensures).0.1.shares_are
+    let first = (first-and _ _ _ c.requires.blanks c.first_blank.ensures).0 in
+    sym first.0.parts_are ∙ first.1.shares_are

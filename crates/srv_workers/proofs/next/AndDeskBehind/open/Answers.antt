@@ -33,11 +33,13 @@ open-requires-2-clause-few g c = c.requires.few
 -- there are passes and shares for all of the first desk
 pub given_at-first-requires-clause-passes : goal.given_at-first-requires-clause-passes
 given_at-first-requires-clause-passes g c =
-    of-many _ _ _ _ c.in-Ok-open.ensures.passes (first-and _ _ _ c.requires.blanks c.take_off-blank.ensures).0.1.passes_are
+    let first = (first-and _ _ _ c.requires.blanks c.take_off-blank.ensures).0 in
+    of-many _ _ _ _ c.in-Ok-open.ensures.passes first.1.passes_are
 
 pub given_at-first-requires-clause-shares : goal.given_at-first-requires-clause-shares
 given_at-first-requires-clause-shares g c =
-    of-many _ _ _ _ c.in-Ok-open.ensures.shares (first-and _ _ _ c.requires.blanks c.take_off-blank.ensures).0.1.shares_are
+    let first = (first-and _ _ _ c.requires.blanks c.take_off-blank.ensures).0 in
+    of-many _ _ _ _ c.in-Ok-open.ensures.shares first.1.shares_are
 
 pub given_at-first-requires-clause-places : goal.given_at-first-requires-clause-places
 given_at-first-requires-clause-places g c =
@@ -62,7 +64,8 @@ given_all-requires-clause-vacant g c =
 -- where the others couldn't be opened, the first desk has all its shares back
 pub close-requires : goal.close-requires
 close-requires g c =
-    many-length _ _ _ c.in-Ok-open.ensures.shares ∙ (first-and _ _ _ c.requires.blanks c.take_off-blank.ensures).0.0.parts_are
+    let first = (first-and _ _ _ c.requires.blanks c.take_off-blank.ensures).0 in
+    many-length _ _ _ c.in-Ok-open.ensures.shares ∙ first.0.parts_are
 
 -- all were given out
 pub returns-in-Ok-open-2-clause-given : goal.returns-in-Ok-open-2-clause-given
@@ -74,6 +77,7 @@ returns-in-Ok-open-2-clause-given g c =
 
 pub returns-in-Ok-open-2-clause-parts : goal.returns-in-Ok-open-2-clause-parts
 returns-in-Ok-open-2-clause-parts g c =
+    let first = (first-and _ _ _ c.requires.blanks c.take_off-blank.ensures).0 in
     for-each (λ (number : ℕ). first_then g.N.Ledger.parts g.X.Desks.parts number ≡ 1 + c.args.clocks)
-    g.X.Desks.means.them.count (sym (first-and _ _ _ c.requires.blanks c.take_off-blank.ensures).0.0.parts_are ∙ (first-and _ _ _ c.requires.blanks c.take_off-blank.ensures).0.1.shares_are)
+    g.X.Desks.means.them.count (sym first.0.parts_are ∙ first.1.shares_are)
     c.in-Ok-open-2.ensures.parts
