@@ -2,7 +2,7 @@
 ghost use Rattle.std.specs.Prelude.{◌<◌, ◌≤◌, ◌^◌, IfOk};
 ghost use Rattle.pub_snap.specs.Opening.{IsNamed};
 ghost use Rattle.srv_workers.specs.Given.{IsVacant};
-ghost use Rattle.srv_workers.specs.Opened.{IsSized};
+ghost use Rattle.srv_workers.specs.Opened.{FirstAnd, IsSized};
 ghost use Rattle.srv_workers.specs.Places.{HasPlaces};
 
 use crate::behind::Behind;
@@ -13,7 +13,7 @@ use crate::joining::given_all;
 use crate::one::OwnHand;
 use crate::own::OwnPass;
 use crate::places::{Places, given_at, places_for};
-use crate::slots::Slots;
+use crate::slots::{Slots, take_off};
 use fm_base::{Arc, List, NoMemory};
 use fm_model::Proto;
 use pub_look::Look;
@@ -54,10 +54,8 @@ fn joint_for<N: Name, P: Drop, H: Drop>(
 impl<N: Name + Send + Sync, X: Behind> Behind for And<Desk<N>, X> {
     type Passes = Several<OwnPass<N>, X::Passes>;
 
-    type Blanks = And<Blank, X::Blanks>;
-
-    ghost are_blank = { λ doors clocks blanks. IsNamed blanks.first N.book N.name N.proto N.parts
-        × IsSized doors clocks blanks.first × X.are_blank doors clocks blanks.others };
+    ghost are_blank = { λ doors clocks blanks. FirstAnd (λ blank.
+        IsNamed blank N.book N.name N.proto N.parts × IsSized doors clocks blank) (X.are_blank doors clocks) blanks };
 
     fn know() {
         X::know();
@@ -87,7 +85,7 @@ impl<N: Name + Send + Sync, X: Behind> Behind for And<Desk<N>, X> {
     fn open<R: Wait>(
         rt: &R,
         alloc: Global,
-        blanks: Self::Blanks,
+        blanks: List<Blank>,
         protos: &[Arc<Proto>],
         doors: usize,
         clocks: usize,
@@ -105,10 +103,8 @@ impl<N: Name + Send + Sync, X: Behind> Behind for And<Desk<N>, X> {
                 return Err(NoMemory);
             }
         };
-        let And {
-            first: blank,
-            others: behind,
-        } = blanks;
+        let mut behind = blanks;
+        let blank = take_off(&mut behind);
         let (desk, passes, shares) = match blank.open::<N>(alloc) {
             Ok(opened) => opened,
             Err(NoMemory) => {

@@ -1,6 +1,7 @@
 use Rattle.std.proofs.Common.{◌∙◌, ◌+◌, ◌≡◌, ℕ, List, ap, drop, get_or, length, subst, sym}
 use Rattle.std.proofs.lemmas.List.{take_rest}
 use Rattle.fm_model.specs.declared.proto.Proto.{Proto}
+use Rattle.srv_workers.proofs.BlankLemmas.{first-and, first-there}
 use Rattle.srv_workers.proofs.BothLemmas.{all-protos, count-all}
 use Rattle.srv_workers.proofs.FirstLemmas.{for-each}
 use Rattle.srv_workers.specs.Both.{first_then}
@@ -10,9 +11,16 @@ use Rattle.srv_workers.proofs.GivenLemmas.{many-length, of-many}
 use Rattle.srv_workers.proofs.OutLemmas.{AreGivenOut-all, IsVacant-all}
 use Rattle.srv_workers.proofs.next.AndDeskBehind.open.Goals as goal
 
+-- the first blank is there, and named
+pub take_off-blank-requires : goal.take_off-blank-requires
+take_off-blank-requires g c = first-there _ c.requires.blanks
+
+pub open-requires : goal.open-requires
+open-requires g c = (first-and _ _ _ c.requires.blanks c.take_off-blank.ensures).0.0
+
 -- the others are opened from their blanks
 pub open-requires-2-clause-blanks : goal.open-requires-2-clause-blanks
-open-requires-2-clause-blanks g c = c.requires.blanks.2
+open-requires-2-clause-blanks g c = (first-and _ _ _ c.requires.blanks c.take_off-blank.ensures).1
 
 pub open-requires-2-clause-protos : goal.open-requires-2-clause-protos
 open-requires-2-clause-protos g c =
@@ -25,11 +33,13 @@ open-requires-2-clause-few g c = c.requires.few
 -- there are passes and shares for all of the first desk
 pub given_at-first-requires-clause-passes : goal.given_at-first-requires-clause-passes
 given_at-first-requires-clause-passes g c =
-    of-many _ _ _ _ c.in-Ok-open.ensures.passes c.requires.blanks.1.passes_are
+    let first = (first-and _ _ _ c.requires.blanks c.take_off-blank.ensures).0 in
+    of-many _ _ _ _ c.in-Ok-open.ensures.passes first.1.passes_are
 
 pub given_at-first-requires-clause-shares : goal.given_at-first-requires-clause-shares
 given_at-first-requires-clause-shares g c =
-    of-many _ _ _ _ c.in-Ok-open.ensures.shares c.requires.blanks.1.shares_are
+    let first = (first-and _ _ _ c.requires.blanks c.take_off-blank.ensures).0 in
+    of-many _ _ _ _ c.in-Ok-open.ensures.shares first.1.shares_are
 
 pub given_at-first-requires-clause-places : goal.given_at-first-requires-clause-places
 given_at-first-requires-clause-places g c =
@@ -54,7 +64,8 @@ given_all-requires-clause-vacant g c =
 -- where the others couldn't be opened, the first desk has all its shares back
 pub close-requires : goal.close-requires
 close-requires g c =
-    many-length _ _ _ c.in-Ok-open.ensures.shares ∙ c.requires.blanks.0.parts_are
+    let first = (first-and _ _ _ c.requires.blanks c.take_off-blank.ensures).0 in
+    many-length _ _ _ c.in-Ok-open.ensures.shares ∙ first.0.parts_are
 
 -- all were given out
 pub returns-in-Ok-open-2-clause-given : goal.returns-in-Ok-open-2-clause-given
@@ -66,6 +77,7 @@ returns-in-Ok-open-2-clause-given g c =
 
 pub returns-in-Ok-open-2-clause-parts : goal.returns-in-Ok-open-2-clause-parts
 returns-in-Ok-open-2-clause-parts g c =
+    let first = (first-and _ _ _ c.requires.blanks c.take_off-blank.ensures).0 in
     for-each (λ (number : ℕ). first_then g.N.Ledger.parts g.X.Desks.parts number ≡ 1 + c.args.clocks)
-    g.X.Desks.means.them.count (sym c.requires.blanks.0.parts_are ∙ c.requires.blanks.1.shares_are)
+    g.X.Desks.means.them.count (sym first.0.parts_are ∙ first.1.shares_are)
     c.in-Ok-open-2.ensures.parts
