@@ -3,7 +3,7 @@ use Rattle.std.specs.Prelude.{if◌then◌else◌}
 use Rattle.std.proofs.Math.Dec.{eqb-suc-suc}
 use Rattle.srv_workers.specs.declared.both.OneOf.TheVariants.{This}
 use Rattle.srv_workers.specs.Both.{all_means}
-use Rattle.srv_workers.specs.Desks.{counted_at}
+use Rattle.srv_workers.specs.Desks.{counted_at, Publisher}
 use Rattle.srv_workers.proofs.BothLemmas.{puts-behind, puts-first}
 use Rattle.srv_workers.proofs.OneLemmas.{for-one}
 use Rattle.srv_workers.proofs.both.AndDeskDesks.give.Goals as goal
@@ -11,7 +11,7 @@ use Rattle.srv_workers.proofs.both.AndDeskDesks.give.Goals as goal
 -- there is room at the first desk
 pub give-requires : goal.give-requires
 give-requires g c =
-    let own = record { desk = 0; pass = c.in-This.own.own; share = c.in-This.own.share } in
+    let own : Publisher = record { desk = 0; pass = c.in-This.own.own; share = c.in-This.own.share } in
     for-one (λ (number : ℕ). length (counted_at number own) ≤ c.args.back.now.first.free)
     ((rw c.in-This.is at c.requires) 0 (omega arith))
 
