@@ -1,4 +1,5 @@
 pub mod AloneLemmas
+pub mod BlankLemmas
 pub mod BothLemmas
 pub mod CloseLemmas
 pub mod CollectLemmas

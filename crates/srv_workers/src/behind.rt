@@ -1,5 +1,6 @@
 //! Desks that may stand behind another one, and how all of them are opened.
-ghost use Rattle.std.specs.Prelude.{◌≡◌, ◌+◌, ◌<◌, ◌≤◌, ◌^◌, IfOk, IsTrue, false, replicate, ℕ};
+ghost use Rattle.std.specs.Prelude.{◌≡◌, ◌+◌, ◌<◌, ◌≤◌, ◌^◌, IfOk, IsTrue, List, false, replicate, ℕ};
+ghost use Rattle.pub_snap.specs.Opening.{Opening};
 ghost use Rattle.srv_many.specs.Several.{views_in};
 ghost use Rattle.srv_workers.specs.Desks.{first_of, HasSeenEach, IsUnseen, LearnsEach};
 ghost use Rattle.srv_workers.specs.Given.{AreGivenOut, IsBackFor};
@@ -8,6 +9,7 @@ use crate::desks::Desks;
 use crate::given::Given;
 use fm_base::{Arc, List, NoMemory};
 use fm_model::Proto;
+use pub_snap::Blank;
 use srv_many::Row;
 use std::alloc::Global;
 use std::sync::Wait;
@@ -17,11 +19,8 @@ pub(crate) trait Behind: Desks {
     // A pass of each in a row.
     type Passes: Row + Drop;
 
-    // The desks before they have names.
-    type Blanks: Drop;
-
     // Blanks that they are opened from, with passes for n doors, and for k clocks of each.
-    ghost are_blank: { ℕ → ℕ → Self.Blanks → Type 0 };
+    ghost are_blank: { ℕ → ℕ → List Opening → Type 0 };
 
     // What is known by the types: the prototypes, that a look may see more, and that a hand is of one of the desks.
     fn know()
@@ -54,7 +53,7 @@ pub(crate) trait Behind: Desks {
     fn open<R: Wait>(
         rt: &R,
         alloc: Global,
-        blanks: Self::Blanks,
+        blanks: List<Blank>,
         protos: &[Arc<Proto>],
         doors: usize,
         clocks: usize,

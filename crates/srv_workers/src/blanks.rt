@@ -1,20 +1,15 @@
 //! Desks that have no names yet.
-ghost use Rattle.std.specs.Prelude.{◌≡◌, ◌≤◌, IfOk};
+ghost use Rattle.std.specs.Prelude.{◌≡◌, ◌≤◌, All, IfOk};
 ghost use Rattle.fm_model.specs.Site.{IsPrototype};
-ghost use Rattle.srv_workers.specs.Opened.{IsSized};
+ghost use Rattle.srv_workers.specs.Opened.{AreBlanks, IsSized};
 
-use crate::behind::Behind;
-use crate::both::And;
-use fm_base::{Arc, NoMemory};
+use fm_base::{Arc, List, NoMemory};
 use fm_model::Proto;
 use pub_snap::{Blank, prepare};
 use std::alloc::Global;
 
-// A blank, and the blanks of desks behind it.
-pub(crate) type BlanksWith<X> = And<Blank, <X as Behind>::Blanks>;
-
 // A blank over a prototype.
-pub(crate) fn blank_of(
+fn blank_of(
     alloc: Global,
     proto: &Arc<Proto>,
     doors: usize,
@@ -34,25 +29,20 @@ pub(crate) fn blank_of(
     )
 }
 
-// The same, with others behind it.
-pub(crate) fn blank_before<B: Drop>(
+// A blank over each prototype, in their order.
+pub(crate) fn blanks_of(
     alloc: Global,
-    proto: &Arc<Proto>,
+    protos: &[Arc<Proto>],
     doors: usize,
     clocks: usize,
-    others: B,
-) -> Result<And<Blank, B>, NoMemory>
-    requires proto { IsPrototype proto.now }
+) -> Result<List<Blank>, NoMemory>
+    requires prototypes { All IsPrototype protos.now }
     requires few { (1 ≤ doors) × (doors ≤ 16) × (clocks ≤ 1) }
-    ensures proto { IfOk result (λ blanks. blanks.first.proto ≡ proto.now) }
-    ensures sized { IfOk result (λ blanks. IsSized doors clocks blanks.first) }
-    ensures others { IfOk result (λ blanks. blanks.others ≡ others) }
+    ensures { IfOk result (AreBlanks doors clocks protos.now) }
 {
-    match blank_of(alloc, proto, doors, clocks) {
-        Ok(first) => Ok(And { first, others }),
-        Err(NoMemory) => {
-            drop(others);
-            Err(NoMemory)
-        }
+    let mut blanks = List::new(alloc);
+    for proto in protos {
+        blanks.push(blank_of(alloc, proto, doors, clocks)?)?;
     }
+    Ok(blanks)
 }

@@ -137,7 +137,7 @@ impl<N: Name + Send + Sync, X: Behind> Desks for And<Desk<N>, X> {
 
     fn give(back: &mut And<Slots<Share<N>>, X::Back>, hand: OneOf<OwnHand<N>, X::Hand>) {
         match hand {
-            OneOf::This(own) => back.first.put(own.share),
+            OneOf::This(own) => <Desk<N> as Desks>::give(&mut back.first, own),
             OneOf::Other(other) => X::give(&mut back.others, other),
         }
     }

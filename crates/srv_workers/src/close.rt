@@ -13,6 +13,7 @@ use crate::worker::Worker;
 use dev_traits::Devices;
 use fm_base::List;
 use pub_snap::Closed;
+use std::mem::replace;
 use std::sync::Wait;
 
 // Gives the devices back and closes the desks.
@@ -33,15 +34,27 @@ fn close_with<R: Wait, D: Drop, I: Drop, C: Drop, X: Desks>(
     ensures counted { (number : ℕ) → number < X.means.them.count
         → sum (X.slots parts.back number).items ≡ length (X.logs desks number) }
 {
+    let Parts {
+        doors,
+        inboxes,
+        clocks,
+        back,
+        doors_told,
+        inboxes_told,
+        clocks_told,
+    } = parts;
     let mut closed = closed;
-    desks.close(rt, parts.back, &mut closed);
-    devices.doors = parts.doors.into_list();
-    devices.inboxes = parts.inboxes.into_list();
-    devices.clocks = parts.clocks.into_list();
+    desks.close(rt, back, &mut closed);
+    let given_back = Devices {
+        doors: doors.into_list(),
+        inboxes: inboxes.into_list(),
+        clocks: clocks.into_list(),
+    };
+    drop(replace(devices, given_back));
     Outcomes {
-        doors: parts.doors_told.into_list(),
-        inboxes: parts.inboxes_told.into_list(),
-        clocks: parts.clocks_told.into_list(),
+        doors: doors_told.into_list(),
+        inboxes: inboxes_told.into_list(),
+        clocks: clocks_told.into_list(),
         desks: closed.into_list(),
     }
 }

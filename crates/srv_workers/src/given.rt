@@ -2,7 +2,7 @@
 ghost use Rattle.std.specs.Prelude.{IfOk};
 ghost use Rattle.srv_workers.specs.Given.{IsVacant};
 
-use crate::slots::Slots;
+use crate::slots::{Slots, pair_with_room};
 use fm_base::{List, NoMemory};
 use std::alloc::Global;
 
@@ -32,11 +32,15 @@ pub(crate) fn vacant_for<E: Drop, H: Drop>(
     ensures { IfOk result (IsVacant doors inboxes clocks) }
 {
     let eyes = Slots::with_room(alloc, doors)?;
-    let at_inboxes = Slots::with_room(alloc, inboxes)?;
-    let at_clocks = Slots::with_room(alloc, clocks)?;
-    Ok(Vacant {
-        eyes,
-        at_inboxes,
-        at_clocks,
-    })
+    match pair_with_room(alloc, inboxes, clocks) {
+        Ok(hands) => Ok(Vacant {
+            eyes,
+            at_inboxes: hands.first,
+            at_clocks: hands.second,
+        }),
+        Err(NoMemory) => {
+            drop(eyes);
+            Err(NoMemory)
+        }
+    }
 }

@@ -1,13 +1,14 @@
 //! One desk behind others.
+ghost use Rattle.std.specs.Prelude.{◌≡◌, ◌<◌, ◌∷◌, [], drop, length};
 ghost use Rattle.pub_snap.specs.Opening.{IsNamed};
-ghost use Rattle.srv_workers.specs.Opened.{IsSized};
+ghost use Rattle.srv_workers.specs.Opened.{FirstAnd, IsSized};
 
 use crate::behind::Behind;
 use crate::given::Given;
 use crate::one::OwnHand;
 use crate::own::OwnPass;
 use crate::places::{given_at, places_for};
-use crate::slots::Slots;
+use crate::slots::{Slots, take_off};
 use fm_base::{Arc, List, NoMemory};
 use fm_model::Proto;
 use pub_look::Look;
@@ -15,13 +16,20 @@ use pub_snap::{Blank, Desk, Name, Receipt, Share};
 use std::alloc::Global;
 use std::sync::Wait;
 
+// The first blank of a list. Any others are dropped.
+fn first_blank(blanks: List<Blank>) -> Blank
+    requires { 0 < length blanks }
+    ensures { blanks ≡ result ∷ drop 1 blanks }
+{
+    let mut blanks = blanks;
+    take_off(&mut blanks)
+}
+
 impl<N: Name + Send + Sync> Behind for Desk<N> {
     type Passes = OwnPass<N>;
 
-    type Blanks = Blank;
-
-    ghost are_blank = { λ doors clocks blank. IsNamed blank N.book N.name N.proto N.parts
-        × IsSized doors clocks blank };
+    ghost are_blank = { λ doors clocks blanks. FirstAnd (λ blank.
+        IsNamed blank N.book N.name N.proto N.parts × IsSized doors clocks blank) (λ others. others ≡ []) blanks };
 
     fn know() {}
 
@@ -42,7 +50,7 @@ impl<N: Name + Send + Sync> Behind for Desk<N> {
     fn open<R: Wait>(
         _rt: &R,
         alloc: Global,
-        blank: Blank,
+        blanks: List<Blank>,
         protos: &[Arc<Proto>],
         doors: usize,
         clocks: usize,
@@ -50,11 +58,11 @@ impl<N: Name + Send + Sync> Behind for Desk<N> {
         let places = match places_for(alloc, &protos[0], doors, 1, clocks) {
             Ok(places) => places,
             Err(NoMemory) => {
-                drop(blank);
+                drop(blanks);
                 return Err(NoMemory);
             }
         };
-        match blank.open::<N>(alloc) {
+        match first_blank(blanks).open::<N>(alloc) {
             Ok((desk, passes, shares)) => {
                 let given = given_at(passes, shares, places, doors, 1, clocks);
                 Ok((desk, given))

@@ -13,8 +13,9 @@ use crate::outcome::Outcomes;
 use crate::room::{Room, room_of};
 use crate::run::run_over;
 use dev_traits::{Devices, Machine, Opened};
-use fm_base::{Arc, NoMemory};
+use fm_base::{Arc, List, NoMemory};
 use fm_model::Proto;
+use pub_snap::Blank;
 use std::alloc::Global;
 use std::sync::Wait;
 use std::thread::Threads;
@@ -86,7 +87,7 @@ fn made_for<D: Drop, I: Drop, C: Drop, X: Behind>(
 pub(crate) fn run_desks<R: Threads + Wait + Sync, M: Machine, X: Behind + Send>(
     rt: &R,
     alloc: Global,
-    blanks: X::Blanks,
+    blanks: List<Blank>,
     protos: &[Arc<Proto>],
     clocks: usize,
     keep: u32,

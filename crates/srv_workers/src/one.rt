@@ -100,7 +100,9 @@ impl<N: Name + Send + Sync> Desks for Desk<N> {
     }
 
     fn give(back: &mut Slots<Share<N>>, hand: OwnHand<N>) {
-        back.put(hand.share);
+        let OwnHand { own, share } = hand;
+        drop(own);
+        back.put(share);
     }
 
     fn close<R: Wait>(self, rt: &R, back: Slots<Share<N>>, closed: &mut Slots<Closed>) {

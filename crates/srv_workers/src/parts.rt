@@ -3,7 +3,7 @@ ghost use Rattle.std.specs.Prelude.{◌≡◌, ◌≤◌, ◌∷◌, [], IfOk};
 ghost use Rattle.srv_workers.specs.Parts.{HasRoom, IsEmpty, PutsParts, TakesShares};
 
 use crate::desks::Desks;
-use crate::slots::{Slots, pair_with_room, take_off};
+use crate::slots::{Slots, pair_with_room, pairs_with_room, take_off};
 use crate::worker::Worker;
 use fm_base::{List, NoMemory};
 use srv_door::DoorReport;
@@ -36,18 +36,29 @@ pub(crate) fn room_for<D: Drop, I: Drop, C: Drop, B: Drop>(
     ensures inboxes { IfOk result (λ parts. (inboxes ≤ parts.inboxes.free) × (inboxes ≤ parts.inboxes_told.free)) }
     ensures clocks { IfOk result (λ parts. (clocks ≤ parts.clocks.free) × (clocks ≤ parts.clocks_told.free)) }
 {
-    let doors = pair_with_room(alloc, doors)?;
-    let inboxes = pair_with_room(alloc, inboxes)?;
-    let clocks = pair_with_room(alloc, clocks)?;
-    Ok(Parts {
-        doors: doors.first,
-        inboxes: inboxes.first,
-        clocks: clocks.first,
-        back,
-        doors_told: doors.second,
-        inboxes_told: inboxes.second,
-        clocks_told: clocks.second,
-    })
+    let doors = match pair_with_room(alloc, doors, doors) {
+        Ok(doors) => doors,
+        Err(NoMemory) => {
+            drop(back);
+            return Err(NoMemory);
+        }
+    };
+    match pairs_with_room(alloc, inboxes, clocks) {
+        Ok((inboxes, clocks)) => Ok(Parts {
+            doors: doors.first,
+            inboxes: inboxes.first,
+            clocks: clocks.first,
+            back,
+            doors_told: doors.second,
+            inboxes_told: inboxes.second,
+            clocks_told: clocks.second,
+        }),
+        Err(NoMemory) => {
+            drop(back);
+            drop(doors);
+            Err(NoMemory)
+        }
+    }
 }
 
 // Puts the parts of a worker behind those of others. It takes no memory.

@@ -3,7 +3,7 @@ ghost use Rattle.std.specs.Prelude.{◌+◌, ◌<◌, ◌^◌, IfOk, length};
 ghost use Rattle.srv_workers.specs.Room.{IsRoomFor};
 
 use crate::parts::{Parts, room_for};
-use crate::slots::Slots;
+use crate::slots::{Slots, pair_with_room};
 use crate::worker::Worker;
 use dev_traits::Devices;
 use fm_base::NoMemory;
@@ -31,12 +31,16 @@ pub(crate) fn room_of<D: Drop, I: Drop, C: Drop, E: Drop, H: Drop, B: Drop>(
     let doors = devices.doors.len();
     let inboxes = devices.inboxes.len();
     let clocks = devices.clocks.len();
-    let staff = Slots::with_room(alloc, doors + inboxes + clocks)?;
-    let closed = Slots::with_room(alloc, desks)?;
     let parts = room_for(alloc, doors, inboxes, clocks, back)?;
-    Ok(Room {
-        staff,
-        parts,
-        closed,
-    })
+    match pair_with_room(alloc, doors + inboxes + clocks, desks) {
+        Ok(lists) => Ok(Room {
+            staff: lists.first,
+            parts,
+            closed: lists.second,
+        }),
+        Err(NoMemory) => {
+            drop(parts);
+            Err(NoMemory)
+        }
+    }
 }

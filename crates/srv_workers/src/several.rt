@@ -3,12 +3,12 @@ ghost use Rattle.std.specs.Prelude.{◌≡◌, ◌⊎◌, ◌∷◌, ◌-◌, �
 ghost use Rattle.fm_model.specs.Site.{IsPrototype};
 ghost use Rattle.pub_snap.specs.Opening.{IsNamed};
 ghost use Rattle.srv_workers.specs.Desks.{first_of};
-ghost use Rattle.srv_workers.specs.Opened.{HasOneEach, IsSized};
+ghost use Rattle.srv_workers.specs.Opened.{AreBlanks, HasOneEach, blank_at};
 ghost use Rattle.srv_workers.specs.Several.{RanSeveral};
 
 use crate::ahead::{run_with, run_with_one, run_with_two};
 use crate::behind::Behind;
-use crate::blanks::{blank_before, blank_of};
+use crate::blanks::blanks_of;
 use crate::outcome::Outcomes;
 use dev_traits::{Machine, Opened};
 use fm_base::{Arc, List, NoMemory};
@@ -19,11 +19,11 @@ use std::marker::Brand;
 use std::sync::Wait;
 use std::thread::Threads;
 
-// Opens a desk before the last one, and one or two more where there are more prototypes, and runs workers over all.
+// Runs workers over the last desk, which has a name, and one to three before it.
 fn run_before<R: Threads + Wait + Sync, M: Machine, X: Behind + Send>(
     rt: &R,
     alloc: Global,
-    last: X::Blanks,
+    blanks: List<Blank>,
     protos: &[Arc<Proto>],
     clocks: usize,
     keep: u32,
@@ -33,53 +33,48 @@ fn run_before<R: Threads + Wait + Sync, M: Machine, X: Behind + Send>(
 where
     X::Eyes: Send,
     X::Passes: Send,
-    X::Blanks: Send,
     X::Hand: Send,
     X::Shared: Sync,
     X::Receipts: Send,
     X::Back: Send,
-    requires last { X.are_blank (length devices.old.doors) clocks last }
+    requires blanks { AreBlanks (length devices.old.doors) clocks protos.now blanks }
+    requires last { X.are_blank (length devices.old.doors) clocks (drop (length protos.now - 1) blanks) }
     requires protos { drop (length protos.now - 1) protos.now
         ≡ first_of X.means.them.count X.means.them.proto }
-    requires prototypes { All IsPrototype protos.now }
     requires few { (2 ≤ length protos.now) × (length protos.now ≤ 4) }
     requires devices { HasOneEach (length protos.now) clocks devices.old }
     ensures ran { IfOk result
         (RanSeveral M.D.shown M.D.L.shown M.I.shown M.C.shown protos.now keep devices.old devices.new) }
     ensures none { OnErr result (devices.new ≡ devices.old) }
 {
-    let doors = devices.doors.len();
-    let ahead = protos.len() - 2;
-    let both = blank_before(alloc, &protos[ahead], doors, clocks, last)?;
-    match ahead {
-        0 => run_with::<R, M, Brand, X>(rt, alloc, both, protos, clocks, keep, gate, devices),
-        1 => run_with_one::<R, M, Brand, X>(rt, alloc, both, protos, clocks, keep, gate, devices),
-        _ => run_with_two::<R, M, Brand, X>(rt, alloc, both, protos, clocks, keep, gate, devices),
+    match protos.len() {
+        2 => run_with::<R, M, Brand, X>(rt, alloc, blanks, protos, clocks, keep, gate, devices),
+        3 => run_with_one::<R, M, Brand, X>(rt, alloc, blanks, protos, clocks, keep, gate, devices),
+        _ => run_with_two::<R, M, Brand, X>(rt, alloc, blanks, protos, clocks, keep, gate, devices),
     }
 }
 
-// Runs workers over the last desk, which has a name, and those before it.
+// The same, where the name of the last desk is that of its blank.
 fn run_last<R: Threads + Wait + Sync, M: Machine, N: Name + Send + Sync>(
     rt: &R,
     alloc: Global,
-    last: Blank,
+    blanks: List<Blank>,
     protos: &[Arc<Proto>],
     clocks: usize,
     keep: u32,
     gate: &M::G,
     devices: &mut Opened<M>,
 ) -> Result<Outcomes, NoMemory>
-    requires last { IsNamed last N.book N.name N.proto N.parts }
-    requires sized { IsSized (length devices.old.doors) clocks last }
+    requires blanks { AreBlanks (length devices.old.doors) clocks protos.now blanks }
+    requires last { IsNamed (blank_at (length protos.now - 1) blanks) N.book N.name N.proto N.parts }
     requires protos { drop (length protos.now - 1) protos.now ≡ N.proto ∷ [] }
-    requires prototypes { All IsPrototype protos.now }
     requires few { (2 ≤ length protos.now) × (length protos.now ≤ 4) }
     requires devices { HasOneEach (length protos.now) clocks devices.old }
     ensures ran { IfOk result
         (RanSeveral M.D.shown M.D.L.shown M.I.shown M.C.shown protos.now keep devices.old devices.new) }
     ensures none { OnErr result (devices.new ≡ devices.old) }
 {
-    run_before::<R, M, Desk<N>>(rt, alloc, last, protos, clocks, keep, gate, devices)
+    run_before::<R, M, Desk<N>>(rt, alloc, blanks, protos, clocks, keep, gate, devices)
 }
 
 // How many clocks there are of each collection: none, or one.
@@ -113,8 +108,6 @@ pub fn run_several<R: Threads + Wait + Sync, M: Machine>(
     ensures none { OnErr result (devices.new ≡ devices.old) }
 {
     let clocks = clocks_each(&devices.clocks);
-    let doors = devices.doors.len();
-    let end = protos.len() - 1;
-    let last = blank_of(alloc, &protos[end], doors, clocks)?;
-    run_last::<R, M, Brand>(rt, alloc, last, protos, clocks, keep, gate, devices)
+    let blanks = blanks_of(alloc, protos, devices.doors.len(), clocks)?;
+    run_last::<R, M, Brand>(rt, alloc, blanks, protos, clocks, keep, gate, devices)
 }

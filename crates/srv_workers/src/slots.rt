@@ -51,24 +51,51 @@ impl<T: Drop> Slots<T> {
     }
 }
 
-// Two lists with room for equally many items.
+// Two lists with room.
 #[derive(Drop)]
 pub(crate) struct SlotPair<A, B> {
     pub first: Slots<A>,
     pub second: Slots<B>,
 }
 
-// No items yet, and room for `count` in each of two lists.
+// No items yet, and room for `some` items in the first list and for `more` in the second.
 pub(crate) fn pair_with_room<A: Drop, B: Drop>(
     alloc: Global,
-    count: usize,
+    some: usize,
+    more: usize,
 ) -> Result<SlotPair<A, B>, NoMemory>
     ensures items { IfOk result (λ pair. (pair.first.items ≡ []) × (pair.second.items ≡ [])) }
-    ensures free { IfOk result (λ pair. (count ≤ pair.first.free) × (count ≤ pair.second.free)) }
+    ensures free { IfOk result (λ pair. (some ≤ pair.first.free) × (more ≤ pair.second.free)) }
 {
-    let first = Slots::with_room(alloc, count)?;
-    let second = Slots::with_room(alloc, count)?;
-    Ok(SlotPair { first, second })
+    let first = Slots::with_room(alloc, some)?;
+    match Slots::with_room(alloc, more) {
+        Ok(second) => Ok(SlotPair { first, second }),
+        Err(NoMemory) => {
+            drop(first);
+            Err(NoMemory)
+        }
+    }
+}
+
+// Two such pairs: room for `some` items in each list of the first, and for `more` in each of the second.
+pub(crate) fn pairs_with_room<A: Drop, B: Drop, E: Drop, F: Drop>(
+    alloc: Global,
+    some: usize,
+    more: usize,
+) -> Result<(SlotPair<A, B>, SlotPair<E, F>), NoMemory>
+    ensures items { IfOk result (λ pairs. (pairs.0.first.items ≡ []) × (pairs.0.second.items ≡ [])) }
+    ensures free { IfOk result (λ pairs. (some ≤ pairs.0.first.free) × (some ≤ pairs.0.second.free)) }
+    ensures more_items { IfOk result (λ pairs. (pairs.1.first.items ≡ []) × (pairs.1.second.items ≡ [])) }
+    ensures more_free { IfOk result (λ pairs. (more ≤ pairs.1.first.free) × (more ≤ pairs.1.second.free)) }
+{
+    let first = pair_with_room(alloc, some, some)?;
+    match pair_with_room(alloc, more, more) {
+        Ok(second) => Ok((first, second)),
+        Err(NoMemory) => {
+            drop(first);
+            Err(NoMemory)
+        }
+    }
 }
 
 // Takes the first item off a list.

@@ -45,15 +45,14 @@ fn ready_for<D: Drop, I: Drop, C: Drop, N: Name>(
     let inboxes = devices.inboxes.len();
     let clocks = devices.clocks.len();
     let back = Slots::with_room(alloc, inboxes + clocks)?;
-    let places = places_for(alloc, proto, devices.doors.len(), inboxes, clocks)?;
-    let room = match room_of(alloc, devices, 1, back) {
-        Ok(room) => room,
+    let room = room_of(alloc, devices, 1, back)?;
+    match places_for(alloc, proto, devices.doors.len(), inboxes, clocks) {
+        Ok(places) => Ok(Ready { places, room }),
         Err(NoMemory) => {
-            drop(places);
-            return Err(NoMemory);
+            drop(room);
+            Err(NoMemory)
         }
-    };
-    Ok(Ready { places, room })
+    }
 }
 
 // A desk that was opened, its passes and its shares.

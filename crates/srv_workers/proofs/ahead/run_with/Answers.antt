@@ -2,14 +2,20 @@
 use Rattle.std.proofs.Common.{◌∙◌, ℕ, List, IfOk, ap, arith, length, subst, sym}
 use Rattle.fm_model.specs.declared.proto.Proto.{Proto}
 use Rattle.dap_reply.specs.Collections.{Collections}
+use Rattle.pub_snap.specs.Opening.{IsNamed}
 use Rattle.srv_workers.specs.Opened.{HasOneEach}
 use Rattle.srv_workers.specs.Several.{RanAmong}
+use Rattle.srv_workers.proofs.BlankLemmas.{first-named}
 use Rattle.srv_workers.proofs.BothLemmas.{all-protos, count-all}
 use Rattle.srv_workers.proofs.CollectLemmas.{over-all}
 use Rattle.srv_workers.proofs.ahead.run_with.Goals as goal
 
 pub run_desks-requires-clause-blanks : goal.run_desks-requires-clause-blanks
-run_desks-requires-clause-blanks g c _ _ = (c.requires.first, c.requires.sized, c.requires.others)
+run_desks-requires-clause-blanks g c _ _ =
+    first-named (λ blank. IsNamed blank g.N.Name.book g.N.Ledger.name g.N.Name.proto g.N.Ledger.parts)
+    (g.X.Behind.are_blank (length c.args.devices.now.doors) c.args.clocks) (length c.args.devices.now.doors)
+    c.args.clocks 0 c.args.protos.now c.args.blanks c.requires.blanks c.requires.few.0 c.requires.first
+    c.requires.others
 
 pub run_desks-requires-clause-protos : goal.run_desks-requires-clause-protos
 run_desks-requires-clause-protos g c _ _ =
@@ -25,7 +31,7 @@ run_desks-requires-clause-devices g c _ _ =
 pub run_desks-requires-clause-few : goal.run_desks-requires-clause-few
 run_desks-requires-clause-few g c _ _ = omega (
   arith,
-  c.requires.few,
+  c.requires.few.1,
   ap (λ (l : List Proto). length l) c.requires.protos,
   count-all g.N.Name.proto g.X.Desks.means.them,
 )

@@ -1,46 +1,32 @@
 -- One desk more stands before the others.
-use Rattle.std.proofs.Common.{ℕ, arith, length, subst}
-use Rattle.fm_model.specs.Site.{IsPrototype}
+use Rattle.std.proofs.Common.{◌∙◌, arith, length, refl, sym}
 use Rattle.pub_snap.specs.Opening.{IsNamed}
-use Rattle.srv_workers.specs.Opened.{IsSized}
-use Rattle.srv_workers.proofs.CollectLemmas.{all-at, blanks-as, protos-from}
+use Rattle.srv_workers.proofs.BlankLemmas.{first-named, protos-from}
+use Rattle.srv_workers.proofs.BothLemmas.{all-protos}
 use Rattle.srv_workers.proofs.ahead.run_with_two.Goals as goal
 
-pub blank_before-requires-clause-proto : goal.blank_before-requires-clause-proto
-blank_before-requires-clause-proto g c =
-    all-at IsPrototype c.args.protos.now 1 c.index-protos-1.result c.requires.prototypes
-    (omega (arith, c.requires.few.0)) c.index-protos-1.is
+pub run_with_one-requires-clause-blanks : goal.run_with_one-requires-clause-blanks
+run_with_one-requires-clause-blanks g c _ _ = c.requires.blanks
 
-pub blank_before-requires-clause-few : goal.blank_before-requires-clause-few
-blank_before-requires-clause-few g c = (
-  omega (arith, c.requires.devices.some, c.len-doors.ensures),
-  omega (arith, c.requires.devices.few, c.len-doors.ensures),
-  c.requires.devices.at_most,
-)
-
-pub run_with_one-requires-clause-sized : goal.run_with_one-requires-clause-sized
-run_with_one-requires-clause-sized g c _ _ =
-    subst (λ (doors : ℕ). IsSized doors c.args.clocks c.in_ok-all.all.first) c.len-doors.ensures
-    c.in_ok-all.ensures.sized
+pub run_with_one-requires-clause-first : goal.run_with_one-requires-clause-first
+run_with_one-requires-clause-first g c _ _ =
+    record { book_is = refl; ledger_is = refl; proto_is = refl; parts_are = refl }
 
 pub run_with_one-requires-clause-others : goal.run_with_one-requires-clause-others
 run_with_one-requires-clause-others g c _ _ =
-    let doors = length c.args.devices.now.doors in
-    blanks-as (λ first. IsNamed first g.N.Name.book g.N.Ledger.name g.N.Name.proto g.N.Ledger.parts)
-    (λ first. IsSized doors c.args.clocks first) (λ others. g.X.Behind.are_blank doors c.args.clocks others)
-    c.args.blanks c.in_ok-all.all.others c.in_ok-all.ensures.others c.requires.first c.requires.sized c.requires.others
+    first-named (λ blank. IsNamed blank g.N.Name.book g.N.Ledger.name g.N.Name.proto g.N.Ledger.parts)
+    (g.X.Behind.are_blank (length c.args.devices.now.doors) c.args.clocks) (length c.args.devices.now.doors)
+    c.args.clocks 2 c.args.protos.now c.args.blanks c.requires.blanks c.requires.few.0 c.requires.first
+    c.requires.others
 
 pub run_with_one-requires-clause-protos : goal.run_with_one-requires-clause-protos
 run_with_one-requires-clause-protos g c _ _ =
-    protos-from c.args.protos.now 1 c.index-protos-1.result c.in_ok-all.all.first.proto g.N.Name.proto
-    g.X.Desks.means.them (omega (arith, c.requires.few.0)) c.in_ok-all.ensures.proto c.index-protos-1.is
-    c.requires.protos
-
-pub run_with_one-requires-clause-prototypes : goal.run_with_one-requires-clause-prototypes
-run_with_one-requires-clause-prototypes g c _ _ = c.requires.prototypes
-
-pub run_with_one-requires-clause-devices : goal.run_with_one-requires-clause-devices
-run_with_one-requires-clause-devices g c _ _ = c.requires.devices
+    protos-from (length c.args.devices.now.doors) c.args.clocks 1 c.args.protos.now c.args.blanks _ _
+    c.requires.blanks (omega (arith, c.requires.few.0)) refl
+    (c.requires.protos ∙ sym (all-protos g.N.Name.proto g.X.Desks.means.them))
 
 pub run_with_one-requires-clause-few : goal.run_with_one-requires-clause-few
 run_with_one-requires-clause-few g c _ _ = (omega (arith, c.requires.few.0), c.requires.few.1)
+
+pub run_with_one-requires-clause-devices : goal.run_with_one-requires-clause-devices
+run_with_one-requires-clause-devices g c _ _ = c.requires.devices

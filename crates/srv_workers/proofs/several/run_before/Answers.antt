@@ -1,92 +1,85 @@
-use Rattle.std.proofs.Common.{ℕ, ◌-◌, arith, length, subst, sym}
-use Rattle.fm_model.specs.Site.{IsPrototype}
-use Rattle.srv_workers.specs.Opened.{IsSized}
-use Rattle.srv_workers.proofs.CollectLemmas.{all-at, last-two}
+-- The last desk is named, and the one before it gets its name.
+use Rattle.std.proofs.Common.{◌∙◌, ◌-◌, ◌≡◌, ℕ, ap, arith, drop, length, refl, subst}
+use Rattle.srv_workers.proofs.BlankLemmas.{protos-from}
 use Rattle.srv_workers.proofs.several.run_before.Goals as goal
 
-pub blank_before-requires-clause-proto : goal.blank_before-requires-clause-proto
-blank_before-requires-clause-proto g c =
-    all-at IsPrototype c.args.protos.now (length c.args.protos.now - 2) c.index-protos-ahead.result
-    c.requires.prototypes (omega (arith, c.requires.few.0)) c.index-protos-ahead.is
+-- two desks
+pub run_with-requires-clause-blanks : goal.run_with-requires-clause-blanks
+run_with-requires-clause-blanks g c _ _ = c.requires.blanks
 
-pub blank_before-requires-clause-few : goal.blank_before-requires-clause-few
-blank_before-requires-clause-few g c = (
-  omega (arith, c.requires.devices.some, c.len-doors.ensures),
-  omega (arith, c.requires.devices.few, c.len-doors.ensures),
-  c.requires.devices.at_most,
-)
-
--- only the last desk stands behind it
-pub run_with-requires-clause-sized : goal.run_with-requires-clause-sized
-run_with-requires-clause-sized g c _ _ =
-    subst (λ (doors : ℕ). IsSized doors c.args.clocks c.in_ok-both.both.first) c.len-doors.ensures
-    c.in_ok-both.ensures.sized
+pub run_with-requires-clause-first : goal.run_with-requires-clause-first
+run_with-requires-clause-first g c _ _ =
+    record { book_is = refl; ledger_is = refl; proto_is = refl; parts_are = refl }
 
 pub run_with-requires-clause-others : goal.run_with-requires-clause-others
 run_with-requires-clause-others g c _ _ =
-    subst (λ last. g.X.Behind.are_blank (length c.args.devices.now.doors) c.args.clocks last)
-    (sym c.in_ok-both.ensures.others) c.requires.last
+    let last : length c.args.protos.now - 1 ≡ 1 = omega (arith, c.requires.few.0, c.requires.few.1) in
+    let doors = length c.args.devices.now.doors in
+    subst (λ (n : ℕ). g.X.Behind.are_blank doors c.args.clocks (drop n c.args.blanks)) last c.requires.last
 
 pub run_with-requires-clause-protos : goal.run_with-requires-clause-protos
 run_with-requires-clause-protos g c _ _ =
-    last-two c.args.protos.now _ c.index-protos-ahead.result c.in_ok-both.both.first.proto 0
-    (omega (arith, c.requires.few.0, c.requires.few.1)) c.in_ok-both.ensures.proto c.index-protos-ahead.is
-    c.requires.protos
+    let last : 1 ≡ length c.args.protos.now - 1 = omega (arith, c.requires.few.0, c.requires.few.1) in
+    protos-from (length c.args.devices.now.doors) c.args.clocks 0 c.args.protos.now c.args.blanks _ _
+    c.requires.blanks (omega (arith, c.requires.few.0, c.requires.few.1)) refl
+    (ap (λ (n : ℕ). drop n c.args.protos.now) last ∙ c.requires.protos)
+
+pub run_with-requires-clause-few : goal.run_with-requires-clause-few
+run_with-requires-clause-few g c _ _ = (omega (arith, c.requires.few.0), omega (arith, c.requires.few.1))
 
 pub run_with-requires-clause-devices : goal.run_with-requires-clause-devices
 run_with-requires-clause-devices g c _ _ = c.requires.devices
 
-pub run_with-requires-clause-few : goal.run_with-requires-clause-few
-run_with-requires-clause-few g c _ _ = omega (arith, c.requires.few.1)
+-- three desks
+pub run_with_one-requires-clause-blanks : goal.run_with_one-requires-clause-blanks
+run_with_one-requires-clause-blanks g c _ _ = c.requires.blanks
 
--- one stands before both
-pub run_with_one-requires-clause-sized : goal.run_with_one-requires-clause-sized
-run_with_one-requires-clause-sized g c _ _ =
-    subst (λ (doors : ℕ). IsSized doors c.args.clocks c.in_ok-both.both.first) c.len-doors.ensures
-    c.in_ok-both.ensures.sized
+pub run_with_one-requires-clause-first : goal.run_with_one-requires-clause-first
+run_with_one-requires-clause-first g c _ _ =
+    record { book_is = refl; ledger_is = refl; proto_is = refl; parts_are = refl }
 
 pub run_with_one-requires-clause-others : goal.run_with_one-requires-clause-others
 run_with_one-requires-clause-others g c _ _ =
-    subst (λ last. g.X.Behind.are_blank (length c.args.devices.now.doors) c.args.clocks last)
-    (sym c.in_ok-both.ensures.others) c.requires.last
+    let last : length c.args.protos.now - 1 ≡ 2 = omega (arith, c.requires.few.0, c.requires.few.1) in
+    let doors = length c.args.devices.now.doors in
+    subst (λ (n : ℕ). g.X.Behind.are_blank doors c.args.clocks (drop n c.args.blanks)) last c.requires.last
 
 pub run_with_one-requires-clause-protos : goal.run_with_one-requires-clause-protos
 run_with_one-requires-clause-protos g c _ _ =
-    last-two c.args.protos.now _ c.index-protos-ahead.result c.in_ok-both.both.first.proto 1
-    (omega (arith, c.requires.few.0, c.requires.few.1)) c.in_ok-both.ensures.proto c.index-protos-ahead.is
-    c.requires.protos
+    let last : 2 ≡ length c.args.protos.now - 1 = omega (arith, c.requires.few.0, c.requires.few.1) in
+    protos-from (length c.args.devices.now.doors) c.args.clocks 1 c.args.protos.now c.args.blanks _ _
+    c.requires.blanks (omega (arith, c.requires.few.0, c.requires.few.1)) refl
+    (ap (λ (n : ℕ). drop n c.args.protos.now) last ∙ c.requires.protos)
 
-pub run_with_one-requires-clause-prototypes : goal.run_with_one-requires-clause-prototypes
-run_with_one-requires-clause-prototypes g c _ _ = c.requires.prototypes
+pub run_with_one-requires-clause-few : goal.run_with_one-requires-clause-few
+run_with_one-requires-clause-few g c _ _ = (omega (arith, c.requires.few.0), omega (arith, c.requires.few.1))
 
 pub run_with_one-requires-clause-devices : goal.run_with_one-requires-clause-devices
 run_with_one-requires-clause-devices g c _ _ = c.requires.devices
 
-pub run_with_one-requires-clause-few : goal.run_with_one-requires-clause-few
-run_with_one-requires-clause-few g c _ _ = (omega arith, omega (arith, c.requires.few.1))
+-- four desks
+pub run_with_two-requires-clause-blanks : goal.run_with_two-requires-clause-blanks
+run_with_two-requires-clause-blanks g c _ _ = c.requires.blanks
 
--- two stand before both
-pub run_with_two-requires-clause-sized : goal.run_with_two-requires-clause-sized
-run_with_two-requires-clause-sized g c _ _ =
-    subst (λ (doors : ℕ). IsSized doors c.args.clocks c.in_ok-both.both.first) c.len-doors.ensures
-    c.in_ok-both.ensures.sized
+pub run_with_two-requires-clause-first : goal.run_with_two-requires-clause-first
+run_with_two-requires-clause-first g c _ _ =
+    record { book_is = refl; ledger_is = refl; proto_is = refl; parts_are = refl }
 
 pub run_with_two-requires-clause-others : goal.run_with_two-requires-clause-others
 run_with_two-requires-clause-others g c _ _ =
-    subst (λ last. g.X.Behind.are_blank (length c.args.devices.now.doors) c.args.clocks last)
-    (sym c.in_ok-both.ensures.others) c.requires.last
+    let last : length c.args.protos.now - 1 ≡ 3 = omega (arith, c.requires.few.0, c.requires.few.1) in
+    let doors = length c.args.devices.now.doors in
+    subst (λ (n : ℕ). g.X.Behind.are_blank doors c.args.clocks (drop n c.args.blanks)) last c.requires.last
 
 pub run_with_two-requires-clause-protos : goal.run_with_two-requires-clause-protos
 run_with_two-requires-clause-protos g c _ _ =
-    last-two c.args.protos.now _ c.index-protos-ahead.result c.in_ok-both.both.first.proto 2
-    (omega (arith, c.requires.few.0, c.requires.few.1)) c.in_ok-both.ensures.proto c.index-protos-ahead.is
-    c.requires.protos
+    let last : 3 ≡ length c.args.protos.now - 1 = omega (arith, c.requires.few.0, c.requires.few.1) in
+    protos-from (length c.args.devices.now.doors) c.args.clocks 2 c.args.protos.now c.args.blanks _ _
+    c.requires.blanks (omega (arith, c.requires.few.0, c.requires.few.1)) refl
+    (ap (λ (n : ℕ). drop n c.args.protos.now) last ∙ c.requires.protos)
 
-pub run_with_two-requires-clause-prototypes : goal.run_with_two-requires-clause-prototypes
-run_with_two-requires-clause-prototypes g c _ _ = c.requires.prototypes
+pub run_with_two-requires-clause-few : goal.run_with_two-requires-clause-few
+run_with_two-requires-clause-few g c _ _ = (omega (arith, c.requires.few.0), omega (arith, c.requires.few.1))
 
 pub run_with_two-requires-clause-devices : goal.run_with_two-requires-clause-devices
 run_with_two-requires-clause-devices g c _ _ = c.requires.devices
-
-pub run_with_two-requires-clause-few : goal.run_with_two-requires-clause-few
-run_with_two-requires-clause-few g c _ _ = (omega arith, omega (arith, c.requires.few.1))

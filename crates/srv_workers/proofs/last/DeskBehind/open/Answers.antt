@@ -1,18 +1,28 @@
 use Rattle.std.proofs.Common.{◌∙◌, List, ap, get_or, subst, sym}
 use Rattle.fm_model.specs.declared.proto.Proto.{Proto}
 use Rattle.srv_workers.specs.Places.{HasPlaces}
+use Rattle.srv_workers.proofs.BlankLemmas.{first-and, first-there}
 use Rattle.srv_workers.proofs.GivenLemmas.{of-many}
 use Rattle.srv_workers.proofs.OutLemmas.{AreGivenOut-one}
 use Rattle.srv_workers.proofs.last.DeskBehind.open.Goals as goal
 
+-- the blank is there, and named
+pub first_blank-requires : goal.first_blank-requires
+first_blank-requires g c = first-there _ c.requires.blanks
+
+pub open-requires : goal.open-requires
+open-requires g c = (first-and _ _ _ c.requires.blanks c.first_blank.ensures).0.0
+
 -- there are passes, shares and places for all
 pub given_at-given-requires-clause-passes : goal.given_at-given-requires-clause-passes
 given_at-given-requires-clause-passes g c =
-    of-many _ _ _ _ c.in-Ok-open.ensures.passes (c.requires.blanks.1.passes_are)
+    let first = (first-and _ _ _ c.requires.blanks c.first_blank.ensures).0 in
+    of-many _ _ _ _ c.in-Ok-open.ensures.passes first.1.passes_are
 
 pub given_at-given-requires-clause-shares : goal.given_at-given-requires-clause-shares
 given_at-given-requires-clause-shares g c =
-    of-many _ _ _ _ c.in-Ok-open.ensures.shares (c.requires.blanks.1.shares_are)
+    let first = (first-and _ _ _ c.requires.blanks c.first_blank.ensures).0 in
+    of-many _ _ _ _ c.in-Ok-open.ensures.shares first.1.shares_are
 
 pub given_at-given-requires-clause-places : goal.given_at-given-requires-clause-places
 given_at-given-requires-clause-places g c =
@@ -28,4 +38,5 @@ returns-in-Ok-open-clause-given g c =
 
 pub returns-in-Ok-open-clause-parts : goal.returns-in-Ok-open-clause-parts
 returns-in-Ok-open-clause-parts g c number below =
-    sym c.requires.blanks.0.parts_are ∙ c.requires.blanks.1.shares_are
+    let first = (first-and _ _ _ c.requires.blanks c.first_blank.ensures).0 in
+    sym first.0.parts_are ∙ first.1.shares_are
