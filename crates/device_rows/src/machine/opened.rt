@@ -26,14 +26,14 @@ impl Opened {
     // `inbox PATH`. It is false where a line says none.
     pub(crate) fn put_step(
         &mut self,
-        alloc: Global,
+        rt: &HostRuntime,
         ways: &mut Ways,
         step: &str,
         out: &mut Said,
     ) -> bool {
         match step.split_once(' ').unwrap_or((step, "")) {
-            ("open", word) => self.put_open(alloc, word, ways, out),
-            ("inbox", path) => self.put_inbox(alloc, path, out),
+            ("open", word) => self.put_open(rt.alloc(), word, ways, out),
+            ("inbox", path) => self.put_inbox(rt.alloc(), path, out),
             _ => false,
         }
     }

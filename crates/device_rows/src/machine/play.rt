@@ -43,8 +43,16 @@ fn rounds_of(line: &str) -> (u32, &str) {
 }
 
 impl Stepped for Play {
+    // Does the steps of a line so often as it says.
     fn put_step(&mut self, line: &str, out: &mut Said) -> bool {
-        self.put_rounds(line, out)
+        let (count, steps) = rounds_of(line);
+        let mut before = Said::new(self.rt.alloc());
+        let mut known = count > 0;
+        for _ in 0..count {
+            known = known && self.put_next_round(steps, &mut before, out);
+        }
+        drop(before);
+        known
     }
 }
 
@@ -66,18 +74,6 @@ impl Play {
         let known = put_steps(self, lines, out);
         self.ways.put_faults(out);
         out.pop();
-        known
-    }
-
-    // Does the steps of a line so often as it says.
-    fn put_rounds(&mut self, line: &str, out: &mut Said) -> bool {
-        let (count, steps) = rounds_of(line);
-        let mut before = Said::new(self.rt.alloc());
-        let mut known = count > 0;
-        for _ in 0..count {
-            known = known && self.put_next_round(steps, &mut before, out);
-        }
-        drop(before);
         known
     }
 
@@ -107,9 +103,7 @@ impl Play {
     // Does a step. It is false where there is none.
     fn put_one_step(&mut self, step: &str, out: &mut Said) -> bool {
         put_door_step(&self.rt, &mut self.ways.doors, step, out)
-            || self
-                .opened
-                .put_step(self.rt.alloc(), &mut self.ways, step, out)
+            || self.opened.put_step(&self.rt, &mut self.ways, step, out)
             || self.ways.put_step(step, out)
             || put_client_step(&self.rt, self.ways.address(), &mut self.clients, step, out)
             || put_dial_step(&self.rt, self.ways.address(), &mut self.dialled, step, out)
