@@ -10,8 +10,8 @@ use row_text::Said;
 const RESTS: u32 = 20;
 
 // Does a step of the last link: `rest`; `take on`, which rests until a take gives something; `fill` until a put would
-// wait, `fill on` until one fails; `delay` for whether small puts wait for more; and its calls. It is false where a line
-// says none.
+// wait, `fill on` until one fails; `delay` for whether small puts wait for more; and its calls. It is false where a
+// line says none.
 pub(crate) fn put_link_step(
     door: &mut HostDoor,
     links: &mut Vec<HostLink>,
