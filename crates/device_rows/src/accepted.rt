@@ -1,7 +1,6 @@
 //! Accepts over listeners in memory: when they are made, and which is the last.
 
-use crate::linked::word_and_number;
-use crate::turned::put_number_line;
+use crate::stepped::{Stepped, put_number_line, put_steps, word_and_number};
 use crate::turns::{Listener, Turn};
 use dev_host::Entry;
 use dev_traits::Failed;
@@ -11,27 +10,27 @@ use row_text::Said;
 /// made. It is false where a line says none.
 pub fn put_accepts(turns: &[Turn], steps: &str, out: &mut Said) -> bool {
     let mut entry = Entry::new(Listener::new(turns));
-    put_steps(&mut entry, steps, out)
-}
-
-fn put_steps(entry: &mut Entry<Listener<'_>>, steps: &str, out: &mut Said) -> bool {
-    for line in steps.lines() {
-        if !put_step(entry, line, out) {
-            return false;
-        }
-    }
+    let known = put_steps(&mut entry, steps, out);
     out.pop();
-    true
+    known
 }
 
-// Appends what a step does. It is false where a line says none.
-fn put_step(entry: &mut Entry<Listener<'_>>, line: &str, out: &mut Said) -> bool {
-    match (line, word_and_number(line)) {
-        ("wake", _) => entry.wake(),
-        ("due", _) => put_due(entry.due(), entry.has_failed(), out),
-        (_, Some(("accept", now))) => put_next(entry.next_stream(now), out),
-        _ => return false,
+impl Stepped for Entry<Listener<'_>> {
+    fn put_step(&mut self, line: &str, out: &mut Said) -> bool {
+        match line {
+            "wake" => self.wake(),
+            "due" => put_due(self.due(), self.has_failed(), out),
+            _ => return put_accept(self, line, out),
+        }
+        true
     }
+}
+
+fn put_accept(entry: &mut Entry<Listener<'_>>, line: &str, out: &mut Said) -> bool {
+    let Some(("accept", now)) = word_and_number(line) else {
+        return false;
+    };
+    put_next(entry.next_stream(now), out);
     true
 }
 

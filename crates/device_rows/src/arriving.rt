@@ -1,7 +1,7 @@
 //! What arrives in an inbox, as text.
 
 use crate::hearing::Heard;
-use crate::turned::put_number_line;
+use crate::stepped::put_number_line;
 use dev_host::FolderInbox;
 use dev_traits::{Arrival, Failed, Found, Inbox, Verdict};
 use fm_base::Fail;

@@ -1,7 +1,7 @@
 //! The machine's clock, over clocks in memory.
 
 use crate::hearing::Heard;
-use crate::turned::put_number_line;
+use crate::stepped::{put_number_line, text_and_steps, word_and_number};
 use dev_host::RealClock;
 use dev_traits::Clock;
 use fm_base::NoMemory;
@@ -51,49 +51,39 @@ impl rt::Clock for Script<'_> {
     }
 }
 
-// The reading that a word `WALL@STEADY` says.
-fn reading_of(word: &str) -> Option<Reading> {
-    let (wall, steady) = word.split_once('@')?;
-    Some(Reading {
-        wall: wall.parse::<u64>().ok()?,
-        steady: steady.parse::<u64>().ok()?,
-    })
+// The reading that a line `WALL STEADY` says.
+fn reading_of(line: &str) -> Option<Reading> {
+    let (wall, steady) = word_and_number(line)?;
+    let wall = wall.parse::<u64>().ok()?;
+    Some(Reading { wall, steady })
 }
 
-// The readings that words say; `none` says that there are none.
-fn readings_of(alloc: Global, words: &str) -> Result<Option<Vec<Reading>>, NoMemory> {
-    let mut readings = Vec::new(alloc);
-    if words == "none" {
-        return Ok(Some(readings));
-    }
-    for word in words.split_whitespace() {
-        match reading_of(word) {
+// Adds the readings that lines say. It is false where a line says something else.
+fn put_readings(lines: &str, readings: &mut Vec<Reading>) -> Result<bool, NoMemory> {
+    for line in lines.lines() {
+        match reading_of(line) {
             Some(reading) => readings.push(reading)?,
-            None => return Ok(None),
+            None => return Ok(false),
         }
     }
-    Ok(Some(readings))
+    Ok(true)
 }
 
 /// Puts the moments of a clock of this number of ticks, whose machine reads as the row says, and what it tells.
 pub fn put_moments(alloc: Global, row: &Row<'_>, out: &mut Said) -> Result<bool, NoMemory> {
-    if !row.has_each(&["ticks", "reads"]) {
-        return Ok(false);
-    }
-    let (Some(ticks), Some(words)) = (row.value("ticks"), row.value("reads")) else {
+    let Some((ticks, lines)) = text_and_steps(row, "ticks") else {
         return Ok(false);
     };
     let Ok(ticks) = ticks.parse::<u32>() else {
         return Ok(false);
     };
-    match readings_of(alloc, words) {
-        Ok(Some(readings)) => {
-            put_by(alloc, ticks, readings.as_slice(), out);
-            Ok(true)
-        }
-        Ok(None) => Ok(false),
-        Err(NoMemory) => Err(NoMemory),
+    let mut readings = Vec::new(alloc);
+    let known = put_readings(lines, &mut readings);
+    if let Ok(true) = known {
+        put_by(alloc, ticks, readings.as_slice(), out);
     }
+    drop(readings);
+    known
 }
 
 fn put_by(alloc: Global, ticks: u32, readings: &[Reading], out: &mut Said) {

@@ -22,22 +22,31 @@ struct Folder {
 impl Folder {
     // A folder whose name no other row has.
     fn new(rt: &HostRuntime, line: usize) -> io::Result<Folder> {
-        let alloc = rt.alloc();
-        let name = format!(in alloc; "fmrcd-rows-{}-{line}", process::id(rt.process()))?;
-        let path = env::temp_dir(rt)?.join(alloc, name.as_str())?;
-        fs::create_dir(rt, path.as_str())?;
-        Ok(Folder { path })
+        let path = path_of(rt, line)?;
+        match fs::create_dir(rt, path.as_str()) {
+            Ok(()) => Ok(Folder { path }),
+            Err(error) => {
+                drop(path);
+                Err(error)
+            }
+        }
     }
 
     // Changes what lies there, or looks at it: `put NAME`, a file that has its name as its content; `link NAME`, a link
     // to `source`; `remove NAME`; `mkdir NAME`; `rmdir NAME`; `has NAME`.
-    fn change(&self, rt: &HostRuntime, line: &str, out: &mut Said) -> io::Result<bool> {
-        let (word, name) = line.split_once(' ').unwrap_or((line, ""));
+    fn change(&self, rt: &HostRuntime, word: &str, name: &str, out: &mut Said) -> io::Result<bool> {
         let path = self.path.join(rt.alloc(), name)?;
         let changed = change_at(rt, word, name, path.as_str(), out);
         drop(path);
         changed
     }
+}
+
+// A path that no other row has, nor another process.
+fn path_of(rt: &HostRuntime, line: usize) -> io::Result<PathBuf> {
+    let alloc = rt.alloc();
+    let name = format!(in alloc; "fmrcd-rows-{}-{line}", process::id(rt.process()))?;
+    Ok(env::temp_dir(rt)?.join(alloc, name.as_str())?)
 }
 
 // Does what a word says at the path of a name.
@@ -61,11 +70,8 @@ fn change_at(
     Ok(true)
 }
 
-// Appends what is read of a file, up to a limit: `read LIMIT NAME`. It is false where a line says something else.
-fn put_read(rt: &HostRuntime, folder: &Folder, line: &str, out: &mut Said) -> bool {
-    let Some(("read", words)) = line.split_once(' ') else {
-        return false;
-    };
+// Appends what is read of a file: `LIMIT NAME`. It is false where words say something else.
+fn put_read(rt: &HostRuntime, folder: &Folder, words: &str, out: &mut Said) -> bool {
     let Some((limit, name)) = words.split_once(' ') else {
         return false;
     };
@@ -126,26 +132,24 @@ pub fn put_folder(
     let Ok(folder) = Folder::new(&rt, row.line) else {
         return Ok(false);
     };
-    let known = begin(&rt, &folder, row.value("folder").unwrap_or(""), out)
-        && go_through(rt, alloc, &folder, row, out)?;
-    if fs::remove_dir_all(&rt, folder.path.as_str()).is_err() {
-        return Ok(false);
-    }
+    let known = go_through(rt, alloc, &folder, row, out);
+    let is_removed = fs::remove_dir_all(&rt, folder.path.as_str()).is_ok();
+    drop(folder);
     out.pop();
-    Ok(known)
+    match known {
+        Ok(known) => Ok(known && is_removed),
+        Err(NoMemory) => Err(NoMemory),
+    }
 }
 
 // Puts the files there, and makes the folders.
 fn begin(rt: &HostRuntime, folder: &Folder, names: &str, out: &mut Said) -> bool {
     for name in names.split_whitespace() {
-        let line = match name.strip_suffix('/') {
-            Some(name) => format!(in rt.alloc(); "mkdir {name}"),
-            None => format!(in rt.alloc(); "put {name}"),
+        let (word, name) = match name.strip_suffix('/') {
+            Some(name) => ("mkdir", name),
+            None => ("put", name),
         };
-        let Ok(line) = line else {
-            return false;
-        };
-        if folder.change(rt, line.as_str(), out).is_err() {
+        if folder.change(rt, word, name, out).is_err() {
             return false;
         }
     }
@@ -171,7 +175,7 @@ fn change_others(stops: &Stops, line: &str) -> bool {
     true
 }
 
-// Opens the inbox, and does the steps.
+// Puts the files there, opens the inbox, and does the steps.
 fn go_through(
     rt: HostRuntime,
     alloc: Global,
@@ -179,13 +183,29 @@ fn go_through(
     row: &Row<'_>,
     out: &mut Said,
 ) -> Result<bool, NoMemory> {
+    if !begin(&rt, folder, row.value("folder").unwrap_or(""), out) {
+        return Ok(false);
+    }
     let stops = stops_of(alloc, row)?;
-    let shared = stops.share()?;
+    let steps = row.value("steps").unwrap_or("");
+    let done = open(rt, alloc, folder, &stops, steps, out);
+    drop(stops);
+    done
+}
+
+// Opens the inbox, and does the steps.
+fn open(
+    rt: HostRuntime,
+    alloc: Global,
+    folder: &Folder,
+    stops: &Stops,
+    steps: &str,
+    out: &mut Said,
+) -> Result<bool, NoMemory> {
     let path = folder.path.as_str().as_bytes();
-    match FolderInbox::open(rt, Heard::new(alloc), shared, alloc, path) {
+    match FolderInbox::open(rt, Heard::new(alloc), stops.share()?, alloc, path) {
         Ok(mut inbox) => {
-            let steps = row.value("steps").unwrap_or("");
-            let done = do_steps(&rt, alloc, &mut inbox, folder, &stops, steps, out);
+            let done = do_steps(&rt, alloc, &mut inbox, folder, stops, steps, out);
             drop(inbox);
             Ok(done)
         }
@@ -210,11 +230,21 @@ fn do_steps(
     for line in steps.lines() {
         let is_done = put_step(alloc, inbox, folder.path.as_str(), line, out)
             || change_others(stops, line)
-            || put_read(rt, folder, line, out)
-            || folder.change(rt, line, out).unwrap_or(false);
+            || do_in(rt, folder, line, out);
         if !is_done {
             return false;
         }
     }
     true
+}
+
+// Does a step in a folder. It is false where there is none, or it fails.
+fn do_in(rt: &HostRuntime, folder: &Folder, line: &str, out: &mut Said) -> bool {
+    let Some((word, words)) = line.split_once(' ') else {
+        return false;
+    };
+    if word == "read" {
+        return put_read(rt, folder, words, out);
+    }
+    folder.change(rt, word, words, out).unwrap_or(false)
 }

@@ -47,12 +47,16 @@ fn put_inside(lines: Said, folder: &str, out: &mut Said) {
 
 fn put_each(lines: &str, folder: &str, out: &mut Said) {
     for line in lines.lines() {
-        let (word, rest) = line.split_once(folder).unwrap_or(("", line));
-        out.put(word);
-        out.put("in");
-        out.put(rest);
-        out.put("\n");
+        put_inside_line(line.split_once(folder).unwrap_or(("", line)), out);
     }
+}
+
+// Appends a line that has these parts before and behind the path.
+fn put_inside_line((word, rest): (&str, &str), out: &mut Said) {
+    out.put(word);
+    out.put("in");
+    out.put(rest);
+    out.put("\n");
 }
 
 // Adds a line to these. A part that isn't text is left out.

@@ -1,7 +1,6 @@
 //! Keys in a wheel of seconds.
 
-use crate::linked::word_and_number;
-use crate::turned::{put_number_line, text_and_steps};
+use crate::stepped::{Stepped, put_number_line, put_steps, text_and_steps, word_and_number};
 use dev_host::Wheel;
 use fm_base::NoMemory;
 use row_text::{Row, Said};
@@ -18,36 +17,35 @@ pub fn put_wheel(alloc: Global, row: &Row<'_>, out: &mut Said) -> Result<bool, N
         return Ok(false);
     };
     let mut wheel = Wheel::new(alloc, second);
-    put_steps(&mut wheel, steps, out)
+    let done = put_all(&mut wheel, steps, out);
+    drop(wheel);
+    done
 }
 
-fn put_steps(wheel: &mut Wheel, steps: &str, out: &mut Said) -> Result<bool, NoMemory> {
+fn put_all(wheel: &mut Wheel, steps: &str, out: &mut Said) -> Result<bool, NoMemory> {
     wheel.make_room(9)?;
-    for line in steps.lines() {
-        if !put_step(wheel, line, out) {
-            return Ok(false);
-        }
-    }
+    let known = put_steps(wheel, steps, out);
     out.pop();
-    Ok(true)
+    Ok(known)
 }
 
-// Appends what a step does. It is false where a line says none.
-fn put_step(wheel: &mut Wheel, line: &str, out: &mut Said) -> bool {
-    match line {
-        "due" => put_due(wheel.next_due(), out),
-        "hurry" => wheel.hurry(),
-        "clear" => wheel.clear(),
-        _ => return put_change(wheel, line, out),
+impl Stepped for Wheel {
+    fn put_step(&mut self, line: &str, out: &mut Said) -> bool {
+        match line {
+            "due" => put_due(self.next_due(), out),
+            "hurry" => self.hurry(),
+            "clear" => self.clear(),
+            _ => return put_change(self, line, out),
+        }
+        true
     }
-    true
 }
 
 // Appends what the step of a key does, or of a second. It is false where a line says none.
 fn put_change(wheel: &mut Wheel, line: &str, out: &mut Said) -> bool {
-    match line.split_once(' ') {
-        Some(("pop", second)) => put_popped(wheel, second.parse::<u64>().ok(), out),
-        Some(("put", words)) => put_key(wheel, words),
+    match line.split_once(' ').unwrap_or((line, "")) {
+        ("pop", second) => put_popped(wheel, second.parse::<u64>().ok(), out),
+        ("put", words) => put_key(wheel, words),
         _ => false,
     }
 }

@@ -15,6 +15,7 @@ mod listed;
 mod machine;
 mod prefixed;
 mod remembered;
+mod stepped;
 mod streamed;
 mod turned;
 mod turns;
@@ -22,7 +23,7 @@ mod turns;
 use fm_base::NoMemory;
 use row_text::{Answers, Row, Said};
 use std::alloc::{AllocError, Global};
-use turned::{Device, put_over_turns};
+use turned::put_over_turns;
 
 /// The machine on which rows run.
 #[derive(Drop)]
@@ -39,34 +40,40 @@ impl Answers for Devices {
     }
 }
 
-// Puts what comes out of a row's steps, by the device that its first key names.
+// Puts what comes out of a row, by the device that the key behind its name says.
 fn put_answer(
     rt: HostRuntime,
     alloc: Global,
     row: &Row<'_>,
     out: &mut Said,
 ) -> Result<bool, NoMemory> {
-    for field in &row.fields {
-        return match field.key {
-            "link" => put_over_turns(alloc, row, Device::Link, out),
-            "ending" => put_over_turns(alloc, row, Device::Ending, out),
-            "accepts" => put_over_turns(alloc, row, Device::Accepts, out),
-            "blocking" => put_over_turns(alloc, row, Device::Blocking, out),
-            "sink" => put_over_turns(alloc, row, Device::Sink, out),
-            "whole" => put_over_turns(alloc, row, Device::Whole, out),
-            "room" => remembered::put_room(alloc, row, out),
-            "play" => Ok(machine::put_play(rt, row, out)),
-            "of" => Ok(machine::put_fact(rt, row, out)),
-            "sending" => Ok(linked::put_sending(row, out)),
-            "wheel" => keyed::put_wheel(alloc, row, out),
-            "limits" => Ok(limited::put_limits(row, out)),
-            "line" => Ok(limited::put_line(alloc, row, out)),
-            "collections" => prefixed::put_collections(alloc, row, out),
-            "ticks" => clocked::put_moments(alloc, row, out),
-            "names" => listed::put_names(rt, alloc, row, out),
-            "folder" => foldered::put_folder(rt, alloc, row, out),
-            _ => continue,
-        };
+    let Some(field) = row.fields.get(1) else {
+        return Ok(false);
+    };
+    match field.key {
+        "play" => Ok(machine::put_play(rt, row, out)),
+        "of" => Ok(machine::put_fact(rt, row, out)),
+        "names" => listed::put_names(rt, alloc, row, out),
+        "folder" => foldered::put_folder(rt, alloc, row, out),
+        key => put_in_memory(alloc, key, row, out),
     }
-    Ok(false)
+}
+
+// Puts what comes out of a row of a device that isn't the machine's.
+fn put_in_memory(
+    alloc: Global,
+    key: &str,
+    row: &Row<'_>,
+    out: &mut Said,
+) -> Result<bool, NoMemory> {
+    match key {
+        "memory" => remembered::put_memory(alloc, row, out),
+        "wheel" => keyed::put_wheel(alloc, row, out),
+        "collections" => prefixed::put_collections(alloc, row, out),
+        "ticks" => clocked::put_moments(alloc, row, out),
+        "sending" => Ok(linked::put_sending(row, out)),
+        "limits" => Ok(limited::put_limits(row, out)),
+        "line" => Ok(limited::put_line(alloc, row, out)),
+        _ => put_over_turns(alloc, row, key, out),
+    }
 }

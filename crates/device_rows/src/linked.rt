@@ -1,17 +1,16 @@
 //! Links over streams in memory: when their time is over, and how they end.
 
-use crate::turned::put_number_line;
+use crate::stepped::{Stepped, put_number_line, put_steps, word_and_number};
 use crate::turns::{Stream, Ticking, Turn};
 use dev_host::{Ending, Pace, Patience, PolledLink, Sending};
 use dev_traits::{Failed, Link, Sent, Taken};
 use row_text::{Row, Said};
 
-type Timed<'a> = PolledLink<Stream<'a>, &'a Ticking>;
-
-// A word and a moment behind it.
-pub(crate) fn word_and_number(line: &str) -> Option<(&str, u64)> {
-    let (word, number) = line.split_once(' ')?;
-    Some((word, number.parse::<u64>().ok()?))
+// A link over a stream, and the clock that it reads.
+#[derive(Drop)]
+struct Timed<'a> {
+    clock: &'a Ticking,
+    link: PolledLink<Stream<'a>, &'a Ticking>,
 }
 
 /// Appends what calls of a link do at some moments, in milliseconds after it came, a line for each: `take` and `put`
@@ -19,34 +18,32 @@ pub(crate) fn word_and_number(line: &str) -> Option<(&str, u64)> {
 /// is false where a line says none.
 pub fn put_link(turns: &[Turn], steps: &str, out: &mut Said) -> bool {
     let clock = Ticking::new(0);
-    let mut link = PolledLink::new(&clock, Stream::new(turns), 0, Patience::of_server());
-    put_calls(&clock, &mut link, steps, out)
-}
-
-fn put_calls(clock: &Ticking, link: &mut Timed<'_>, steps: &str, out: &mut Said) -> bool {
-    for line in steps.lines() {
-        if !put_call(clock, link, line, out) {
-            return false;
-        }
-    }
-    out.put_number("", link.faults());
-    out.put(" faults");
-    true
-}
-
-// Appends what a call does. It is false where a line says none.
-fn put_call(clock: &Ticking, link: &mut Timed<'_>, line: &str, out: &mut Said) -> bool {
-    let Some((word, now)) = word_and_number(line) else {
-        return false;
+    let link = PolledLink::new(&clock, Stream::new(turns), 0, Patience::of_server());
+    let mut timed = Timed {
+        clock: &clock,
+        link,
     };
-    clock.set(now);
-    match word {
-        "take" => put_taken(link.take(&mut [0u8; 4]), out),
-        "put" => put_sent(link.put(b"abcd"), out),
-        "hurry" => link.hurry(),
-        _ => return false,
+    let known = put_steps(&mut timed, steps, out);
+    out.put_number("", timed.link.faults());
+    out.put(" faults");
+    drop(timed);
+    known
+}
+
+impl Stepped for Timed<'_> {
+    fn put_step(&mut self, line: &str, out: &mut Said) -> bool {
+        let Some((word, now)) = word_and_number(line) else {
+            return false;
+        };
+        self.clock.set(now);
+        match word {
+            "take" => put_taken(self.link.take(&mut [0u8; 4]), out),
+            "put" => put_sent(self.link.put(b"abcd"), out),
+            "hurry" => self.link.hurry(),
+            _ => return false,
+        }
+        true
     }
-    true
 }
 
 fn put_taken(taken: Result<Taken, Failed>, out: &mut Said) {
@@ -70,7 +67,10 @@ fn put_sent(sent: Result<Sent, Failed>, out: &mut Said) {
 /// is over at some moments. It is false where a line says none.
 pub fn put_end(turns: &[Turn], steps: &str, out: &mut Said) -> bool {
     let mut ending = Ending::new(Stream::new(turns), 0);
-    put_drops(&mut ending, steps, out)
+    put_closed(ending.stream.ended(), out);
+    let known = put_steps(&mut ending, steps, out);
+    drop(ending);
+    known
 }
 
 fn put_closed(calls: Option<usize>, out: &mut Said) {
@@ -83,19 +83,18 @@ fn put_closed(calls: Option<usize>, out: &mut Said) {
     }
 }
 
-fn put_drops(ending: &mut Ending<Stream<'_>>, steps: &str, out: &mut Said) -> bool {
-    put_closed(ending.stream.ended(), out);
-    for line in steps.lines() {
+impl Stepped for Ending<Stream<'_>> {
+    fn put_step(&mut self, line: &str, out: &mut Said) -> bool {
         let Some(("drop", now)) = word_and_number(line) else {
             return false;
         };
-        out.put(if ending.drop_more(now) {
+        out.put(if self.drop_more(now) {
             "\nover"
         } else {
             "\ngoes on"
         });
+        true
     }
-    true
 }
 
 /// Puts the moment at which the time of a link is over that began to send at the moment 1,000, and sent the row's

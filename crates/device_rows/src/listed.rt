@@ -35,8 +35,7 @@ struct Names {
 
 impl Read for Names {
     fn read(&mut self, buf: &mut [u8]) -> io::Result<usize> {
-        let front = self.bytes.get(..self.len).unwrap_or(b"");
-        let mut left = front.get(self.at..).unwrap_or(b"");
+        let mut left = self.bytes.get(self.at..self.len).unwrap_or(b"");
         if left.is_empty() && self.fails {
             return Err(refused());
         }
@@ -123,7 +122,8 @@ fn names_of(alloc: Global, words: &str, fails: bool) -> Result<Option<Names>, Al
 
 // The names between blanks, where there is room for them, each ended by a NUL.
 fn listed(names: &mut Vec<u8>, fails: bool) -> Result<Option<Names>, AllocError> {
-    end_each(names)?;
+    end_each(names.as_mut_slice());
+    names.push(0)?;
     let mut room = [0; ROOM];
     let mut left = names.as_slice();
     let Ok(len) = left.read(&mut room) else {
@@ -195,13 +195,11 @@ fn put_steps(
     true
 }
 
-// Ends each name by a NUL.
-fn end_each(names: &mut Vec<u8>) -> Result<(), AllocError> {
-    for byte in names.as_mut_slice() {
+// Puts a NUL in place of each blank.
+fn end_each(names: &mut [u8]) {
+    for byte in names {
         if *byte == b' ' {
             *byte = 0;
         }
     }
-    names.push(0)?;
-    Ok(())
 }

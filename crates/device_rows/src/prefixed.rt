@@ -1,6 +1,6 @@
 //! What the lines about the collections of a server begin with.
 
-use crate::turned::text_and_steps;
+use crate::stepped::{Stepped, put_steps, text_and_steps};
 use dev_host::{Collections, Prefix};
 use fm_base::{Bytes, List, NoMemory};
 use row_text::{Row, Said};
@@ -32,20 +32,21 @@ pub fn put_collections(alloc: Global, row: &Row<'_>, out: &mut Said) -> Result<b
         return Ok(false);
     };
     let mut collections = collections_of(alloc, text)?;
-    Ok(put_steps(&mut collections, steps, out))
+    let known = put_steps(&mut collections, steps, out);
+    drop(collections);
+    out.pop();
+    Ok(known)
 }
 
-fn put_steps(collections: &mut Collections, steps: &str, out: &mut Said) -> bool {
-    for step in steps.lines() {
-        let prefix = match step {
-            "inbox" => collections.next_inbox(),
-            "clock" => collections.next_clock(),
+impl Stepped for Collections {
+    fn put_step(&mut self, line: &str, out: &mut Said) -> bool {
+        match line {
+            "inbox" => put_line(self.next_inbox(), out),
+            "clock" => put_line(self.next_clock(), out),
             _ => return false,
-        };
-        put_line(prefix, out);
+        }
+        true
     }
-    out.pop();
-    true
 }
 
 fn put_line(prefix: Prefix, out: &mut Said) {

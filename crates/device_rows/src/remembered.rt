@@ -1,7 +1,7 @@
 //! Links and sinks in memory: what neither a clause nor another row says of them.
 
 use crate::calls::{put_calls, put_shown_line, put_texts};
-use crate::turned::text_and_steps;
+use crate::stepped::{text_and_steps, word_and_number};
 use dev_memory::{MemLink, MemSink};
 use fm_base::{List, NoMemory};
 use row_text::{Row, Said};
@@ -26,18 +26,14 @@ fn formed(link: MemLink, form: &str) -> Option<MemLink> {
     }
 }
 
-// The room and the form of a row's link, or of its sink, and its steps.
-fn given<'a>(row: &'a Row<'_>, key: &str) -> Option<(usize, &'a str, &'a str)> {
-    let (words, steps) = text_and_steps(row, key)?;
-    let (room, form) = words.split_once(' ').unwrap_or((words, ""));
-    Some((room.parse::<usize>().ok()?, form, steps))
-}
-
-/// Puts what calls of a link in memory give that a row's `room` describes, and then what it has put.
-pub fn put_room(alloc: Global, row: &Row<'_>, out: &mut Said) -> Result<bool, NoMemory> {
-    match given(row, "room") {
-        Some((room, "sink", steps)) => put_sink(alloc, room, steps, out),
-        Some((room, form, steps)) => put_link(alloc, room, form, steps, out),
+/// Puts what calls of a link in memory give that a row describes, and then what it has put.
+pub fn put_memory(alloc: Global, row: &Row<'_>, out: &mut Said) -> Result<bool, NoMemory> {
+    let Some((words, steps)) = text_and_steps(row, "memory") else {
+        return Ok(false);
+    };
+    match word_and_number(words) {
+        Some(("sink", room)) => put_sink(alloc, room as usize, steps, out),
+        Some((form, room)) => put_link(alloc, room as usize, form, steps, out),
         None => Ok(false),
     }
 }

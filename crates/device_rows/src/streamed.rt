@@ -2,7 +2,7 @@
 
 use crate::calls::{put_calls, put_texts};
 use crate::hearing::Heard;
-use crate::turned::put_number_line;
+use crate::stepped::{put_number_line, word_and_number};
 use crate::turns::{Turn, next_turn, taken};
 use dev_host::Tell;
 use dev_std::{StreamLink, StreamSink, read_to_end};
@@ -76,7 +76,7 @@ pub fn put_blocking(alloc: Global, turns: &[Turn], steps: &str, out: &mut Said) 
     let mut link = StreamLink::new(reader, Writer::new(&heard, turns));
     let known = put_calls(&mut link, steps, out);
     drop(link);
-    end(heard, out);
+    put_pieces(heard, out);
     known
 }
 
@@ -87,11 +87,11 @@ pub fn put_sink(alloc: Global, turns: &[Turn], steps: &str, out: &mut Said) -> b
     let mut sink = StreamSink::new(Writer::new(&heard, turns));
     let known = put_texts(&mut sink, steps, out);
     drop(sink);
-    end(heard, out);
+    put_pieces(heard, out);
     known
 }
 
-fn end(heard: Heard, out: &mut Said) {
+fn put_pieces(heard: Heard, out: &mut Said) {
     heard.put_all(out);
     drop(heard);
     out.pop();
@@ -119,8 +119,7 @@ pub fn put_whole(alloc: Global, turns: &[Turn], steps: &str, out: &mut Said) -> 
 }
 
 fn put_read(alloc: Global, turns: &[Turn], line: &str, out: &mut Said) -> Option<()> {
-    let (count, limit) = line.split_once(' ')?;
-    let limit = limit.parse::<u64>().ok()?;
+    let (count, limit) = word_and_number(line)?;
     let all = many(alloc, count.parse::<u32>().ok()?)?;
     let found = read_to_end(alloc, Reader::new(all.as_slice(), turns), 0, limit);
     put_same(&found, all.as_slice(), out);

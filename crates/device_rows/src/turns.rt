@@ -3,7 +3,6 @@ ghost use Rattle.std.specs.Prelude.{◌≤◌, IfOk};
 
 use dev_host::{Listener as Listens, Socket};
 use fm_base::NoMemory;
-use std::alloc::Global;
 use std::cell::Cell;
 use std::io::{self, Error, ErrorKind, Read, Write};
 use std::rt;
@@ -25,30 +24,28 @@ pub(crate) enum Turn {
 
 // The turn that a word says.
 fn turn_of(word: &str) -> Option<Turn> {
-    match (word, word.parse::<i32>()) {
-        ("all", _) => Some(Turn::All),
-        ("one", _) => Some(Turn::One),
-        ("none", _) => Some(Turn::Nothing),
-        ("later", _) => Some(Turn::Fails(ErrorKind::WouldBlock)),
-        ("interrupted", _) => Some(Turn::Fails(ErrorKind::Interrupted)),
-        ("aborted", _) => Some(Turn::Fails(ErrorKind::ConnectionAborted)),
-        ("reset", _) => Some(Turn::Fails(ErrorKind::ConnectionReset)),
-        ("broken", _) => Some(Turn::Fails(ErrorKind::BrokenPipe)),
-        (_, Ok(number)) => Some(Turn::Number(number)),
-        _ => None,
-    }
+    Some(match word {
+        "all" => Turn::All,
+        "one" => Turn::One,
+        "none" => Turn::Nothing,
+        "later" => Turn::Fails(ErrorKind::WouldBlock),
+        "interrupted" => Turn::Fails(ErrorKind::Interrupted),
+        "aborted" => Turn::Fails(ErrorKind::ConnectionAborted),
+        "reset" => Turn::Fails(ErrorKind::ConnectionReset),
+        "broken" => Turn::Fails(ErrorKind::BrokenPipe),
+        number => Turn::Number(number.parse::<i32>().ok()?),
+    })
 }
 
-// The turns that words say, at least one.
-pub(crate) fn turns_of(alloc: Global, words: &str) -> Result<Option<Vec<Turn>>, NoMemory> {
-    let mut turns = Vec::new(alloc);
+// Adds the turns that words say. It is false where there are none, or a word says something else.
+pub(crate) fn put_turns(words: &str, turns: &mut Vec<Turn>) -> Result<bool, NoMemory> {
     for word in words.split_whitespace() {
         match turn_of(word) {
             Some(turn) => turns.push(turn)?,
-            None => return Ok(None),
+            None => return Ok(false),
         }
     }
-    Ok(if turns.is_empty() { None } else { Some(turns) })
+    Ok(!turns.is_empty())
 }
 
 // The bytes, at most `most`, that a call takes.

@@ -29,7 +29,21 @@ pub fn run<A: Answers>(
     answers: &A,
     count: &mut Count,
 ) -> io::Result<()> {
-    for row in &rows(alloc, text)? {
+    let rows = rows(alloc, text)?;
+    let ran = run_rows(rt, alloc, path, rows.as_slice(), answers, count);
+    drop(rows);
+    ran
+}
+
+fn run_rows<A: Answers>(
+    rt: &impl Eprint,
+    alloc: Global,
+    path: &str,
+    rows: &[Row<'_>],
+    answers: &A,
+    count: &mut Count,
+) -> io::Result<()> {
+    for row in rows {
         run_row(rt, alloc, path, row, answers, count)?;
     }
     Ok(())
@@ -77,12 +91,13 @@ fn is_wanted(row: &Row<'_>, got: Option<&str>) -> bool {
 // Prints a row's name, its answer and the wanted one.
 fn report(rt: &impl Eprint, path: &str, row: &Row<'_>, got: Option<&str>) -> io::Result<()> {
     let name = row.value("name").unwrap_or("(no name)");
-    let want = row.value("want").unwrap_or("(no want)");
-    let got = got.unwrap_or("(a row of another form)");
-    eprintln!(rt;
-        "{path}:{}: {name}\n-- got\n{got}\n-- want\n{want}",
-        row.line
-    )
+    eprintln!(rt; "{path}:{}: {name}", row.line)?;
+    print_under(rt, "got", got.unwrap_or("(a row of another form)"))?;
+    print_under(rt, "want", row.value("want").unwrap_or("(no want)"))
+}
+
+fn print_under(rt: &impl Eprint, title: &str, text: &str) -> io::Result<()> {
+    eprintln!(rt; "-- {title}\n{text}")
 }
 
 /// Prints the counts. The exit status is 0 where no row was wrong.

@@ -108,8 +108,7 @@ impl Said {
     fn put_byte(&mut self, byte: u8) {
         match byte {
             b'\r' => self.put("\\r"),
-            b'\\' => self.put("\\x5c"),
-            b'\n' | 32..=126 => self.put_char(byte as char),
+            b'\n' | b' '..=b'[' | b']'..=b'~' => self.put_char(byte as char),
             _ => {
                 self.put("\\x");
                 self.put_digits(byte);

@@ -66,15 +66,19 @@ impl<'a> Row<'a> {
         }
     }
 
+    // Adds a line: a field, or more of the value of the last one.
+    fn add_text(&mut self, alloc: Global, line: &'a str) -> Result<(), AllocError> {
+        if let Some(more) = line.strip_prefix('|') {
+            return self.add_line(alloc, more.strip_prefix(' ').unwrap_or(more));
+        }
+        let (key, value) = line.split_once(':').unwrap_or(("", line));
+        self.add(alloc, key, value.trim())
+    }
+
     // Appends a line to the value of the last field; one that stands below no field gets an empty key.
     fn add_line(&mut self, alloc: Global, line: &'a str) -> Result<(), AllocError> {
         match self.fields.last_mut() {
-            Some(field) => {
-                if !field.value.is_empty() {
-                    field.value.push('\n')?;
-                }
-                field.value.push_str(line)
-            }
+            Some(field) => append_line(&mut field.value, line),
             None => self.add(alloc, "", line),
         }
     }
@@ -83,6 +87,13 @@ impl<'a> Row<'a> {
         let value = String::from_str(alloc, value)?;
         Ok(self.fields.push(Field { key, value })?)
     }
+}
+
+fn append_line(text: &mut String, line: &str) -> Result<(), AllocError> {
+    if !text.is_empty() {
+        text.push('\n')?;
+    }
+    text.push_str(line)
 }
 
 fn is_among(key: &str, keys: &[&str]) -> bool {
@@ -108,17 +119,15 @@ pub fn put_rows<'a>(
     text: &'a str,
     rows: &mut Vec<Row<'a>>,
 ) -> Result<(), AllocError> {
-    let mut first = 1usize;
-    let mut begins = true;
+    let mut first = Some(1);
     for (number, line) in text.lines().enumerate() {
         if line.trim_end().is_empty() {
-            first = number.saturating_add(2);
-            begins = true;
+            first = Some(number.saturating_add(2));
         } else if !line.starts_with('#') {
-            if begins {
+            if let Some(first) = first {
                 rows.push(Row::new(alloc, first))?;
             }
-            begins = false;
+            first = None;
             add_to_last(alloc, rows, line)?;
         }
     }
@@ -131,12 +140,8 @@ fn add_to_last<'a>(
     rows: &mut Vec<Row<'a>>,
     line: &'a str,
 ) -> Result<(), AllocError> {
-    let Some(row) = rows.last_mut() else {
-        return Ok(());
-    };
-    if let Some(more) = line.strip_prefix('|') {
-        return row.add_line(alloc, more.strip_prefix(' ').unwrap_or(more));
+    match rows.last_mut() {
+        Some(row) => row.add_text(alloc, line),
+        None => Ok(()),
     }
-    let (key, value) = line.split_once(':').unwrap_or(("", line));
-    row.add(alloc, key, value.trim())
 }

@@ -2,9 +2,11 @@
 
 use super::clients::put_client_step;
 use super::dialled::{Dialled, put_dial_step};
+use super::doors::put_door_step;
 use super::opened::Opened;
 use super::timed::put_time_step;
 use super::ways::Ways;
+use crate::stepped::{Stepped, put_steps};
 use row_text::{Row, Said};
 use std::net::TcpStream;
 use std::time::Instant;
@@ -40,6 +42,20 @@ fn rounds_of(line: &str) -> (u32, &str) {
     }
 }
 
+impl Stepped for Play {
+    // Does the steps of a line so often as it says.
+    fn put_step(&mut self, line: &str, out: &mut Said) -> bool {
+        let (count, steps) = rounds_of(line);
+        let mut before = Said::new(self.rt.alloc());
+        let mut known = count > 0;
+        for _ in 0..count {
+            known = known && self.put_next_round(steps, &mut before, out);
+        }
+        drop(before);
+        known
+    }
+}
+
 impl Play {
     fn new(rt: HostRuntime) -> Play {
         let alloc = rt.alloc();
@@ -55,25 +71,9 @@ impl Play {
 
     // Does each line, and then puts how many calls of each door have failed. It is false where a line says no step.
     fn put_lines(&mut self, lines: &str, out: &mut Said) -> bool {
-        for line in lines.lines() {
-            let (count, steps) = rounds_of(line);
-            if !self.put_rounds(count, steps, out) {
-                return false;
-            }
-        }
+        let known = put_steps(self, lines, out);
         self.ways.put_faults(out);
         out.pop();
-        true
-    }
-
-    // Does the steps so often.
-    fn put_rounds(&mut self, count: u32, steps: &str, out: &mut Said) -> bool {
-        let mut before = Said::new(self.rt.alloc());
-        let mut known = count > 0;
-        for _ in 0..count {
-            known = known && self.put_next_round(steps, &mut before, out);
-        }
-        drop(before);
         known
     }
 
@@ -93,7 +93,7 @@ impl Play {
 
     fn put_round(&mut self, steps: &str, out: &mut Said) -> bool {
         for step in steps.split(';') {
-            if !self.put_step(step.trim(), out) {
+            if !self.put_one_step(step.trim(), out) {
                 return false;
             }
         }
@@ -101,8 +101,9 @@ impl Play {
     }
 
     // Does a step. It is false where there is none.
-    fn put_step(&mut self, step: &str, out: &mut Said) -> bool {
-        self.opened.put_step(&self.rt, &mut self.ways, step, out)
+    fn put_one_step(&mut self, step: &str, out: &mut Said) -> bool {
+        put_door_step(&self.rt, &mut self.ways.doors, step, out)
+            || self.opened.put_step(&self.rt, &mut self.ways, step, out)
             || self.ways.put_step(step, out)
             || put_client_step(&self.rt, self.ways.address(), &mut self.clients, step, out)
             || put_dial_step(&self.rt, self.ways.address(), &mut self.dialled, step, out)

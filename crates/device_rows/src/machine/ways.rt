@@ -1,7 +1,7 @@
 //! Doors of the machine, and the links that come through them.
 
 use super::links::put_link_step;
-use crate::turned::put_number_line;
+use crate::stepped::put_number_line;
 use dev_host::{TcpDoor, TcpLink, Teller};
 use dev_traits::{Coming, Door, Failed};
 use row_text::Said;
@@ -40,8 +40,8 @@ impl Ways {
             return false;
         };
         match step {
-            "next" => put_next(door, &mut self.links, 0, out),
-            "ready" => put_next(door, &mut self.links, 1, out),
+            "next" => put_next(door, &mut self.links, false, out),
+            "ready" => put_next(door, &mut self.links, true, out),
             "done" => give_back(door, &mut self.links),
             _ => put_link_step(door, &mut self.links, step, out),
         }
@@ -55,15 +55,10 @@ impl Ways {
     }
 }
 
-// Appends what a door says next, beside that links may go on. Where `awaited` is 1, that the last one may counts too.
-fn put_next(
-    door: &mut HostDoor,
-    links: &mut Vec<HostLink>,
-    awaited: usize,
-    out: &mut Said,
-) -> bool {
+// Appends what a door says next, beside that links may go on. Where `awaits` says so, that the last one may counts.
+fn put_next(door: &mut HostDoor, links: &mut Vec<HostLink>, awaits: bool, out: &mut Said) -> bool {
     for _ in 0..10_000 {
-        if let Some(said) = said_next(door, links, awaited) {
+        if let Some(said) = said_next(door, links, awaits) {
             out.put(said);
             return true;
         }
@@ -72,18 +67,15 @@ fn put_next(
 }
 
 // What a door says next, or `None` where it says that a link may go on that isn't awaited.
-fn said_next(
-    door: &mut HostDoor,
-    links: &mut Vec<HostLink>,
-    awaited: usize,
-) -> Option<&'static str> {
+fn said_next(door: &mut HostDoor, links: &mut Vec<HostLink>, awaits: bool) -> Option<&'static str> {
     let count = links.len();
     match door.next(count) {
-        Ok(Coming::Came(link)) => {
-            links.push(link).ok()?;
-            Some("came\n")
-        }
-        Ok(Coming::Ready(key)) if key.saturating_add(awaited) == count => Some("ready\n"),
+        Ok(Coming::Came(link)) => Some(if links.push(link).is_ok() {
+            "came\n"
+        } else {
+            "no memory\n"
+        }),
+        Ok(Coming::Ready(key)) if awaits && key.saturating_add(1) == count => Some("ready\n"),
         Ok(Coming::Ready(_)) => None,
         Ok(Coming::Closed) => Some("closed\n"),
         Err(Failed) => Some("fault\n"),
