@@ -20,10 +20,8 @@ mod streamed;
 mod turned;
 mod turns;
 
-use fm_base::NoMemory;
 use row_text::{Answers, Row, Said};
 use std::alloc::{AllocError, Global};
-use turned::put_over_turns;
 
 /// The machine on which rows run.
 #[derive(Drop)]
@@ -33,9 +31,15 @@ pub struct Devices {
 
 impl Answers for Devices {
     fn answer(&self, alloc: Global, row: &Row<'_>, out: &mut Said) -> Result<bool, AllocError> {
-        match put_answer(self.rt, alloc, row, out) {
-            Ok(known) => Ok(known),
-            Err(NoMemory) => Err(AllocError),
+        match row.fields.get(1) {
+            Some(field) => Ok(put_answer(
+                self.rt,
+                alloc,
+                row,
+                (field.key, field.value.as_str()),
+                out,
+            )),
+            None => Ok(false),
         }
     }
 }
@@ -45,35 +49,39 @@ fn put_answer(
     rt: HostRuntime,
     alloc: Global,
     row: &Row<'_>,
+    (key, text): (&str, &str),
     out: &mut Said,
-) -> Result<bool, NoMemory> {
-    let Some(field) = row.fields.get(1) else {
-        return Ok(false);
-    };
-    match field.key {
-        "play" => Ok(machine::put_play(rt, row, out)),
-        "of" => Ok(machine::put_fact(rt, row, out)),
+) -> bool {
+    match key {
         "names" => listed::put_names(rt, alloc, row, out),
         "folder" => foldered::put_folder(rt, alloc, row, out),
-        key => put_in_memory(alloc, key, row, out),
+        "line" => limited::put_line(alloc, row, out),
+        "of" => row.has_each(&["of"]) && machine::put_fact(rt, row, out),
+        _ if row.has_each(&[key]) => put_alone(rt, key, text, out),
+        _ if row.has_each(&[key, "steps"]) => {
+            put_in_memory(alloc, key, text, row.value("steps").unwrap_or(""), out)
+        }
+        _ => false,
     }
 }
 
-// Puts what comes out of a row of a device that isn't the machine's.
-fn put_in_memory(
-    alloc: Global,
-    key: &str,
-    row: &Row<'_>,
-    out: &mut Said,
-) -> Result<bool, NoMemory> {
+// Puts what comes out of a text without steps.
+fn put_alone(rt: HostRuntime, key: &str, text: &str, out: &mut Said) -> bool {
     match key {
-        "memory" => remembered::put_memory(alloc, row, out),
-        "wheel" => keyed::put_wheel(alloc, row, out),
-        "collections" => prefixed::put_collections(alloc, row, out),
-        "ticks" => clocked::put_moments(alloc, row, out),
-        "sending" => Ok(linked::put_sending(row, out)),
-        "limits" => Ok(limited::put_limits(row, out)),
-        "line" => Ok(limited::put_line(alloc, row, out)),
-        _ => put_over_turns(alloc, row, key, out),
+        "play" => machine::put_play(rt, text, out),
+        "sending" => linked::put_sending(text, out),
+        "limits" => limited::put_limits(text, out),
+        _ => false,
+    }
+}
+
+// Puts what comes out of the steps of a device that isn't the machine's.
+fn put_in_memory(alloc: Global, key: &str, text: &str, steps: &str, out: &mut Said) -> bool {
+    match key {
+        "memory" => remembered::put_memory(alloc, text, steps, out),
+        "wheel" => keyed::put_wheel(alloc, text, steps, out),
+        "collections" => prefixed::put_collections(alloc, text, steps, out),
+        "ticks" => clocked::put_moments(alloc, text, steps, out),
+        _ => turned::put_over_turns(alloc, key, text, steps, out),
     }
 }

@@ -1,16 +1,27 @@
 //! Devices that go through the steps of a row.
 
-use row_text::{Row, Said};
+use row_text::Said;
 use std::fmt::Display;
 
 /// What does the steps of a row.
 pub(crate) trait Stepped {
-    /// Appends what a step does. It is false where a line says none.
+    /// Appends lines of what a step does. It is false where a line says none.
     fn put_step(&mut self, line: &str, out: &mut Said) -> bool;
+
+    /// Appends lines of what is to be said behind the last step.
+    fn put_end(&self, _out: &mut Said) {}
 }
 
 /// Appends what the steps of a device do. It is false where a line says none.
-pub(crate) fn put_steps<D: Stepped>(device: &mut D, steps: &str, out: &mut Said) -> bool {
+pub(crate) fn put_steps<D: Stepped + Drop>(mut device: D, steps: &str, out: &mut Said) -> bool {
+    let known = put_each(&mut device, steps, out);
+    device.put_end(out);
+    drop(device);
+    out.pop();
+    known
+}
+
+fn put_each<D: Stepped>(device: &mut D, steps: &str, out: &mut Said) -> bool {
     for line in steps.lines() {
         if !device.put_step(line, out) {
             return false;
@@ -19,18 +30,12 @@ pub(crate) fn put_steps<D: Stepped>(device: &mut D, steps: &str, out: &mut Said)
     true
 }
 
-/// The text of this key and that of `steps`, where a row has no others.
-pub(crate) fn text_and_steps<'a>(row: &'a Row<'_>, key: &str) -> Option<(&'a str, &'a str)> {
-    if !row.has_each(&[key, "steps"]) {
-        return None;
+/// What stands before the last blank, and the number behind it, where there is one.
+pub(crate) fn word_and_number(line: &str) -> (&str, Option<u64>) {
+    match line.rsplit_once(' ') {
+        Some((word, number)) => (word, number.parse::<u64>().ok()),
+        None => (line, None),
     }
-    Some((row.value(key)?, row.value("steps")?))
-}
-
-/// A word and a number behind it.
-pub(crate) fn word_and_number(line: &str) -> Option<(&str, u64)> {
-    let (word, number) = line.split_once(' ')?;
-    Some((word, number.parse::<u64>().ok()?))
 }
 
 /// Appends a line of a text and a number behind it.

@@ -1,31 +1,19 @@
-//! Rows of a device that does turns, step by step.
+//! Devices that do turns, step by step.
 
-use crate::accepted::put_accepts;
 use crate::linked::{put_end, put_link};
-use crate::stepped::text_and_steps;
-use crate::streamed::{put_blocking, put_sink, put_whole};
-use crate::turns::{Turn, put_turns};
-use fm_base::NoMemory;
-use row_text::{Row, Said};
+use crate::stepped::put_steps;
+use crate::streamed::{Whole, put_blocking, put_sink};
+use crate::turns::{Turn, Turns, put_turns};
+use dev_host::Entry;
+use row_text::Said;
 use std::alloc::Global;
 
-/// Puts what the steps of a row do to the device that a key names, and that does its turns.
-pub fn put_over_turns(
-    alloc: Global,
-    row: &Row<'_>,
-    key: &str,
-    out: &mut Said,
-) -> Result<bool, NoMemory> {
-    let Some((words, steps)) = text_and_steps(row, key) else {
-        return Ok(false);
-    };
+/// Puts what the steps do to the device that a key names, and that does the turns which words say.
+pub fn put_over_turns(alloc: Global, key: &str, words: &str, steps: &str, out: &mut Said) -> bool {
     let mut turns = Vec::new(alloc);
-    let done = match put_turns(words, &mut turns) {
-        Ok(true) => Ok(put_done(alloc, key, turns.as_slice(), steps, out)),
-        other => other,
-    };
+    let known = put_turns(words, &mut turns) && put_done(alloc, key, turns.as_slice(), steps, out);
     drop(turns);
-    done
+    known
 }
 
 // Appends what the steps do. It is false where one is unknown.
@@ -33,10 +21,10 @@ fn put_done(alloc: Global, key: &str, turns: &[Turn], steps: &str, out: &mut Sai
     match key {
         "link" => put_link(turns, steps, out),
         "ending" => put_end(turns, steps, out),
-        "accepts" => put_accepts(turns, steps, out),
+        "accepts" => put_steps(Entry::new(Turns::new(turns)), steps, out),
         "blocking" => put_blocking(alloc, turns, steps, out),
         "sink" => put_sink(alloc, turns, steps, out),
-        "whole" => put_whole(alloc, turns, steps, out),
+        "whole" => put_steps(Whole { alloc, turns }, steps, out),
         _ => false,
     }
 }

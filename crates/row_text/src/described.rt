@@ -3,6 +3,7 @@
 use crate::grown::Grown;
 use crate::values::{hex, put_bytes_of};
 use std::alloc::{AllocError, Global};
+use std::io::Write;
 use std::str::SplitWhitespace;
 
 /// A file that rows begin from.
@@ -42,9 +43,9 @@ fn put_content(alloc: Global, files: &[File], words: &str, out: &mut Grown) -> b
 // Makes the changes that words describe. It is false where they describe none.
 fn change_each(alloc: Global, mut words: SplitWhitespace<'_>, out: &mut Grown) -> bool {
     while let Some(word) = words.next() {
-        let first = words.next();
+        let first = words.next().unwrap_or("");
         let second = if has_two(word) { words.next() } else { None };
-        if !change(alloc, word, first, second, out) {
+        if !change(alloc, word, first, second.unwrap_or(""), out) {
             return false;
         }
     }
@@ -57,19 +58,11 @@ fn has_two(word: &str) -> bool {
 }
 
 // Makes the change that a word and those behind it describe. It is false where they describe none.
-fn change(
-    alloc: Global,
-    word: &str,
-    first: Option<&str>,
-    second: Option<&str>,
-    out: &mut Grown,
-) -> bool {
+fn change(alloc: Global, word: &str, first: &str, second: &str, out: &mut Grown) -> bool {
     match word {
-        "at" => replace(alloc, out, number(first), second),
-        "cut" => cut(&mut out.bytes, number(first)),
-        "add" => fill(alloc, out, Some(1), first),
-        "fill" => fill(alloc, out, number(first), second),
-        _ => false,
+        "cut" => cut(&mut out.bytes, first),
+        "add" => !first.is_empty() && put_bytes_of(first, out),
+        _ => put_by(alloc, word, first, second, out),
     }
 }
 
@@ -84,38 +77,9 @@ fn put_named(files: &[File], name: &str, out: &mut Grown) -> bool {
     false
 }
 
-fn number(word: Option<&str>) -> Option<usize> {
-    word?.parse::<usize>().ok()
-}
-
-fn replace(alloc: Global, out: &mut Grown, offset: Option<usize>, digits: Option<&str>) -> bool {
-    let Some(offset) = offset else {
-        return false;
-    };
-    match hex(alloc, digits.unwrap_or("")) {
-        Ok(Some(bytes)) => put_at(&mut out.bytes, offset, bytes.as_slice()),
-        Ok(None) => false,
-        Err(AllocError) => {
-            out.run_short();
-            true
-        }
-    }
-}
-
-// Puts bytes in place of those from an offset on. It is false where there is no byte, or one past the end.
-fn put_at(content: &mut Vec<u8>, offset: usize, bytes: &[u8]) -> bool {
-    if content.len() < offset || content.len() - offset < bytes.len() {
-        return false;
-    }
-    for (index, byte) in bytes.iter().enumerate() {
-        content[offset + index] = *byte;
-    }
-    !bytes.is_empty()
-}
-
-fn cut(content: &mut Vec<u8>, len: Option<usize>) -> bool {
-    match len {
-        Some(len) if len <= content.len() => {
+fn cut(content: &mut Vec<u8>, len: &str) -> bool {
+    match len.parse::<usize>() {
+        Ok(len) if len <= content.len() => {
             content.truncate(len);
             true
         }
@@ -123,17 +87,25 @@ fn cut(content: &mut Vec<u8>, len: Option<usize>) -> bool {
     }
 }
 
-fn fill(alloc: Global, out: &mut Grown, count: Option<usize>, digits: Option<&str>) -> bool {
-    let Some(count) = count else {
+// Puts bytes by a number: `at` this offset, or `fill` so often.
+fn put_by(alloc: Global, word: &str, number: &str, digits: &str, out: &mut Grown) -> bool {
+    let (Ok(number), Ok(Some(bytes))) = (number.parse::<usize>(), hex(alloc, digits)) else {
         return false;
     };
-    match hex(alloc, digits.unwrap_or("")) {
-        Ok(Some(bytes)) => repeat(out, count, bytes.as_slice()),
-        Ok(None) => false,
-        Err(AllocError) => {
-            out.run_short();
-            true
-        }
+    let is_put = match word {
+        "at" => put_at(out.bytes.as_mut_slice(), number, bytes.as_slice()),
+        "fill" => repeat(out, number, bytes.as_slice()),
+        _ => false,
+    };
+    drop(bytes);
+    is_put
+}
+
+// Puts bytes in place of those from an offset on. It is false where there is no byte, or one past the end.
+fn put_at(content: &mut [u8], offset: usize, bytes: &[u8]) -> bool {
+    match content.get_mut(offset..) {
+        Some(mut room) => !bytes.is_empty() && room.write_all(bytes).is_ok(),
+        None => false,
     }
 }
 

@@ -18,11 +18,6 @@ impl Grown {
         }
     }
 
-    /// Notes that memory ran out for what was to be put.
-    pub fn run_short(&mut self) {
-        self.is_short = true;
-    }
-
     /// Appends a byte.
     pub fn push(&mut self, byte: u8) {
         if !self.is_short {

@@ -59,9 +59,9 @@ fn run_row<A: Answers>(
 ) -> io::Result<()> {
     let mut said = Said::new(alloc);
     let known = answers.answer(alloc, row, &mut said);
-    let got = said.text()?;
-    let got = if known? { Some(got.as_str()) } else { None };
-    compare(rt, path, row, got, count)
+    let compared = compare(rt, path, row, said.known(known), count);
+    drop(said);
+    compared
 }
 
 // Counts a row, and prints it where its answer isn't the wanted one.
@@ -69,9 +69,10 @@ fn compare(
     rt: &impl Eprint,
     path: &str,
     row: &Row<'_>,
-    got: Option<&str>,
+    got: Result<Option<&str>, AllocError>,
     count: &mut Count,
 ) -> io::Result<()> {
+    let got = got?;
     count.rows = count.rows.saturating_add(1);
     if is_wanted(row, got) {
         return Ok(());

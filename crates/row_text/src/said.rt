@@ -34,6 +34,19 @@ impl Said {
         }
     }
 
+    /// The text of a row that is known, or that memory ran out for it.
+    pub(crate) fn known(
+        &self,
+        known: Result<bool, AllocError>,
+    ) -> Result<Option<&str>, AllocError> {
+        match known {
+            Ok(_) if self.is_short => Err(AllocError),
+            Ok(true) => Ok(Some(self.as_str())),
+            Ok(false) => Ok(None),
+            Err(AllocError) => Err(AllocError),
+        }
+    }
+
     /// Takes away all that was put. That memory ran out stays.
     pub fn clear(&mut self) {
         self.text.clear();

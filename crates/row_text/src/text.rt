@@ -66,25 +66,22 @@ impl<'a> Row<'a> {
         }
     }
 
-    // Adds a line: a field, or more of the value of the last one.
-    fn add_text(&mut self, alloc: Global, line: &'a str) -> Result<(), AllocError> {
-        if let Some(more) = line.strip_prefix('|') {
-            return self.add_line(alloc, more.strip_prefix(' ').unwrap_or(more));
-        }
-        let (key, value) = line.split_once(':').unwrap_or(("", line));
-        self.add(alloc, key, value.trim())
-    }
-
-    // Appends a line to the value of the last field; one that stands below no field gets an empty key.
+    // Adds a line: a field, or behind a bar more of the value of the last one.
     fn add_line(&mut self, alloc: Global, line: &'a str) -> Result<(), AllocError> {
-        match self.fields.last_mut() {
-            Some(field) => append_line(&mut field.value, line),
-            None => self.add(alloc, "", line),
+        match (line.strip_prefix('|'), self.fields.last_mut()) {
+            (Some(more), Some(field)) => {
+                append_line(&mut field.value, more.strip_prefix(' ').unwrap_or(more))
+            }
+            _ => self.add_field(alloc, line.split_once(':').unwrap_or(("", line))),
         }
     }
 
-    fn add(&mut self, alloc: Global, key: &'a str, value: &str) -> Result<(), AllocError> {
-        let value = String::from_str(alloc, value)?;
+    fn add_field(
+        &mut self,
+        alloc: Global,
+        (key, value): (&'a str, &str),
+    ) -> Result<(), AllocError> {
+        let value = String::from_str(alloc, value.trim())?;
         Ok(self.fields.push(Field { key, value })?)
     }
 }
@@ -124,24 +121,24 @@ pub fn put_rows<'a>(
         if line.trim_end().is_empty() {
             first = Some(number.saturating_add(2));
         } else if !line.starts_with('#') {
-            if let Some(first) = first {
-                rows.push(Row::new(alloc, first))?;
-            }
-            first = None;
-            add_to_last(alloc, rows, line)?;
+            add_line(alloc, rows, first.take(), line)?;
         }
     }
     Ok(())
 }
 
-// Adds a line to the last row.
-fn add_to_last<'a>(
+// Adds a line to the last row, or to a new one that begins at this line.
+fn add_line<'a>(
     alloc: Global,
     rows: &mut Vec<Row<'a>>,
+    first: Option<usize>,
     line: &'a str,
 ) -> Result<(), AllocError> {
+    if let Some(first) = first {
+        rows.push(Row::new(alloc, first))?;
+    }
     match rows.last_mut() {
-        Some(row) => row.add_text(alloc, line),
+        Some(row) => row.add_line(alloc, line),
         None => Ok(()),
     }
 }

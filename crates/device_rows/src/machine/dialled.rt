@@ -41,7 +41,8 @@ fn put_dial(
     words: &str,
     out: &mut Said,
 ) -> Option<()> {
-    let (word, patience) = word_and_number(words)?;
+    let (word, patience) = word_and_number(words);
+    let patience = patience?;
     let peer = address_of(rt.alloc(), address, word)?;
     put_dial_at(*rt, patience, peer.as_slice(), dialled, out);
     drop(peer);

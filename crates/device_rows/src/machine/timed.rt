@@ -31,7 +31,8 @@ fn pause(rt: &HostRuntime, time: &str) -> Option<()> {
 }
 
 fn put_lasted(rt: &HostRuntime, mark: Option<Instant>, times: &str, out: &mut Said) -> Option<()> {
-    let (least, most) = word_and_number(times)?;
+    let (least, most) = word_and_number(times);
+    let most = most?;
     let least = least.parse::<u64>().ok()?;
     let lasted = mark?.elapsed(rt).ok()?.as_millis();
     out.put(if least as u128 <= lasted && lasted <= most as u128 {
