@@ -1,7 +1,8 @@
 //! What arrives in an inbox, as text.
 
-use crate::hearing::Heard;
-use crate::turned::put_number_line;
+use crate::calls::put_shown_line;
+use crate::hearing::{Heard, Telling};
+use crate::stepped::{Stepped, put_number_line};
 use dev_host::FolderInbox;
 use dev_traits::{Arrival, Failed, Found, Inbox, Verdict};
 use fm_base::Fail;
@@ -23,58 +24,77 @@ fn verdict_of(word: &str) -> Option<Verdict> {
     }
 }
 
-/// Appends what a step of an inbox over a folder does: `next`, `fetch LIMIT NAME`, `settle VERDICT NAME`, `faults`, and
-/// `said` for the lines since the last one. It is false where a line says none.
-pub fn put_step<R: rt::Files + rt::Clock + Drop + Send>(
-    alloc: Global,
-    inbox: &mut FolderInbox<R, Heard>,
-    folder: &str,
-    line: &str,
-    out: &mut Said,
-) -> bool {
-    let (word, words) = line.split_once(' ').unwrap_or((line, ""));
-    match words.split_once(' ') {
-        Some((how, name)) => put_named(alloc, inbox, word, how, name, out),
-        None => put_word(alloc, inbox, folder, word, out),
+/// An inbox of files, whose lines are heard.
+pub(crate) trait Watched: Inbox + Telling {
+    /// Settles any name. It is false where that fails.
+    fn settles(&mut self, name: &[u8], verdict: Verdict) -> bool;
+}
+
+impl<R: rt::Files + rt::Clock + Drop + Send> Watched for FolderInbox<R, Heard> {
+    fn settles(&mut self, name: &[u8], verdict: Verdict) -> bool {
+        self.settle(name, verdict).is_ok()
+    }
+}
+
+/// The inbox of the folder at a path.
+#[derive(Drop)]
+pub(crate) struct Arriving<'a, I> {
+    pub alloc: Global,
+    pub inbox: I,
+    pub path: &'a str,
+}
+
+// `next`, `fetch LIMIT NAME`, `settle VERDICT NAME`, `faults`, and `said` for the lines since the last one.
+impl<I: Watched> Stepped for Arriving<'_, I> {
+    fn put_step(&mut self, line: &str, out: &mut Said) -> bool {
+        match line.split_once(' ') {
+            Some((word, words)) => put_named(self.alloc, &mut self.inbox, word, words, out),
+            None => put_word(self.alloc, &mut self.inbox, self.path, line, out),
+        }
     }
 }
 
 // Appends what a step of one word does.
-fn put_word<R: rt::Files + rt::Clock + Drop + Send>(
+fn put_word<I: Watched>(
     alloc: Global,
-    inbox: &mut FolderInbox<R, Heard>,
-    folder: &str,
+    inbox: &mut I,
+    path: &str,
     word: &str,
     out: &mut Said,
 ) -> bool {
     match word {
         "next" => put_next(alloc, inbox, out),
         "faults" => put_count(inbox.faults(), " faults\n", out),
-        "said" => inbox.teller().put_lines(folder, out),
+        "said" => put_said(inbox.heard(), path, out),
         _ => return false,
     }
     true
 }
 
+fn put_said(heard: Option<&Heard>, path: &str, out: &mut Said) {
+    if let Some(heard) = heard {
+        heard.put_lines(path, out);
+    }
+}
+
 // Appends what a step on a name does.
-fn put_named<R: rt::Files + rt::Clock + Drop + Send>(
+fn put_named<I: Watched>(
     alloc: Global,
-    inbox: &mut FolderInbox<R, Heard>,
+    inbox: &mut I,
     word: &str,
-    how: &str,
-    name: &str,
+    words: &str,
     out: &mut Said,
 ) -> bool {
-    match word {
-        "fetch" => put_fetched(alloc, inbox, how, name, out),
-        "settle" => put_settled(inbox, how, name, out),
+    match (word, words.split_once(' ')) {
+        ("fetch", Some((limit, name))) => put_fetched(alloc, inbox, limit, name, out),
+        ("settle", Some((verdict, name))) => put_settled(inbox, verdict, name, out),
         _ => false,
     }
 }
 
-fn put_fetched<R: rt::Files + rt::Clock + Drop + Send>(
+fn put_fetched<I: Inbox>(
     alloc: Global,
-    inbox: &mut FolderInbox<R, Heard>,
+    inbox: &mut I,
     limit: &str,
     name: &str,
     out: &mut Said,
@@ -88,26 +108,17 @@ fn put_fetched<R: rt::Files + rt::Clock + Drop + Send>(
     true
 }
 
-fn put_settled<R: rt::Files + rt::Clock + Drop + Send>(
-    inbox: &mut FolderInbox<R, Heard>,
-    verdict: &str,
-    name: &str,
-    out: &mut Said,
-) -> bool {
+fn put_settled<I: Watched>(inbox: &mut I, verdict: &str, name: &str, out: &mut Said) -> bool {
     let Some(verdict) = verdict_of(verdict) else {
         return false;
     };
-    if inbox.settle(name.as_bytes(), verdict).is_err() {
+    if !inbox.settles(name.as_bytes(), verdict) {
         out.put("fault\n");
     }
     true
 }
 
-fn put_next<R: rt::Files + rt::Clock + Drop + Send>(
-    alloc: Global,
-    inbox: &mut FolderInbox<R, Heard>,
-    out: &mut Said,
-) {
+fn put_next<I: Inbox>(alloc: Global, inbox: &mut I, out: &mut Said) {
     let next = inbox.next(alloc);
     put_arrival(&next, out);
     drop(next);
@@ -115,10 +126,7 @@ fn put_next<R: rt::Files + rt::Clock + Drop + Send>(
 
 fn put_arrival(next: &Result<Arrival, Fail<Failed>>, out: &mut Said) {
     match next {
-        Ok(Arrival::Name(name)) => {
-            out.put_shown(name.as_slice());
-            out.put("\n");
-        }
+        Ok(Arrival::Name(name)) => put_shown_line(name.as_slice(), out),
         Ok(Arrival::Idle) => out.put("nothing yet\n"),
         Ok(Arrival::Done) => out.put("done\n"),
         Err(Fail::Fault(_)) => out.put("fault\n"),

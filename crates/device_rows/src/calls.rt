@@ -1,34 +1,24 @@
 //! Calls of links and sinks, and what they give.
 
-use crate::turned::put_number_line;
+use crate::stepped::put_number_line;
 use dev_traits::{Failed, Link, Sent, Sink, Taken};
 use row_text::Said;
 
 /// Appends what a call of a link gives: `take` with room for four bytes, `put TEXT`. It is false where a line says
 /// none.
 pub(crate) fn put_call<L: Link>(link: &mut L, line: &str, out: &mut Said) -> bool {
-    match line.split_once(' ') {
-        None if line == "take" => put_take(link, out),
-        Some(("put", text)) => return put_text(link, text.as_bytes(), out),
-        _ => return false,
+    match line.split_once(' ').unwrap_or((line, "")) {
+        ("take", "") => put_take(link, out),
+        ("put", text) => put_text(link, text.as_bytes(), out),
+        _ => false,
     }
-    true
 }
 
-/// Appends what calls of a link give. It is false where a line says none.
-pub(crate) fn put_calls<L: Link>(link: &mut L, steps: &str, out: &mut Said) -> bool {
-    for line in steps.lines() {
-        if !put_call(link, line, out) {
-            return false;
-        }
-    }
-    true
-}
-
-fn put_take<L: Link>(link: &mut L, out: &mut Said) {
+fn put_take<L: Link>(link: &mut L, out: &mut Said) -> bool {
     let mut buf = [0u8; 4];
     let taken = link.take(&mut buf);
     put_taken(taken, &buf, link.faults(), out);
+    true
 }
 
 /// Appends what a take gave at the front of a buffer; `faults` is how many calls have failed with it.
@@ -53,16 +43,14 @@ fn put_text<L: Link>(link: &mut L, bytes: &[u8], out: &mut Said) -> bool {
     true
 }
 
-/// Appends whether a sink puts each text whole. It is false where a line isn't `put TEXT`.
-pub(crate) fn put_texts<S: Sink>(sink: &mut S, steps: &str, out: &mut Said) -> bool {
-    for line in steps.lines() {
-        let Some(text) = line.strip_prefix("put") else {
-            return false;
-        };
-        match sink.put(text.trim_start().as_bytes()) {
-            Ok(()) => out.put("whole\n"),
-            Err(Failed) => put_fault(sink.faults(), out),
-        }
+/// Appends whether a sink puts a text whole. It is false where a line isn't `put TEXT`.
+pub(crate) fn put_whole_text<S: Sink>(sink: &mut S, line: &str, out: &mut Said) -> bool {
+    let ("put", text) = line.split_once(' ').unwrap_or((line, "")) else {
+        return false;
+    };
+    match sink.put(text.as_bytes()) {
+        Ok(()) => out.put("whole\n"),
+        Err(Failed) => put_fault(sink.faults(), out),
     }
     true
 }

@@ -1,11 +1,10 @@
 //! The machine's clock, over clocks in memory.
 
-use crate::hearing::Heard;
-use crate::turned::put_number_line;
+use crate::hearing::{Heard, Telling};
+use crate::stepped::{put_number_line, word_and_number};
 use dev_host::RealClock;
 use dev_traits::Clock;
-use fm_base::NoMemory;
-use row_text::{Row, Said};
+use row_text::Said;
 use std::alloc::Global;
 use std::cell::Cell;
 use std::io::{self, Error, ErrorKind};
@@ -51,49 +50,33 @@ impl rt::Clock for Script<'_> {
     }
 }
 
-// The reading that a word `WALL@STEADY` says.
-fn reading_of(word: &str) -> Option<Reading> {
-    let (wall, steady) = word.split_once('@')?;
-    Some(Reading {
-        wall: wall.parse::<u64>().ok()?,
-        steady: steady.parse::<u64>().ok()?,
-    })
-}
-
-// The readings that words say; `none` says that there are none.
-fn readings_of(alloc: Global, words: &str) -> Result<Option<Vec<Reading>>, NoMemory> {
-    let mut readings = Vec::new(alloc);
-    if words == "none" {
-        return Ok(Some(readings));
-    }
-    for word in words.split_whitespace() {
-        match reading_of(word) {
-            Some(reading) => readings.push(reading)?,
-            None => return Ok(None),
+// Adds the readings that lines `WALL STEADY` say. It is false where a line says something else.
+fn put_readings(lines: &str, readings: &mut Vec<Reading>) -> bool {
+    for line in lines.lines() {
+        if add_reading(line, readings).is_none() {
+            return false;
         }
     }
-    Ok(Some(readings))
+    true
 }
 
-/// Puts the moments of a clock of this number of ticks, whose machine reads as the row says, and what it tells.
-pub fn put_moments(alloc: Global, row: &Row<'_>, out: &mut Said) -> Result<bool, NoMemory> {
-    if !row.has_each(&["ticks", "reads"]) {
-        return Ok(false);
-    }
-    let (Some(ticks), Some(words)) = (row.value("ticks"), row.value("reads")) else {
-        return Ok(false);
-    };
+fn add_reading(line: &str, readings: &mut Vec<Reading>) -> Option<()> {
+    let (wall, steady) = word_and_number(line);
+    let steady = steady?;
+    let wall = wall.parse::<u64>().ok()?;
+    readings.push(Reading { wall, steady }).ok()
+}
+
+/// Puts the moments of a clock of this number of ticks, whose machine reads as lines say, and what it tells.
+pub fn put_moments(alloc: Global, ticks: &str, lines: &str, out: &mut Said) -> bool {
     let Ok(ticks) = ticks.parse::<u32>() else {
-        return Ok(false);
+        return false;
     };
-    match readings_of(alloc, words) {
-        Ok(Some(readings)) => {
-            put_by(alloc, ticks, readings.as_slice(), out);
-            Ok(true)
-        }
-        Ok(None) => Ok(false),
-        Err(NoMemory) => Err(NoMemory),
-    }
+    let mut readings = Vec::new(alloc);
+    let known = put_readings(lines, &mut readings);
+    put_by(alloc, ticks, readings.as_slice(), out);
+    drop(readings);
+    known
 }
 
 fn put_by(alloc: Global, ticks: u32, readings: &[Reading], out: &mut Said) {
@@ -107,18 +90,16 @@ fn put_by(alloc: Global, ticks: u32, readings: &[Reading], out: &mut Said) {
 }
 
 // Appends each moment behind the lines that were told until it came, and `none` behind the last.
-fn put_each(clock: &mut RealClock<Script<'_>, Heard>, out: &mut Said) {
+fn put_each<C: Clock + Telling>(clock: &mut C, out: &mut Said) {
     for _ in 0..ROUNDS {
         let moment = clock.next();
-        if let Some(heard) = clock.teller() {
+        if let Some(heard) = clock.heard() {
             heard.put_all(out);
         }
-        match moment {
-            Some(moment) => put_number_line("", moment, out),
-            None => {
-                out.put("none");
-                break;
-            }
-        }
+        let Some(moment) = moment else {
+            out.put("none");
+            return;
+        };
+        put_number_line("", moment, out);
     }
 }

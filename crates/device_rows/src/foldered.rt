@@ -1,78 +1,233 @@
 //! Inboxes over folders of the machine.
 
-use crate::arriving::{put_found, put_step};
+use crate::arriving::{Arriving, Watched, put_found};
 use crate::calls::{put_fault, put_shown_line};
 use crate::hearing::Heard;
+use crate::stepped::{Stepped, put_steps};
 use dev_host::{FolderInbox, Stops};
 use dev_std::RealFiles;
-use dev_traits::{Files, Found};
-use fm_base::{Fail, NoMemory};
+use dev_traits::{Failed, Files, Found};
+use fm_base::Fail;
 use row_text::{Row, Said, bytes};
 use std::alloc::Global;
+use std::io::{self, Error, ErrorKind};
 use std::os::unix::fs::symlink;
 use std::path::PathBuf;
-use std::{env, fs, io, process};
+use std::{env, fs, process};
 
-// A folder below that for temporary files.
+// The path of a folder below that for temporary files, which no other row has, nor another process.
+fn path_of(rt: &HostRuntime, line: usize) -> io::Result<PathBuf> {
+    let alloc = rt.alloc();
+    let name = format!(in alloc; "fmrcd-rows-{}-{line}", process::id(rt.process()))?;
+    Ok(env::temp_dir(rt)?.join(alloc, name.as_str())?)
+}
+
+/// Puts what the inbox of a folder does that has these files and folders at first, which end in `/`.
+pub fn put_folder(rt: HostRuntime, alloc: Global, row: &Row<'_>, out: &mut Said) -> bool {
+    match (path_of(&rt, row.line), row.value("steps")) {
+        (Ok(folder), Some(steps)) if row.has_only(&["folder", "others", "steps"]) => {
+            let known = put_in(Folder { rt, path: &folder }, alloc, row, steps, out);
+            drop(folder);
+            known
+        }
+        _ => false,
+    }
+}
+
+// Makes the folder, and takes it away at the end.
+fn put_in(folder: Folder<'_>, alloc: Global, row: &Row<'_>, steps: &str, out: &mut Said) -> bool {
+    if fs::create_dir(&folder.rt, folder.path.as_str()).is_err() {
+        return false;
+    }
+    let known = begin(folder, row.value("folder").unwrap_or(""), out)
+        && go_through(folder, alloc, row.value("others").is_some(), steps, out);
+    fs::remove_dir_all(&folder.rt, folder.path.as_str()).is_ok() && known
+}
+
+// Puts the files there, and makes the folders.
+fn begin(folder: Folder<'_>, names: &str, out: &mut Said) -> bool {
+    for name in names.split_whitespace() {
+        let is_done = match name.strip_suffix('/') {
+            Some(name) => folder.change("mkdir", name, out),
+            None => folder.change("put", name, out),
+        };
+        if !is_done {
+            return false;
+        }
+    }
+    true
+}
+
+// Opens the inbox of a folder, beside others or alone, and does the steps.
+fn go_through(
+    folder: Folder<'_>,
+    alloc: Global,
+    has_others: bool,
+    steps: &str,
+    out: &mut Said,
+) -> bool {
+    match stops_of(alloc, has_others) {
+        Some((stops, shared)) => put_opened(folder, alloc, stops, shared, steps, out),
+        None => false,
+    }
+}
+
+// What the folders of a server share, and the share of one.
+fn stops_of(alloc: Global, has_others: bool) -> Option<(Stops, Stops)> {
+    let stops = Stops::new(alloc).ok()?;
+    if has_others {
+        stops.add();
+    }
+    match stops.share() {
+        Ok(shared) => Some((stops, shared)),
+        Err(_) => {
+            drop(stops);
+            None
+        }
+    }
+}
+
+fn put_opened(
+    folder: Folder<'_>,
+    alloc: Global,
+    stops: Stops,
+    shared: Stops,
+    steps: &str,
+    out: &mut Said,
+) -> bool {
+    let path = folder.path.as_str();
+    match FolderInbox::open(folder.rt, Heard::new(alloc), shared, alloc, path.as_bytes()) {
+        Ok(inbox) => {
+            let arriving = Arriving { alloc, inbox, path };
+            put_steps(
+                Foldered {
+                    arriving,
+                    folder,
+                    stops,
+                },
+                steps,
+                out,
+            )
+        }
+        Err(fail) => {
+            drop(stops);
+            put_unopened(fail, out)
+        }
+    }
+}
+
+fn put_unopened(fail: Fail<Failed>, out: &mut Said) -> bool {
+    match fail {
+        Fail::Fault(Failed) => out.put("can't be opened"),
+        Fail::NoMemory => out.run_short(),
+    }
+    true
+}
+
+// An inbox, its folder, and what it shares with other folders.
 #[derive(Drop)]
-struct Folder {
-    path: PathBuf,
+struct Foldered<'a, I> {
+    arriving: Arriving<'a, I>,
+    folder: Folder<'a>,
+    stops: Stops,
 }
 
-impl Folder {
-    // A folder whose name no other row has.
-    fn new(rt: &HostRuntime, line: usize) -> io::Result<Folder> {
-        let alloc = rt.alloc();
-        let name = format!(in alloc; "fmrcd-rows-{}-{line}", process::id(rt.process()))?;
-        let path = env::temp_dir(rt)?.join(alloc, name.as_str())?;
-        fs::create_dir(rt, path.as_str())?;
-        Ok(Folder { path })
+impl<I: Watched> Stepped for Foldered<'_, I> {
+    fn put_step(&mut self, line: &str, out: &mut Said) -> bool {
+        self.arriving.put_step(line, out)
+            || change_others(&self.stops, line)
+            || self.folder.put_step(line, out)
+    }
+}
+
+// What another folder does: it stops, or goes on.
+fn change_others(stops: &Stops, line: &str) -> bool {
+    match line {
+        "other stops" => stops.stop(),
+        "other goes on" => stops.go_on(),
+        _ => return false,
+    }
+    true
+}
+
+// A folder of a machine.
+#[derive(Clone, Copy)]
+struct Folder<'a> {
+    rt: HostRuntime,
+    path: &'a PathBuf,
+}
+
+// `read LIMIT NAME` as the machine's files do, and changes.
+impl Stepped for Folder<'_> {
+    fn put_step(&mut self, line: &str, out: &mut Said) -> bool {
+        match line.split_once(' ') {
+            Some(("read", words)) => self.put_read(words, out),
+            Some((word, name)) => self.change(word, name, out),
+            None => false,
+        }
+    }
+}
+
+impl Folder<'_> {
+    // The path of a name.
+    fn path_of(self, name: &str) -> Option<PathBuf> {
+        self.path.join(self.rt.alloc(), name).ok()
     }
 
-    // Changes what lies there, or looks at it: `put NAME`, a file that has its name as its content; `link NAME`, a link
-    // to `source`; `remove NAME`; `mkdir NAME`; `rmdir NAME`; `has NAME`.
-    fn change(&self, rt: &HostRuntime, line: &str, out: &mut Said) -> io::Result<bool> {
-        let (word, name) = line.split_once(' ').unwrap_or((line, ""));
-        let path = self.path.join(rt.alloc(), name)?;
-        let changed = change_at(rt, word, name, path.as_str(), out);
+    // Changes what lies there, or looks at it. It is false where that fails.
+    fn change(self, word: &str, name: &str, out: &mut Said) -> bool {
+        let Some(path) = self.path_of(name) else {
+            return false;
+        };
+        let changed = change_at(&self.rt, word, name, path.as_str(), out);
         drop(path);
-        changed
+        changed.is_ok()
+    }
+
+    // Appends what is read of a file: `LIMIT NAME`. It is false where words say something else.
+    fn put_read(self, words: &str, out: &mut Said) -> bool {
+        let Some((limit, name)) = words.split_once(' ') else {
+            return false;
+        };
+        match (limit.parse::<u64>(), self.path_of(name)) {
+            (Ok(limit), Some(path)) => {
+                let known = put_content(&self.rt, path.as_str(), limit, out);
+                drop(path);
+                known
+            }
+            _ => false,
+        }
     }
 }
 
-// Does what a word says at the path of a name.
+// Does what a word says at the path of a name: `put`, a file that has its name as its content; `link`, a link to
+// `source`; `remove`; `mkdir`; `rmdir`; `has`.
 fn change_at(
     rt: &HostRuntime,
     word: &str,
     name: &str,
     path: &str,
     out: &mut Said,
-) -> io::Result<bool> {
-    let done = match word {
+) -> io::Result<()> {
+    match word {
         "put" => fs::write(rt, path, name.as_bytes()),
         "link" => symlink(rt, "source", path),
         "remove" => fs::remove_file(rt, path),
         "mkdir" => fs::create_dir(rt, path),
         "rmdir" => fs::remove_dir(rt, path),
         "has" => put_there(rt, path, out),
-        _ => return Ok(false),
-    };
-    done?;
-    Ok(true)
+        _ => Err(Error::from(ErrorKind::Unsupported)),
+    }
 }
 
-// Appends what is read of a file, up to a limit: `read LIMIT NAME`. It is false where a line says something else.
-fn put_read(rt: &HostRuntime, folder: &Folder, line: &str, out: &mut Said) -> bool {
-    let Some(("read", words)) = line.split_once(' ') else {
-        return false;
-    };
-    let Some((limit, name)) = words.split_once(' ') else {
-        return false;
-    };
-    match (limit.parse::<u64>(), folder.path.join(rt.alloc(), name)) {
-        (Ok(limit), Ok(path)) => put_content(rt, path.as_str(), limit, out),
-        _ => false,
+// Appends whether anything lies at a path, as a link does that leads nowhere.
+fn put_there(rt: &HostRuntime, path: &str, out: &mut Said) -> io::Result<()> {
+    match fs::symlink_metadata(rt, path) {
+        Ok(_) => out.put("there\n"),
+        Err(error) if error.kind() == ErrorKind::NotFound => out.put("not there\n"),
+        Err(error) => return Err(error),
     }
+    Ok(())
 }
 
 // Appends what is read of the file at a path, in which `\xNN` is a byte.
@@ -96,125 +251,4 @@ fn put_read_at(rt: &HostRuntime, path: &[u8], limit: u64, out: &mut Said) {
         _ => put_found(&found, out),
     }
     drop(found);
-}
-
-fn put_there(rt: &HostRuntime, path: &str, out: &mut Said) -> io::Result<()> {
-    let there = there_at(rt, path)?;
-    out.put(there);
-    Ok(())
-}
-
-// The line that says whether anything lies at a path, as a link does that leads nowhere.
-fn there_at(rt: &HostRuntime, path: &str) -> io::Result<&'static str> {
-    match fs::symlink_metadata(rt, path) {
-        Ok(_) => Ok("there\n"),
-        Err(error) if error.kind() == io::ErrorKind::NotFound => Ok("not there\n"),
-        Err(error) => Err(error),
-    }
-}
-
-/// Puts what the inbox of a folder does that has these files and folders at first, which end in `/`.
-pub fn put_folder(
-    rt: HostRuntime,
-    alloc: Global,
-    row: &Row<'_>,
-    out: &mut Said,
-) -> Result<bool, NoMemory> {
-    if !row.has_only(&["folder", "others", "steps"]) || row.value("steps").is_none() {
-        return Ok(false);
-    }
-    let Ok(folder) = Folder::new(&rt, row.line) else {
-        return Ok(false);
-    };
-    let known = begin(&rt, &folder, row.value("folder").unwrap_or(""), out)
-        && go_through(rt, alloc, &folder, row, out)?;
-    if fs::remove_dir_all(&rt, folder.path.as_str()).is_err() {
-        return Ok(false);
-    }
-    out.pop();
-    Ok(known)
-}
-
-// Puts the files there, and makes the folders.
-fn begin(rt: &HostRuntime, folder: &Folder, names: &str, out: &mut Said) -> bool {
-    for name in names.split_whitespace() {
-        let line = match name.strip_suffix('/') {
-            Some(name) => format!(in rt.alloc(); "mkdir {name}"),
-            None => format!(in rt.alloc(); "put {name}"),
-        };
-        let Ok(line) = line else {
-            return false;
-        };
-        if folder.change(rt, line.as_str(), out).is_err() {
-            return false;
-        }
-    }
-    true
-}
-
-// What the folders of a server share, with others where a row has the key `others`.
-fn stops_of(alloc: Global, row: &Row<'_>) -> Result<Stops, NoMemory> {
-    let stops = Stops::new(alloc)?;
-    if row.value("others").is_some() {
-        stops.add();
-    }
-    Ok(stops)
-}
-
-// What another folder does: it stops, or goes on.
-fn change_others(stops: &Stops, line: &str) -> bool {
-    match line {
-        "other stops" => stops.stop(),
-        "other goes on" => stops.go_on(),
-        _ => return false,
-    }
-    true
-}
-
-// Opens the inbox, and does the steps.
-fn go_through(
-    rt: HostRuntime,
-    alloc: Global,
-    folder: &Folder,
-    row: &Row<'_>,
-    out: &mut Said,
-) -> Result<bool, NoMemory> {
-    let stops = stops_of(alloc, row)?;
-    let shared = stops.share()?;
-    let path = folder.path.as_str().as_bytes();
-    match FolderInbox::open(rt, Heard::new(alloc), shared, alloc, path) {
-        Ok(mut inbox) => {
-            let steps = row.value("steps").unwrap_or("");
-            let done = do_steps(&rt, alloc, &mut inbox, folder, &stops, steps, out);
-            drop(inbox);
-            Ok(done)
-        }
-        Err(Fail::NoMemory) => Err(NoMemory),
-        Err(Fail::Fault(_)) => {
-            out.put("can't be opened\n");
-            Ok(true)
-        }
-    }
-}
-
-// Does the steps. It is false where one is unknown, or fails.
-fn do_steps(
-    rt: &HostRuntime,
-    alloc: Global,
-    inbox: &mut FolderInbox<HostRuntime, Heard>,
-    folder: &Folder,
-    stops: &Stops,
-    steps: &str,
-    out: &mut Said,
-) -> bool {
-    for line in steps.lines() {
-        let is_done = put_step(alloc, inbox, folder.path.as_str(), line, out)
-            || change_others(stops, line)
-            || put_read(rt, folder, line, out)
-            || folder.change(rt, line, out).unwrap_or(false);
-        if !is_done {
-            return false;
-        }
-    }
-    true
 }

@@ -1,10 +1,10 @@
-//! What an inbox tells of its folder, and a clock.
+//! What inboxes and clocks tell.
 
-use dev_host::Tell;
+use dev_host::{FolderInbox, RealClock, Tell};
 use row_text::Said;
 use std::alloc::{AllocError, Global};
 use std::cell::Cell;
-use std::str;
+use std::{rt, str};
 
 // The lines that were told since they were put out last.
 #[derive(Drop)]
@@ -47,12 +47,16 @@ fn put_inside(lines: Said, folder: &str, out: &mut Said) {
 
 fn put_each(lines: &str, folder: &str, out: &mut Said) {
     for line in lines.lines() {
-        let (word, rest) = line.split_once(folder).unwrap_or(("", line));
-        out.put(word);
-        out.put("in");
-        out.put(rest);
-        out.put("\n");
+        put_inside_line(line.split_once(folder).unwrap_or(("", line)), out);
     }
+}
+
+// Appends a line that has these parts before and behind the path.
+fn put_inside_line((word, rest): (&str, &str), out: &mut Said) {
+    out.put(word);
+    out.put("in");
+    out.put(rest);
+    out.put("\n");
 }
 
 // Adds a line to these. A part that isn't text is left out.
@@ -63,6 +67,23 @@ fn add(lines: &mut Said, line: &[&[u8]]) {
         }
     }
     lines.put("\n");
+}
+
+/// What has its lines heard.
+pub(crate) trait Telling {
+    fn heard(&self) -> Option<&Heard>;
+}
+
+impl<R: rt::Files + rt::Clock + Drop> Telling for FolderInbox<R, Heard> {
+    fn heard(&self) -> Option<&Heard> {
+        Some(self.teller())
+    }
+}
+
+impl<R: rt::Clock + Drop> Telling for RealClock<R, Heard> {
+    fn heard(&self) -> Option<&Heard> {
+        self.teller()
+    }
 }
 
 impl Tell for Heard {

@@ -1,54 +1,42 @@
 //! Keys in a wheel of seconds.
 
-use crate::linked::word_and_number;
-use crate::turned::{put_number_line, text_and_steps};
+use crate::stepped::{Stepped, put_number_line, put_steps, word_and_number};
 use dev_host::Wheel;
-use fm_base::NoMemory;
-use row_text::{Row, Said};
+use row_text::Said;
 use std::alloc::Global;
 
 /// Puts what a wheel with room for the keys up to 9 does, from a second on: `put KEY SECOND` puts a key in,
 /// `pop SECOND` takes one out, `clear` takes out all, `due` is the first second at which one is due, `hurry` has all
 /// due at once.
-pub fn put_wheel(alloc: Global, row: &Row<'_>, out: &mut Said) -> Result<bool, NoMemory> {
-    let Some((second, steps)) = text_and_steps(row, "wheel") else {
-        return Ok(false);
-    };
-    let Ok(second) = second.parse::<u64>() else {
-        return Ok(false);
-    };
-    let mut wheel = Wheel::new(alloc, second);
-    put_steps(&mut wheel, steps, out)
+pub fn put_wheel(alloc: Global, second: &str, steps: &str, out: &mut Said) -> bool {
+    match wheel_of(alloc, second) {
+        Some(wheel) => put_steps(wheel, steps, out),
+        None => false,
+    }
 }
 
-fn put_steps(wheel: &mut Wheel, steps: &str, out: &mut Said) -> Result<bool, NoMemory> {
-    wheel.make_room(9)?;
-    for line in steps.lines() {
-        if !put_step(wheel, line, out) {
-            return Ok(false);
+fn wheel_of(alloc: Global, second: &str) -> Option<Wheel> {
+    let mut wheel = Wheel::new(alloc, second.parse::<u64>().ok()?);
+    match wheel.make_room(9) {
+        Ok(()) => Some(wheel),
+        Err(_) => {
+            drop(wheel);
+            None
         }
     }
-    out.pop();
-    Ok(true)
 }
 
-// Appends what a step does. It is false where a line says none.
-fn put_step(wheel: &mut Wheel, line: &str, out: &mut Said) -> bool {
-    match line {
-        "due" => put_due(wheel.next_due(), out),
-        "hurry" => wheel.hurry(),
-        "clear" => wheel.clear(),
-        _ => return put_change(wheel, line, out),
-    }
-    true
-}
-
-// Appends what the step of a key does, or of a second. It is false where a line says none.
-fn put_change(wheel: &mut Wheel, line: &str, out: &mut Said) -> bool {
-    match line.split_once(' ') {
-        Some(("pop", second)) => put_popped(wheel, second.parse::<u64>().ok(), out),
-        Some(("put", words)) => put_key(wheel, words),
-        _ => false,
+impl Stepped for Wheel {
+    fn put_step(&mut self, line: &str, out: &mut Said) -> bool {
+        match word_and_number(line) {
+            ("due", None) => put_due(self.next_due(), out),
+            ("hurry", None) => self.hurry(),
+            ("clear", None) => self.clear(),
+            ("pop", Some(second)) => put_popped(self.pop(second), out),
+            (word, Some(second)) => return put_key(self, word, second),
+            _ => return false,
+        }
+        true
     }
 }
 
@@ -59,26 +47,20 @@ fn put_due(due: Option<u64>, out: &mut Said) {
     }
 }
 
-fn put_popped(wheel: &mut Wheel, now: Option<u64>, out: &mut Said) -> bool {
-    let Some(now) = now else {
-        return false;
-    };
-    match wheel.pop(now) {
+fn put_popped(key: Option<usize>, out: &mut Said) {
+    match key {
         Some(key) => put_number_line("", key, out),
         None => out.put("none\n"),
     }
-    true
 }
 
-fn put_key(wheel: &mut Wheel, words: &str) -> bool {
-    let Some((key, second)) = word_and_number(words) else {
-        return false;
-    };
-    match key.parse::<u32>() {
-        Ok(key) => {
+// Puts the key of `put KEY` in. It is false where words say something else.
+fn put_key(wheel: &mut Wheel, words: &str, second: u64) -> bool {
+    match word_and_number(words) {
+        ("put", Some(key)) => {
             wheel.put(key as usize, second);
             true
         }
-        Err(_) => false,
+        _ => false,
     }
 }

@@ -15,14 +15,13 @@ mod listed;
 mod machine;
 mod prefixed;
 mod remembered;
+mod stepped;
 mod streamed;
 mod turned;
 mod turns;
 
-use fm_base::NoMemory;
 use row_text::{Answers, Row, Said};
 use std::alloc::{AllocError, Global};
-use turned::{Device, put_over_turns};
 
 /// The machine on which rows run.
 #[derive(Drop)]
@@ -32,41 +31,57 @@ pub struct Devices {
 
 impl Answers for Devices {
     fn answer(&self, alloc: Global, row: &Row<'_>, out: &mut Said) -> Result<bool, AllocError> {
-        match put_answer(self.rt, alloc, row, out) {
-            Ok(known) => Ok(known),
-            Err(NoMemory) => Err(AllocError),
+        match row.fields.get(1) {
+            Some(field) => Ok(put_answer(
+                self.rt,
+                alloc,
+                row,
+                (field.key, field.value.as_str()),
+                out,
+            )),
+            None => Ok(false),
         }
     }
 }
 
-// Puts what comes out of a row's steps, by the device that its first key names.
+// Puts what comes out of a row, by the device that the key behind its name says.
 fn put_answer(
     rt: HostRuntime,
     alloc: Global,
     row: &Row<'_>,
+    (key, text): (&str, &str),
     out: &mut Said,
-) -> Result<bool, NoMemory> {
-    for field in &row.fields {
-        return match field.key {
-            "link" => put_over_turns(alloc, row, Device::Link, out),
-            "ending" => put_over_turns(alloc, row, Device::Ending, out),
-            "accepts" => put_over_turns(alloc, row, Device::Accepts, out),
-            "blocking" => put_over_turns(alloc, row, Device::Blocking, out),
-            "sink" => put_over_turns(alloc, row, Device::Sink, out),
-            "whole" => put_over_turns(alloc, row, Device::Whole, out),
-            "room" => remembered::put_room(alloc, row, out),
-            "play" => Ok(machine::put_play(rt, row, out)),
-            "of" => Ok(machine::put_fact(rt, row, out)),
-            "sending" => Ok(linked::put_sending(row, out)),
-            "wheel" => keyed::put_wheel(alloc, row, out),
-            "limits" => Ok(limited::put_limits(row, out)),
-            "line" => Ok(limited::put_line(alloc, row, out)),
-            "collections" => prefixed::put_collections(alloc, row, out),
-            "ticks" => clocked::put_moments(alloc, row, out),
-            "names" => listed::put_names(rt, alloc, row, out),
-            "folder" => foldered::put_folder(rt, alloc, row, out),
-            _ => continue,
-        };
+) -> bool {
+    match key {
+        "names" => listed::put_names(rt, alloc, row, out),
+        "folder" => foldered::put_folder(rt, alloc, row, out),
+        "line" => limited::put_line(alloc, row, out),
+        "of" => row.has_each(&["of"]) && machine::put_fact(rt, row, out),
+        _ if row.has_each(&[key]) => put_alone(rt, key, text, out),
+        _ if row.has_each(&[key, "steps"]) => {
+            put_in_memory(alloc, key, text, row.value("steps").unwrap_or(""), out)
+        }
+        _ => false,
     }
-    Ok(false)
+}
+
+// Puts what comes out of a text without steps.
+fn put_alone(rt: HostRuntime, key: &str, text: &str, out: &mut Said) -> bool {
+    match key {
+        "play" => machine::put_play(rt, text, out),
+        "sending" => linked::put_sending(text, out),
+        "limits" => limited::put_limits(text, out),
+        _ => false,
+    }
+}
+
+// Puts what comes out of the steps of a device that isn't the machine's.
+fn put_in_memory(alloc: Global, key: &str, text: &str, steps: &str, out: &mut Said) -> bool {
+    match key {
+        "memory" => remembered::put_memory(alloc, text, steps, out),
+        "wheel" => keyed::put_wheel(alloc, text, steps, out),
+        "collections" => prefixed::put_collections(alloc, text, steps, out),
+        "ticks" => clocked::put_moments(alloc, text, steps, out),
+        _ => turned::put_over_turns(alloc, key, text, steps, out),
+    }
 }

@@ -6,10 +6,7 @@ use row_text::{Row, Said};
 use std::alloc::Global;
 
 /// Puts the most descriptors of a process, in the text of its limits.
-pub fn put_limits(row: &Row<'_>, out: &mut Said) -> bool {
-    let (true, Some(text)) = (row.has_each(&["limits"]), row.value("limits")) else {
-        return false;
-    };
+pub fn put_limits(text: &str, out: &mut Said) -> bool {
     match most_descriptors(text) {
         Some(count) => out.put_number("", count),
         None => out.put("no number"),
@@ -20,32 +17,31 @@ pub fn put_limits(row: &Row<'_>, out: &mut Said) -> bool {
 // The room that a row says: none where it has no such key.
 fn room_of(row: &Row<'_>) -> Option<Option<u64>> {
     match row.value("room") {
-        Some(count) => match count.parse::<u64>() {
-            Ok(count) => Some(Some(count)),
-            Err(_) => None,
-        },
+        Some(count) => Some(Some(count.parse::<u64>().ok()?)),
         None => Some(None),
     }
 }
 
-// Puts a line of these two parts, with a blank between, as it is told where there is so much room.
-fn put_told(alloc: Global, word: &str, rest: &str, room: Option<u64>, out: &mut Said) {
+/// Puts a line as it is told where there is room for this number of connections, or where it isn't known.
+pub fn put_line(alloc: Global, row: &Row<'_>, out: &mut Said) -> bool {
+    match (row.value("line"), room_of(row)) {
+        (Some(line), Some(room)) if row.has_only(&["line", "room"]) => {
+            put_told(alloc, line, room, out)
+        }
+        _ => false,
+    }
+}
+
+// Puts a line of two parts, with a blank between, as it is told where there is so much room.
+fn put_told(alloc: Global, line: &str, room: Option<u64>, out: &mut Said) -> bool {
+    let Some((word, rest)) = line.split_once(' ') else {
+        return false;
+    };
     let heard = Heard::new(alloc);
     let blank: &[u8] = b" ";
     tell_with_room(&heard, &[word.as_bytes(), blank, rest.as_bytes()], room);
     heard.put_all(out);
     drop(heard);
     out.pop();
-}
-
-/// Puts a line as it is told where there is room for this number of connections, or where it isn't known.
-pub fn put_line(alloc: Global, row: &Row<'_>, out: &mut Said) -> bool {
-    let (true, Some(text)) = (row.has_only(&["line", "room"]), row.value("line")) else {
-        return false;
-    };
-    let (Some(room), Some((word, rest))) = (room_of(row), text.split_once(' ')) else {
-        return false;
-    };
-    put_told(alloc, word, rest, room, out);
     true
 }

@@ -1,110 +1,82 @@
 //! Links over streams in memory: when their time is over, and how they end.
 
-use crate::turned::put_number_line;
+use crate::calls::put_call;
+use crate::stepped::{Stepped, put_steps, word_and_number};
 use crate::turns::{Stream, Ticking, Turn};
 use dev_host::{Ending, Pace, Patience, PolledLink, Sending};
-use dev_traits::{Failed, Link, Sent, Taken};
-use row_text::{Row, Said};
+use dev_traits::Link;
+use row_text::Said;
 
-type Timed<'a> = PolledLink<Stream<'a>, &'a Ticking>;
-
-// A word and a moment behind it.
-pub(crate) fn word_and_number(line: &str) -> Option<(&str, u64)> {
-    let (word, number) = line.split_once(' ')?;
-    Some((word, number.parse::<u64>().ok()?))
+// A link over a stream, and the clock that it reads.
+#[derive(Drop)]
+struct Timed<'a> {
+    clock: &'a Ticking,
+    link: PolledLink<Stream<'a>, &'a Ticking>,
 }
 
-/// Appends what calls of a link do at some moments, in milliseconds after it came, a line for each: `take` and `put`
-/// are of four bytes. `hurry` has it wait for no further request. The last line has the number of calls that failed. It
-/// is false where a line says none.
+/// Appends what calls of a link do at some moments, in milliseconds after it came, a line for each; `hurry` has it wait
+/// for no further request. The last line has the number of calls that failed. It is false where a line says none.
 pub fn put_link(turns: &[Turn], steps: &str, out: &mut Said) -> bool {
-    let clock = Ticking::new(0);
-    let mut link = PolledLink::new(&clock, Stream::new(turns), 0, Patience::of_server());
-    put_calls(&clock, &mut link, steps, out)
+    let clock = &Ticking::new(0);
+    let link = PolledLink::new(clock, Stream::new(turns), 0, Patience::of_server());
+    put_steps(Timed { clock, link }, steps, out)
 }
 
-fn put_calls(clock: &Ticking, link: &mut Timed<'_>, steps: &str, out: &mut Said) -> bool {
-    for line in steps.lines() {
-        if !put_call(clock, link, line, out) {
+impl Stepped for Timed<'_> {
+    fn put_step(&mut self, line: &str, out: &mut Said) -> bool {
+        let (call, Some(now)) = word_and_number(line) else {
             return false;
+        };
+        self.clock.set(now);
+        if call == "hurry" {
+            self.link.hurry();
+            return true;
         }
+        put_call(&mut self.link, call, out)
     }
-    out.put_number("", link.faults());
-    out.put(" faults");
-    true
-}
 
-// Appends what a call does. It is false where a line says none.
-fn put_call(clock: &Ticking, link: &mut Timed<'_>, line: &str, out: &mut Said) -> bool {
-    let Some((word, now)) = word_and_number(line) else {
-        return false;
-    };
-    clock.set(now);
-    match word {
-        "take" => put_taken(link.take(&mut [0u8; 4]), out),
-        "put" => put_sent(link.put(b"abcd"), out),
-        "hurry" => link.hurry(),
-        _ => return false,
-    }
-    true
-}
-
-fn put_taken(taken: Result<Taken, Failed>, out: &mut Said) {
-    match taken {
-        Ok(Taken::Bytes(count)) => put_number_line("", count, out),
-        Ok(Taken::End) => out.put("the end\n"),
-        Ok(Taken::Later) => out.put("later\n"),
-        Err(Failed) => out.put("fault\n"),
-    }
-}
-
-fn put_sent(sent: Result<Sent, Failed>, out: &mut Said) {
-    match sent {
-        Ok(Sent::Bytes(count)) => put_number_line("", count, out),
-        Ok(Sent::Later) => out.put("later\n"),
-        Err(Failed) => out.put("fault\n"),
+    fn put_end(&self, out: &mut Said) {
+        out.put_number("", self.link.faults());
+        out.put(" faults\n");
     }
 }
 
 /// Appends what the end of a connection does: after how many calls the side that sends was closed, and then whether it
 /// is over at some moments. It is false where a line says none.
 pub fn put_end(turns: &[Turn], steps: &str, out: &mut Said) -> bool {
-    let mut ending = Ending::new(Stream::new(turns), 0);
-    put_drops(&mut ending, steps, out)
+    let ending = Ending::new(Stream::new(turns), 0);
+    put_closed(ending.stream.ended(), out);
+    put_steps(ending, steps, out)
 }
 
 fn put_closed(calls: Option<usize>, out: &mut Said) {
     match calls {
         Some(calls) => {
             out.put_number("closed after ", calls);
-            out.put(" calls");
+            out.put(" calls\n");
         }
-        None => out.put("not closed"),
+        None => out.put("not closed\n"),
     }
 }
 
-fn put_drops(ending: &mut Ending<Stream<'_>>, steps: &str, out: &mut Said) -> bool {
-    put_closed(ending.stream.ended(), out);
-    for line in steps.lines() {
-        let Some(("drop", now)) = word_and_number(line) else {
+impl Stepped for Ending<Stream<'_>> {
+    fn put_step(&mut self, line: &str, out: &mut Said) -> bool {
+        let ("drop", Some(now)) = word_and_number(line) else {
             return false;
         };
-        out.put(if ending.drop_more(now) {
-            "\nover"
+        out.put(if self.drop_more(now) {
+            "over\n"
         } else {
-            "\ngoes on"
+            "goes on\n"
         });
+        true
     }
-    true
 }
 
-/// Puts the moment at which the time of a link is over that began to send at the moment 1,000, and sent the row's
-/// number of bytes, the last at 59,000.
-pub fn put_sending(row: &Row<'_>, out: &mut Said) -> bool {
-    let (true, Some(words)) = (row.has_each(&["sending"]), row.value("sending")) else {
-        return false;
-    };
-    let Ok(sent) = words.parse::<u64>() else {
+/// Puts the moment at which the time of a link is over that began to send at the moment 1,000, and sent this number of
+/// bytes, the last at 59,000.
+pub fn put_sending(sent: &str, out: &mut Said) -> bool {
+    let Ok(sent) = sent.parse::<u64>() else {
         return false;
     };
     let pace = Pace {

@@ -1,11 +1,11 @@
 //! Folders in memory, whose listings have names that aren't text, and fail.
 
-use crate::arriving::put_step;
+use crate::arriving::Arriving;
 use crate::hearing::Heard;
+use crate::stepped::put_steps;
 use dev_host::{FolderInbox, Stops};
-use fm_base::NoMemory;
 use row_text::{Row, Said, bytes};
-use std::alloc::{AllocError, Allocator, Global};
+use std::alloc::{Allocator, Global};
 use std::fs::{File, Metadata, OpenOptions};
 use std::io::{self, Error, ErrorKind, Read};
 use std::rt;
@@ -35,8 +35,7 @@ struct Names {
 
 impl Read for Names {
     fn read(&mut self, buf: &mut [u8]) -> io::Result<usize> {
-        let front = self.bytes.get(..self.len).unwrap_or(b"");
-        let mut left = front.get(self.at..).unwrap_or(b"");
+        let mut left = self.bytes.get(self.at..self.len).unwrap_or(b"");
         if left.is_empty() && self.fails {
             return Err(refused());
         }
@@ -113,95 +112,64 @@ impl rt::Clock for Machine {
 }
 
 // The names between blanks, where there is room for them.
-fn names_of(alloc: Global, words: &str, fails: bool) -> Result<Option<Names>, AllocError> {
-    match bytes(alloc, words) {
-        Ok(Some(mut names)) => listed(&mut names, fails),
-        Ok(None) => Ok(None),
-        Err(AllocError) => Err(AllocError),
-    }
+fn names_of(alloc: Global, words: &str, fails: bool) -> Option<Names> {
+    let mut names = bytes(alloc, words).ok()??;
+    end_each(names.as_mut_slice());
+    let listed = listed(names.as_slice(), fails);
+    drop(names);
+    listed
 }
 
-// The names between blanks, where there is room for them, each ended by a NUL.
-fn listed(names: &mut Vec<u8>, fails: bool) -> Result<Option<Names>, AllocError> {
-    end_each(names)?;
-    let mut room = [0; ROOM];
-    let mut left = names.as_slice();
-    let Ok(len) = left.read(&mut room) else {
-        return Ok(None);
-    };
-    if !left.is_empty() {
-        return Ok(None);
-    }
-    Ok(Some(Names {
-        bytes: room,
-        at: 0,
-        len,
-        fails,
-    }))
-}
-
-/// Puts what the inbox of a folder in memory does, whose listings have these names between blanks; with the key
-/// `fails` they fail after the last name.
-pub fn put_names(
-    rt: HostRuntime,
-    alloc: Global,
-    row: &Row<'_>,
-    out: &mut Said,
-) -> Result<bool, NoMemory> {
-    let (true, Some(words), Some(steps)) = (
-        row.has_only(&["names", "fails", "steps"]),
-        row.value("names"),
-        row.value("steps"),
-    ) else {
-        return Ok(false);
-    };
-    match names_of(alloc, words, row.value("fails").is_some()) {
-        Ok(Some(names)) => put_over(Machine { rt, names }, alloc, steps, out),
-        Ok(None) => Ok(false),
-        Err(AllocError) => Err(NoMemory),
-    }
-}
-
-// Appends what the steps of an inbox do. It is false where one is unknown, or the folder can't be opened.
-fn put_over(
-    machine: Machine,
-    alloc: Global,
-    steps: &str,
-    out: &mut Said,
-) -> Result<bool, NoMemory> {
-    let stops = Stops::new(alloc)?;
-    match FolderInbox::open(machine, Heard::new(alloc), stops, alloc, b"in") {
-        Ok(mut inbox) => {
-            let known = put_steps(alloc, &mut inbox, steps, out);
-            drop(inbox);
-            Ok(known)
-        }
-        Err(_) => Ok(false),
-    }
-}
-
-fn put_steps(
-    alloc: Global,
-    inbox: &mut FolderInbox<Machine, Heard>,
-    steps: &str,
-    out: &mut Said,
-) -> bool {
-    for line in steps.lines() {
-        if !put_step(alloc, inbox, "in", line, out) {
-            return false;
-        }
-    }
-    out.pop();
-    true
-}
-
-// Ends each name by a NUL.
-fn end_each(names: &mut Vec<u8>) -> Result<(), AllocError> {
-    for byte in names.as_mut_slice() {
+// Puts a NUL in place of each blank.
+fn end_each(names: &mut [u8]) {
+    for byte in names {
         if *byte == b' ' {
             *byte = 0;
         }
     }
-    names.push(0)?;
-    Ok(())
+}
+
+// The names between these NULs, where there is room for them and an end.
+fn listed(names: &[u8], fails: bool) -> Option<Names> {
+    let mut bytes = [0; ROOM];
+    let mut left = names;
+    let len = left.read(&mut bytes).ok()?.saturating_add(1);
+    if !left.is_empty() || len > ROOM {
+        return None;
+    }
+    let at = 0;
+    Some(Names {
+        bytes,
+        at,
+        len,
+        fails,
+    })
+}
+
+/// Puts what the inbox of a folder in memory does, whose listings have these names between blanks; with the key
+/// `fails` they fail after the last name.
+pub fn put_names(rt: HostRuntime, alloc: Global, row: &Row<'_>, out: &mut Said) -> bool {
+    let names = names_of(
+        alloc,
+        row.value("names").unwrap_or(""),
+        row.value("fails").is_some(),
+    );
+    match (names, row.value("steps")) {
+        (Some(names), Some(steps)) if row.has_only(&["names", "fails", "steps"]) => {
+            put_over(Machine { rt, names }, alloc, steps, out)
+        }
+        _ => false,
+    }
+}
+
+// Appends what the steps of an inbox do. It is false where one is unknown, or the folder can't be opened.
+fn put_over(machine: Machine, alloc: Global, steps: &str, out: &mut Said) -> bool {
+    let Ok(stops) = Stops::new(alloc) else {
+        return false;
+    };
+    let path = "in";
+    match FolderInbox::open(machine, Heard::new(alloc), stops, alloc, path.as_bytes()) {
+        Ok(inbox) => put_steps(Arriving { alloc, inbox, path }, steps, out),
+        Err(_) => false,
+    }
 }

@@ -2,6 +2,7 @@
 
 mod clients;
 mod dialled;
+mod doors;
 mod facts;
 mod links;
 mod opened;

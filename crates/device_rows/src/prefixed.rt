@@ -1,54 +1,44 @@
 //! What the lines about the collections of a server begin with.
 
-use crate::turned::text_and_steps;
-use dev_host::{Collections, Prefix};
-use fm_base::{Bytes, List, NoMemory};
-use row_text::{Row, Said};
+use crate::stepped::{Stepped, put_steps};
+use dev_host::Collections;
+use fm_base::{Bytes, List};
+use row_text::Said;
 use std::alloc::Global;
-
-// Adds a word.
-fn put_word(alloc: Global, word: &str, words: &mut List<Bytes>) -> Result<(), NoMemory> {
-    words.push(Bytes::copy_of(alloc, word.as_bytes())?)
-}
-
-// The collections of a server with the words between blanks.
-fn collections_of(alloc: Global, text: &str) -> Result<Collections, NoMemory> {
-    let mut words = List::new(alloc);
-    for word in text.split_whitespace() {
-        if let Err(NoMemory) = put_word(alloc, word, &mut words) {
-            drop(words);
-            return Err(NoMemory);
-        }
-    }
-    let collections = Collections::of_words(words.as_slice());
-    drop(words);
-    Ok(collections)
-}
 
 /// Puts a line about each inbox and each clock that a server with these words opens one after the other, with what it
 /// begins with: `inbox`, `clock`.
-pub fn put_collections(alloc: Global, row: &Row<'_>, out: &mut Said) -> Result<bool, NoMemory> {
-    let Some((text, steps)) = text_and_steps(row, "collections") else {
-        return Ok(false);
-    };
-    let mut collections = collections_of(alloc, text)?;
-    Ok(put_steps(&mut collections, steps, out))
+pub fn put_collections(alloc: Global, words: &str, steps: &str, out: &mut Said) -> bool {
+    let mut list = List::new(alloc);
+    let known = put_words(alloc, words, &mut list)
+        && put_steps(Collections::of_words(list.as_slice()), steps, out);
+    drop(list);
+    known
 }
 
-fn put_steps(collections: &mut Collections, steps: &str, out: &mut Said) -> bool {
-    for step in steps.lines() {
-        let prefix = match step {
-            "inbox" => collections.next_inbox(),
-            "clock" => collections.next_clock(),
-            _ => return false,
-        };
-        put_line(prefix, out);
+fn put_words(alloc: Global, words: &str, list: &mut List<Bytes>) -> bool {
+    for word in words.split_whitespace() {
+        if put_word(alloc, word, list).is_none() {
+            return false;
+        }
     }
-    out.pop();
     true
 }
 
-fn put_line(prefix: Prefix, out: &mut Said) {
-    out.put_shown(prefix.as_slice());
-    out.put("line\n");
+fn put_word(alloc: Global, word: &str, list: &mut List<Bytes>) -> Option<()> {
+    let word = Bytes::copy_of(alloc, word.as_bytes()).ok()?;
+    list.push(word).ok()
+}
+
+impl Stepped for Collections {
+    fn put_step(&mut self, line: &str, out: &mut Said) -> bool {
+        let prefix = match line {
+            "inbox" => self.next_inbox(),
+            "clock" => self.next_clock(),
+            _ => return false,
+        };
+        out.put_shown(prefix.as_slice());
+        out.put("line\n");
+        true
+    }
 }

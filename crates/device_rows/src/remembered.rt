@@ -1,20 +1,41 @@
 //! Links and sinks in memory: what neither a clause nor another row says of them.
 
-use crate::calls::{put_calls, put_shown_line, put_texts};
-use crate::turned::text_and_steps;
+use crate::calls::{put_call, put_shown_line, put_whole_text};
+use crate::stepped::{Stepped, put_steps, word_and_number};
 use dev_memory::{MemLink, MemSink};
-use fm_base::{List, NoMemory};
-use row_text::{Row, Said};
+use fm_base::List;
+use row_text::Said;
 use std::alloc::Global;
 
-// A link with input `ab`, and room for this many bytes of output, of which no call is to fail.
-fn link_of(alloc: Global, room: usize) -> Result<MemLink, NoMemory> {
-    let input = List::copy_of(alloc, b"ab")?;
-    MemLink::new(alloc, input, room, List::new(alloc))
+/// Puts what calls of a link or a sink in memory give, of this form and with this room for output, and then what it has
+/// put.
+pub fn put_memory(alloc: Global, words: &str, steps: &str, out: &mut Said) -> bool {
+    match word_and_number(words) {
+        ("sink", Some(room)) => put_sink(alloc, room as usize, steps, out),
+        (form, Some(room)) => put_link(alloc, form, room as usize, steps, out),
+        _ => false,
+    }
 }
 
-// That link in a form: `whole`; in `pieces` of 0 bytes; or `held`, whose end is held back until a byte was put.
-fn formed(link: MemLink, form: &str) -> Option<MemLink> {
+fn put_sink(alloc: Global, room: usize, steps: &str, out: &mut Said) -> bool {
+    match MemSink::new(alloc, room, List::new(alloc)) {
+        Ok(sink) => put_steps(sink, steps, out),
+        Err(_) => false,
+    }
+}
+
+fn put_link(alloc: Global, form: &str, room: usize, steps: &str, out: &mut Said) -> bool {
+    match link_of(alloc, form, room) {
+        Some(link) => put_steps(link, steps, out),
+        None => false,
+    }
+}
+
+// A link with input `ab`, and room for this many bytes of output, of which no call is to fail. It is `whole`; in
+// `pieces` of 0 bytes; or `held`, whose end is held back until a byte was put.
+fn link_of(alloc: Global, form: &str, room: usize) -> Option<MemLink> {
+    let input = List::copy_of(alloc, b"ab").ok()?;
+    let link = MemLink::new(alloc, input, room, List::new(alloc)).ok()?;
     match form {
         "whole" => Some(link),
         "pieces" => Some(link.in_pieces(0, 0)),
@@ -26,44 +47,22 @@ fn formed(link: MemLink, form: &str) -> Option<MemLink> {
     }
 }
 
-// The room and the form of a row's link, or of its sink, and its steps.
-fn given<'a>(row: &'a Row<'_>, key: &str) -> Option<(usize, &'a str, &'a str)> {
-    let (words, steps) = text_and_steps(row, key)?;
-    let (room, form) = words.split_once(' ').unwrap_or((words, ""));
-    Some((room.parse::<usize>().ok()?, form, steps))
-}
+impl Stepped for MemLink {
+    fn put_step(&mut self, line: &str, out: &mut Said) -> bool {
+        put_call(self, line, out)
+    }
 
-/// Puts what calls of a link in memory give that a row's `room` describes, and then what it has put.
-pub fn put_room(alloc: Global, row: &Row<'_>, out: &mut Said) -> Result<bool, NoMemory> {
-    match given(row, "room") {
-        Some((room, "sink", steps)) => put_sink(alloc, room, steps, out),
-        Some((room, form, steps)) => put_link(alloc, room, form, steps, out),
-        None => Ok(false),
+    fn put_end(&self, out: &mut Said) {
+        put_shown_line(self.output(), out);
     }
 }
 
-fn put_sink(alloc: Global, room: usize, steps: &str, out: &mut Said) -> Result<bool, NoMemory> {
-    let mut sink = MemSink::new(alloc, room, List::new(alloc))?;
-    let known = put_texts(&mut sink, steps, out);
-    put_shown_line(sink.bytes(), out);
-    drop(sink);
-    out.pop();
-    Ok(known)
-}
+impl Stepped for MemSink {
+    fn put_step(&mut self, line: &str, out: &mut Said) -> bool {
+        put_whole_text(self, line, out)
+    }
 
-fn put_link(
-    alloc: Global,
-    room: usize,
-    form: &str,
-    steps: &str,
-    out: &mut Said,
-) -> Result<bool, NoMemory> {
-    let Some(mut link) = formed(link_of(alloc, room)?, form) else {
-        return Ok(false);
-    };
-    let known = put_calls(&mut link, steps, out);
-    put_shown_line(link.output(), out);
-    drop(link);
-    out.pop();
-    Ok(known)
+    fn put_end(&self, out: &mut Said) {
+        put_shown_line(self.bytes(), out);
+    }
 }

@@ -1,64 +1,55 @@
 //! Links and sinks that block and reads of all there is, over streams in memory.
 
-use crate::calls::{put_calls, put_texts};
+use crate::calls::{put_call, put_whole_text};
 use crate::hearing::Heard;
-use crate::turned::put_number_line;
-use crate::turns::{Turn, next_turn, taken};
+use crate::stepped::{Stepped, put_number_line, put_steps, word_and_number};
+use crate::turns::{Turn, Turns};
 use dev_host::Tell;
 use dev_std::{StreamLink, StreamSink, read_to_end};
 use dev_traits::{Failed, Found};
 use fm_base::Fail;
 use row_text::Said;
 use std::alloc::Global;
-use std::cell::Cell;
 use std::io::{self, Read, Write};
 
-// A reader of these bytes, whose reads do these turns.
+// A reader of these bytes, whose reads do turns.
 #[derive(Drop)]
 struct Reader<'a> {
     left: &'a [u8],
-    turns: &'a [Turn],
-    index: Cell<usize>,
+    turns: Turns<'a>,
 }
 
 impl<'a> Reader<'a> {
     fn new(left: &'a [u8], turns: &'a [Turn]) -> Reader<'a> {
-        Reader {
-            left,
-            turns,
-            index: Cell::new(0),
-        }
+        let turns = Turns::new(turns);
+        Reader { left, turns }
     }
 }
 
 impl Read for Reader<'_> {
     fn read(&mut self, buf: &mut [u8]) -> io::Result<usize> {
-        let most = taken(next_turn(self.turns, &self.index), buf.len())?;
+        let most = self.turns.take(buf.len())?;
         self.left.read(&mut buf[..most])
     }
 }
 
-// A writer whose writes do these turns. What each takes is a line that is told.
+// A writer whose writes do turns. What each takes is a line that is told.
 #[derive(Drop)]
 struct Writer<'a> {
     heard: &'a Heard,
-    turns: &'a [Turn],
-    index: Cell<usize>,
+    turns: Turns<'a>,
 }
 
 impl<'a> Writer<'a> {
     fn new(heard: &'a Heard, turns: &'a [Turn]) -> Writer<'a> {
-        Writer {
-            heard,
-            turns,
-            index: Cell::new(0),
-        }
+        let turns = Turns::new(turns);
+        Writer { heard, turns }
     }
 }
 
 impl Write for Writer<'_> {
     fn write(&mut self, buf: &[u8]) -> io::Result<usize> {
-        let count = taken(next_turn(self.turns, &self.index), buf.len())?;
+        let count = self.turns.take(buf.len())?;
         self.heard.tell(&[&buf[..count]]);
         Ok(count)
     }
@@ -68,33 +59,61 @@ impl Write for Writer<'_> {
     }
 }
 
+// What writes to a writer, and the pieces that it wrote, which are put at the end.
+#[derive(Drop)]
+struct Pieces<'a, D> {
+    device: D,
+    heard: &'a Heard,
+}
+
+impl<'a> Stepped for Pieces<'a, StreamLink<Reader<'a>, Writer<'a>>> {
+    fn put_step(&mut self, line: &str, out: &mut Said) -> bool {
+        put_call(&mut self.device, line, out)
+    }
+
+    fn put_end(&self, out: &mut Said) {
+        self.heard.put_all(out);
+    }
+}
+
+impl<'a> Stepped for Pieces<'a, StreamSink<Writer<'a>>> {
+    fn put_step(&mut self, line: &str, out: &mut Said) -> bool {
+        put_whole_text(&mut self.device, line, out)
+    }
+
+    fn put_end(&self, out: &mut Said) {
+        self.heard.put_all(out);
+    }
+}
+
 /// Appends what calls of a link give that reads `abcde`, and then each piece that it wrote. It is false where a line
 /// says no call.
 pub fn put_blocking(alloc: Global, turns: &[Turn], steps: &str, out: &mut Said) -> bool {
-    let heard = Heard::new(alloc);
+    let heard = &Heard::new(alloc);
     let reader = Reader::new(b"abcde", turns);
-    let mut link = StreamLink::new(reader, Writer::new(&heard, turns));
-    let known = put_calls(&mut link, steps, out);
-    drop(link);
-    end(heard, out);
-    known
+    let device = StreamLink::new(reader, Writer::new(heard, turns));
+    put_steps(Pieces { device, heard }, steps, out)
 }
 
 /// Appends whether a sink puts the text of each line whole, and then each piece that it wrote. It is false where a line
 /// says none.
 pub fn put_sink(alloc: Global, turns: &[Turn], steps: &str, out: &mut Said) -> bool {
-    let heard = Heard::new(alloc);
-    let mut sink = StreamSink::new(Writer::new(&heard, turns));
-    let known = put_texts(&mut sink, steps, out);
-    drop(sink);
-    end(heard, out);
-    known
+    let heard = &Heard::new(alloc);
+    let device = StreamSink::new(Writer::new(heard, turns));
+    put_steps(Pieces { device, heard }, steps, out)
 }
 
-fn end(heard: Heard, out: &mut Said) {
-    heard.put_all(out);
-    drop(heard);
-    out.pop();
+// Reads of all that a reader has, a number of bytes, up to a limit: a line has both.
+#[derive(Drop)]
+pub(crate) struct Whole<'a> {
+    pub alloc: Global,
+    pub turns: &'a [Turn],
+}
+
+impl Stepped for Whole<'_> {
+    fn put_step(&mut self, line: &str, out: &mut Said) -> bool {
+        put_read(self.alloc, self.turns, line, out).is_some()
+    }
 }
 
 // Many bytes, as many as this.
@@ -106,21 +125,9 @@ fn many(alloc: Global, count: u32) -> Option<Vec<u8>> {
     Some(bytes)
 }
 
-/// Appends what is read of a reader that has a number of bytes, with a limit: a line has both. It is false where it
-/// hasn't.
-pub fn put_whole(alloc: Global, turns: &[Turn], steps: &str, out: &mut Said) -> bool {
-    for line in steps.lines() {
-        if put_read(alloc, turns, line, out).is_none() {
-            return false;
-        }
-    }
-    out.pop();
-    true
-}
-
 fn put_read(alloc: Global, turns: &[Turn], line: &str, out: &mut Said) -> Option<()> {
-    let (count, limit) = line.split_once(' ')?;
-    let limit = limit.parse::<u64>().ok()?;
+    let (count, limit) = word_and_number(line);
+    let limit = limit?;
     let all = many(alloc, count.parse::<u32>().ok()?)?;
     let found = read_to_end(alloc, Reader::new(all.as_slice(), turns), 0, limit);
     put_same(&found, all.as_slice(), out);

@@ -1,84 +1,30 @@
-//! Rows of a device that does turns, step by step.
+//! Devices that do turns, step by step.
 
-use crate::accepted::put_accepts;
 use crate::linked::{put_end, put_link};
-use crate::streamed::{put_blocking, put_sink, put_whole};
-use crate::turns::{Turn, turns_of};
-use fm_base::NoMemory;
-use row_text::{Row, Said};
+use crate::stepped::put_steps;
+use crate::streamed::{Whole, put_blocking, put_sink};
+use crate::turns::{Turn, Turns, put_turns};
+use dev_host::Entry;
+use row_text::Said;
 use std::alloc::Global;
-use std::fmt::Display;
 
-/// What does the turns of a row.
-#[derive(Clone, Copy)]
-pub enum Device {
-    /// A link over a stream.
-    Link,
-    /// The end of a connection over a stream.
-    Ending,
-    /// The accepts of a listener.
-    Accepts,
-    /// A link that blocks, over a stream.
-    Blocking,
-    /// A sink over a stream.
-    Sink,
-    /// Reads of all that a stream has.
-    Whole,
-}
-
-impl Device {
-    // The key of its turns.
-    fn key(self) -> &'static str {
-        match self {
-            Device::Link => "link",
-            Device::Ending => "ending",
-            Device::Accepts => "accepts",
-            Device::Blocking => "blocking",
-            Device::Sink => "sink",
-            Device::Whole => "whole",
-        }
-    }
-}
-
-// The text of this key and that of `steps`, where a row has no others.
-pub(crate) fn text_and_steps<'a>(row: &'a Row<'_>, key: &str) -> Option<(&'a str, &'a str)> {
-    if !row.has_each(&[key, "steps"]) {
-        return None;
-    }
-    Some((row.value(key)?, row.value("steps")?))
-}
-
-// Appends a line of a text and a number behind it.
-pub(crate) fn put_number_line<N: Display + Drop>(before: &str, number: N, out: &mut Said) {
-    out.put_number(before, number);
-    out.put("\n");
-}
-
-/// Puts what the steps of a row do to a device that does its turns.
-pub fn put_over_turns(
-    alloc: Global,
-    row: &Row<'_>,
-    device: Device,
-    out: &mut Said,
-) -> Result<bool, NoMemory> {
-    let Some((words, steps)) = text_and_steps(row, device.key()) else {
-        return Ok(false);
-    };
-    match turns_of(alloc, words) {
-        Ok(Some(turns)) => Ok(put_done(alloc, device, turns.as_slice(), steps, out)),
-        Ok(None) => Ok(false),
-        Err(NoMemory) => Err(NoMemory),
-    }
+/// Puts what the steps do to the device that a key names, and that does the turns which words say.
+pub fn put_over_turns(alloc: Global, key: &str, words: &str, steps: &str, out: &mut Said) -> bool {
+    let mut turns = Vec::new(alloc);
+    let known = put_turns(words, &mut turns) && put_done(alloc, key, turns.as_slice(), steps, out);
+    drop(turns);
+    known
 }
 
 // Appends what the steps do. It is false where one is unknown.
-fn put_done(alloc: Global, device: Device, turns: &[Turn], steps: &str, out: &mut Said) -> bool {
-    match device {
-        Device::Link => put_link(turns, steps, out),
-        Device::Ending => put_end(turns, steps, out),
-        Device::Accepts => put_accepts(turns, steps, out),
-        Device::Blocking => put_blocking(alloc, turns, steps, out),
-        Device::Sink => put_sink(alloc, turns, steps, out),
-        Device::Whole => put_whole(alloc, turns, steps, out),
+fn put_done(alloc: Global, key: &str, turns: &[Turn], steps: &str, out: &mut Said) -> bool {
+    match key {
+        "link" => put_link(turns, steps, out),
+        "ending" => put_end(turns, steps, out),
+        "accepts" => put_steps(Entry::new(Turns::new(turns)), steps, out),
+        "blocking" => put_blocking(alloc, turns, steps, out),
+        "sink" => put_sink(alloc, turns, steps, out),
+        "whole" => put_steps(Whole { alloc, turns }, steps, out),
+        _ => false,
     }
 }

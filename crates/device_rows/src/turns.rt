@@ -1,9 +1,7 @@
 //! Streams, listeners and clocks in memory, which do turn by turn what a row says.
 ghost use Rattle.std.specs.Prelude.{◌≤◌, IfOk};
 
-use dev_host::{Listener as Listens, Socket};
-use fm_base::NoMemory;
-use std::alloc::Global;
+use dev_host::{Listener, Socket};
 use std::cell::Cell;
 use std::io::{self, Error, ErrorKind, Read, Write};
 use std::rt;
@@ -25,34 +23,35 @@ pub(crate) enum Turn {
 
 // The turn that a word says.
 fn turn_of(word: &str) -> Option<Turn> {
-    match (word, word.parse::<i32>()) {
-        ("all", _) => Some(Turn::All),
-        ("one", _) => Some(Turn::One),
-        ("none", _) => Some(Turn::Nothing),
-        ("later", _) => Some(Turn::Fails(ErrorKind::WouldBlock)),
-        ("interrupted", _) => Some(Turn::Fails(ErrorKind::Interrupted)),
-        ("aborted", _) => Some(Turn::Fails(ErrorKind::ConnectionAborted)),
-        ("reset", _) => Some(Turn::Fails(ErrorKind::ConnectionReset)),
-        ("broken", _) => Some(Turn::Fails(ErrorKind::BrokenPipe)),
-        (_, Ok(number)) => Some(Turn::Number(number)),
-        _ => None,
-    }
+    Some(match word {
+        "all" => Turn::All,
+        "one" => Turn::One,
+        "none" => Turn::Nothing,
+        "later" => Turn::Fails(ErrorKind::WouldBlock),
+        "interrupted" => Turn::Fails(ErrorKind::Interrupted),
+        "aborted" => Turn::Fails(ErrorKind::ConnectionAborted),
+        "reset" => Turn::Fails(ErrorKind::ConnectionReset),
+        "broken" => Turn::Fails(ErrorKind::BrokenPipe),
+        number => Turn::Number(number.parse::<i32>().ok()?),
+    })
 }
 
-// The turns that words say, at least one.
-pub(crate) fn turns_of(alloc: Global, words: &str) -> Result<Option<Vec<Turn>>, NoMemory> {
-    let mut turns = Vec::new(alloc);
+// Adds the turns that words say. It is false where there are none, or a word says something else.
+pub(crate) fn put_turns(words: &str, turns: &mut Vec<Turn>) -> bool {
     for word in words.split_whitespace() {
-        match turn_of(word) {
-            Some(turn) => turns.push(turn)?,
-            None => return Ok(None),
+        if add_turn(word, turns).is_none() {
+            return false;
         }
     }
-    Ok(if turns.is_empty() { None } else { Some(turns) })
+    !turns.is_empty()
 }
 
-// The bytes, at most `most`, that a call takes.
-pub(crate) fn taken(turn: Turn, most: usize) -> io::Result<usize>
+fn add_turn(word: &str, turns: &mut Vec<Turn>) -> Option<()> {
+    turns.push(turn_of(word)?).ok()
+}
+
+// The bytes, at most `most`, that a turn takes.
+fn taken(turn: Turn, most: usize) -> io::Result<usize>
     ensures { IfOk result (λ count. count ≤ most) }
 {
     match turn {
@@ -64,31 +63,61 @@ pub(crate) fn taken(turn: Turn, most: usize) -> io::Result<usize>
     }
 }
 
-// The turn at an index, which goes on by one. After the last one it stays.
-pub(crate) fn next_turn(turns: &[Turn], index: &Cell<usize>) -> Turn {
-    let at = index.get();
-    match turns.get(at) {
-        Some(turn) => {
-            index.set(at.saturating_add(1));
-            *turn
+// Turns that calls do, one after the other. After the last one it is done again.
+#[derive(Drop)]
+pub(crate) struct Turns<'a> {
+    turns: &'a [Turn],
+    index: Cell<usize>,
+}
+
+impl<'a> Turns<'a> {
+    pub(crate) fn new(turns: &'a [Turn]) -> Turns<'a> {
+        Turns {
+            turns,
+            index: Cell::new(0),
         }
-        None => turns.last().copied().unwrap_or(Turn::Nothing),
+    }
+
+    // How many bytes the next call takes, at most `most`.
+    pub(crate) fn take(&self, most: usize) -> io::Result<usize>
+        ensures { IfOk result (λ count. count ≤ most) }
+    {
+        taken(self.next(), most)
+    }
+
+    fn next(&self) -> Turn {
+        let at = self.index.get();
+        match self.turns.get(at) {
+            Some(turn) => {
+                self.index.set(at.saturating_add(1));
+                *turn
+            }
+            None => self.turns.last().copied().unwrap_or(Turn::Nothing),
+        }
     }
 }
 
-// A stream whose reads and writes do these turns, one after the other.
+// Accepts: one that takes bytes gives a connection.
+impl Listener for Turns<'_> {
+    type Stream = u8;
+
+    fn next_stream(&self) -> io::Result<u8> {
+        self.take(1)?;
+        Ok(b'x')
+    }
+}
+
+// A stream whose reads and writes do turns.
 #[derive(Drop)]
 pub(crate) struct Stream<'a> {
-    turns: &'a [Turn],
-    index: Cell<usize>,
+    turns: Turns<'a>,
     ended: Cell<Option<usize>>,
 }
 
 impl<'a> Stream<'a> {
     pub(crate) fn new(turns: &'a [Turn]) -> Stream<'a> {
         Stream {
-            turns,
-            index: Cell::new(0),
+            turns: Turns::new(turns),
             ended: Cell::new(None),
         }
     }
@@ -101,7 +130,7 @@ impl<'a> Stream<'a> {
 
 impl Read for Stream<'_> {
     fn read(&mut self, buf: &mut [u8]) -> io::Result<usize> {
-        let count = taken(next_turn(self.turns, &self.index), buf.len())?;
+        let count = self.turns.take(buf.len())?;
         buf[..count].fill(b'x');
         Ok(count)
     }
@@ -109,7 +138,7 @@ impl Read for Stream<'_> {
 
 impl Write for Stream<'_> {
     fn write(&mut self, buf: &[u8]) -> io::Result<usize> {
-        taken(next_turn(self.turns, &self.index), buf.len())
+        self.turns.take(buf.len())
     }
 
     fn flush(&mut self) -> io::Result<()> {
@@ -123,33 +152,8 @@ impl Socket for Stream<'_> {
     }
 
     fn end_sending(&self) -> io::Result<()> {
-        self.ended.set(Some(self.index.get()));
+        self.ended.set(Some(self.turns.index.get()));
         Ok(())
-    }
-}
-
-// A listener whose accepts do these turns: one that takes bytes gives a connection.
-#[derive(Drop)]
-pub(crate) struct Listener<'a> {
-    turns: &'a [Turn],
-    index: Cell<usize>,
-}
-
-impl<'a> Listener<'a> {
-    pub(crate) fn new(turns: &'a [Turn]) -> Listener<'a> {
-        Listener {
-            turns,
-            index: Cell::new(0),
-        }
-    }
-}
-
-impl Listens for Listener<'_> {
-    type Stream = u8;
-
-    fn next_stream(&self) -> io::Result<u8> {
-        taken(next_turn(self.turns, &self.index), 1)?;
-        Ok(b'x')
     }
 }
 

@@ -3,6 +3,7 @@
 #![tactic(auto)]
 
 mod described;
+mod grown;
 mod reading;
 mod running;
 mod said;

@@ -1,7 +1,7 @@
 //! The files that a program of rows is given by its words.
 
 use crate::described::File;
-use std::alloc::{Alloc, AllocError, Global};
+use std::alloc::{Alloc, Global};
 use std::env::{self, Env};
 use std::fs::{self, Files};
 use std::io;
@@ -35,35 +35,50 @@ pub fn read_inputs<R: Env + Files + Alloc<A = Global>>(rt: &R) -> io::Result<Inp
         texts: Vec::new(alloc),
         files: Vec::new(alloc),
     };
-    for path in env::args(rt)?.skip(1) {
-        inputs.read(rt, path)?;
+    match inputs.read_each(rt) {
+        Ok(()) => Ok(inputs),
+        Err(error) => {
+            drop(inputs);
+            Err(error)
+        }
     }
-    Ok(inputs)
 }
 
 impl Inputs {
+    // Reads each file.
+    fn read_each<R: Env + Files + Alloc<A = Global>>(&mut self, rt: &R) -> io::Result<()> {
+        for path in env::args(rt)?.skip(1) {
+            self.read(rt, path)?;
+        }
+        Ok(())
+    }
+
     // Reads one more file.
     fn read<R: Files + Alloc<A = Global>>(&mut self, rt: &R, path: String) -> io::Result<()> {
         if path.ends_with(".rows") {
             self.read_text(rt, path)
         } else {
-            self.read_file(rt, path.as_str())
+            self.read_file(rt, path)
         }
     }
 
     fn read_text<R: Files + Alloc<A = Global>>(&mut self, rt: &R, path: String) -> io::Result<()> {
-        let text = fs::read_to_string(rt, path.as_str())?;
-        Ok(self.texts.push(Text { path, text })?)
+        match fs::read_to_string(rt, path.as_str()) {
+            Ok(text) => Ok(self.texts.push(Text { path, text })?),
+            Err(error) => {
+                drop(path);
+                Err(error)
+            }
+        }
     }
 
-    fn read_file<R: Files + Alloc<A = Global>>(&mut self, rt: &R, path: &str) -> io::Result<()> {
-        let content = fs::read(rt, path)?;
-        Ok(self.add_file(rt.alloc(), path, content)?)
-    }
-
-    // Adds a file that rows begin from, under its name without the folders in front.
-    fn add_file(&mut self, alloc: Global, path: &str, content: Vec<u8>) -> Result<(), AllocError> {
-        let name = String::from_str(alloc, path.rsplit('/').next().unwrap_or(""))?;
-        Ok(self.files.push(File { name, content })?)
+    fn read_file<R: Files + Alloc<A = Global>>(&mut self, rt: &R, path: String) -> io::Result<()> {
+        match fs::read(rt, path.as_str()) {
+            Ok(content) => Ok(self.files.push(File { path, content })?),
+            Err(error) => {
+                drop(path);
+                Err(error)
+            }
+        }
     }
 }

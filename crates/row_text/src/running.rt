@@ -29,7 +29,21 @@ pub fn run<A: Answers>(
     answers: &A,
     count: &mut Count,
 ) -> io::Result<()> {
-    for row in &rows(alloc, text)? {
+    let rows = rows(alloc, text)?;
+    let ran = run_rows(rt, alloc, path, rows.as_slice(), answers, count);
+    drop(rows);
+    ran
+}
+
+fn run_rows<A: Answers>(
+    rt: &impl Eprint,
+    alloc: Global,
+    path: &str,
+    rows: &[Row<'_>],
+    answers: &A,
+    count: &mut Count,
+) -> io::Result<()> {
+    for row in rows {
         run_row(rt, alloc, path, row, answers, count)?;
     }
     Ok(())
@@ -45,9 +59,9 @@ fn run_row<A: Answers>(
 ) -> io::Result<()> {
     let mut said = Said::new(alloc);
     let known = answers.answer(alloc, row, &mut said);
-    let got = said.text()?;
-    let got = if known? { Some(got.as_str()) } else { None };
-    compare(rt, path, row, got, count)
+    let compared = compare(rt, path, row, said.known(known), count);
+    drop(said);
+    compared
 }
 
 // Counts a row, and prints it where its answer isn't the wanted one.
@@ -55,9 +69,10 @@ fn compare(
     rt: &impl Eprint,
     path: &str,
     row: &Row<'_>,
-    got: Option<&str>,
+    got: Result<Option<&str>, AllocError>,
     count: &mut Count,
 ) -> io::Result<()> {
+    let got = got?;
     count.rows = count.rows.saturating_add(1);
     if is_wanted(row, got) {
         return Ok(());
@@ -77,12 +92,13 @@ fn is_wanted(row: &Row<'_>, got: Option<&str>) -> bool {
 // Prints a row's name, its answer and the wanted one.
 fn report(rt: &impl Eprint, path: &str, row: &Row<'_>, got: Option<&str>) -> io::Result<()> {
     let name = row.value("name").unwrap_or("(no name)");
-    let want = row.value("want").unwrap_or("(no want)");
-    let got = got.unwrap_or("(a row of another form)");
-    eprintln!(rt;
-        "{path}:{}: {name}\n-- got\n{got}\n-- want\n{want}",
-        row.line
-    )
+    eprintln!(rt; "{path}:{}: {name}", row.line)?;
+    print_under(rt, "got", got.unwrap_or("(a row of another form)"))?;
+    print_under(rt, "want", row.value("want").unwrap_or("(no want)"))
+}
+
+fn print_under(rt: &impl Eprint, title: &str, text: &str) -> io::Result<()> {
+    eprintln!(rt; "-- {title}\n{text}")
 }
 
 /// Prints the counts. The exit status is 0 where no row was wrong.

@@ -34,6 +34,19 @@ impl Said {
         }
     }
 
+    /// The text of a row that is known, or that memory ran out for it.
+    pub(crate) fn known(
+        &self,
+        known: Result<bool, AllocError>,
+    ) -> Result<Option<&str>, AllocError> {
+        match known {
+            Ok(_) if self.is_short => Err(AllocError),
+            Ok(true) => Ok(Some(self.as_str())),
+            Ok(false) => Ok(None),
+            Err(AllocError) => Err(AllocError),
+        }
+    }
+
     /// Takes away all that was put. That memory ran out stays.
     pub fn clear(&mut self) {
         self.text.clear();
@@ -108,8 +121,7 @@ impl Said {
     fn put_byte(&mut self, byte: u8) {
         match byte {
             b'\r' => self.put("\\r"),
-            b'\\' => self.put("\\x5c"),
-            b'\n' | 32..=126 => self.put_char(byte as char),
+            b'\n' | b' '..=b'[' | b']'..=b'~' => self.put_char(byte as char),
             _ => {
                 self.put("\\x");
                 self.put_digits(byte);

@@ -66,23 +66,31 @@ impl<'a> Row<'a> {
         }
     }
 
-    // Appends a line to the value of the last field; one that stands below no field gets an empty key.
+    // Adds a line: a field, or behind a bar more of the value of the last one.
     fn add_line(&mut self, alloc: Global, line: &'a str) -> Result<(), AllocError> {
-        match self.fields.last_mut() {
-            Some(field) => {
-                if !field.value.is_empty() {
-                    field.value.push('\n')?;
-                }
-                field.value.push_str(line)
+        match (line.strip_prefix('|'), self.fields.last_mut()) {
+            (Some(more), Some(field)) => {
+                append_line(&mut field.value, more.strip_prefix(' ').unwrap_or(more))
             }
-            None => self.add(alloc, "", line),
+            _ => self.add_field(alloc, line.split_once(':').unwrap_or(("", line))),
         }
     }
 
-    fn add(&mut self, alloc: Global, key: &'a str, value: &str) -> Result<(), AllocError> {
-        let value = String::from_str(alloc, value)?;
+    fn add_field(
+        &mut self,
+        alloc: Global,
+        (key, value): (&'a str, &str),
+    ) -> Result<(), AllocError> {
+        let value = String::from_str(alloc, value.trim())?;
         Ok(self.fields.push(Field { key, value })?)
     }
+}
+
+fn append_line(text: &mut String, line: &str) -> Result<(), AllocError> {
+    if !text.is_empty() {
+        text.push('\n')?;
+    }
+    text.push_str(line)
 }
 
 fn is_among(key: &str, keys: &[&str]) -> bool {
@@ -108,35 +116,29 @@ pub fn put_rows<'a>(
     text: &'a str,
     rows: &mut Vec<Row<'a>>,
 ) -> Result<(), AllocError> {
-    let mut first = 1usize;
-    let mut begins = true;
+    let mut first = Some(1);
     for (number, line) in text.lines().enumerate() {
         if line.trim_end().is_empty() {
-            first = number.saturating_add(2);
-            begins = true;
+            first = Some(number.saturating_add(2));
         } else if !line.starts_with('#') {
-            if begins {
-                rows.push(Row::new(alloc, first))?;
-            }
-            begins = false;
-            add_to_last(alloc, rows, line)?;
+            add_line(alloc, rows, first.take(), line)?;
         }
     }
     Ok(())
 }
 
-// Adds a line to the last row.
-fn add_to_last<'a>(
+// Adds a line to the last row, or to a new one that begins at this line.
+fn add_line<'a>(
     alloc: Global,
     rows: &mut Vec<Row<'a>>,
+    first: Option<usize>,
     line: &'a str,
 ) -> Result<(), AllocError> {
-    let Some(row) = rows.last_mut() else {
-        return Ok(());
-    };
-    if let Some(more) = line.strip_prefix('|') {
-        return row.add_line(alloc, more.strip_prefix(' ').unwrap_or(more));
+    if let Some(first) = first {
+        rows.push(Row::new(alloc, first))?;
     }
-    let (key, value) = line.split_once(':').unwrap_or(("", line));
-    row.add(alloc, key, value.trim())
+    match rows.last_mut() {
+        Some(row) => row.add_line(alloc, line),
+        None => Ok(()),
+    }
 }

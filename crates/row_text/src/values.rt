@@ -1,40 +1,29 @@
 //! Text as bytes.
 ghost use Rattle.std.specs.Prelude.{◌<◌, IfSome};
 
+use crate::grown::Grown;
 use std::alloc::{AllocError, Global};
 
 /// The bytes that a value stands for: its own, a carriage return as `\r`, a line feed as `\n`, and any byte as `\xNN`,
 /// a backslash too; `None` where a backslash begins nothing of these.
 pub fn bytes(alloc: Global, value: &str) -> Result<Option<Vec<u8>>, AllocError> {
-    let mut bytes = Vec::new(alloc);
-    let known = put_bytes(value, &mut bytes);
-    if_known(known, bytes)
-}
-
-// Bytes that were put, where all that they stand for is known.
-pub(crate) fn if_known(
-    known: Result<bool, AllocError>,
-    bytes: Vec<u8>,
-) -> Result<Option<Vec<u8>>, AllocError> {
-    match known {
-        Ok(true) => Ok(Some(bytes)),
-        Ok(false) => Ok(None),
-        Err(AllocError) => Err(AllocError),
-    }
+    let mut grown = Grown::new(alloc);
+    let known = put_bytes(value, &mut grown);
+    grown.end(known)
 }
 
 // Appends the bytes that a value stands for. It is false where a backslash begins nothing of these.
-fn put_bytes(value: &str, out: &mut Vec<u8>) -> Result<bool, AllocError> {
+fn put_bytes(value: &str, out: &mut Grown) -> bool {
     let mut parts = value.split('\\');
-    out.extend_from_slice(parts.next().unwrap_or("").as_bytes())?;
+    out.put(parts.next().unwrap_or("").as_bytes());
     for part in parts {
         let Some((byte, rest)) = escaped(part.as_bytes()) else {
-            return Ok(false);
+            return false;
         };
-        out.push(byte)?;
-        out.extend_from_slice(rest)?;
+        out.push(byte);
+        out.put(rest);
     }
-    Ok(true)
+    true
 }
 
 // The byte that stands behind a backslash, and what comes after it.
@@ -49,23 +38,31 @@ fn escaped(part: &[u8]) -> Option<(u8, &[u8])> {
 
 /// The bytes of hexadecimal digits, two for each byte; blanks and line ends may stand between bytes.
 pub fn hex(alloc: Global, digits: &str) -> Result<Option<Vec<u8>>, AllocError> {
-    let mut bytes = Vec::new(alloc);
-    let known = put_bytes_of(digits, &mut bytes);
-    if_known(known, bytes)
+    let mut grown = Grown::new(alloc);
+    let known = put_bytes_of(digits, &mut grown);
+    grown.end(known)
 }
 
 /// Appends the bytes of hexadecimal digits. It is false where the text is something else.
-pub fn put_bytes_of(digits: &str, out: &mut Vec<u8>) -> Result<bool, AllocError> {
+pub(crate) fn put_bytes_of(digits: &str, out: &mut Grown) -> bool {
     for word in digits.split_whitespace() {
-        let mut digits = word.bytes();
-        while let Some(high) = digits.next() {
-            let Some(byte) = byte_of(high, digits.next().unwrap_or(b' ')) else {
-                return Ok(false);
-            };
-            out.push(byte)?;
+        if !put_word(word, out) {
+            return false;
         }
     }
-    Ok(true)
+    true
+}
+
+// Appends the bytes of hexadecimal digits without blanks.
+fn put_word(digits: &str, out: &mut Grown) -> bool {
+    let mut digits = digits.bytes();
+    while let Some(high) = digits.next() {
+        let Some(byte) = byte_of(high, digits.next().unwrap_or(b' ')) else {
+            return false;
+        };
+        out.push(byte);
+    }
+    true
 }
 
 // The byte of two hexadecimal digits.

@@ -36,7 +36,7 @@ pub fn put_projection(
 // The text of a file; no text where there is no such file.
 fn named<'a>(files: &'a [File], name: &[u8]) -> &'a str {
     for file in files {
-        if file.name.as_str().as_bytes() == name {
+        if file.name().as_bytes() == name {
             return str::from_utf8(file.content.as_slice()).unwrap_or("");
         }
     }

@@ -61,16 +61,17 @@ fn put_talk(alloc: Global, clients: &mut Vec<TcpStream>, step: &str, out: &mut S
     let Some(client) = clients.last_mut() else {
         return false;
     };
-    match step.split_once(' ') {
-        Some(("send", text)) => client.write_all(text.as_bytes()).is_ok(),
-        Some(("flood", count)) => floods(client, count.parse::<u32>().unwrap_or(0)),
-        None if step == "end" => client.shutdown(Shutdown::Write).is_ok(),
-        None if step == "hear" => put_heard(alloc, client, out),
+    match step.split_once(' ').unwrap_or((step, "")) {
+        ("send", text) => client.write_all(text.as_bytes()).is_ok(),
+        ("flood", count) => floods(client, count),
+        ("end", "") => client.shutdown(Shutdown::Write).is_ok(),
+        ("hear", "") => put_heard(alloc, client, out),
         _ => false,
     }
 }
 
-fn floods(client: &mut TcpStream, count: u32) -> bool {
+fn floods(client: &mut TcpStream, count: &str) -> bool {
+    let count = count.parse::<u32>().unwrap_or(0);
     for _ in 0..count {
         if client.write_all(&[b'x'; 1000]).is_err() {
             return false;

@@ -1,7 +1,7 @@
 //! A dialer of the machine, and its link.
 
 use crate::calls::{put_call, put_fault};
-use crate::turned::put_number_line;
+use crate::stepped::{put_number_line, word_and_number};
 use dev_host::{DialledLink, TcpDial};
 use dev_traits::Dial;
 use row_text::{Said, bytes};
@@ -16,7 +16,7 @@ pub(crate) struct Dialled {
     link: DialledLink,
 }
 
-// Does a step of a dialer: `dial PATIENCE ADDRESS`, where the address may be `door` for that of the last door;
+// Does a step of a dialer: `dial ADDRESS PATIENCE`, where the address may be `door` for that of the last door;
 // `dialled CALL` for a call of its link; `hang up`. It is false where a line says none.
 pub(crate) fn put_dial_step(
     rt: &HostRuntime,
@@ -25,10 +25,10 @@ pub(crate) fn put_dial_step(
     step: &str,
     out: &mut Said,
 ) -> bool {
-    match step.split_once(' ') {
-        Some(("dial", words)) => put_dial(rt, address, dialled, words, out).is_some(),
-        Some(("dialled", call)) => put_dialled(dialled, call, out),
-        Some(("hang", "up")) => hang_up(dialled, out),
+    match step.split_once(' ').unwrap_or((step, "")) {
+        ("dial", words) => put_dial(rt, address, dialled, words, out).is_some(),
+        ("dialled", call) => put_dialled(dialled, call, out),
+        ("hang", "up") => hang_up(dialled, out),
         _ => false,
     }
 }
@@ -41,8 +41,8 @@ fn put_dial(
     words: &str,
     out: &mut Said,
 ) -> Option<()> {
-    let (patience, word) = words.split_once(' ')?;
-    let patience = patience.parse::<u64>().ok()?;
+    let (word, patience) = word_and_number(words);
+    let patience = patience?;
     let peer = address_of(rt.alloc(), address, word)?;
     put_dial_at(*rt, patience, peer.as_slice(), dialled, out);
     drop(peer);
@@ -59,8 +59,7 @@ pub(crate) fn address_of(
         return bytes(alloc, word).ok()?;
     }
     let address = address?;
-    let text = format!(in alloc; "{address}").ok()?;
-    bytes(alloc, text.as_str()).ok()?
+    Some(format!(in alloc; "{address}").ok()?.into_bytes())
 }
 
 fn put_dial_at(

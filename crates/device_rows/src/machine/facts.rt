@@ -1,6 +1,6 @@
 //! Facts that no lines of a play can say.
 
-use dev_host::{HostOpener, RealClock, Teller, connections_left, host_world};
+use dev_host::{RealClock, Teller, connections_left, host_world};
 use dev_std::{StdSink, StdStream};
 use dev_traits::{Clock, Expiry, Machine, Sink};
 use fm_base::List;
@@ -9,10 +9,7 @@ use std::time::Duration;
 
 /// Puts whether the fact holds that a row is named after. It is false where there is no such fact.
 pub(crate) fn put_fact(rt: HostRuntime, row: &Row<'_>, out: &mut Said) -> bool {
-    let (true, Some(name)) = (row.has_each(&["of"]), row.value("name")) else {
-        return false;
-    };
-    let Some(holds) = holds(rt, name) else {
+    let Some(holds) = holds(rt, row.value("name").unwrap_or("")) else {
         return false;
     };
     out.put(if holds { "holds" } else { "doesn't hold" });
@@ -24,7 +21,7 @@ fn holds(rt: HostRuntime, fact: &str) -> Option<bool> {
     match fact {
         "a clock gives its moments and ends" => Some(gives_two(&mut clock_of(rt, 2))),
         "a clock without end goes on" => Some(goes_on(&mut clock_of(rt, 0))),
-        "a world of a process opens a clock" => Some(is_closed(rt)),
+        "a world of a process opens a clock" => Some(opens_a_clock(rt)),
         "a process that is open nowhere has room for connections" => {
             Some(connections_left(&rt, rt.alloc()).unwrap_or(0) > 0)
         }
@@ -60,7 +57,7 @@ fn gives_two(clock: &mut HostClock) -> bool {
 }
 
 // Whether five moments come.
-fn goes_on(clock: &mut HostClock) -> bool {
+fn goes_on<C: Clock>(clock: &mut C) -> bool {
     for _ in 0..5 {
         if clock.next().is_none() {
             return false;
@@ -69,18 +66,20 @@ fn goes_on(clock: &mut HostClock) -> bool {
     true
 }
 
-// Whether an opener's clock gives one moment.
-fn opens_a_clock(opener: &mut HostOpener) -> bool {
+// Whether the clock that an opener opens gives one moment.
+fn gives_one<M: Machine>(opener: &mut M) -> bool {
     let mut clock = opener.clock(1);
-    clock.next().is_some() && clock.next().is_none()
+    let gives_one = clock.next().is_some() && clock.next().is_none();
+    drop(clock);
+    gives_one
 }
 
-// Whether the world of a process opens a clock, and is open nowhere.
-fn is_closed(rt: HostRuntime) -> bool {
+// Whether the world of a process opens a clock.
+fn opens_a_clock(rt: HostRuntime) -> bool {
     let mut world = host_world(rt, &List::new(rt.alloc()));
-    let open = &world.devices;
-    let is_empty = open.doors.is_empty() && open.inboxes.is_empty() && open.clocks.is_empty();
-    is_empty && opens_a_clock(&mut world.opener)
+    let opens = gives_one(&mut world.opener);
+    drop(world);
+    opens
 }
 
 // Whether a line is put to a stream as a sink.

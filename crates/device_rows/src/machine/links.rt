@@ -1,7 +1,7 @@
-//! Links of the machine that rest, and whose clients read nothing.
+//! Links that come through doors.
 
-use super::ways::{HostDoor, HostLink};
 use crate::calls::{put_call, put_fault, put_taken};
+use crate::stepped::put_number_line;
 use dev_traits::{Coming, Door, Failed, Link, Sent, Taken};
 use row_text::Said;
 
@@ -9,15 +9,27 @@ use row_text::Said;
 // more after it took none.
 const RESTS: u32 = 20;
 
-// Does a step of the last link: `rest`; `take on`, which rests until a take gives something; `fill` until a put would
-// wait, `fill on` until one fails; `delay` for whether small puts wait for more; and its calls. It is false where there
-// is no such step.
-pub(crate) fn put_link_step(
-    door: &mut HostDoor,
-    links: &mut Vec<HostLink>,
+// Does a step of the last door or of the last link: `next`, what the door says beside that links may go on; `ready`,
+// the same, or that this link may go on; and what the link does. It is false where a line says none.
+pub(crate) fn put_link_step<D: Door>(
+    doors: &mut Vec<D>,
+    links: &mut Vec<D::L>,
     step: &str,
     out: &mut Said,
 ) -> bool {
+    let Some(door) = doors.last_mut() else {
+        return false;
+    };
+    match step {
+        "next" => put_next(door, links, false, out),
+        "ready" => put_next(door, links, true, out),
+        _ => put_call_step(door, links, step, out),
+    }
+}
+
+// Does a step of the last link: `rest`; `take on`, which rests until a take gives something; `fill` until a put would
+// wait, `fill on` until one fails; and its calls. It is false where a line says none.
+fn put_call_step<D: Door>(door: &mut D, links: &mut Vec<D::L>, step: &str, out: &mut Said) -> bool {
     let key = links.len().saturating_sub(1);
     let Some(link) = links.last_mut() else {
         return false;
@@ -27,14 +39,40 @@ pub(crate) fn put_link_step(
         "take on" => put_taken_on(door, key, link, out),
         "fill" => put_filled(door, key, link, 0, out),
         "fill on" => put_filled(door, key, link, RESTS, out),
-        "delay" => put_delay(link, out),
         _ => return put_call(link, step, out),
     }
     true
 }
 
+// Appends what a door says next, beside that links may go on. Where `awaits` says so, that the last one may counts.
+fn put_next<D: Door>(door: &mut D, links: &mut Vec<D::L>, awaits: bool, out: &mut Said) -> bool {
+    for _ in 0..10_000 {
+        if let Some(said) = said_next(door, links, awaits) {
+            out.put(said);
+            return true;
+        }
+    }
+    false
+}
+
+// What a door says next, or `None` where it says that a link may go on that isn't awaited.
+fn said_next<D: Door>(door: &mut D, links: &mut Vec<D::L>, awaits: bool) -> Option<&'static str> {
+    let count = links.len();
+    match door.next(count) {
+        Ok(Coming::Came(link)) => Some(if links.push(link).is_ok() {
+            "came\n"
+        } else {
+            "no memory\n"
+        }),
+        Ok(Coming::Ready(key)) if awaits && key.saturating_add(1) == count => Some("ready\n"),
+        Ok(Coming::Ready(_)) => None,
+        Ok(Coming::Closed) => Some("closed\n"),
+        Err(Failed) => Some("fault\n"),
+    }
+}
+
 // Puts bytes until that would wait. Returns whether it came to that.
-fn fills(link: &mut HostLink) -> bool {
+fn fills<L: Link>(link: &mut L) -> bool {
     for _ in 0..10_000 {
         match link.put(&[b'x'; 4096]) {
             Ok(Sent::Later) => return true,
@@ -46,13 +84,13 @@ fn fills(link: &mut HostLink) -> bool {
 }
 
 // Whether the next that a door says is that a link, which rests, may go on.
-fn rests(door: &mut HostDoor, key: usize, link: &mut HostLink) -> bool {
+fn rests<D: Door>(door: &mut D, key: usize, link: &mut D::L) -> bool {
     door.rest(key, link);
     matches!(door.next(key.saturating_add(1)), Ok(Coming::Ready(found)) if found == key)
 }
 
 // Takes until that wouldn't wait, with a rest before each further take.
-fn put_taken_on(door: &mut HostDoor, key: usize, link: &mut HostLink, out: &mut Said) {
+fn put_taken_on<D: Door>(door: &mut D, key: usize, link: &mut D::L, out: &mut Said) {
     let mut buf = [0u8; 4];
     let mut taken = link.take(&mut buf);
     for _ in 0..RESTS {
@@ -64,7 +102,7 @@ fn put_taken_on(door: &mut HostDoor, key: usize, link: &mut HostLink, out: &mut 
 }
 
 // Puts bytes until that would wait, and again after each of at most `most` rests.
-fn put_filled(door: &mut HostDoor, key: usize, link: &mut HostLink, most: u32, out: &mut Said) {
+fn put_filled<D: Door>(door: &mut D, key: usize, link: &mut D::L, most: u32, out: &mut Said) {
     let mut waits = fills(link);
     for _ in 0..most {
         waits = waits && rests(door, key, link) && fills(link);
@@ -76,9 +114,9 @@ fn put_filled(door: &mut HostDoor, key: usize, link: &mut HostLink, most: u32, o
     }
 }
 
-fn put_delay(link: &HostLink, out: &mut Said) {
-    out.put(match link.stream.nodelay() {
-        Ok(true) => "no delay\n",
-        _ => "delay\n",
-    });
+// Appends how many calls of each door have failed.
+pub(crate) fn put_faults<D: Door>(doors: &[D], out: &mut Said) {
+    for door in doors {
+        put_number_line("faults: ", door.faults(), out);
+    }
 }

@@ -2,33 +2,43 @@
 
 use super::clients::put_client_step;
 use super::dialled::{Dialled, put_dial_step};
-use super::opened::Opened;
 use super::timed::put_time_step;
 use super::ways::Ways;
-use row_text::{Row, Said};
-use std::net::TcpStream;
+use crate::stepped::{Stepped, put_steps};
+use row_text::Said;
+use std::alloc::Global;
+use std::net::{SocketAddr, TcpStream};
 use std::time::Instant;
 
-// What a play has opened, the clients of its doors, the link that it dialled, and the moment that it marked.
-#[derive(Drop)]
-struct Play {
-    rt: HostRuntime,
-    opened: Opened,
-    ways: Ways,
-    clients: Vec<TcpStream>,
-    dialled: Option<Dialled>,
-    mark: Option<Instant>,
+/// Puts what comes out of the lines of a play.
+pub(crate) fn put_play(rt: HostRuntime, lines: &str, out: &mut Said) -> bool {
+    let alloc = rt.alloc();
+    let play = Play {
+        ways: Ways::new(rt),
+        peers: Peers::new(rt),
+    };
+    put_steps(Lines { alloc, play }, lines, out)
 }
 
-/// Puts what comes out of the lines of a play.
-pub(crate) fn put_play(rt: HostRuntime, row: &Row<'_>, out: &mut Said) -> bool {
-    let (true, Some(steps)) = (row.has_each(&["play"]), row.value("play")) else {
-        return false;
-    };
-    let mut play = Play::new(rt);
-    let known = play.put_lines(steps, out);
-    drop(play);
-    known
+// What goes on by lines, each of which has steps between `;`, and a number of times before them.
+#[derive(Drop)]
+struct Lines<P> {
+    alloc: Global,
+    play: P,
+}
+
+impl<P: Stepped> Stepped for Lines<P> {
+    // Does the steps of a line so often as it says.
+    fn put_step(&mut self, line: &str, out: &mut Said) -> bool {
+        let mut before = Said::new(self.alloc);
+        let known = put_rounds(self.alloc, &mut self.play, line, &mut before, out);
+        drop(before);
+        known
+    }
+
+    fn put_end(&self, out: &mut Said) {
+        self.play.put_end(out);
+    }
 }
 
 // How often the steps of a line are done, and the steps: `COUNT times STEP; STEP` says how often, other lines are done
@@ -40,72 +50,91 @@ fn rounds_of(line: &str) -> (u32, &str) {
     }
 }
 
-impl Play {
-    fn new(rt: HostRuntime) -> Play {
-        let alloc = rt.alloc();
-        Play {
+fn put_rounds<P: Stepped>(
+    alloc: Global,
+    play: &mut P,
+    line: &str,
+    before: &mut Said,
+    out: &mut Said,
+) -> bool {
+    let (count, steps) = rounds_of(line);
+    for _ in 0..count {
+        if !put_next_round(alloc, play, steps, before, out) {
+            return false;
+        }
+    }
+    count > 0
+}
+
+// Does the steps. What they give is left out where the round before gave the same.
+fn put_next_round<P: Stepped>(
+    alloc: Global,
+    play: &mut P,
+    steps: &str,
+    before: &mut Said,
+    out: &mut Said,
+) -> bool {
+    let mut said = Said::new(alloc);
+    let known = put_round(play, steps, &mut said);
+    if said.as_str() != before.as_str() {
+        before.clear();
+        before.put(said.as_str());
+        out.put(said.as_str());
+    }
+    drop(said);
+    known
+}
+
+fn put_round<P: Stepped>(play: &mut P, steps: &str, out: &mut Said) -> bool {
+    for step in steps.split(';') {
+        if !play.put_step(step.trim(), out) {
+            return false;
+        }
+    }
+    true
+}
+
+// Doors, and who connects to them.
+#[derive(Drop)]
+struct Play {
+    ways: Ways,
+    peers: Peers,
+}
+
+impl Stepped for Play {
+    fn put_step(&mut self, step: &str, out: &mut Said) -> bool {
+        self.ways.put_step(step, out) || self.peers.put_step(self.ways.address(), step, out)
+    }
+
+    fn put_end(&self, out: &mut Said) {
+        self.ways.put_end(out);
+    }
+}
+
+// The clients of doors, the link that was dialled, and the moment that was marked.
+#[derive(Drop)]
+struct Peers {
+    rt: HostRuntime,
+    clients: Vec<TcpStream>,
+    dialled: Option<Dialled>,
+    mark: Option<Instant>,
+}
+
+impl Peers {
+    fn new(rt: HostRuntime) -> Peers {
+        Peers {
             rt,
-            opened: Opened::new(rt),
-            ways: Ways::new(alloc),
-            clients: Vec::new(alloc),
+            clients: Vec::new(rt.alloc()),
             dialled: None,
             mark: None,
         }
     }
 
-    // Does each line, and then puts how many calls of each door have failed. It is false where a line says no step.
-    fn put_lines(&mut self, lines: &str, out: &mut Said) -> bool {
-        for line in lines.lines() {
-            let (count, steps) = rounds_of(line);
-            if !self.put_rounds(count, steps, out) {
-                return false;
-            }
-        }
-        self.ways.put_faults(out);
-        out.pop();
-        true
-    }
-
-    // Does the steps so often.
-    fn put_rounds(&mut self, count: u32, steps: &str, out: &mut Said) -> bool {
-        let mut before = Said::new(self.rt.alloc());
-        let mut known = count > 0;
-        for _ in 0..count {
-            known = known && self.put_next_round(steps, &mut before, out);
-        }
-        drop(before);
-        known
-    }
-
-    // Does the steps. What they give is left out where the round before gave the same.
-    fn put_next_round(&mut self, steps: &str, before: &mut Said, out: &mut Said) -> bool {
-        let mut said = Said::new(self.rt.alloc());
-        let known = self.put_round(steps, &mut said);
-        if said.as_str() == before.as_str() {
-            drop(said);
-        } else {
-            before.clear();
-            before.put(said.as_str());
-            out.put_said(said);
-        }
-        known
-    }
-
-    fn put_round(&mut self, steps: &str, out: &mut Said) -> bool {
-        for step in steps.split(';') {
-            if !self.put_step(step.trim(), out) {
-                return false;
-            }
-        }
-        true
-    }
-
-    // Does a step. It is false where there is none.
-    fn put_step(&mut self, step: &str, out: &mut Said) -> bool {
-        self.opened.put_step(&self.rt, &mut self.ways, step, out)
-            || self.ways.put_step(step, out)
-            || put_client_step(&self.rt, self.ways.address(), &mut self.clients, step, out)
-            || put_dial_step(&self.rt, self.ways.address(), &mut self.dialled, step, out)
+    // Does a step of a client or a dialer of the door at an address, or one that takes time. It is false where there is
+    // none.
+    fn put_step(&mut self, address: Option<SocketAddr>, step: &str, out: &mut Said) -> bool {
+        put_client_step(&self.rt, address, &mut self.clients, step, out)
+            || put_dial_step(&self.rt, address, &mut self.dialled, step, out)
             || put_time_step(&self.rt, &mut self.mark, step, out)
     }
 }

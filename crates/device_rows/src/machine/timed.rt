@@ -1,5 +1,6 @@
 //! Pauses of a play, and how long something lasted.
 
+use crate::stepped::word_and_number;
 use row_text::Said;
 use std::thread;
 use std::time::{Duration, Instant};
@@ -12,10 +13,10 @@ pub(crate) fn put_time_step(
     step: &str,
     out: &mut Said,
 ) -> bool {
-    match step.split_once(' ') {
-        Some(("pause", time)) => pause(rt, time).is_some(),
-        Some(("lasted", times)) => put_lasted(rt, *mark, times, out).is_some(),
-        None if step == "mark" => {
+    match step.split_once(' ').unwrap_or((step, "")) {
+        ("pause", time) => pause(rt, time).is_some(),
+        ("lasted", times) => put_lasted(rt, *mark, times, out).is_some(),
+        ("mark", "") => {
             *mark = Instant::now(rt).ok();
             mark.is_some()
         }
@@ -30,8 +31,9 @@ fn pause(rt: &HostRuntime, time: &str) -> Option<()> {
 }
 
 fn put_lasted(rt: &HostRuntime, mark: Option<Instant>, times: &str, out: &mut Said) -> Option<()> {
-    let (least, most) = times.split_once(' ')?;
-    let (least, most) = (least.parse::<u64>().ok()?, most.parse::<u64>().ok()?);
+    let (least, most) = word_and_number(times);
+    let most = most?;
+    let least = least.parse::<u64>().ok()?;
     let lasted = mark?.elapsed(rt).ok()?.as_millis();
     out.put(if least as u128 <= lasted && lasted <= most as u128 {
         "in time\n"

@@ -1,11 +1,12 @@
 //! Doors of the machine, and the links that come through them.
 
-use super::links::put_link_step;
-use crate::turned::put_number_line;
-use dev_host::{TcpDoor, TcpLink, Teller};
-use dev_traits::{Coming, Door, Failed};
+use super::doors::{last_address, put_door_step};
+use super::links::{put_faults, put_link_step};
+use super::opened::put_open_step;
+use crate::stepped::Stepped;
+use dev_host::{Collections, HostOpener, RealOpener, TcpDoor, TcpLink, Teller};
+use dev_traits::Door;
 use row_text::Said;
-use std::alloc::Global;
 use std::net::SocketAddr;
 
 // A door of the machine, and a link that comes through it.
@@ -13,80 +14,70 @@ pub(crate) type HostDoor = TcpDoor<HostRuntime, Teller<HostRuntime>>;
 
 pub(crate) type HostLink = TcpLink<HostRuntime>;
 
-// Doors, and the links that are out. A step is one of the last door, or of the last link, whose key is its index.
+// Doors, what opens them, and the links that are out. A step is one of the last door, or of the last link, whose key is
+// its index.
 #[derive(Drop)]
 pub(crate) struct Ways {
-    pub(crate) doors: Vec<HostDoor>,
+    rt: HostRuntime,
+    opener: HostOpener,
+    doors: Vec<HostDoor>,
     links: Vec<HostLink>,
 }
 
 impl Ways {
-    pub(crate) fn new(alloc: Global) -> Ways {
+    pub(crate) fn new(rt: HostRuntime) -> Ways {
+        let tell = Teller::new(rt, rt.stderr(), true);
         Ways {
-            doors: Vec::new(alloc),
-            links: Vec::new(alloc),
+            rt,
+            opener: RealOpener::new(rt, tell, Collections::none()),
+            doors: Vec::new(rt.alloc()),
+            links: Vec::new(rt.alloc()),
         }
     }
 
     // The address of the last door.
     pub(crate) fn address(&self) -> Option<SocketAddr> {
-        self.doors.last()?.local_addr().ok()
+        last_address(self.doors.as_slice())
     }
 
-    // Does a step of the last door or of the last link: `next`, what the door says beside that links may go on;
-    // `ready`, the same, or that this link may go on; `done`. It is false where a line says none.
-    pub(crate) fn put_step(&mut self, step: &str, out: &mut Said) -> bool {
-        let Some(door) = self.doors.last_mut() else {
-            return false;
-        };
-        match step {
-            "next" => put_next(door, &mut self.links, 0, out),
-            "ready" => put_next(door, &mut self.links, 1, out),
-            "done" => give_back(door, &mut self.links),
-            _ => put_link_step(door, &mut self.links, step, out),
-        }
-    }
-
-    // Appends how many calls of each door have failed.
-    pub(crate) fn put_faults(&self, out: &mut Said) {
-        for door in &self.doors {
-            put_number_line("faults: ", door.faults(), out);
-        }
+    fn put_open(&mut self, step: &str, out: &mut Said) -> bool {
+        let address = self.address();
+        put_open_step(
+            self.rt.alloc(),
+            &mut self.opener,
+            &mut self.doors,
+            address,
+            step,
+            out,
+        )
     }
 }
 
-// Appends what a door says next, beside that links may go on. Where `awaited` is 1, that the last one may counts too.
-fn put_next(
-    door: &mut HostDoor,
+impl Stepped for Ways {
+    fn put_step(&mut self, step: &str, out: &mut Said) -> bool {
+        put_door_step(self.rt, &mut self.doors, step, out)
+            || put_link_step(&mut self.doors, &mut self.links, step, out)
+            || put_way_step(&mut self.doors, &mut self.links, step, out)
+            || self.put_open(step, out)
+    }
+
+    fn put_end(&self, out: &mut Said) {
+        put_faults(self.doors.as_slice(), out);
+    }
+}
+
+// Does a step of the last link: `done` gives it back, `delay` tells whether small puts wait for more. It is false where
+// a line says none.
+fn put_way_step(
+    doors: &mut Vec<HostDoor>,
     links: &mut Vec<HostLink>,
-    awaited: usize,
+    step: &str,
     out: &mut Said,
 ) -> bool {
-    for _ in 0..10_000 {
-        if let Some(said) = said_next(door, links, awaited) {
-            out.put(said);
-            return true;
-        }
-    }
-    false
-}
-
-// What a door says next, or `None` where it says that a link may go on that isn't awaited.
-fn said_next(
-    door: &mut HostDoor,
-    links: &mut Vec<HostLink>,
-    awaited: usize,
-) -> Option<&'static str> {
-    let count = links.len();
-    match door.next(count) {
-        Ok(Coming::Came(link)) => {
-            links.push(link).ok()?;
-            Some("came\n")
-        }
-        Ok(Coming::Ready(key)) if key.saturating_add(awaited) == count => Some("ready\n"),
-        Ok(Coming::Ready(_)) => None,
-        Ok(Coming::Closed) => Some("closed\n"),
-        Err(Failed) => Some("fault\n"),
+    match (step, doors.last_mut(), links.last()) {
+        ("done", Some(door), _) => give_back(door, links),
+        ("delay", _, Some(link)) => put_delay(link, out),
+        _ => false,
     }
 }
 
@@ -95,5 +86,13 @@ fn give_back(door: &mut HostDoor, links: &mut Vec<HostLink>) -> bool {
         return false;
     };
     door.done(links.len(), link);
+    true
+}
+
+fn put_delay(link: &HostLink, out: &mut Said) -> bool {
+    out.put(match link.stream.nodelay() {
+        Ok(true) => "no delay\n",
+        _ => "delay\n",
+    });
     true
 }
