@@ -3,7 +3,7 @@
 use row_text::Row;
 
 // The keys of a row that opens a collection, and of one that goes on from another.
-const OPENS: [&str; 13] = [
+const OPENS: [&str; 9] = [
     "prototype",
     "epoch",
     "put",
@@ -11,17 +11,12 @@ const OPENS: [&str; 13] = [
     "expire",
     "retract",
     "ask",
-    "twod",
-    "target",
-    "request",
-    "stream",
-    "data",
     "lent",
+    "twod",
 ];
 
-const GOES_ON: [&str; 12] = [
-    "given", "put", "puts", "expire", "retract", "ask", "twod", "target", "request", "stream",
-    "data", "lent",
+const GOES_ON: [&str; 8] = [
+    "given", "put", "puts", "expire", "retract", "ask", "lent", "twod",
 ];
 
 /// Whether a row opens a collection.
