@@ -69,14 +69,6 @@ fn is_lent(plan: &Plan, bytes: &[u8]) -> bool {
     from == bytes.len()
 }
 
-/// Adds bytes as lines of eight words of eight hexadecimal digits.
-pub fn put_lines(data: &[u8], out: &mut Said) {
-    for line in data.chunks(32) {
-        out.put_hex(line);
-        out.put("\n");
-    }
-}
-
 /// Takes the last line end of a text away, or puts a mark where it has none.
 pub fn end(out: &mut Said) {
     if out.as_str().ends_with('\n') {

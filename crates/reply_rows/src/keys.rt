@@ -3,7 +3,7 @@
 use row_text::Row;
 
 // The keys of a row that opens a collection, and of one that goes on from another.
-const OPENS: [&str; 9] = [
+const OPENS: [&str; 8] = [
     "prototype",
     "epoch",
     "put",
@@ -12,12 +12,9 @@ const OPENS: [&str; 9] = [
     "retract",
     "ask",
     "lent",
-    "twod",
 ];
 
-const GOES_ON: [&str; 8] = [
-    "given", "put", "puts", "expire", "retract", "ask", "lent", "twod",
-];
+const GOES_ON: [&str; 7] = ["given", "put", "puts", "expire", "retract", "ask", "lent"];
 
 /// Whether a row opens a collection.
 pub fn opens(row: &Row<'_>) -> bool {

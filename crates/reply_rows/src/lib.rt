@@ -11,7 +11,6 @@ mod moments;
 mod operations;
 mod questions;
 mod steps;
-mod twod;
 
 use fm_base::Fail;
 use row_text::{Answers, File, Row, Said, Text, put_rows};

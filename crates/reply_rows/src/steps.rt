@@ -5,7 +5,6 @@ use super::keys::{goes_on, opens};
 use super::lent::put_lent;
 use super::moments::read_moment;
 use super::operations::{put_asked, put_many, put_one};
-use super::twod::put_twod;
 use fm_base::Fail;
 use pub_look::Plain;
 use row_text::{File, Row, Said};
@@ -113,7 +112,7 @@ impl Steps {
         out: &mut Said,
     ) -> Result<(), Fail<Wrong>> {
         match key {
-            "put" | "puts" | "expire" | "retract" | "ask" | "lent" | "twod" => {
+            "put" | "puts" | "expire" | "retract" | "ask" | "lent" => {
                 out.begin_line();
                 self.put_line(alloc, files, key, value, out)
             }
@@ -152,7 +151,6 @@ impl Steps {
             }
             "retract" => put_done(self.plain.retract(alloc, value.as_bytes()), out),
             "lent" => return put_lent(alloc, &mut self.plain, value, out),
-            "twod" => return put_twod(alloc, &mut self.plain, value, out),
             _ => return put_asked(alloc, &mut self.plain, self.epoch, value, out),
         }
         Ok(())
