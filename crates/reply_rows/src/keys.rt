@@ -3,7 +3,7 @@
 use row_text::Row;
 
 // The keys of a row that opens a collection, and of one that goes on from another.
-const OPENS: [&str; 13] = [
+const OPENS: [&str; 8] = [
     "prototype",
     "epoch",
     "put",
@@ -11,18 +11,10 @@ const OPENS: [&str; 13] = [
     "expire",
     "retract",
     "ask",
-    "twod",
-    "target",
-    "request",
-    "stream",
-    "data",
     "lent",
 ];
 
-const GOES_ON: [&str; 12] = [
-    "given", "put", "puts", "expire", "retract", "ask", "twod", "target", "request", "stream",
-    "data", "lent",
-];
+const GOES_ON: [&str; 7] = ["given", "put", "puts", "expire", "retract", "ask", "lent"];
 
 /// Whether a row opens a collection.
 pub fn opens(row: &Row<'_>) -> bool {

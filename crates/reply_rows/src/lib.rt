@@ -1,4 +1,4 @@
-//! Rows of collections: operations over a prototype, and a reply, a question or the events of sessions.
+//! Rows of collections: operations over a prototype, and questions or the events of sessions; and structure texts.
 #![tactic(auto)]
 
 mod bytes;
@@ -6,13 +6,11 @@ mod collection;
 mod declared;
 mod events;
 mod keys;
+mod lent;
 mod moments;
 mod operations;
 mod questions;
-mod replies;
-mod requests;
 mod steps;
-mod twod;
 
 use fm_base::Fail;
 use row_text::{Answers, File, Row, Said, Text, put_rows};
@@ -73,7 +71,6 @@ impl Answers for Collections<'_> {
             Err(Fail::Fault(Wrong::Taken)) => {
                 put_unwanted("other bytes where they are taken in another way", out)
             }
-            Err(Fail::Fault(Wrong::Data)) => put_unwanted("other data than the row describes", out),
             Err(Fail::NoMemory) => return Err(AllocError),
         }
         Ok(true)

@@ -2,13 +2,11 @@
 
 use fm_base::Fail;
 
-/// The row is none that this program knows, the bytes of its reply differ by how they are taken, or its data isn't as
-/// the row describes it.
+/// The row is none that this program knows, or the bytes of its reply differ by how they are taken.
 #[derive(Clone, Copy)]
 pub enum Wrong {
     Form,
     Taken,
-    Data,
 }
 
 /// A row of another form, in place of any fault.
