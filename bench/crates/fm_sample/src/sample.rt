@@ -1,5 +1,4 @@
-//! The small netCDF classic file that the first collection begins from, as words of four bytes, and the bytes of such
-//! words.
+//! A small netCDF classic file as words of four bytes, and the bytes of such words.
 ghost use Rattle.std.specs.Prelude.{◌≡◌, IfOk};
 ghost use Rattle.fm_sample.specs.Words.{bytes_of};
 

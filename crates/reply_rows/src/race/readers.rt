@@ -1,7 +1,8 @@
 //! Readers ask as fast as they can while operations are published.
 
-use crate::files::{Files, NAMES};
-use crate::steps::{SKETCH, STEPS, Step, is_out, step_at};
+use super::runs::{NAMES, Runs};
+use super::sketch::{Sketch, is_answer};
+use super::steps::{STEPS, Step, step_at};
 use fm_base::NoMemory;
 use fm_model::Op;
 use pub_look::Look;
@@ -20,20 +21,15 @@ const ASKS: u64 = 1_000_000_000;
 pub struct Publisher<'a, N: Name> {
     pub desk: &'a mut Desk<N>,
     pub share: &'a mut Share<N>,
-    pub files: Files<N>,
+    pub runs: Runs<N>,
 }
 
 // Asks until the last revision is seen, each time as `see` does. A reader that is stopped inside a copy holds up the
 // writer until its next turn, so it lets others run where it is outside.
-fn sees_all<N: Name>(
-    alloc: Global,
-    pass: &mut Pass<N>,
-    answers: &[u64],
-    failed: &AtomicBool,
-) -> bool {
+fn sees_all<P: Look>(alloc: Global, pass: &mut P, failed: &AtomicBool) -> bool {
     let mut last = 0;
     for _ in 0..ASKS {
-        match see(alloc, pass, answers, last) {
+        match see(alloc, pass, last) {
             Some(revision) if revision >= STEPS => return true,
             Some(revision) if !failed.load(Ordering::SeqCst) => last = revision,
             _ => return false,
@@ -45,12 +41,10 @@ fn sees_all<N: Name>(
 
 // The revision that a look sees. `None` where memory runs out, the revision is below the last one, or the answer is
 // that of another.
-fn see<N: Name>(alloc: Global, pass: &mut Pass<N>, answers: &[u64], last: u64) -> Option<u64> {
-    let (answer, revision) = pass.ask(alloc, &SKETCH).ok()?;
-    if revision >= last && answers.get(revision as usize) == Some(&answer) {
-        Some(revision)
-    } else {
-        None
+fn see<P: Look>(alloc: Global, pass: &mut P, last: u64) -> Option<u64> {
+    match pass.ask(alloc, &Sketch) {
+        Ok((answer, revision)) if revision >= last && is_answer(revision, answer) => Some(revision),
+        _ => None,
     }
 }
 
@@ -81,9 +75,7 @@ fn publish<N: Name, R: Wait>(
 ) -> bool {
     match step {
         Step::Put(number) => put(rt, alloc, publisher, number),
-        Step::Expire(cutoff) => {
-            is_out(publisher.desk.expire(alloc, rt, publisher.share, cutoff))
-        }
+        Step::Expire(cutoff) => is_out(publisher.desk.expire(alloc, rt, publisher.share, cutoff)),
         Step::Retract => is_out(publisher.desk.retract(alloc, rt, publisher.share, NAMES[1])),
     }
 }
@@ -94,13 +86,18 @@ fn put<N: Name, R: Wait>(
     publisher: &mut Publisher<'_, N>,
     number: u64,
 ) -> bool {
-    match publisher.files.put(number) {
+    match publisher.runs.file(number) {
         Ok(file) => publisher
             .desk
             .publish(alloc, rt, publisher.share, Op::Put(file))
             .is_ok(),
         Err(NoMemory) => false,
     }
+}
+
+// Whether something was taken out.
+fn is_out<T: Drop>(answer: Result<Option<T>, NoMemory>) -> bool {
+    matches!(answer, Ok(Some(_)))
 }
 
 /// Has readers of all passes ask while all steps are published. Whether each saw each revision that it met whole, and
@@ -110,10 +107,9 @@ pub fn race<N: Name + Send + Sync, R: Threads + Wait + Sync>(
     alloc: Global,
     publisher: &mut Publisher<'_, N>,
     passes: &mut [Pass<N>],
-    answers: &[u64],
 ) -> bool {
     let failed = AtomicBool::new(false);
-    let mut reading = || read_side_by_side(rt, alloc, passes, answers, &failed);
+    let mut reading = || read_side_by_side(rt, alloc, passes, &failed);
     let mut writing = || {
         if !publishes_all(rt, alloc, publisher, &failed) {
             failed.store(true, Ordering::SeqCst);
@@ -123,11 +119,10 @@ pub fn race<N: Name + Send + Sync, R: Threads + Wait + Sync>(
     !failed.load(Ordering::SeqCst)
 }
 
-fn read_side_by_side<N: Name + Send + Sync, R: Threads + Sync>(
+fn read_side_by_side<P: Look + Send, R: Threads + Sync>(
     rt: &R,
     alloc: Global,
-    passes: &mut [Pass<N>],
-    answers: &[u64],
+    passes: &mut [P],
     failed: &AtomicBool,
 ) {
     let threads = passes.len();
@@ -136,8 +131,8 @@ fn read_side_by_side<N: Name + Send + Sync, R: Threads + Sync>(
             rt,
             passes,
             threads,
-            &|_: usize, pass: &mut Pass<N>| {
-                if !sees_all(alloc, pass, answers, failed) {
+            &|_: usize, pass: &mut P| {
+                if !sees_all(alloc, pass, failed) {
                     failed.store(true, Ordering::SeqCst);
                 }
             },

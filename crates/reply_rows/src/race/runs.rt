@@ -2,13 +2,16 @@
 ghost use Rattle.std.specs.Prelude.{◌≡◌, IfOk, IfSome};
 ghost use Rattle.fm_model.specs.Load.{Fits};
 
+use crate::collection::{described, loaded};
 use fm_base::{Arc, NoMemory};
-use fm_load::load;
 use fm_model::{Loaded, Proto};
-use fm_sample::File;
 use pub_snap::Name;
+use row_text::File;
 use std::alloc::Global;
 use std::marker::{Model, PhantomData};
+
+/// The file of the prototype and, by the marks in their names, of all runs.
+pub const SAMPLE: &str = "A.nc";
 
 /// The first run, the beginning of 2024, from the epoch of the collection.
 pub const FIRST_RUN: i64 = 126_230_400;
@@ -26,7 +29,7 @@ pub const NAMES: [&[u8]; 4] = [
 
 /// The files of four runs with the same valid times.
 #[derive(Drop)]
-pub struct Files<N: Name> {
+pub struct Runs<N: Name> {
     first: Arc<Loaded>,
     second: Arc<Loaded>,
     third: Arc<Loaded>,
@@ -34,7 +37,7 @@ pub struct Files<N: Name> {
     of: PhantomData<N>,
 }
 
-impl<N: Name> Model for Files<N> {
+impl<N: Name> Model for Runs<N> {
     ghost use Rattle.std.specs.Prelude.{◌∷◌, [], List};
     ghost use Rattle.fm_model.specs.declared.loaded.Loaded.{Loaded as File};
     ghost use Rattle.fm_model.specs.Load.{Fits};
@@ -47,22 +50,22 @@ impl<N: Name> Model for Files<N> {
         × Fits files.fourth N.proto };
 }
 
-impl<N: Name> Files<N> {
-    /// The files over a prototype. `None` where memory runs out.
-    pub fn of(alloc: Global, proto: &Proto) -> Option<Files<N>>
+impl<N: Name> Runs<N> {
+    /// The files over a prototype. `None` where one isn't taken, or memory runs out.
+    pub fn of(alloc: Global, files: &[File], proto: &Proto) -> Option<Runs<N>>
         requires { proto.now ≡ N.proto }
     {
-        Some(Files {
-            first: sample(alloc, NAMES[0], proto)?,
-            second: sample(alloc, NAMES[1], proto)?,
-            third: sample(alloc, NAMES[2], proto)?,
-            fourth: sample(alloc, NAMES[3], proto)?,
+        Some(Runs {
+            first: sample(alloc, files, NAMES[0], proto)?,
+            second: sample(alloc, files, NAMES[1], proto)?,
+            third: sample(alloc, files, NAMES[2], proto)?,
+            fourth: sample(alloc, files, NAMES[3], proto)?,
             of: PhantomData,
         })
     }
 
     /// The file of this number.
-    pub fn put(&self, number: u64) -> Result<Arc<Loaded>, NoMemory>
+    pub fn file(&self, number: u64) -> Result<Arc<Loaded>, NoMemory>
         ensures { IfOk result (λ file. Fits file N.proto) }
     {
         match number {
@@ -74,14 +77,9 @@ impl<N: Name> Files<N> {
     }
 }
 
-// The sample as the file of a run, by the mark in its name. It has 352 bytes.
-fn sample(alloc: Global, name: &[u8], proto: &Proto) -> Option<Arc<Loaded>>
+// The sample as the file of a run, by the mark in its name.
+fn sample(alloc: Global, files: &[File], name: &[u8], proto: &Proto) -> Option<Arc<Loaded>>
     ensures { IfSome result (λ file. Fits file proto.now) }
 {
-    let bytes = File::Sample.bytes(alloc).ok()?;
-    if bytes.len() > 352 {
-        return None;
-    }
-    let file = load(alloc, name, bytes, proto).ok()?;
-    Arc::new(alloc, file).ok()
+    loaded(alloc, name, described(alloc, files, SAMPLE)?, proto)
 }
