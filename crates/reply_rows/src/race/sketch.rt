@@ -17,7 +17,7 @@ impl Query for Sketch {
 
     fn answer(&self, _alloc: Global, edition: &Edition, _revision: u64) -> Result<u64, NoMemory> {
         let best = match edition.best_run(FIRST_RUN, None) {
-            Some(run) => run.abs_diff(FIRST_RUN) / SIX_HOURS.unsigned_abs() + 1,
+            Some(run) => run.abs_diff(FIRST_RUN) / 21_600 % 9 + 1,
             None => 0,
         };
         let files = u64::from(edition.tally().files);
