@@ -6,7 +6,7 @@ ghost use Rattle.pub_core.specs.Outcome.{EventFits};
 use super::collection::{described, loaded};
 use super::moments::read_moment;
 use super::prototype::prototype_of;
-use fm_base::{Arc, Bytes, List};
+use fm_base::{Arc, Bytes, List, NoMemory};
 use fm_model::{Op, Proto};
 use pub_core::{Event, Outcome, run_all};
 use row_text::{File, Row, Said, bytes};
@@ -21,6 +21,9 @@ pub fn put_events(
     sessions: &str,
     out: &mut Said,
 ) -> Option<()> {
+    if !row.has_only(&["prototype", "sessions", "event"]) {
+        return None;
+    }
     let proto = prototype_of(alloc, files, row.value("prototype")?)?;
     let outcome = outcome_of(alloc, files, proto, sessions, row)?;
     put_outcome(&outcome, out);
@@ -48,15 +51,20 @@ fn events_of(alloc: Global, files: &[File], proto: &Proto, row: &Row<'_>) -> Opt
 {
     let mut events = List::new(alloc);
     for field in &row.fields {
-        match field.key {
-            "name" | "want" | "prototype" | "sessions" => {}
-            "event" => events
-                .push(read_event(alloc, files, proto, field.value.as_str())?)
-                .ok()?,
-            _ => return None,
+        if field.key == "event" {
+            let event = read_event(alloc, files, proto, field.value.as_str())?;
+            push(&mut events, proto, event).ok()?;
         }
     }
     Some(events)
+}
+
+fn push(events: &mut List<Event>, _proto: &Proto, event: Event) -> Result<(), NoMemory>
+    requires held { All (EventFits _proto.now) events.old }
+    requires fits { EventFits _proto.now event }
+    ensures { All (EventFits _proto.now) events.new }
+{
+    events.push(event)
 }
 
 // The event of some words.

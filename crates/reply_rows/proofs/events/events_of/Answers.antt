@@ -1,7 +1,7 @@
--- One event more fits.
-use Rattle.std.proofs.Common.{[], ◌∷◌, sym, subst}
+-- No event is there at first.
+use Rattle.std.proofs.Common.{sym, subst}
 use Rattle.std.specs.List.{All}
-use Rattle.std.proofs.lemmas.List.Elements.{All-append, All-cons, All-nil}
+use Rattle.std.proofs.lemmas.List.Elements.{All-nil}
 use Rattle.pub_core.specs.declared.event.Event.{Event}
 use Rattle.pub_core.specs.Outcome.{EventFits}
 use Rattle.reply_rows.proofs.events.events_of.Goals as goal
