@@ -1,11 +1,12 @@
 //! The prototype of a row.
-ghost use Rattle.std.specs.Prelude.{◌≡◌, IfOk, IfSome};
+ghost use Rattle.std.specs.Prelude.{◌≡◌, ◌≤◌, IfOk, IfSome, length};
+ghost use Rattle.fm_model.specs.declared.limit.TheConstants.{MAX_FILE_BYTES};
 ghost use Rattle.fm_model.specs.Example.{site};
 ghost use Rattle.fm_model.specs.Site.{IsPrototype};
 
 use super::collection::described;
-use fm_base::{Arc, Bytes, NoMemory};
-use fm_model::{MAX_FILE_BYTES, Proto, Site};
+use fm_base::{Arc, Bytes, Fail, NoMemory};
+use fm_model::{MAX_FILE_BYTES, Proto, ProtoFault, Site};
 use fm_proto::read_proto;
 use row_text::File;
 use std::alloc::Global;
@@ -21,8 +22,17 @@ fn site(alloc: Global) -> Result<Site, NoMemory>
     })
 }
 
-/// The prototype that some words describe, of the collection `gfs`. `None` where they describe none, or memory runs out.
+// The prototype that some bytes are.
 #[tactic(auto, using(crate::proofs::SiteFacts::sites))]
+fn proto_of(alloc: Global, bytes: Bytes) -> Result<Proto, Fail<ProtoFault>>
+    requires { length bytes ≤ MAX_FILE_BYTES }
+    ensures { IfOk result IsPrototype }
+{
+    read_proto(alloc, bytes, site(alloc)?)
+}
+
+/// The prototype that some words describe, of the collection `gfs`. `None` where they describe none, or memory runs
+/// out.
 pub fn prototype_of(alloc: Global, files: &[File], words: &str) -> Option<Arc<Proto>>
     ensures { IfSome result IsPrototype }
 {
@@ -30,6 +40,6 @@ pub fn prototype_of(alloc: Global, files: &[File], words: &str) -> Option<Arc<Pr
     if bytes.len() as u64 > MAX_FILE_BYTES {
         return None;
     }
-    let proto = read_proto(alloc, bytes, site(alloc).ok()?).ok()?;
+    let proto = proto_of(alloc, bytes).ok()?;
     Arc::new(alloc, proto).ok()
 }

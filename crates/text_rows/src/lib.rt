@@ -1,5 +1,5 @@
-//! Rows whose input is a text: units and instants, values, constraints, messages, words of a command, targets, the heads
-//! of a stream of bytes, and sessions.
+//! Rows whose input is a text: units and instants, values, constraints, messages, words of a command, targets, the
+//! heads of a stream of bytes, and sessions.
 #![tactic(auto)]
 
 mod calls;
