@@ -155,7 +155,7 @@ def main():
         out.write("# 1,000 operations on 20 names of ten runs, and what is held after every 25 of them (written by\n"
                   "# tests/operations.py, over a plain list of names and times).\n\n"
                   "name: 1,000 operations and what is held between them\n"
-                  "prototype: A.nc\nepoch: 2020-01-01T00:00:00Z\n")
+                  "prototype: A.nc\n")
         out.write("\n".join(steps) + "\nwant: " + "\n| ".join(wanted) + "\n")
 
 

@@ -233,8 +233,7 @@ def main():
                   "each question\n# about a session from all the bytes that it was fed).\n")
         for seed in range(LISTS):
             events, talks, revision = run(seed)
-            out.write(f"\nname: random events {seed}\nprototype: A.nc\n")
-            out.write(f"epoch: 2020-01-01T00:00:00Z\nsessions: {SESSIONS}\n")
+            out.write(f"\nname: random events {seed}\nprototype: A.nc\nsessions: {SESSIONS}\n")
             out.write("".join(f"event: {event}\n" for event in events))
             out.write(f"want: operations {revision}\n")
             for number, talk in enumerate(talks):

@@ -33,29 +33,32 @@ fn put_answer(alloc: Global, files: &[File], row: &Row<'_>, out: &mut Said) -> b
     if row.value("load").is_some() {
         return put_load(alloc, files, row, out);
     }
-    if row.value("made").is_some() {
-        return put_made(alloc, row, out);
+    if let Some(words) = row.value("made") {
+        return row.has_only(&["made"]) && put_made(alloc, words, out);
     }
-    match question_of(row) {
-        Some((key, question)) if row.has_only(&[key, "cuts"]) => {
-            put_asked(alloc, files, row, key, question, out)
-        }
-        _ => false,
-    }
+    put_question(alloc, files, row, out)
 }
 
-// The question of a row about a file alone, and its key.
-fn question_of<'a>(row: &Row<'_>) -> Option<(&'static str, Question<'a>)> {
-    if row.value("header").is_some() {
-        Some(("header", Question::Header))
-    } else if row.value("layout").is_some() {
-        Some(("layout", Question::Layout))
-    } else if row.value("elements").is_some() {
-        Some(("elements", Question::Elements))
-    } else if row.value("prototype").is_some() {
-        Some(("prototype", Question::Prototype))
-    } else {
-        None
+// The keys of questions about a file alone.
+const KEYS: [&str; 4] = ["header", "layout", "elements", "prototype"];
+
+// Puts the answer to the question of a row about a file alone; false where there is none.
+fn put_question(alloc: Global, files: &[File], row: &Row<'_>, out: &mut Said) -> bool {
+    for key in KEYS.iter() {
+        if row.value(key).is_some() && row.has_only(&[*key, "cuts"]) {
+            return put_asked(alloc, files, row, key, question_of(key), out);
+        }
+    }
+    false
+}
+
+// The question of a key.
+fn question_of<'a>(key: &str) -> Question<'a> {
+    match key {
+        "header" => Question::Header,
+        "layout" => Question::Layout,
+        "elements" => Question::Elements,
+        _ => Question::Prototype,
     }
 }
 

@@ -3,26 +3,24 @@ ghost use Rattle.std.specs.Prelude.{◌<◌};
 
 use fm_base::NoMemory;
 use fm_gen::make_file;
-use row_text::{Row, Said};
+use row_text::Said;
 use std::alloc::Global;
 
-/// Puts the length and the sum of the file of the seed and the number, below 400, that a row has.
-pub fn put_made(alloc: Global, row: &Row<'_>, out: &mut Said) -> bool {
-    if !row.has_only(&["made"]) {
-        return false;
-    }
-    let (seed, k) = row
-        .value("made")
-        .unwrap_or("")
-        .split_once(' ')
-        .unwrap_or(("", ""));
-    match (number(seed), number(k)) {
-        (Some(seed), Some(k)) if k < 400 => {
+/// Puts the length and the sum of the file of the seed and the number, below 400, that some words are. It is false
+/// where they are none.
+pub fn put_made(alloc: Global, words: &str, out: &mut Said) -> bool {
+    match seed_and_number(words) {
+        Some((seed, k)) if k < 400 => {
             put_file(alloc, seed, k, out);
             true
         }
         _ => false,
     }
+}
+
+fn seed_and_number(words: &str) -> Option<(u32, u32)> {
+    let (seed, k) = words.split_once(' ')?;
+    Some((number(seed)?, number(k)?))
 }
 
 fn number(word: &str) -> Option<u32> {

@@ -52,7 +52,7 @@ impl Question<'_> {
         };
         let mut answer = Said::new(alloc);
         let known = self.put_answer(alloc, front, &mut answer);
-        put_other(len, answer, last, out);
+        put_other(len, answer.as_str(), last, out);
         known
     }
 
@@ -74,22 +74,22 @@ impl Question<'_> {
 }
 
 // Puts a line of an answer, where it isn't the last, and takes it as the last.
-fn put_other(len: usize, answer: Said, last: &mut Said, out: &mut Said) {
-    if answer.as_str() == last.as_str() {
-        return drop(answer);
+fn put_other(len: usize, answer: &str, last: &mut Said, out: &mut Said) {
+    if answer != last.as_str() {
+        last.clear();
+        last.put(answer);
+        out.begin_line();
+        out.put_number("", len);
+        out.put(": ");
+        out.put(answer);
     }
-    last.clear();
-    last.put(answer.as_str());
-    out.begin_line();
-    out.put_number("", len);
-    out.put(": ");
-    out.put_said(answer);
 }
 
 fn lengths(cuts: &str) -> Option<(usize, usize)> {
     let (from, to) = cuts.split_once(" to ")?;
-    match (from.parse::<usize>(), to.parse::<usize>()) {
-        (Ok(from), Ok(to)) => Some((from, to)),
-        _ => None,
-    }
+    Some((length(from)?, length(to)?))
+}
+
+fn length(word: &str) -> Option<usize> {
+    word.parse::<usize>().ok()
 }

@@ -1,59 +1,47 @@
 //! A collection over a prototype, and what is done to it.
-ghost use Rattle.std.specs.Prelude.{IfOk};
+ghost use Rattle.std.specs.Prelude.{◌≡◌, IfSome};
 ghost use Rattle.fm_model.specs.Load.{Fits};
-ghost use Rattle.fm_model.specs.Site.{IsPrototype};
 
-use super::moments::read_moment;
 use fm_base::{Arc, Bytes, Fail, NoMemory};
 use fm_edition::Edition;
 use fm_load::load;
 use fm_model::{Full, Loaded, MAX_FILE_BYTES, Op, Proto, Which};
-use fm_sample::{ItsProto, edition_of};
-use pub_look::{Look, Plain};
-use row_text::{File, Row, Said, content};
-use std::alloc::{AllocError, Global};
-use text_rows::{Wrong, wrong_form};
+use pub_look::{Look, Plain, Query};
+use row_text::{File, Said, content};
+use std::alloc::Global;
 
-/// Bytes that a row gives, where it gives any.
-pub fn given(items: Result<Option<Vec<u8>>, AllocError>) -> Result<Bytes, Fail<Wrong>> {
-    match items {
-        Ok(Some(items)) => Ok(Bytes { items }),
-        Ok(None) => Err(Fail::Fault(Wrong::Form)),
-        Err(AllocError) => Err(Fail::NoMemory),
-    }
+/// The bytes that some words describe. `None` where they describe none, or memory runs out.
+pub fn described(alloc: Global, files: &[File], words: &str) -> Option<Bytes> {
+    let items = content(alloc, files, words).ok()??;
+    Some(Bytes { items })
 }
 
-/// The bytes that some words describe.
-pub fn described(alloc: Global, files: &[File], words: &str) -> Result<Bytes, Fail<Wrong>> {
-    given(content(alloc, files, words))
-}
-
-/// The instant of a row's key `epoch`, as Unix seconds, which is the beginning of 2020.
-pub fn epoch_of(row: &Row<'_>) -> Result<i64, Fail<Wrong>> {
-    match read_moment(0, row.value("epoch").unwrap_or("")) {
-        Ok(1_577_836_800) => Ok(1_577_836_800),
-        _ => Err(Fail::Fault(Wrong::Form)),
-    }
-}
-
-/// The prototype that some words describe, of the collection `gfs`.
-pub fn prototype(alloc: Global, files: &[File], words: &str) -> Result<Arc<Proto>, Fail<Wrong>>
-    ensures { IfOk result IsPrototype }
+/// The file of a name and some bytes over a prototype. `None` where it isn't taken, or memory runs out.
+pub fn loaded(alloc: Global, name: &[u8], bytes: Bytes, proto: &Proto) -> Option<Arc<Loaded>>
+    ensures { IfSome result (λ file. Fits file proto.now) }
 {
-    match edition_of(alloc, described(alloc, files, words)?) {
-        Ok(edition) => proto_of(edition),
-        Err(fail) => Err(wrong_form(fail)),
+    if bytes.len() as u64 > MAX_FILE_BYTES {
+        return None;
     }
+    let file = load(alloc, name, bytes, proto).ok()?;
+    Arc::new(alloc, file).ok()
 }
 
-fn proto_of(edition: Edition) -> Result<Arc<Proto>, Fail<Wrong>>
-    ensures { IfOk result IsPrototype }
-{
-    let proto = edition.proto().share();
-    drop(edition);
-    match proto {
-        Ok(proto) => Ok(proto),
-        Err(NoMemory) => Err(Fail::NoMemory),
+/// A question whose answer is the collection's prototype.
+pub struct ItsProto;
+
+impl Query for ItsProto {
+    type Out = Arc<Proto>;
+
+    ghost says = { λ _ held _ out. out ≡ held.proto };
+
+    fn answer(
+        &self,
+        _alloc: Global,
+        edition: &Edition,
+        _revision: u64,
+    ) -> Result<Arc<Proto>, NoMemory> {
+        edition.proto().share()
     }
 }
 
@@ -65,11 +53,11 @@ pub fn put_file(
     name: &[u8],
     bytes: Bytes,
     out: &mut Said,
-) -> Result<(), Fail<Wrong>> {
+) -> Option<()> {
     if bytes.len() as u64 > MAX_FILE_BYTES {
-        return Err(Fail::Fault(Wrong::Form));
+        return None;
     }
-    let (proto, _) = plain.ask(alloc, &ItsProto)?;
+    let (proto, _) = plain.ask(alloc, &ItsProto).ok()?;
     let loaded = load(alloc, name, bytes, proto.get());
     drop(proto);
     match loaded {
@@ -77,36 +65,32 @@ pub fn put_file(
         Err(Fail::Fault(fault)) => {
             out.put_number("refused ", fault.code());
             drop(fault);
-            Ok(())
+            Some(())
         }
-        Err(Fail::NoMemory) => Err(Fail::NoMemory),
+        Err(Fail::NoMemory) => None,
     }
 }
 
 // Publishes a file, and puts its revision or what there would be too many of.
-fn publish(
-    alloc: Global,
-    plain: &mut Plain,
-    file: Loaded,
-    out: &mut Said,
-) -> Result<(), Fail<Wrong>>
+fn publish(alloc: Global, plain: &mut Plain, file: Loaded, out: &mut Said) -> Option<()>
     requires { Fits file plain.old.proto }
 {
-    match plain.publish(alloc, Op::Put(Arc::new(alloc, file)?)) {
+    match plain.publish(alloc, Op::Put(Arc::new(alloc, file).ok()?)) {
         Ok(revision) => out.put_number("revision ", revision),
         Err(Fail::Fault(full)) => put_full(full, out),
-        Err(Fail::NoMemory) => out.run_short(),
+        Err(Fail::NoMemory) => return None,
     }
-    Ok(())
+    Some(())
 }
 
-/// Puts the revision of an operation, or that nothing was done.
-pub fn put_done(done: Result<Option<u64>, NoMemory>, out: &mut Said) {
+/// Puts the revision of an operation, or that nothing was done. `None` where memory ran out.
+pub fn put_done(done: Result<Option<u64>, NoMemory>, out: &mut Said) -> Option<()> {
     match done {
         Ok(Some(revision)) => out.put_number("revision ", revision),
         Ok(None) => out.put("nothing"),
-        Err(NoMemory) => out.run_short(),
+        Err(NoMemory) => return None,
     }
+    Some(())
 }
 
 fn put_full(full: Full, out: &mut Said) {

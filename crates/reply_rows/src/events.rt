@@ -1,175 +1,127 @@
 //! Events of sessions over one collection, in the order of a row's lines.
-ghost use Rattle.std.specs.Prelude.{◌≡◌, All, IfOk};
+ghost use Rattle.std.specs.Prelude.{◌≡◌, All, IfSome};
 ghost use Rattle.fm_model.specs.Site.{IsPrototype};
 ghost use Rattle.pub_core.specs.Outcome.{EventFits};
 
-use super::bytes::end;
-use super::collection::{described, epoch_of, given, prototype};
+use super::collection::{described, loaded};
 use super::moments::read_moment;
-use fm_base::{Arc, Bytes, Fail, List, NoMemory};
-use fm_load::load;
+use super::prototype::prototype_of;
+use fm_base::{Arc, Bytes, List, NoMemory};
 use fm_model::{Op, Proto};
 use pub_core::{Event, Outcome, run_all};
 use row_text::{File, Row, Said, bytes};
 use std::alloc::Global;
-use text_rows::{Wrong, wrong_form};
 
-/// Puts the outcome of a row's events: the number of operations, and for each session its revision and its bytes.
+/// Puts the outcome of a row's events over a number of sessions: the number of operations, and for each session its
+/// revision and its bytes. `None` where the row is of another form, or memory runs out.
 pub fn put_events(
     alloc: Global,
     files: &[File],
     row: &Row<'_>,
+    sessions: &str,
     out: &mut Said,
-) -> Result<(), Fail<Wrong>> {
-    if !row.has_only(&["prototype", "epoch", "sessions", "event"]) {
-        return Err(Fail::Fault(Wrong::Form));
+) -> Option<()> {
+    if !row.has_only(&["prototype", "sessions", "event"]) {
+        return None;
     }
-    epoch_of(row)?;
-    let words = words_of(alloc, row)?;
-    put_run(alloc, files, row, words.as_slice(), out)
-}
-
-// Puts the outcome of the events of some words each.
-fn put_run(
-    alloc: Global,
-    files: &[File],
-    row: &Row<'_>,
-    words: &[&str],
-    out: &mut Said,
-) -> Result<(), Fail<Wrong>> {
-    let sessions = session_number(row.value("sessions").unwrap_or(""))?;
-    let proto = prototype(alloc, files, row.value("prototype").unwrap_or(""))?;
-    let outcome = outcome_of(alloc, files, proto, sessions, words)?;
+    let proto = prototype_of(alloc, files, row.value("prototype")?)?;
+    let outcome = outcome_of(alloc, files, proto, sessions, row)?;
     put_outcome(&outcome, out);
     drop(outcome);
-    Ok(())
+    Some(())
 }
 
-// The outcome of the events of some words each.
+// The outcome of the events of a row.
 fn outcome_of(
     alloc: Global,
     files: &[File],
     proto: Arc<Proto>,
-    sessions: u32,
-    words: &[&str],
-) -> Result<Outcome, Fail<Wrong>>
+    sessions: &str,
+    row: &Row<'_>,
+) -> Option<Outcome>
     requires { IsPrototype proto }
 {
-    let events = events_of(alloc, files, proto.get(), words)?;
-    match run_all(alloc, proto, sessions, &events) {
-        Ok(outcome) => Ok(outcome),
-        Err(NoMemory) => Err(Fail::NoMemory),
-    }
+    let events = events_of(alloc, files, proto.get(), row)?;
+    run_all(alloc, proto, sessions.parse::<u32>().ok()?, &events).ok()
 }
 
-// The words of a row's events; the only one of `none` is none.
-fn words_of<'a>(alloc: Global, row: &'a Row<'_>) -> Result<Vec<&'a str>, NoMemory> {
-    let mut all = Vec::new(alloc);
-    put_words(row, &mut all)?;
-    Ok(all)
-}
-
-fn put_words<'a>(row: &'a Row<'_>, all: &mut Vec<&'a str>) -> Result<(), NoMemory> {
-    for field in &row.fields {
-        let words = field.value.as_str();
-        if field.key == "event" && words != "none" {
-            all.push(words)?;
-        }
-    }
-    Ok(())
-}
-
-// The events of some words each.
-fn events_of(
-    alloc: Global,
-    files: &[File],
-    proto: &Proto,
-    all: &[&str],
-) -> Result<List<Event>, Fail<Wrong>>
-    ensures { IfOk result (All (EventFits proto.now)) }
+// The events of a row.
+fn events_of(alloc: Global, files: &[File], proto: &Proto, row: &Row<'_>) -> Option<List<Event>>
+    ensures { IfSome result (All (EventFits proto.now)) }
 {
     let mut events = List::new(alloc);
-    for words in all {
-        events.push(read_event(alloc, files, proto, words)?)?;
+    for field in &row.fields {
+        if field.key == "event" {
+            let event = read_event(alloc, files, proto, field.value.as_str())?;
+            push(&mut events, proto, event).ok()?;
+        }
     }
-    Ok(events)
+    Some(events)
+}
+
+fn push(events: &mut List<Event>, _proto: &Proto, event: Event) -> Result<(), NoMemory>
+    requires held { All (EventFits _proto.now) events.old }
+    requires fits { EventFits _proto.now event }
+    ensures { All (EventFits _proto.now) events.new }
+{
+    events.push(event)
 }
 
 // The event of some words.
-fn read_event(
-    alloc: Global,
-    files: &[File],
-    proto: &Proto,
-    words: &str,
-) -> Result<Event, Fail<Wrong>>
-    ensures { IfOk result (EventFits proto.now) }
+fn read_event(alloc: Global, files: &[File], proto: &Proto, words: &str) -> Option<Event>
+    ensures { IfSome result (EventFits proto.now) }
 {
-    let (what, rest) = words.split_once(' ').unwrap_or((words, ""));
+    let (what, rest) = words.split_once(' ')?;
     match what {
         "put" => put(alloc, files, proto, rest),
-        "expire" => Ok(Event::Publish(Op::Expire(read_moment(proto.site.epoch, rest)?))),
-        "retract" => {
-            let name = Bytes::copy_of(alloc, rest.as_bytes())?;
-            Ok(Event::Publish(Op::Retract(name)))
-        }
+        "expire" => Some(Event::Publish(Op::Expire(read_moment(rest)?))),
+        "retract" => retract(alloc, proto, rest),
         _ => session_event(alloc, proto, what, rest),
     }
 }
 
-fn put(alloc: Global, files: &[File], proto: &Proto, words: &str) -> Result<Event, Fail<Wrong>>
-    ensures { IfOk result (EventFits proto.now) }
+// The put of the file that words describe under the name of the first.
+fn put(alloc: Global, files: &[File], proto: &Proto, words: &str) -> Option<Event>
+    ensures { IfSome result (EventFits proto.now) }
 {
-    let (name, words) = words.split_once(' ').unwrap_or((words, ""));
-    put_bytes(alloc, name, described(alloc, files, words)?, proto)
+    let (name, words) = words.split_once(' ')?;
+    let file = loaded(
+        alloc,
+        name.as_bytes(),
+        described(alloc, files, words)?,
+        proto,
+    )?;
+    Some(Event::Publish(Op::Put(file)))
 }
 
-// The put of a file of a name that some bytes are.
-fn put_bytes(alloc: Global, name: &str, bytes: Bytes, proto: &Proto) -> Result<Event, Fail<Wrong>>
-    ensures { IfOk result (EventFits proto.now) }
+fn retract(alloc: Global, _proto: &Proto, name: &str) -> Option<Event>
+    ensures { IfSome result (EventFits _proto.now) }
 {
-    if bytes.len() > 536_870_912 {
-        return Err(Fail::Fault(Wrong::Form));
-    }
-    match load(alloc, name.as_bytes(), bytes, proto) {
-        Ok(file) => Ok(Event::Publish(Op::Put(Arc::new(alloc, file)?))),
-        Err(fail) => Err(wrong_form(fail)),
-    }
+    let name = Bytes::copy_of(alloc, name.as_bytes()).ok()?;
+    Some(Event::Publish(Op::Retract(name)))
 }
 
 // An event of the session of a number.
-fn session_event(
-    alloc: Global,
-    _proto: &Proto,
-    what: &str,
-    words: &str,
-) -> Result<Event, Fail<Wrong>>
-    ensures { IfOk result (EventFits _proto.now) }
+fn session_event(alloc: Global, _proto: &Proto, what: &str, words: &str) -> Option<Event>
+    ensures { IfSome result (EventFits _proto.now) }
 {
     let (session, rest) = words.split_once(' ').unwrap_or((words, ""));
-    let session = session_number(session)?;
+    let session = session.parse::<u32>().ok()?;
     match what {
-        "look" => Ok(Event::Look(session)),
-        "learn" => Ok(Event::Learn(session, count(rest)?)),
-        "bytes" => Ok(Event::Bytes(session, given(bytes(alloc, rest))?)),
-        "sent" => Ok(Event::Sent(session, count(rest)?)),
-        "end" => Ok(Event::End(session)),
-        "fault" => Ok(Event::Fault(session)),
-        _ => Err(Fail::Fault(Wrong::Form)),
+        "look" => Some(Event::Look(session)),
+        "learn" => Some(Event::Learn(session, rest.parse::<u64>().ok()?)),
+        "bytes" => Some(Event::Bytes(session, fed(alloc, rest)?)),
+        "sent" => Some(Event::Sent(session, rest.parse::<u64>().ok()?)),
+        "end" => Some(Event::End(session)),
+        "fault" => Some(Event::Fault(session)),
+        _ => None,
     }
 }
 
-fn session_number(word: &str) -> Result<u32, Fail<Wrong>> {
-    match word.parse::<u32>() {
-        Ok(number) => Ok(number),
-        Err(_) => Err(Fail::Fault(Wrong::Form)),
-    }
-}
-
-fn count(word: &str) -> Result<u64, Fail<Wrong>> {
-    match word.parse::<u64>() {
-        Ok(number) => Ok(number),
-        Err(_) => Err(Fail::Fault(Wrong::Form)),
-    }
+// The bytes that a text stands for.
+fn fed(alloc: Global, text: &str) -> Option<Bytes> {
+    let items = bytes(alloc, text).ok()??;
+    Some(Bytes { items })
 }
 
 fn put_outcome(outcome: &Outcome, out: &mut Said) {
@@ -187,4 +139,13 @@ fn put_session(session: usize, seen: u64, output: &[u8], out: &mut Said) {
     out.put(" bytes\n");
     out.put_shown(output);
     end(out);
+}
+
+// Takes the last line end of a text away, or puts a mark where it has none.
+fn end(out: &mut Said) {
+    if out.as_str().ends_with('\n') {
+        out.pop();
+    } else {
+        out.put(" (no line end)");
+    }
 }

@@ -1,30 +1,10 @@
-//! Files that are published, and questions to a collection.
+//! Files that are published.
 
 use super::collection::{described, put_file};
-use super::questions::Question;
-use fm_base::{Bytes, Fail, NoMemory};
-use pub_look::{Look, Plain};
+use fm_base::Bytes;
+use pub_look::Plain;
 use row_text::{File, Said};
 use std::alloc::Global;
-use text_rows::Wrong;
-
-/// Puts the answer to a question in words.
-pub fn put_asked(
-    alloc: Global,
-    plain: &mut Plain,
-    epoch: i64,
-    words: &str,
-    out: &mut Said,
-) -> Result<(), Fail<Wrong>> {
-    match plain.ask(alloc, &Question { epoch, words }) {
-        Ok((Some(text), _)) => {
-            out.put(text.as_str());
-            Ok(())
-        }
-        Ok((None, _)) => Err(Fail::Fault(Wrong::Form)),
-        Err(NoMemory) => Err(Fail::NoMemory),
-    }
-}
 
 /// Publishes the file that words describe under the name of the first.
 pub fn put_one(
@@ -33,59 +13,48 @@ pub fn put_one(
     plain: &mut Plain,
     words: &str,
     out: &mut Said,
-) -> Result<(), Fail<Wrong>> {
-    let (name, words) = words.split_once(' ').unwrap_or((words, ""));
-    let content = described(alloc, files, words)?;
-    put_file(alloc, plain, name.as_bytes(), content, out)
+) -> Option<()> {
+    let (name, words) = words.split_once(' ')?;
+    put_file(
+        alloc,
+        plain,
+        name.as_bytes(),
+        described(alloc, files, words)?,
+        out,
+    )
 }
 
-/// Publishes a file so often, under the names that begin so and end in four digits, from 0000 on, and puts the last
-/// answer.
+/// Publishes a file so often, under the names that begin so and end in four digits, from 0000 on. What is said of the
+/// last one is all that is then put.
 pub fn put_many(
     alloc: Global,
     files: &[File],
     plain: &mut Plain,
     words: &str,
     out: &mut Said,
-) -> Result<(), Fail<Wrong>> {
-    let (count, words) = words.split_once(' ').unwrap_or((words, ""));
-    let (front, words) = words.split_once(' ').unwrap_or((words, ""));
-    let Ok(count) = count.parse::<u16>() else {
-        return Err(Fail::Fault(Wrong::Form));
-    };
+) -> Option<()> {
+    let (count, words) = words.split_once(' ')?;
+    let (front, words) = words.split_once(' ')?;
     let content = described(alloc, files, words)?;
-    put_last(alloc, plain, front, count, &content, out)
-}
-
-// Publishes a file so often, and puts the last answer.
-fn put_last(
-    alloc: Global,
-    plain: &mut Plain,
-    front: &str,
-    count: u16,
-    content: &Bytes,
-    out: &mut Said,
-) -> Result<(), Fail<Wrong>> {
-    let mut said = Said::new(alloc);
-    let put = put_each(alloc, plain, front, count, content, &mut said);
-    out.put_said(said);
+    let put = put_each(alloc, plain, front, count, &content, out);
+    drop(content);
     put
 }
 
-// Publishes a file so often, and leaves the last answer alone.
+// Publishes a file so often, and puts what is said of the last one.
 fn put_each(
     alloc: Global,
     plain: &mut Plain,
     front: &str,
-    count: u16,
+    count: &str,
     content: &Bytes,
-    said: &mut Said,
-) -> Result<(), Fail<Wrong>> {
-    for number in 0..count {
-        said.clear();
-        put_numbered(alloc, plain, front, number, content, said)?;
+    out: &mut Said,
+) -> Option<()> {
+    for number in 0..count.parse::<u16>().ok()? {
+        out.clear();
+        put_numbered(alloc, plain, front, number, content, out)?;
     }
-    Ok(())
+    Some(())
 }
 
 fn put_numbered(
@@ -95,8 +64,8 @@ fn put_numbered(
     number: u16,
     content: &Bytes,
     out: &mut Said,
-) -> Result<(), Fail<Wrong>> {
-    let name = format!(in alloc; "{front}{number:04}")?;
-    let bytes = Bytes::copy_of(alloc, content.as_slice())?;
+) -> Option<()> {
+    let name = format!(in alloc; "{front}{number:04}").ok()?;
+    let bytes = Bytes::copy_of(alloc, content.as_slice()).ok()?;
     put_file(alloc, plain, name.as_str().as_bytes(), bytes, out)
 }

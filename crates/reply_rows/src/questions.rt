@@ -3,23 +3,21 @@
 use super::moments::{put_moment, read_moment, read_number};
 use fm_base::{Fail, List, NoMemory};
 use fm_edition::Edition;
-use fm_model::{Loaded, Row, Tally, ViewName};
+use fm_model::{Loaded, ViewName};
 use fm_rows::Rows;
 use fm_views::{NoRows, row_count, rows};
-use pub_look::Query;
+use pub_look::{Look, Plain, Query};
 use row_text::Said;
-use std::alloc::{AllocError, Global};
-use text_rows::Wrong;
+use std::alloc::Global;
 
-/// A question in words, to a collection with this epoch. No answer where the words are none.
+// A question in words. It has no answer where the words are none, or memory runs out.
 #[derive(Clone, Copy)]
-pub struct Question<'a> {
-    pub epoch: i64,
-    pub words: &'a str,
+struct Question<'a> {
+    words: &'a str,
 }
 
 impl<'a> Query for Question<'a> {
-    type Out = Option<String>;
+    type Out = Option<Said>;
 
     ghost says = { λ _ _ _ _. Unit {0} };
 
@@ -28,119 +26,88 @@ impl<'a> Query for Question<'a> {
         alloc: Global,
         edition: &Edition,
         _revision: u64,
-    ) -> Result<Option<String>, NoMemory> {
+    ) -> Result<Option<Said>, NoMemory> {
         let mut out = Said::new(alloc);
-        match put_answer(alloc, edition, self.epoch, self.words, &mut out) {
-            Ok(()) => all_said(out),
-            Err(Fail::Fault(_)) => Ok(None),
-            Err(Fail::NoMemory) => Err(NoMemory),
+        match put_answer(alloc, edition, self.words, &mut out) {
+            Some(()) => Ok(Some(out)),
+            None => Ok(None),
         }
     }
 }
 
-fn all_said(said: Said) -> Result<Option<String>, NoMemory> {
-    match said.text() {
-        Ok(text) => Ok(Some(text)),
-        Err(AllocError) => Err(NoMemory),
-    }
+/// Puts the answer to a question in words. `None` where they are none, or memory runs out.
+pub fn put_asked(alloc: Global, plain: &mut Plain, words: &str, out: &mut Said) -> Option<()> {
+    let (answer, _) = plain.ask(alloc, &Question { words }).ok()?;
+    out.put_said(answer?);
+    Some(())
 }
 
-fn put_answer(
-    alloc: Global,
-    edition: &Edition,
-    epoch: i64,
-    words: &str,
-    out: &mut Said,
-) -> Result<(), Fail<Wrong>> {
+fn put_answer(alloc: Global, edition: &Edition, words: &str, out: &mut Said) -> Option<()> {
     let (what, rest) = words.split_once(' ').unwrap_or((words, ""));
     match what {
-        "tally" => put_tally(edition.tally(), out),
+        "tally" => put_tally(edition, out),
         "holds" => put_yes_or_no(edition.holds(rest.as_bytes()), out),
-        "runs" => put_moments(alloc, epoch, edition.runs(alloc), out),
-        _ => return put_answer_at(alloc, edition, epoch, what, rest, out),
+        "older" => put_yes_or_no(edition.older_than(read_moment(rest)?), out),
+        _ => put_found(alloc, edition, what, rest, out),
     }
-    Ok(())
 }
 
-// Puts the answer to a question about times.
-fn put_answer_at(
+// Puts the times, the cell, the run or the rows that a question asks for.
+fn put_found(
     alloc: Global,
     edition: &Edition,
-    epoch: i64,
     what: &str,
     rest: &str,
     out: &mut Said,
-) -> Result<(), Fail<Wrong>> {
+) -> Option<()> {
     match what {
-        "older" => put_older(edition, epoch, rest, out),
-        "times" => put_times(alloc, edition, epoch, rest, out),
-        "cell" => put_cell(edition, epoch, rest, out),
-        "best" => put_best(alloc, edition, epoch, rest, out),
-        "rows" => put_view(alloc, edition, epoch, rest, out),
-        _ => Err(Fail::Fault(Wrong::Form)),
+        "runs" => put_moments(alloc, edition.runs(alloc), out),
+        "times" => put_moments(alloc, edition.times_of(alloc, read_moment(rest)?), out),
+        "cell" => put_cell(edition, rest, out),
+        "best" => put_best(alloc, edition, rest, out),
+        "rows" => put_view(alloc, edition, view_of(rest)?, out),
+        _ => None,
     }
 }
 
-fn put_tally(tally: Tally, out: &mut Said) {
+fn put_tally(edition: &Edition, out: &mut Said) -> Option<()> {
+    let tally = edition.tally();
     out.put_number("files ", tally.files);
     out.put_number(", rows ", tally.rows);
     out.put_number(", bytes ", tally.size);
+    Some(())
 }
 
-fn put_yes_or_no(yes: bool, out: &mut Said) {
+fn put_yes_or_no(yes: bool, out: &mut Said) -> Option<()> {
     out.put(if yes { "yes" } else { "no" });
-}
-
-fn put_older(
-    edition: &Edition,
-    epoch: i64,
-    words: &str,
-    out: &mut Said,
-) -> Result<(), Fail<Wrong>> {
-    let cutoff = read_moment(epoch, words)?;
-    put_yes_or_no(edition.older_than(cutoff), out);
-    Ok(())
-}
-
-fn put_times(
-    alloc: Global,
-    edition: &Edition,
-    epoch: i64,
-    words: &str,
-    out: &mut Said,
-) -> Result<(), Fail<Wrong>> {
-    let run = read_moment(epoch, words)?;
-    put_moments(alloc, epoch, edition.times_of(alloc, run), out);
-    Ok(())
+    Some(())
 }
 
 // Puts instants that were asked for on one line.
-fn put_moments(alloc: Global, epoch: i64, all: Result<List<i64>, NoMemory>, out: &mut Said) {
-    match all {
-        Ok(all) => put_each(alloc, epoch, all.as_slice(), out),
-        Err(NoMemory) => out.run_short(),
-    }
-}
-
-fn put_each(alloc: Global, epoch: i64, all: &[i64], out: &mut Said) {
+fn put_moments(alloc: Global, all: Result<List<i64>, NoMemory>, out: &mut Said) -> Option<()> {
+    let all = all.ok()?;
     if all.is_empty() {
         out.put("none");
     }
+    put_each(alloc, all.as_slice(), out)
+}
+
+fn put_each(alloc: Global, all: &[i64], out: &mut Said) -> Option<()> {
     for (index, moment) in all.iter().enumerate() {
         out.put(if index == 0 { "" } else { " " });
-        put_moment(alloc, epoch, *moment, out);
+        put_moment(alloc, *moment, out)?;
     }
+    Some(())
 }
 
 // Puts the file that a run has for a valid time, and the time's index there.
-fn put_cell(edition: &Edition, epoch: i64, words: &str, out: &mut Said) -> Result<(), Fail<Wrong>> {
-    let (run, valid) = words.split_once(' ').unwrap_or((words, ""));
-    let (run, valid) = (read_moment(epoch, run)?, read_moment(epoch, valid)?);
-    match edition.cell(run, valid) {
+fn put_cell(edition: &Edition, words: &str, out: &mut Said) -> Option<()> {
+    let (run, valid) = words.split_once(' ')?;
+    match edition.cell(read_moment(run)?, read_moment(valid)?) {
         Some((file, index)) => put_file_and_index(file.get(), index, out),
         None => out.put("none"),
     }
-    Ok(())
+    Some(())
 }
 
 // Puts the name of a file and the index of a time in it.
@@ -150,83 +117,52 @@ fn put_file_and_index(file: &Loaded, index: u32, out: &mut Said) {
 }
 
 // Puts the best run of a valid time, and maybe of a least offset in seconds.
-fn put_best(
-    alloc: Global,
-    edition: &Edition,
-    epoch: i64,
-    words: &str,
-    out: &mut Said,
-) -> Result<(), Fail<Wrong>> {
-    match best_of(edition, epoch, words)? {
-        Some(run) => put_moment(alloc, epoch, run, out),
-        None => out.put("none"),
-    }
-    Ok(())
-}
-
-fn best_of(edition: &Edition, epoch: i64, words: &str) -> Result<Option<i64>, Fail<Wrong>> {
+fn put_best(alloc: Global, edition: &Edition, words: &str, out: &mut Said) -> Option<()> {
     let (valid, least) = match words.split_once(' ') {
         Some((valid, least)) => (valid, Some(read_number(least)?)),
         None => (words, None),
     };
-    Ok(edition.best_run(read_moment(epoch, valid)?, least))
-}
-
-// The view of some words.
-fn view_of(epoch: i64, words: &str) -> Result<ViewName, Fail<Wrong>> {
-    let (kind, number) = words.split_once(' ').unwrap_or((words, ""));
-    match kind {
-        "best" if number.is_empty() => Ok(ViewName::Best),
-        "best" => Ok(ViewName::BestFrom(read_number(number)?)),
-        "run" => Ok(ViewName::Run(read_moment(epoch, number)?)),
-        "offset" => Ok(ViewName::Offset(read_number(number)?)),
-        "forecast" => Ok(ViewName::Forecast(read_moment(epoch, number)?)),
-        _ => Err(Fail::Fault(Wrong::Form)),
-    }
-}
-
-// Puts how many rows a view has, and on a line each the valid time, the run, the file and the time's index there.
-fn put_view(
-    alloc: Global,
-    edition: &Edition,
-    epoch: i64,
-    words: &str,
-    out: &mut Said,
-) -> Result<(), Fail<Wrong>> {
-    let view = view_of(epoch, words)?;
-    put_row_count(row_count(alloc, edition, &view), out);
-    put_rows(alloc, epoch, rows(alloc, edition, &view), out);
-    Ok(())
-}
-
-fn put_row_count(count: Result<u64, NoMemory>, out: &mut Said) {
-    match count {
-        Ok(count) => out.put_number("rows ", count),
-        Err(NoMemory) => out.run_short(),
-    }
-}
-
-fn put_rows(alloc: Global, epoch: i64, found: Result<Rows, Fail<NoRows>>, out: &mut Said) {
-    match found {
-        Ok(rows) => put_each_row(alloc, epoch, &rows, out),
-        Err(Fail::Fault(NoRows)) => {}
-        Err(Fail::NoMemory) => out.run_short(),
-    }
-}
-
-fn put_each_row(alloc: Global, epoch: i64, rows: &Rows, out: &mut Said) {
-    for index in 0..rows.len() {
-        if let Some(row) = rows.get(index) {
-            put_row(alloc, epoch, row, out);
+    match edition.best_run(read_moment(valid)?, least) {
+        Some(run) => put_moment(alloc, run, out),
+        None => {
+            out.put("none");
+            Some(())
         }
     }
 }
 
-fn put_row(alloc: Global, epoch: i64, row: &Row, out: &mut Said) {
-    out.put("\n");
-    put_moment(alloc, epoch, row.valid, out);
-    out.put(" ");
-    put_moment(alloc, epoch, row.run, out);
-    out.put(" ");
-    put_file_and_index(row.file.get(), row.index, out);
+// The view of some words.
+fn view_of(words: &str) -> Option<ViewName> {
+    let (kind, number) = words.split_once(' ').unwrap_or((words, ""));
+    match kind {
+        "best" if number.is_empty() => Some(ViewName::Best),
+        "best" => Some(ViewName::BestFrom(read_number(number)?)),
+        "run" => Some(ViewName::Run(read_moment(number)?)),
+        "offset" => Some(ViewName::Offset(read_number(number)?)),
+        "forecast" => Some(ViewName::Forecast(read_moment(number)?)),
+        _ => None,
+    }
+}
+
+// Puts how many rows a view has, and on a line each the valid time, the run, the file and the time's index there.
+fn put_view(alloc: Global, edition: &Edition, view: ViewName, out: &mut Said) -> Option<()> {
+    out.put_number("rows ", row_count(alloc, edition, &view).ok()?);
+    match rows(alloc, edition, &view) {
+        Ok(rows) => put_rows(alloc, &rows, out),
+        Err(Fail::Fault(NoRows)) => Some(()),
+        Err(Fail::NoMemory) => None,
+    }
+}
+
+fn put_rows(alloc: Global, rows: &Rows, out: &mut Said) -> Option<()> {
+    for index in 0..rows.len() {
+        let row = rows.get(index)?;
+        out.put("\n");
+        put_moment(alloc, row.valid, out)?;
+        out.put(" ");
+        put_moment(alloc, row.run, out)?;
+        out.put(" ");
+        put_file_and_index(row.file.get(), row.index, out);
+    }
+    Some(())
 }

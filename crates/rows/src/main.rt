@@ -6,9 +6,8 @@ mod commands;
 
 use device_rows::Devices;
 use file_rows::Files;
-use reply_rows::Collections;
+use reply_rows::{Collections, run_race};
 use row_text::{Answers, Count, File, Row, Said, Text, end, read_inputs, run};
-use server_rows::run_race;
 use std::alloc::{AllocError, Global};
 use std::io::{self, Eprint, Print};
 use std::marker::Sync;
@@ -30,23 +29,22 @@ impl Answers for Unknown {
 fn run_text<R: Threads + Wait + Eprint + Sync>(
     rt: &R,
     alloc: Global,
-    collections: &Collections<'_>,
+    files: &[File],
     devices: &Devices,
     text: &Text,
     count: &mut Count,
 ) -> io::Result<()> {
-    let files = collections.files;
     let (path, rows) = (text.path.as_str(), text.text.as_str());
     match text.folder() {
         "commands" => {
             let runs = commands::all_run(rt, alloc, files, rows)?;
             run(rt, alloc, path, rows, &runs, count)
         }
-        "texts" => run(rt, alloc, path, rows, &Texts { files }, count),
+        "texts" => run(rt, alloc, path, rows, &Texts, count),
         "files" => run(rt, alloc, path, rows, &Files { files }, count),
-        "replies" => run(rt, alloc, path, rows, collections, count),
+        "replies" => run(rt, alloc, path, rows, &Collections { files }, count),
         "devices" | "machine" => run(rt, alloc, path, rows, devices, count),
-        "publisher" => run(rt, alloc, path, rows, &run_race(rt, alloc), count),
+        "publisher" => run(rt, alloc, path, rows, &run_race(rt, alloc, files), count),
         _ => run(rt, alloc, path, rows, &Unknown, count),
     }
 }
@@ -59,10 +57,9 @@ fn run_all<R: Threads + Wait + Eprint + Print + Sync>(
     files: &[File],
     texts: &[Text],
 ) -> io::Result<ExitCode> {
-    let collections = Collections::of(alloc, files, texts)?;
     let mut count = Count::default();
     for text in texts {
-        run_text(rt, alloc, &collections, devices, text, &mut count)?;
+        run_text(rt, alloc, files, devices, text, &mut count)?;
     }
     end(rt, count)
 }

@@ -3,13 +3,12 @@
 use super::constraints::put_constraint;
 use super::heads::put_head;
 use super::messages::put_message;
-use super::projections::put_projection;
 use super::sessions::put_input;
 use super::targets::put_target;
 use super::times::{put_instant, put_seconds, put_units};
 use super::values::{put_quote, put_value};
 use super::words::{Wanted, put_words};
-use row_text::{File, Row, Said};
+use row_text::{Row, Said};
 use std::alloc::Global;
 use std::str;
 use tm_units::read_mark;
@@ -26,7 +25,6 @@ pub enum Call {
     Quote,
     Constraint,
     Message,
-    Projection,
     Words,
     WordsShow,
     WordsSay,
@@ -48,7 +46,6 @@ const CALLS: &[(&str, &str, Call)] = &[
     ("quoted", "", Call::Quote),
     ("constraint", "", Call::Constraint),
     ("message", "data", Call::Message),
-    ("asks", "of", Call::Projection),
     ("words", "", Call::Words),
     ("words", "shows", Call::WordsShow),
     ("words", "says", Call::WordsSay),
@@ -79,19 +76,11 @@ fn has_only(row: &Row<'_>, key: &str, other: &str) -> bool {
 }
 
 /// Puts what comes out of a call with a text, and with what else is given. It is false where they aren't for that call.
-pub fn put_call(
-    alloc: Global,
-    files: &[File],
-    call: Call,
-    text: &[u8],
-    other: &[u8],
-    out: &mut Said,
-) -> bool {
+pub fn put_call(alloc: Global, call: Call, text: &[u8], other: &[u8], out: &mut Said) -> bool {
     match call {
         Call::Value => return put_value(alloc, text_of(text), None, out),
         Call::Seconds => return put_seconds_in(alloc, text, other, out),
         Call::Message => return put_message(alloc, text, text_of(other), out),
-        Call::Projection => return put_projection(alloc, files, text, other, out),
         Call::Target => return put_target(alloc, text_of(other), text, out),
         Call::Units => put_units(text, None, out),
         Call::UnitsIn => put_units(text, Some(other), out),

@@ -39,8 +39,8 @@ fn put_clause(clause: &Clause, out: &mut Said) {
     put_slabs(clause.slabs.as_slice(), out);
 }
 
-/// Appends slabs, each behind a blank.
-pub fn put_slabs(slabs: &[Slab], out: &mut Said) {
+// Appends slabs, each behind a blank.
+fn put_slabs(slabs: &[Slab], out: &mut Said) {
     for slab in slabs {
         out.put_number(" ", slab.start);
         out.put_number(":", slab.stride);

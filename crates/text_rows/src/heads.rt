@@ -1,4 +1,4 @@
-//! Request heads: one, however it is cut, and those of a stream.
+//! Request heads: one, and those of a stream.
 
 use super::bytes_at;
 use fm_base::NoMemory;
@@ -6,7 +6,7 @@ use row_text::{Field, Row, Said};
 use std::alloc::{AllocError, Global};
 use web_frame::{Frame, Method, Next, Request};
 
-/// Puts the item that a head is read as. It comes whole, cut in two at each offset, and byte by byte.
+/// Puts the item that a head is read as, and whether more than that is.
 pub fn put_head(alloc: Global, head: &[u8], out: &mut Said) {
     match Frame::new(alloc) {
         Ok(mut frame) => {
@@ -17,7 +17,6 @@ pub fn put_head(alloc: Global, head: &[u8], out: &mut Said) {
     }
 }
 
-// Appends the item that a frame without bytes reads a head as.
 fn put_read(frame: &mut Frame, head: &[u8], out: &mut Said) {
     frame.feed(head);
     let read = frame.next();
@@ -25,38 +24,6 @@ fn put_read(frame: &mut Frame, head: &[u8], out: &mut Said) {
     if frame.next() != Next::Need {
         out.put(", and more");
     }
-    if !is_read_cut(frame, head, read) {
-        out.put(", but not where it is cut");
-    }
-}
-
-// Whether a frame without bytes reads a head as this, cut in two at each offset and byte by byte, and nothing before
-// its end.
-fn is_read_cut(frame: &mut Frame, head: &[u8], want: Next) -> bool {
-    for at in 0..head.len() {
-        if !is_read_in_two(frame, head, at, want) {
-            return false;
-        }
-    }
-    is_read_by_bytes(frame, head, want)
-}
-
-fn is_read_in_two(frame: &mut Frame, head: &[u8], at: usize, want: Next) -> bool {
-    let (front, back) = head.split_at(at.min(head.len()));
-    frame.feed(front);
-    let early = frame.next();
-    frame.feed(back);
-    early == Next::Need && frame.next() == want && frame.next() == Next::Need
-}
-
-fn is_read_by_bytes(frame: &mut Frame, head: &[u8], want: Next) -> bool {
-    for byte in head {
-        if frame.next() != Next::Need {
-            return false;
-        }
-        frame.feed(&[*byte]);
-    }
-    frame.next() == want && frame.next() == Next::Need
 }
 
 /// Puts the heads of a stream, a line for each. Its slices are fed one after the other, and all heads of one are read

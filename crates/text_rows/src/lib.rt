@@ -1,64 +1,53 @@
-//! Rows whose input is a text: units and instants, values, constraints and what they ask for, messages, words of a
-//! command, targets, the heads of a stream of bytes, and sessions.
+//! Rows whose input is a text: units and instants, values, constraints, messages, words of a command, targets, the
+//! heads of a stream of bytes, and sessions.
 #![tactic(auto)]
 
 mod calls;
 mod constraints;
-mod declarations;
 mod heads;
 mod messages;
-mod projections;
 mod sessions;
 mod targets;
 mod times;
 mod values;
 mod words;
-mod wrong;
 
 use calls::{Call, call_of, put_call};
-pub use declarations::put_decl;
-use row_text::{Answers, File, Row, Said, bytes, content};
+use row_text::{Answers, Row, Said, bytes, content};
 use std::alloc::{AllocError, Global};
-pub use wrong::{Wrong, wrong_form};
 
-/// The files that rows begin from.
-#[derive(Clone, Copy)]
-pub struct Texts<'a> {
-    pub files: &'a [File],
-}
+/// The answers to rows about a text.
+pub struct Texts;
 
-impl Answers for Texts<'_> {
+impl Answers for Texts {
     fn answer(&self, alloc: Global, row: &Row<'_>, out: &mut Said) -> Result<bool, AllocError> {
         let Some((key, other, call)) = call_of(row) else {
             return Ok(put_course(alloc, row, out));
         };
         match row.bytes(alloc, key) {
-            Ok(Some(text)) => self.put_text(alloc, row, call, text.as_slice(), other, out),
+            Ok(Some(text)) => put_text(alloc, row, call, text.as_slice(), other, out),
             Ok(None) => Ok(false),
             Err(AllocError) => Err(AllocError),
         }
     }
 }
 
-impl Texts<'_> {
-    // Puts what comes out of a call about a text, and what else a row has at a key, where there is one.
-    fn put_text(
-        &self,
-        alloc: Global,
-        row: &Row<'_>,
-        call: Call,
-        text: &[u8],
-        key: &str,
-        out: &mut Said,
-    ) -> Result<bool, AllocError> {
-        if key.is_empty() {
-            return Ok(put_call(alloc, self.files, call, text, b"", out));
-        }
-        match row.bytes(alloc, key) {
-            Ok(Some(other)) => Ok(put_call(alloc, self.files, call, text, other.as_slice(), out)),
-            Ok(None) => Ok(false),
-            Err(AllocError) => Err(AllocError),
-        }
+// Puts what comes out of a call about a text, and what else a row has at a key, where there is one.
+fn put_text(
+    alloc: Global,
+    row: &Row<'_>,
+    call: Call,
+    text: &[u8],
+    key: &str,
+    out: &mut Said,
+) -> Result<bool, AllocError> {
+    if key.is_empty() {
+        return Ok(put_call(alloc, call, text, b"", out));
+    }
+    match row.bytes(alloc, key) {
+        Ok(Some(other)) => Ok(put_call(alloc, call, text, other.as_slice(), out)),
+        Ok(None) => Ok(false),
+        Err(AllocError) => Err(AllocError),
     }
 }
 

@@ -1,4 +1,4 @@
-//! Sessions: what they do over whole input, however it is cut, and at each of some events.
+//! Sessions: what they do over whole input, and at each of some events.
 
 use super::bytes_at;
 use super::heads::put_request;
@@ -8,30 +8,11 @@ use std::alloc::{AllocError, Global};
 use web_session::{Action, Asked, End, Event, Session};
 
 /// Puts what a session does over some input, a line for each action. Each reply has 5 bytes, of which at most 2 are
-/// sent at a time. Reads are left out: the input comes whole, and in pieces of at most 1 to 100 bytes.
+/// sent at a time. Reads are left out: the input comes whole.
 pub fn put_input(alloc: Global, input: &[u8], out: &mut Said) {
-    put_actions(alloc, input, input.len(), out);
-    for most in 1..101usize {
-        if !is_done(alloc, input, most, out.as_str()) {
-            out.put_number("\nbut not in pieces of ", most);
-            out.put(" bytes");
-            break;
-        }
-    }
-}
-
-// Whether this is what a session does over some input, of which it reads at most `most` bytes at a time.
-fn is_done(alloc: Global, input: &[u8], most: usize, want: &str) -> bool {
-    let mut got = Said::new(alloc);
-    put_actions(alloc, input, most, &mut got);
-    got.as_str() == want
-}
-
-// Puts what a session does over some input, of which it reads at most `most` bytes at a time.
-fn put_actions(alloc: Global, input: &[u8], most: usize, out: &mut Said) {
     match Session::new(alloc) {
         Ok(mut session) => {
-            put_session(&mut session, input, most, out);
+            put_session(&mut session, input, out);
             drop(session);
         }
         Err(NoMemory) => out.run_short(),
@@ -39,12 +20,12 @@ fn put_actions(alloc: Global, input: &[u8], most: usize, out: &mut Said) {
 }
 
 // The same of a session that has not begun.
-fn put_session(session: &mut Session, input: &[u8], most: usize, out: &mut Said) {
+fn put_session(session: &mut Session, input: &[u8], out: &mut Said) {
     let mut left = input;
     let mut action = session.on(Event::Start);
     for _ in 0..1_000_000u32 {
         if let Action::Read(room) = action {
-            let (piece, rest) = left.split_at(most.min(room).min(left.len()));
+            let (piece, rest) = left.split_at(room.min(left.len()));
             left = rest;
             action = after_read(session, piece);
         } else {

@@ -3,5 +3,5 @@ use Rattle.std.specs.List.{All}
 use Rattle.pub_core.specs.Outcome.{EventFits}
 use Rattle.reply_rows.proofs.events.events_of.Given as goal
 
-abbrev pub invariant-loop-words : goal.invariant-loop-words
-invariant-loop-words l = All (EventFits l.proto) l.events
+abbrev pub invariant-loop-field : goal.invariant-loop-field
+invariant-loop-field l = All (EventFits l.proto) l.events
