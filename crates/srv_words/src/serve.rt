@@ -106,11 +106,10 @@ fn inboxes_of<'m, 'a>(matches: &'m ArgMatches<'a>) -> Option<&'m [&'a str]>
     ensures { option_map (λ list. map (λ word. word.now) list.now) result
         ≡ spec.inboxes_of (rows_of (found_of matches.now)) }
 {
-    let words = texts_of(matches, "INBOX")?;
-    if words.is_empty() || words.len() > MAX_INBOXES as usize {
-        return None;
+    match texts_of(matches, "INBOX") {
+        Some(words) if !words.is_empty() && words.len() <= MAX_INBOXES as usize => Some(words),
+        _ => None,
     }
-    Some(words)
 }
 
 // Adds a copy of a word.
