@@ -84,21 +84,14 @@ fn variable_attributes(
     written(alloc, var.attrs.as_slice())
 }
 
-// The axis's name with some bytes behind it.
-fn name_with(alloc: Global, axis: &[u8], behind: &[u8]) -> Result<Bytes, NoMemory>
-    ensures { IfOk result (λ name. name ≡ axis.now ++ behind.now) }
-{
-    let mut name = Bytes::copy_of(alloc, axis)?;
-    name.append(behind)?;
-    Ok(name)
-}
-
 // Whether a name is the axis's with some bytes behind it.
-fn is_name_with(alloc: Global, axis: &[u8], behind: &[u8], name: &[u8]) -> Result<bool, NoMemory>
-    ensures { IfOk result (λ same. same ≡ bytes_eq (axis.now ++ behind.now) name.now) }
+fn is_name_with(axis: &[u8], behind: &[u8], name: &[u8]) -> bool
+    ensures { result ≡ bytes_eq (axis.now ++ behind.now) name.now }
 {
-    let whole = name_with(alloc, axis, behind)?;
-    Ok(whole.as_slice() == name)
+    match name.strip_prefix(axis) {
+        Some(rest) => behind == rest,
+        None => false,
+    }
 }
 
 // The attributes of the run or of the offset of each row, under their names.
@@ -107,10 +100,11 @@ fn added_attributes(alloc: Global, proto: &Proto, name: &[u8]) -> Result<List<At
     requires { HasFourDigitYear proto.now.site.epoch }
     ensures { IfOk result (λ attrs. attrs ≡ spec.added_attributes proto.now name.now) }
 {
-    if is_name_with(alloc, proto.axis.as_slice(), b"_run", name)? {
+    let axis = proto.axis.as_slice();
+    if is_name_with(axis, b"_run", name) {
         return run_attributes(alloc, proto);
     }
-    if is_name_with(alloc, proto.axis.as_slice(), b"_offset", name)? {
+    if is_name_with(axis, b"_offset", name) {
         return offset_attributes(alloc);
     }
     Ok(List::new(alloc))
