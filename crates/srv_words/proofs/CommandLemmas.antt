@@ -1,5 +1,5 @@
 -- The command is one of which `clap` says exactly which words it takes.
-use Rattle.std.proofs.Common.{◌≡◌, ◌==◌, ◌⊎◌, ◌∙◌, ◌||◌, Bool, inl, inr, true, false, List, [], ◌∷◌, length, Result, Ok, Err, All, IfOk, OnOk, refl, sym, ap, subst, arith}
+use Rattle.std.proofs.Common.{◌≡◌, ◌==◌, ◌⊎◌, ◌∙◌, ◌||◌, Bool, inl, inr, true, false, List, [], ◌∷◌, length, Result, Ok, Err, All, IfOk, map, refl, sym, ap, subst, arith}
 use Rattle.std.proofs.lemmas.Bool.{and_parts, cases_Bool, eqb-true}
 use Rattle.std.proofs.lemmas.List.Elements.{All-head, All-tail}
 use Rattle.std.specs.Prelude.{⊤}
@@ -15,17 +15,12 @@ use Rattle.clap.specs.declared.parser.matches.ArgMatches.{ArgMatches}
 use Rattle.clap.specs.Faults.{fault_of, is_free_app, is_simple_and_free}
 use Rattle.clap.specs.Simple.{App, HasMatchesOf, app_of, built, is_simple, subcommand_of, subcommand_rows_of, with_subcommand}
 use Rattle.clap.specs.Walk.{Rule, Text}
-use Rattle.srv_words.specs.Command.{fmrcd, rules_in, subcommand, used, with_arguments, with_clock, with_collections, with_door, with_rules, with_server, with_site}
+use Rattle.srv_words.specs.Command.{are_plain, commands, fmrcd, rules_in, subcommand, top, used, with_arguments, with_clock, with_collections, with_door, with_rules, with_server, with_site}
 
 -- a result whose value is seen as one thing is seen as what equals it
 pub ok_as : {A E : Type 0} {x y : App} (f : A → App) (r : Result A E) → x ≡ y → IfOk r (λ k. f k ≡ x)
     → IfOk r (λ k. f k ≡ y)
 ok_as f r is seen = subst (λ (z : App). IfOk r (λ k. f k ≡ z)) is seen
-
--- rules that are as a call left them are as what equals that
-pub done_as : {A E : Type 0} {y z : List Rule} (r : Result A E) (x : List Rule) → y ≡ z → OnOk r (x ≡ y)
-    → OnOk r (x ≡ z)
-done_as r x is done = subst (λ (l : List Rule). OnOk r (x ≡ l)) is done
 
 neither : (a b c : Bool) → c ≡ (a || b) → a ≡ false → b ≡ false → c ≡ false
 neither a b c is first second = is ∙ ap (λ (x : Bool). x || b) first ∙ second
@@ -52,17 +47,31 @@ pub args_made : {E F : Type 0} (old : Command) (args : List Arg) (added : Result
 args_made old args added (Ok new) is adds local plain = args_in_turn old new args (rw is at adds) local plain
 args_made old args added (Err fault) is adds local plain = (tt, tt)
 
--- a command with one more subcommand, where memory sufficed
-pub one_made : {E F : Type 0} (before next : App) (old sub : Command) (added : Result Command E)
-    (made : Result Command F) → IfOk made (λ new. added ≡ Ok new) → IfOk added (AddsSubcommand old sub)
-    → app_of old ≡ before → app_of sub ≡ next → (out-Command sub).has_globals ≡ false
-    → IfOk made (λ new. app_of new ≡ with_subcommand before next.top)
-one_made before next old sub added (Ok new) is adds first second plain =
-    let one : AddsSubcommand old sub new = rw is at adds in
-    one.shape plain
-    ∙ ap (λ (a : App). with_subcommand (app_of old) a.top) second
-    ∙ ap (λ (a : App). with_subcommand a next.top) first
-one_made before next old sub added (Err fault) is adds first second plain = tt
+-- a command with these subcommands more, one after the other
+abbrev with_each : App → List App → App
+with_each app [] = app
+with_each app (next ∷ rest) = with_each (with_subcommand app next.top) rest
+
+-- a command to which subcommands were added has them, one after the other
+in_turn : (old new : Command) (subs : List Command) → AddsInTurn AddsSubcommand old subs new → are_plain subs
+    → app_of new ≡ with_each (app_of old) (map app_of subs)
+in_turn old new [] is plain = sym (ap app_of is)
+in_turn old new (sub ∷ subs) adds plain =
+    in_turn adds.0 new subs adds.2 (All-tail (λ (c : Command). (out-Command c).has_globals ≡ false) sub subs plain)
+    ∙ ap (λ (app : App). with_each app (map app_of subs))
+    (adds.1.shape (All-head (λ (c : Command). (out-Command c).has_globals ≡ false) sub subs plain))
+
+-- these are the commands of the program, where memory sufficed
+pub all_made : {E F : Type 0} (old : Command) (subs : List Command) (added : Result Command E)
+    (made : Result Command F) → IfOk made (λ new. added ≡ Ok new) → IfOk added (AddsInTurn AddsSubcommand old subs)
+    → app_of old ≡ top → map app_of subs ≡ map subcommand commands → are_plain subs
+    → IfOk made (λ new. app_of new ≡ fmrcd)
+unfolding fmrcd with_collections
+all_made old subs added (Ok new) is adds first apps plain =
+    in_turn old new subs (rw is at adds) plain
+    ∙ ap (λ (app : App). with_each app (map app_of subs)) first
+    ∙ ap (with_each top) apps
+all_made old subs added (Err fault) is adds first apps plain = tt
 
 -- what the command's definition stands on, for proofs that compute on it
 unfoldable pub fmrcd_on_literals : ⊤

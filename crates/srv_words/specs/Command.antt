@@ -1,11 +1,16 @@
 -- The command, as `clap` sees it. Functions of that crate say which words it takes, and their matches.
-use Rattle.std.specs.Prelude.{Bool, true, false, List, [], ◌∷◌, ◌++◌, Option, Some, ◌==◌, length, map, codes}
+use Rattle.std.specs.Prelude.{◌≡◌, All, Bool, true, false, List, [], ◌∷◌, ◌++◌, Option, Some, ◌==◌, length, map, codes}
 use Rattle.clap.specs.Faults.{fault_of}
 use Rattle.clap.specs.Simple.{App, new_app, new_rule, with_rule, with_subcommand, on_top, subcommand_of}
 use Rattle.clap.specs.Walk.{Text, Row, Rule, rule_of}
 use Rattle.clap.specs.declared.builder.action.ArgAction.{ArgAction}
 use Rattle.clap.specs.declared.builder.action.ArgAction.TheVariants.{Set, Append, SetTrue}
 use Rattle.clap.specs.declared.builder.arg.Arg.{Arg}
+use Rattle.clap.specs.declared.builder.command.Command.{Command as Builder}
+use Rattle.clap.specs.declared.builder.command.Command.TheViews.{out-Command}
+use Rattle.std.specs.Borrow.{Bor}
+use Rattle.srv_words.specs.declared.arguments.Form.{Form}
+use Rattle.srv_words.specs.declared.arguments.Form.TheVariants.{Needed, Optional, Flag, Word, Words}
 use Rattle.srv_words.specs.declared.job.Command.{Command}
 use Rattle.srv_words.specs.declared.job.Command.TheVariants.{Once, Twod, Extract, Pull, Check, Load, Serve, Many}
 
@@ -21,6 +26,18 @@ flag id = record (new_rule id) { long = Some id; action = Some SetTrue; required
 -- a word that has to stand (`Set`), or one word or more (`Append`)
 abbrev pub word : Text → ArgAction → Rule
 word id action = record (new_rule id) { action = Some action; required = true }
+
+-- the rule of an argument with this id and this form
+abbrev pub rule_as : Text → Form → Rule
+rule_as id (Needed value) = option id true
+rule_as id (Optional value) = option id false
+rule_as id Flag = flag id
+rule_as id Word = word id Set
+rule_as id Words = word id Append
+
+-- that of an argument with its help
+abbrev pub rule_in : Bor Text × Form × Bor Text → Rule
+rule_in argument = rule_as argument.0.now argument.1
 
 -- the rules of arguments
 abbrev pub rules_in : List Arg → List Rule
@@ -67,6 +84,18 @@ with_arguments Many rules = one_more (with_server rules) (word (codes "SPEC") Ap
 abbrev pub with_rules : App → List Rule → App
 with_rules app [] = app
 with_rules app (rule ∷ rules) = with_rules (with_rule app rule) rules
+
+-- these are arguments of one command alone, and not of the commands below it
+abbrev pub are_local : List Arg → Type 0
+are_local arguments = All (λ arg. arg.global ≡ false) arguments
+
+-- no argument of these commands is one of the commands below it
+abbrev pub are_plain : List Builder → Type 0
+are_plain commands = All (λ c. (out-Command c).has_globals ≡ false) commands
+
+-- the commands, in the order of the help
+abbrev pub commands : List Command
+commands = Serve ∷ Many ∷ Once ∷ Twod ∷ Extract ∷ Pull ∷ Check ∷ Load ∷ []
 
 -- the word for a command
 abbrev pub name_of : Command → Text

@@ -1,5 +1,7 @@
 //! Words that ask for a text: the help or the version.
-ghost use Rattle.std.specs.Prelude.{◌≡◌, IfOk, is_some};
+ghost use Rattle.std.specs.Prelude.{◌≡◌, IfOk, None, Some, codes, if◌then◌else◌, is_some};
+ghost use Rattle.std.specs.Str.{bytes_eq};
+ghost use Rattle.srv_words.specs.declared.job.Command.TheVariants.{Check, Load, Many, Serve};
 ghost use Rattle.srv_words.specs.Asked as spec;
 
 use crate::help::VERSION;
@@ -29,7 +31,20 @@ pub(crate) fn command_named(name: &[u8]) -> Option<Command>
         Some(Command::Extract)
     } else if name == b"pull".as_slice() {
         Some(Command::Pull)
-    } else if name == b"check".as_slice() {
+    } else {
+        command_without_steps(name)
+    }
+}
+
+// The same of those that do no steps on one collection, and pull nothing.
+fn command_without_steps(name: &[u8]) -> Option<Command>
+    ensures { result
+        ≡ (if bytes_eq name.now (codes "check") then Some Check
+        else (if bytes_eq name.now (codes "load") then Some Load
+        else (if bytes_eq name.now (codes "serve") then Some Serve
+        else (if bytes_eq name.now (codes "many") then Some Many else None)))) }
+{
+    if name == b"check".as_slice() {
         Some(Command::Check)
     } else if name == b"load".as_slice() {
         Some(Command::Load)

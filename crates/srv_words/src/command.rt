@@ -1,10 +1,10 @@
 //! The command as `clap` takes it apart.
-ghost use Rattle.std.specs.Prelude.{◌≡◌, true, false, IfOk};
-ghost use Rattle.clap.specs.Simple.{App, app_of, new_app, on_top, with_subcommand as added};
+ghost use Rattle.std.specs.Prelude.{◌≡◌, ◌++◌, ◌∷◌, [], true, false, IfOk, OnOk, map};
+ghost use Rattle.clap.specs.Simple.{app_of, new_app, on_top};
 ghost use Rattle.clap.specs.declared.builder.command.Command.TheViews.{out-Command};
 ghost use Rattle.srv_words.specs.Command as spec;
 
-use crate::arguments::Arguments;
+use crate::args::args_of;
 use crate::help::{
     CHECK_HELP, EXTRACT_HELP, LOAD_HELP, MANY_HELP, ONCE_HELP, PULL_HELP, SERVE_HELP, TWOD_HELP,
 };
@@ -13,6 +13,18 @@ use crate::made::made;
 use clap::Command;
 use fm_base::NoMemory;
 use std::alloc::Global;
+
+// The commands, in the order of the help.
+const COMMANDS: &[job::Command] = &[
+    job::Command::Serve,
+    job::Command::Many,
+    job::Command::Once,
+    job::Command::Twod,
+    job::Command::Extract,
+    job::Command::Pull,
+    job::Command::Check,
+    job::Command::Load,
+];
 
 // What the help says of a command.
 fn help_of<'a>(command: job::Command) -> &'a str {
@@ -41,30 +53,36 @@ pub(crate) fn subcommand<'a>(alloc: Global, command: job::Command) -> Result<Com
     ensures app { IfOk result (λ c. app_of c ≡ spec.subcommand command) }
     ensures plain { IfOk result (λ c. (out-Command c).has_globals ≡ false) }
 {
-    let mut arguments = Arguments::new(alloc);
-    arguments.put_all(alloc, command)?;
-    arguments.onto(named(alloc, command))
+    let arguments = args_of(alloc, command)?;
+    made(named(alloc, command).args(arguments))
 }
 
-// A command with one more subcommand, where memory sufficed for the command.
-fn joined<'a>(
+// Adds a command with all that stands behind it.
+fn put<'a>(
     alloc: Global,
-    command: Result<Command<'a>, NoMemory>,
-    next: job::Command,
-) -> Result<Command<'a>, NoMemory>
-    ensures { (before : App) → IfOk command.entry (λ c. app_of c ≡ before)
-        → IfOk result (λ c. app_of c ≡ added before (spec.subcommand next).top) }
+    command: job::Command,
+    list: &mut Vec<Command<'a>>,
+) -> Result<(), NoMemory>
+    ensures apps { OnOk result (map app_of list.new.items ≡ map app_of list.old.items ++ spec.subcommand command ∷ []) }
+    ensures plain { OnOk result (spec.are_plain list.old.items → spec.are_plain list.new.items) }
 {
-    match command {
-        Ok(command) => match subcommand(alloc, next) {
-            Ok(next) => made(command.subcommand(next)),
-            Err(NoMemory) => {
-                drop(command);
-                Err(NoMemory)
-            }
-        },
-        Err(NoMemory) => Err(NoMemory),
+    let command = subcommand(alloc, command)?;
+    Ok(list.push(command)?)
+}
+
+// Commands with all that stands behind them.
+fn commands_from<'a>(alloc: Global, commands: &[job::Command]) -> Result<Vec<Command<'a>>, NoMemory>
+    ensures apps { IfOk result (λ list. map app_of list.items ≡ map spec.subcommand commands.now) }
+    ensures plain { IfOk result (λ list. spec.are_plain list.items) }
+{
+    let mut list = Vec::new(alloc);
+    for command in commands {
+        if let Err(NoMemory) = put(alloc, *command, &mut list) {
+            drop(list);
+            return Err(NoMemory);
+        }
     }
+    Ok(list)
 }
 
 // A command that wants a subcommand, and is given the words after the program's name.
@@ -82,29 +100,16 @@ fn top<'a>(alloc: Global) -> Result<Command<'a>, NoMemory>
     made(wanting(Command::new(alloc, "fmrcd")).bin_name("fmrcd"))
 }
 
-// With the commands that serve, and those that do steps.
-#[tactic(auto, unfolding(crate::specs::Command::with_collections))]
-fn with_collections<'a>(
-    alloc: Global,
-    command: Result<Command<'a>, NoMemory>,
-) -> Result<Command<'a>, NoMemory>
-    ensures { (before : App) → IfOk command.entry (λ c. app_of c ≡ before)
-        → IfOk result (λ c. app_of c ≡ spec.with_collections before) }
-{
-    let command = joined(alloc, command, job::Command::Serve);
-    let command = joined(alloc, command, job::Command::Many);
-    let command = joined(alloc, command, job::Command::Once);
-    let command = joined(alloc, command, job::Command::Twod);
-    joined(alloc, command, job::Command::Extract)
-}
-
 /// The command, with all that it says of itself.
-#[tactic(auto, unfolding(crate::specs::Command::fmrcd))]
 pub(crate) fn fmrcd<'a>(alloc: Global) -> Result<Command<'a>, NoMemory>
     ensures { IfOk result (λ c. app_of c ≡ spec.fmrcd) }
 {
-    let command = with_collections(alloc, top(alloc));
-    let command = joined(alloc, command, job::Command::Pull);
-    let command = joined(alloc, command, job::Command::Check);
-    joined(alloc, command, job::Command::Load)
+    let list = commands_from(alloc, COMMANDS)?;
+    match top(alloc) {
+        Ok(command) => made(command.subcommands(list)),
+        Err(NoMemory) => {
+            drop(list);
+            Err(NoMemory)
+        }
+    }
 }

@@ -8,6 +8,7 @@ use crate::help::{
 };
 use crate::job::Command;
 use crate::load::{MAX_MADE, MAX_SEED};
+use crate::matches::subcommand_of;
 use crate::number::number_in;
 use crate::pull::{MAX_ADDRESS, MAX_TARGET};
 use crate::serve::{MAX_COUNT, MAX_KEPT, MAX_WORKERS};
@@ -63,12 +64,9 @@ const VALUES: &[(&str, &str, Kind)] = &[
     ("ticks", "--ticks <NUMBER>", Kind::Count),
 ];
 
-/// The first value of a subcommand that hasn't its form.
-pub(crate) fn faulty_in<'a>(
-    alloc: Global,
-    name: &str,
-    matches: &ArgMatches<'a>,
-) -> Option<Faulty<'a>> {
+/// The first value of the subcommand in the words that hasn't its form.
+pub(crate) fn faulty_in<'a>(alloc: Global, matches: &ArgMatches<'a>) -> Option<Faulty<'a>> {
+    let (name, matches) = subcommand_of(matches)?;
     match faulty_value(matches) {
         Some(faulty) => Some(faulty),
         None => faulty_word(alloc, command_named(name.as_bytes())?, matches),

@@ -99,10 +99,14 @@ fn step_form(word: &[u8], may_ask: bool) -> &'static str {
 /// The first word that is no collection, that has a name of one before, or that is too many; or the only one.
 pub(crate) fn faulty_spec<'a>(matches: &ArgMatches<'a>) -> Option<Faulty<'a>> {
     let words = texts_of(matches, "SPEC")?;
+    let index = if words.len() < MIN_SPECS as usize {
+        0
+    } else {
+        MAX_SPECS
+    };
     match first_bad_spec(words) {
         Some(faulty) => Some(faulty),
-        None if words.len() < MIN_SPECS as usize => faulty_at(words, 0, "<SPEC>...", SPECS_FORM),
-        None => faulty_at(words, MAX_SPECS, "<SPEC>...", SPECS_FORM),
+        None => faulty_at(words, index, "<SPEC>...", SPECS_FORM),
     }
 }
 

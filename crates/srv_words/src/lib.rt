@@ -1,6 +1,7 @@
 //! The words of the command, read with `clap`: the job that they are, or that they are none.
 #![tactic(auto)]
 
+mod args;
 mod arguments;
 mod asked;
 mod check;

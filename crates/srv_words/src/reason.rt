@@ -4,7 +4,7 @@ use crate::asked::command_named;
 use crate::faulty::{Faulty, faulty_in};
 use crate::job::Command;
 use crate::line::Line;
-use crate::matches::{parsed, subcommand_of};
+use crate::matches::parsed;
 use crate::read::texts_of;
 use clap::error::ErrorKind;
 use clap::{ArgMatches, Error};
@@ -72,14 +72,7 @@ fn put_no_text(words: &[Bytes], out: &mut Line) {
 
 // Puts which value hasn't its form.
 fn put_value(alloc: Global, matches: &ArgMatches<'_>, out: &mut Line) {
-    match subcommand_of(matches) {
-        Some((name, matches)) => put_value_of(alloc, name, matches, out),
-        None => out.put(NONE_FAULTY),
-    }
-}
-
-fn put_value_of(alloc: Global, name: &str, matches: &ArgMatches<'_>, out: &mut Line) {
-    match faulty_in(alloc, name, matches) {
+    match faulty_in(alloc, matches) {
         Some(faulty) => put_faulty(&faulty, out),
         None => out.put(NONE_FAULTY),
     }
@@ -106,52 +99,28 @@ fn put_error(alloc: Global, error: &Error, out: &mut Line) {
 fn put_text(alloc: Global, error: &Error, out: &mut Line) {
     match error.to_string(alloc) {
         Ok(text) => {
-            put_paragraphs(text.as_str(), out);
+            put_message(text.as_str(), out);
             drop(text);
         }
         Err(_) => out.run_short(),
     }
 }
 
-// Puts the first paragraph of a text, which says which word is meant, and the first tip.
-fn put_paragraphs(text: &str, out: &mut Line) {
-    match text.split_once("\n\n") {
-        Some((front, rest)) => {
-            put_front(front, out);
-            put_tip(rest, out);
-        }
-        None => put_front(text, out),
-    }
-}
-
-fn put_front(text: &str, out: &mut Line) {
-    match text.strip_prefix("error: ") {
-        Some(text) => put_lines(text, out),
-        None => put_lines(text, out),
+// Puts the first paragraph of a text, which says which word is meant, as one line, and the first tip behind it.
+fn put_message(text: &str, out: &mut Line) {
+    let (front, rest) = text.split_once("\n\n").unwrap_or((text, ""));
+    put_lines(front.strip_prefix("error: ").unwrap_or(front), out);
+    if let Some(tip) = rest.strip_prefix("  tip: ") {
+        out.put("; ");
+        out.put_shown(tip.lines().next().unwrap_or(""));
     }
 }
 
 // Puts the lines of a text as one.
 fn put_lines(text: &str, out: &mut Line) {
-    let mut is_first = true;
-    for line in text.lines() {
-        out.put(if is_first { "" } else { " " });
+    for (index, line) in text.lines().enumerate() {
+        out.put(if index == 0 { "" } else { " " });
         out.put_shown(line.trim());
-        is_first = false;
-    }
-}
-
-fn put_tip(text: &str, out: &mut Line) {
-    if let Some(tip) = text.strip_prefix("  tip: ") {
-        out.put("; ");
-        put_first_line(tip, out);
-    }
-}
-
-fn put_first_line(text: &str, out: &mut Line) {
-    match text.split_once("\n") {
-        Some((line, _)) => out.put_shown(line),
-        None => out.put_shown(text),
     }
 }
 

@@ -9,8 +9,10 @@ use std::alloc::{AllocError, Global};
 
 /// The help of the program.
 pub(crate) fn program_help(alloc: Global) -> Result<String, NoMemory> {
-    let command = fmrcd(alloc)?;
-    help_of(command.about(PROGRAM_HELP).after_help(MORE_HELP))
+    match fmrcd(alloc) {
+        Ok(command) => help_of(command.about(PROGRAM_HELP).after_help(MORE_HELP)),
+        Err(NoMemory) => Err(NoMemory),
+    }
 }
 
 /// The help of a command.

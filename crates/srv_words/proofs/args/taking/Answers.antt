@@ -2,7 +2,7 @@
 use Rattle.std.proofs.Common.{◌∙◌, Some, ap}
 use Rattle.clap.specs.Walk.{Rule, rule_of}
 use Rattle.clap.specs.declared.builder.arg.Arg.{Arg}
-use Rattle.srv_words.proofs.arguments.argument.Goals as goal
+use Rattle.srv_words.proofs.args.taking.Goals as goal
 
 pub returns : goal.returns
 returns c =

@@ -2,12 +2,12 @@
 use Rattle.std.proofs.Common.{◌∙◌, Some, ap}
 use Rattle.clap.specs.Walk.{Rule, rule_of}
 use Rattle.clap.specs.declared.builder.arg.Arg.{Arg}
-use Rattle.srv_words.proofs.arguments.flag.Goals as goal
+use Rattle.srv_words.proofs.args.flag.Goals as goal
 
 pub returns : goal.returns
 returns c =
     let long = λ (rule : Rule). record rule { long = Some c.args.id.now } in
     record {
-      rule = ap rule_of c.long.ensures ∙ ap long c.argument.ensures.rule;
-      local = ap (λ (arg : Arg). arg.global) c.long.ensures ∙ c.argument.ensures.local;
+      rule = ap rule_of c.long.ensures ∙ ap long c.taking.ensures.rule;
+      local = ap (λ (arg : Arg). arg.global) c.long.ensures ∙ c.taking.ensures.local;
     }
