@@ -1,5 +1,5 @@
 //! The first of a list.
-ghost use Rattle.std.specs.Prelude.{◌≡◌, IfNone, drop};
+ghost use Rattle.std.specs.Prelude.{◌≡◌, drop};
 ghost use Rattle.dev_traits.specs.Door.{first_of};
 
 use fm_base::List;
@@ -8,7 +8,6 @@ use fm_base::List;
 pub(crate) fn take_first<T>(list: &mut List<T>) -> Option<T>
     ensures first { result ≡ first_of list.old }
     ensures rest { list.new ≡ drop 1 list.old }
-    ensures none { IfNone result (list.new ≡ list.old) }
 {
     if list.is_empty() {
         return None;

@@ -105,7 +105,7 @@ impl Inbox for MemInbox {
         };
         let (name, last) = two_copies(alloc, name.as_slice())?;
         self.given += 1;
-        drop(self.last.replace(last));
+        self.last = Some(last);
         Ok(Arrival::Name(name))
     }
 
