@@ -5,7 +5,7 @@ ghost use Rattle.dev_traits.specs.Files.{KeepsLimit};
 
 use crate::failing::unopened;
 use crate::held_back::{Given, MINUTE, Reason};
-use crate::moving::Mover;
+use crate::moving::{Mover, prepare};
 use crate::names::{Shelf, shelf_of};
 use crate::notice::{Event, tell_of};
 use crate::offers::Offers;
@@ -47,10 +47,14 @@ impl<R: rt::Files + rt::Clock + Drop, T: Tell + Drop> FolderInbox<R, T> {
         alloc: Global,
         folder: &[u8],
     ) -> Result<FolderInbox<R, T>, Fail<Failed>> {
-        let mover = prepared(rt, &tell, alloc, folder)?;
-        let later = Some(present(&mover.rt).saturating_add(MINUTE));
+        let folder = prepared(&rt, &tell, alloc, folder)?;
+        let later = Some(present(&rt).saturating_add(MINUTE));
         Ok(FolderInbox {
-            mover,
+            mover: Mover {
+                rt,
+                folder,
+                moves: Move::new(alloc),
+            },
             tell,
             stop: FolderStop::of(stops),
             offers: Offers::new(alloc),
@@ -108,27 +112,19 @@ impl<R: rt::Files + rt::Clock + Drop, T: Tell + Drop> FolderInbox<R, T> {
     }
 }
 
-// What moves the files of a folder, once the folders inside it are there. It is told where that can't be.
-fn prepared<R: rt::Files + Drop, T: Tell>(
-    rt: R,
+// The path of a folder, which is text, once the folders inside it are there. It is told where that can't be.
+fn prepared<R: rt::Files, T: Tell>(
+    rt: &R,
     tell: &T,
     alloc: Global,
     folder: &[u8],
-) -> Result<Mover<R>, Fail<Failed>> {
+) -> Result<String, Fail<Failed>> {
     let Ok(folder) = str::from_utf8(folder) else {
         return Err(Fail::Fault(Failed));
     };
-    let mut mover = Mover {
-        folder: String::from_str(alloc, folder)?,
-        moves: Move::new(alloc),
-        rt,
-    };
-    match mover.prepare(alloc) {
-        Ok(()) => Ok(mover),
-        Err(error) => {
-            drop(mover);
-            Err(unopened(tell, folder, error))
-        }
+    match prepare(rt, alloc, folder) {
+        Ok(()) => Ok(String::from_str(alloc, folder)?),
+        Err(error) => Err(unopened(tell, folder, error)),
     }
 }
 

@@ -36,7 +36,6 @@ impl<R: rt::Files + Drop> Mover<R> {
 
     // Whether a name was published, or the name that takes it back got a verdict, after a file that waits in `later`.
     fn has_later_verdict(&mut self, name: &str, back: &str, waits: Stamp) -> io::Result<bool> {
-        self.make_room(back)?;
         if self.is_there_since(Shelf::Done, name, waits)?
             || self.is_there_since(Shelf::Done, back, waits)?
         {
@@ -55,22 +54,21 @@ impl<R: rt::Files + Drop> Mover<R> {
 
     // Brings a file back that waits in `later` since then. One whose name got a later verdict is put away.
     fn bring_back_since(&mut self, alloc: Global, name: &str, waits: Stamp) -> io::Result<()> {
-        if self.is_outdated(alloc, taken_back(name).unwrap_or(name), waits)? {
-            return self.move_file(Some(Shelf::Later), name, Shelf::Taken);
-        }
-        let _vanished = self.rename(Some(Shelf::Later), name, None)?;
-        Ok(())
+        let is_outdated = self.is_outdated(alloc, taken_back(name).unwrap_or(name), waits)?;
+        let to = if is_outdated {
+            Some(Shelf::Taken)
+        } else {
+            None
+        };
+        self.move_file(Some(Shelf::Later), name, to)
     }
 
     // Brings a file back that waits in `later`. One that lies in the folder goes first.
     fn bring_back_one(&mut self, alloc: Global, name: &str) -> io::Result<()> {
-        self.make_room(name)?;
-        if self.moved_at(None, name)?.is_some() {
-            return Ok(());
-        }
+        let lies = self.moved_at(None, name)?;
         match self.moved_at(Some(Shelf::Later), name)? {
-            Some(waits) => self.bring_back_since(alloc, name, waits),
-            None => Ok(()),
+            Some(waits) if lies.is_none() => self.bring_back_since(alloc, name, waits),
+            _ => Ok(()),
         }
     }
 

@@ -1,6 +1,6 @@
 //! The names that lie in a folder.
 
-use crate::moving::Mover;
+use crate::moving::{Mover, open_inside};
 use crate::names::{is_mistaken, is_offered};
 use std::alloc::{AllocError, Global};
 use std::io::{self, Read};
@@ -24,18 +24,12 @@ impl Names {
     // Puts a name with its own kind. One that is no text isn't offered.
     fn put(&mut self, alloc: Global, name: &[u8]) -> Result<(), AllocError> {
         match str::from_utf8(name) {
-            Ok(text) if is_offered(name) => self.put_offered(alloc, text),
+            Ok(text) if is_offered(name) => {
+                put_copy(&mut self.offered, String::from_str(alloc, text))
+            }
             Ok(_) if !is_mistaken(name) => Ok(()),
-            _ => self.put_mistaken(alloc, name),
+            _ => put_copy(&mut self.mistaken, Vec::from_slice(alloc, name)),
         }
-    }
-
-    fn put_offered(&mut self, alloc: Global, name: &str) -> Result<(), AllocError> {
-        Ok(self.offered.push(String::from_str(alloc, name)?)?)
-    }
-
-    fn put_mistaken(&mut self, alloc: Global, name: &[u8]) -> Result<(), AllocError> {
-        Ok(self.mistaken.push(copy_of(alloc, name)?)?)
     }
 
     // Puts names that each end in a NUL.
@@ -60,10 +54,32 @@ impl Names {
     }
 }
 
-fn copy_of(alloc: Global, bytes: &[u8]) -> Result<Vec<u8>, AllocError> {
-    let mut copy = Vec::with_capacity(alloc, bytes.len())?;
-    copy.extend_from_slice(bytes)?;
-    Ok(copy)
+// Puts the copy of a name, where there was memory for it.
+fn put_copy<T: Drop>(names: &mut Vec<T>, copy: Result<T, AllocError>) -> Result<(), AllocError> {
+    Ok(names.push(copy?)?)
+}
+
+// How many names a folder that is open has, its own and that of the folder around it among them.
+pub(crate) fn count_names<D: Read>(folder: &mut D) -> io::Result<u64> {
+    let mut room = [0u8; 4_096];
+    let mut names: u64 = 0;
+    for _ in 0..u64::MAX {
+        let count = folder.read(&mut room)?;
+        if count == 0 {
+            break;
+        }
+        names = names.saturating_add(ends_in(&room[..count]));
+    }
+    Ok(names)
+}
+
+// How many names end in a part of a listing, each in a NUL.
+fn ends_in(names: &[u8]) -> u64 {
+    let mut ends: u64 = 0;
+    for byte in names {
+        ends = ends.saturating_add(u64::from(*byte == 0));
+    }
+    ends
 }
 
 // The names in a folder that is open.
@@ -84,6 +100,6 @@ pub(crate) fn names_inside<R: rt::Files + Drop>(
     alloc: Global,
     inner: &str,
 ) -> io::Result<Names> {
-    let mut folder = mover.open_dir(alloc, inner)?;
+    let mut folder = open_inside(&mover.rt, alloc, mover.folder.as_str(), inner)?;
     names_in(alloc, &mut folder)
 }

@@ -25,6 +25,47 @@ fn make_folder<R: rt::Files>(rt: &R, path: &str) -> io::Result<()> {
     }
 }
 
+// The names in a folder, or in one inside it, as they are listed.
+pub(crate) fn open_inside<R: rt::Files>(
+    rt: &R,
+    alloc: Global,
+    folder: &str,
+    inner: &str,
+) -> io::Result<R::Dir> {
+    let path = path_inside(alloc, folder, inner)?;
+    let opened = rt.open_dir(path.as_str());
+    drop(path);
+    opened
+}
+
+// Makes a folder inside a folder, where it is missing.
+fn make_missing<R: rt::Files>(
+    rt: &R,
+    moves: &mut Move,
+    folder: &str,
+    shelf: Shelf,
+) -> io::Result<()> {
+    moves.set_shelf(folder, shelf)?;
+    make_folder(rt, moves.to.as_str())
+}
+
+// Makes the folders inside a folder.
+fn make_shelves<R: rt::Files>(rt: &R, moves: &mut Move, folder: &str) -> io::Result<()> {
+    for shelf in SHELVES {
+        make_missing(rt, moves, folder, *shelf)?;
+    }
+    Ok(())
+}
+
+// Makes the folders inside a folder, which has to be one that can be listed.
+pub(crate) fn prepare<R: rt::Files>(rt: &R, alloc: Global, folder: &str) -> io::Result<()> {
+    drop(open_inside(rt, alloc, folder, "")?);
+    let mut moves = Move::new(alloc);
+    let made = make_shelves(rt, &mut moves, folder);
+    drop(moves);
+    made
+}
+
 // Moves the files of a folder.
 #[derive(Drop)]
 pub(crate) struct Mover<R: rt::Files + Drop> {
@@ -34,23 +75,6 @@ pub(crate) struct Mover<R: rt::Files + Drop> {
 }
 
 impl<R: rt::Files + Drop> Mover<R> {
-    // The names in the folder, or in one inside it, as they are listed.
-    pub fn open_dir(&self, alloc: Global, inner: &str) -> io::Result<R::Dir> {
-        let path = path_inside(alloc, self.folder.as_str(), inner)?;
-        let opened = self.rt.open_dir(path.as_str());
-        drop(path);
-        opened
-    }
-
-    // Makes the folders inside the folder, which has to be one that can be listed.
-    pub fn prepare(&mut self, alloc: Global) -> io::Result<()> {
-        drop(self.open_dir(alloc, "")?);
-        for shelf in SHELVES {
-            self.make_missing(*shelf)?;
-        }
-        Ok(())
-    }
-
     // Makes room for the moves of a name.
     pub fn make_room(&mut self, name: &str) -> Result<(), AllocError> {
         self.moves.make_room(self.folder.as_str(), name)
@@ -58,12 +82,7 @@ impl<R: rt::Files + Drop> Mover<R> {
 
     // Moves a file between the folder and those inside it. Returns whether there were the file and the folder that it
     // goes to.
-    pub fn rename(
-        &mut self,
-        from: Option<Shelf>,
-        name: &str,
-        to: Option<Shelf>,
-    ) -> io::Result<bool> {
+    fn rename(&mut self, from: Option<Shelf>, name: &str, to: Option<Shelf>) -> io::Result<bool> {
         self.moves.set(self.folder.as_str(), from, name, to)?;
         match fs::rename(&self.rt, self.moves.from.as_str(), self.moves.to.as_str()) {
             Ok(()) => Ok(true),
@@ -72,20 +91,21 @@ impl<R: rt::Files + Drop> Mover<R> {
         }
     }
 
-    // Makes a folder inside the folder, where it is missing.
-    fn make_missing(&mut self, shelf: Shelf) -> io::Result<()> {
-        self.moves.set_shelf(self.folder.as_str(), shelf)?;
-        make_folder(&self.rt, self.moves.to.as_str())
-    }
-
-    // Moves a file from the folder, or from one inside it, to one inside it, which is made where it is missing. A file
+    // Moves a file between the folder and those inside it. The one that it goes to is made where it is missing. A file
     // that vanished needs no move.
-    pub fn move_file(&mut self, from: Option<Shelf>, name: &str, to: Shelf) -> io::Result<()> {
-        if self.rename(from, name, Some(to))? {
-            return Ok(());
+    pub fn move_file(
+        &mut self,
+        from: Option<Shelf>,
+        name: &str,
+        to: Option<Shelf>,
+    ) -> io::Result<()> {
+        let is_moved = self.rename(from, name, to)?;
+        if let Some(shelf) = to
+            && !is_moved
+        {
+            make_missing(&self.rt, &mut self.moves, self.folder.as_str(), shelf)?;
+            let _vanished = self.rename(from, name, to)?;
         }
-        self.make_missing(to)?;
-        let _vanished = self.rename(from, name, Some(to))?;
         Ok(())
     }
 
@@ -93,7 +113,7 @@ impl<R: rt::Files + Drop> Mover<R> {
     fn take_back(&mut self, name: &str, to: Shelf) -> io::Result<()> {
         match (taken_back(name), to) {
             (None, _) | (_, Shelf::Later) => Ok(()),
-            (Some(back), _) => self.move_file(Some(Shelf::Done), back, Shelf::Taken),
+            (Some(back), _) => self.move_file(Some(Shelf::Done), back, Some(Shelf::Taken)),
         }
     }
 
@@ -117,7 +137,9 @@ impl<R: rt::Files + Drop> Mover<R> {
         let name = given.name.as_str();
         self.take_back(name, to)?;
         match self.file_at(name)? {
-            Some(stamp) if stamp.number == given.stamp.number => self.move_file(None, name, to),
+            Some(stamp) if stamp.number == given.stamp.number => {
+                self.move_file(None, name, Some(to))
+            }
             _ => Ok(()),
         }
     }

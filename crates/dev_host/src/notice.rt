@@ -78,6 +78,8 @@ const BLANK: &[u8] = b" ";
 
 const COLON: &[u8] = b": ";
 
+const SKIPPED: &[u8] = b"skipped a moment: the clock went ";
+
 // Puts what became of a folder, an address or a clock.
 fn put_event(line: &mut Line, place: &str, event: Event<'_>) {
     line.put_parts(&[event.word.as_bytes(), BLANK, place.as_bytes(), COLON]);
@@ -102,15 +104,19 @@ pub(crate) fn tell_of<T: Tell>(tell: &T, place: &str, event: Event<'_>) {
 
 // Tells that the moment is skipped to which a clock jumped.
 pub(crate) fn tell_skipped<T: Tell>(tell: &T, jump: Jump) {
-    let mut line = Line::new();
     let (way, seconds) = match jump {
-        Jump::Ahead(seconds) => ("ahead", seconds),
-        Jump::Back(seconds) => ("back", seconds),
+        Jump::Ahead(seconds) => ("ahead by ", seconds),
+        Jump::Back(seconds) => ("back by ", seconds),
     };
-    let _put = write!(
-        line,
-        "skipped a moment: the clock went {way} by {seconds} seconds"
-    );
+    let mut line = Line::new();
+    line.put_parts(&[SKIPPED, way.as_bytes()]);
+    tell_number(tell, &mut line, seconds, b" seconds");
+}
+
+// Tells a line, behind which stand a number and what it counts.
+fn tell_number<T: Tell>(tell: &T, line: &mut Line, number: u64, counted: &[u8]) {
+    let _put = write!(line, "{number}");
+    line.put(counted);
     tell.tell(&[line.as_slice()]);
 }
 
@@ -122,6 +128,6 @@ pub fn tell_with_room<T: Tell>(tell: &T, line: &[&[u8]], room: Option<u64>) {
     };
     let mut text = Line::new();
     text.put_parts(line);
-    let _put = write!(text, ", room for {count} connections");
-    tell.tell(&[text.as_slice()]);
+    text.put(b", room for ");
+    tell_number(tell, &mut text, count, b" connections");
 }

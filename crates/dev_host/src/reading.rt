@@ -98,8 +98,7 @@ pub(crate) fn read_inside<R: rt::Files>(
     let read = read_at(rt, alloc, path.as_str(), limit);
     drop(path);
     match read {
-        Ok(read) => Ok(read),
         Err(error) if error.kind() == ErrorKind::NotFound => Ok(read_of(Found::Absent)),
-        Err(error) => Err(error),
+        read => read,
     }
 }

@@ -1,5 +1,5 @@
 //! Lines of a journal that are kept.
-ghost use Rattle.std.specs.Prelude.{◌≡◌, ◌++◌, ◌∷◌, [], IfOk, Some};
+ghost use Rattle.std.specs.Prelude.{◌≡◌, ◌++◌, ◌∷◌, [], IfOk, OnOk, Some};
 ghost use Rattle.std.specs.List.{flat_map};
 ghost use Rattle.dev_traits.specs.Lines.{Notes};
 
@@ -26,23 +26,19 @@ impl Lines {
     pub fn note(&mut self, alloc: Global, line: &[&[u8]])
         ensures { Notes (flat_map (λ part. part.now) line.now) self.old.told self.new.told }
     {
-        let Some(told) = self.told.take() else {
-            return;
-        };
-        match with_line(alloc, told, line) {
-            Ok(lines) => drop(self.told.replace(lines)),
-            Err(_) => {}
+        if let Some(told) = &mut self.told
+            && add_line(alloc, told, line).is_err()
+        {
+            drop(self.told.take());
         }
     }
 }
 
-// The lines with one more.
-fn with_line(alloc: Global, told: List<Bytes>, line: &[&[u8]]) -> Result<List<Bytes>, NoMemory>
-    ensures { IfOk result (λ lines. lines ≡ told ++ flat_map (λ part. part.now) line.now ∷ []) }
+// Adds a line, in slices.
+fn add_line(alloc: Global, told: &mut List<Bytes>, line: &[&[u8]]) -> Result<(), NoMemory>
+    ensures { OnOk result (told.new ≡ told.old ++ flat_map (λ part. part.now) line.now ∷ []) }
 {
-    let mut lines = told;
-    lines.push(joined(alloc, line)?)?;
-    Ok(lines)
+    told.push(joined(alloc, line)?)
 }
 
 // The slices one after the other.

@@ -133,11 +133,8 @@ impl Link for MemLink {
     }
 
     fn take(&mut self, buf: &mut [u8]) -> Result<Taken, Failed> {
-        if self.calls.due() {
-            return Err(self.calls.fail());
-        }
         let most = self.allowed();
-        if most == 0 {
+        if self.calls.due() || most == 0 {
             return Err(self.calls.fail());
         }
         let count = copy_front(self.rest(), most, buf);
