@@ -1,6 +1,6 @@
 //! How many connections the limit of descriptors allows.
 
-use crate::listing::count_names;
+use dev_folder::count_names;
 use dev_std::read_file;
 use dev_traits::Found;
 use std::alloc::Global;

@@ -14,7 +14,7 @@ use Rattle.clap.specs.declared.error.kind.ErrorKind.TheVariants as kind
 use Rattle.clap.specs.declared.parser.matches.ArgMatches.{ArgMatches}
 use Rattle.clap.specs.Faults.{fault_of, is_free_app, is_simple_and_free}
 use Rattle.clap.specs.Simple.{App, HasMatchesOf, app_of, built, is_simple, subcommand_of, subcommand_rows_of, with_subcommand}
-use Rattle.clap.specs.Walk.{Rule, Text}
+use Rattle.clap.specs.Walk.{Text}
 use Rattle.srv_words.specs.Command.{are_plain, commands, fmrcd, rules_in, subcommand, top, used, with_arguments, with_clock, with_collections, with_door, with_rules, with_server, with_site}
 
 -- a result whose value is seen as one thing is seen as what equals it

@@ -4,8 +4,7 @@ ghost use Rattle.clap.specs.Simple.{new_rule};
 ghost use Rattle.clap.specs.Walk.{rule_of};
 ghost use Rattle.srv_words.specs.Command as spec;
 
-use crate::arguments::{Argument, CHECK, EXTRACT, Form, LOAD, MANY, ONCE, PULL, SERVE, TWOD};
-use crate::job::Command;
+use crate::arguments::{Argument, Form};
 use clap::{Arg, ArgAction};
 use fm_base::NoMemory;
 use std::alloc::Global;
@@ -69,8 +68,8 @@ fn put<'a>(alloc: Global, argument: Argument, args: &mut Vec<Arg<'a>>) -> Result
     Ok(args.push(arg_of(alloc, argument))?)
 }
 
-// The arguments of a table.
-fn args_from<'a>(alloc: Global, arguments: &[Argument]) -> Result<Vec<Arg<'a>>, NoMemory>
+/// The arguments of a table.
+pub(crate) fn args_from<'a>(alloc: Global, arguments: &[Argument]) -> Result<Vec<Arg<'a>>, NoMemory>
     ensures rules { IfOk result (λ args. spec.rules_in args.items ≡ map spec.rule_in arguments.now) }
     ensures local { IfOk result (λ args. spec.are_local args.items) }
 {
@@ -82,22 +81,4 @@ fn args_from<'a>(alloc: Global, arguments: &[Argument]) -> Result<Vec<Arg<'a>>, 
         }
     }
     Ok(args)
-}
-
-/// All that stands behind a command.
-#[tactic(auto, unfolding(crate::proofs::CommandLemmas::fmrcd_on_literals))]
-pub(crate) fn args_of<'a>(alloc: Global, command: Command) -> Result<Vec<Arg<'a>>, NoMemory>
-    ensures rules { IfOk result (λ args. spec.rules_in args.items ≡ spec.with_arguments command []) }
-    ensures local { IfOk result (λ args. spec.are_local args.items) }
-{
-    match command {
-        Command::Once => args_from(alloc, ONCE),
-        Command::Twod => args_from(alloc, TWOD),
-        Command::Extract => args_from(alloc, EXTRACT),
-        Command::Pull => args_from(alloc, PULL),
-        Command::Check => args_from(alloc, CHECK),
-        Command::Load => args_from(alloc, LOAD),
-        Command::Serve => args_from(alloc, SERVE),
-        Command::Many => args_from(alloc, MANY),
-    }
 }

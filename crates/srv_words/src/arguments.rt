@@ -1,4 +1,6 @@
 //! The arguments of each command: options, and words that stand for themselves.
+ghost use Rattle.std.specs.Prelude.{◌≡◌, [], map};
+ghost use Rattle.srv_words.specs.Command as spec;
 
 use crate::help::{
     ASK_HELP, CHANGE_HELP, CONNECT_HELP, CONNECTIONS_HELP, EPOCH_HELP, FILE_HELP, FILES_HELP,
@@ -6,6 +8,7 @@ use crate::help::{
     SEED_HELP, SERVICE_HELP, SPEC_HELP, STEP_HELP, TARGET_HELP, TICKS_HELP, VIEW_HELP,
     WORKERS_HELP,
 };
+use crate::job::Command;
 
 /// How an argument stands in the words. The help calls the value of an option by the name that is given here.
 #[derive(Clone, Copy)]
@@ -71,20 +74,20 @@ const SEED: Argument = ("SEED", Form::Word, SEED_HELP);
 
 const FILES: Argument = ("FILES", Form::Word, FILES_HELP);
 
-/// All that stands behind each command, in the order of the help.
-pub(crate) const ONCE: &[Argument] = &[NAME, PROTO, EPOCH, MARK, STEPS];
+// All that stands behind each command, in the order of the help.
+const ONCE: &[Argument] = &[NAME, PROTO, EPOCH, MARK, STEPS];
 
-pub(crate) const TWOD: &[Argument] = &[NAME, PROTO, EPOCH, MARK, SERVICE, ASK, CHANGES];
+const TWOD: &[Argument] = &[NAME, PROTO, EPOCH, MARK, SERVICE, ASK, CHANGES];
 
-pub(crate) const EXTRACT: &[Argument] = &[NAME, PROTO, EPOCH, MARK, VIEW, ASK, FORMAT, CHANGES];
+const EXTRACT: &[Argument] = &[NAME, PROTO, EPOCH, MARK, VIEW, ASK, FORMAT, CHANGES];
 
-pub(crate) const PULL: &[Argument] = &[CONNECT, TARGET];
+const PULL: &[Argument] = &[CONNECT, TARGET];
 
-pub(crate) const CHECK: &[Argument] = &[FILE];
+const CHECK: &[Argument] = &[FILE];
 
-pub(crate) const LOAD: &[Argument] = &[SEED, FILES];
+const LOAD: &[Argument] = &[SEED, FILES];
 
-pub(crate) const SERVE: &[Argument] = &[
+const SERVE: &[Argument] = &[
     NAME,
     PROTO,
     EPOCH,
@@ -98,4 +101,21 @@ pub(crate) const SERVE: &[Argument] = &[
     INBOXES,
 ];
 
-pub(crate) const MANY: &[Argument] = &[LISTEN, WORKERS, CONNECTIONS, KEEP, TICKS, QUIET, SPECS];
+const MANY: &[Argument] = &[LISTEN, WORKERS, CONNECTIONS, KEEP, TICKS, QUIET, SPECS];
+
+/// All that stands behind a command.
+#[tactic(auto, unfolding(crate::proofs::CommandLemmas::fmrcd_on_literals))]
+pub(crate) fn arguments_of(command: Command) -> &'static [Argument]
+    ensures { map spec.rule_in result.now ≡ spec.with_arguments command [] }
+{
+    match command {
+        Command::Once => ONCE,
+        Command::Twod => TWOD,
+        Command::Extract => EXTRACT,
+        Command::Pull => PULL,
+        Command::Check => CHECK,
+        Command::Load => LOAD,
+        Command::Serve => SERVE,
+        Command::Many => MANY,
+    }
+}

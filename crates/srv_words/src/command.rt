@@ -4,7 +4,8 @@ ghost use Rattle.clap.specs.Simple.{app_of, new_app, on_top};
 ghost use Rattle.clap.specs.declared.builder.command.Command.TheViews.{out-Command};
 ghost use Rattle.srv_words.specs.Command as spec;
 
-use crate::args::args_of;
+use crate::args::args_from;
+use crate::arguments::arguments_of;
 use crate::help::{
     CHECK_HELP, EXTRACT_HELP, LOAD_HELP, MANY_HELP, ONCE_HELP, PULL_HELP, SERVE_HELP, TWOD_HELP,
 };
@@ -53,7 +54,7 @@ pub(crate) fn subcommand<'a>(alloc: Global, command: job::Command) -> Result<Com
     ensures app { IfOk result (λ c. app_of c ≡ spec.subcommand command) }
     ensures plain { IfOk result (λ c. (out-Command c).has_globals ≡ false) }
 {
-    let arguments = args_of(alloc, command)?;
+    let arguments = args_from(alloc, arguments_of(command))?;
     made(named(alloc, command).args(arguments))
 }
 

@@ -14,7 +14,8 @@ returns c =
     record {
       app = ok_as app_of c.made.result
           (ap (λ (a : App). with_rules a (rules_in args)) c.named.ensures.app
-          ∙ ap (with_rules (new_app (name_of c.args.command))) c.in_ok-arguments.ensures.rules)
+          ∙ ap (with_rules (new_app (name_of c.args.command)))
+          (c.in_ok-arguments.ensures.rules ∙ c.arguments_of.ensures))
           added.0;
       plain = added.1;
     }
