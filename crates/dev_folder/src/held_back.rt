@@ -45,6 +45,30 @@ pub(crate) struct Held {
     pub is_kept: bool,
 }
 
+impl Held {
+    fn name(&self) -> &str {
+        self.given.name.as_str()
+    }
+
+    // Whether its file couldn't be moved.
+    fn is_unmoved(&self) -> bool {
+        matches!(self.reason, Reason::Unmoved(_))
+    }
+
+    // Whether a file is left alone that a listing found under its name. One that isn't is dropped.
+    fn holds(&mut self, stamp: Stamp, now: u64) -> bool {
+        self.is_kept = self.given.stamp == stamp && self.reason.holds(now);
+        self.is_kept
+    }
+}
+
+// None of these was found in a listing yet.
+fn begin_all(all: &mut [Held]) {
+    for held in all {
+        held.is_kept = false;
+    }
+}
+
 // The names that aren't offered again yet, while the same files lie under them.
 #[derive(Drop)]
 pub(crate) struct HeldBack {
@@ -74,9 +98,7 @@ impl HeldBack {
 
     // Begins a listing. Those that `end` is to keep have to be found in it.
     pub fn begin(&mut self) {
-        for held in self.all.as_mut_slice() {
-            held.is_kept = false;
-        }
+        begin_all(self.all.as_mut_slice());
         self.all
             .sort_unstable_by(|one, other| one.given.name.cmp(&other.given.name));
     }
@@ -86,17 +108,17 @@ impl HeldBack {
         let found = self
             .all
             .as_slice()
-            .binary_search_by(|held| held.given.name.as_str().cmp(name));
-        self.all.get_mut(found.ok()?)
+            .binary_search_by(|held| held.name().cmp(name));
+        match found {
+            Ok(index) => self.all.get_mut(index),
+            Err(_) => None,
+        }
     }
 
     // Whether a file is left alone that a listing found under a name.
     pub fn holds(&mut self, name: &str, stamp: Stamp, now: u64) -> bool {
         match self.find(name) {
-            Some(held) => {
-                held.is_kept = held.given.stamp == stamp && held.reason.holds(now);
-                held.is_kept
-            }
+            Some(held) => held.holds(stamp, now),
             None => false,
         }
     }
@@ -116,8 +138,8 @@ impl HeldBack {
     // The first name whose file couldn't be read, or be moved.
     pub fn first(&self, is_unmoved: bool) -> Option<&str> {
         for held in self.all.as_slice() {
-            if matches!(held.reason, Reason::Unmoved(_)) == is_unmoved {
-                return Some(held.given.name.as_str());
+            if held.is_unmoved() == is_unmoved {
+                return Some(held.name());
             }
         }
         None

@@ -133,8 +133,11 @@ impl Link for MemLink {
     }
 
     fn take(&mut self, buf: &mut [u8]) -> Result<Taken, Failed> {
+        if self.calls.due() {
+            return Err(self.calls.fail());
+        }
         let most = self.allowed();
-        if self.calls.due() || most == 0 {
+        if most == 0 {
             return Err(self.calls.fail());
         }
         let count = copy_front(self.rest(), most, buf);

@@ -4,6 +4,7 @@ ghost use Rattle.dev_traits.specs.Cause.{HasCause};
 ghost use Rattle.dev_traits.specs.Door.{IfCame, IsFresh};
 ghost use Rattle.dev_net.specs.Remaining.{ComesOf, CountsDown, MayClose, remaining_of};
 
+use crate::entry::News;
 use crate::link::TcpLink;
 use crate::patience::Patience;
 use crate::reactor::Reactor;
@@ -11,6 +12,7 @@ use crate::remaining::Remaining;
 use crate::voice::Voice;
 use dev_std::{Stops, Tell, counted, present};
 use dev_traits::{Coming, Door, Failed, Link};
+use mio::net::TcpStream;
 use std::alloc::Global;
 use std::marker::Send;
 use std::mem::replace;
@@ -104,16 +106,14 @@ impl<R: rt::Clock + Clone + Drop, T: Tell + Drop> TcpDoor<R, T> {
         self.remaining.is_over() || self.is_stopped()
     }
 
-    // Tells what is to be said of the accepts.
-    fn say(&mut self)
+    // The stream of the next link, where one comes without waiting. It tells what is to be said of the accepts.
+    fn next_stream(&mut self, key: usize, now: u64) -> Result<Option<TcpStream>, Failed>
         ensures faults { self.new.faults ≡ self.old.faults }
         ensures remaining { self.new.remaining ≡ self.old.remaining }
     {
-        if let Some(news) = self.reactor.entry.news.take()
-            && let Some(voice) = &self.voice
-        {
-            voice.say(news.event());
-        }
+        let stream = self.reactor.next_stream(key, now);
+        tell_news(&mut self.reactor.entry.news, self.voice.as_ref());
+        stream
     }
 
     // The next link, where one comes without waiting.
@@ -130,13 +130,20 @@ impl<R: rt::Clock + Clone + Drop, T: Tell + Drop> TcpDoor<R, T> {
             return Err(Failed);
         };
         let now = present(&rt);
-        let stream = self.reactor.next_stream(key, now);
-        self.say();
-        let Some(stream) = stream? else {
-            return Ok(None);
-        };
-        self.remaining = self.remaining.one_less();
-        Ok(Some(TcpLink::new(rt, stream, now, self.patience)))
+        match self.next_stream(key, now) {
+            Ok(Some(stream)) => {
+                self.remaining = self.remaining.one_less();
+                Ok(Some(TcpLink::new(rt, stream, now, self.patience)))
+            }
+            Ok(None) => {
+                drop(rt);
+                Ok(None)
+            }
+            Err(Failed) => {
+                drop(rt);
+                Err(Failed)
+            }
+        }
     }
 
     // Waits for what comes next.
@@ -197,5 +204,14 @@ impl<R: rt::Clock + Clone + Drop + Send, T: Tell + Drop + Send> Door for TcpDoor
 
     fn done(&mut self, _key: usize, link: TcpLink<R>) {
         self.reactor.end(link.into_stream(), present(&self.rt));
+    }
+}
+
+// Tells what is to be said of the accepts.
+fn tell_news<T: Tell + Drop>(news: &mut Option<News>, voice: Option<&Voice<T>>) {
+    if let Some(news) = news.take()
+        && let Some(voice) = voice
+    {
+        voice.say(news.event());
     }
 }

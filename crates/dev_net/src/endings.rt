@@ -43,11 +43,15 @@ impl Endings {
     // Ends a connection. What still comes is dropped without waiting for it.
     pub fn end(&mut self, watch: &Watch, stream: TcpStream, now: u64) {
         let mut ending = Ending::new(stream, now);
-        let watched = Watched::Ending(self.table.vacant_key());
-        if ending.drop_more(now) || watch.renew(&mut ending.stream, watched).is_err() {
+        if is_watched(watch, &mut ending, self.table.vacant_key(), now) {
+            self.put(ending);
+        } else {
             drop(ending);
-            return;
         }
+    }
+
+    // Puts in a connection that is watched.
+    fn put(&mut self, ending: Ending<TcpStream>) {
         let until = ending.until();
         if let Ok(key) = self.table.insert(ending) {
             self.times.put(key, second_after(until));
@@ -81,4 +85,12 @@ impl Endings {
     pub fn next_due(&self) -> Option<u64> {
         self.times.next_due()
     }
+}
+
+// Whether more may come of a connection, once what has come is dropped, and that is told under a key.
+fn is_watched(watch: &Watch, ending: &mut Ending<TcpStream>, key: usize, now: u64) -> bool {
+    !ending.drop_more(now)
+        && watch
+            .renew(&mut ending.stream, Watched::Ending(key))
+            .is_ok()
 }

@@ -108,18 +108,33 @@ impl<L: Listener + Drop> Entry<L> {
     pub fn next_stream(&mut self, now: u64) -> Result<Option<L::Stream>, Failed>
         ensures { self.new.listener ≡ self.old.listener }
     {
-        match self.due() {
-            Some(moment) if moment <= now => self.next = Next::Now,
-            _ => return Ok(None),
+        if !self.is_due(now) {
+            return Ok(None);
         }
+        self.next = Next::Now;
         match self.listener.next_stream() {
             Ok(stream) => {
-                if self.trouble.works() {
-                    self.news = Some(News::Accepted);
-                }
+                self.accepted();
                 Ok(Some(stream))
             }
             Err(error) => self.unaccepted(now, error),
+        }
+    }
+
+    // Whether an accept is due.
+    fn is_due(&self, now: u64) -> bool {
+        match self.due() {
+            Some(moment) => moment <= now,
+            None => false,
+        }
+    }
+
+    // An accept gave a connection.
+    fn accepted(&mut self)
+        ensures { self.new.listener ≡ self.old.listener }
+    {
+        if self.trouble.works() {
+            self.news = Some(News::Accepted);
         }
     }
 

@@ -53,15 +53,14 @@ impl Wheel {
 
     /// Makes room for the keys up to this one.
     pub fn make_room(&mut self, key: usize) -> Result<(), AllocError> {
-        let missing = key.saturating_add(1).saturating_sub(self.places.len());
-        self.places.reserve(missing)?;
-        for _ in 0..missing {
-            self.places.push(Place {
+        let count = self.places.len().max(key.saturating_add(1));
+        self.places.resize(
+            count,
+            Place {
                 is_in: false,
                 next: NONE,
-            })?;
-        }
-        Ok(())
+            },
+        )
     }
 
     /// Takes out all keys, and gives back the room for them.

@@ -1,12 +1,10 @@
 //! The job of `serve`.
-ghost use Rattle.std.specs.Prelude.{◌≡◌, ◌∷◌, ◌++◌, [], IfOk, OnOk, Some, option_map, map};
+ghost use Rattle.std.specs.Prelude.{◌≡◌, ◌∷◌, ◌++◌, [], IfOk, OnOk, option_map, map};
 ghost use Rattle.clap.specs.Matches.{found_of};
 ghost use Rattle.clap.specs.Walk.{rows_of};
 ghost use Rattle.srv_words.specs.Jobs as jobs;
-ghost use Rattle.srv_words.specs.declared.job.Job.TheVariants.{Serve};
-ghost use Rattle.srv_words.specs.Reads.{◌>>=◌, Reads};
+ghost use Rattle.srv_words.specs.Reads.{Reads};
 ghost use Rattle.srv_words.specs.Serve as spec;
-ghost use Rattle.srv_words.specs.Sites.{site_of};
 
 use crate::job::{BadWords, Job, Serving};
 use crate::matches::{text_of, texts_of};
@@ -195,22 +193,6 @@ pub(crate) fn serve_job(alloc: Global, matches: &ArgMatches<'_>) -> Result<Job, 
     let Some(ticking) = ticking_of(matches) else {
         return Err(Fail::Fault(BadWords));
     };
-    serving_at(alloc, matches, proto, words, ticking)
-}
-
-// The job of `serve` with this prototype, these folders and this clock.
-fn serving_at(
-    alloc: Global,
-    matches: &ArgMatches<'_>,
-    proto: &[u8],
-    words: &[&str],
-    ticking: Ticking,
-) -> Result<Job, Fail<BadWords>>
-    ensures { Reads
-        (site_of (rows_of (found_of matches.now)) >>= (λ site.
-        spec.doors_of (rows_of (found_of matches.now)) >>= (λ doors.
-        Some (Serve (spec.serving_of site proto.now doors ticking (map (λ word. word.now) words.now)))))) result }
-{
     let site = site_of(alloc, matches)?;
     match doors_of(alloc, matches) {
         Ok(doors) => Ok(Job::Serve(serving_of(alloc, site, proto, doors, ticking, words)?)),
