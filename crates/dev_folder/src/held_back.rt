@@ -108,7 +108,7 @@ impl HeldBack {
         let found = self
             .all
             .as_slice()
-            .binary_search_by(|held| held.name().cmp(name));
+            .binary_search_by(|held| held.given.name.as_str().cmp(name));
         match found {
             Ok(index) => self.all.get_mut(index),
             Err(_) => None,
