@@ -22,7 +22,7 @@ OF_NGINX, IDLE_MEMORY, READER_MEMORY, READ, DELAY = 0.8, 4096, 16_384, 20_000, 2
 # How many bytes more than before may be resident once all have gone.
 REST = 1 << 20
 # After how many milliseconds a link has to be ended that sends a byte each five seconds: its time is over 30 seconds
-# after it came (crates/dev_host/src/patience.rt), and it is stepped in the second after that.
+# after it came (crates/dev_net/src/patience.rt), and it is stepped in the second after that.
 SOONEST, LATEST = 29_900, 32_000
 # For how many seconds such links are there before the others, which are to outlast them.
 AHEAD = 4

@@ -1,4 +1,4 @@
-"""Wrong bodies of dev_host that a row has to refuse; bench/planted_links.sh says how."""
+"""Wrong bodies of dev_net that a row has to refuse; bench/planted_links.sh says how."""
 import os
 import subprocess
 import sys
@@ -76,7 +76,7 @@ def end_of(said):
 
 def what_is_wrong(crates, body):
     """Why a wrong body isn't refused as it has to be, or None."""
-    path = os.path.join(crates, "dev_host", "src", body.file)
+    path = os.path.join(crates, "dev_net", "src", body.file)
     with open(path) as file:
         whole = file.read()
     if whole.count(body.old) != 1:

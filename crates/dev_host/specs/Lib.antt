@@ -1,11 +1,2 @@
-pub mod Accept
 pub mod Bound
-pub mod HeldBack
 pub mod Moment
-pub mod Names
-pub mod Paths
-pub mod Patience
-pub mod Remaining
-pub mod Stamps
-pub mod Taking
-pub mod Trouble

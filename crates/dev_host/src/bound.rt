@@ -4,9 +4,9 @@ ghost use Rattle.std.specs.Prelude.{◌≡◌};
 ghost use Rattle.dev_host.specs.Bound.{listener_at};
 
 use crate::collections::Prefix;
-use crate::failing::{fail_of, unopened};
-use crate::notice::Voice;
-use crate::telling::{Tell, Teller};
+use crate::telling::Teller;
+use dev_net::Voice;
+use dev_std::{Tell, fail_of, tell_unopened};
 use dev_traits::Failed;
 use fm_base::{Bytes, Fail, List, NoMemory};
 use std::alloc::{AllocError, Global};
@@ -111,7 +111,7 @@ fn bind<R: Net, T: Tell>(rt: &R, tell: &T, address: &[u8]) -> Result<TcpListener
     };
     match bind_any(rt, address) {
         Ok(listener) => Ok(TcpListener::from(listener)),
-        Err(error) => Err(unopened(tell, address, error)),
+        Err(error) => Err(tell_unopened(tell, address, error)),
     }
 }
 

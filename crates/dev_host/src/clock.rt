@@ -1,12 +1,11 @@
 //! The clock of the machine.
 ghost use Rattle.std.specs.Prelude.{◌≡◌, ◌≢◌, None, IfSome};
-ghost use Rattle.dev_host.specs.Remaining.{one_less, remaining_of};
+ghost use Rattle.dev_net.specs.Remaining.{one_less, remaining_of};
 
 use crate::moment::Moment;
-use crate::notice::{Event, tell_of, tell_skipped};
-use crate::remaining::Remaining;
-use crate::stops::Stops;
-use crate::telling::Tell;
+use crate::notice::tell_skipped;
+use dev_net::Remaining;
+use dev_std::{Event, Stops, Tell, tell_of};
 use dev_traits::{Clock, Expiry};
 use std::marker::Send;
 use std::time::Duration;

@@ -2,6 +2,7 @@
 
 use fm_base::Bytes;
 use std::io::Read;
+use std::str;
 
 // The most bytes of a name.
 const LONGEST: usize = 64;
@@ -47,10 +48,12 @@ impl Prefix {
 
 // The name that a word `NAME=PROTO=INBOX` gives a collection.
 fn name_in(word: &[u8]) -> Option<&[u8]> {
-    let mut parts = word.split(|byte| *byte == b'=');
-    let name = parts.next()?;
-    parts.nth(1)?;
-    Some(name)
+    let (name, rest) = str::from_utf8(word).ok()?.split_once('=')?;
+    if rest.contains('=') {
+        Some(name.as_bytes())
+    } else {
+        None
+    }
 }
 
 /// What the lines about each collection of a server begin with. The inboxes and the clocks of the collections are

@@ -1,14 +1,18 @@
 //! How many connections the limit of descriptors allows.
 
+use dev_folder::count_names;
 use dev_std::read_file;
 use dev_traits::Found;
 use std::alloc::Global;
-use std::{fs, rt, str};
+use std::{rt, str};
 
 // Where the system says the limits of a process, and which descriptors it has.
 const LIMITS: &[u8] = b"/proc/self/limits";
 
 const OPEN: &str = "/proc/self/fd";
+
+// The names in each folder that are its own and that of the folder around it.
+const DOTS: u64 = 2;
 
 // The most bytes of the text of the limits.
 const LONGEST: u64 = 65_536;
@@ -31,7 +35,7 @@ fn first_number(text: &str) -> Option<u64> {
 
 /// How many connections can be open at once beside what is open now: one for each descriptor that is left. `None` where
 /// the system doesn't say it.
-pub fn connections_left<R: rt::Files + Alloc + Clone + Drop>(rt: &R, alloc: Global) -> Option<u64> {
+pub fn connections_left<R: rt::Files>(rt: &R, alloc: Global) -> Option<u64> {
     let most = most_of_process(rt, alloc)?;
     let open = open_descriptors(rt)?;
     Some(most.saturating_sub(open))
@@ -48,10 +52,9 @@ fn most_of_process<R: rt::Files>(rt: &R, alloc: Global) -> Option<u64> {
 }
 
 // How many descriptors are open. That of the listing is one of them: a file that arrives needs one.
-fn open_descriptors<R: rt::Files + Alloc + Clone + Drop>(rt: &R) -> Option<u64> {
-    let mut count: u64 = 0;
-    for entry in fs::read_dir(rt, OPEN).ok()? {
-        count = count.saturating_add(u64::from(entry.is_ok()));
-    }
-    Some(count)
+fn open_descriptors<R: rt::Files>(rt: &R) -> Option<u64> {
+    let mut folder = rt.open_dir(OPEN).ok()?;
+    let names = count_names(&mut folder);
+    drop(folder);
+    Some(names.ok()?.saturating_sub(DOTS))
 }

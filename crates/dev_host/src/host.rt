@@ -4,16 +4,13 @@ ghost use Rattle.std.specs.Prelude.{◌≡◌, IfOk};
 use crate::bound::{Bound, shared_listener, voice_at};
 use crate::clock::RealClock;
 use crate::collections::Prefix;
-use crate::door::TcpDoor;
-use crate::failing::fail_of;
-use crate::inbox::FolderInbox;
-use crate::locking::{Lockable, lock};
-use crate::patience::Patience;
-use crate::stops::{Stops, shared_stops};
 use crate::telling::Teller;
+use dev_folder::{FolderInbox, Lockable, lock};
+use dev_net::{Patience, TcpDoor};
+use dev_std::{Stops, fail_of};
 use dev_traits::Failed;
 use fm_base::{Fail, List};
-use std::alloc::Global;
+use std::alloc::{AllocError, Global};
 use std::net::{Net, TcpListener};
 use std::time::Duration;
 use std::{rt, str};
@@ -172,4 +169,15 @@ fn server_door<R: rt::Clock + Net + AllocGlobal + Clone + Drop>(
         Ok(door) => Ok(door),
         Err(error) => Err(fail_of(&error)),
     }
+}
+
+// The stops that the devices of an opener share, which the first of them makes.
+fn shared_stops(stops: &mut Option<Stops>, alloc: Global) -> Result<Stops, AllocError> {
+    if let Some(stops) = stops {
+        return stops.share();
+    }
+    let first = Stops::new(alloc)?;
+    let shared = first.share();
+    drop(stops.replace(first));
+    shared
 }

@@ -1,69 +1,31 @@
-//! The machine's doors, inboxes and clock, as the traits of `dev_traits`, and the world of a process.
+//! What opens the machine's doors, inboxes and clock, and the world of a process.
 #![tactic(auto)]
 
-mod accepting;
-mod arriving;
 mod bound;
 mod clock;
-mod closing;
 mod collections;
 mod descriptors;
-mod dial;
-mod door;
-mod endings;
-mod entry;
-mod failing;
-mod held_back;
 mod host;
-mod inbox;
-mod later;
-mod link;
-mod listing;
-mod locking;
 mod moment;
-mod moving;
-mod names;
 mod notice;
-mod offers;
 mod opener;
-mod paths;
-mod patience;
-mod present;
-mod reactor;
-mod reading;
-mod remaining;
-mod socket;
-mod stamp;
-mod stops;
 mod telling;
-mod trouble;
-mod watching;
-mod wheel;
 mod world;
 
-pub use accepting::{Accepting, accepting_of};
 pub use clock::RealClock;
-pub use closing::{DROPPED_AT_MOST, Ending, LINGER};
 pub use collections::{Collections, Prefix};
 pub use descriptors::{connections_left, most_descriptors};
-pub use dial::{DialledLink, TcpDial};
-pub use door::TcpDoor;
-pub use entry::Entry;
-pub use held_back::Reason;
-pub use inbox::FolderInbox;
-pub use link::{PolledLink, TcpLink};
-pub use locking::Lockable;
+pub use dev_folder::{
+    FolderInbox, Lockable, Reason, Shelf, Stamp, is_mistaken, is_offered, shelf_of,
+};
+pub use dev_net::{
+    Accepting, DROPPED_AT_MOST, DialledLink, Ending, Entry, LINGER, Listener, Pace, Patience,
+    PolledLink, Remaining, Sending, Socket, TcpDial, TcpDoor, TcpLink, Watched, Wheel,
+    accepting_of, second_after, second_of,
+};
+pub use dev_std::{Stops, Tell, Trouble};
 pub use moment::{Jump, Moment};
-pub use names::{Shelf, is_mistaken, is_offered, shelf_of};
 pub use notice::tell_with_room;
 pub use opener::RealOpener;
-pub use patience::{Pace, Patience, Sending};
-pub use remaining::Remaining;
-pub use socket::{Listener, Socket};
-pub use stamp::Stamp;
-pub use stops::Stops;
-pub use telling::{Tell, Teller};
-pub use trouble::Trouble;
-pub use watching::Watched;
-pub use wheel::{Wheel, second_after, second_of};
+pub use telling::Teller;
 pub use world::{HostOpener, HostWorld, host_world};

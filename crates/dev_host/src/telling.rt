@@ -1,106 +1,13 @@
-//! Lines for who looks after a server.
-ghost use Rattle.std.specs.Prelude.{◌≤◌};
+//! Lines on standard error, for who looks after a server.
 
 use crate::collections::Prefix;
-use crate::watching::Watch;
+use dev_net::is_writable;
+use dev_std::{Line, Tell};
 use jiff_core::civil::Date;
-use mio::unix::SourceFd;
 use std::alloc::AllocError;
-use std::fmt::{self, Write};
-use std::io::{self, Print, Stderr};
+use std::io::{Print, Stderr};
 use std::net::Net;
 use std::rt;
-
-// The greatest length of a line, with its end.
-const LONGEST: usize = 512;
-
-// The greatest length of its text, which leaves room for two dots and the end.
-const ROOM: usize = 509;
-
-// A line, which takes no memory. A byte of control becomes `?`, and what has no room becomes two dots.
-#[derive(Drop)]
-pub(crate) struct Line {
-    bytes: [u8; 512],
-    len: usize,
-    is_cut: bool,
-    ghost within: { len ≤ 512 },
-}
-
-impl Line {
-    pub fn new() -> Line {
-        Line {
-            bytes: [0; 512],
-            len: 0,
-            is_cut: false,
-        }
-    }
-
-    // Puts a byte, where there is room.
-    fn put_byte(&mut self, byte: u8) {
-        if self.len < LONGEST {
-            self.bytes[self.len] = byte;
-            self.len += 1;
-        }
-    }
-
-    // Puts a part.
-    pub fn put(&mut self, part: &[u8]) {
-        for byte in part {
-            if self.len >= ROOM {
-                self.is_cut = true;
-                return;
-            }
-            self.put_byte(if *byte < b' ' || *byte == 127 {
-                b'?'
-            } else {
-                *byte
-            });
-        }
-    }
-
-    // Puts some parts.
-    pub fn put_parts(&mut self, parts: &[&[u8]]) {
-        for part in parts {
-            self.put(*part);
-        }
-    }
-
-    // Puts the end.
-    fn end(&mut self) {
-        if self.is_cut {
-            self.put_byte(b'.');
-            self.put_byte(b'.');
-        }
-        self.put_byte(b'\n');
-    }
-
-    // All that was put.
-    pub fn as_slice(&self) -> &[u8] {
-        let bytes: &[u8] = &self.bytes;
-        &bytes[..self.len]
-    }
-}
-
-impl Write for Line {
-    fn write_str(&mut self, text: &str) -> fmt::Result {
-        self.put(text.as_bytes());
-        Ok(())
-    }
-}
-
-/// What takes lines. It holds nothing up, and a line that it can't take is lost.
-pub trait Tell {
-    /// Takes the line of these parts, which has no end yet.
-    fn tell(&self, line: &[&[u8]]);
-}
-
-impl<T: Tell> Tell for Option<T> {
-    fn tell(&self, line: &[&[u8]]) {
-        if let Some(tell) = self {
-            tell.tell(line);
-        }
-    }
-}
 
 /// Lines on standard error, each behind the time in UTC, and behind the name of the collection that it is about where
 /// there are several. A line is lost where standard error takes none at once, as a full pipe.
@@ -159,14 +66,6 @@ const ERRORS: i32 = 2;
 // Whether standard error takes a line at once. What can't be asked, as a file, is taken to.
 fn takes_now<R: Net + AllocGlobal>(rt: &R) -> bool {
     is_writable(rt, ERRORS).unwrap_or(true)
-}
-
-// Whether a descriptor takes bytes at once.
-fn is_writable<R: Net + AllocGlobal>(rt: &R, descriptor: i32) -> io::Result<bool> {
-    let mut watch = Watch::new(rt, rt.alloc())?;
-    let is_writable = watch.is_writable(&mut SourceFd(&descriptor));
-    drop(watch);
-    is_writable
 }
 
 // The seconds of a day.

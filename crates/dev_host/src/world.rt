@@ -3,9 +3,9 @@ ghost use Rattle.std.specs.Prelude.{◌≡◌, []};
 ghost use Rattle.dev_std.specs.Process.{is_errors, names_sender};
 
 use crate::collections::Collections;
-use crate::dial::TcpDial;
 use crate::opener::RealOpener;
 use crate::telling::Teller;
+use dev_net::TcpDial;
 use dev_std::{RealFiles, StdLink, StdSink, StdStream};
 use dev_traits::{Devices, Dial, Files, Link, Machine, OpenGate, Sink, World};
 use fm_base::{Bytes, List};

@@ -1,3 +1,4 @@
 pub mod Content
 pub mod Moving
 pub mod Process
+pub mod Trouble

@@ -1,0 +1,4 @@
+pub mod HeldBack
+pub mod Names
+pub mod Paths
+pub mod Stamps

@@ -1,7 +1,0 @@
--- A comparison that ignores case decides whether the texts are the same in small letters.
-use Rattle.std.proofs.lemmas.Bool.Decides.{same_from_decides}
-use Rattle.std.proofs.lemmas.Slice.Eq.{bytes_eq-Decides}
-use Rattle.dev_host.proofs.names.same_letters.Goals as goal
-
-pub returns : goal.returns
-returns c = same_from_decides _ _ c.eq_ignore_ascii_case.ensures.test (bytes_eq-Decides _ _)

@@ -1,0 +1,4 @@
+pub mod Accept
+pub mod Patience
+pub mod Remaining
+pub mod Taking
