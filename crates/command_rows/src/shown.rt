@@ -1,8 +1,8 @@
 //! What a run left, as text.
 
-use super::given::Given;
-use super::output::put_output;
-use super::world::MemWorld;
+use crate::given::Given;
+use crate::output::put_output;
+use crate::world::MemWorld;
 use dev_memory::PausedLink;
 use fm_base::{Bytes, NoMemory};
 use row_text::Said;

@@ -1,6 +1,6 @@
 //! An inbox that a row describes.
 
-use super::values::{append, entry, put_numbers};
+use crate::values::{append, entry, put_numbers};
 use dev_memory::Entry;
 use fm_base::{Bytes, List, NoMemory};
 use row_text::{Field, File};

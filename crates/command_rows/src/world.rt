@@ -3,17 +3,18 @@ ghost use Rattle.std.specs.Prelude.{◌≡◌, All, IfOk};
 ghost use Rattle.std.specs.Option.{ForSome};
 ghost use Rattle.dev_traits.specs.Door.{IsFresh};
 
-use super::arriving::Arriving;
-use super::doored::Doored;
-use super::given::Given;
-use super::linked::Linked;
+use crate::arriving::Arriving;
+use crate::course::{Course, Watch};
+use crate::doored::Doored;
+use crate::given::Given;
+use crate::linked::Linked;
+use crate::paced::Paced;
 use dev_memory::{
     Entry, MemClock, MemDial, MemDoor, MemFiles, MemInbox, MemLink, MemOpener, MemSink, PausedLink,
     Pauses,
 };
 use dev_traits::{Devices, Door, Inbox, Link, World};
 use fm_base::{Bytes, List, NoMemory};
-use server_rows::{Course, Paced, Watch};
 use std::alloc::Global;
 
 /// A world in memory.

@@ -1,7 +1,7 @@
 //! A link that a row describes.
 
-use super::values::{append, numbers, put_numbers};
-use super::world::ROOM;
+use crate::values::{append, numbers, put_numbers};
+use crate::world::ROOM;
 use dev_memory::Hold;
 use fm_base::{Bytes, List, NoMemory};
 use row_text::Field;

@@ -1,13 +1,13 @@
 //! What a row gives.
 
-use super::arriving::Arriving;
-use super::doored::Doored;
-use super::linked::Linked;
-use super::values::{append, entry, numbers, put_numbers};
+use crate::arriving::Arriving;
+use crate::course::Order;
+use crate::doored::Doored;
+use crate::linked::Linked;
+use crate::values::{append, entry, numbers, put_numbers};
 use dev_memory::Entry;
 use fm_base::{Bytes, List, NoMemory};
 use row_text::{Field, File, Row};
-use server_rows::Order;
 use std::alloc::Global;
 
 // The keys of a row beside `name` and `want`.

@@ -3,7 +3,7 @@ use Rattle.std.proofs.Common.{◌≡◌, sym, subst, take, drop, All, List, ◌+
 use Rattle.std.proofs.lemmas.List.Elements.{All-push}
 use Rattle.dev_traits.specs.Door.{IsFresh}
 use Rattle.dev_memory.specs.declared.paused_link.PausedLink.{PausedLink}
-use Rattle.rows.proofs.commands.world.Links.push.Goals as goal
+use Rattle.command_rows.proofs.world.Links.push.Goals as goal
 
 -- What holds of each item holds of each after a push, also where there was no memory for it.
 pushed : {A B E : Type 0} (P : A → Type 0) (result : Result B E) (before after : List A) (item : A)

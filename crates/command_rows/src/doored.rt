@@ -1,6 +1,6 @@
 //! A door that a row describes.
 
-use super::values::put_numbers;
+use crate::values::put_numbers;
 use dev_memory::DoorEvent;
 use fm_base::{List, NoMemory};
 use row_text::Field;
