@@ -7,7 +7,7 @@ set -eu
 make_folder
 "$top/bench/crates.sh" "$folder" looks fm_load fm_sample pub_snap
 cp "$top/HANDLES" "$folder/HANDLES"
-cp "$top/crates/server_rows/src/files.rt" "$folder/crates/looks/src/"
+cp "$top/bench/published_files.rt.txt" "$folder/crates/looks/src/files.rt"
 mkdir -p "$folder/crates/looks/proofs/row" "$folder/crates/looks/proofs/write_on"
 : > "$folder/crates/looks/proofs/Lib.antt"
 cat > "$folder/crates/looks/proofs/write_on/Invariants.antt" << 'TURNS'
