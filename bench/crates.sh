@@ -1,7 +1,8 @@
 #!/bin/sh
-# Copies crates, and those that they stand on by crates.txt and bench/crates.list, into a folder with a crates.txt of its
-# own. There a crate NAME may use them all, whose source the caller writes. What their checks kept is copied too; edits
-# that must fail are left out. The files of bench/crates end in .txt, since the gate reads sources below crates/ alone.
+# Copies crates, and those that they stand on by crates.txt and bench/crates.list, into a folder with a crates.txt of
+# its own. There a crate NAME may use them all, whose source the caller writes. What their checks kept is copied too;
+# edits that must fail are left out. The files of bench/crates end in .txt, since the gate reads sources below crates/
+# alone.
 # Use: bench/crates.sh FOLDER NAME CRATE..
 set -eu
 top=$(cd "$(dirname "$0")/.." && pwd)
