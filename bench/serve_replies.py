@@ -89,7 +89,7 @@ def array(form, values):
     return struct.pack(">II%d%s" % (len(values), form), len(values), len(values), *values)
 
 
-def body_of(view, what, runs, collection):
+def body_of(view, what, runs, collection="gfs"):
     """The status, the description, the type and the body of the reply over the files of some runs."""
     rows = rows_of(view, runs)
     axis = [run if view[0] == "forecast" else valid for run, valid in rows]
