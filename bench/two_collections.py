@@ -15,6 +15,8 @@ WORKERS = int(os.environ.get("WORKERS", "4"))
 FILES, PAUSE, CLIENTS = 100, 0.15, 12
 # The collections, and which of all runs each gets: no run of one is of the other.
 COLLECTIONS = {"gfs": 0, "wave": 1}
+# How many requests a connection takes. Its last reply says that it ends.
+MOST = 10_000
 # How long a reply or a verdict may take, and the end of the server.
 PATIENCE = 15.0
 
@@ -92,22 +94,31 @@ def some_view(chance, collection):
 
 
 class Client:
-    """Asks of the collections in turns over one connection, until it is told to end."""
+    """Asks of the collections in turns over one connection, until it is told to end. Where the connection takes no more
+    requests, it goes on over another one."""
 
     def __init__(self, number, port, collections):
         self.chance = random.Random(number)
-        self.collections = collections
-        self.link = socket.create_connection(("127.0.0.1", port), timeout=PATIENCE)
-        self.link.setsockopt(socket.IPPROTO_TCP, socket.TCP_NODELAY, 1)
+        self.port, self.collections = port, collections
+        self.connect()
         self.seen = {collection.name: set() for collection in collections}
         self.last = dict.fromkeys(self.seen, 0)
         self.count = 0
+
+    def connect(self):
+        """Opens a connection, over which nothing was asked yet."""
+        self.link = socket.create_connection(("127.0.0.1", self.port), timeout=PATIENCE)
+        self.link.setsockopt(socket.IPPROTO_TCP, socket.TCP_NODELAY, 1)
+        self.asked = 0
 
     def ask_one(self, collection):
         """Asks one of them, and compares the reply with the right one."""
         view, what = some_view(self.chance, collection), self.chance.choice(["time", "time_run", "t"])
         revision, reply = ask(self.link, target_of(view, what, collection.name))
+        self.asked += 1
         right = reply_of(revision, view, what, set(collection.runs[:revision]), collection.name)
+        if self.asked == MOST:
+            right = right.replace(b"Connection: keep-alive", b"Connection: close", 1)
         if reply != right:
             fail("%s at revision %d: %r, not %r" % (target_of(view, what, collection.name), revision, reply, right))
         if revision < self.last[collection.name]:
@@ -115,17 +126,20 @@ class Client:
         self.last[collection.name] = revision
         self.seen[collection.name].add(revision)
         self.count += 1
+        if self.asked == MOST:
+            self.link.close()
+            self.connect()
 
     def read(self, over):
         """Reads until all files have come, and then once more of each."""
-        with self.link:
-            while not over.is_set() and not failures:
-                for collection in self.collections:
-                    self.ask_one(collection)
+        while not over.is_set() and not failures:
             for collection in self.collections:
                 self.ask_one(collection)
-                if self.last[collection.name] != FILES:
-                    fail("%s: revision %d at the end" % (collection.name, self.last[collection.name]))
+        for collection in self.collections:
+            self.ask_one(collection)
+            if self.last[collection.name] != FILES:
+                fail("%s: revision %d at the end" % (collection.name, self.last[collection.name]))
+        self.link.close()
 
 
 def guarded(what, *given):
