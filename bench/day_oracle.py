@@ -92,6 +92,8 @@ class Log:
         self.brought, self.fail = brought, fail
         self.lock, self.start = threading.Lock(), time.time()
         self.states, self.replies = [{}], [reply_of({})]
+        # When each run was published last.
+        self.came = {}
         # Operations whose line came before that of the one before them, and replies whose revision has no line yet.
         self.early, self.waiting = {}, []
         # The verdict on each name that had one, with its number, and how many operations let runs go.
@@ -152,6 +154,7 @@ class Log:
             self.fail("revision %d: nothing went" % number)
         if word == "published":
             held[what] = self.published(what, more[0], more[2] - rows_in(held))
+            self.came[what] = time.time()
             if more[1:] != (len(held), rows_in(held)):
                 self.fail("revision %d: %d files, and the line says %r" % (number, len(held), more[1:]))
         self.states.append(held)
@@ -191,8 +194,10 @@ class Log:
                 self.fail("no line has the revision %d" % len(self.states))
 
     def overdue(self):
-        """The runs that should have gone when the clock looked last."""
+        """The runs that should have gone when the clock looked last. One that is published after that look goes at the
+        next."""
         now = time.time()
         if now < self.start + TICK + SLACK:
             return []
-        return [name_of(run) for run in self.held() if EPOCH + run + KEEP + TICK + SLACK < now]
+        return [name_of(run) for run in self.held()
+                if max(EPOCH + run + KEEP, self.came[run]) + TICK + SLACK < now]
