@@ -1,24 +1,10 @@
--- A search that stops at the first item that passes finds that item, and what is found for one more of some numbers.
-use Rattle.std.proofs.Common.{◌≡◌, ℕ, ◌+◌, ◌<◌, ◌≤◌, List, [], ◌∷◌, ◌++◌, drop, take, find, length, map, get_or, Bool, true, false, ◌||◌, Option, refl, sym, ap, ◌∙◌}
-use Rattle.std.specs.List.{slice_get, filter_map, cons_option}
+-- What is found for one more of some numbers, and whether a number stands twice.
+use Rattle.std.proofs.Common.{◌≡◌, ℕ, ◌+◌, ◌<◌, ◌≤◌, List, [], ◌∷◌, ◌++◌, drop, take, length, map, get_or, true, false, ◌||◌, Option, refl, sym, ap, ◌∙◌}
+use Rattle.std.specs.List.{filter_map, cons_option}
 use Rattle.std.proofs.lemmas.List.{take_more, drop_more, drop_all, map-append}
 use Rattle.std.proofs.lemmas.List.Elements.{filter_map-append}
-use Rattle.std.proofs.lemmas.Option.{slice_get_past}
-use Rattle.fm_base.proofs.ListLemmas.{find-there}
 use Rattle.fm_model.specs.Variable.{lies_along}
 use Rattle.fm_dataset.specs.Declarations.{repeats}
-
--- the search ends at the item that passes
-pub find-at : {A : Type 0} (p : A → Bool) (xs : List A) (x : A) (n : ℕ) → find p (drop n xs) ≡ find p xs
-    → n < length xs → x ≡ get_or xs n x → p x ≡ true → slice_get xs n ≡ find p xs
-find-at p xs x n left within there passes = sym (find-there p xs x n within there passes) ∙ left
-
--- no item is left
-pub find-past : {A : Type 0} (p : A → Bool) (xs : List A) (n : ℕ) → find p (drop n xs) ≡ find p xs
-    → length xs ≤ n → slice_get xs n ≡ find p xs
-find-past p xs n left past = slice_get_past xs n past ∙ ap (find p) (sym (drop_all n xs past)) ∙ left
-
-pub ruleset finds = (find-at, find-past)
 
 -- what is found for one number more, each as it is shown
 pub shown_more : {A B : Type 0} (show : A → B) (found : ℕ → Option A) (ids : List ℕ) (n : ℕ) → n < length ids

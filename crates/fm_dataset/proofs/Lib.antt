@@ -5,6 +5,7 @@ pub mod CoordinateLemmas
 pub mod ElementLemmas
 pub mod FileCounts
 pub mod FindLemmas
+pub mod FirstLemmas
 pub mod GridLemmas
 pub mod IndexLemmas
 pub mod ItemLemmas

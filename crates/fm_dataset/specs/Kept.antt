@@ -1,5 +1,5 @@
 -- What a dataset keeps beside what it shows, and what the code asks of a variable whose elements it looks up.
-use Rattle.std.specs.Prelude.{◌≡◌, ℕ, ◌+◌, ◌*◌, ◌<◌, ◌≤◌, List, ◌∷◌, length, take, drop, filter, slice_get, slice_index, Bool, true, not, ◌&&◌, if◌then◌else◌, Some, All, false}
+use Rattle.std.specs.Prelude.{◌≡◌, ℕ, ◌+◌, ◌*◌, ◌<◌, ◌≤◌, List, ◌∷◌, length, take, drop, filter, find, slice_get, slice_index, Bool, true, not, ◌&&◌, if◌then◌else◌, Some, All, false}
 use Rattle.std.specs.Option.{option_map_or}
 use Rattle.std.specs.Str.{bytes_eq}
 use Rattle.nc_model.specs.declared.header.Dim.{Dim}
@@ -15,7 +15,7 @@ use Rattle.fm_model.specs.LoadVars.{slotted_vars}
 use Rattle.fm_model.specs.Prototype.{lengths_of, HasElements, IsSound}
 use Rattle.fm_model.specs.Site.{IsPrototype}
 use Rattle.dap_model.specs.declared.declaration.Decl.{Decl}
-use Rattle.fm_dataset.specs.Declarations.{coordinate_of, decls_of, is_axis_of}
+use Rattle.fm_dataset.specs.Declarations.{coordinate_of, decls_of, is_axis_of, is_coordinate_of}
 use Rattle.fm_dataset.specs.Rows.{AreRows, IsRowOf}
 use Rattle.fm_dataset.specs.Values.{element_in, element_of, row_dims, row_index, row_shape}
 
@@ -34,6 +34,13 @@ slots_in proto var = if has_slot proto var then 1 else 0
 -- how many of the first n variables have a slot, which is the number of the next one's
 unfoldable pub slot_number : Proto → ℕ → ℕ
 slot_number proto n = length (filter (has_slot proto) (take n proto.vars))
+
+-- the numbers of the coordinate variables of all dimensions among the first n variables, each past the last where a
+-- dimension has none among these
+pub record AreFirstOf (proto : Proto) (n : ℕ) (numbers : List ℕ) : Type 0 where
+  pub count : length numbers ≡ length proto.dims
+  pub each : (id : ℕ) → id < length proto.dims
+      → slice_get proto.vars (slice_index numbers id) ≡ find (is_coordinate_of proto id) (take n proto.vars)
 
 -- the numbers of the coordinate variables of all dimensions, each one past the last where a dimension has none
 pub record HasCoordinates (proto : Proto) (numbers : List ℕ) : Type 0 where

@@ -3,7 +3,7 @@ ghost use Rattle.std.specs.Prelude.{◌≡◌, IfOk};
 ghost use Rattle.fm_model.specs.Site.{IsPrototype};
 ghost use Rattle.fm_dataset.specs.Rows.{AreRows};
 
-use crate::declare::decls;
+use crate::declare::{Charted, decls_in};
 use crate::shown::Dataset;
 use crate::table::{coordinate_numbers, slot_numbers};
 use fm_base::{Arc, Bytes, NoMemory};
@@ -29,8 +29,12 @@ pub fn dataset(
     ensures { IfOk result (λ d. d ≡ record { proto = proto.now; rows = rows; view = view; label = label.now }) }
 {
     let label = Bytes::copy_of(alloc, label)?;
-    let decls = decls(alloc, proto.get(), rows.len() as u64)?;
     let coordinates = coordinate_numbers(alloc, proto.get())?;
+    let of = Charted {
+        proto: proto.get(),
+        coordinates: coordinates.as_slice(),
+    };
+    let decls = decls_in(alloc, &of, rows.len() as u64)?;
     let slots = slot_numbers(alloc, proto.get())?;
     let proto = proto.share()?;
     Ok(Dataset {

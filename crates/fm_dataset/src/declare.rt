@@ -2,58 +2,71 @@
 ghost use Rattle.std.specs.Prelude.{◌≡◌, ◌++◌, ◌∷◌, [], IfOk, OnOk, map};
 ghost use Rattle.fm_model.specs.Prototype.{offset_name, run_name};
 ghost use Rattle.fm_dataset.specs.Declarations as spec;
+ghost use Rattle.fm_dataset.specs.Kept.{HasCoordinates};
 
 use crate::array::{array_dims, array_of, rows_dim};
-use crate::grid::{coordinate_number, may_be_grid};
+use crate::grid::may_be_grid;
+use crate::table::{coordinate_at, coordinate_numbers};
 use dap_model::{Array, DapKind, Decl};
 use fm_base::{Bytes, List, NoMemory};
 use fm_model::{Proto, ProtoVar};
 use std::alloc::Global;
 
+/// A prototype beside the numbers of the coordinate variables of its dimensions.
+#[derive(Clone, Copy)]
+pub(crate) struct Charted<'a> {
+    pub proto: &'a Proto,
+    pub coordinates: &'a [usize],
+}
+
 // Adds the array of the coordinate variable of a dimension, where it has one.
 #[tactic(auto, using(crate::proofs::CoordinateLemmas::shown_coordinates))]
 fn put_map(
     alloc: Global,
-    proto: &Proto,
+    of: &Charted<'_>,
     count: u64,
     id: u32,
     maps: &mut List<Array>,
 ) -> Result<(), NoMemory>
+    requires { HasCoordinates of.now.proto.now of.now.coordinates.now }
     ensures { OnOk result (maps.new
-        ≡ maps.old ++ map (spec.array_of proto.now count) (spec.coordinates_of proto.now (id ∷ []))) }
+        ≡ maps.old ++ map (spec.array_of of.now.proto.now count) (spec.coordinates_of of.now.proto.now (id ∷ []))) }
 {
-    match proto
-        .vars
-        .as_slice()
-        .get(coordinate_number(proto, id as usize))
-    {
+    match coordinate_at(of.proto, of.coordinates, id) {
         None => Ok(()),
-        Some(var) => maps.push(array_of(alloc, proto, count, var)?),
+        Some(var) => maps.push(array_of(alloc, of.proto, count, var)?),
     }
 }
 
 // The arrays of the coordinate variables of the dimensions of these numbers, where each has one.
 #[tactic(auto, using(crate::proofs::FindLemmas::shown_more), unfolding(crate::specs::Declarations::coordinates_of))]
-fn maps_of(alloc: Global, proto: &Proto, count: u64, ids: &[u32]) -> Result<List<Array>, NoMemory>
+fn maps_of(
+    alloc: Global,
+    of: &Charted<'_>,
+    count: u64,
+    ids: &[u32],
+) -> Result<List<Array>, NoMemory>
+    requires { HasCoordinates of.now.proto.now of.now.coordinates.now }
     ensures { IfOk result (λ maps. maps
-        ≡ map (spec.array_of proto.now count) (spec.coordinates_of proto.now ids.now)) }
+        ≡ map (spec.array_of of.now.proto.now count) (spec.coordinates_of of.now.proto.now ids.now)) }
 {
     let mut maps = List::new(alloc);
     for id in ids {
-        put_map(alloc, proto, count, *id, &mut maps)?;
+        put_map(alloc, of, count, *id, &mut maps)?;
     }
     Ok(maps)
 }
 
 // The declaration of a variable.
 #[tactic(auto, unfolding(crate::specs::Declarations::decl_of, crate::specs::Declarations::is_grid, crate::specs::Declarations::maps_of))]
-fn decl_of(alloc: Global, proto: &Proto, count: u64, var: &ProtoVar) -> Result<Decl, NoMemory>
-    ensures { IfOk result (λ decl. decl ≡ spec.decl_of proto.now count var.now) }
+fn decl_of(alloc: Global, of: &Charted<'_>, count: u64, var: &ProtoVar) -> Result<Decl, NoMemory>
+    requires { HasCoordinates of.now.proto.now of.now.coordinates.now }
+    ensures { IfOk result (λ decl. decl ≡ spec.decl_of of.now.proto.now count var.now) }
 {
-    let array = array_of(alloc, proto, count, var)?;
-    if may_be_grid(proto, var) {
+    let array = array_of(alloc, of.proto, count, var)?;
+    if may_be_grid(of.proto, var) {
         let ids = array_dims(var);
-        let maps = maps_of(alloc, proto, count, ids)?;
+        let maps = maps_of(alloc, of, count, ids)?;
         if maps.len() == ids.len() {
             let name = Bytes::copy_of(alloc, var.name.as_slice())?;
             return Ok(Decl::Grid { name, array, maps });
@@ -101,14 +114,28 @@ fn put_seconds(
 }
 
 // The declarations of the variables, with room for those of the runs and the offsets.
-fn decls_of_vars(alloc: Global, proto: &Proto, count: u64) -> Result<List<Decl>, NoMemory>
-    ensures { IfOk result (λ decls. decls ≡ map (spec.decl_of proto.now count) proto.now.vars) }
+fn decls_of_vars(alloc: Global, of: &Charted<'_>, count: u64) -> Result<List<Decl>, NoMemory>
+    requires { HasCoordinates of.now.proto.now of.now.coordinates.now }
+    ensures { IfOk result (λ decls. decls ≡ map (spec.decl_of of.now.proto.now count) of.now.proto.now.vars) }
 {
-    let items = Vec::with_capacity(alloc, proto.vars.len().saturating_add(2))?;
+    let vars = of.proto.vars.as_slice();
+    let items = Vec::with_capacity(alloc, vars.len().saturating_add(2))?;
     let mut decls = List { items };
-    for var in proto.vars.as_slice() {
-        decls.push(decl_of(alloc, proto, count, var)?)?;
+    for var in vars {
+        decls.push(decl_of(alloc, of, count, var)?)?;
     }
+    Ok(decls)
+}
+
+// The declarations of a view of a prototype's collection with this many rows.
+#[tactic(auto, unfolding(crate::specs::Declarations::decls_of, fm_model::specs::Prototype::run_name, fm_model::specs::Prototype::offset_name))]
+pub(crate) fn decls_in(alloc: Global, of: &Charted<'_>, count: u64) -> Result<List<Decl>, NoMemory>
+    requires { HasCoordinates of.now.proto.now of.now.coordinates.now }
+    ensures { IfOk result (λ decls. decls ≡ spec.decls_of of.now.proto.now count) }
+{
+    let mut decls = decls_of_vars(alloc, of, count)?;
+    put_seconds(alloc, of.proto, count, b"_run", &mut decls)?;
+    put_seconds(alloc, of.proto, count, b"_offset", &mut decls)?;
     Ok(decls)
 }
 
@@ -118,12 +145,13 @@ fn decls_of_vars(alloc: Global, proto: &Proto, count: u64) -> Result<List<Decl>,
 /// A variable is a Grid where its array has a dimension, none of them twice, each has a coordinate variable among the
 /// prototype's, and it is no coordinate variable itself (ESE-RFC-004, Grid). Characters along the last dimension are
 /// one text. The axis, the runs and the offsets are whole seconds.
-#[tactic(auto, unfolding(crate::specs::Declarations::decls_of, fm_model::specs::Prototype::run_name, fm_model::specs::Prototype::offset_name))]
 pub fn decls(alloc: Global, proto: &Proto, count: u64) -> Result<List<Decl>, NoMemory>
     ensures { IfOk result (λ decls. decls ≡ spec.decls_of proto.now count) }
 {
-    let mut decls = decls_of_vars(alloc, proto, count)?;
-    put_seconds(alloc, proto, count, b"_run", &mut decls)?;
-    put_seconds(alloc, proto, count, b"_offset", &mut decls)?;
-    Ok(decls)
+    let coordinates = coordinate_numbers(alloc, proto)?;
+    let of = Charted {
+        proto,
+        coordinates: coordinates.as_slice(),
+    };
+    decls_in(alloc, &of, count)
 }

@@ -1,5 +1,5 @@
 //! Which variables are Grids, and the maps that they have.
-ghost use Rattle.std.specs.Prelude.{◌≡◌, slice_get};
+ghost use Rattle.std.specs.Prelude.{◌≡◌};
 ghost use Rattle.fm_dataset.specs.Declarations as spec;
 
 use crate::array::array_dims;
@@ -7,7 +7,7 @@ use fm_file::{is_coordinate, lies_along};
 use fm_model::{Proto, ProtoVar};
 
 // Whether a variable is a coordinate variable.
-fn is_coordinate_var(proto: &Proto, var: &ProtoVar) -> bool
+pub(crate) fn is_coordinate_var(proto: &Proto, var: &ProtoVar) -> bool
     ensures { result ≡ spec.is_coordinate_var proto.now var.now }
 {
     is_coordinate(
@@ -16,17 +16,6 @@ fn is_coordinate_var(proto: &Proto, var: &ProtoVar) -> bool
         var.kind,
         var.dims.as_slice(),
     )
-}
-
-// Whether a variable is the coordinate variable of the dimension of this number.
-#[tactic(auto, unfolding(crate::specs::Declarations::is_coordinate_of))]
-fn is_coordinate_of(proto: &Proto, id: usize, var: &ProtoVar) -> bool
-    ensures { result ≡ spec.is_coordinate_of proto.now id var.now }
-{
-    match var.dims.as_slice() {
-        [only] => *only as usize == id && is_coordinate_var(proto, var),
-        _ => false,
-    }
 }
 
 // Whether a number stands twice.
@@ -41,20 +30,6 @@ fn repeats(ids: &[u32]) -> bool
         }
     }
     false
-}
-
-// The number of the coordinate variable of a dimension, or one past the last where it has none.
-#[tactic(auto, using(crate::proofs::FindLemmas::finds), unfolding(crate::specs::Declarations::coordinate_of))]
-pub(crate) fn coordinate_number(proto: &Proto, id: usize) -> usize
-    ensures { slice_get proto.now.vars result ≡ spec.coordinate_of proto.now id }
-{
-    let vars = proto.vars.as_slice();
-    for (number, var) in vars.iter().enumerate() {
-        if is_coordinate_of(proto, id, var) {
-            return number;
-        }
-    }
-    vars.len()
 }
 
 // Whether a variable is a Grid where each dimension of its array has a coordinate variable: its array has a dimension,

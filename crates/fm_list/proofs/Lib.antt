@@ -2,3 +2,4 @@ pub mod BestSteps
 pub mod CellSteps
 pub mod RisingRuns
 pub mod SearchLemmas
+pub mod TimeSteps

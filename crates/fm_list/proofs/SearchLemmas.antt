@@ -1,5 +1,5 @@
 -- The index of a time that a search finds.
-use Rattle.std.proofs.Common.{◌≡◌, ◌≢◌, ℕ, zero, suc, ◌<◌, ◌≤◌, ◌≤ℤ◌, ◌<ℤ◌, inl, inr, Bool, true, false, List, [], ◌∷◌, length, get_or, Some, ℤ, refl, sym, ap, ◌∙◌, arith}
+use Rattle.std.proofs.Common.{◌≡◌, ◌≢◌, ℕ, zero, suc, ◌<◌, ◌≤◌, ◌≤ℤ◌, ◌<ℤ◌, inl, inr, Bool, true, false, List, [], ◌∷◌, length, get_or, None, Some, ℤ, refl, sym, ap, ◌∙◌, arith}
 use Rattle.std.specs.Prelude.{AllPairs, nat_lt, position, slice_get}
 use Rattle.std.specs.Cmp.{signed_Decides}
 use Rattle.std.specs.List.{list_any, position_or_len}
@@ -14,6 +14,7 @@ use Rattle.std.proofs.lemmas.Int.{ints}
 use Rattle.std.proofs.lemmas.List.Folds.{list_any_at, Any-from_list_any}
 use Rattle.std.proofs.lemmas.Option.{none-some, same_Some, slice_get-get_or}
 use Rattle.fm_model.specs.Rising.{Rises}
+use Rattle.fm_list.proofs.CellSteps.{below_length}
 use Rattle.fm_model.proofs.CellLemmas.{in_from_slice_get}
 use Rattle.fm_model.proofs.Members.{Each-in, EachPair, each_from_AllPairs}
 
@@ -48,6 +49,11 @@ position_is times index valid differ here =
     let first = first_is valid times index (each_from_AllPairs Apart times differ) here in
     let within : nat_lt index (length times) ≡ true = grind (arith, nat_tests, first.1) in
     rw (first.0, within) refl
+
+-- where no time passes, there is no first index
+pub position-nowhere : (times : List ℤ) (valid : ℤ) → false ≡ list_any (λ time. int_eq time valid) times
+    → None ≡ position (λ time. int_eq time valid) times
+position-nowhere times valid none = rw (below_length (λ time. int_eq time valid) times ∙ sym none) refl
 
 -- an instant at an index that a search gives is among the others
 pub among_there : (own : List ℤ) (index : ℕ) (key : ℤ) → index < length own

@@ -1,10 +1,11 @@
 //! Which files have a name, a run or a valid time.
-ghost use Rattle.std.specs.Prelude.{◌≡◌, ◌≢◌, [], ◌∷◌, ◌++◌, AllPairs, IfSome, IsNone, List, None, Some, position, slice_get, true};
+ghost use Rattle.std.specs.Prelude.{◌≡◌, ◌≢◌, [], ◌∷◌, ◌++◌, AllPairs, IfSome, IsNone, List, None, Some, false, position, slice_get, true};
 ghost use Rattle.std.specs.List.{list_any};
 ghost use Rattle.std.specs.Ordering.{int_eq};
 ghost use Rattle.fm_model.specs.declared.loaded.Loaded.{Loaded as File};
 ghost use Rattle.fm_model.specs.Cell.{best, cell, has_time};
 ghost use Rattle.fm_model.specs.Collection.{holds, holds_older};
+ghost use Rattle.fm_model.specs.Rising.{Rises};
 ghost use Rattle.fm_list.specs.Found.{cell_in};
 ghost use Rattle.fm_list.specs.Selected.{AreSound, HasSoundTimes};
 
@@ -47,7 +48,8 @@ pub fn shares_run(files: &[Placed], others: &[Placed]) -> bool
 // An index of a valid time among some times: a guess where it stands there, or what a search finds. Where the times
 // don't rise, a search may find none.
 fn searched(times: &[i64], guess: usize, valid: i64) -> Option<usize>
-    ensures { IfSome result (λ index. slice_get times.now index ≡ Some valid) }
+    ensures found { IfSome result (λ index. slice_get times.now index ≡ Some valid) }
+    ensures none { IsNone result → Rises times.now → false ≡ list_any (λ time. int_eq time valid) times.now }
 {
     if guess < times.len() && times[guess] == valid {
         return Some(guess);
@@ -65,13 +67,17 @@ fn walked(times: &[i64], valid: i64) -> Option<usize>
     times.iter().position(|time| *time == valid)
 }
 
-// The first index of a valid time among times that differ. A walk finds what a search may not.
-fn index_of(times: &[i64], guess: usize, valid: i64) -> Option<usize>
-    requires { AllPairs (λ time other. time ≢ other) times.now }
+// The first index of a valid time among times that differ. Where they don't rise, a walk finds what a search may not.
+fn index_of(times: &[i64], guess: usize, rise: bool, valid: i64) -> Option<usize>
+    requires differ { AllPairs (λ time other. time ≢ other) times.now }
+    requires rise { rise ≡ true → Rises times.now }
     ensures { result ≡ position (λ time. int_eq time valid) times.now }
 {
     if let Some(index) = searched(times, guess, valid) {
         return Some(index);
+    }
+    if rise {
+        return None;
     }
     walked(times, valid)
 }
@@ -85,7 +91,8 @@ fn index_in(file: &Placed, run: i64, valid: i64) -> Option<u32>
     if own != run {
         return None;
     }
-    match index_of(file.get().times.as_slice(), file.index(), valid) {
+    let times = file.get().times.as_slice();
+    match index_of(times, file.index(), file.times_rise(), valid) {
         Some(index) => Some(index as u32),
         None => None,
     }

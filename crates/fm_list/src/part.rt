@@ -102,6 +102,16 @@ pub fn has_best_among(files: &[Placed], valid: i64, least: Option<i64>) -> bool
     some_keeps(files, valid, least)
 }
 
+// A file as it stands among those of an instant, where its times may have the instant at an index.
+fn placed_by(by: By, file: Arc<Loaded>, index: usize) -> Placed
+    ensures { result ≡ file }
+{
+    match by {
+        By::Run => Placed::of_run(file),
+        By::Time | By::Name => Placed::new(file, index),
+    }
+}
+
 // Some files, and one more where it is found by an instant. Where its times rise, the time stands at its index among
 // its own instants.
 fn with_selected(
@@ -117,7 +127,7 @@ fn with_selected(
     match index_among(own, key) {
         None => Ok(files),
         Some(index) => {
-            files.push(Placed::new(file.share()?, index))?;
+            files.push(placed_by(by, file.share()?, index))?;
             Ok(files)
         }
     }

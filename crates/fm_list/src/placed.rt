@@ -1,37 +1,61 @@
 //! A file beside its run, and beside the index of one of its times, so that a look-up finds them where it looks.
 
+use crate::times::rise;
 use fm_base::{Arc, NoMemory};
 use fm_model::Loaded;
 use std::marker::Model;
 
-/// A file, its run, and where a time may stand among its times. A clause sees the file alone.
+/// A file, its run, where a time may stand among its times, and whether it was seen that these rise. A clause sees the
+/// file alone.
 #[derive(Drop)]
 pub struct Placed {
     file: Arc<Loaded>,
     run: i64,
-    index: usize,
+    index: u32,
+    rises: bool,
 }
 
 impl Model for Placed {
-    ghost use Rattle.std.specs.Prelude.{◌≡◌};
+    ghost use Rattle.std.specs.Prelude.{◌≡◌, true};
     ghost use Rattle.fm_model.specs.declared.loaded.Loaded.{Loaded as File};
+    ghost use Rattle.fm_model.specs.Rising.{Rises};
 
     ghost Value = { File };
 
     ghost view = { λ placed. placed.file };
 
-    ghost invariant = { λ placed. placed.run ≡ placed.file.run };
+    ghost invariant = { λ placed. (placed.run ≡ placed.file.run) × (placed.rises ≡ true → Rises placed.file.times) };
 }
 
 impl Placed {
-    ghost use Rattle.std.specs.Prelude.{◌≡◌, IfOk};
+    ghost use Rattle.std.specs.Prelude.{◌≡◌, IfOk, true};
+    ghost use Rattle.fm_model.specs.Rising.{Rises};
 
-    /// A file, and where a time may stand.
+    /// A file, and where a time may stand. It isn't looked whether its times rise.
     pub fn new(file: Arc<Loaded>, index: usize) -> Placed
         ensures { result ≡ file }
     {
         let run = file.get().run;
-        Placed { file, run, index }
+        Placed {
+            file,
+            run,
+            index: u32::try_from(index).unwrap_or(u32::MAX),
+            rises: false,
+        }
+    }
+
+    // A file of its run, whose times are looked through once.
+    pub(crate) fn of_run(file: Arc<Loaded>) -> Placed
+        ensures { result ≡ file }
+    {
+        let Loaded { run, times, .. } = file.get();
+        let rises = rise(times.as_slice());
+        Placed {
+            run: *run,
+            index: 0,
+            rises,
+            file,
+        }
     }
 
     /// The file.
@@ -55,7 +79,14 @@ impl Placed {
 
     // Where a time may stand. Whoever asks looks whether it does.
     pub(crate) fn index(&self) -> usize {
-        self.index
+        self.index as usize
+    }
+
+    // Whether it was seen that its times rise.
+    pub(crate) fn times_rise(&self) -> bool
+        ensures { result ≡ true → Rises self.now.times }
+    {
+        self.rises
     }
 
     /// One more owner of the file.
@@ -67,6 +98,7 @@ impl Placed {
             file,
             run: self.run,
             index: self.index,
+            rises: self.rises,
         })
     }
 }

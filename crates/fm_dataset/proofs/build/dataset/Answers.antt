@@ -17,9 +17,9 @@ invariant_of-result c =
       given = subst IsPrototype shared c.requires.proto;
       sound = subst IsSound shared (IsSound-given _ c.requires.proto);
       rows_are = subst (λ (p : Proto). AreRows p c.args.rows) shared c.requires.rows;
-      decls_are = c.in_ok-decls.ensures ∙ ap₂ decls_of (c.get.ensures ∙ shared) c.len.ensures;
+      decls_are = c.in_ok-decls.ensures ∙ ap₂ decls_of (c.get-2.ensures ∙ shared) c.len.ensures;
       coordinates_are = subst (λ (p : Proto). HasCoordinates p c.in_ok-coordinates.coordinates)
-          (c.get-2.ensures ∙ shared) c.in_ok-coordinates.ensures;
+          (c.get.ensures ∙ shared) c.in_ok-coordinates.ensures;
       slots_are = subst (λ (p : Proto). HasSlotNumbers p c.in_ok-slots.slots)
           (c.get-3.ensures ∙ shared) c.in_ok-slots.ensures;
     }

@@ -1,12 +1,8 @@
-use Rattle.std.proofs.Common.{◌≡◌}
-use Rattle.std.specs.List.{slice_get}
-use Rattle.fm_dataset.specs.Declarations.{coordinate_of}
-use Rattle.fm_dataset.proofs.TableLemmas.{each_push, length_push}
+-- After all variables the numbers are those of the coordinate variables.
+use Rattle.std.proofs.Common.{ap, length, arith}
+use Rattle.fm_dataset.proofs.FirstLemmas.{first-all}
 use Rattle.fm_dataset.proofs.table.coordinate_numbers.Goals as goal
 
-pub loop-id-preserved : goal.loop-id-preserved
-loop-id-preserved c = (
-  length_push _ _ _ _ c.in_ok-push.ensures.ok c.loop-id.invariant.0,
-  each_push (λ k number. slice_get c.args.proto.now.vars number ≡ coordinate_of c.args.proto.now k) _ _ _ _
-      c.in_ok-push.ensures.ok c.loop-id.invariant.0 c.loop-id.invariant.1 c.coordinate_number.ensures,
-)
+pub returns : goal.returns
+returns c = first-all c.args.proto.now c.loop-number.number c.loop-number.numbers-inside.items.items
+    (omega (arith, ap length c.as_slice-var-items.ensures, c.loop-number-test.false)) c.loop-number.invariant

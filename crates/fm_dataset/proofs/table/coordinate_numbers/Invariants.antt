@@ -1,8 +1,6 @@
-use Rattle.std.proofs.Common.{◌≡◌, ℕ, ◌<◌, length, get_or}
-use Rattle.std.specs.List.{slice_get}
-use Rattle.fm_dataset.specs.Declarations.{coordinate_of}
+-- The numbers are those of the first coordinate variables among the variables so far.
+use Rattle.fm_dataset.specs.Kept.{AreFirstOf}
 use Rattle.fm_dataset.proofs.table.coordinate_numbers.Given as goal
 
-abbrev pub invariant-loop-id : goal.invariant-loop-id
-invariant-loop-id l = (length l.numbers ≡ l.id)
-    × ((k : ℕ) → k < l.id → slice_get l.proto.vars (get_or l.numbers k 0) ≡ coordinate_of l.proto k)
+abbrev pub invariant-loop-number : goal.invariant-loop-number
+invariant-loop-number l = AreFirstOf l.proto l.number l.numbers-inside.items.items

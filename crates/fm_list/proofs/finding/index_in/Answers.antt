@@ -5,8 +5,11 @@ use Rattle.std.proofs.lemmas.Int.{ints, to_z-of_z}
 use Rattle.fm_list.proofs.CellSteps.{cell_in-other_run, cell_in-own_run}
 use Rattle.fm_list.proofs.finding.index_in.Goals as goal
 
-pub index_of-requires : goal.index_of-requires
-index_of-requires c = rw (c.as_slice.ensures, c.get.ensures) c.requires.differ
+pub index_of-requires-clause-differ : goal.index_of-requires-clause-differ
+index_of-requires-clause-differ c = rw (c.as_slice-times.ensures, c.get.ensures) c.requires.differ
+
+pub index_of-requires-clause-rise : goal.index_of-requires-clause-rise
+index_of-requires-clause-rise c = λ rise. rw (c.as_slice-times.ensures, c.get.ensures) (c.times_rise.ensures rise)
 
 pub returns-then-own-run : goal.returns-then-own-run
 returns-then-own-run c = sym (cell_in-other_run c.args.run c.args.valid c.args.file.now
@@ -21,7 +24,7 @@ returns-in-Some c =
     cc (
       cell_in-own_run c.args.run c.args.valid c.args.file.now own,
       at,
-      c.as_slice.ensures,
+      c.as_slice-times.ensures,
       c.get.ensures,
       c.in-Some.is,
     )
@@ -35,7 +38,7 @@ returns-in-None c =
     cc (
       cell_in-own_run c.args.run c.args.valid c.args.file.now own,
       at,
-      c.as_slice.ensures,
+      c.as_slice-times.ensures,
       c.get.ensures,
       c.in-None.is,
     )

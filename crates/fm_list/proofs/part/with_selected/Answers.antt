@@ -23,5 +23,5 @@ returns-in_ok-push-in-Some c =
     let test : is_some c.index_among.result ≡ selects c.args.by c.args.key c.args.file.now =
     simp to_z-of_z at c.index_among.ensures ∙ c.requires.each c.args.key in
     let has : selects c.args.by c.args.key c.args.file.now ≡ true = sym test ∙ ap is_some c.in-Some.is in
-    let same = c.new.ensures ∙ c.in_ok-share-in-Some.ensures in
+    let same = c.placed_by.ensures ∙ c.in_ok-share-in-Some.ensures in
     rw has (c.in_ok-push-in-Some.ensures.ok ∙ ap (λ file. c.args.files ++ file ∷ []) same)
