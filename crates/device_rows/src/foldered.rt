@@ -10,7 +10,6 @@ use row_text::Said;
 use std::alloc::Global;
 use std::io::{self, Error, ErrorKind};
 use std::marker::Send;
-use std::path::PathBuf;
 use std::{env, fs, process, rt};
 
 /// Puts what the inbox of a folder does that has these files and folders at first, which end in `/`.
@@ -32,9 +31,15 @@ pub fn put_folder(
 }
 
 // The path of a folder below that for temporary files, which no other process has.
-fn path_of(rt: &HostRuntime, alloc: Global) -> io::Result<PathBuf> {
-    let name = format!(in alloc; "fmrcd-rows-{}", process::id(rt.process()))?;
-    Ok(env::temp_dir(rt)?.join(alloc, name.as_str())?)
+fn path_of(rt: &HostRuntime, alloc: Global) -> io::Result<String> {
+    let folder = env::temp_dir(rt)?;
+    let path = format!(in alloc;
+        "{}/fmrcd-rows-{}",
+        folder.as_str(),
+        process::id(rt.process())
+    );
+    drop(folder);
+    Ok(path?)
 }
 
 // Makes the folder, and takes it away at the end.
@@ -56,11 +61,7 @@ fn put_at<R: rt::Files + rt::Clock + Copy + Drop + Send>(
 // Puts the files there, and makes the folders.
 fn begin<R: rt::Files + Drop>(folder: &Folder<'_, R>, names: &str, out: &mut Said) -> bool {
     for name in names.split_whitespace() {
-        let is_done = match name.strip_suffix('/') {
-            Some(name) => folder.change("mkdir", name, out),
-            None => folder.change("put", name, out),
-        };
-        if !is_done {
+        if !folder.begin(name, out) {
             return false;
         }
     }
@@ -119,24 +120,43 @@ struct Foldered<'a, R: rt::Files + rt::Clock + Drop> {
     stops: Stops,
 }
 
-// `next`, `fetch LIMIT NAME`, `settle VERDICT NAME`, `said` for the lines since the last one, what other folders do, and
-// changes.
+// `next`; `said` for the lines since the last one; steps on a name; what another folder does; changes.
 impl<R: rt::Files + rt::Clock + Copy + Drop + Send> Stepped for Foldered<'_, R> {
     fn put_step(&mut self, line: &str, out: &mut Said) -> bool {
-        let alloc = self.folder.alloc;
-        match line.split_once(' ').unwrap_or((line, "")) {
-            ("next", "") => put_next(alloc, &mut self.inbox, out),
-            ("said", "") => self.inbox.teller().put_lines(self.folder.path, out),
-            ("fetch", words) => return put_fetched(alloc, &mut self.inbox, words, out),
-            ("settle", words) => return judges(&mut self.inbox, words),
-            ("other", word) => return change_others(&self.stops, word),
-            (word, name) => return self.folder.change(word, name, out),
+        match line.split_once(' ') {
+            Some((word, words)) => {
+                put_named(self.folder.alloc, &mut self.inbox, word, words, out)
+                    || change_others(&self.stops, line)
+                    || self.folder.change(word, words, out)
+            }
+            None if line == "said" => {
+                self.inbox.teller().put_lines(self.folder.path, out);
+                true
+            }
+            None => line == "next" && put_next(self.folder.alloc, &mut self.inbox, out),
         }
-        true
     }
 }
 
-fn put_next<I: Inbox>(alloc: Global, inbox: &mut I, out: &mut Said) {
+// Appends what a step on a name does: `fetch LIMIT NAME`, `settle VERDICT NAME`.
+fn put_named<I: Judged>(
+    alloc: Global,
+    inbox: &mut I,
+    word: &str,
+    words: &str,
+    out: &mut Said,
+) -> bool {
+    match (word, words.split_once(' ')) {
+        ("fetch", Some((limit, name))) => put_fetched(alloc, inbox, limit, name, out),
+        ("settle", Some((word, name))) => match verdict_of(word) {
+            Some(verdict) => inbox.settles(name.as_bytes(), verdict),
+            None => false,
+        },
+        _ => false,
+    }
+}
+
+fn put_next<I: Inbox>(alloc: Global, inbox: &mut I, out: &mut Said) -> bool {
     let next = inbox.next(alloc);
     match &next {
         Ok(Arrival::Name(name)) => put_shown_line(name.as_slice(), out),
@@ -145,13 +165,16 @@ fn put_next<I: Inbox>(alloc: Global, inbox: &mut I, out: &mut Said) {
         Err(_) => out.put("fault\n"),
     }
     drop(next);
+    true
 }
 
-// Appends what is found of `LIMIT NAME`. It is false where words say something else.
-fn put_fetched<I: Inbox>(alloc: Global, inbox: &mut I, words: &str, out: &mut Said) -> bool {
-    let Some((limit, name)) = words.split_once(' ') else {
-        return false;
-    };
+fn put_fetched<I: Inbox>(
+    alloc: Global,
+    inbox: &mut I,
+    limit: &str,
+    name: &str,
+    out: &mut Said,
+) -> bool {
     let Ok(limit) = limit.parse::<u64>() else {
         return false;
     };
@@ -173,15 +196,6 @@ impl<R: rt::Files + rt::Clock + Drop + Send> Judged for FolderInbox<R, Heard> {
     }
 }
 
-// Takes the verdict of `VERDICT NAME`. It is false where words say something else.
-fn judges<I: Judged>(inbox: &mut I, words: &str) -> bool {
-    let (word, name) = words.split_once(' ').unwrap_or((words, ""));
-    match verdict_of(word) {
-        Some(verdict) => inbox.settles(name.as_bytes(), verdict),
-        None => false,
-    }
-}
-
 // The verdict that a word says.
 fn verdict_of(word: &str) -> Option<Verdict> {
     match word {
@@ -196,11 +210,11 @@ fn verdict_of(word: &str) -> Option<Verdict> {
 }
 
 // What another folder does: it comes, stops, or goes on.
-fn change_others(stops: &Stops, word: &str) -> bool {
-    match word {
-        "comes" => stops.add(),
-        "stops" => stops.stop(),
-        "goes on" => stops.go_on(),
+fn change_others(stops: &Stops, line: &str) -> bool {
+    match line {
+        "other comes" => stops.add(),
+        "other stops" => stops.stop(),
+        "other goes on" => stops.go_on(),
         _ => return false,
     }
     true
@@ -215,6 +229,14 @@ struct Folder<'a, R: rt::Files + Drop> {
 }
 
 impl<R: rt::Files + Drop> Folder<'_, R> {
+    // Puts a file there, or makes a folder whose name ends in a slash.
+    fn begin(&self, name: &str, out: &mut Said) -> bool {
+        match name.strip_suffix('/') {
+            Some(name) => self.change("mkdir", name, out),
+            None => self.change("put", name, out),
+        }
+    }
+
     // Changes what lies under a name, or looks at it. It is false where that fails.
     fn change(&self, word: &str, name: &str, out: &mut Said) -> bool {
         let Ok(path) = format!(in self.alloc; "{}/{name}", self.path) else {

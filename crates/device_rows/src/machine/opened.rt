@@ -49,12 +49,9 @@ fn put_opened(
     out: &mut Said,
 ) -> bool {
     let is_open = match word {
-        "open" => match opener.door(alloc, path, 1) {
-            Ok(door) => doors.push(door).is_ok(),
-            Err(_) => false,
-        },
-        "inbox" => opener.inbox(alloc, path).is_ok(),
-        "clock" => gives_one(&mut opener.clock(1)),
+        "open" => opens_door(alloc, opener, doors, path),
+        "inbox" => opens_inbox(alloc, opener, path),
+        "clock" => opens_clock(opener),
         _ => return false,
     };
     if is_open {
@@ -63,6 +60,32 @@ fn put_opened(
         put_fault(opener.faults(), out);
     }
     true
+}
+
+fn opens_door(
+    alloc: Global,
+    opener: &mut HostOpener,
+    doors: &mut Vec<HostDoor>,
+    address: &[u8],
+) -> bool {
+    match opener.door(alloc, address, 1) {
+        Ok(door) => doors.push(door).is_ok(),
+        Err(_) => false,
+    }
+}
+
+fn opens_inbox(alloc: Global, opener: &mut HostOpener, path: &[u8]) -> bool {
+    let inbox = opener.inbox(alloc, path);
+    let is_open = inbox.is_ok();
+    drop(inbox);
+    is_open
+}
+
+fn opens_clock(opener: &mut HostOpener) -> bool {
+    let mut clock = opener.clock(1);
+    let gives_one = gives_one(&mut clock);
+    drop(clock);
+    gives_one
 }
 
 // Whether a clock gives the present moment alone.
