@@ -102,6 +102,7 @@ STEPS = [
     Step("the look for STOP", LOOK, "STOP", READ_ERRORS + ["ENOMEM"], told=LISTED),
     Step("the opening of the folder", ["openat"], "", OPEN_ERRORS, told=LISTED),
     Step("the listing", ["getdents64"], "", ["EIO", "EINTR", "ESTALE"], told=LISTED),
+    Step("the end of a listing", ["getdents64"], "", ["EIO", "EINTR", "ESTALE"], told=LISTED, number=2),
     # std takes this for the end of a listing.
     Step("the listing of a folder that is gone", ["getdents64"], "", ["ENOENT"]),
     Step("the look at a listed file", LOOK, B, READ_ERRORS + ["ENOMEM", "ENOENT"], waits=True),

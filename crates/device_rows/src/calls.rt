@@ -1,7 +1,8 @@
-//! Calls of links and sinks, and what they give.
+//! Calls of links, and what they and reads give.
 
 use crate::stepped::put_number_line;
-use dev_traits::{Failed, Link, Sent, Sink, Taken};
+use dev_traits::{Failed, Found, Link, Sent, Taken};
+use fm_base::Fail;
 use row_text::Said;
 
 /// Appends what a call of a link gives: `take` with room for four bytes, `put TEXT`. It is false where a line says
@@ -43,21 +44,20 @@ fn put_text<L: Link>(link: &mut L, bytes: &[u8], out: &mut Said) -> bool {
     true
 }
 
-/// Appends whether a sink puts a text whole. It is false where a line isn't `put TEXT`.
-pub(crate) fn put_whole_text<S: Sink>(sink: &mut S, line: &str, out: &mut Said) -> bool {
-    let ("put", text) = line.split_once(' ').unwrap_or((line, "")) else {
-        return false;
-    };
-    match sink.put(text.as_bytes()) {
-        Ok(()) => out.put("whole\n"),
-        Err(Failed) => put_fault(sink.faults(), out),
-    }
-    true
-}
-
 /// Appends a line that says how many calls have failed with this one.
 pub(crate) fn put_fault(faults: u64, out: &mut Said) {
     put_number_line("fault ", faults, out);
+}
+
+/// Appends what was found of a file.
+pub(crate) fn put_found(found: &Result<Found, Fail<Failed>>, out: &mut Said) {
+    match found {
+        Ok(Found::Content(content)) => put_shown_line(content.as_slice(), out),
+        Ok(Found::TooLong(len)) => put_number_line("too long: ", *len, out),
+        Ok(Found::Absent) => out.put("absent\n"),
+        Err(Fail::Fault(_)) => out.put("fault\n"),
+        Err(Fail::NoMemory) => out.run_short(),
+    }
 }
 
 /// Appends a line of bytes, as a person reads them.

@@ -1,6 +1,6 @@
 //! The machine's clock, over clocks in memory.
 
-use crate::hearing::{Heard, Telling};
+use crate::hearing::Heard;
 use crate::stepped::{put_number_line, word_and_number};
 use dev_host::RealClock;
 use dev_traits::Clock;
@@ -15,11 +15,7 @@ use std::time::Duration;
 const ROUNDS: u32 = 9;
 
 // What two clocks read, in seconds: from 1970 the one that may be set, and the one that only goes on.
-#[derive(Clone, Copy)]
-struct Reading {
-    wall: u64,
-    steady: u64,
-}
+type Reading = (u64, u64);
 
 // A machine whose clocks read so, one time after the other, and then can't be read.
 #[derive(Drop)]
@@ -39,14 +35,15 @@ impl Script<'_> {
 
 impl rt::Clock for Script<'_> {
     fn monotonic(&self) -> io::Result<Duration> {
-        Ok(Duration::from_secs(self.reading()?.steady))
+        let (_, steady) = self.reading()?;
+        Ok(Duration::from_secs(steady))
     }
 
     // What is read next is behind it.
     fn since_1970(&self) -> io::Result<Duration> {
-        let reading = self.reading()?;
+        let (wall, _) = self.reading()?;
         self.index.set(self.index.get().saturating_add(1));
-        Ok(Duration::from_secs(reading.wall))
+        Ok(Duration::from_secs(wall))
     }
 }
 
@@ -64,7 +61,7 @@ fn add_reading(line: &str, readings: &mut Vec<Reading>) -> Option<()> {
     let (wall, steady) = word_and_number(line);
     let steady = steady?;
     let wall = wall.parse::<u64>().ok()?;
-    readings.push(Reading { wall, steady }).ok()
+    readings.push((wall, steady)).ok()
 }
 
 /// Puts the moments of a clock of this number of ticks, whose machine reads as lines say, and what it tells.
@@ -90,10 +87,10 @@ fn put_by(alloc: Global, ticks: u32, readings: &[Reading], out: &mut Said) {
 }
 
 // Appends each moment behind the lines that were told until it came, and `none` behind the last.
-fn put_each<C: Clock + Telling>(clock: &mut C, out: &mut Said) {
+fn put_each(clock: &mut RealClock<Script<'_>, Heard>, out: &mut Said) {
     for _ in 0..ROUNDS {
         let moment = clock.next();
-        if let Some(heard) = clock.heard() {
+        if let Some(heard) = clock.teller() {
             heard.put_all(out);
         }
         let Some(moment) = moment else {

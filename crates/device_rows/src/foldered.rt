@@ -1,148 +1,218 @@
 //! Inboxes over folders of the machine.
 
-use crate::arriving::{Arriving, Watched, put_found};
-use crate::calls::{put_fault, put_shown_line};
+use crate::calls::{put_found, put_shown_line};
 use crate::hearing::Heard;
 use crate::stepped::{Stepped, put_steps};
 use dev_host::{FolderInbox, Stops};
-use dev_std::RealFiles;
-use dev_traits::{Failed, Files, Found};
+use dev_traits::{Arrival, Failed, Inbox, Verdict};
 use fm_base::Fail;
-use row_text::{Row, Said, bytes};
+use row_text::Said;
 use std::alloc::Global;
 use std::io::{self, Error, ErrorKind};
-use std::os::unix::fs::symlink;
-use std::path::PathBuf;
-use std::{env, fs, process};
-
-// The path of a folder below that for temporary files, which no other row has, nor another process.
-fn path_of(rt: &HostRuntime, line: usize) -> io::Result<PathBuf> {
-    let alloc = rt.alloc();
-    let name = format!(in alloc; "fmrcd-rows-{}-{line}", process::id(rt.process()))?;
-    Ok(env::temp_dir(rt)?.join(alloc, name.as_str())?)
-}
+use std::marker::Send;
+use std::{env, fs, process, rt};
 
 /// Puts what the inbox of a folder does that has these files and folders at first, which end in `/`.
-pub fn put_folder(rt: HostRuntime, alloc: Global, row: &Row<'_>, out: &mut Said) -> bool {
-    match (path_of(&rt, row.line), row.value("steps")) {
-        (Ok(folder), Some(steps)) if row.has_only(&["folder", "others", "steps"]) => {
-            let known = put_in(Folder { rt, path: &folder }, alloc, row, steps, out);
-            drop(folder);
+pub fn put_folder(
+    rt: HostRuntime,
+    alloc: Global,
+    names: &str,
+    steps: &str,
+    out: &mut Said,
+) -> bool {
+    match path_of(&rt, alloc) {
+        Ok(path) => {
+            let known = put_at(rt, alloc, path.as_str(), (names, steps), out);
+            drop(path);
             known
         }
-        _ => false,
+        Err(_) => false,
     }
+}
+
+// The path of a folder below that for temporary files, which no other process has.
+fn path_of(rt: &HostRuntime, alloc: Global) -> io::Result<String> {
+    let folder = env::temp_dir(rt)?;
+    let path = format!(in alloc;
+        "{}/fmrcd-rows-{}",
+        folder.as_str(),
+        process::id(rt.process())
+    );
+    drop(folder);
+    Ok(path?)
 }
 
 // Makes the folder, and takes it away at the end.
-fn put_in(folder: Folder<'_>, alloc: Global, row: &Row<'_>, steps: &str, out: &mut Said) -> bool {
-    if fs::create_dir(&folder.rt, folder.path.as_str()).is_err() {
+fn put_at<R: rt::Files + rt::Clock + Copy + Drop + Send>(
+    rt: R,
+    alloc: Global,
+    path: &str,
+    (names, steps): (&str, &str),
+    out: &mut Said,
+) -> bool {
+    if rt.create_dir(path).is_err() {
         return false;
     }
-    let known = begin(folder, row.value("folder").unwrap_or(""), out)
-        && go_through(folder, alloc, row.value("others").is_some(), steps, out);
-    fs::remove_dir_all(&folder.rt, folder.path.as_str()).is_ok() && known
+    let folder = Folder { rt, alloc, path };
+    let known = begin(&folder, names, out) && put_opened(folder, steps, out);
+    rt.remove_dir_all(alloc, path).is_ok() && known
 }
 
 // Puts the files there, and makes the folders.
-fn begin(folder: Folder<'_>, names: &str, out: &mut Said) -> bool {
+fn begin<R: rt::Files + Drop>(folder: &Folder<'_, R>, names: &str, out: &mut Said) -> bool {
     for name in names.split_whitespace() {
-        let is_done = match name.strip_suffix('/') {
-            Some(name) => folder.change("mkdir", name, out),
-            None => folder.change("put", name, out),
-        };
-        if !is_done {
+        if !folder.begin(name, out) {
             return false;
         }
     }
     true
 }
 
-// Opens the inbox of a folder, beside others or alone, and does the steps.
-fn go_through(
-    folder: Folder<'_>,
-    alloc: Global,
-    has_others: bool,
+// Opens the inbox of a folder, and does the steps.
+fn put_opened<R: rt::Files + rt::Clock + Copy + Drop + Send>(
+    folder: Folder<'_, R>,
     steps: &str,
     out: &mut Said,
 ) -> bool {
-    match stops_of(alloc, has_others) {
-        Some((stops, shared)) => put_opened(folder, alloc, stops, shared, steps, out),
-        None => false,
-    }
-}
-
-// What the folders of a server share, and the share of one.
-fn stops_of(alloc: Global, has_others: bool) -> Option<(Stops, Stops)> {
-    let stops = Stops::new(alloc).ok()?;
-    if has_others {
-        stops.add();
-    }
-    match stops.share() {
-        Ok(shared) => Some((stops, shared)),
+    match opened(&folder) {
+        Ok((inbox, stops)) => put_steps(
+            Foldered {
+                folder,
+                inbox,
+                stops,
+            },
+            steps,
+            out,
+        ),
         Err(_) => {
-            drop(stops);
-            None
+            out.put("can't be opened");
+            true
         }
     }
 }
 
-fn put_opened(
-    folder: Folder<'_>,
-    alloc: Global,
-    stops: Stops,
-    shared: Stops,
-    steps: &str,
-    out: &mut Said,
-) -> bool {
-    let path = folder.path.as_str();
-    match FolderInbox::open(folder.rt, Heard::new(alloc), shared, alloc, path.as_bytes()) {
-        Ok(inbox) => {
-            let arriving = Arriving { alloc, inbox, path };
-            put_steps(
-                Foldered {
-                    arriving,
-                    folder,
-                    stops,
-                },
-                steps,
-                out,
-            )
-        }
+// The inbox of a folder, and what it shares with other folders.
+fn opened<R: rt::Files + rt::Clock + Copy + Drop + Send>(
+    folder: &Folder<'_, R>,
+) -> Result<(FolderInbox<R, Heard>, Stops), Fail<Failed>> {
+    let alloc = folder.alloc;
+    let stops = Stops::new(alloc)?;
+    match FolderInbox::open(
+        folder.rt,
+        Heard::new(alloc),
+        stops.share()?,
+        alloc,
+        folder.path.as_bytes(),
+    ) {
+        Ok(inbox) => Ok((inbox, stops)),
         Err(fail) => {
             drop(stops);
-            put_unopened(fail, out)
+            Err(fail)
         }
     }
 }
 
-fn put_unopened(fail: Fail<Failed>, out: &mut Said) -> bool {
-    match fail {
-        Fail::Fault(Failed) => out.put("can't be opened"),
-        Fail::NoMemory => out.run_short(),
+// A folder, its inbox, and what it shares with other folders.
+#[derive(Drop)]
+struct Foldered<'a, R: rt::Files + rt::Clock + Drop> {
+    folder: Folder<'a, R>,
+    inbox: FolderInbox<R, Heard>,
+    stops: Stops,
+}
+
+// `next`; `said` for the lines since the last one; steps on a name; what another folder does; changes.
+impl<R: rt::Files + rt::Clock + Copy + Drop + Send> Stepped for Foldered<'_, R> {
+    fn put_step(&mut self, line: &str, out: &mut Said) -> bool {
+        match line.split_once(' ') {
+            Some((word, words)) => {
+                put_named(self.folder.alloc, &mut self.inbox, word, words, out)
+                    || change_others(&self.stops, line)
+                    || self.folder.change(word, words, out)
+            }
+            None if line == "said" => {
+                self.inbox.teller().put_lines(self.folder.path, out);
+                true
+            }
+            None => line == "next" && put_next(self.folder.alloc, &mut self.inbox, out),
+        }
     }
+}
+
+// Appends what a step on a name does: `fetch LIMIT NAME`, `settle VERDICT NAME`.
+fn put_named<I: Judged>(
+    alloc: Global,
+    inbox: &mut I,
+    word: &str,
+    words: &str,
+    out: &mut Said,
+) -> bool {
+    match (word, words.split_once(' ')) {
+        ("fetch", Some((limit, name))) => put_fetched(alloc, inbox, limit, name, out),
+        ("settle", Some((word, name))) => match verdict_of(word) {
+            Some(verdict) => inbox.settles(name.as_bytes(), verdict),
+            None => false,
+        },
+        _ => false,
+    }
+}
+
+fn put_next<I: Inbox>(alloc: Global, inbox: &mut I, out: &mut Said) -> bool {
+    let next = inbox.next(alloc);
+    match &next {
+        Ok(Arrival::Name(name)) => put_shown_line(name.as_slice(), out),
+        Ok(Arrival::Idle) => out.put("nothing yet\n"),
+        Ok(Arrival::Done) => out.put("done\n"),
+        Err(_) => out.put("fault\n"),
+    }
+    drop(next);
     true
 }
 
-// An inbox, its folder, and what it shares with other folders.
-#[derive(Drop)]
-struct Foldered<'a, I> {
-    arriving: Arriving<'a, I>,
-    folder: Folder<'a>,
-    stops: Stops,
+fn put_fetched<I: Inbox>(
+    alloc: Global,
+    inbox: &mut I,
+    limit: &str,
+    name: &str,
+    out: &mut Said,
+) -> bool {
+    let Ok(limit) = limit.parse::<u64>() else {
+        return false;
+    };
+    let found = inbox.fetch(alloc, name.as_bytes(), limit);
+    put_found(&found, out);
+    drop(found);
+    true
 }
 
-impl<I: Watched> Stepped for Foldered<'_, I> {
-    fn put_step(&mut self, line: &str, out: &mut Said) -> bool {
-        self.arriving.put_step(line, out)
-            || change_others(&self.stops, line)
-            || self.folder.put_step(line, out)
+// An inbox that takes a verdict on any name.
+trait Judged: Inbox {
+    // It is false where that fails.
+    fn settles(&mut self, name: &[u8], verdict: Verdict) -> bool;
+}
+
+impl<R: rt::Files + rt::Clock + Drop + Send> Judged for FolderInbox<R, Heard> {
+    fn settles(&mut self, name: &[u8], verdict: Verdict) -> bool {
+        self.settle(name, verdict).is_ok()
     }
 }
 
-// What another folder does: it stops, or goes on.
+// The verdict that a word says.
+fn verdict_of(word: &str) -> Option<Verdict> {
+    match word {
+        "published" => Some(Verdict::Published(1)),
+        "refused" => Some(Verdict::Refused(62)),
+        "full" => Some(Verdict::Full(1)),
+        "not-held" => Some(Verdict::NotHeld(1)),
+        "gone" => Some(Verdict::Gone),
+        "short" => Some(Verdict::Short),
+        _ => None,
+    }
+}
+
+// What another folder does: it comes, stops, or goes on.
 fn change_others(stops: &Stops, line: &str) -> bool {
     match line {
+        "other comes" => stops.add(),
         "other stops" => stops.stop(),
         "other goes on" => stops.go_on(),
         _ => return false,
@@ -151,59 +221,37 @@ fn change_others(stops: &Stops, line: &str) -> bool {
 }
 
 // A folder of a machine.
-#[derive(Clone, Copy)]
-struct Folder<'a> {
-    rt: HostRuntime,
-    path: &'a PathBuf,
+#[derive(Drop)]
+struct Folder<'a, R: rt::Files + Drop> {
+    rt: R,
+    alloc: Global,
+    path: &'a str,
 }
 
-// `read LIMIT NAME` as the machine's files do, and changes.
-impl Stepped for Folder<'_> {
-    fn put_step(&mut self, line: &str, out: &mut Said) -> bool {
-        match line.split_once(' ') {
-            Some(("read", words)) => self.put_read(words, out),
-            Some((word, name)) => self.change(word, name, out),
-            None => false,
+impl<R: rt::Files + Drop> Folder<'_, R> {
+    // Puts a file there, or makes a folder whose name ends in a slash.
+    fn begin(&self, name: &str, out: &mut Said) -> bool {
+        match name.strip_suffix('/') {
+            Some(name) => self.change("mkdir", name, out),
+            None => self.change("put", name, out),
         }
     }
-}
 
-impl Folder<'_> {
-    // The path of a name.
-    fn path_of(self, name: &str) -> Option<PathBuf> {
-        self.path.join(self.rt.alloc(), name).ok()
-    }
-
-    // Changes what lies there, or looks at it. It is false where that fails.
-    fn change(self, word: &str, name: &str, out: &mut Said) -> bool {
-        let Some(path) = self.path_of(name) else {
+    // Changes what lies under a name, or looks at it. It is false where that fails.
+    fn change(&self, word: &str, name: &str, out: &mut Said) -> bool {
+        let Ok(path) = format!(in self.alloc; "{}/{name}", self.path) else {
             return false;
         };
         let changed = change_at(&self.rt, word, name, path.as_str(), out);
         drop(path);
         changed.is_ok()
     }
-
-    // Appends what is read of a file: `LIMIT NAME`. It is false where words say something else.
-    fn put_read(self, words: &str, out: &mut Said) -> bool {
-        let Some((limit, name)) = words.split_once(' ') else {
-            return false;
-        };
-        match (limit.parse::<u64>(), self.path_of(name)) {
-            (Ok(limit), Some(path)) => {
-                let known = put_content(&self.rt, path.as_str(), limit, out);
-                drop(path);
-                known
-            }
-            _ => false,
-        }
-    }
 }
 
 // Does what a word says at the path of a name: `put`, a file that has its name as its content; `link`, a link to
 // `source`; `remove`; `mkdir`; `rmdir`; `has`.
-fn change_at(
-    rt: &HostRuntime,
+fn change_at<R: rt::Files>(
+    rt: &R,
     word: &str,
     name: &str,
     path: &str,
@@ -211,44 +259,21 @@ fn change_at(
 ) -> io::Result<()> {
     match word {
         "put" => fs::write(rt, path, name.as_bytes()),
-        "link" => symlink(rt, "source", path),
-        "remove" => fs::remove_file(rt, path),
-        "mkdir" => fs::create_dir(rt, path),
-        "rmdir" => fs::remove_dir(rt, path),
+        "link" => rt.symlink("source", path),
+        "remove" => rt.remove_file(path),
+        "mkdir" => rt.create_dir(path),
+        "rmdir" => rt.remove_dir(path),
         "has" => put_there(rt, path, out),
         _ => Err(Error::from(ErrorKind::Unsupported)),
     }
 }
 
 // Appends whether anything lies at a path, as a link does that leads nowhere.
-fn put_there(rt: &HostRuntime, path: &str, out: &mut Said) -> io::Result<()> {
-    match fs::symlink_metadata(rt, path) {
+fn put_there<R: rt::Files>(rt: &R, path: &str, out: &mut Said) -> io::Result<()> {
+    match rt.symlink_metadata(path) {
         Ok(_) => out.put("there\n"),
         Err(error) if error.kind() == ErrorKind::NotFound => out.put("not there\n"),
         Err(error) => return Err(error),
     }
     Ok(())
-}
-
-// Appends what is read of the file at a path, in which `\xNN` is a byte.
-fn put_content(rt: &HostRuntime, path: &str, limit: u64, out: &mut Said) -> bool {
-    match bytes(rt.alloc(), path) {
-        Ok(Some(path)) => {
-            put_read_at(rt, path.as_slice(), limit, out);
-            drop(path);
-            true
-        }
-        _ => false,
-    }
-}
-
-fn put_read_at(rt: &HostRuntime, path: &[u8], limit: u64, out: &mut Said) {
-    let mut files = RealFiles::new(*rt);
-    let found = files.read(rt.alloc(), path, limit);
-    match &found {
-        Ok(Found::Content(content)) => put_shown_line(content.as_slice(), out),
-        Err(Fail::Fault(_)) => put_fault(files.faults(), out),
-        _ => put_found(&found, out),
-    }
-    drop(found);
 }

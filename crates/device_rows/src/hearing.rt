@@ -1,10 +1,10 @@
 //! What inboxes and clocks tell.
 
-use dev_host::{FolderInbox, RealClock, Tell};
+use dev_host::Tell;
 use row_text::Said;
 use std::alloc::{AllocError, Global};
 use std::cell::Cell;
-use std::{rt, str};
+use std::str;
 
 // The lines that were told since they were put out last.
 #[derive(Drop)]
@@ -21,42 +21,33 @@ impl Heard {
         }
     }
 
-    // Appends the lines, or `nothing said`. The path of a row's folder is left out.
-    pub fn put_lines(&self, folder: &str, out: &mut Said) {
-        match self.lines.take() {
-            Some(lines) => put_inside(lines, folder, out),
-            None => out.put("nothing said\n"),
-        }
-    }
-
     // Appends the lines as they are.
     pub fn put_all(&self, out: &mut Said) {
         if let Some(lines) = self.lines.take() {
             out.put_said(lines);
         }
     }
+
+    // Appends the lines, in which a folder at a path is `in`, or `nothing said`.
+    pub fn put_lines(&self, path: &str, out: &mut Said) {
+        match self.lines.take() {
+            Some(lines) => {
+                put_inside(self.alloc, lines.as_str(), path, out);
+                drop(lines);
+            }
+            None => out.put("nothing said\n"),
+        }
+    }
 }
 
-// Appends lines without the path of a folder.
-fn put_inside(lines: Said, folder: &str, out: &mut Said) {
-    match lines.text() {
-        Ok(text) => put_each(text.as_str(), folder, out),
+fn put_inside(alloc: Global, lines: &str, path: &str, out: &mut Said) {
+    match lines.replace(alloc, path, "in") {
+        Ok(lines) => {
+            out.put(lines.as_str());
+            drop(lines);
+        }
         Err(AllocError) => out.run_short(),
     }
-}
-
-fn put_each(lines: &str, folder: &str, out: &mut Said) {
-    for line in lines.lines() {
-        put_inside_line(line.split_once(folder).unwrap_or(("", line)), out);
-    }
-}
-
-// Appends a line that has these parts before and behind the path.
-fn put_inside_line((word, rest): (&str, &str), out: &mut Said) {
-    out.put(word);
-    out.put("in");
-    out.put(rest);
-    out.put("\n");
 }
 
 // Adds a line to these. A part that isn't text is left out.
@@ -67,23 +58,6 @@ fn add(lines: &mut Said, line: &[&[u8]]) {
         }
     }
     lines.put("\n");
-}
-
-/// What has its lines heard.
-pub(crate) trait Telling {
-    fn heard(&self) -> Option<&Heard>;
-}
-
-impl<R: rt::Files + rt::Clock + Drop> Telling for FolderInbox<R, Heard> {
-    fn heard(&self) -> Option<&Heard> {
-        Some(self.teller())
-    }
-}
-
-impl<R: rt::Clock + Drop> Telling for RealClock<R, Heard> {
-    fn heard(&self) -> Option<&Heard> {
-        self.teller()
-    }
 }
 
 impl Tell for Heard {

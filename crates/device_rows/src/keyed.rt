@@ -5,24 +5,13 @@ use dev_host::Wheel;
 use row_text::Said;
 use std::alloc::Global;
 
-/// Puts what a wheel with room for the keys up to 9 does, from a second on: `put KEY SECOND` puts a key in,
-/// `pop SECOND` takes one out, `clear` takes out all, `due` is the first second at which one is due, `hurry` has all
-/// due at once.
+/// Puts what a wheel does from a second on: `room KEY` makes room for the keys up to this, `put KEY SECOND` puts a key
+/// in, `pop SECOND` takes one out, `clear` takes out all, `due` is the first second at which one is due, `hurry` has
+/// all due at once.
 pub fn put_wheel(alloc: Global, second: &str, steps: &str, out: &mut Said) -> bool {
-    match wheel_of(alloc, second) {
-        Some(wheel) => put_steps(wheel, steps, out),
-        None => false,
-    }
-}
-
-fn wheel_of(alloc: Global, second: &str) -> Option<Wheel> {
-    let mut wheel = Wheel::new(alloc, second.parse::<u64>().ok()?);
-    match wheel.make_room(9) {
-        Ok(()) => Some(wheel),
-        Err(_) => {
-            drop(wheel);
-            None
-        }
+    match second.parse::<u64>() {
+        Ok(second) => put_steps(Wheel::new(alloc, second), steps, out),
+        Err(_) => false,
     }
 }
 
@@ -33,6 +22,7 @@ impl Stepped for Wheel {
             ("hurry", None) => self.hurry(),
             ("clear", None) => self.clear(),
             ("pop", Some(second)) => put_popped(self.pop(second), out),
+            ("room", Some(key)) => return self.make_room(key as usize).is_ok(),
             (word, Some(second)) => return put_key(self, word, second),
             _ => return false,
         }

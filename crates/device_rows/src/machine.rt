@@ -1,14 +1,12 @@
-//! Plays over the loopback device of the machine, and facts of what it opens.
+//! Plays over the loopback device of the machine.
 
 mod clients;
 mod dialled;
 mod doors;
-mod facts;
 mod links;
 mod opened;
 mod play;
 mod timed;
 mod ways;
 
-pub(crate) use facts::put_fact;
 pub(crate) use play::put_play;

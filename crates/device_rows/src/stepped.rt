@@ -7,15 +7,11 @@ use std::fmt::Display;
 pub(crate) trait Stepped {
     /// Appends lines of what a step does. It is false where a line says none.
     fn put_step(&mut self, line: &str, out: &mut Said) -> bool;
-
-    /// Appends lines of what is to be said behind the last step.
-    fn put_end(&self, _out: &mut Said) {}
 }
 
 /// Appends what the steps of a device do. It is false where a line says none.
 pub(crate) fn put_steps<D: Stepped + Drop>(mut device: D, steps: &str, out: &mut Said) -> bool {
     let known = put_each(&mut device, steps, out);
-    device.put_end(out);
     drop(device);
     out.pop();
     known

@@ -7,32 +7,21 @@ use std::io::{self, Error, ErrorKind, Read, Write};
 use std::rt;
 use std::time::Duration;
 
-// What one call does.
-#[derive(Clone, Copy)]
-pub(crate) enum Turn {
-    // all the room is filled, or all the bytes are taken
-    All,
-    // one byte
-    One,
-    // no byte
-    Nothing,
-    Fails(ErrorKind),
-    // It fails with this number of the system.
-    Number(i32),
-}
+// How many bytes a call takes at most, or how it fails.
+pub(crate) type Turn = io::Result<usize>;
 
 // The turn that a word says.
 fn turn_of(word: &str) -> Option<Turn> {
     Some(match word {
-        "all" => Turn::All,
-        "one" => Turn::One,
-        "none" => Turn::Nothing,
-        "later" => Turn::Fails(ErrorKind::WouldBlock),
-        "interrupted" => Turn::Fails(ErrorKind::Interrupted),
-        "aborted" => Turn::Fails(ErrorKind::ConnectionAborted),
-        "reset" => Turn::Fails(ErrorKind::ConnectionReset),
-        "broken" => Turn::Fails(ErrorKind::BrokenPipe),
-        number => Turn::Number(number.parse::<i32>().ok()?),
+        "all" => Ok(usize::MAX),
+        "one" => Ok(1),
+        "none" => Ok(0),
+        "later" => Err(Error::from(ErrorKind::WouldBlock)),
+        "interrupted" => Err(Error::from(ErrorKind::Interrupted)),
+        "aborted" => Err(Error::from(ErrorKind::ConnectionAborted)),
+        "reset" => Err(Error::from(ErrorKind::ConnectionReset)),
+        "broken" => Err(Error::from(ErrorKind::BrokenPipe)),
+        number => Err(Error::from_raw_os_error(number.parse::<i32>().ok()?)),
     })
 }
 
@@ -50,24 +39,12 @@ fn add_turn(word: &str, turns: &mut Vec<Turn>) -> Option<()> {
     turns.push(turn_of(word)?).ok()
 }
 
-// The bytes, at most `most`, that a turn takes.
-fn taken(turn: Turn, most: usize) -> io::Result<usize>
-    ensures { IfOk result (λ count. count ≤ most) }
-{
-    match turn {
-        Turn::All => Ok(most),
-        Turn::One => Ok(most.min(1)),
-        Turn::Nothing => Ok(0),
-        Turn::Fails(kind) => Err(Error::from(kind)),
-        Turn::Number(number) => Err(Error::from_raw_os_error(number)),
-    }
-}
-
-// Turns that calls do, one after the other. After the last one it is done again.
+// A stream or a listener whose calls do turns, one after the other. After the last one it is done again.
 #[derive(Drop)]
 pub(crate) struct Turns<'a> {
     turns: &'a [Turn],
     index: Cell<usize>,
+    ended: Cell<Option<usize>>,
 }
 
 impl<'a> Turns<'a> {
@@ -75,14 +52,21 @@ impl<'a> Turns<'a> {
         Turns {
             turns,
             index: Cell::new(0),
+            ended: Cell::new(None),
         }
     }
 
-    // How many bytes the next call takes, at most `most`.
-    pub(crate) fn take(&self, most: usize) -> io::Result<usize>
+    // After how many turns the side that sends was closed.
+    pub(crate) fn ended(&self) -> Option<usize> {
+        self.ended.get()
+    }
+
+    // How many bytes the next call moves, at most `most`.
+    fn moved(&self, most: usize) -> io::Result<usize>
         ensures { IfOk result (λ count. count ≤ most) }
     {
-        taken(self.next(), most)
+        let count = self.next()?;
+        Ok(count.min(most))
     }
 
     fn next(&self) -> Turn {
@@ -92,53 +76,32 @@ impl<'a> Turns<'a> {
                 self.index.set(at.saturating_add(1));
                 *turn
             }
-            None => self.turns.last().copied().unwrap_or(Turn::Nothing),
+            None => self.turns.last().copied().unwrap_or(Ok(0)),
         }
     }
 }
 
-// Accepts: one that takes bytes gives a connection.
+// An accept that takes bytes gives a connection.
 impl Listener for Turns<'_> {
     type Stream = u8;
 
     fn next_stream(&self) -> io::Result<u8> {
-        self.take(1)?;
+        self.moved(1)?;
         Ok(b'x')
     }
 }
 
-// A stream whose reads and writes do turns.
-#[derive(Drop)]
-pub(crate) struct Stream<'a> {
-    turns: Turns<'a>,
-    ended: Cell<Option<usize>>,
-}
-
-impl<'a> Stream<'a> {
-    pub(crate) fn new(turns: &'a [Turn]) -> Stream<'a> {
-        Stream {
-            turns: Turns::new(turns),
-            ended: Cell::new(None),
-        }
-    }
-
-    // After how many turns the side that sends was closed.
-    pub(crate) fn ended(&self) -> Option<usize> {
-        self.ended.get()
-    }
-}
-
-impl Read for Stream<'_> {
+impl Read for Turns<'_> {
     fn read(&mut self, buf: &mut [u8]) -> io::Result<usize> {
-        let count = self.turns.take(buf.len())?;
+        let count = self.moved(buf.len())?;
         buf[..count].fill(b'x');
         Ok(count)
     }
 }
 
-impl Write for Stream<'_> {
+impl Write for Turns<'_> {
     fn write(&mut self, buf: &[u8]) -> io::Result<usize> {
-        self.turns.take(buf.len())
+        self.moved(buf.len())
     }
 
     fn flush(&mut self) -> io::Result<()> {
@@ -146,43 +109,26 @@ impl Write for Stream<'_> {
     }
 }
 
-impl Socket for Stream<'_> {
+impl Socket for Turns<'_> {
     fn send_at_once(&self) -> io::Result<()> {
         Ok(())
     }
 
     fn end_sending(&self) -> io::Result<()> {
-        self.ended.set(Some(self.turns.index.get()));
+        self.ended.set(Some(self.index.get()));
         Ok(())
     }
 }
 
-// A clock that goes on by `step` milliseconds each time that it is read.
+// A clock that is set to a moment, in milliseconds.
 #[derive(Drop)]
-pub(crate) struct Ticking {
-    step: u64,
-    now: Cell<u64>,
+pub(crate) struct Hand {
+    pub now: Cell<u64>,
 }
 
-impl Ticking {
-    pub(crate) fn new(step: u64) -> Ticking {
-        Ticking {
-            step,
-            now: Cell::new(0),
-        }
-    }
-
-    // Goes on to a moment, in milliseconds.
-    pub(crate) fn set(&self, now: u64) {
-        self.now.set(now);
-    }
-}
-
-impl rt::Clock for Ticking {
+impl rt::Clock for Hand {
     fn monotonic(&self) -> io::Result<Duration> {
-        let now = self.now.get();
-        self.now.set(now.saturating_add(self.step));
-        Ok(Duration::from_millis(now))
+        Ok(Duration::from_millis(self.now.get()))
     }
 
     fn since_1970(&self) -> io::Result<Duration> {

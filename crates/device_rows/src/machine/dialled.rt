@@ -1,7 +1,7 @@
 //! A dialer of the machine, and its link.
 
 use crate::calls::{put_call, put_fault};
-use crate::stepped::{put_number_line, word_and_number};
+use crate::stepped::word_and_number;
 use dev_host::{DialledLink, TcpDial};
 use dev_traits::Dial;
 use row_text::{Said, bytes};
@@ -28,7 +28,7 @@ pub(crate) fn put_dial_step(
     match step.split_once(' ').unwrap_or((step, "")) {
         ("dial", words) => put_dial(rt, address, dialled, words, out).is_some(),
         ("dialled", call) => put_dialled(dialled, call, out),
-        ("hang", "up") => hang_up(dialled, out),
+        ("hang", "up") => hang_up(dialled),
         _ => false,
     }
 }
@@ -83,13 +83,12 @@ fn put_dialled(dialled: &mut Option<Dialled>, call: &str, out: &mut Said) -> boo
     }
 }
 
-// Gives the link back. The line says how many dials failed.
-fn hang_up(dialled: &mut Option<Dialled>, out: &mut Said) -> bool {
+// Gives the link back.
+fn hang_up(dialled: &mut Option<Dialled>) -> bool {
     let Some(Dialled { mut dial, link }) = dialled.take() else {
         return false;
     };
     dial.done(link);
-    put_number_line("faults of the dialer: ", dial.faults(), out);
     drop(dial);
     true
 }

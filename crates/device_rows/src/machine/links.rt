@@ -1,7 +1,6 @@
 //! Links that come through doors.
 
 use crate::calls::{put_call, put_fault, put_taken};
-use crate::stepped::put_number_line;
 use dev_traits::{Coming, Door, Failed, Link, Sent, Taken};
 use row_text::Said;
 
@@ -111,12 +110,5 @@ fn put_filled<D: Door>(door: &mut D, key: usize, link: &mut D::L, most: u32, out
         out.put("later\n");
     } else {
         put_fault(link.faults(), out);
-    }
-}
-
-// Appends how many calls of each door have failed.
-pub(crate) fn put_faults<D: Door>(doors: &[D], out: &mut Said) {
-    for door in doors {
-        put_number_line("faults: ", door.faults(), out);
     }
 }

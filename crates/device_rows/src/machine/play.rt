@@ -35,10 +35,6 @@ impl<P: Stepped> Stepped for Lines<P> {
         drop(before);
         known
     }
-
-    fn put_end(&self, out: &mut Said) {
-        self.play.put_end(out);
-    }
 }
 
 // How often the steps of a line are done, and the steps: `COUNT times STEP; STEP` says how often, other lines are done
@@ -104,10 +100,6 @@ struct Play {
 impl Stepped for Play {
     fn put_step(&mut self, step: &str, out: &mut Said) -> bool {
         self.ways.put_step(step, out) || self.peers.put_step(self.ways.address(), step, out)
-    }
-
-    fn put_end(&self, out: &mut Said) {
-        self.ways.put_end(out);
     }
 }
 

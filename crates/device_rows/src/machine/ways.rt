@@ -1,7 +1,7 @@
 //! Doors of the machine, and the links that come through them.
 
 use super::doors::{last_address, put_door_step};
-use super::links::{put_faults, put_link_step};
+use super::links::put_link_step;
 use super::opened::put_open_step;
 use crate::stepped::Stepped;
 use dev_host::{Collections, HostOpener, RealOpener, TcpDoor, TcpLink, Teller};
@@ -43,7 +43,7 @@ impl Ways {
     fn put_open(&mut self, step: &str, out: &mut Said) -> bool {
         let address = self.address();
         put_open_step(
-            self.rt.alloc(),
+            self.rt,
             &mut self.opener,
             &mut self.doors,
             address,
@@ -59,10 +59,6 @@ impl Stepped for Ways {
             || put_link_step(&mut self.doors, &mut self.links, step, out)
             || put_way_step(&mut self.doors, &mut self.links, step, out)
             || self.put_open(step, out)
-    }
-
-    fn put_end(&self, out: &mut Said) {
-        put_faults(self.doors.as_slice(), out);
     }
 }
 
