@@ -64,8 +64,9 @@ BODIES = [
         "self.tally.files >= 1_000", "        let gone = self.gone(alloc, op)?;\n")),
     Body("operations_after_10000", "pub_snap/src/desk/publishing.rt", *before(
         "self.revision() >= 10_000", "        let edition = self.edition().after(alloc, &op)?;\n")),
-    Body("looks_after_10000", "pub_look/src/plain.rt", *before(
-        "self.looks.len() >= 10_000", "        self.looks.push(revision)?;\n", ENDS_PLAINLY)),
+    # A connection has at most 10,000 requests, so no run makes more looks.
+    Body("the_look_after_9999", "pub_look/src/plain.rt", *before(
+        "self.looks.len() >= 9_999", "        self.looks.push(revision)?;\n", ENDS_PLAINLY)),
     Body("steps_after_100", "srv_words/src/steps.rt", *before(
         "words.len() > 100", "    let mut steps = List::new(alloc);\n    for word in words {\n")),
     Body("workers_after_20", "srv_workers/src/workers.rt", *before(
