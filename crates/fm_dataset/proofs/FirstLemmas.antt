@@ -51,7 +51,8 @@ find-none p [] fails = refl
 find-none p (x ∷ xs) fails = rw (fails x) (find-none p xs fails)
 
 -- no variable is the coordinate variable of a dimension past the last
-past-fails : (proto : Proto) (id : ℕ) → length proto.dims ≤ id → (var : ProtoVar) → is_coordinate_of proto id var ≡ false
+past-fails : (proto : Proto) (id : ℕ) → length proto.dims ≤ id → (var : ProtoVar)
+    → is_coordinate_of proto id var ≡ false
 unfolding is_coordinate_of is_coordinate is_named
 past-fails proto id past var = by_dims var.dims refl
   where
