@@ -72,6 +72,13 @@ unfolding holds part
 holds-part files name = any-within (λ (f : Loaded). bytes_eq f.name name) (selects Name (code_of name))
     (λ f same. of_code name f same) files
 
+-- a name is held by a file of the pieces, or by one of the last
+pub holds-files : (pieces : List (List Loaded)) (last : List Loaded) (name : List ℕ)
+    → (list_any (λ (piece : List Loaded). holds piece name) pieces || holds last name)
+    ≡ holds (joined pieces ++ last) name
+unfolding holds
+holds-files pieces last name = any-files (λ f. bytes_eq f.name name) pieces last
+
 -- what a put takes out, by the files near its name
 pub gone-near_put : (files near : List Loaded) (op : Op) (file : Loaded) → op ≡ Put file → IsNear files op near
     → gone near op ≡ gone files op
