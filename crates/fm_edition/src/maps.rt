@@ -25,12 +25,12 @@ mod walk;
 mod wanted;
 
 use crate::counting;
+use files::Files;
 use fm_base::{Arc, Fail, List, NoMemory};
 use fm_list::Placed;
 use fm_model::{Full, Loaded, Op, Proto, Tally};
 use fm_rows::Rows;
 use index::{Index, no_maps};
-use files::Files;
 use named::{files_named, near};
 use roll::Roll;
 use std::alloc::Global;

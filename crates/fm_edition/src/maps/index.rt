@@ -106,7 +106,14 @@ impl Edition {
     {
         let times = instants_in(alloc, By::Time, changed)?;
         let by_run = map_after(alloc, &self.index.by_run, By::Run, changed, went, op)?;
-        let by_time = after_change(alloc, &self.index.by_time, By::Time, times.as_slice(), went, op)?;
+        let by_time = after_change(
+            alloc,
+            &self.index.by_time,
+            By::Time,
+            times.as_slice(),
+            went,
+            op,
+        )?;
         let by_name = map_after(alloc, &self.index.by_name, By::Name, changed, went, op)?;
         let best = best_after(alloc, &self.index.best, &by_time, times.as_slice())?;
         Ok(Index {
