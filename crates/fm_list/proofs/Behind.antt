@@ -1,5 +1,5 @@
 -- What is found in some files and others behind them.
-use Rattle.std.proofs.Common.{◌≡◌, Bool, true, false, cond, List, [], ◌∷◌, ◌++◌, Option, Some, None, ℤ, refl, ap, sym, ◌∙◌}
+use Rattle.std.proofs.Common.{◌≡◌, ℕ, zero, suc, ◌+◌, Bool, true, false, cond, List, [], ◌∷◌, ◌++◌, get_or, length, Option, Some, None, ℤ, refl, ap, sym, ◌∙◌, arith}
 use Rattle.std.specs.Prelude.{◌&&◌}
 use Rattle.std.specs.Option.{option_map, option_or}
 use Rattle.fm_model.specs.declared.loaded.Loaded.{Loaded}
@@ -59,7 +59,11 @@ rise-behind before (file ∷ files) more =
     (rise_behind (last_run (Some file.run) files) more)
 
 -- the last file tells the run
-pub last_run-last : (before : Option ℤ) (files : List Loaded) (file : Loaded)
-    → last_run before (files ++ file ∷ []) ≡ Some file.run
-last_run-last before [] file = refl
-last_run-last before (first ∷ files) file = last_run-last (Some first.run) files file
+pub last_run-at : (before : Option ℤ) (files : List Loaded) (i : ℕ) (file : Loaded) → i + 1 ≡ length files
+    → file ≡ get_or files i file → last_run before files ≡ Some file.run
+last_run-at before [] i file last is = absurd (omega (arith, last))
+last_run-at before (first ∷ []) zero file last is = ap (λ (f : Loaded). Some f.run) (sym is)
+last_run-at before (first ∷ []) (suc i) file last is = absurd (omega (arith, last))
+last_run-at before (first ∷ second ∷ files) zero file last is = absurd (omega (arith, last))
+last_run-at before (first ∷ second ∷ files) (suc i) file last is =
+    last_run-at (Some first.run) (second ∷ files) i file (omega (arith, last)) is

@@ -1,6 +1,5 @@
 -- What is found among the last files, or else in the pieces.
-use Rattle.std.proofs.Common.{◌≡◌, ◌++◌, List, Some, None, refl, rules, ap, subst, sym, ◌∙◌, SFits, w64}
-use Rattle.std.specs.Prelude.{IsNone}
+use Rattle.std.proofs.Common.{◌≡◌, ◌++◌, List, refl, rules, ap, sym, ◌∙◌, SFits, w64}
 use Rattle.std.proofs.lemmas.Int.{to_z-of_z}
 use Rattle.fm_model.specs.declared.loaded.Loaded.{Loaded}
 use Rattle.fm_model.specs.Cell.{cell}

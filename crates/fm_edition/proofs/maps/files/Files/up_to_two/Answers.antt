@@ -1,5 +1,5 @@
 -- One more piece, and the last files.
-use Rattle.std.proofs.Common.{◌≡◌, ◌+◌, ◌≤◌, List, length, min, take, ap, sym, arith, ◌∙◌}
+use Rattle.std.proofs.Common.{◌≡◌, ◌+◌, ◌≤◌, List, length, min, take, ap, refl, sym, arith, ◌∙◌}
 use Rattle.std.proofs.lemmas.List.{length-append, take_all}
 use Rattle.fm_model.specs.declared.loaded.Loaded.{Loaded}
 use Rattle.fm_edition.specs.Pieces.{joined}
@@ -7,7 +7,7 @@ use Rattle.fm_edition.proofs.PieceLemmas.{joined-more}
 use Rattle.fm_edition.proofs.maps.files.Files.up_to_two.Goals as goal
 
 pub loop-piece-init : goal.loop-piece-init
-loop-piece-init c = omega arith
+loop-piece-init c = refl
 
 pub up_to_two-count-requires : goal.up_to_two-count-requires
 up_to_two-count-requires c = omega (arith, c.loop-piece.invariant)

@@ -1,10 +1,10 @@
 -- The walk from the last piece stops at the first in which something is found.
-use Rattle.std.proofs.Common.{◌≡◌, ◌-◌, List, Some, None, refl, rules, arith, ap, subst, sym, ◌∙◌, SFits, w64}
-use Rattle.std.specs.Prelude.{IsNone}
+use Rattle.std.proofs.Common.{◌≡◌, ◌-◌, List, None, rules, arith, ap, sym, ◌∙◌, SFits, w64}
+use Rattle.std.specs.Prelude.{is_some}
 use Rattle.std.proofs.lemmas.Int.{to_z-of_z}
 use Rattle.fm_model.specs.declared.loaded.Loaded.{Loaded}
 use Rattle.fm_model.specs.Cell.{cell}
-use Rattle.fm_list.specs.Selected.{AreSound, HasSoundTimes}
+use Rattle.fm_list.specs.Selected.{HasSoundTimes}
 use Rattle.fm_edition.specs.Pieces.{joined}
 use Rattle.fm_edition.proofs.FoundLemmas.{found-from, found-none, found-passed, found-piece, FindsLast-cell}
 use Rattle.fm_edition.proofs.PieceLemmas.{all_piece, in_pieces}
@@ -43,7 +43,7 @@ loop-before-preserved c =
     let pieces = c.args.pieces.now in
     let piece = c.index-pieces-before.result in
     let find = λ (files : List Loaded). cell files c.args.run c.args.valid in
-    let missing = simp to_z-of_z at (c.cell_of.ensures.none (subst (λ o. IsNone o) (sym c.in_default.is) refl)) in
+    let missing = simp to_z-of_z at (c.cell_of.ensures.none (ap is_some c.in_default.is)) in
     let none = ap find (sym (c.as_slice-files.ensures ∙ c.get.ensures)) ∙ missing in
     record {
       within = omega (arith, c.loop-before.invariant.within);
