@@ -12,7 +12,9 @@ use Rattle.fm_edition.proofs.PieceLemmas.{all_first, all_last, all_piece, in_pie
 use Rattle.fm_edition.proofs.maps.files.Files.best.Goals as goal
 
 pub loop-piece-init : goal.loop-piece-init
-loop-piece-init c = best-none _ c.args.least
+loop-piece-init c =
+    let a : SFits w64 c.args.valid = search rules in
+    simp to_z-of_z (best-none c.args.valid c.args.least)
 
 pub best_behind-greatest-requires : goal.best_behind-greatest-requires
 best_behind-greatest-requires c =
@@ -32,9 +34,11 @@ loop-piece-preserved c =
     let pieces = c.self.inside.pieces.now in
     let i = c.loop-piece.piece-index in
     let piece = c.piece-item.result in
-    let step = c.best_behind-greatest.ensures (joined (take i pieces)) c.loop-piece.invariant in
-    ap (λ l. best l _ c.args.least) (joined-more pieces i piece c.loop-piece-test.true
-    ∙ ap (λ p. joined (take i pieces) ++ p) (sym (c.as_slice.ensures ∙ c.get.ensures ∙ c.piece-item.is))) ∙ step
+    let before = simp to_z-of_z at c.loop-piece.invariant in
+    let step = simp to_z-of_z at (c.best_behind-greatest.ensures (joined (take i pieces))) in
+    simp to_z-of_z (ap (λ l. best l c.args.valid c.args.least) (joined-more pieces i piece c.loop-piece-test.true
+    ∙ ap (λ p. joined (take i pieces) ++ p) (sym (c.as_slice.ensures ∙ c.get.ensures ∙ c.piece-item.is)))
+    ∙ step before)
 
 pub best_behind-requires : goal.best_behind-requires
 best_behind-requires c =
@@ -49,7 +53,8 @@ returns c =
     let a : SFits w64 c.args.valid = search rules in
     let pieces = c.self.inside.pieces.now in
     let last = c.self.inside.last.now in
-    let all = ap (λ l. best (joined l) _ c.args.least)
-    (sym (take_all c.loop-piece.piece-index pieces c.loop-piece-test.false)) ∙ c.loop-piece.invariant in
-    let step = simp to_z-of_z at (c.best_behind.ensures (joined pieces) all) in
-    sym step ∙ ap (λ l. best l c.args.valid c.args.least) c.self.view_is
+    let before = simp to_z-of_z at c.loop-piece.invariant in
+    let all = ap (λ l. best (joined l) c.args.valid c.args.least)
+    (sym (take_all c.loop-piece.piece-index pieces c.loop-piece-test.false)) ∙ before in
+    let step = simp to_z-of_z at (c.best_behind.ensures (joined pieces)) in
+    sym (step all) ∙ ap (λ l. best l c.args.valid c.args.least) c.self.view_is

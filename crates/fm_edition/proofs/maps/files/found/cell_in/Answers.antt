@@ -13,7 +13,11 @@ use Rattle.fm_edition.proofs.maps.files.found.cell_in.Goals as goal
 pub loop-before-init : goal.loop-before-init
 loop-before-init c = record {
   within = omega (arith, c.len-before.ensures);
-  same = found-from (λ files. cell files _ _) c.args.pieces.now _ c.len-before.ensures;
+  same =
+      let a : SFits w64 c.args.run = search rules in
+      let b : SFits w64 c.args.valid = search rules in
+      simp to_z-of_z (found-from (λ (files : List Loaded). cell files c.args.run c.args.valid) c.args.pieces.now
+      c.len-before.result c.len-before.ensures);
 }
 
 pub cell_of-requires : goal.cell_of-requires

@@ -9,7 +9,10 @@ use Rattle.fm_edition.proofs.maps.files.found.newest_in.Goals as goal
 pub loop-before-init : goal.loop-before-init
 loop-before-init c = record {
   within = omega (arith, c.len-before.ensures);
-  same = found-from (newest c.args.least _) c.args.pieces.now _ c.len-before.ensures;
+  same =
+      let a : SFits w64 c.args.valid = search rules in
+      simp to_z-of_z (found-from (newest c.args.least c.args.valid) c.args.pieces.now c.len-before.result
+      c.len-before.ensures);
 }
 
 pub returns-in-Some : goal.returns-in-Some
@@ -35,7 +38,8 @@ loop-before-preserved c =
     let piece = c.index-pieces-before.result in
     let found = simp to_z-of_z at c.newest.ensures in
     let none : newest c.args.least c.args.valid piece ≡ None =
-    ap (newest c.args.least c.args.valid) (sym (c.as_slice-files.ensures ∙ c.get.ensures)) ∙ sym found ∙ c.in_default.is in
+    ap (newest c.args.least c.args.valid) (sym (c.as_slice-files.ensures ∙ c.get.ensures)) ∙ sym found
+    ∙ c.in_default.is in
     record {
       within = omega (arith, c.loop-before.invariant.within);
       same = simp to_z-of_z (found-passed (newest c.args.least c.args.valid)
@@ -49,6 +53,6 @@ returns c =
     let a : SFits w64 c.args.valid = search rules in
     let same = simp to_z-of_z at c.loop-before.invariant.same in
     let pieces = c.args.pieces.now in
-    simp to_z-of_z (sym (found-none (newest c.args.least c.args.valid) (FindsLast-newest c.args.least c.args.valid) pieces
-    (newest c.args.least c.args.valid (joined pieces)) c.loop-before.before
+    simp to_z-of_z (sym (found-none (newest c.args.least c.args.valid)
+    (FindsLast-newest c.args.least c.args.valid) pieces (newest c.args.least c.args.valid (joined pieces)) c.loop-before.before
     (omega (arith, c.loop-before-test.false)) same))
