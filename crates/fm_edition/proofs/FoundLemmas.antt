@@ -47,7 +47,7 @@ passed_behind find is files more none = is.behind files more ∙ ap (λ o. optio
 -- the walk begins with all pieces
 pub found-from : {A : Type 0} (find : List Loaded → Option A) (pieces : List (List Loaded)) (before : ℕ)
     → before ≡ length pieces → find (joined (take before pieces)) ≡ find (joined pieces)
-found-from find pieces before all = ap (λ l. find (joined l)) (sym (take_all before pieces (omega (arith, all))))
+found-from find pieces before all = ap (λ l. find (joined l)) (take_all before pieces (omega (arith, all)))
 
 -- found in a piece
 pub found-piece : {A : Type 0} (find : List Loaded → Option A) → FindsLast find → (pieces : List (List Loaded))

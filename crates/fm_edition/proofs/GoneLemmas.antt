@@ -40,6 +40,10 @@ tally-gone files op at file lt is goes =
     ap tally (filter_next out files at file lt is ∙ ap (λ l. filter out (take at files) ++ l) one)
     ∙ added_is (filter out (take at files)) (Put file)
 
+-- an amount is its three numbers
+whole : (amount : Tally) → record { files = amount.files; rows = amount.rows; size = amount.size } ≡ amount
+whole amount = refl
+
 -- amounts with those of no files
 pub plus-none : (before : Tally) → plus before (tally []) ≡ before
 unfolding tally
@@ -47,7 +51,9 @@ plus-none before =
     let count : before.files + 0 ≡ before.files = omega arith in
     let rows : before.rows + 0 ≡ before.rows = omega arith in
     let size : before.size + 0 ≡ before.size = omega arith in
-    cc (count, rows, size)
+    let same : plus before (tally []) ≡ record { files = before.files; rows = before.rows; size = before.size } =
+    cc (count, rows, size) in
+    same ∙ whole before
 
 -- the amounts of two lists
 pub plus-append : (files more : List Loaded) → plus (tally files) (tally more) ≡ tally (files ++ more)
@@ -126,7 +132,13 @@ within_piece pieces last op at piece lt is within =
     none = record { files = 0; rows = 0; size = 0 }
 
     none_before : (left : Tally) → plus none left ≡ left
-    none_before left = refl
+    none_before left =
+        let count : 0 + left.files ≡ left.files = omega arith in
+        let rows : 0 + left.rows ≡ left.rows = omega arith in
+        let size : 0 + left.size ≡ left.size = omega arith in
+        let same : plus none left ≡ record { files = left.files; rows = left.rows; size = left.size } =
+        cc (count, rows, size) in
+        same ∙ whole left
 
     split : joined (take (at + 1) pieces) ++ (joined (drop (at + 1) pieces) ++ last) ≡ joined pieces ++ last
     split = sym (append_assoc (joined (take (at + 1) pieces)) (joined (drop (at + 1) pieces)) last)

@@ -1,5 +1,5 @@
 -- The files of a name are among those of its code.
-use Rattle.std.proofs.Common.{◌≡◌, ℕ, Bool, true, false, List, [], ◌∷◌, refl, sym, ap, subst}
+use Rattle.std.proofs.Common.{◌≡◌, ℕ, Bool, true, false, List, [], ◌∷◌, ◌++◌, refl, sym, ap, subst}
 use Rattle.std.specs.Prelude.{◌||◌, filter, not}
 use Rattle.std.specs.Cmp.{signed_Decides}
 use Rattle.std.specs.List.{list_any}
@@ -14,7 +14,8 @@ use Rattle.fm_list.specs.declared.by.By.TheVariants.{Name}
 use Rattle.fm_list.specs.Change.{gone, keeps}
 use Rattle.fm_list.specs.Code.{code_of}
 use Rattle.fm_list.specs.Selected.{part, selects}
-use Rattle.fm_edition.specs.Pieces.{IsNear}
+use Rattle.fm_edition.specs.Pieces.{joined, IsNear}
+use Rattle.fm_edition.proofs.PieceLemmas.{any-files}
 
 -- what passes of a selection that has each item that passes
 filter-within : {A : Type 0} (test among : A → Bool) → ((x : A) → test x ≡ true → among x ≡ true) → (xs : List A)

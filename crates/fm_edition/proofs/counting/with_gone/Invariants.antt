@@ -6,4 +6,4 @@ use Rattle.fm_edition.specs.Amounts.{plus}
 use Rattle.fm_edition.proofs.counting.with_gone.Given as goal
 
 abbrev pub invariant-loop-file : goal.invariant-loop-file
-invariant-loop-file l = l.sum ≡ plus l.before (tally (gone (take l.file-index l.files) l.op))
+invariant-loop-file l = l.sum ≡ plus l.fn.before (tally (gone (take l.file-index l.files) l.op))

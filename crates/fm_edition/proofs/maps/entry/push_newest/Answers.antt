@@ -17,4 +17,4 @@ returns c =
     let files = c.args.files.now in
     let found = simp to_z-of_z at c.newest.ensures in
     let pushed = simp to_z-of_z at c.push_row.ensures in
-    simp to_z-of_z (rw (← best-newest files c.args.valid c.args.least c.requires.0.have c.requires.1, ← found) pushed)
+    rw (← best-newest files c.args.valid c.args.least c.requires.0.have c.requires.1, ← found) pushed

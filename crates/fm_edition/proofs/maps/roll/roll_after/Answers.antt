@@ -28,4 +28,4 @@ returns c =
     let all : joined c.in_ok-pieces.pieces ++ c.in_ok-last.last ≡ part_after by c.args.key op c.args.files.now =
     ap₂ (λ (x y : List Loaded). x ++ y) c.in_ok-pieces.ensures made
     ∙ part-append by c.args.key op (joined pieces) last ∙ ap (part_after by c.args.key op) c.files.view_is in
-    simp to_z-of_z (subst (λ l. IfOk c.rolled.result (λ next. next ≡ l)) all c.rolled.ensures)
+    subst (λ l. IfOk c.rolled.result (λ next. next ≡ l)) all c.rolled.ensures

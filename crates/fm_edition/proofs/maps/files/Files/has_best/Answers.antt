@@ -18,7 +18,7 @@ returns-then-some_keeps_in c =
     let last = c.self.inside.last.now in
     let early = is_early c.args.least c.args.valid in
     let first = simp to_z-of_z at c.some_keeps_in.ensures in
-    ap (λ (b : Bool). b || list_any early last) (sym c.if-some_keeps_in.true ∙ first)
+    c.if-some_keeps_in.true ∙ ap (λ (b : Bool). b || list_any early last) (sym c.if-some_keeps_in.true ∙ first)
     ∙ any-files early pieces last ∙ ap (list_any early) c.self.view_is
     ∙ some_best c.args.self.now c.args.valid c.args.least c.requires
 

@@ -12,7 +12,7 @@ returns-then-has_name_in c =
     let pieces = c.self.inside.pieces.now in
     let last = c.self.inside.last.now in
     let name = c.args.name.now in
-    ap (λ (b : Bool). b || holds last name) (sym c.if-has_name_in.true ∙ c.has_name_in.ensures)
+    c.if-has_name_in.true ∙ ap (λ (b : Bool). b || holds last name) (sym c.if-has_name_in.true ∙ c.has_name_in.ensures)
     ∙ holds-files pieces last name ∙ ap (λ l. holds l name) c.self.view_is
 
 pub returns-else-has_name_in : goal.returns-else-has_name_in

@@ -18,7 +18,7 @@ returns-then-not-rise_behind c =
     let own : rise_behind c.loop-piece.before c.piece-item.result ≡ false =
     ap (rise_behind c.loop-piece.before) (sym (c.as_slice-files.ensures ∙ c.get.ensures))
     ∙ sym c.rise_behind.ensures ∙ c.if-not-rise_behind.true in
-    sym own ∙ sym (ap (λ b. b && rise_behind (last_run c.loop-piece.before c.piece-item.result)
+    sym (ap (λ b. b && rise_behind (last_run c.loop-piece.before c.piece-item.result)
     (joined (drop (c.loop-piece.piece-index + 1) pieces) ++ last)) own)
     ∙ sym (rise-more c.loop-piece.before pieces last c.loop-piece.piece-index c.piece-item.result
     c.loop-piece-test.true c.piece-item.is) ∙ c.loop-piece.invariant

@@ -9,11 +9,11 @@ use Rattle.fm_edition.proofs.maps.files.Files.newest.Goals as goal
 pub returns-in-Some : goal.returns-in-Some
 returns-in-Some c =
     let a : SFits w64 c.args.valid = search rules in
-    let b : SFits w64 c.in-Some.run = search rules in
+    let b : SFits w64 c.in-Some.run' = search rules in
     let find = newest c.args.least c.args.valid in
     let found = simp to_z-of_z at c.newest.ensures in
     simp to_z-of_z (sym (found_behind find (FindsLast-newest c.args.least c.args.valid)
-    (joined c.self.inside.pieces.now) c.self.inside.last.now c.in-Some.run (sym found ∙ c.in-Some.is))
+    (joined c.self.inside.pieces.now) c.self.inside.last.now c.in-Some.run' (sym found ∙ c.in-Some.is))
     ∙ ap find c.self.view_is)
 
 pub returns-in-None : goal.returns-in-None

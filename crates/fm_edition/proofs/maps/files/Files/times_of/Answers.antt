@@ -32,7 +32,7 @@ returns c =
     let last = c.self.inside.last.now in
     let pushed = simp to_z-of_z at c.in_ok-push_times-2.ensures in
     let before = simp to_z-of_z at c.loop-piece.invariant in
-    simp to_z-of_z (c.in_order.ensures ∙ ap rising (pushed
+    c.in_order.ensures ∙ ap rising (pushed
     ∙ ap (λ l. l ++ run_times c.args.run last) (before ∙ ap (λ l. run_times c.args.run (joined l))
     (take_all c.loop-piece.piece-index pieces c.loop-piece-test.false))
-    ∙ sym (times-behind c.args.run (joined pieces) last) ∙ ap (run_times c.args.run) c.self.view_is))
+    ∙ sym (times-behind c.args.run (joined pieces) last) ∙ ap (run_times c.args.run) c.self.view_is)

@@ -1,5 +1,5 @@
 -- The walk from the last piece stops at the first in which something is found.
-use Rattle.std.proofs.Common.{◌≡◌, ◌-◌, List, None, rules, arith, ap, sym, ◌∙◌, SFits, w64}
+use Rattle.std.proofs.Common.{◌≡◌, ◌-◌, List, None, length, refl, rules, arith, ap, sym, ◌∙◌, SFits, w64}
 use Rattle.std.specs.Prelude.{is_some}
 use Rattle.std.proofs.lemmas.Int.{to_z-of_z}
 use Rattle.fm_model.specs.declared.loaded.Loaded.{Loaded}
@@ -11,14 +11,14 @@ use Rattle.fm_edition.proofs.PieceLemmas.{all_piece, in_pieces}
 use Rattle.fm_edition.proofs.maps.files.found.cell_in.Goals as goal
 
 pub loop-before-init : goal.loop-before-init
-loop-before-init c = record {
-  within = omega (arith, c.len-before.ensures);
-  same =
-      let a : SFits w64 c.args.run = search rules in
-      let b : SFits w64 c.args.valid = search rules in
-      simp to_z-of_z (found-from (λ (files : List Loaded). cell files c.args.run c.args.valid) c.args.pieces.now
-      c.len-before.result c.len-before.ensures);
-}
+loop-before-init c =
+    let a : SFits w64 c.args.run = search rules in
+    let b : SFits w64 c.args.valid = search rules in
+    record {
+      within = omega arith;
+      same = simp to_z-of_z (found-from (λ (files : List Loaded). cell files c.args.run c.args.valid)
+          c.args.pieces.now (length c.args.pieces.now) refl);
+    }
 
 pub cell_of-requires : goal.cell_of-requires
 cell_of-requires c = rw (c.as_slice-files.ensures, c.get.ensures) (all_piece HasSoundTimes c.args.pieces.now
