@@ -1,5 +1,5 @@
 -- What goes and what comes are the files that change.
-use Rattle.std.proofs.Common.{◌≡◌, ◌++◌, ◌≤◌, ap, arith, length, sym, take, ◌∙◌}
+use Rattle.std.proofs.Common.{◌≡◌, ◌++◌, ap, arith, length, take, ◌∙◌}
 use Rattle.std.proofs.lemmas.List.{length-append, take_all, take-append-le}
 use Rattle.fm_list.specs.Change.{added, changed}
 use Rattle.fm_edition.proofs.maps.Edition.index_after.Goals as goal

@@ -1,7 +1,7 @@
 -- The rows of a page, and how the files of its valid times lie.
 use Rattle.std.proofs.Common.{◌≡◌, Bool, IfOk, List, ap, ap₂, subst, ◌∙◌}
 use Rattle.fm_model.specs.declared.row.Row.{Row}
-use Rattle.fm_edition.specs.Indexes.{each_one, each_rises, page_rows}
+use Rattle.fm_edition.specs.Indexes.{each_one, page_rows}
 use Rattle.fm_edition.specs.Kept.{KeptRows}
 use Rattle.fm_edition.proofs.maps.best.kept_of.Goals as goal
 

@@ -1,9 +1,7 @@
 -- The files have the valid time, rising runs, and sound times.
-use Rattle.std.proofs.Common.{◌++◌, rules, ap, subst, sym, ◌∙◌, SFits, w64, OnOk}
-use Rattle.std.specs.Prelude.{option_and_then}
-use Rattle.std.specs.Option.{option_to_list}
+use Rattle.std.proofs.Common.{rules, SFits, w64}
 use Rattle.std.proofs.lemmas.Int.{to_z-of_z}
-use Rattle.fm_model.specs.Rows.{best_row, row_at}
+use Rattle.fm_model.specs.Rows.{best_row}
 use Rattle.fm_list.proofs.RisingRuns.{best-newest}
 use Rattle.fm_edition.proofs.maps.entry.push_newest.Goals as goal
 

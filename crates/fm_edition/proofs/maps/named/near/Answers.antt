@@ -1,5 +1,5 @@
 -- The files of the name's code have what goes.
-use Rattle.std.proofs.Common.{refl, ap, sym, subst, ◌∙◌}
+use Rattle.std.proofs.Common.{ap, sym, subst, ◌∙◌}
 use Rattle.fm_model.specs.declared.loaded.Loaded.{Loaded}
 use Rattle.fm_model.specs.declared.op.Op.TheVariants.{Put, Retract}
 use Rattle.fm_list.specs.declared.by.By.TheVariants.{Name}

@@ -1,9 +1,8 @@
 -- What an operation leaves of the pieces, and of the last files.
 use Rattle.std.proofs.Common.{◌≡◌, ◌++◌, List, rules, ap, ap₂, subst, sym, ◌∙◌, SFits, w64}
-use Rattle.std.specs.Prelude.{filter, All, IfOk}
+use Rattle.std.specs.Prelude.{IfOk}
 use Rattle.std.proofs.lemmas.Int.{to_z-of_z}
 use Rattle.fm_model.specs.declared.loaded.Loaded.{Loaded}
-use Rattle.fm_list.specs.Change.{keeps}
 use Rattle.fm_list.specs.Selected.{part_after}
 use Rattle.fm_edition.specs.Pieces.{joined, HasGone}
 use Rattle.fm_edition.proofs.PieceLemmas.{part-append, HasGone-pieces}

@@ -1,6 +1,5 @@
 -- One more piece, and the last files.
-use Rattle.std.proofs.Common.{◌≡◌, ◌++◌, true, rules, ap, subst, sym, take, ◌∙◌, SFits, w64}
-use Rattle.std.specs.Prelude.{All}
+use Rattle.std.proofs.Common.{◌≡◌, ◌++◌, true, rules, ap, sym, take, ◌∙◌, SFits, w64}
 use Rattle.std.proofs.lemmas.Int.{to_z-of_z}
 use Rattle.std.proofs.lemmas.List.{take_all}
 use Rattle.fm_model.specs.declared.loaded.Loaded.{Loaded}

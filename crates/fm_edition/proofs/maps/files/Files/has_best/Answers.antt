@@ -1,13 +1,10 @@
 -- There is a best run exactly where a file of the pieces, or of the last, is early enough.
-use Rattle.std.proofs.Common.{◌≡◌, Bool, List, true, false, rules, ap, subst, sym, ◌∙◌, SFits, w64}
+use Rattle.std.proofs.Common.{Bool, rules, ap, sym, ◌∙◌, SFits, w64}
 use Rattle.std.specs.Prelude.{◌||◌}
 use Rattle.std.specs.List.{list_any}
 use Rattle.std.proofs.lemmas.Int.{to_z-of_z}
-use Rattle.fm_model.specs.declared.loaded.Loaded.{Loaded}
 use Rattle.fm_list.specs.Found.{is_early}
-use Rattle.fm_list.specs.Selected.{HaveTime}
 use Rattle.fm_list.proofs.BestSteps.{some_best}
-use Rattle.fm_edition.specs.Pieces.{joined}
 use Rattle.fm_edition.proofs.PieceLemmas.{any-files}
 use Rattle.fm_edition.proofs.maps.files.Files.has_best.Goals as goal
 

@@ -1,9 +1,7 @@
 -- A file of the name is one of the pieces, or one of the last.
-use Rattle.std.proofs.Common.{◌≡◌, Bool, List, true, false, ap, sym, ◌∙◌}
+use Rattle.std.proofs.Common.{Bool, ap, sym, ◌∙◌}
 use Rattle.std.specs.Prelude.{◌||◌}
-use Rattle.fm_model.specs.declared.loaded.Loaded.{Loaded}
 use Rattle.fm_model.specs.Collection.{holds}
-use Rattle.fm_edition.specs.Pieces.{joined}
 use Rattle.fm_edition.proofs.NameLemmas.{holds-files}
 use Rattle.fm_edition.proofs.maps.files.Files.has_name.Goals as goal
 

@@ -1,7 +1,6 @@
 -- The runs of one more piece, and of the last files.
-use Rattle.std.proofs.Common.{◌≡◌, ◌+◌, ◌++◌, Bool, List, true, false, ap, drop, sym, ◌∙◌}
+use Rattle.std.proofs.Common.{◌≡◌, ◌+◌, ◌++◌, true, false, ap, drop, sym, ◌∙◌}
 use Rattle.std.specs.Prelude.{◌&&◌}
-use Rattle.fm_model.specs.declared.loaded.Loaded.{Loaded}
 use Rattle.fm_list.specs.Selected.{last_run, rise_behind, runs_rise}
 use Rattle.fm_edition.specs.Pieces.{joined}
 use Rattle.fm_edition.proofs.FoundLemmas.{rise-end, rise-more}

@@ -1,5 +1,5 @@
 -- What is found among the last files, or else in the pieces.
-use Rattle.std.proofs.Common.{◌≡◌, Some, None, rules, ap, sym, ◌∙◌, SFits, w64}
+use Rattle.std.proofs.Common.{rules, ap, sym, ◌∙◌, SFits, w64}
 use Rattle.std.proofs.lemmas.Int.{to_z-of_z}
 use Rattle.fm_list.specs.Found.{newest}
 use Rattle.fm_edition.specs.Pieces.{joined}

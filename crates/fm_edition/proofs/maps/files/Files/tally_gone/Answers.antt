@@ -1,5 +1,5 @@
 -- What goes of one more piece, and of the last files.
-use Rattle.std.proofs.Common.{◌≡◌, ◌++◌, List, ap, refl, subst, sym, take, ◌∙◌}
+use Rattle.std.proofs.Common.{◌≡◌, ◌++◌, List, ap, subst, sym, ◌∙◌}
 use Rattle.std.proofs.lemmas.List.{take_all}
 use Rattle.fm_model.specs.declared.full.Tally.{Tally}
 use Rattle.fm_model.specs.declared.loaded.Loaded.{Loaded}

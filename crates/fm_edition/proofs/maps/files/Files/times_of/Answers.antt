@@ -1,8 +1,7 @@
 -- The run's times in one more piece, and in the last files.
-use Rattle.std.proofs.Common.{◌≡◌, ◌++◌, List, ℤ, rules, ap, ap₂, refl, sym, take, ◌∙◌, SFits, w64}
+use Rattle.std.proofs.Common.{◌++◌, List, ℤ, rules, ap, ap₂, sym, ◌∙◌, SFits, w64}
 use Rattle.std.proofs.lemmas.Int.{to_z-of_z}
 use Rattle.std.proofs.lemmas.List.{take_all}
-use Rattle.fm_model.specs.declared.loaded.Loaded.{Loaded}
 use Rattle.fm_model.specs.Cell.{times_of, times_of_run}
 use Rattle.fm_model.specs.Rising.{rising}
 use Rattle.fm_edition.specs.Instants.{run_times}

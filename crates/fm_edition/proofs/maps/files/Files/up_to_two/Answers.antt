@@ -1,5 +1,5 @@
 -- One more piece, and the last files.
-use Rattle.std.proofs.Common.{◌≡◌, ◌+◌, ◌≤◌, List, length, min, take, ap, refl, sym, arith, ◌∙◌}
+use Rattle.std.proofs.Common.{◌≡◌, ◌+◌, List, length, take, ap, refl, sym, arith, ◌∙◌}
 use Rattle.std.proofs.lemmas.List.{length-append, take_all}
 use Rattle.fm_model.specs.declared.loaded.Loaded.{Loaded}
 use Rattle.fm_edition.specs.Pieces.{joined}

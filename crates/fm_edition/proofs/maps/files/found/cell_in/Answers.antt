@@ -1,5 +1,5 @@
 -- The walk from the last piece stops at the first in which something is found.
-use Rattle.std.proofs.Common.{◌≡◌, ◌-◌, List, None, length, refl, rules, arith, ap, sym, ◌∙◌, SFits, w64}
+use Rattle.std.proofs.Common.{◌-◌, List, length, refl, rules, arith, ap, sym, ◌∙◌, SFits, w64}
 use Rattle.std.specs.Prelude.{is_some}
 use Rattle.std.proofs.lemmas.Int.{to_z-of_z}
 use Rattle.fm_model.specs.declared.loaded.Loaded.{Loaded}
