@@ -1,14 +1,14 @@
 -- Of files whose runs rise the last that keeps a least offset is of the best run.
-use Rattle.std.proofs.Common.{◌≡◌, ℕ, ◌+◌, ◌<◌, Bool, true, false, List, [], ◌∷◌, ◌++◌, length, get_or, take, Option, Some, None, ℤ, ◌≤ℤ◌, refl, sym, ap, subst, ◌∙◌, inl, inr, arith}
-use Rattle.std.specs.Prelude.{All, Any, int_le, pos}
+use Rattle.std.proofs.Common.{◌≡◌, ℕ, ◌+◌, ◌<◌, true, false, List, [], ◌∷◌, ◌++◌, length, get_or, take, Option, Some, None, ℤ, ◌≤ℤ◌, refl, sym, ap, subst, ◌∙◌, inl, inr, arith}
+use Rattle.std.specs.Prelude.{int_le, pos}
 use Rattle.std.specs.Option.{option_map}
 use Rattle.std.proofs.lemmas.Bool.{and_parts, true≢false}
 use Rattle.std.proofs.lemmas.Int.{ints}
 use Rattle.fm_model.specs.declared.loaded.Loaded.{Loaded}
 use Rattle.fm_model.specs.Cell.{best, has_least_offset, last_such, HasCell, HasLeastOffset, HasTimeFrom}
 use Rattle.fm_model.proofs.BestLemmas.{best-from_IsBest, no_best_both, offset_from_test, offset_test}
-use Rattle.fm_model.proofs.LastLemmas.{is_last, none_passes, IsLast}
-use Rattle.fm_model.proofs.Members.{In, Each, Each-in, Each-weaker, In-append_cases, In-append_right, All-from_each, each_from_All, Any-from_in, in_from_Any, in_from_Contains, Contains-from_in}
+use Rattle.fm_model.proofs.LastLemmas.{is_last, none_passes}
+use Rattle.fm_model.proofs.Members.{In, Each, Each-in, Each-weaker, In-append_cases, In-append_right, All-from_each, each_from_All, Any-from_in, in_from_Any, Contains-from_in}
 use Rattle.fm_model.proofs.CellLemmas.{has-in}
 use Rattle.fm_model.specs.Cell.{has_time}
 use Rattle.fm_list.specs.Found.{is_early, newest}
