@@ -68,7 +68,8 @@ IsIndexed-none proto count index is none maps = record {
 parts_gone : (by : By) (files went : List Loaded) (op : Op) (key : ℤ) → went ≡ gone files op → (here : Bool)
     → HasGone went op (or_none (cond here (some_of (part by files key)) None))
 unfolding part
-parts_gone by files went op key is true = subst (HasGone went op) (sym (or_none-some_of (filter (selects by key) files)))
+parts_gone by files went op key is true =
+    subst (HasGone went op) (sym (or_none-some_of (filter (selects by key) files)))
     (HasGone-some files (filter (selects by key) files) went op is
     (λ file held. (in_filter (selects by key) file files held).0))
 parts_gone by files went op key is false = All-nil (λ (file : Loaded). keeps op file ≡ false → Contains went file)
