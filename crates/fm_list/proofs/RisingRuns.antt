@@ -26,7 +26,8 @@ through : (a b c : ℤ) → a ≤ℤ b → b ≤ℤ c → a ≤ℤ c
 through a b c ab bc = omega (arith, ints)
 
 -- files whose runs rise from a run on are of no earlier one
-above : (run : ℤ) (files : List Loaded) → rise_behind (Some run) files ≡ true → Each (λ (f : Loaded). run ≤ℤ f.run) files
+above : (run : ℤ) (files : List Loaded) → rise_behind (Some run) files ≡ true
+    → Each (λ (f : Loaded). run ≤ℤ f.run) files
 above run [] rises = tt
 above run (file ∷ files) rises =
     let both = and_parts (int_le run file.run) (rise_behind (Some file.run) files) rises in
