@@ -1,6 +1,6 @@
 -- What every edition keeps of its maps: at the start, and after an operation.
-use Rattle.std.proofs.Common.{◌≡◌, Bool, true, false, cond, List, [], Option, None, ℤ, refl}
-use Rattle.std.specs.Prelude.{All}
+use Rattle.std.proofs.Common.{◌≡◌, Bool, true, false, cond, List, [], Option, None, ℤ, refl, subst, sym}
+use Rattle.std.specs.Prelude.{All, Contains, filter}
 use Rattle.std.specs.BTreeMap.{BTreeMap, IsOrdered}
 use Rattle.std.specs.Ordering.{int_cmp, int_eq}
 use Rattle.std.proofs.lemmas.List.Elements.{All-nil}
@@ -10,16 +10,20 @@ use Rattle.fm_model.specs.declared.op.Op.{Op}
 use Rattle.fm_model.specs.declared.proto.Proto.{Proto}
 use Rattle.fm_model.specs.Collection.{after_op, tally}
 use Rattle.fm_model.specs.Site.{IsPrototype}
+use Rattle.fm_model.proofs.Members.{in_filter}
 use Rattle.fm_list.specs.declared.by.By.{By}
 use Rattle.fm_list.specs.declared.by.By.TheVariants.{Run, Time, Name}
-use Rattle.fm_list.specs.Change.{changed}
+use Rattle.fm_list.specs.Change.{changed, gone, keeps}
 use Rattle.fm_edition.specs.declared.maps.index.Index.{Index}
 use Rattle.fm_edition.specs.Held.{Held, held_after, IsEdition}
-use Rattle.fm_list.specs.Selected.{part}
-use Rattle.fm_edition.specs.Indexes.{entries_of, in_page, instants, page_of, page_set, rows_at, shown_in, AreBest, AreMaps, AreOrdered, AreParts, IsIndexed, IsTimed, Pages}
+use Rattle.fm_list.specs.Selected.{part, selects}
+use Rattle.fm_edition.specs.Indexes.{entries_of, in_page, instants, or_none, page_of, page_set, rows_at, shown_in, some_of, AreBest, AreMaps, AreOrdered, AreParts, IsIndexed, IsTimed, Pages}
 use Rattle.fm_edition.specs.Log.{CanFollow}
+use Rattle.fm_edition.specs.Pieces.{HasGone}
+use Rattle.fm_edition.specs.Steps.{HaveGone}
 use Rattle.fm_edition.proofs.EditionLemmas.{times_are_sound, IsEdition-after, IsEdition-none}
-use Rattle.fm_edition.proofs.PageLemmas.{AreParts-after}
+use Rattle.fm_edition.proofs.PageLemmas.{or_none-some_of, AreParts-after}
+use Rattle.fm_edition.proofs.PieceLemmas.{HasGone-some}
 use Rattle.fm_edition.proofs.RowLemmas.{entries_timed}
 
 -- pages without entries are those of no files
@@ -60,6 +64,23 @@ IsIndexed-none proto count index is none maps = record {
   counted = none;
   maps = maps;
 }
+
+parts_gone : (by : By) (files went : List Loaded) (op : Op) (key : ℤ) → went ≡ gone files op → (here : Bool)
+    → HasGone went op (or_none (cond here (some_of (part by files key)) None))
+unfolding part
+parts_gone by files went op key is true =
+    subst (HasGone went op) (sym (or_none-some_of (filter (selects by key) files)))
+    (HasGone-some files (filter (selects by key) files) went op is
+    (λ file held. (in_filter (selects by key) file files held).0))
+parts_gone by files went op key is false = All-nil (λ (file : Loaded). keeps op file ≡ false → Contains went file)
+
+-- what an operation takes out of the files by each instant is among what it takes out of all
+pub HaveGone-parts : (by : By) (files went : List Loaded) (op : Op) (pages : Pages) → AreParts by files pages
+    → went ≡ gone files op → HaveGone went op pages
+unfolding shown_in
+HaveGone-parts by files went op pages are is = λ number key.
+    subst (λ o. HasGone went op (or_none o)) (sym (are.shown number key))
+    (parts_gone by files went op key is (int_eq (page_of key) number))
 
 -- pages that an operation was done to
 pub record IsDone (by : By) (files : List Loaded) (op : Op) (pages next : Pages) : Type 0 where

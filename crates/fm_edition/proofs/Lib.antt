@@ -4,6 +4,7 @@ pub mod ChangeLemmas
 pub mod CountLemmas
 pub mod EditionLemmas
 pub mod EntryLemmas
+pub mod FoundLemmas
 pub mod GoneLemmas
 pub mod IndexLemmas
 pub mod KeepLemmas

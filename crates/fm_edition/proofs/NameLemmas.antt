@@ -1,5 +1,5 @@
 -- The files of a name are among those of its code.
-use Rattle.std.proofs.Common.{◌≡◌, ℕ, Bool, true, false, List, [], ◌∷◌, refl, sym, ap, subst}
+use Rattle.std.proofs.Common.{◌≡◌, ℕ, Bool, true, false, List, [], ◌∷◌, ◌++◌, refl, sym, ap, subst}
 use Rattle.std.specs.Prelude.{◌||◌, filter, not}
 use Rattle.std.specs.Cmp.{signed_Decides}
 use Rattle.std.specs.List.{list_any}
@@ -14,7 +14,8 @@ use Rattle.fm_list.specs.declared.by.By.TheVariants.{Name}
 use Rattle.fm_list.specs.Change.{gone, keeps}
 use Rattle.fm_list.specs.Code.{code_of}
 use Rattle.fm_list.specs.Selected.{part, selects}
-use Rattle.fm_edition.specs.Pieces.{IsNear}
+use Rattle.fm_edition.specs.Pieces.{joined, IsNear}
+use Rattle.fm_edition.proofs.PieceLemmas.{any-files}
 
 -- what passes of a selection that has each item that passes
 filter-within : {A : Type 0} (test among : A → Bool) → ((x : A) → test x ≡ true → among x ≡ true) → (xs : List A)
@@ -71,6 +72,13 @@ pub holds-part : (files : List Loaded) (name : List ℕ) → holds (part Name fi
 unfolding holds part
 holds-part files name = any-within (λ (f : Loaded). bytes_eq f.name name) (selects Name (code_of name))
     (λ f same. of_code name f same) files
+
+-- a name is held by a file of the pieces, or by one of the last
+pub holds-files : (pieces : List (List Loaded)) (last : List Loaded) (name : List ℕ)
+    → (list_any (λ (piece : List Loaded). holds piece name) pieces || holds last name)
+    ≡ holds (joined pieces ++ last) name
+unfolding holds
+holds-files pieces last name = any-files (λ f. bytes_eq f.name name) pieces last
 
 -- what a put takes out, by the files near its name
 pub gone-near_put : (files near : List Loaded) (op : Op) (file : Loaded) → op ≡ Put file → IsNear files op near

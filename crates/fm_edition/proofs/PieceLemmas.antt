@@ -13,9 +13,11 @@ use Rattle.fm_model.specs.declared.loaded.Loaded.{Loaded}
 use Rattle.fm_model.specs.declared.op.Op.{Op}
 use Rattle.fm_model.specs.declared.op.Op.TheVariants.{Expire}
 use Rattle.fm_model.specs.Collection.{after_op, holds_older}
-use Rattle.fm_model.proofs.Members.{In, Each, All-from_each, Any-from_in, Contains-from_in, Each-from_in, Each-in, each_from_All, in_from_Contains, In-append_left, In-filter, In-flat_map}
+use Rattle.fm_model.proofs.Members.{In, Each, All-from_each, Any-from_in, Contains-from_in, Each-from_in, Each-in, each_from_All, in_from_Contains, In-append_left, In-append_right, In-filter, In-flat_map}
 use Rattle.fm_model.proofs.RetractLemmas.{expire-none}
+use Rattle.fm_list.specs.declared.by.By.{By}
 use Rattle.fm_list.specs.Change.{added, gone, keeps}
+use Rattle.fm_list.specs.Selected.{part_after, selects}
 use Rattle.fm_edition.specs.Pieces.{joined, HasGone}
 use Rattle.fm_edition.proofs.ChangeLemmas.{after_op-is}
 
@@ -26,7 +28,7 @@ joined-push pieces piece = flat_map-append (λ (p : List Loaded). p) pieces (pie
     ∙ ap (λ l. joined pieces ++ l) (append-nil piece)
 
 -- one more piece of those that are gone through
-joined-more : (pieces : List (List Loaded)) (i : ℕ) (d : List Loaded) → i < length pieces
+pub joined-more : (pieces : List (List Loaded)) (i : ℕ) (d : List Loaded) → i < length pieces
     → joined (take (i + 1) pieces) ≡ joined (take i pieces) ++ get_or pieces i d
 joined-more pieces i d lt = ap joined (take_more pieces i d lt) ∙ joined-push (take i pieces) (get_or pieces i d)
 
@@ -114,15 +116,55 @@ pub kept-by_cutoff : (files : List Loaded) (cutoff : ℤ) → holds_older files 
 kept-by_cutoff files cutoff none = sym (append-nil (filter (keeps (Expire cutoff)) files))
     ∙ sym (after_op-is files (Expire cutoff)) ∙ expire-none files cutoff none
 
--- what an operation takes out of each piece is among all that it takes out
+-- a fact of each file of all pieces is one of each file of a piece
+pub all_piece : (P : Loaded → Type 0) (pieces : List (List Loaded)) (piece : List Loaded) → In piece pieces
+    → All P (joined pieces) → All P piece
+all_piece P pieces piece here all = All-from_each P piece (Each-from_in P piece (λ file held.
+    Each-in P file (joined pieces) (each_from_All P (joined pieces) all)
+    (In-flat_map (λ (p : List Loaded). p) file piece pieces here held)))
+
+-- and a fact of each file is one of each file of the pieces, and of each of the last
+pub all_first : (P : Loaded → Type 0) (files last : List Loaded) → All P (files ++ last) → All P files
+all_first P files last all = All-from_each P files (Each-from_in P files (λ file held.
+    Each-in P file (files ++ last) (each_from_All P (files ++ last) all) (In-append_left file files last held)))
+
+pub all_last : (P : Loaded → Type 0) (files last : List Loaded) → All P (files ++ last) → All P last
+all_last P files last all = All-from_each P last (Each-from_in P last (λ file held.
+    Each-in P file (files ++ last) (each_from_All P (files ++ last) all) (In-append_right file files last held)))
+
+-- a piece that a walk comes to
+pub in_pieces : (pieces : List (List Loaded)) (i : ℕ) (piece : List Loaded) → i < length pieces
+    → piece ≡ get_or pieces i piece → In piece pieces
+in_pieces pieces i piece lt is = in_from_Contains piece pieces (i, lt, sym is)
+
+-- what an operation takes out of each piece is among what it takes out of all files
 pub HasGone-pieces : (pieces : List (List Loaded)) (last went : List Loaded) (op : Op)
-    → went ≡ gone (joined pieces ++ last) op → All (HasGone went op) pieces
-unfolding gone
-HasGone-pieces pieces last went op is = All-from_each (HasGone went op) pieces
+    → HasGone went op (joined pieces ++ last) → All (HasGone went op) pieces
+HasGone-pieces pieces last went op has = All-from_each (HasGone went op) pieces
     (Each-from_in (HasGone went op) pieces (λ piece here.
-    All-from_each (λ (file : Loaded). keeps op file ≡ false → Contains went file) piece
-    (Each-from_in (λ (file : Loaded). keeps op file ≡ false → Contains went file) piece (λ file held lost.
-    let among : In file (joined pieces ++ last) = In-append_left file (joined pieces) last
-    (In-flat_map (λ (p : List Loaded). p) file piece pieces here held) in
+    all_piece (λ (file : Loaded). keeps op file ≡ false → Contains went file) pieces piece here
+    (all_first (λ (file : Loaded). keeps op file ≡ false → Contains went file) (joined pieces) last has)))
+
+-- what an operation takes out of some of the files is among what it takes out of all
+pub HasGone-some : (files some went : List Loaded) (op : Op) → went ≡ gone files op
+    → ((file : Loaded) → In file some → In file files) → HasGone went op some
+unfolding gone
+HasGone-some files some went op is held_by = All-from_each
+    (λ (file : Loaded). keeps op file ≡ false → Contains went file) some
+    (Each-from_in (λ (file : Loaded). keeps op file ≡ false → Contains went file) some (λ file held lost.
     Contains-from_in file went (subst (In file) (sym is)
-    (In-filter (λ (f : Loaded). not (keeps op f)) file (joined pieces ++ last) among (ap not lost)))))))
+    (In-filter (λ (f : Loaded). not (keeps op f)) file files (held_by file held) (ap not lost)))))
+
+-- what stands by an instant after an operation, the files of the pieces first
+pub part-append : (by : By) (key : ℤ) (op : Op) (files more : List Loaded)
+    → filter (keeps op) files ++ part_after by key op more ≡ part_after by key op (files ++ more)
+unfolding part_after
+part-append by key op files more =
+    sym (append_assoc (filter (keeps op) files) (filter (keeps op) more) (filter (selects by key) (added op)))
+    ∙ ap (λ l. l ++ filter (selects by key) (added op)) (sym (filter-append (keeps op) files more))
+
+-- some file of the pieces, or of the last files, passes
+pub any-files : (test : Loaded → Bool) (pieces : List (List Loaded)) (last : List Loaded)
+    → (list_any (list_any test) pieces || list_any test last) ≡ list_any test (joined pieces ++ last)
+any-files test pieces last = ap (λ b. b || list_any test last) (any-joined test pieces)
+    ∙ sym (list_any-append test (joined pieces) last)

@@ -10,6 +10,14 @@ pub record IsPartOf (held part : Tally) : Type 0 where
   pub rows : part.rows ≤ held.rows
   pub size : part.size ≤ held.size
 
+-- two amounts together
+abbrev pub plus : Tally → Tally → Tally
+plus one other = record {
+  files = one.files + other.files;
+  rows = one.rows + other.rows;
+  size = one.size + other.size;
+}
+
 -- what is left of what is held
 abbrev pub less : Tally → Tally → Tally
 less held part = record {

@@ -5,7 +5,12 @@ use Rattle.std.specs.Ordering.{int_cmp, int_eq}
 use Rattle.fm_model.specs.declared.loaded.Loaded.{Loaded}
 use Rattle.fm_model.specs.declared.op.Op.{Op}
 use Rattle.fm_list.specs.declared.by.By.{By}
-use Rattle.fm_edition.specs.Indexes.{in_page, page_set, touches, AreOrdered, Pages}
+use Rattle.fm_edition.specs.Indexes.{in_page, or_none, page_set, touches, AreOrdered, Pages}
+use Rattle.fm_edition.specs.Pieces.{HasGone}
+
+-- what an operation takes out of the files by each instant is among those that went
+abbrev pub HaveGone : List Loaded → Op → Pages → Type 0
+HaveGone went op pages = (number key : ℤ) → HasGone went op (or_none (in_page pages number key))
 
 -- one page has this number, and the others are as before
 pub record HasPage (number : ℤ) (page : BTreeMap ℤ (List Loaded)) (pages next : Pages) : Type 0 where

@@ -4,6 +4,7 @@ ghost use Rattle.fm_model.specs.Collection.{full_of, tally, IsWithin};
 ghost use Rattle.fm_list.specs.Change.{gone};
 ghost use Rattle.fm_edition.specs.Amounts as spec;
 
+use crate::maps::files::Files;
 use fm_list::Placed;
 use fm_list::change::keeps;
 use fm_model::{Full, Loaded, MAX_BYTES, MAX_FILES, MAX_ROWS, Op, Tally, Which};
@@ -42,32 +43,39 @@ fn with_file(left: Tally, file: &Loaded) -> Tally
     }
 }
 
-// How much an operation takes out of some files.
-fn tally_gone(files: &[Placed], op: &Op) -> Tally
-    requires { IsWithin (tally (gone files.now op.now)) }
-    ensures { result ≡ tally (gone files.now op.now) }
+// No files, times or bytes.
+pub(crate) fn nothing() -> Tally
+    ensures { result ≡ record { files = 0; rows = 0; size = 0 } }
 {
-    let mut tally = Tally {
+    Tally {
         files: 0,
         rows: 0,
         size: 0,
-    };
+    }
+}
+
+// How much there is with what an operation takes out of some files.
+pub(crate) fn with_gone(before: Tally, files: &[Placed], op: &Op) -> Tally
+    requires { IsWithin (spec.plus before (tally (gone files.now op.now))) }
+    ensures { result ≡ spec.plus before (tally (gone files.now op.now)) }
+{
+    let mut sum = before;
     for file in files {
         let file = file.get();
         if !keeps(op, file) {
-            tally = with_file(tally, file);
+            sum = with_file(sum, file);
         }
     }
-    tally
+    sum
 }
 
 // What is left of what is held without what an operation takes out of some files.
-fn left_of(held: Tally, files: &[Placed], op: &Op) -> Tally
+fn left_of(held: Tally, files: &Files<'_>, op: &Op) -> Tally
     requires held { IsWithin held }
     requires part { spec.IsPartOf held (tally (gone files.now op.now)) }
     ensures { result ≡ spec.less held (tally (gone files.now op.now)) }
 {
-    let gone = tally_gone(files, op);
+    let gone = files.tally_gone(op);
     Tally {
         files: held.files - gone.files,
         rows: held.rows - gone.rows,
@@ -76,7 +84,7 @@ fn left_of(held: Tally, files: &[Placed], op: &Op) -> Tally
 }
 
 // How much there is after an operation, where `held` is how much there was, and `near` has what it takes out.
-pub(crate) fn tally_after(held: Tally, near: &[Placed], op: &Op) -> Tally
+pub(crate) fn tally_after(held: Tally, near: &Files<'_>, op: &Op) -> Tally
     requires held { IsWithin held }
     requires part { spec.IsPartOf held (tally (gone near.now op.now)) }
     requires within { IsWithin (spec.with_added op.now (spec.less held (tally (gone near.now op.now)))) }
@@ -125,7 +133,7 @@ fn full_with(left: Tally, file: &Loaded) -> Option<Full>
 
 // Which limit would be passed after an operation, if any, where `held` is how much there is, and `near` has what the
 // operation takes out. Only a put adds to it.
-pub(crate) fn full_after(held: Tally, near: &[Placed], op: &Op) -> Option<Full>
+pub(crate) fn full_after(held: Tally, near: &Files<'_>, op: &Op) -> Option<Full>
     requires held { IsWithin held }
     requires part { spec.IsPartOf held (tally (gone near.now op.now)) }
     ensures { result ≡ full_of (spec.with_added op.now (spec.less held (tally (gone near.now op.now)))) }

@@ -13,6 +13,7 @@ ghost use Rattle.fm_edition.specs.Log.{CanFollow};
 mod best;
 mod by_run;
 mod entry;
+pub(crate) mod files;
 mod index;
 mod keeping;
 mod named;
@@ -23,13 +24,14 @@ mod shared;
 mod walk;
 mod wanted;
 
-use crate::{counting, instants};
+use crate::counting;
+use files::Files;
 use fm_base::{Arc, Fail, List, NoMemory};
-use fm_list::{Placed, finding, part};
+use fm_list::Placed;
 use fm_model::{Full, Loaded, Op, Proto, Tally};
 use fm_rows::Rows;
 use index::{Index, no_maps};
-use named::{files_named, gone_of, near};
+use named::{files_named, near};
 use roll::Roll;
 use std::alloc::Global;
 use std::marker::Model;
@@ -64,11 +66,7 @@ impl Edition {
         Ok(Edition {
             proto,
             files: Roll::new(alloc),
-            tally: Tally {
-                files: 0,
-                rows: 0,
-                size: 0,
-            },
+            tally: counting::nothing(),
             index: no_maps(alloc),
         })
     }
@@ -93,7 +91,7 @@ impl Edition {
         ensures { IfOk result (λ next. next ≡ held_after self.now op.now) }
     {
         let proto = self.proto.share()?;
-        let tally = counting::tally_after(self.tally, gone.as_slice(), op);
+        let tally = counting::tally_after(self.tally, &Files::of(gone.as_slice()), op);
         let files = self.files.after(alloc, gone.as_slice(), op)?;
         let index = self.index_after(alloc, gone, op)?;
         Ok(Edition {
@@ -109,9 +107,9 @@ impl Edition {
         ensures { IfOk result (λ gone. gone ≡ taken.gone self.now.files op.now) }
     {
         match op {
-            Op::Put(_) => gone_of(alloc, near(&self.index.by_name, op), op),
-            Op::Expire(_) => self.files.gone(alloc, op),
-            Op::Retract(_) => gone_of(alloc, near(&self.index.by_name, op), op),
+            Op::Put(_) => near(&self.index.by_name, op).gone(alloc, op),
+            Op::Expire(_) => self.files.all().gone(alloc, op),
+            Op::Retract(_) => near(&self.index.by_name, op).gone(alloc, op),
         }
     }
 
@@ -119,7 +117,7 @@ impl Edition {
     pub fn full_at(&self, op: &Op) -> Option<Full>
         ensures { result ≡ full_at self.now.files op.now }
     {
-        counting::full_after(self.tally, near(&self.index.by_name, op), op)
+        counting::full_after(self.tally, &near(&self.index.by_name, op), op)
     }
 
     /// How much is held.
@@ -140,7 +138,7 @@ impl Edition {
     pub fn holds(&self, name: &[u8]) -> bool
         ensures { result ≡ holds self.now.files name.now }
     {
-        finding::has_name(files_named(&self.index.by_name, name), name)
+        files_named(&self.index.by_name, name).has_name(name)
     }
 
     /// The held runs, each once, rising, in seconds from the collection's epoch.
@@ -154,7 +152,7 @@ impl Edition {
     pub fn times_of(&self, alloc: Global, run: i64) -> Result<List<i64>, NoMemory>
         ensures { IfOk result (λ times. times ≡ times_of_run self.now.files run) }
     {
-        instants::times_in(alloc, pages::files_at(&self.index.by_run, run), run)
+        pages::files_at(&self.index.by_run, run).times_of(alloc, run)
     }
 
     /// The last held file of a run with a valid time, and the time's index in it. `None` where there is no such file.
@@ -162,7 +160,7 @@ impl Edition {
         ensures found { IfSome result (λ found. cell self.now.files run valid ≡ Some (found.0.now, found.1)) }
         ensures none { IsNone result → cell self.now.files run valid ≡ None }
     {
-        finding::cell_of(pages::files_at(&self.index.by_time, valid), run, valid)
+        pages::files_at(&self.index.by_time, valid).cell_of(run, valid)
     }
 
     /// The greatest run that has a valid time and, where a least offset is given, lies at least that many seconds
@@ -170,7 +168,7 @@ impl Edition {
     pub fn best_run(&self, valid: i64, least: Option<i64>) -> Option<i64>
         ensures { result ≡ best self.now.files valid least }
     {
-        part::best_among(pages::files_at(&self.index.by_time, valid), valid, least)
+        pages::files_at(&self.index.by_time, valid).best(valid, least)
     }
 
     /// One row for each valid time that has a best run, from that run.

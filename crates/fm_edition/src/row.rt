@@ -4,16 +4,15 @@ ghost use Rattle.std.specs.Option.{option_to_list};
 ghost use Rattle.fm_model.specs.Rows.{row_at};
 ghost use Rattle.fm_list.specs.Selected.{AreSound};
 
+use crate::maps::files::Files;
 use fm_base::{List, NoMemory};
-use fm_list::Placed;
-use fm_list::finding::cell_of;
 use fm_model::Row;
 
 // Adds the row of a run and a valid time, where there is a run and they have a cell.
 #[tactic(auto, unfolding(fm_model::specs::Rows::row_at))]
 pub(crate) fn push_row(
     rows: &mut List<Row>,
-    files: &[Placed],
+    files: &Files<'_>,
     run: Option<i64>,
     valid: i64,
 ) -> Result<(), NoMemory>
@@ -24,7 +23,7 @@ pub(crate) fn push_row(
     let Some(run) = run else {
         return Ok(());
     };
-    match cell_of(files, run, valid) {
+    match files.cell_of(run, valid) {
         Some((file, index)) => rows.push(Row {
             valid,
             run,

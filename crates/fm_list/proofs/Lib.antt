@@ -1,3 +1,4 @@
+pub mod Behind
 pub mod BestSteps
 pub mod CellSteps
 pub mod RisingRuns

@@ -19,11 +19,12 @@ pub fn keeps(op: &Op, held: &Loaded) -> bool
     }
 }
 
-/// The files that an operation leaves.
+/// The files that an operation leaves, and room for one more.
 pub fn kept(alloc: Global, files: &[Placed], op: &Op) -> Result<List<Placed>, NoMemory>
     ensures { IfOk result (λ kept. kept ≡ filter (spec.keeps op.now) files.now) }
 {
-    let mut kept = List::new(alloc);
+    let items = Vec::with_capacity(alloc, files.len().saturating_add(1))?;
+    let mut kept = List { items };
     for file in files {
         if keeps(op, file.get()) {
             kept.push(file.share()?)?;

@@ -1,10 +1,11 @@
 //! The files by an instant: those of a run, or those that have a valid time. A name's code serves as an instant, too.
-ghost use Rattle.std.specs.Prelude.{◌≡◌, [], ◌∷◌, ◌++◌, IfOk, filter, is_some, true};
+ghost use Rattle.std.specs.Prelude.{◌≡◌, [], ◌∷◌, ◌++◌, IfOk, List as Items, filter, is_some};
 ghost use Rattle.std.specs.List.{list_any};
 ghost use Rattle.std.specs.Ordering.{int_eq};
 ghost use Rattle.fm_model.specs.declared.loaded.Loaded.{Loaded as File};
-ghost use Rattle.fm_model.specs.Cell.{best, has_least_offset};
+ghost use Rattle.fm_model.specs.Cell.{best};
 ghost use Rattle.fm_model.specs.Rising.{Rises};
+ghost use Rattle.fm_list.specs.Found as found;
 ghost use Rattle.fm_list.specs.Selected as spec;
 
 use crate::by::By;
@@ -27,51 +28,63 @@ fn index_among(own: &[i64], key: i64) -> Option<usize>
     }
 }
 
-/// The best run for a valid time that each of the files has.
-pub fn best_among(files: &[Placed], valid: i64, least: Option<i64>) -> Option<i64>
+/// The best run of some files and more behind them that all have the valid time, where `greatest` is that of the first.
+pub fn best_behind(
+    greatest: Option<i64>,
+    files: &[Placed],
+    valid: i64,
+    least: Option<i64>,
+) -> Option<i64>
     requires { spec.HaveTime valid files.now }
-    ensures { result ≡ best files.now valid least }
+    ensures { (others : Items File) → best others valid least ≡ greatest
+        → best (others ++ files.now) valid least ≡ result }
 {
-    let mut greatest = None;
+    let mut raised = greatest;
     for file in files {
-        greatest = raised_by(greatest, file, valid, least);
+        raised = raised_by(raised, file, valid, least);
     }
-    greatest
+    raised
 }
 
-// Whether the first of the files is of no earlier run than this, and each other of no earlier run than the one before
-// it.
-fn rise_from(run: i64, files: &[Placed]) -> bool
-    ensures { result ≡ spec.runs_rise_from run files.now }
+// Whether a run isn't before that of the file before it, where there is one.
+fn follows(before: Option<i64>, run: i64) -> bool
+    ensures { result ≡ spec.follows before run }
 {
-    let mut last = run;
-    for file in files {
-        let own = file.run();
-        if own < last {
-            return false;
-        }
-        last = own;
-    }
-    true
-}
-
-/// Whether none of the files is of an earlier run than the one before it.
-#[tactic(auto, unfolding(crate::specs::Selected::runs_rise))]
-pub fn have_rising_runs(files: &[Placed]) -> bool
-    ensures { result ≡ spec.runs_rise files.now }
-{
-    match files.first() {
-        Some(first) => rise_from(first.run(), files),
+    match before {
+        Some(earlier) => earlier <= run,
         None => true,
     }
 }
 
-/// As [`best_among`], of files whose runs rise: the last file that keeps the least offset tells it, so that no other
-/// before it is looked at.
-pub fn best_of_rising(files: &[Placed], valid: i64, least: Option<i64>) -> Option<i64>
-    requires have { spec.HaveTime valid files.now }
-    requires rise { spec.runs_rise files.now ≡ true }
-    ensures { result ≡ best files.now valid least }
+/// Whether none of the files is of an earlier run than the one before it, where `before` is the run of the file before
+/// the first, if there is one.
+pub fn rise_behind(before: Option<i64>, files: &[Placed]) -> bool
+    ensures { result ≡ spec.rise_behind before files.now }
+{
+    let mut last = before;
+    for file in files {
+        let own = file.run();
+        if !follows(last, own) {
+            return false;
+        }
+        last = Some(own);
+    }
+    true
+}
+
+/// The run of the last file, or of the one before the first where there is none.
+pub fn last_run(before: Option<i64>, files: &[Placed]) -> Option<i64>
+    ensures { result ≡ spec.last_run before files.now }
+{
+    match files {
+        [.., file] => Some(file.run()),
+        [] => before,
+    }
+}
+
+/// The run of the last file that lies early enough before a valid time. No file before it is looked at.
+pub fn newest(files: &[Placed], valid: i64, least: Option<i64>) -> Option<i64>
+    ensures { result ≡ found.newest least valid files.now }
 {
     let mut before = files.len();
     while before > 0 {
@@ -84,22 +97,13 @@ pub fn best_of_rising(files: &[Placed], valid: i64, least: Option<i64>) -> Optio
     None
 }
 
-// Whether a valid time lies the least offset after the run of one of the files.
-fn some_keeps(files: &[Placed], valid: i64, least: Option<i64>) -> bool
-    ensures { result ≡ list_any (λ (file : File). has_least_offset least file.run valid) files.now }
+/// Whether a valid time lies the least offset after the run of one of the files.
+pub fn some_keeps(files: &[Placed], valid: i64, least: Option<i64>) -> bool
+    ensures { result ≡ list_any (found.is_early least valid) files.now }
 {
     files
         .iter()
         .any(|file| keeps_least_offset(least, file.run(), valid))
-}
-
-/// Whether there is a best run for a valid time that each of the files has. The first file of an early enough run tells
-/// it.
-pub fn has_best_among(files: &[Placed], valid: i64, least: Option<i64>) -> bool
-    requires { spec.HaveTime valid files.now }
-    ensures { result ≡ is_some (best files.now valid least) }
-{
-    some_keeps(files, valid, least)
 }
 
 // A file as it stands among those of an instant, where its times may have the instant at an index.

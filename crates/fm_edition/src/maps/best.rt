@@ -30,13 +30,33 @@ fn rows_of(alloc: Global, page: &Page, wanted: Wanted) -> Result<List<Row>, NoMe
     Ok(rows)
 }
 
+// The rows of a page with a least offset, made anew. Where the runs of the files of each valid time rise, the last file
+// that keeps it tells the row.
+fn rows_from(
+    alloc: Global,
+    page: &Page,
+    least: Option<i64>,
+    rising: bool,
+) -> Result<List<Row>, NoMemory>
+    requires rising { rising ≡ true → spec.each_rises page.now.entries ≡ true }
+    requires timed { All spec.IsTimed page.now.entries }
+    ensures { IfOk result (λ rows. rows ≡ filter_map (spec.best_of_entry least) page.now.entries) }
+{
+    if rising {
+        rows_of(alloc, page, Wanted::Newest(least))
+    } else {
+        rows_of(alloc, page, Wanted::Best(least))
+    }
+}
+
 // What is kept of a page, for many to share.
 fn kept_of(alloc: Global, page: &Page) -> Result<Shared<PageRows>, NoMemory>
     requires { All spec.IsTimed page.now.entries }
     ensures { IfOk result (λ kept. kept ≡ spec.page_rows page.now) }
 {
-    let rows = rows_of(alloc, page, Wanted::Best(None))?;
-    let kept = PageRows::new(alloc, rows, each_one(page), each_rises(page))?;
+    let rising = each_rises(page);
+    let rows = rows_from(alloc, page, None, rising)?;
+    let kept = PageRows::new(alloc, rows, each_one(page), rising)?;
     Shared::new(alloc, kept)
 }
 
@@ -106,24 +126,6 @@ fn kept_page<'a>(best: &'a RowPages, number: &i64) -> &'a PageRows
     }
 }
 
-// The rows of a page with a least offset, made anew.
-fn rows_from(
-    alloc: Global,
-    kept: &PageRows,
-    page: &Page,
-    least: Option<i64>,
-) -> Result<List<Row>, NoMemory>
-    requires kept { kept.now ≡ spec.page_rows page.now }
-    requires timed { All spec.IsTimed page.now.entries }
-    ensures { IfOk result (λ rows. rows ≡ filter_map (spec.best_of_entry least) page.now.entries) }
-{
-    if kept.is_rising() {
-        rows_of(alloc, page, Wanted::Newest(least))
-    } else {
-        rows_of(alloc, page, Wanted::Best(least))
-    }
-}
-
 // Adds the rows of a page with a least offset. Where the kept rows keep it, or no other file can take the place of one
 // that doesn't, those that keep it are shared.
 fn push_from(
@@ -143,7 +145,7 @@ fn push_from(
     if kept.is_alone() {
         return push_keeping(rows, kept, least);
     }
-    let made = rows_from(alloc, kept, page, least)?;
+    let made = rows_from(alloc, page, least, kept.is_rising())?;
     rows.push(Arc::new(alloc, made)?)
 }
 

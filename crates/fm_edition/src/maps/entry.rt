@@ -6,46 +6,44 @@ ghost use Rattle.fm_list.specs.Selected.{AreSound};
 ghost use Rattle.fm_edition.specs.declared.maps.wanted.Wanted.{Wanted as Kind};
 ghost use Rattle.fm_edition.specs.Indexes as spec;
 
+use crate::maps::files::Files;
 use crate::maps::wanted::Wanted;
 use crate::row::push_row;
 use fm_base::{List, NoMemory};
-use fm_list::Placed;
-use fm_list::finding::cell_of;
-use fm_list::part::{best_among, best_of_rising, has_best_among};
 use fm_model::Row;
 
 // Adds the row of a valid time from the best run of the files that have it, if there is one.
 #[tactic(auto, unfolding(fm_model::specs::Rows::best_row))]
 fn push_best(
     rows: &mut List<Row>,
-    files: &[Placed],
+    files: &Files<'_>,
     valid: i64,
     least: Option<i64>,
 ) -> Result<(), NoMemory>
     requires { spec.IsTimed (valid, files.now) }
     ensures { OnOk result (rows.new ≡ rows.old ++ option_to_list (best_row files.now least valid)) }
 {
-    push_row(rows, files, best_among(files, valid, least), valid)
+    push_row(rows, files, files.best(valid, least), valid)
 }
 
 // The same, where the runs of the files rise.
 #[tactic(auto, unfolding(fm_model::specs::Rows::best_row))]
 fn push_newest(
     rows: &mut List<Row>,
-    files: &[Placed],
+    files: &Files<'_>,
     valid: i64,
     least: Option<i64>,
 ) -> Result<(), NoMemory>
     requires { spec.IsReady (Kind.Newest least) (valid, files.now) }
     ensures { OnOk result (rows.new ≡ rows.old ++ option_to_list (best_row files.now least valid)) }
 {
-    push_row(rows, files, best_of_rising(files, valid, least), valid)
+    push_row(rows, files, files.newest(valid, least), valid)
 }
 
 // Adds the row of a run and the valid time that many seconds after it, if there is one.
 fn push_after(
     rows: &mut List<Row>,
-    files: &[Placed],
+    files: &Files<'_>,
     run: i64,
     seconds: i64,
 ) -> Result<(), NoMemory>
@@ -61,7 +59,7 @@ fn push_after(
 // Adds the row that is wanted, if there is one.
 pub(crate) fn push_wanted(
     rows: &mut List<Row>,
-    files: &[Placed],
+    files: &Files<'_>,
     key: i64,
     wanted: Wanted,
 ) -> Result<(), NoMemory>
@@ -77,26 +75,26 @@ pub(crate) fn push_wanted(
 }
 
 // Whether the files have a best run for a valid time that each of them has.
-fn has_best(files: &[Placed], valid: i64, least: Option<i64>) -> bool
+fn has_best(files: &Files<'_>, valid: i64, least: Option<i64>) -> bool
     requires { spec.IsTimed (valid, files.now) }
     ensures { result ≡ is_some (best_row files.now least valid) }
 {
-    has_best_among(files, valid, least)
+    files.has_best(valid, least)
 }
 
 // Whether there is a row of a run and a valid time.
-fn has_row(files: &[Placed], run: i64, valid: i64) -> bool
+fn has_row(files: &Files<'_>, run: i64, valid: i64) -> bool
     requires { AreSound files.now }
     ensures { result ≡ is_some (row_at files.now run valid) }
 {
-    match cell_of(files, run, valid) {
+    match files.cell_of(run, valid) {
         Some(_) => true,
         None => false,
     }
 }
 
 // Whether there is a row of a run and the valid time that many seconds after it.
-fn has_after(files: &[Placed], run: i64, seconds: i64) -> bool
+fn has_after(files: &Files<'_>, run: i64, seconds: i64) -> bool
     requires { AreSound files.now }
     ensures { result ≡ is_some (row_at files.now run (run +ℤ seconds)) }
 {
@@ -107,7 +105,7 @@ fn has_after(files: &[Placed], run: i64, seconds: i64) -> bool
 }
 
 // Whether there is the row that is wanted.
-pub(crate) fn has_wanted(files: &[Placed], key: i64, wanted: Wanted) -> bool
+pub(crate) fn has_wanted(files: &Files<'_>, key: i64, wanted: Wanted) -> bool
     requires { spec.IsReady wanted (key, files.now) }
     ensures { result ≡ is_some (spec.entry_row wanted (key, files.now)) }
 {

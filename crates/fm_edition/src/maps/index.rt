@@ -2,7 +2,7 @@
 ghost use Rattle.std.specs.Prelude.{◌≡◌, [], IfOk};
 ghost use Rattle.fm_list.specs.Selected.{AreOwn};
 ghost use Rattle.fm_edition.specs.Indexes as spec;
-ghost use Rattle.fm_edition.specs.Steps.{AreDone};
+ghost use Rattle.fm_edition.specs.Steps.{AreDone, HaveGone};
 
 use crate::instants::instants_in;
 use crate::maps::Edition;
@@ -51,15 +51,18 @@ fn after_change(
     pages: &Pages,
     by: By,
     touched: &[i64],
+    went: &[Placed],
     op: &Op,
 ) -> Result<Pages, NoMemory>
-    requires { spec.AreOrdered pages.now }
+    requires ordered { spec.AreOrdered pages.now }
+    requires gone { HaveGone went.now op.now pages.now }
     ensures { IfOk result (AreDone by touched.now op.now pages.now) }
 {
     let own = own_of(alloc, by, op)?;
     let change = Change {
         by,
         op,
+        went,
         touched,
         own: own.as_slice(),
     };
@@ -72,13 +75,15 @@ fn map_after(
     pages: &Pages,
     by: By,
     changed: &[Placed],
+    went: &[Placed],
     op: &Op,
 ) -> Result<Pages, NoMemory>
-    requires { spec.AreOrdered pages.now }
+    requires ordered { spec.AreOrdered pages.now }
+    requires gone { HaveGone went.now op.now pages.now }
     ensures { IfOk result (AreDone by (spec.instants by changed.now) op.now pages.now) }
 {
     let touched = instants_in(alloc, by, changed)?;
-    after_change(alloc, pages, by, touched.as_slice(), op)
+    after_change(alloc, pages, by, touched.as_slice(), went, op)
 }
 
 impl Edition {
@@ -87,15 +92,29 @@ impl Edition {
     ghost use Rattle.fm_edition.specs.Log.{CanFollow};
 
     // The maps after an operation that takes out and adds some files.
-    fn maps_after(&self, alloc: Global, changed: &[Placed], op: &Op) -> Result<Index, NoMemory>
+    fn maps_after(
+        &self,
+        alloc: Global,
+        changed: &[Placed],
+        went: &[Placed],
+        op: &Op,
+    ) -> Result<Index, NoMemory>
+        requires went { went.now ≡ change.gone self.now.files op.now }
         requires changed { changed.now ≡ change.changed self.now.files op.now }
         requires can { CanFollow self.now.proto self.now.files op.now }
         ensures { IfOk result (λ index. spec.AreMaps (after_op self.now.files op.now) index) }
     {
         let times = instants_in(alloc, By::Time, changed)?;
-        let by_run = map_after(alloc, &self.index.by_run, By::Run, changed, op)?;
-        let by_time = after_change(alloc, &self.index.by_time, By::Time, times.as_slice(), op)?;
-        let by_name = map_after(alloc, &self.index.by_name, By::Name, changed, op)?;
+        let by_run = map_after(alloc, &self.index.by_run, By::Run, changed, went, op)?;
+        let by_time = after_change(
+            alloc,
+            &self.index.by_time,
+            By::Time,
+            times.as_slice(),
+            went,
+            op,
+        )?;
+        let by_name = map_after(alloc, &self.index.by_name, By::Name, changed, went, op)?;
         let best = best_after(alloc, &self.index.best, &by_time, times.as_slice())?;
         Ok(Index {
             by_run,
@@ -116,7 +135,9 @@ impl Edition {
         requires can { CanFollow self.now.proto self.now.files op.now }
         ensures { IfOk result (λ index. spec.AreMaps (after_op self.now.files op.now) index) }
     {
+        let count = gone.len();
         let changed = changed(gone, op)?;
-        self.maps_after(alloc, changed.as_slice(), op)
+        let (went, _) = changed.as_slice().split_at(count);
+        self.maps_after(alloc, changed.as_slice(), went, op)
     }
 }

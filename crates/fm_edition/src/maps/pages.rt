@@ -7,16 +7,17 @@ ghost use Rattle.fm_list.specs.Selected.{AreOwn};
 ghost use Rattle.fm_edition.specs.Indexes as spec;
 ghost use Rattle.fm_edition.specs.Steps as steps;
 
+use crate::maps::files::Files;
+use crate::maps::roll::{Roll, roll_after};
 use crate::maps::shared::Shared;
-use fm_base::{List, NoMemory};
-use fm_list::part::part_after;
+use fm_base::NoMemory;
 use fm_list::{By, Placed};
 use fm_model::Op;
 use std::alloc::Global;
 use std::collections::BTreeMap;
 
 /// The files by each instant of a page.
-pub(crate) type Page = BTreeMap<i64, Shared<List<Placed>>>;
+pub(crate) type Page = BTreeMap<i64, Shared<Roll>>;
 
 /// The pages by their number.
 pub(crate) type Pages = BTreeMap<i64, Shared<Page>>;
@@ -30,20 +31,20 @@ pub(crate) fn page_of(key: i64) -> i64
 }
 
 // The files by an instant.
-pub(crate) fn files_at(pages: &Pages, key: i64) -> &[Placed]
-    ensures { result.now ≡ spec.or_none (spec.in_page pages.now (spec.page_of key) key) }
+pub(crate) fn files_at(pages: &Pages, key: i64) -> Files<'_>
+    ensures { result ≡ spec.or_none (spec.in_page pages.now (spec.page_of key) key) }
 {
     match pages.get(&page_of(key)) {
         Some(page) => match page.get().get(&key) {
-            Some(files) => files.get().as_slice(),
-            None => &[],
+            Some(files) => files.get().all(),
+            None => Files::of(&[]),
         },
-        None => &[],
+        None => Files::of(&[]),
     }
 }
 
 // Sets the files by an instant of a page.
-fn set_part(alloc: Global, page: &mut Page, key: i64, files: List<Placed>) -> Result<(), NoMemory>
+fn set_part(alloc: Global, page: &mut Page, key: i64, files: Roll) -> Result<(), NoMemory>
     ensures set { OnOk result ((other : ℤ) → tree.get int_cmp page.new other
         ≡ spec.updated key (spec.some_of files) (tree.get int_cmp page.old) other) }
     ensures ordered { OnOk result (tree.IsOrdered int_cmp page.new) }
@@ -83,12 +84,13 @@ fn opened(alloc: Global, pages: &Pages, number: i64) -> Result<Page, NoMemory>
     }
 }
 
-/// An operation, the kind of instant that its files are looked up by, the instants that it touches, and those of the
-/// file that it adds.
+/// An operation, the kind of instant that its files are looked up by, the files that it takes out, the instants that it
+/// touches, and those of the file that it adds.
 #[derive(Clone, Copy)]
 pub(crate) struct Change<'a> {
     pub by: By,
     pub op: &'a Op,
+    pub went: &'a [Placed],
     pub touched: &'a [i64],
     pub own: &'a [i64],
 }
@@ -103,6 +105,7 @@ fn page_after(
     from: usize,
 ) -> Result<usize, NoMemory>
     requires own { AreOwn change.now.by change.now.op.now change.now.own.now }
+    requires gone { steps.HaveGone change.now.went.now change.now.op.now pages.now }
     requires index { from < length change.now.touched.now }
     requires ordered { tree.IsOrdered int_cmp page.old }
     requires first { spec.page_of (slice_index_or change.now.touched.now from number) ≡ number }
@@ -116,14 +119,7 @@ fn page_after(
     let mut at = from;
     while at < touched.len() && page_of(touched[at]) == number {
         let key = touched[at];
-        let files = part_after(
-            alloc,
-            change.by,
-            key,
-            files_at(pages, key),
-            change.op,
-            change.own,
-        )?;
+        let files = roll_after(alloc, key, &files_at(pages, key), change)?;
         set_part(alloc, page, key, files)?;
         at += 1;
     }
@@ -137,6 +133,7 @@ pub(crate) fn pages_after(
     change: &Change<'_>,
 ) -> Result<Pages, NoMemory>
     requires own { AreOwn change.now.by change.now.op.now change.now.own.now }
+    requires gone { steps.HaveGone change.now.went.now change.now.op.now pages.now }
     requires ordered { spec.AreOrdered pages.now }
     ensures { IfOk result (steps.AreDone change.now.by change.now.touched.now change.now.op.now pages.now) }
 {

@@ -1,22 +1,24 @@
-//! All files of an edition in the collection's order, in pieces that editions share.
+//! All files of an edition, or those by an instant, in the collection's order and in pieces that editions share.
 ghost use Rattle.std.specs.Prelude.{◌≡◌, ◌++◌, All, IfOk, List as Items, OnOk, filter, false};
 ghost use Rattle.std.specs.List.{list_any};
 ghost use Rattle.fm_model.specs.declared.loaded.Loaded.{Loaded as File};
 ghost use Rattle.fm_model.specs.Collection.{after_op, holds_older};
 ghost use Rattle.fm_list.specs.Change as change;
+ghost use Rattle.fm_list.specs.Selected as selected;
+ghost use Rattle.fm_list.specs.Selected.{AreOwn};
 ghost use Rattle.fm_edition.specs.Pieces as spec;
 
+use crate::maps::files::{Files, Piece};
+use crate::maps::pages::Change;
 use crate::maps::shared::Shared;
 use fm_base::{List, NoMemory};
 use fm_list::Placed;
-use fm_list::change::{changed, kept, push_gone};
+use fm_list::change::{changed, kept};
 use fm_list::finding::{has_older, shares_run};
+use fm_list::part::part_after;
 use fm_model::Op;
 use std::alloc::Global;
 use std::marker::Model;
-
-// Some files that stand one after the other.
-type Piece = Shared<List<Placed>>;
 
 /// The files in their order: pieces of them, and the last few. A clause sees the list.
 #[derive(Drop)]
@@ -85,22 +87,12 @@ fn kept_pieces(
     requires { All (spec.HasGone went.now op.now) pieces.now }
     ensures { IfOk result (λ next. spec.joined next ≡ filter (change.keeps op.now) (spec.joined pieces.now)) }
 {
-    let mut next = List::new(alloc);
+    let items = Vec::with_capacity(alloc, pieces.len())?;
+    let mut next = List { items };
     for piece in pieces {
         push_kept(alloc, &mut next, piece, went, op)?;
     }
     Ok(next)
-}
-
-// The files that an operation takes out of all pieces.
-fn gone_of_pieces(alloc: Global, pieces: &[Piece], op: &Op) -> Result<List<Placed>, NoMemory>
-    ensures { IfOk result (λ gone. gone ≡ change.gone (spec.joined pieces.now) op.now) }
-{
-    let mut gone = List::new(alloc);
-    for piece in pieces {
-        push_gone(&mut gone, piece.get().as_slice(), op)?;
-    }
-    Ok(gone)
 }
 
 // Whether a file of a piece is of a run before the cutoff.
@@ -126,10 +118,15 @@ impl Model for Roll {
 }
 
 // The list of some pieces and the last files. These become a piece where they are enough.
-fn rolled(alloc: Global, mut pieces: List<Piece>, last: List<Placed>) -> Result<Roll, NoMemory>
+fn rolled(
+    alloc: Global,
+    mut pieces: List<Piece>,
+    last: List<Placed>,
+    enough: usize,
+) -> Result<Roll, NoMemory>
     ensures { IfOk result (λ roll. roll ≡ spec.joined pieces ++ last) }
 {
-    if last.len() < 64 {
+    if last.len() < enough {
         return Ok(Roll { pieces, last });
     }
     push_piece(alloc, &mut pieces, last)?;
@@ -139,8 +136,24 @@ fn rolled(alloc: Global, mut pieces: List<Piece>, last: List<Placed>) -> Result<
     })
 }
 
+// The files by an instant after an operation. The pieces are shorter than those of all files, since many lists change.
+pub(crate) fn roll_after(
+    alloc: Global,
+    key: i64,
+    files: &Files<'_>,
+    change: &Change<'_>,
+) -> Result<Roll, NoMemory>
+    requires own { AreOwn change.now.by change.now.op.now change.now.own.now }
+    requires gone { spec.HasGone change.now.went.now change.now.op.now files.now }
+    ensures { IfOk result (λ next. next ≡ selected.part_after change.now.by key change.now.op.now files.now) }
+{
+    let pieces = kept_pieces(alloc, files.pieces, change.went, change.op)?;
+    let last = part_after(alloc, change.by, key, files.last, change.op, change.own)?;
+    rolled(alloc, pieces, last, 16)
+}
+
 impl Roll {
-    ghost use Rattle.std.specs.Prelude.{◌≡◌, [], IfOk};
+    ghost use Rattle.std.specs.Prelude.{◌≡◌, ◌↔◌, [], IfOk, IsTrue};
     ghost use Rattle.fm_model.specs.Collection.{after_op, holds_older};
     ghost use Rattle.fm_list.specs.Change as change;
 
@@ -161,16 +174,24 @@ impl Roll {
     {
         let pieces = kept_pieces(alloc, self.pieces.as_slice(), went, op)?;
         let last = files_after(alloc, self.last.as_slice(), op)?;
-        rolled(alloc, pieces, last)
+        rolled(alloc, pieces, last, 64)
     }
 
-    // The files that an operation takes out.
-    pub(crate) fn gone(&self, alloc: Global, op: &Op) -> Result<List<Placed>, NoMemory>
-        ensures { IfOk result (λ gone. gone ≡ change.gone self.now op.now) }
+    // The files, for a look-up.
+    pub(crate) fn all(&self) -> Files<'_>
+        ensures { result ≡ self.now }
     {
-        let mut gone = gone_of_pieces(alloc, self.pieces.as_slice(), op)?;
-        push_gone(&mut gone, self.last.as_slice(), op)?;
-        Ok(gone)
+        Files {
+            pieces: self.pieces.as_slice(),
+            last: self.last.as_slice(),
+        }
+    }
+
+    // Whether there are no files.
+    pub(crate) fn is_empty(&self) -> bool
+        ensures { IsTrue result ↔ (self.now ≡ []) }
+    {
+        self.all().up_to_two() == 0
     }
 
     // Whether a file is of a run before the cutoff.

@@ -5,11 +5,10 @@ ghost use Rattle.std.specs.Map.{keys_of as keys_in};
 ghost use Rattle.fm_edition.specs.Indexes as spec;
 
 use crate::maps::entry::{has_wanted, push_wanted};
+use crate::maps::files::Files;
 use crate::maps::pages::{Page, Pages};
 use crate::maps::wanted::Wanted;
 use fm_base::{List, NoMemory};
-use fm_list::Placed;
-use fm_list::part::have_rising_runs;
 use fm_model::Row;
 use fm_rows::Rows;
 use std::alloc::Global;
@@ -41,7 +40,7 @@ pub(crate) fn push_page(rows: &mut List<Row>, page: &Page, wanted: Wanted) -> Re
     ensures { OnOk result (rows.new ≡ rows.old ++ filter_map (spec.entry_row wanted) page.now.entries) }
 {
     for (key, files) in page {
-        push_wanted(rows, files.get().as_slice(), *key, wanted)?;
+        push_wanted(rows, &files.get().all(), *key, wanted)?;
     }
     Ok(())
 }
@@ -59,10 +58,10 @@ pub(crate) fn rows_in(alloc: Global, pages: &Pages, wanted: Wanted) -> Result<Ro
 }
 
 // Whether there is one file.
-fn is_one(files: &[Placed]) -> bool
+fn is_one(files: &Files<'_>) -> bool
     ensures { result ≡ spec.is_one files.now }
 {
-    files.len() == 1
+    files.up_to_two() == 1
 }
 
 // Whether each instant of a page is that of one file.
@@ -70,7 +69,7 @@ pub(crate) fn each_one(page: &Page) -> bool
     ensures { result ≡ spec.each_one page.now.entries }
 {
     for (_, files) in page {
-        if !is_one(files.get().as_slice()) {
+        if !is_one(&files.get().all()) {
             return false;
         }
     }
@@ -82,7 +81,7 @@ pub(crate) fn each_rises(page: &Page) -> bool
     ensures { result ≡ spec.each_rises page.now.entries }
 {
     for (_, files) in page {
-        if !have_rising_runs(files.get().as_slice()) {
+        if !files.get().all().have_rising_runs() {
             return false;
         }
     }
@@ -97,7 +96,7 @@ pub(crate) fn count_page(page: &Page, wanted: Wanted) -> usize
 {
     let mut count = 0;
     for (key, files) in page {
-        if has_wanted(files.get().as_slice(), *key, wanted) {
+        if has_wanted(&files.get().all(), *key, wanted) {
             count += 1;
         }
     }

@@ -13,7 +13,7 @@ cell_of-requires c =
     let a : SFits w64 c.args.valid = search rules in
     let found = simp to_z-of_z at c.files_at.ensures in
     let at = part_at Time c.self.inside.files c.self.inside.index.by_time c.args.valid c.self.invariant.maps.of_times in
-    let is : c.files_at.result.now ≡ part Time c.self.inside.files c.args.valid = found ∙ at in
+    let is : c.files_at.result ≡ part Time c.self.inside.files c.args.valid = found ∙ at in
     rw is (sound-part Time c.self.inside.files c.args.valid
     (times_are_sound c.self.inside.proto c.self.inside.files c.self.invariant.sound.fit))
 
@@ -24,7 +24,7 @@ returns-clause-found c =
     let found = simp to_z-of_z at c.files_at.ensures in
     let got = simp to_z-of_z at c.cell_of.ensures.found in
     let at = part_at Time c.self.inside.files c.self.inside.index.by_time c.args.valid c.self.invariant.maps.of_times in
-    let same : cell c.files_at.result.now c.args.run c.args.valid
+    let same : cell c.files_at.result c.args.run c.args.valid
     ≡ cell c.self.inside.files c.args.run c.args.valid = ap (λ files. cell files c.args.run c.args.valid) (found ∙ at)
     ∙ cell-part c.self.inside.files c.args.run c.args.valid in
     rw (← c.self.view_is, ← same) got
@@ -36,7 +36,7 @@ returns-clause-none c =
     let found = simp to_z-of_z at c.files_at.ensures in
     let got = simp to_z-of_z at c.cell_of.ensures.none in
     let at = part_at Time c.self.inside.files c.self.inside.index.by_time c.args.valid c.self.invariant.maps.of_times in
-    let same : cell c.files_at.result.now c.args.run c.args.valid
+    let same : cell c.files_at.result c.args.run c.args.valid
     ≡ cell c.self.inside.files c.args.run c.args.valid = ap (λ files. cell files c.args.run c.args.valid) (found ∙ at)
     ∙ cell-part c.self.inside.files c.args.run c.args.valid in
     rw (← c.self.view_is, ← same) got

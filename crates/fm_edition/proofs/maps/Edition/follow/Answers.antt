@@ -20,7 +20,7 @@ pub tally_after-tally-requires-clause-part : goal.tally_after-tally-requires-cla
 tally_after-tally-requires-clause-part c =
     let op = c.args.op.now in
     let files = c.self.inside.files in
-    let gone_is : c.as_slice.result.now ≡ gone files op = c.as_slice.ensures
+    let gone_is : c.of.result ≡ gone files op = (c.of.ensures ∙ c.as_slice.ensures)
     ∙ subst (λ (h : Held). c.args.gone ≡ gone h.files op) (sym c.self.view_is) c.requires.gone in
     rw (c.self.invariant.counted, gone_is, gone-gone files op) (IsPartOf-gone files op)
 
@@ -28,7 +28,7 @@ pub tally_after-tally-requires-clause-within : goal.tally_after-tally-requires-c
 tally_after-tally-requires-clause-within c =
     let op = c.args.op.now in
     let files = c.self.inside.files in
-    let gone_is : c.as_slice.result.now ≡ gone files op = c.as_slice.ensures
+    let gone_is : c.of.result ≡ gone files op = (c.of.ensures ∙ c.as_slice.ensures)
     ∙ subst (λ (h : Held). c.args.gone ≡ gone h.files op) (sym c.self.view_is) c.requires.gone in
     let can = subst (λ (h : Held). CanFollow h.proto h.files op) (sym c.self.view_is) c.requires.can in
     let within : IsWithin (with_added op (less (tally files) (tally (gone files op)))) =
@@ -45,10 +45,10 @@ invariant_of-result c =
     let held : Held = record { proto = c.self.inside.proto; files = c.self.inside.files } in
     let can : CanFollow held.proto held.files op = subst (λ (h : Held). CanFollow h.proto h.files op)
     (sym c.self.view_is) c.requires.can in
-    let gone_is : c.as_slice.result.now ≡ gone held.files op = c.as_slice.ensures
+    let gone_is : c.of.result ≡ gone held.files op = (c.of.ensures ∙ c.as_slice.ensures)
     ∙ subst (λ (h : Held). c.args.gone ≡ gone h.files op) (sym c.self.view_is) c.requires.gone in
     let count : c.tally_after-tally.result ≡ tally (after_op held.files op) = c.tally_after-tally.ensures
-    ∙ ap (λ (t : Tally). with_added op (less t (tally (gone c.as_slice.result.now op)))) c.self.invariant.counted
+    ∙ ap (λ (t : Tally). with_added op (less t (tally (gone c.of.result op)))) c.self.invariant.counted
     ∙ ap (λ l. with_added op (less (tally held.files) (tally (gone l op)))) gone_is
     ∙ ap (λ l. with_added op (less (tally held.files) (tally l))) (gone-gone held.files op)
     ∙ sym (tally-after held.files op) in

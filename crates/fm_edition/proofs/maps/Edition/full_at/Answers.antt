@@ -13,14 +13,14 @@ full_after-requires-clause-held c = rw c.self.invariant.counted c.self.invariant
 
 pub full_after-requires-clause-part : goal.full_after-requires-clause-part
 full_after-requires-clause-part c = rw c.self.invariant.counted
-    (IsPartOf-near c.self.inside.files c.near.result.now c.args.op.now
+    (IsPartOf-near c.self.inside.files c.near.result c.args.op.now
     (c.near.ensures c.self.inside.files c.self.invariant.maps.of_names))
 
 pub returns : goal.returns
 returns c =
     let op = c.args.op.now in
     let files = c.self.inside.files in
-    let near = c.near.result.now in
+    let near = c.near.result in
     c.full_after.ensures
     ∙ ap (λ (t : Tally). full_of (with_added op (less t (tally (gone near op))))) c.self.invariant.counted
     ∙ full-near files near op c.self.invariant.sound.within (c.near.ensures files c.self.invariant.maps.of_names)

@@ -2,22 +2,37 @@
 use Rattle.std.proofs.Common.{◌≡◌, false, sym, ap, subst, ◌∙◌}
 use Rattle.std.specs.Option.{option_map}
 use Rattle.fm_list.specs.declared.by.By.TheVariants.{Run, Time, Name}
-use Rattle.fm_list.specs.Change.{changed}
+use Rattle.fm_list.specs.Change.{changed, gone}
 use Rattle.fm_edition.specs.declared.maps.index.Index.{Index}
 use Rattle.fm_edition.specs.Held.{Held}
 use Rattle.fm_edition.specs.Indexes.{instants, page_rows, rows_at, touches}
 use Rattle.fm_edition.specs.Log.{CanFollow}
-use Rattle.fm_edition.proofs.IndexLemmas.{entries_timed-after, AreMaps-after, IsDone}
+use Rattle.fm_edition.proofs.IndexLemmas.{entries_timed-after, AreMaps-after, HaveGone-parts, IsDone}
 use Rattle.fm_edition.proofs.maps.Edition.maps_after.Goals as goal
 
-pub map_after-requires : goal.map_after-requires
-map_after-requires c = c.self.invariant.maps.of_runs.ordered
+pub map_after-requires-clause-ordered : goal.map_after-requires-clause-ordered
+map_after-requires-clause-ordered c = c.self.invariant.maps.of_runs.ordered
 
-pub after_change-requires : goal.after_change-requires
-after_change-requires c = c.self.invariant.maps.of_times.ordered
+pub map_after-requires-clause-gone : goal.map_after-requires-clause-gone
+map_after-requires-clause-gone c = HaveGone-parts Run c.self.inside.files c.args.went.now c.args.op.now
+    c.self.inside.index.by_run c.self.invariant.maps.of_runs
+    (subst (λ (h : Held). c.args.went.now ≡ gone h.files c.args.op.now) (sym c.self.view_is) c.requires.went)
 
-pub map_after-requires-2 : goal.map_after-requires-2
-map_after-requires-2 c = c.self.invariant.maps.of_names.ordered
+pub after_change-requires-clause-ordered : goal.after_change-requires-clause-ordered
+after_change-requires-clause-ordered c = c.self.invariant.maps.of_times.ordered
+
+pub after_change-requires-clause-gone : goal.after_change-requires-clause-gone
+after_change-requires-clause-gone c = HaveGone-parts Time c.self.inside.files c.args.went.now c.args.op.now
+    c.self.inside.index.by_time c.self.invariant.maps.of_times
+    (subst (λ (h : Held). c.args.went.now ≡ gone h.files c.args.op.now) (sym c.self.view_is) c.requires.went)
+
+pub map_after-requires-2-clause-ordered : goal.map_after-requires-2-clause-ordered
+map_after-requires-2-clause-ordered c = c.self.invariant.maps.of_names.ordered
+
+pub map_after-requires-2-clause-gone : goal.map_after-requires-2-clause-gone
+map_after-requires-2-clause-gone c = HaveGone-parts Name c.self.inside.files c.args.went.now c.args.op.now
+    c.self.inside.index.by_name c.self.invariant.maps.of_names
+    (subst (λ (h : Held). c.args.went.now ≡ gone h.files c.args.op.now) (sym c.self.view_is) c.requires.went)
 
 pub best_after-requires-clause-best : goal.best_after-requires-clause-best
 best_after-requires-clause-best c = c.self.invariant.maps.of_best.ordered

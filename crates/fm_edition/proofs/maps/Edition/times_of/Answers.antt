@@ -10,8 +10,8 @@ pub returns : goal.returns
 returns c =
     let a : SFits w64 c.args.run = search rules in
     let found = simp to_z-of_z at c.files_at.ensures in
-    let got = simp to_z-of_z at c.times_in.ensures in
+    let got = simp to_z-of_z at c.times_of.ensures in
     let at = part_at Run c.self.inside.files c.self.inside.index.by_run c.args.run c.self.invariant.maps.of_runs in
-    let same : times_of_run c.files_at.result.now c.args.run ≡ times_of_run c.self.inside.files c.args.run =
+    let same : times_of_run c.files_at.result c.args.run ≡ times_of_run c.self.inside.files c.args.run =
     ap (λ files. times_of_run files c.args.run) (found ∙ at) ∙ times_of_run-part c.self.inside.files c.args.run in
     rw (← c.self.view_is, ← same) got

@@ -26,6 +26,10 @@ returns-then-is_alone c =
     (ap (filter (keeps_least c.args.least)) rows_are ∙ from_alone c.args.least c.args.page.now alone)
     c.push_keeping.ensures
 
+pub rows_from-requires-clause-rising : goal.rows_from-requires-clause-rising
+rows_from-requires-clause-rising c = λ rises. ap (λ (kept : KeptRows). kept.rising) (sym c.requires.kept)
+    ∙ sym c.is_rising.ensures ∙ rises
+
 pub returns : goal.returns
 returns c =
     subst (λ (rows : List Row). OnOk c.push-2.result (c.push-2.new.self ≡ c.args.rows.now ++ rows))

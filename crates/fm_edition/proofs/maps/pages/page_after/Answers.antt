@@ -1,5 +1,5 @@
 -- The instants from the index on are set one after the other, and what is set stays so.
-use Rattle.std.proofs.Common.{◌≡◌, ◌≢◌, ◌∙◌, rules, arith, ap, cond, refl, sym, get_or, List, Option, SFits, w64, pos}
+use Rattle.std.proofs.Common.{◌≡◌, ◌≢◌, ◌∙◌, rules, arith, ap, cond, refl, subst, sym, get_or, List, Option, SFits, w64, pos}
 use Rattle.std.specs.BTreeMap.{get}
 use Rattle.std.specs.Ordering.{int_cmp, int_eq}
 use Rattle.std.proofs.lemmas.Int.{ints, to_z-of_z}
@@ -7,6 +7,7 @@ use Rattle.std.proofs.lemmas.List.{get_or_default}
 use Rattle.fm_model.specs.declared.loaded.Loaded.{Loaded}
 use Rattle.fm_list.specs.Selected.{part_after}
 use Rattle.fm_edition.specs.Indexes.{in_page, or_none, page_of, page_set, some_of}
+use Rattle.fm_edition.specs.Pieces.{HasGone}
 use Rattle.fm_edition.proofs.PageLemmas.{page_set-more, page_set-other}
 use Rattle.fm_edition.proofs.maps.pages.page_after.Goals as goal
 
@@ -21,8 +22,15 @@ loop-at-init c =
       others = λ other key apart. refl;
     }
 
-pub part_after-requires : goal.part_after-requires
-part_after-requires c = c.requires.own
+pub roll_after-requires-clause-own : goal.roll_after-requires-clause-own
+roll_after-requires-clause-own c = c.requires.own
+
+pub roll_after-requires-clause-gone : goal.roll_after-requires-clause-gone
+roll_after-requires-clause-gone c =
+    let key = get_or c.args.change.now.touched.now c.loop-at.at (pos 0) in
+    let a : SFits w64 key = search rules in
+    let held = simp to_z-of_z at c.files_at.ensures in
+    subst (HasGone c.args.change.now.went.now c.args.change.now.op.now) (sym held) (c.requires.gone (page_of key) key)
 
 pub loop-at-preserved : goal.loop-at-preserved
 unfolding page_set

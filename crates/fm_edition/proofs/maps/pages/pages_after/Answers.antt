@@ -11,6 +11,9 @@ use Rattle.fm_edition.proofs.maps.pages.pages_after.Goals as goal
 pub page_after-requires-clause-own : goal.page_after-requires-clause-own
 page_after-requires-clause-own c = c.requires.own
 
+pub page_after-requires-clause-gone : goal.page_after-requires-clause-gone
+page_after-requires-clause-gone c = c.requires.gone
+
 pub loop-at-init : goal.loop-at-init
 loop-at-init c =
     let same : c.in_ok-next.next.entries ≡ c.args.pages.now.entries = same_entries c.args.pages.now.entries

@@ -1,5 +1,5 @@
 -- What is left of one more piece.
-use Rattle.std.proofs.Common.{◌++◌, refl, ap, sym, subst, take, ◌∙◌}
+use Rattle.std.proofs.Common.{◌++◌, ap, sym, subst, take, ◌∙◌}
 use Rattle.std.specs.Prelude.{filter}
 use Rattle.std.proofs.lemmas.List.{take_all}
 use Rattle.fm_list.specs.Change.{keeps}
@@ -10,9 +10,6 @@ use Rattle.fm_edition.proofs.maps.roll.kept_pieces.Goals as goal
 pub push_kept-requires : goal.push_kept-requires
 push_kept-requires c = subst (HasGone c.args.went.now c.args.op.now) (sym c.piece-item.is)
     (c.requires c.loop-piece.piece-index c.piece-item.result c.loop-piece-test.true)
-
-pub loop-piece-init : goal.loop-piece-init
-loop-piece-init c = rw c.new-next.ensures refl
 
 pub loop-piece-preserved : goal.loop-piece-preserved
 loop-piece-preserved c =

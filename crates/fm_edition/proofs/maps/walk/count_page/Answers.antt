@@ -13,7 +13,7 @@ pub has_wanted-requires : goal.has_wanted-requires
 has_wanted-requires c =
     let a : SFits w64 c.in-Some.key.now = search rules in
     simp to_z-of_z (subst (λ files. IsReady c.args.wanted (c.in-Some.key.now, files))
-    (sym (c.as_slice.ensures ∙ c.get.ensures))
+    (sym (c.all.ensures ∙ c.get.ensures))
     (all_first (IsReady c.args.wanted) (c.in-Some.key.now, c.in-Some.files.now) c.next.new.self c.loop-key.key-iterator
     c.in-Some.ensures.steps c.loop-key.invariant.ready))
 
@@ -22,7 +22,7 @@ overflow_add-count c =
     let make = entry_row c.args.wanted in
     let a : SFits w64 c.in-Some.key.now = search rules in
     let own : is_some (make (c.in-Some.key.now, c.in-Some.files.now)) ≡ c.has_wanted.result =
-    ap (λ held. is_some (make (c.in-Some.key.now, held))) (sym (c.as_slice.ensures ∙ c.get.ensures))
+    ap (λ held. is_some (make (c.in-Some.key.now, held))) (sym (c.all.ensures ∙ c.get.ensures))
     ∙ sym (simp to_z-of_z at c.has_wanted.ensures) in
     let next = counted_more make c.loop-key.count (c.in-Some.key.now, c.in-Some.files.now) c.next.new.self
     c.loop-key.key-iterator (length (filter_map make c.args.page.now.entries)) c.in-Some.ensures.steps
@@ -35,7 +35,7 @@ loop-key-preserved-then-has_wanted c =
     let make = entry_row c.args.wanted in
     let a : SFits w64 c.in-Some.key.now = search rules in
     let own : is_some (make (c.in-Some.key.now, c.in-Some.files.now)) ≡ c.has_wanted.result =
-    ap (λ held. is_some (make (c.in-Some.key.now, held))) (sym (c.as_slice.ensures ∙ c.get.ensures))
+    ap (λ held. is_some (make (c.in-Some.key.now, held))) (sym (c.all.ensures ∙ c.get.ensures))
     ∙ sym (simp to_z-of_z at c.has_wanted.ensures) in
     record {
       ready = all_rest (IsReady c.args.wanted) (c.in-Some.key.now, c.in-Some.files.now) c.next.new.self
@@ -50,7 +50,7 @@ loop-key-preserved c =
     let make = entry_row c.args.wanted in
     let a : SFits w64 c.in-Some.key.now = search rules in
     let own : is_some (make (c.in-Some.key.now, c.in-Some.files.now)) ≡ c.has_wanted.result =
-    ap (λ held. is_some (make (c.in-Some.key.now, held))) (sym (c.as_slice.ensures ∙ c.get.ensures))
+    ap (λ held. is_some (make (c.in-Some.key.now, held))) (sym (c.all.ensures ∙ c.get.ensures))
     ∙ sym (simp to_z-of_z at c.has_wanted.ensures) in
     record {
       ready = all_rest (IsReady c.args.wanted) (c.in-Some.key.now, c.in-Some.files.now) c.next.new.self

@@ -10,7 +10,7 @@ pub push_wanted-requires : goal.push_wanted-requires
 push_wanted-requires c =
     let a : SFits w64 c.in-Some.key.now = search rules in
     simp to_z-of_z (subst (λ files. IsReady c.args.wanted (c.in-Some.key.now, files))
-    (sym (c.as_slice.ensures ∙ c.get.ensures))
+    (sym (c.all.ensures ∙ c.get.ensures))
     (all_first (IsReady c.args.wanted) (c.in-Some.key.now, c.in-Some.files.now) c.next.new.self c.loop-key.key-iterator
     c.in-Some.ensures.steps c.loop-key.invariant.ready))
 
@@ -19,11 +19,11 @@ loop-key-preserved c =
     let a : SFits w64 c.in-Some.key.now = search rules in
     let make = entry_row c.args.wanted in
     let pushed = simp to_z-of_z at c.in_ok-push_wanted.ensures in
-    let own = ap (λ held. make (c.in-Some.key.now, held)) (c.as_slice.ensures ∙ c.get.ensures) in
+    let own = ap (λ held. make (c.in-Some.key.now, held)) (c.all.ensures ∙ c.get.ensures) in
     record {
       ready = all_rest (IsReady c.args.wanted) (c.in-Some.key.now, c.in-Some.files.now) c.next.new.self
           c.loop-key.key-iterator c.in-Some.ensures.steps c.loop-key.invariant.ready;
-      made = rw pushed (one_taken make c.loop-key.rows (make (c.in-Some.key.now, c.as_slice.result.now))
+      made = rw pushed (one_taken make c.loop-key.rows (make (c.in-Some.key.now, c.all.result))
           (c.in-Some.key.now, c.in-Some.files.now) c.next.new.self c.loop-key.key-iterator
           (c.args.rows.now ++ filter_map make c.args.page.now.entries) c.in-Some.ensures.steps
           c.loop-key.invariant.made own);
