@@ -1,7 +1,7 @@
 -- The bytes of a plan: what stands ready, and the data behind it.
-use Rattle.std.proofs.Common.{◌≡◌, ℕ, ◌+◌, ◌-◌, ◌^◌, ◌<◌, ◌≤◌, List, ◌++◌, length, min, take, drop, All, Some, None, refl, sym, ap, subst, ◌∙◌, arith}
+use Rattle.std.proofs.Common.{◌≡◌, ℕ, ◌+◌, ◌-◌, ◌^◌, ◌<◌, ◌≤◌, List, ◌++◌, length, min, take, drop, All, Some, None, refl, sym, ap, ap₂, subst, ◌∙◌, arith}
 use Rattle.std.proofs.Math.Seq.{drop-append-add}
-use Rattle.std.proofs.lemmas.List.{append-nil, drop-append-le, length-append, length-drop, take_all, take-append-le}
+use Rattle.std.proofs.lemmas.List.{append-nil, drop_all, drop-append-le, length-append, length-drop, take_all, take-append-le}
 use Rattle.dap_model.specs.declared.projection.Sent.{Sent}
 use Rattle.fm_dataset.specs.Values.{Shown}
 use Rattle.dap_xdr.specs.Content.{data_of}
@@ -132,3 +132,12 @@ behind-plan parts len stands left first new plan is rest joined = record {
   );
   few = plan.few;
 }
+
+-- bytes behind a text stand before it where they are rotated by its length
+pub rotated : (head text : List ℕ) (len : ℕ) → len ≡ length text
+    → drop len (text ++ head) ++ take len (text ++ head) ≡ head ++ text
+rotated head text len is =
+    ap₂ (λ (a b : List ℕ). a ++ b)
+    (drop-append-le len text head (omega (arith, is))
+    ∙ ap (λ (l : List ℕ). l ++ head) (drop_all len text (omega (arith, is))))
+    (take-append-le len text head (omega (arith, is)) ∙ take_all len text (omega (arith, is)))

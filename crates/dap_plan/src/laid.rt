@@ -81,7 +81,8 @@ pub fn lay_out(alloc: Global, source: &Dataset, sent: &[Sent]) -> Result<Layout,
     ensures small { IfOk result (λ laid. laid.len < 2 ^ 126) }
     ensures laid { IfOk result (λ laid. AreLaid source.now sent.now laid.parts) }
 {
-    let mut begins = List::new(alloc);
+    let items = Vec::with_capacity(alloc, sent.len())?;
+    let mut begins = List { items };
     let mut marks = List::new(alloc);
     let mut len: u128 = 0;
     for part in sent {

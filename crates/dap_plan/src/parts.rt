@@ -1,5 +1,5 @@
 //! The bytes of a reply, of which the data stays in the files.
-ghost use Rattle.std.specs.Prelude.{◌≡◌, ◌<◌, ◌≤◌, ◌^◌, ◌-◌, ◌++◌, All, IfOk, Some, drop, length, min, take};
+ghost use Rattle.std.specs.Prelude.{◌≡◌, ◌<◌, ◌≤◌, ◌^◌, ◌-◌, ◌++◌, All, IfOk, OnOk, Some, drop, length, min, take};
 ghost use Rattle.dap_number.specs.Overlay.{overlay};
 ghost use Rattle.dap_xdr.specs.Datasets.{content_of};
 ghost use Rattle.dap_plan.specs.Laid.{AreLaid};
@@ -20,6 +20,16 @@ fn ready_len(front: &Bytes) -> u64
     ensures small { result < 2 ^ 63 }
 {
     front.items.len() as u64
+}
+
+// Puts bytes before others, which stay where they are in memory if there is room behind them.
+fn put_before(head: &[u8], text: &mut Bytes) -> Result<(), NoMemory>
+    ensures { OnOk result (text.new ≡ head.now ++ text.old) }
+{
+    let len = text.len();
+    text.append(head)?;
+    text.items.rotate_left(len);
+    Ok(())
 }
 
 /// The bytes of a reply: those before the first byte of its data, and what is sent of a dataset behind them. It holds
@@ -82,8 +92,9 @@ impl Plan {
         }
     }
 
-    /// The same bytes behind others.
-    pub fn behind(self, mut front: Bytes) -> Result<Plan, NoMemory>
+    /// The same bytes behind others. These are moved in front of those that stand ready, which are not copied elsewhere
+    /// if there is room behind them.
+    pub fn behind(self, front: Bytes) -> Result<Plan, NoMemory>
         ensures { IfOk result (λ plan. plan ≡ record {
           front = front ++ self.front;
           source = self.source;
@@ -91,13 +102,11 @@ impl Plan {
         }) }
     {
         let data = self.len - self.front.len() as u64;
-        if let Err(fail) = front.append(self.front.as_slice()) {
-            drop(self);
-            return Err(fail);
-        }
-        let len = ready_len(&front) + data;
+        let mut text = self.front;
+        put_before(front.as_slice(), &mut text)?;
+        let len = ready_len(&text) + data;
         Ok(Plan {
-            front,
+            front: text,
             source: self.source,
             sent: self.sent,
             laid: self.laid,

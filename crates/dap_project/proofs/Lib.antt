@@ -1,3 +1,4 @@
+pub mod AllLemmas
 pub mod BucketLemmas
 pub mod CutLemmas
 pub mod FaultLemmas

@@ -53,7 +53,7 @@ or-true : (b : Bool) → true ≡ (b || true)
 or-true true = refl
 or-true false = refl
 
-same_slabs : (first second : List Slab) → pointwise is_same_slab first second ≡ true → first ≡ second
+pub same_slabs : (first second : List Slab) → pointwise is_same_slab first second ≡ true → first ≡ second
 same_slabs first second e =
     (slice_eq-Decides same_slab first second (pointwise is_same_slab first second) refl).0 e
 

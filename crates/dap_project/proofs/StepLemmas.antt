@@ -19,6 +19,23 @@ pub left : {A : Type 0} (xs : List A) (at : ℕ) (x : A) → at < length xs → 
     → drop at xs ≡ x ∷ drop (at + 1) xs
 left xs at x within is = drop_more xs at x within ∙ ap (λ y. y ∷ drop (at + 1) xs) (sym is)
 
+-- what is left of arrays, by the array at an index
+pub left_at : (arrays : List Array) (at : ℕ) (array : Array) → slice_get arrays at ≡ Some array
+    → drop at arrays ≡ array ∷ drop (at + 1) arrays
+left_at [] at array e = absurd cc
+left_at (first ∷ arrays) zero array e = ap (λ (a : Array). a ∷ arrays) cc
+left_at (first ∷ arrays) (suc at) array e =
+    left_at arrays at array e ∙ ap (λ (n : ℕ). array ∷ drop n (first ∷ arrays)) (one at)
+  where
+    one : (at : ℕ) → suc (at + 1) ≡ suc at + 1
+    one at = omega arith
+
+-- where there is none, nothing is left
+pub none_at : (arrays : List Array) (at : ℕ) → slice_get arrays at ≡ None → drop at arrays ≡ []
+none_at [] at e = drop_all at [] (omega arith)
+none_at (array ∷ arrays) zero e = absurd cc
+none_at (array ∷ arrays) (suc at) e = none_at arrays at e
+
 -- a list with an item written, up to that
 written : {A : Type 0} (xs : List A) (at : ℕ) (x : A) (rest : List A) → at < length xs
     → take at xs ++ x ∷ rest ≡ take (at + 1) (set xs at x) ++ rest
@@ -62,18 +79,8 @@ pub cut_step : (done : List Array) (arrays : List Array) (slots : List Slot) (at
     ≡ (done ++ cut_of array slot) ++ cut_slots (drop (at + 1) arrays) (drop (at + 1) slots)
 unfolding cut_slots
 cut_step done arrays slots at array slot found within is =
-    ap₂ (λ a s. done ++ cut_slots a s) (there arrays at array found) (left slots at slot within is)
+    ap₂ (λ a s. done ++ cut_slots a s) (left_at arrays at array found) (left slots at slot within is)
     ∙ sym (append_assoc done (cut_of array slot) (cut_slots (drop (at + 1) arrays) (drop (at + 1) slots)))
-  where
-    one : (at : ℕ) → suc (at + 1) ≡ suc at + 1
-    one at = omega arith
-
-    there : (arrays : List Array) (at : ℕ) (array : Array) → slice_get arrays at ≡ Some array
-        → drop at arrays ≡ array ∷ drop (at + 1) arrays
-    there [] at array e = absurd cc
-    there (first ∷ arrays) zero array e = ap (λ (a : Array). a ∷ arrays) cc
-    there (first ∷ arrays) (suc at) array e =
-        there arrays at array e ∙ ap (λ (n : ℕ). array ∷ drop n (first ∷ arrays)) (one at)
 
 pub sent_step : (sent : List Sent) (index at : ℕ) (slots : List Slot) (slot : Slot) → at < length slots
     → slot ≡ get_or slots at slot
@@ -104,7 +111,7 @@ decl_step sent decls notes at decl note within there is_decl is_note =
 
 -- ---- at the end nothing is left
 
-all_of : {A : Type 0} (xs rest whole : List A) → xs ++ rest ≡ whole → rest ≡ [] → xs ≡ whole
+pub all_of : {A : Type 0} (xs rest whole : List A) → xs ++ rest ≡ whole → rest ≡ [] → xs ≡ whole
 all_of xs rest whole is none = sym (append-nil xs) ∙ ap (λ l. xs ++ l) (sym none) ∙ is
 
 pub cut_end : (done whole : List Array) (arrays : List Array) (slots : List Slot) (at : ℕ) → length slots ≤ at
@@ -121,12 +128,7 @@ pub cut_short : (done whole : List Array) (arrays : List Array) (slots : List Sl
     → slice_get arrays at ≡ None → done ++ cut_slots (drop at arrays) (drop at slots) ≡ whole → done ≡ whole
 unfolding cut_slots
 cut_short done whole arrays slots at past is =
-    all_of done _ whole is (ap (λ a. cut_slots a (drop at slots)) (none arrays at past))
-  where
-    none : (arrays : List Array) (at : ℕ) → slice_get arrays at ≡ None → drop at arrays ≡ []
-    none [] at e = drop_all at [] (omega arith)
-    none (array ∷ arrays) zero e = absurd cc
-    none (array ∷ arrays) (suc at) e = none arrays at e
+    all_of done _ whole is (ap (λ a. cut_slots a (drop at slots)) (none_at arrays at past))
 
 pub sent_end : (done whole : List Sent) (index at : ℕ) (slots : List Slot) → length slots ≤ at
     → done ++ sent_slots index at (drop at slots) ≡ whole → done ≡ whole

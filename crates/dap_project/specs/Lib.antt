@@ -1,3 +1,4 @@
+pub mod All
 pub mod Buckets
 pub mod Checks
 pub mod Notes

@@ -1,6 +1,7 @@
 //! What is sent of a dataset for a constraint: its projection, or the first fault of the first clause at fault.
 #![tactic(auto)]
 
+mod all;
 mod check;
 mod cut;
 mod index;
@@ -9,9 +10,11 @@ mod part;
 mod picked;
 mod projection;
 mod sent;
+mod shared;
 mod slabs;
 mod slot;
 mod whole;
 
+pub use all::whole_parts;
 pub use cut::cut_dims;
 pub use projection::project;

@@ -8,6 +8,7 @@ ghost use Rattle.dap_project.specs.Noted as spec;
 use crate::cut::cut_array;
 use crate::note::Note;
 use crate::picked::name_of;
+use crate::shared::{part_before, slabs_shared};
 use crate::slot::Slot;
 use dap_model::{Array, Decl, Projected, Sent};
 use dap_slab::part_of;
@@ -107,11 +108,13 @@ fn decls_sent(alloc: Global, decls: &[Decl], notes: &[Note]) -> Result<List<Decl
     Ok(sent)
 }
 
-// Adds a part whose slot is taken, by the index of its declaration and its own number.
+// Adds a part whose slot is taken, of a declaration of `count` parts, by the index of the declaration and its own
+// number.
 fn add_part(
     alloc: Global,
     decl: u32,
     at: usize,
+    count: usize,
     slot: &Slot,
     sent: &mut List<Sent>,
 ) -> Result<(), NoMemory>
@@ -123,12 +126,9 @@ fn add_part(
             let Ok(part) = u32::try_from(at) else {
                 return Err(NoMemory);
             };
-            let items = Vec::from_slice(alloc, slabs.as_slice())?;
-            sent.push(Sent {
-                decl,
-                part,
-                slabs: List { items },
-            })
+            let earlier = part_before(sent.as_slice(), count);
+            let slabs = slabs_shared(alloc, slabs.as_slice(), earlier)?;
+            sent.push(Sent { decl, part, slabs })
         }
     }
 }
@@ -144,7 +144,7 @@ fn add_parts(
     ensures { OnOk result (sent.new ≡ sent.old ++ spec.sent_slots decl 0 slots.now) }
 {
     for at in 0..slots.len() {
-        add_part(alloc, decl, at, &slots[at], sent)?;
+        add_part(alloc, decl, at, slots.len(), &slots[at], sent)?;
     }
     Ok(())
 }

@@ -36,7 +36,7 @@ fn whole_slab(size: u64) -> Slab
 
 // The whole of each dimension.
 #[tactic(auto, unfolding(dap_model::specs::Picking::whole_slabs))]
-fn whole_slabs(alloc: Global, dims: &[Dim]) -> Result<List<Slab>, NoMemory>
+pub(crate) fn whole_slabs(alloc: Global, dims: &[Dim]) -> Result<List<Slab>, NoMemory>
     ensures { IfOk result (λ slabs. slabs ≡ spec.whole_slabs dims.now) }
 {
     let items = Vec::with_capacity(alloc, dims.len())?;
@@ -66,7 +66,7 @@ fn is_same(slab: Slab, other: Slab) -> bool
 }
 
 // Whether slabs are the whole of each dimension.
-fn are_whole(dims: &[Dim], slabs: &[Slab]) -> bool
+pub(crate) fn are_whole(dims: &[Dim], slabs: &[Slab]) -> bool
     ensures { result ≡ pointwise is_same_slab slabs.now (spec.whole_slabs dims.now) }
 {
     if slabs.len() != dims.len() {

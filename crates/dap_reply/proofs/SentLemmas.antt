@@ -1,5 +1,5 @@
--- What is sent of a dataset is part of it, with slabs that lie within it.
-use Rattle.std.proofs.Common.{◌≡◌, ℕ, ◌^◌, ◌<◌, ◌≤◌, List, [], length, get_or, Some, None, All, ap, subst, sym, ◌∙◌, ⊎_elim, arith, refl, Result, Ok, Err}
+-- What is sent of a dataset is part of it, with slabs that lie within it, and few parts.
+use Rattle.std.proofs.Common.{◌≡◌, ℕ, ◌^◌, ◌<◌, ◌≤◌, List, [], length, get_or, Some, None, All, ap, ap₂, subst, sym, ◌∙◌, ⊎_elim, arith, refl, Result, Ok, Err}
 use Rattle.std.specs.Prelude.{slice_get, option_and_then, IsSomeAnd}
 use Rattle.std.specs.List.{AllZip}
 use Rattle.std.specs.Option.{option_map_or}
@@ -21,13 +21,19 @@ use Rattle.dap_model.proofs.ProjectionSentLemmas.{FitsPart-sent, PartSent, PartS
 use Rattle.fm_dataset.specs.Declarations.{decls_of}
 use Rattle.fm_dataset.specs.Values.{Shown}
 use Rattle.fm_base.proofs.ChainLemmas.{same_Ok}
+use Rattle.fm_base.specs.Answer.{Answers}
 use Rattle.fm_base.specs.Chain.{◌>>=◌, fault_as}
+use Rattle.fm_base.specs.declared.fail.Fail.{Fail}
+use Rattle.fm_base.specs.declared.fail.Fail.TheVariants as fails
 use Rattle.dap_ce.specs.Asked.{asked_by}
 use Rattle.dap_model.specs.declared.fault.CeFault.{CeFault}
 use Rattle.dap_model.specs.declared.fault.ProjectFault.{ProjectFault}
 use Rattle.dap_model.specs.declared.projection.Projection.{Projection as Asks}
 use Rattle.dap_reply.specs.declared.fault.DapFault.TheVariants.{Constraint, Projection}
-use Rattle.dap_reply.specs.Body.{projected_of}
+use Rattle.dap_reply.specs.Body.{before_data, data_behind_text, data_body, dataset_sent, projected_of, sent_asked, within_limit}
+use Rattle.dap_reply.specs.declared.body.Body.{Body}
+use Rattle.dap_reply.specs.declared.fault.DapFault.{DapFault}
+use Rattle.web_path.specs.declared.target.Target.{Target}
 use Rattle.dap_xdr.specs.Content.{array_in, FitsArray}
 use Rattle.dap_plan.specs.Parts.{IsSentOf}
 use Rattle.dap_reply.proofs.FewLemmas.{all_sent-few}
@@ -105,14 +111,14 @@ clauses-of decls constraint projected is = by_asked (asked_by constraint) is
     by_asked (Err fault) same = absurd (not-ok same)
 
 -- what is sent for a constraint
-pub all-sent : (shown : Shown) (constraint : List ℕ) (projected : Projected) → IsPrototype shown.proto
+all-sent : (shown : Shown) (constraint : List ℕ) (projected : Projected) → IsPrototype shown.proto
     → projected_of (decls_of shown.proto (length shown.rows)) constraint ≡ Ok projected
     → All (IsSentOf shown) projected.sent
 all-sent shown constraint projected prototype is =
     let found = clauses-of (decls_of shown.proto (length shown.rows)) constraint projected is in
     sent-fits shown found.clauses projected prototype found.projected_is
 
-pub few-sent : (shown : Shown) (constraint : List ℕ) (projected : Projected) → IsPrototype shown.proto
+few-sent : (shown : Shown) (constraint : List ℕ) (projected : Projected) → IsPrototype shown.proto
     → projected_of (decls_of shown.proto (length shown.rows)) constraint ≡ Ok projected
     → length projected.sent < 2 ^ 28
 few-sent shown constraint projected prototype is =
@@ -122,4 +128,67 @@ few-sent shown constraint projected prototype is =
     subst (λ (p : Projected). length p.sent < 2 ^ 28) accepted.all
     (all_sent-few shown.proto (length shown.rows) found.clauses prototype)
 
-pub ruleset sent = (all-sent, few-sent)
+-- what is sent for a target, and the text before it
+record IsAskedFor (decls : List Decl) (target : Target) (front : List ℕ) (sent : List Sent) : Type 0 where
+  pub projected : Projected
+  pub projected_is : projected_of decls target.constraint ≡ Ok projected
+  pub front_is : before_data target projected ≡ front
+  pub sent_is : projected.sent ≡ sent
+
+-- the text before the data, and what is sent
+abbrev made_of : Target → Projected → Result (List ℕ × List Sent) DapFault
+made_of target projected = Ok (before_data target projected, projected.sent)
+
+asked-for : (decls : List Decl) (target : Target) (front : List ℕ) (sent : List Sent)
+    → sent_asked decls target ≡ Ok (front, sent) → IsAskedFor decls target front sent
+asked-for decls target front sent is = by_projected (projected_of decls target.constraint) refl is
+  where
+    by_projected : (found : Result Projected DapFault) → projected_of decls target.constraint ≡ found
+        → (found >>= (λ p. made_of target p)) ≡ Ok (front, sent) → IsAskedFor decls target front sent
+    by_projected (Ok projected) found same =
+        let both = same_Ok {E = DapFault} (before_data target projected, projected.sent) (front, sent) same in
+        record {
+          projected = projected;
+          projected_is = found;
+          front_is = ap (λ (made : List ℕ × List Sent). made.0) both;
+          sent_is = ap (λ (made : List ℕ × List Sent). made.1) both;
+        }
+    by_projected (Err fault) found same = absurd (not-ok same)
+
+pub all-asked : (shown : Shown) (target : Target) (front : List ℕ) (sent : List Sent) → IsPrototype shown.proto
+    → sent_asked (decls_of shown.proto (length shown.rows)) target ≡ Ok (front, sent) → All (IsSentOf shown) sent
+all-asked shown target front sent prototype is =
+    let asked = asked-for (decls_of shown.proto (length shown.rows)) target front sent is in
+    subst (λ (l : List Sent). All (IsSentOf shown) l) asked.sent_is
+    (all-sent shown target.constraint asked.projected prototype asked.projected_is)
+
+pub few-asked : (shown : Shown) (target : Target) (front : List ℕ) (sent : List Sent) → IsPrototype shown.proto
+    → sent_asked (decls_of shown.proto (length shown.rows)) target ≡ Ok (front, sent) → length sent < 2 ^ 28
+few-asked shown target front sent prototype is =
+    let asked = asked-for (decls_of shown.proto (length shown.rows)) target front sent is in
+    subst (λ (l : List Sent). length l < 2 ^ 28) asked.sent_is
+    (few-sent shown target.constraint asked.projected prototype asked.projected_is)
+
+-- the data that is asked for lies behind this text
+pub asked-sent : (shown : Shown) (target : Target) (front : List ℕ) (sent : List Sent)
+    → sent_asked (decls_of shown.proto (length shown.rows)) target ≡ Ok (front, sent)
+    → dataset_sent shown target ≡ within_limit (data_behind_text front shown sent)
+asked-sent shown target front sent is =
+    let asked = asked-for (decls_of shown.proto (length shown.rows)) target front sent is in
+    ap (λ found. found >>= (λ p. within_limit (data_body shown target p))) asked.projected_is
+    ∙ ap₂ (λ (f : List ℕ) (s : List Sent). within_limit (data_behind_text f shown s)) asked.front_is asked.sent_is
+
+-- a fault of what is asked is one of the data
+pub asked-refused : (shown : Shown) (target : Target) (fail : Fail DapFault)
+    → Answers {A = List ℕ × List Sent} (sent_asked (decls_of shown.proto (length shown.rows)) target) (Err fail)
+    → Answers {A = Body} (dataset_sent shown target) (Err fail)
+asked-refused shown target fails.NoMemory is = tt
+asked-refused shown target (fails.Fault fault) is =
+    by_projected (projected_of (decls_of shown.proto (length shown.rows)) target.constraint) is
+  where
+    by_projected : (found : Result Projected DapFault)
+        → (found >>= (λ p. made_of target p)) ≡ Err fault
+        → (found >>= (λ p. within_limit (data_body shown target p))) ≡ Err fault
+    by_projected (Ok projected) same = absurd (not-ok (sym same))
+    by_projected (Err other) same =
+        let alike : other ≡ fault = cc in ap (λ (f : DapFault). Err f) alike

@@ -94,6 +94,12 @@ attributes_asked proto files target = do
   count ← some_rows (length (rows files target.view))
   within_limit (text_body Attributes (das_of proto target.view))
 
+-- the text before the data that a target asks for of declarations, and what is sent of them
+abbrev pub sent_asked : List Decl → Target → Result (List ℕ × List Sent) DapFault
+sent_asked decls target = do
+  projected ← projected_of decls target.constraint
+  Ok (before_data target projected, projected.sent)
+
 -- the data that a target asks for of a dataset
 abbrev pub dataset_sent : Shown → Target → Result Body DapFault
 dataset_sent shown target = do

@@ -1,12 +1,12 @@
 //! The body that a target asks for.
-ghost use Rattle.std.specs.Prelude.{◌≡◌, ◌<◌, ◌^◌, ◌++◌, All, IfOk, codes, length};
+ghost use Rattle.std.specs.Prelude.{◌≡◌, ◌<◌, ◌^◌, ◌++◌, [], All, IfOk, Ok, codes, length};
 ghost use Rattle.fm_base.specs.Answer.{Answers, AnswersAs};
 ghost use Rattle.fm_model.specs.Rows as views;
 ghost use Rattle.dap_model.specs.StructureText.{dds_of};
 ghost use Rattle.fm_dataset.specs.Declarations.{decls_of};
 ghost use Rattle.dap_reply.specs.declared.body.BodyKind.{BodyKind as Kind};
-ghost use Rattle.dap_reply.specs.Body.{attributes_asked, body_of, data_asked, data_behind_text, data_body, dataset_sent};
-ghost use Rattle.dap_reply.specs.Body.{projected_of, some_rows, some_shown, structure_asked, structure_by, structure_of};
+ghost use Rattle.dap_reply.specs.Body.{attributes_asked, body_of, data_asked, data_behind_text, dataset_sent};
+ghost use Rattle.dap_reply.specs.Body.{projected_of, sent_asked, some_rows, some_shown, structure_asked, structure_by};
 ghost use Rattle.dap_reply.specs.Body.{text_body, within_limit};
 ghost use Rattle.dap_plan.specs.Laid.{AreLaid};
 ghost use Rattle.dap_plan.specs.Parts.{bytes_of, IsSentOf};
@@ -18,7 +18,7 @@ use dap_das::das_text_of;
 use dap_dds::dds_text;
 use dap_model::{Decl, Projected, Sent};
 use dap_plan::{Laid, Plan, lay_out};
-use dap_project::project;
+use dap_project::{project, whole_parts};
 use fm_base::{Bytes, Fail, List, NoMemory, fault_as};
 use fm_dataset::{Dataset, decls};
 use fm_edition::Edition;
@@ -203,49 +203,55 @@ fn data_body(
     }
 }
 
-// The text before the data that a target asks for.
-#[tactic(auto, unfolding(crate::specs::Body::structure_of))]
-fn front_of(alloc: Global, target: &Target, projected: &Projected) -> Result<Bytes, NoMemory>
-    ensures { IfOk result (λ text. text ≡ structure_of target.now projected.now ++ codes "Data:\n") }
+// The text before the data that a target asks for of declarations.
+fn front_of(alloc: Global, target: &Target, decls: &List<Decl>) -> Result<Bytes, NoMemory>
+    ensures { IfOk result (λ text. text ≡ dds_of target.now.label decls.now ++ codes "Data:\n") }
 {
-    let mut text = dds_of(alloc, target, &projected.decls)?;
+    let mut text = dds_of(alloc, target, decls)?;
     text.append(b"Data:\n")?;
     Ok(text)
 }
 
-// The data of what is sent, behind its structure text.
-fn projected_sent(
+// The text before the data that a target asks for, and what is sent of all declarations, as they stand.
+fn whole_asked(
     alloc: Global,
     target: &Target,
-    source: Dataset,
-    projected: Projected,
-) -> Result<Body, Fail<DapFault>>
-    requires sent { All (IsSentOf source) projected.sent }
-    requires few { length projected.sent < 2 ^ 28 }
-    ensures { Answers (within_limit (data_body source target.now projected)) result }
+    decls: &List<Decl>,
+) -> Result<(Bytes, List<Sent>), NoMemory>
+    requires { target.now.constraint ≡ [] }
+    ensures { IfOk result (λ asked. sent_asked decls.now target.now ≡ Ok asked) }
 {
-    match front_of(alloc, target, &projected) {
-        Ok(front) => data_body(alloc, front, source, projected.sent),
-        Err(NoMemory) => {
-            drop(source);
-            Err(Fail::NoMemory)
-        }
+    let front = front_of(alloc, target, decls)?;
+    let sent = whole_parts(alloc, decls.as_slice())?;
+    Ok((front, sent))
+}
+
+// The text before the data that a target asks for, and what is sent of declarations. Without a constraint these are
+// taken as they stand.
+#[tactic(auto, unfolding(crate::specs::Body::structure_of))]
+fn sent_asked(
+    alloc: Global,
+    target: &Target,
+    decls: &List<Decl>,
+) -> Result<(Bytes, List<Sent>), Fail<DapFault>>
+    ensures { Answers (sent_asked decls.now target.now) result }
+{
+    if target.constraint.is_empty() {
+        return Ok(whole_asked(alloc, target, decls)?);
     }
+    let projected = projected_of(alloc, decls.as_slice(), target.constraint.as_slice())?;
+    let front = front_of(alloc, target, &projected.decls)?;
+    Ok((front, projected.sent))
 }
 
 // The data that a target asks for of a dataset.
-#[tactic(auto, using(crate::proofs::SentLemmas::sent))]
 fn dataset_sent(alloc: Global, target: &Target, source: Dataset) -> Result<Body, Fail<DapFault>>
     ensures { Answers (dataset_sent source target.now) result }
 {
     // Few parts are sent, and each is one of the dataset, since the prototype is that of a file.
     let _proto = source.proto();
-    match projected_of(
-        alloc,
-        source.decls().as_slice(),
-        target.constraint.as_slice(),
-    ) {
-        Ok(projected) => projected_sent(alloc, target, source, projected),
+    match sent_asked(alloc, target, source.decls()) {
+        Ok((front, sent)) => data_body(alloc, front, source, sent),
         Err(fail) => {
             drop(source);
             Err(fail)

@@ -50,11 +50,11 @@ fn answer_over(alloc: Global, edition: &Edition, dap: &Dap) -> Result<Answer, No
 // How many bytes a head has at most, by and large.
 const HEAD: usize = 256;
 
-// No bytes yet, and room for a head with this number of bytes behind it.
-fn with_room(alloc: Global, behind: usize) -> Result<Bytes, NoMemory>
+// No bytes yet, and room for a head.
+fn with_room(alloc: Global) -> Result<Bytes, NoMemory>
     ensures { IfOk result (λ text. text ≡ []) }
 {
-    let items = Vec::with_capacity(alloc, behind.saturating_add(HEAD))?;
+    let items = Vec::with_capacity(alloc, HEAD)?;
     Ok(Bytes { items })
 }
 
@@ -62,7 +62,7 @@ fn with_room(alloc: Global, behind: usize) -> Result<Bytes, NoMemory>
 fn answer_head(alloc: Global, answer: &Answer, revision: u64, last: bool) -> Result<Bytes, NoMemory>
     ensures { IfOk result (λ text. text ≡ head_text (answer_head answer.now revision last)) }
 {
-    let mut text = with_room(alloc, answer.body.bytes.front.len())?;
+    let mut text = with_room(alloc)?;
     let head = Head {
         status: answer.status,
         kind: answer.body.kind,

@@ -40,7 +40,7 @@ pub fn fits(set: &Dataset, sent: &Sent) -> bool
         return false;
     };
     match part_of(decl, sent.part as usize) {
-        Some(array) => fit_dims(array.dims.as_slice(), sent.slabs.as_slice()),
+        Some(array) => fit_dims(array.dims.as_slice(), sent.slabs()),
         None => false,
     }
 }

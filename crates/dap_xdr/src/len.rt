@@ -135,7 +135,7 @@ pub fn xdr_len(set: &Dataset, sent: &Sent) -> u128
     ensures small { result < 2 ^ 98 }
 {
     let part = Part::new(set, sent);
-    if sent.slabs.is_empty() {
+    if sent.slabs.get().is_empty() {
         u128::from(alone_len(&part))
     } else {
         many_len(&part)

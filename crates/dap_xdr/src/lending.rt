@@ -76,7 +76,7 @@ pub fn lent<'a>(set: &'a Dataset, sent: &Sent, from: u64) -> &'a [u8]
     ensures { take (length result.now) (drop from (part_data (content_of set.now) sent.now)) ≡ result.now }
 {
     let part = Part::new(set, sent);
-    if sent.slabs.is_empty() || from < 8 {
+    if sent.slabs.get().is_empty() || from < 8 {
         return &[];
     }
     if !part.stands_as_sent() {

@@ -58,7 +58,7 @@ impl<'a, 'b> Part<'a, 'b> {
     {
         let column = set.column(sent.decl, sent.part);
         let array = array_of(set, sent);
-        let extent = extent_of(array.dims.as_slice(), sent.slabs.as_slice());
+        let extent = extent_of(array.dims.as_slice(), sent.slabs());
         Part {
             column,
             sent,
@@ -72,7 +72,7 @@ impl<'a, 'b> Part<'a, 'b> {
         ensures value { result ≡ length self.now.sent.slabs }
         ensures few { result ≤ 1025 }
     {
-        self.sent.slabs.len()
+        self.sent.slabs().len()
     }
 
     // How many numbers or texts are sent.
@@ -126,7 +126,7 @@ impl<'a, 'b> Part<'a, 'b> {
         requires room { length index.old ≡ length self.now.sent.slabs }
         ensures { index.new ≡ index_at self.now.sent.slabs element }
     {
-        put_index(self.sent.slabs.as_slice(), self.count(), element, index);
+        put_index(self.sent.slabs(), self.count(), element, index);
     }
 
     // Whether an element is one of those that are sent.
@@ -160,7 +160,7 @@ impl<'a, 'b> Part<'a, 'b> {
         if !self.has_element(element) {
             return;
         }
-        advance(self.sent.slabs.as_slice(), index, element);
+        advance(self.sent.slabs(), index, element);
     }
 
     // Moves the index list of an element on to a later one, where there is one. It takes no division to the next one.

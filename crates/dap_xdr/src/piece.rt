@@ -83,7 +83,7 @@ pub fn xdr_piece_marked(
     ensures bytes { out.new ≡ overlay (drop from (part_data (content_of set.now) sent.now)) out.old }
 {
     let part = Part::new(set, sent);
-    if sent.slabs.is_empty() {
+    if sent.slabs.get().is_empty() {
         return put_alone(&part, from, out);
     }
     if part.rank() <= FEW {

@@ -58,7 +58,7 @@ pub(crate) fn section_len(grid: &Grid, sent: &Sent) -> u128
     ensures small { result < 2 ^ 98 }
 {
     let section = Section::new(grid, sent);
-    if sent.slabs.is_empty() {
+    if sent.slabs.get().is_empty() {
         u128::from(alone_len(&section))
     } else {
         many_len(&section)

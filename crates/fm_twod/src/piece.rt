@@ -120,7 +120,7 @@ pub(crate) fn section_piece(grid: &Grid, sent: &Sent, from: u64, out: &mut [u8])
     ensures { IsPut (drop from (part_data (content_of grid.now) sent.now)) out.old out.new result }
 {
     let section = Section::new(grid, sent);
-    if sent.slabs.is_empty() {
+    if sent.slabs.get().is_empty() {
         return put_alone(&section, from, out);
     }
     if section.rank() <= FEW {

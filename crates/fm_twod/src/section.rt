@@ -56,7 +56,7 @@ impl<'a, 'b> Section<'a, 'b> {
         ensures data { data_in result ≡ part_data (content_of grid.now) sent.now }
     {
         let array = array_of(grid, sent);
-        let count = count_of(array.dims.as_slice(), sent.slabs.as_slice());
+        let count = count_of(array.dims.as_slice(), sent.slabs());
         Section {
             grid,
             sent,
@@ -70,7 +70,7 @@ impl<'a, 'b> Section<'a, 'b> {
         ensures value { result ≡ length self.now.sent.slabs }
         ensures few { result ≤ 1025 }
     {
-        self.sent.slabs.len()
+        self.sent.slabs().len()
     }
 
     // How many values are sent.
@@ -103,7 +103,7 @@ impl<'a, 'b> Section<'a, 'b> {
         requires room { length index.old ≡ length self.now.sent.slabs }
         ensures { index.new ≡ index_at self.now.sent.slabs element }
     {
-        put_index(self.sent.slabs.as_slice(), self.count(), element, index);
+        put_index(self.sent.slabs(), self.count(), element, index);
     }
 
     // Writes the index list of an element, where there is one.
@@ -128,7 +128,7 @@ impl<'a, 'b> Section<'a, 'b> {
         if !self.has_element(element) {
             return;
         }
-        advance(self.sent.slabs.as_slice(), index, element);
+        advance(self.sent.slabs(), index, element);
     }
 
     // The bits of an element, whose index list stands in `index`.

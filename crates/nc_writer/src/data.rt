@@ -25,7 +25,7 @@ fn values_len(source: &Dataset, variable: &Variable) -> u128
     ensures small { result < 2 ^ 97 }
 {
     let width = value_len(variable.kind, variable.width);
-    slab_len(variable.sent.slabs.as_slice()) * u128::from(width)
+    slab_len(variable.sent.slabs()) * u128::from(width)
 }
 
 // How many bytes the data of a variable takes.
@@ -61,7 +61,7 @@ fn put_each(source: &Dataset, variable: &Variable, from: u64, out: &mut [u8]) ->
     ensures { IsPut (drop from (spec.data_bytes (content_of source.now) variable.now)) out.old out.new result }
 {
     let mut room = [0; MAX_RANK];
-    let (index, _) = room.split_at_mut(variable.sent.slabs.len());
+    let (index, _) = room.split_at_mut(variable.sent.slabs().len());
     let len = values_len(source, variable) as u64;
     let count = put_values(source, variable, from, out, index);
     let (_, rest) = out.split_at_mut(count);
@@ -89,7 +89,7 @@ fn is_sent_alike(variable: &Variable) -> bool
     ensures same { IsTrue result → variable.now.kind ≢ Kind.Int16 }
     ensures many { IsTrue result → variable.now.sent.slabs ≢ [] }
 {
-    if variable.sent.slabs.is_empty() {
+    if variable.sent.slabs.get().is_empty() {
         return false;
     }
     match variable.kind {

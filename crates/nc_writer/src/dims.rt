@@ -94,7 +94,7 @@ pub(crate) fn dims_of(alloc: Global, variables: &[Variable]) -> Result<List<Dim>
 fn declares(name: &[u8], variable: &Variable) -> bool
     ensures { result ≡ spec.declares name.now variable.now }
 {
-    dim_number(variable.dims.as_slice(), name) < variable.sent.slabs.len()
+    dim_number(variable.dims.as_slice(), name) < variable.sent.slabs().len()
 }
 
 // Whether some variable has a dimension of this name before that of its characters.

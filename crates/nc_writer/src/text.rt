@@ -49,7 +49,7 @@ fn longest_of(source: &Dataset, sent: &Sent, array: &Array, count: u64, index: &
 {
     let mut most: u64 = 1;
     for element in 0..count {
-        put_index(sent.slabs.as_slice(), count, element, index);
+        put_index(sent.slabs(), count, element, index);
         let text = source.text(sent.decl, sent.part, index);
         most = most.max(text.len() as u64);
     }
@@ -63,7 +63,7 @@ fn longest(source: &Dataset, sent: &Sent, array: &Array) -> u64
     requires text { array.now.kind ≡ Kind.Text }
     ensures { result ≡ spec.longest (spec.texts_sent (content_of source.now) sent.now) }
 {
-    let slabs = sent.slabs.as_slice();
+    let slabs = sent.slabs();
     let mut room = [0; MAX_RANK];
     let (index, _) = room.split_at_mut(slabs.len());
     longest_of(source, sent, array, slab_len(slabs) as u64, index)

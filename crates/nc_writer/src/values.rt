@@ -132,7 +132,7 @@ fn put_one(
     ensures fits { result.bytes ≤ length out.old }
     ensures room { length index.new ≡ length index.old }
 {
-    let slabs = variable.sent.slabs.as_slice();
+    let slabs = variable.sent.slabs();
     let count = slab_len(slabs) as u64;
     put_index(slabs, count, element, index);
     let bytes = put_value(source, variable, index, passed, out);
@@ -178,7 +178,7 @@ pub(crate) fn put_values(
     ensures { IsPut (drop from (spec.values_of (content_of source.now) variable.now)) out.old out.new result }
 {
     let width = value_len(variable.kind, variable.width);
-    let count = slab_len(variable.sent.slabs.as_slice()) as u64;
+    let count = slab_len(variable.sent.slabs()) as u64;
     let mut element = from / width;
     if element >= count {
         return 0;

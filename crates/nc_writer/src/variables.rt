@@ -43,7 +43,7 @@ fn has_slabs(found: &[Variable], name: &[u8], slabs: &[Slab]) -> Option<bool>
 {
     for variable in found {
         if variable.name.as_slice() == name {
-            return Some(are_same(variable.sent.slabs.as_slice(), slabs));
+            return Some(are_same(variable.sent.slabs(), slabs));
         }
     }
     None
@@ -67,14 +67,13 @@ fn put_characters(
 }
 
 // The same part with the same slabs.
-fn copy_sent(alloc: Global, sent: &Sent) -> Result<Sent, NoMemory>
+fn copy_sent(sent: &Sent) -> Result<Sent, NoMemory>
     ensures { IfOk result (λ copy. copy ≡ sent.now) }
 {
-    let items = Vec::from_slice(alloc, sent.slabs.as_slice())?;
     Ok(Sent {
         decl: sent.decl,
         part: sent.part,
-        slabs: List { items },
+        slabs: sent.slabs.share()?,
     })
 }
 
@@ -89,10 +88,10 @@ fn variable_with(
     requires { AreCuts array.now.dims sent.now.slabs }
     ensures { IfOk result (λ variable. variable ≡ spec.variable_with sent.now array.now width) }
 {
-    let mut dims = cut_dims(alloc, array.dims.as_slice(), sent.slabs.as_slice())?;
+    let mut dims = cut_dims(alloc, array.dims.as_slice(), sent.slabs())?;
     put_characters(alloc, array, width, &mut dims)?;
     let name = Bytes::copy_of(alloc, array.name.as_slice())?;
-    let sent = copy_sent(alloc, sent)?;
+    let sent = copy_sent(sent)?;
     Ok(Variable {
         name,
         kind: array.kind,
@@ -130,7 +129,7 @@ fn add_part(
     ensures { Adds (spec.add_part (content_of source.now) found.old sent.now array.now) result found.new }
 {
     let name = array.name.as_slice();
-    match has_slabs(found.as_slice(), name, sent.slabs.as_slice()) {
+    match has_slabs(found.as_slice(), name, sent.slabs()) {
         Some(true) => Ok(()),
         Some(false) => Err(Fail::Fault(WriteFault::SlabsDiffer(Bytes::copy_of(alloc, name)?))),
         None => {

@@ -17,8 +17,8 @@ loop-part-init c =
       len_is = sym (data-none (content_of shown) sent);
       few = omega arith;
       within = omega arith;
-      count = ap length c.new-begins.ensures;
-      begins_are = subst (AreBegins shown sent) (sym c.new-begins.ensures) (begins-none shown sent);
+      count = ap length c.in_ok-items.ensures.items;
+      begins_are = subst (AreBegins shown sent) (sym c.in_ok-items.ensures.items) (begins-none shown sent);
       marks_are = subst (AreMarked shown sent) (sym c.new-marks.ensures) (All-nil (IsMarkedAt shown sent));
     }
 

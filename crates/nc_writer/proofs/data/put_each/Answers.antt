@@ -13,7 +13,7 @@ use Rattle.nc_writer.proofs.data.put_each.Goals as goal
 pub split_at_mut-index-requires : goal.split_at_mut-index-requires
 split_at_mut-index-requires c =
     let few = variable-ranks c.args.source.now c.args.variable.now c.requires.variable in
-    omega (arith, few, c.len.ensures)
+    omega (arith, few, ap length c.slabs.ensures)
 
 pub returns : goal.returns
 unfolding data_bytes

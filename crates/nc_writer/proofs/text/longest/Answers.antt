@@ -8,14 +8,14 @@ use Rattle.nc_writer.proofs.text.longest.Goals as goal
 pub split_at_mut-index-requires : goal.split_at_mut-index-requires
 split_at_mut-index-requires c =
     let few = few-ranks c.args.source.now c.args.sent.now c.args.array.now c.requires.part in
-    omega (arith, few, ap length c.as_slice-slabs.ensures)
+    omega (arith, few, ap length c.slabs-slabs.ensures)
 
 pub slab_len-requires-clause-few : goal.slab_len-requires-clause-few
 slab_len-requires-clause-few c =
     let few = few-picked c.args.source.now c.args.sent.now c.args.array.now c.requires.part in
-    subst (λ (s : List Slab). box_len s < 2 ^ 128) (sym c.as_slice-slabs.ensures) (omega (arith, few))
+    subst (λ (s : List Slab). box_len s < 2 ^ 128) (sym c.slabs-slabs.ensures) (omega (arith, few))
 
 pub overflow_cast-slab_len : goal.overflow_cast-slab_len
 overflow_cast-slab_len c =
     let few = few-picked c.args.source.now c.args.sent.now c.args.array.now c.requires.part in
-    omega (arith, few, c.slab_len.ensures, ap box_len c.as_slice-slabs.ensures)
+    omega (arith, few, c.slab_len.ensures, ap box_len c.slabs-slabs.ensures)

@@ -15,14 +15,14 @@ text-text-requires c =
     text-at c.args.source.now c.args.sent.now c.args.array.now c.loop-element.element c.put_index.new.index
     c.requires.part c.requires.text
     (subst (λ (n : ℕ). c.loop-element.element < n) c.requires.count c.loop-element-test.true)
-    (c.put_index.ensures ∙ ap (λ (s : List Slab). index_at s c.loop-element.element) c.as_slice.ensures)
+    (c.put_index.ensures ∙ ap (λ (s : List Slab). index_at s c.loop-element.element) c.slabs.ensures)
 
 pub loop-element-preserved : goal.loop-element-preserved
 loop-element-preserved c =
     let content = content_of c.args.source.now in
     let sent = c.args.sent.now in
     let within = subst (λ (n : ℕ). c.loop-element.element < n) c.requires.count c.loop-element-test.true in
-    let index_is = c.put_index.ensures ∙ ap (λ (s : List Slab). index_at s c.loop-element.element) c.as_slice.ensures in
+    let index_is = c.put_index.ensures ∙ ap (λ (s : List Slab). index_at s c.loop-element.element) c.slabs.ensures in
     let longer : c.max-most.result ≡ max c.loop-element.most (length c.text-text.result.now) =
     omega (arith, c.max-most.ensures) in (
       ap length index_is ∙ length-index_at sent.slabs c.loop-element.element ∙ sym c.requires.room,

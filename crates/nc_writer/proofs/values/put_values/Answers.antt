@@ -15,12 +15,12 @@ use Rattle.nc_writer.proofs.values.put_values.Goals as goal
 pub slab_len-count-requires-clause-few : goal.slab_len-count-requires-clause-few
 slab_len-count-requires-clause-few c =
     let few = few-values c.args.source.now c.args.variable.now c.requires.variable in
-    subst (λ (s : List Slab). box_len s < 2 ^ 128) (sym c.as_slice.ensures) (omega (arith, few))
+    subst (λ (s : List Slab). box_len s < 2 ^ 128) (sym c.slabs.ensures) (omega (arith, few))
 
 pub overflow_cast-count : goal.overflow_cast-count
 overflow_cast-count c =
     let few = few-values c.args.source.now c.args.variable.now c.requires.variable in
-    omega (arith, few, c.slab_len-count.ensures, ap box_len c.as_slice.ensures)
+    omega (arith, few, c.slab_len-count.ensures, ap box_len c.slabs.ensures)
 
 pub nonzero_div-element : goal.nonzero_div-element
 nonzero_div-element c =
@@ -38,14 +38,14 @@ returns-then-element-count c =
     values-past (content_of c.args.source.now) variable c.args.from c.args.out.now
     (value-some c.args.source.now variable c.requires.variable)
     (subst (λ (n : ℕ). n ≤ c.args.from / value_len variable.kind variable.width) (c.slab_len-count.ensures
-    ∙ ap box_len c.as_slice.ensures)
+    ∙ ap box_len c.slabs.ensures)
     (subst (λ (n : ℕ). c.slab_len-count.result ≤ c.args.from / n) c.value_len-width.ensures c.if-element-count.true))
 
 pub loop-element-init : goal.loop-element-init
 loop-element-init c =
     let variable = c.args.variable.now in
     let width = c.value_len-width.ensures in
-    let count = c.slab_len-count.ensures ∙ ap box_len c.as_slice.ensures in
+    let count = c.slab_len-count.ensures ∙ ap box_len c.slabs.ensures in
     let some = value-some c.args.source.now variable c.requires.variable in (
       refl,
       subst (λ (n : ℕ). c.args.from % n < value_len variable.kind variable.width) (sym width)
@@ -60,7 +60,7 @@ loop-element-init c =
 pub put_some-turn-requires : goal.put_some-turn-requires
 put_some-turn-requires c = record {
   variable = c.requires.variable;
-  element = subst (λ (n : ℕ). c.loop-element.element < n) (c.slab_len-count.ensures ∙ ap box_len c.as_slice.ensures)
+  element = subst (λ (n : ℕ). c.loop-element.element < n) (c.slab_len-count.ensures ∙ ap box_len c.slabs.ensures)
       c.loop-element-test.true;
   room = c.loop-element.invariant.0 ∙ c.requires.room;
 }
@@ -99,7 +99,7 @@ pub returns-after-loop-element : goal.returns-after-loop-element
 unfolding values_of
 returns-after-loop-element c =
     let slabs = c.args.variable.now.sent.slabs in
-    let count = c.slab_len-count.ensures ∙ ap box_len c.as_slice.ensures in
+    let count = c.slab_len-count.ensures ∙ ap box_len c.slabs.ensures in
     so-far-done (value_at (content_of c.args.source.now) c.args.variable.now) (box_of slabs)
     c.args.from c.loop-element.filled c.loop-element.element c.loop-element.left c.args.out.now c.loop-element.out
     c.loop-element.invariant.2

@@ -17,8 +17,8 @@ overflow_add-len c = omega (
 
 pub invariant_of-result : goal.invariant_of-result
 invariant_of-result c = (
-  behind-plan _ c.self.inside.len c.ready_len.result _ c.args.front c.append.new.self c.self.invariant.0
+  behind-plan _ c.self.inside.len c.ready_len.result _ c.args.front c.put_before.new.text c.self.invariant.0
       c.ready_len.ensures.exact (omega (arith, c.len.ensures))
-      (c.in_default.ensures.ok ∙ ap (λ l. c.args.front ++ l) c.as_slice.ensures),
+      (c.in_ok-put_before.ensures ∙ ap (λ l. l ++ c.self.inside.front) c.as_slice.ensures),
   c.self.invariant.1,
 )

@@ -21,7 +21,7 @@ invariant_of-result c =
         part_is = refl;
       },
       c.array_of-array.ensures,
-      c.extent_of-extent.ensures ∙ ap₂ extent_of c.as_slice.ensures c.as_slice-2.ensures,
+      c.extent_of-extent.ensures ∙ ap₂ extent_of c.as_slice.ensures c.slabs.ensures,
     )
 
 pub returns-clause-portion : goal.returns-clause-portion

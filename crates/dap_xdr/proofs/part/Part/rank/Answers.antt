@@ -5,9 +5,9 @@ use Rattle.dap_xdr.proofs.DataLemmas.{few-slabs}
 use Rattle.dap_xdr.proofs.part.Part.rank.Goals as goal
 
 pub returns-clause-value : goal.returns-clause-value
-returns-clause-value c = c.len.ensures ∙ ap (λ (n : Portion). length n.sent.slabs) c.self.view_is
+returns-clause-value c = ap length c.slabs.ensures ∙ ap (λ (n : Portion). length n.sent.slabs) c.self.view_is
 
 pub returns-clause-few : goal.returns-clause-few
 returns-clause-few c =
     let n = c.self.inside in
-    omega (arith, c.len.ensures, few-slabs (portion_of n.column n.sent.now n.array.now) c.self.invariant.1)
+    omega (arith, ap length c.slabs.ensures, few-slabs (portion_of n.column n.sent.now n.array.now) c.self.invariant.1)

@@ -13,7 +13,7 @@ use Rattle.fm_twod.proofs.section.Section.new.Goals as goal
 pub count_of-count-requires-clause-fits : goal.count_of-count-requires-clause-fits
 count_of-count-requires-clause-fits c =
     subst₂ (λ (dims : List Dim) (slabs : List Slab). AllZip FitsDim dims slabs) (sym c.as_slice.ensures)
-    (sym c.as_slice-2.ensures) c.array_of-array.ensures.fits
+    (sym c.slabs.ensures) c.array_of-array.ensures.fits
 
 pub count_of-count-requires-clause-sizes : goal.count_of-count-requires-clause-sizes
 count_of-count-requires-clause-sizes c =
@@ -27,7 +27,7 @@ count_of-count-requires-clause-few c =
 
 pub invariant_of-result : goal.invariant_of-result
 invariant_of-result c =
-    (c.array_of-array.ensures, c.count_of-count.ensures ∙ ap box_len c.as_slice-2.ensures)
+    (c.array_of-array.ensures, c.count_of-count.ensures ∙ ap box_len c.slabs.ensures)
 
 pub returns-clause-chosen : goal.returns-clause-chosen
 returns-clause-chosen c = c.array_of-array.ensures
