@@ -64,6 +64,9 @@ type AllPasses<N, X> = Several<OwnPass<N>, <X as Behind>::Passes>;
 // A hand of a desk, or of one of others.
 type AnyHand<N, X> = OneOf<OwnHand<N>, <X as Desks>::Hand>;
 
+// Places of a desk, and room for what the workers of it and of others are given.
+type AllJoint<N, X> = Joint<Places<N>, AllPasses<N, X>, AnyHand<N, X>>;
+
 // Opens the desks behind one that was opened, and gives out what there is of all. Where memory runs out, that one is
 // closed again.
 fn open_behind<R: Wait, N: Name, X: Behind>(
@@ -72,7 +75,7 @@ fn open_behind<R: Wait, N: Name, X: Behind>(
     first: OpenDesk<N>,
     blanks: List<Blank>,
     protos: &[Arc<Proto>],
-    joint: Joint<Places<N>, AllPasses<N, X>, AnyHand<N, X>>,
+    joint: AllJoint<N, X>,
     doors: usize,
     clocks: usize,
 ) -> Result<(And<Desk<N>, X>, Given<AllPasses<N, X>, AnyHand<N, X>>), NoMemory>
