@@ -12,6 +12,7 @@ ghost use Rattle.fm_edition.specs.Log.{CanFollow};
 
 mod best;
 mod by_run;
+mod early;
 mod entry;
 pub(crate) mod files;
 mod index;

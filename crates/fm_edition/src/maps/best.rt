@@ -5,14 +5,13 @@ ghost use Rattle.std.specs.List.{filter_map};
 ghost use Rattle.std.specs.Ordering.{int_cmp, int_eq};
 ghost use Rattle.fm_edition.specs.Indexes as spec;
 
+use crate::maps::early::{count_early, push_early, push_kept};
 use crate::maps::keeping::{count_keeping, push_keeping};
 use crate::maps::page_rows::PageRows;
 use crate::maps::pages::{Page, Pages, page_of};
 use crate::maps::shared::Shared;
-use crate::maps::walk::{count_page, each_one, each_rises, push_page};
-use crate::maps::wanted::Wanted;
+use crate::maps::walk::each_one;
 use fm_base::{Arc, List, NoMemory};
-use fm_model::Row;
 use fm_rows::Rows;
 use std::alloc::Global;
 use std::collections::BTreeMap;
@@ -20,43 +19,15 @@ use std::collections::BTreeMap;
 /// The rows of each page by its number.
 pub(crate) type RowPages = BTreeMap<i64, Shared<PageRows>>;
 
-// The rows of a page.
-fn rows_of(alloc: Global, page: &Page, wanted: Wanted) -> Result<List<Row>, NoMemory>
-    requires { All (spec.IsReady wanted) page.now.entries }
-    ensures { IfOk result (λ rows. rows ≡ filter_map (spec.entry_row wanted) page.now.entries) }
-{
-    let mut rows = List::new(alloc);
-    push_page(&mut rows, page, wanted)?;
-    Ok(rows)
-}
-
-// The rows of a page with a least offset, made anew. Where the runs of the files of each valid time rise, the last file
-// that keeps it tells the row.
-fn rows_from(
-    alloc: Global,
-    page: &Page,
-    least: Option<i64>,
-    rising: bool,
-) -> Result<List<Row>, NoMemory>
-    requires rising { rising ≡ true → spec.each_rises page.now.entries ≡ true }
-    requires timed { All spec.IsTimed page.now.entries }
-    ensures { IfOk result (λ rows. rows ≡ filter_map (spec.best_of_entry least) page.now.entries) }
-{
-    if rising {
-        rows_of(alloc, page, Wanted::Newest(least))
-    } else {
-        rows_of(alloc, page, Wanted::Best(least))
-    }
-}
-
 // What is kept of a page, for many to share.
 fn kept_of(alloc: Global, page: &Page) -> Result<Shared<PageRows>, NoMemory>
     requires { All spec.IsTimed page.now.entries }
     ensures { IfOk result (λ kept. kept ≡ spec.page_rows page.now) }
 {
-    let rising = each_rises(page);
-    let rows = rows_from(alloc, page, None, rising)?;
-    let kept = PageRows::new(alloc, rows, each_one(page), rising)?;
+    let mut rows = List::new(alloc);
+    let mut oldest = List::new(alloc);
+    push_kept(&mut rows, &mut oldest, page)?;
+    let kept = PageRows::new(alloc, rows, oldest, each_one(page))?;
     Shared::new(alloc, kept)
 }
 
@@ -145,7 +116,8 @@ fn push_from(
     if kept.is_alone() {
         return push_keeping(rows, kept, least);
     }
-    let made = rows_from(alloc, page, least, kept.is_rising())?;
+    let mut made = List::new(alloc);
+    push_early(&mut made, page, kept.oldest(), least)?;
     rows.push(Arc::new(alloc, made)?)
 }
 
@@ -162,7 +134,7 @@ fn count_from(kept: &PageRows, page: &Page, least: Option<i64>) -> usize
     if kept.is_alone() {
         return count_keeping(kept.get(), least);
     }
-    count_page(page, Wanted::Best(least))
+    count_early(page, kept.oldest(), least)
 }
 
 // The rows of all pages, also with a least offset. Of a page whose rows keep it none is made or copied.

@@ -2,7 +2,9 @@
 -- of one file.
 use Rattle.std.proofs.Common.{OnOk, ◌≡◌, ◌++◌, List, ap, sym, ◌∙◌, subst}
 use Rattle.std.specs.Prelude.{filter}
+use Rattle.std.specs.List.{filter_map}
 use Rattle.fm_model.specs.declared.row.Row.{Row}
+use Rattle.fm_edition.specs.Indexes.{best_of_entry}
 use Rattle.fm_edition.specs.Kept.{KeptRows}
 use Rattle.fm_edition.specs.Least.{keeps_least, KeepLeast}
 use Rattle.fm_edition.proofs.AloneLemmas.{from_alone}
@@ -26,11 +28,10 @@ returns-then-is_alone c =
     (ap (filter (keeps_least c.args.least)) rows_are ∙ from_alone c.args.least c.args.page.now alone)
     c.push_keeping.ensures
 
-pub rows_from-requires-clause-rising : goal.rows_from-requires-clause-rising
-rows_from-requires-clause-rising c = λ rises. ap (λ (kept : KeptRows). kept.rising) (sym c.requires.kept)
-    ∙ sym c.is_rising.ensures ∙ rises
+pub push_early-requires-clause-oldest : goal.push_early-requires-clause-oldest
+push_early-requires-clause-oldest c = c.oldest.ensures ∙ ap (λ (kept : KeptRows). kept.oldest) c.requires.kept
 
 pub returns : goal.returns
 returns c =
     subst (λ (rows : List Row). OnOk c.push-2.result (c.push-2.new.self ≡ c.args.rows.now ++ rows))
-    (c.in_ok-new.ensures ∙ c.in_ok-made.ensures) c.push-2.ensures.ok
+    (c.in_ok-new.ensures ∙ c.in_ok-push_early.ensures ∙ ap (λ l. l ++ filter_map (best_of_entry c.args.least) c.args.page.now.entries) c.new-made.ensures) c.push-2.ensures.ok
