@@ -10,6 +10,7 @@ pub mod GoneLemmas
 pub mod IndexLemmas
 pub mod KeepLemmas
 pub mod KeyLemmas
+pub mod LatestLemmas
 pub mod LeastLemmas
 pub mod LeastSteps
 pub mod NameLemmas

@@ -18,7 +18,7 @@ use Rattle.fm_edition.proofs.KeyLemmas.{keys_are}
 use Rattle.fm_edition.proofs.PartLemmas.{best-part, cell-part, sound-part, have-part}
 
 -- the files by a valid time have the row of its best run
-best_row-part : (files : List Loaded) (valid : ℤ) (least : Option ℤ)
+pub best_row-part : (files : List Loaded) (valid : ℤ) (least : Option ℤ)
     → best_row (part Time files valid) least valid ≡ best_row files least valid
 unfolding best_row row_at
 best_row-part files valid least = rw (best-part files valid least) (by_best (best files valid least))

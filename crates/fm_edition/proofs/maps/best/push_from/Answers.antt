@@ -11,16 +11,16 @@ use Rattle.fm_edition.proofs.AloneLemmas.{from_alone}
 use Rattle.fm_edition.proofs.LeastLemmas.{from_kept}
 use Rattle.fm_edition.proofs.maps.best.push_from.Goals as goal
 
-pub returns-then-keeps : goal.returns-then-keeps
-returns-then-keeps c =
+pub returns-then-keeps-clause-made : goal.returns-then-keeps-clause-made
+returns-then-keeps-clause-made c =
     let rows_are = ap (λ (kept : KeptRows). kept.rows) c.requires.kept in
     let same = from_kept c.args.least c.args.page.now
     (subst (KeepLeast c.args.least) rows_are (c.keeps.ensures c.if-keeps.true)) in
     subst (λ (rows : List Row). OnOk c.push.result (c.push.new.self ≡ c.args.rows.now ++ rows))
     (c.in_ok-share.ensures ∙ rows_are ∙ same) c.push.ensures.ok
 
-pub returns-then-is_alone : goal.returns-then-is_alone
-returns-then-is_alone c =
+pub returns-then-is_alone-clause-made : goal.returns-then-is_alone-clause-made
+returns-then-is_alone-clause-made c =
     let rows_are = ap (λ (kept : KeptRows). kept.rows) c.requires.kept in
     let alone = ap (λ (kept : KeptRows). kept.alone) (sym c.requires.kept) ∙ sym c.is_alone.ensures
     ∙ c.if-is_alone.true in
@@ -31,7 +31,7 @@ returns-then-is_alone c =
 pub push_early-requires-clause-oldest : goal.push_early-requires-clause-oldest
 push_early-requires-clause-oldest c = c.oldest.ensures ∙ ap (λ (kept : KeptRows). kept.oldest) c.requires.kept
 
-pub returns : goal.returns
-returns c =
+pub returns-clause-made : goal.returns-clause-made
+returns-clause-made c =
     subst (λ (rows : List Row). OnOk c.push-2.result (c.push-2.new.self ≡ c.args.rows.now ++ rows))
-    (c.in_ok-new.ensures ∙ c.in_ok-push_early.ensures ∙ ap (λ l. l ++ filter_map (best_of_entry c.args.least) c.args.page.now.entries) c.new-made.ensures) c.push-2.ensures.ok
+    (c.in_ok-new.ensures ∙ c.in_ok-push_early.ensures.made ∙ ap (λ l. l ++ filter_map (best_of_entry c.args.least) c.args.page.now.entries) c.new-made.ensures) c.push-2.ensures.ok
