@@ -71,13 +71,18 @@ shown_entry by files pages are number page here key held entry =
     let there : in_page pages number key ≡ Some held = rw outer inner in
     shown_parts by files number key held (sym (are.shown number key) ∙ there)
 
+-- the page of an entry, and what the entry says of the files
+pub entry_shown : (by : By) (files : List Loaded) (pages : Pages) → AreParts by files pages → (entry : ℤ × List Loaded)
+    → In entry (entries_of pages) → (number : ℤ) × IsShown by files number entry.0 entry.1
+entry_shown by files pages are entry held =
+    let page = in_flat_map (λ (p : ℤ × BTreeMap ℤ (List Loaded)). p.1.entries) entry pages.entries held in
+    (page.0.0, shown_entry by files pages are page.0.0 page.0.1 page.1 entry.0 entry.1 page.2)
+
 -- each entry has the files by its instant
 pub entry_files : (by : By) (files : List Loaded) (pages : Pages) → AreParts by files pages
     → Each (λ (entry : ℤ × List Loaded). part by files entry.0 ≡ entry.1) (entries_of pages)
 entry_files by files pages are = Each-from_in (λ (entry : ℤ × List Loaded). part by files entry.0 ≡ entry.1)
-    (entries_of pages) (λ entry held.
-    let page = in_flat_map (λ (p : ℤ × BTreeMap ℤ (List Loaded)). p.1.entries) entry pages.entries held in
-    (shown_entry by files pages are page.0.0 page.0.1 page.1 entry.0 entry.1 page.2).own)
+    (entries_of pages) (λ entry held. (entry_shown by files pages are entry held).1.own)
 
 -- an instant of the files is that of a file that it selects
 pub of_file : (by : By) (files : List Loaded) (key : ℤ) → In key (instants by files)

@@ -1,19 +1,18 @@
 -- What is found among files in pieces: from the first on, or from the last.
-use Rattle.std.proofs.Common.{◌≡◌, ◌↔◌, ℕ, ◌+◌, ◌<◌, ◌≤◌, List, [], ◌∷◌, ◌++◌, get_or, length, min, take, drop, Option, Some, None, ℤ, refl, sym, ap, ◌∙◌, arith}
-use Rattle.std.specs.Prelude.{◌&&◌, ◌==◌, filter}
+use Rattle.std.proofs.Common.{◌≡◌, ◌↔◌, ℕ, ◌+◌, ◌<◌, ◌≤◌, List, [], ◌∷◌, ◌++◌, get_or, length, min, take, Option, Some, None, ℤ, refl, sym, ap, ◌∙◌, arith}
+use Rattle.std.specs.Prelude.{◌==◌, filter}
 use Rattle.std.specs.List.{flat_map}
 use Rattle.std.specs.Ordering.{int_eq}
 use Rattle.std.specs.Option.{option_or}
 use Rattle.std.proofs.lemmas.Bool.Decides.{nat_tests}
 use Rattle.std.proofs.lemmas.Grind.{flat_map-append}
-use Rattle.std.proofs.lemmas.List.{append_assoc, drop_all, drop_more, take_all}
+use Rattle.std.proofs.lemmas.List.{take_all}
 use Rattle.std.proofs.lemmas.List.Elements.{filter-append}
 use Rattle.fm_model.specs.declared.loaded.Loaded.{Loaded}
 use Rattle.fm_model.specs.Cell.{best, cell, runs_of}
 use Rattle.fm_model.specs.Rising.{rising}
-use Rattle.fm_list.specs.Found.{newest}
-use Rattle.fm_list.specs.Selected.{last_run, rise_behind}
-use Rattle.fm_list.proofs.Behind.{cell-behind, newest-behind, rise-behind}
+use Rattle.fm_list.specs.Found.{oldest_behind}
+use Rattle.fm_list.proofs.Behind.{cell-behind, oldest-behind}
 use Rattle.fm_edition.specs.Instants.{run_times}
 use Rattle.fm_edition.specs.Pieces.{joined}
 use Rattle.fm_edition.proofs.PieceLemmas.{joined-more}
@@ -29,10 +28,6 @@ FindsLast-cell run valid = record {
   none = refl;
   behind = λ files more. cell-behind files more run valid;
 }
-
-pub FindsLast-newest : (least : Option ℤ) (valid : ℤ) → FindsLast (newest least valid)
-unfolding newest
-FindsLast-newest least valid = record { none = refl; behind = newest-behind least valid }
 
 -- found among those behind
 pub found_behind : {A : Type 0} (find : List Loaded → Option A) → FindsLast find → (files more : List Loaded) (x : A)
@@ -85,21 +80,20 @@ pub best-none : (valid : ℤ) (least : Option ℤ) → best [] valid least ≡ N
 unfolding best runs_of rising
 best-none valid least = refl
 
--- whether the runs of one more piece, and of those behind it, rise
-pub rise-more : (before : Option ℤ) (pieces : List (List Loaded)) (last : List Loaded) (i : ℕ) (piece : List Loaded)
-    → i < length pieces → piece ≡ get_or pieces i piece
-    → rise_behind before (joined (drop i pieces) ++ last)
-    ≡ (rise_behind before piece && rise_behind (last_run before piece) (joined (drop (i + 1) pieces) ++ last))
-rise-more before pieces last i piece lt is =
-    ap (λ l. rise_behind before (joined l ++ last)) (drop_more pieces i piece lt)
-    ∙ ap (λ p. rise_behind before ((p ++ joined (drop (i + 1) pieces)) ++ last)) (sym is)
-    ∙ ap (rise_behind before) (append_assoc piece (joined (drop (i + 1) pieces)) last)
-    ∙ rise-behind before piece (joined (drop (i + 1) pieces) ++ last)
+-- the least run of one more piece
+pub oldest-more : (pieces : List (List Loaded)) (i : ℕ) (piece : List Loaded) → i < length pieces
+    → piece ≡ get_or pieces i piece → oldest_behind (oldest_behind None (joined (take i pieces))) piece
+    ≡ oldest_behind None (joined (take (i + 1) pieces))
+oldest-more pieces i piece lt is =
+    sym (oldest-behind None (joined (take i pieces)) piece)
+    ∙ ap (oldest_behind None) (sym (joined-more pieces i piece lt ∙ ap (λ p. joined (take i pieces) ++ p) (sym is)))
 
--- where no piece is left, the last files decide
-pub rise-end : (before : Option ℤ) (pieces : List (List Loaded)) (last : List Loaded) (i : ℕ) → length pieces ≤ i
-    → rise_behind before (joined (drop i pieces) ++ last) ≡ rise_behind before last
-rise-end before pieces last i past = ap (λ l. rise_behind before (joined l ++ last)) (drop_all i pieces past)
+-- the least run of all pieces and of the last files
+pub oldest-all : (pieces : List (List Loaded)) (last : List Loaded) (i : ℕ) → length pieces ≤ i
+    → oldest_behind (oldest_behind None (joined (take i pieces))) last ≡ oldest_behind None (joined pieces ++ last)
+oldest-all pieces last i past =
+    sym (oldest-behind None (joined (take i pieces)) last)
+    ∙ ap (λ l. oldest_behind None (joined l ++ last)) (take_all i pieces past)
 
 -- a run's times in one more piece
 pub times-more : (run : ℤ) (pieces : List (List Loaded)) (i : ℕ) (piece : List Loaded) → i < length pieces

@@ -2,6 +2,7 @@ pub mod AloneLemmas
 pub mod BestLemmas
 pub mod ChangeLemmas
 pub mod CountLemmas
+pub mod EarlyLemmas
 pub mod EditionLemmas
 pub mod EntryLemmas
 pub mod FoundLemmas
@@ -9,6 +10,7 @@ pub mod GoneLemmas
 pub mod IndexLemmas
 pub mod KeepLemmas
 pub mod KeyLemmas
+pub mod LatestLemmas
 pub mod LeastLemmas
 pub mod LeastSteps
 pub mod NameLemmas
@@ -16,7 +18,6 @@ pub mod OrderLemmas
 pub mod PageLemmas
 pub mod PartLemmas
 pub mod PieceLemmas
-pub mod RisingLemmas
 pub mod RowLemmas
 pub mod RunLemmas
 pub mod SetLemmas

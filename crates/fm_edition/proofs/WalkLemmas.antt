@@ -1,6 +1,6 @@
 -- A walk through pages, and what it comes by.
 use Rattle.std.proofs.Common.{◌≡◌, ℕ, ◌+◌, ◌<◌, List, [], ◌∷◌, ◌++◌, length, get_or, take, Option, Some, None, ℤ, refl, sym, ap, subst, ◌∙◌}
-use Rattle.std.specs.Prelude.{All}
+use Rattle.std.specs.Prelude.{All, map}
 use Rattle.std.specs.List.{filter_map, cons_option}
 use Rattle.std.specs.Map.{keys_of}
 use Rattle.std.specs.Option.{option_to_list}
@@ -24,6 +24,12 @@ pub keys_taken : (keys total : List ℤ) (entries rest : List (ℤ × List Loade
     → keys ++ keys_of (entries ++ rest) ≡ total → (keys ++ keys_of entries) ++ keys_of rest ≡ total
 keys_taken keys total entries rest sum = append_assoc keys (keys_of entries) (keys_of rest)
     ∙ ap (λ l. keys ++ l) (sym (keys-append entries rest)) ∙ sum
+
+-- what a function gives of one more item
+pub mapped_taken : {A B : Type 0} (f : A → B) (made whole : List B) (item : A) (rest before : List A)
+    → before ≡ item ∷ rest → made ++ map f before ≡ whole → (made ++ f item ∷ []) ++ map f rest ≡ whole
+mapped_taken f made whole item rest before is sum = append_assoc made (f item ∷ []) (map f rest)
+    ∙ ap (λ l. made ++ map f l) (sym is) ∙ sum
 
 pub filter_map-more : {A B : Type 0} (make : A → Option B) (items : List A) (i : ℕ) (d : A) → i < length items
     → filter_map make (take (i + 1) items) ≡ filter_map make (take i items) ++ option_to_list (make (get_or items i d))

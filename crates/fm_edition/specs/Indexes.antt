@@ -1,9 +1,9 @@
 -- What the maps of an edition hold, each as a function of its list of files.
-use Rattle.std.specs.Prelude.{◌≡◌, ◌+ℤ◌, All, ◌&&◌, ◌==◌, Bool, true, length, List, [], ◌∷◌, Option, None, Some, option_and_then, ℤ, pos, if◌then◌else◌, map}
+use Rattle.std.specs.Prelude.{◌≡◌, ◌<◌, ◌+ℤ◌, All, ◌&&◌, ◌==◌, Bool, true, length, List, [], ◌∷◌, Option, None, Some, option_and_then, ℤ, pos, if◌then◌else◌, map}
 use Rattle.std.specs.BTreeMap.{BTreeMap, get, values, IsOrdered}
 use Rattle.std.specs.Int.{int_div_euclid}
 use Rattle.std.specs.List.{filter_map, flat_map, list_any}
-use Rattle.std.specs.Option.{option_map}
+use Rattle.std.specs.Option.{option_map, unwrap_or}
 use Rattle.std.specs.Ordering.{int_cmp, int_eq}
 use Rattle.fm_model.specs.declared.full.Tally.{Tally}
 use Rattle.fm_model.specs.declared.loaded.Loaded.{Loaded}
@@ -16,10 +16,11 @@ use Rattle.fm_model.specs.Rows.{best_row, row_at}
 use Rattle.fm_list.specs.declared.by.By.{By}
 use Rattle.fm_list.specs.declared.by.By.TheVariants.{Run, Time, Name}
 use Rattle.fm_list.specs.Code.{code_of}
-use Rattle.fm_list.specs.Selected.{part, part_after, runs_rise, AreSound, HaveTime}
+use Rattle.fm_list.specs.Found.{oldest_behind}
+use Rattle.fm_list.specs.Selected.{part, part_after, AreSound, HaveTime}
 use Rattle.fm_edition.specs.declared.maps.index.Index.{Index}
 use Rattle.fm_edition.specs.declared.maps.wanted.Wanted.{Wanted}
-use Rattle.fm_edition.specs.declared.maps.wanted.Wanted.TheVariants.{Best, Newest, After, At}
+use Rattle.fm_edition.specs.declared.maps.wanted.Wanted.TheVariants.{After, At}
 use Rattle.fm_edition.specs.Held.{Held, IsEdition}
 use Rattle.fm_edition.specs.Kept.{KeptRows}
 
@@ -91,17 +92,14 @@ entries_in pages = flat_map (λ (page : ℤ × BTreeMap ℤ (List Loaded)). page
 abbrev pub entries_of : Pages → List (ℤ × List Loaded)
 entries_of pages = entries_in pages.entries
 
--- the row that is wanted of an instant and its files: of a valid time that from its best run, of a run that at an
--- offset in seconds, or that at a valid time
+-- the row that is wanted of a run and its files: that at an offset in seconds, or that at a valid time
 abbrev pub entry_row : Wanted → ℤ × List Loaded → Option Row
-entry_row (Best least) entry = best_row entry.1 least entry.0
-entry_row (Newest least) entry = best_row entry.1 least entry.0
 entry_row (After seconds) entry = row_at entry.1 entry.0 (entry.0 +ℤ seconds)
 entry_row (At valid) entry = row_at entry.1 entry.0 valid
 
 -- the row of a valid time in the best time series, also with a least offset
 abbrev pub best_of_entry : Option ℤ → ℤ × List Loaded → Option Row
-best_of_entry least = entry_row (Best least)
+best_of_entry least entry = best_row entry.1 least entry.0
 
 -- the row of a valid time in the best time series
 abbrev pub kept_row : ℤ × List Loaded → Option Row
@@ -116,17 +114,20 @@ abbrev pub each_one : List (ℤ × List Loaded) → Bool
 each_one [] = true
 each_one (entry ∷ entries) = is_one entry.1 && each_one entries
 
--- whether the runs of each instant's files rise
-abbrev pub each_rises : List (ℤ × List Loaded) → Bool
-each_rises [] = true
-each_rises (entry ∷ entries) = runs_rise entry.1 && each_rises entries
+-- the least run of some files, and 0 where there is no file
+abbrev pub oldest_run : List Loaded → ℤ
+oldest_run files = unwrap_or (oldest_behind None files) (pos 0)
+
+-- the least run of the files of each of some instants
+abbrev pub oldest_runs : List (ℤ × List Loaded) → List ℤ
+oldest_runs entries = map (λ (entry : ℤ × List Loaded). oldest_run entry.1) entries
 
 -- what is kept of a page
 abbrev pub page_rows : BTreeMap ℤ (List Loaded) → KeptRows
 page_rows page = record {
   rows = filter_map kept_row page.entries;
+  oldest = oldest_runs page.entries;
   alone = each_one page.entries;
-  rising = each_rises page.entries;
 }
 
 -- what is kept of the rows of the best time series, page by page
@@ -146,17 +147,15 @@ pub record AreBest (pages : Pages) (best : RowPages) : Type 0 where
   pub ordered : IsOrdered int_cmp best
   pub shown : (number : ℤ) → get int_cmp best number ≡ rows_at pages number
 
--- the files by a valid time have it, and sound times
+-- there are files by a valid time, and they have it, and sound times
 pub record IsTimed (entry : ℤ × List Loaded) : Type 0 where
+  pub some : 0 < length entry.1
   pub have : HaveTime entry.0 entry.1
   pub sound : AreSound entry.1
 
--- what is asked of an instant and its files before the row that is wanted of them is made
-abbrev pub IsReady : Wanted → ℤ × List Loaded → Type 0
-IsReady (Best least) entry = IsTimed entry
-IsReady (Newest least) entry = IsTimed entry × (runs_rise entry.1 ≡ true)
-IsReady (After seconds) entry = AreSound entry.1
-IsReady (At valid) entry = AreSound entry.1
+-- the files by an instant have sound times
+abbrev pub IsSound : ℤ × List Loaded → Type 0
+IsSound entry = AreSound entry.1
 
 -- the maps have the files by each run, valid time and code of a name, and the rows of the best time series
 pub record AreMaps (files : List Loaded) (index : Index) : Type 0 where

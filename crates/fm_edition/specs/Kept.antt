@@ -1,10 +1,10 @@
 -- What is kept of a page of valid times.
-use Rattle.std.specs.Prelude.{Bool, List}
+use Rattle.std.specs.Prelude.{Bool, List, ℤ}
 use Rattle.fm_model.specs.declared.row.Row.{Row}
 
--- the rows of a page's valid times from their best runs; whether each valid time is that of one file; and whether the
--- runs of the files of each rise
+-- the rows of a page's valid times from their best runs; the least run of the files of each; and whether each valid
+-- time is that of one file
 pub record KeptRows : Type 0 where
   pub rows : List Row
+  pub oldest : List ℤ
   pub alone : Bool
-  pub rising : Bool

@@ -3,6 +3,7 @@ pub mod Held
 pub mod Indexes
 pub mod Instants
 pub mod Kept
+pub mod Latest
 pub mod Least
 pub mod Log
 pub mod Pieces

@@ -12,10 +12,12 @@ ghost use Rattle.fm_edition.specs.Log.{CanFollow};
 
 mod best;
 mod by_run;
+mod early;
 mod entry;
 pub(crate) mod files;
 mod index;
 mod keeping;
+mod latest;
 mod named;
 mod page_rows;
 mod pages;
@@ -177,7 +179,13 @@ impl Edition {
         ensures { IfOk result (λ rows.
             rows ≡ filter_map (best_row self.now.files least) (times_of self.now.files)) }
     {
-        best::best_rows(alloc, &self.index.by_time, &self.index.best, least)
+        best::best_rows(
+            alloc,
+            &self.index.by_run,
+            &self.index.by_time,
+            &self.index.best,
+            least,
+        )
     }
 
     /// How many valid times have a best run.

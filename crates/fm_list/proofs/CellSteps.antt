@@ -17,14 +17,14 @@ last_such-push_failing test [] item fails = rw fails refl
 last_such-push_failing test (first ∷ items) item fails = rw (last_such-push_failing test items item fails) refl
 
 -- an item that fails is passed over
-pub last_such-passed_over : {A : Type 0} (test : A → Bool) (items : List A) (i : ℕ) (d : A) → i < length items
+last_such-passed_over : {A : Type 0} (test : A → Bool) (items : List A) (i : ℕ) (d : A) → i < length items
     → test (get_or items i d) ≡ false
     → last_such test (take (i + 1) items) ≡ last_such test (take i items)
 last_such-passed_over test items i d lt fails = ap (last_such test) (take_more items i d lt)
     ∙ last_such-push_failing test (take i items) (get_or items i d) fails
 
 -- an item that passes is the last of those up to it
-pub last_such-found : {A : Type 0} (test : A → Bool) (items : List A) (i : ℕ) (d : A) → i < length items
+last_such-found : {A : Type 0} (test : A → Bool) (items : List A) (i : ℕ) (d : A) → i < length items
     → test (get_or items i d) ≡ true
     → last_such test (take (i + 1) items) ≡ Some (get_or items i d)
 last_such-found test items i d lt passes = ap (last_such test) (take_more items i d lt)

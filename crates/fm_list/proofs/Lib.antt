@@ -1,6 +1,6 @@
 pub mod Behind
 pub mod BestSteps
 pub mod CellSteps
-pub mod RisingRuns
+pub mod OldestRun
 pub mod SearchLemmas
 pub mod TimeSteps

@@ -1,6 +1,6 @@
 -- The files of a run, of a valid time, or of a name's code,
 -- and what is asked of files before a valid time is looked for in them.
-use Rattle.std.specs.Prelude.{◌≡◌, ◌≢◌, ◌≤◌, ◌++◌, ◌&&◌, ◌∷◌, [], All, AllPairs, Bool, List, None, Option, Some, filter, int_le, length, ℤ, true}
+use Rattle.std.specs.Prelude.{◌≡◌, ◌≢◌, ◌≤◌, ◌++◌, All, AllPairs, Bool, List, filter, length, ℤ, true}
 use Rattle.std.specs.List.{list_any}
 use Rattle.std.specs.Ordering.{int_eq}
 use Rattle.fm_model.specs.declared.limit.TheConstants.{MAX_TIMES}
@@ -53,23 +53,3 @@ AreSound files = All HasSoundTimes files
 -- each of some files has a valid time
 abbrev pub HaveTime : ℤ → List Loaded → Type 0
 HaveTime valid files = All (λ (file : Loaded). has_time valid file ≡ true) files
-
--- whether a run isn't before that of the file before it, where there is one
-abbrev pub follows : Option ℤ → ℤ → Bool
-follows None run = true
-follows (Some before) run = int_le before run
-
--- whether none of some files is of an earlier run than the one before it, where the file before the first, if there is
--- one, is of this run
-abbrev pub rise_behind : Option ℤ → List Loaded → Bool
-rise_behind before [] = true
-rise_behind before (file ∷ files) = follows before file.run && rise_behind (Some file.run) files
-
--- the run of the last file, or of the one before the first where there is none
-abbrev pub last_run : Option ℤ → List Loaded → Option ℤ
-last_run before [] = before
-last_run before (file ∷ files) = last_run (Some file.run) files
-
--- whether none of some files is of an earlier run than the one before it
-unfoldable pub runs_rise : List Loaded → Bool
-runs_rise files = rise_behind None files

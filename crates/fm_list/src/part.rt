@@ -11,7 +11,6 @@ ghost use Rattle.fm_list.specs.Selected as spec;
 use crate::by::By;
 use crate::change::kept;
 use crate::finding::raised_by;
-use crate::offset::keeps_least_offset;
 use crate::placed::Placed;
 use fm_base::{Arc, List, NoMemory};
 use fm_model::{Loaded, Op};
@@ -46,64 +45,25 @@ pub fn best_behind(
     raised
 }
 
-// Whether a run isn't before that of the file before it, where there is one.
-fn follows(before: Option<i64>, run: i64) -> bool
-    ensures { result ≡ spec.follows before run }
+// The lesser of a run and of one that came before it, where there is one.
+fn older(before: Option<i64>, run: i64) -> i64
+    ensures { result ≡ found.older before run }
 {
     match before {
-        Some(earlier) => earlier <= run,
-        None => true,
+        Some(other) => { if run < other { run } else { other } }
+        None => run,
     }
 }
 
-/// Whether none of the files is of an earlier run than the one before it, where `before` is the run of the file before
-/// the first, if there is one.
-pub fn rise_behind(before: Option<i64>, files: &[Placed]) -> bool
-    ensures { result ≡ spec.rise_behind before files.now }
+/// The least run of some files and more behind them, where `before` is that of the first. `None` where there is no file.
+pub fn oldest_behind(before: Option<i64>, files: &[Placed]) -> Option<i64>
+    ensures { result ≡ found.oldest_behind before files.now }
 {
-    let mut last = before;
+    let mut oldest = before;
     for file in files {
-        let own = file.run();
-        if !follows(last, own) {
-            return false;
-        }
-        last = Some(own);
+        oldest = Some(older(oldest, file.run()));
     }
-    true
-}
-
-/// The run of the last file, or of the one before the first where there is none.
-pub fn last_run(before: Option<i64>, files: &[Placed]) -> Option<i64>
-    ensures { result ≡ spec.last_run before files.now }
-{
-    match files {
-        [.., file] => Some(file.run()),
-        [] => before,
-    }
-}
-
-/// The run of the last file that lies early enough before a valid time. No file before it is looked at.
-pub fn newest(files: &[Placed], valid: i64, least: Option<i64>) -> Option<i64>
-    ensures { result ≡ found.newest least valid files.now }
-{
-    let mut before = files.len();
-    while before > 0 {
-        before -= 1;
-        let run = files[before].run();
-        if keeps_least_offset(least, run, valid) {
-            return Some(run);
-        }
-    }
-    None
-}
-
-/// Whether a valid time lies the least offset after the run of one of the files.
-pub fn some_keeps(files: &[Placed], valid: i64, least: Option<i64>) -> bool
-    ensures { result ≡ list_any (found.is_early least valid) files.now }
-{
-    files
-        .iter()
-        .any(|file| keeps_least_offset(least, file.run(), valid))
+    oldest
 }
 
 // A file as it stands among those of an instant, where its times may have the instant at an index.

@@ -4,15 +4,16 @@ ghost use Rattle.std.specs.BTreeMap as tree;
 ghost use Rattle.std.specs.List.{filter_map};
 ghost use Rattle.std.specs.Ordering.{int_cmp, int_eq};
 ghost use Rattle.fm_edition.specs.Indexes as spec;
+ghost use Rattle.fm_edition.specs.Latest as walk;
 
+use crate::maps::early::{count_early, push_early, push_kept};
 use crate::maps::keeping::{count_keeping, push_keeping};
+use crate::maps::latest::Latest;
 use crate::maps::page_rows::PageRows;
 use crate::maps::pages::{Page, Pages, page_of};
 use crate::maps::shared::Shared;
-use crate::maps::walk::{count_page, each_one, each_rises, push_page};
-use crate::maps::wanted::Wanted;
+use crate::maps::walk::{each_one, keys_of};
 use fm_base::{Arc, List, NoMemory};
-use fm_model::Row;
 use fm_rows::Rows;
 use std::alloc::Global;
 use std::collections::BTreeMap;
@@ -20,43 +21,15 @@ use std::collections::BTreeMap;
 /// The rows of each page by its number.
 pub(crate) type RowPages = BTreeMap<i64, Shared<PageRows>>;
 
-// The rows of a page.
-fn rows_of(alloc: Global, page: &Page, wanted: Wanted) -> Result<List<Row>, NoMemory>
-    requires { All (spec.IsReady wanted) page.now.entries }
-    ensures { IfOk result (λ rows. rows ≡ filter_map (spec.entry_row wanted) page.now.entries) }
-{
-    let mut rows = List::new(alloc);
-    push_page(&mut rows, page, wanted)?;
-    Ok(rows)
-}
-
-// The rows of a page with a least offset, made anew. Where the runs of the files of each valid time rise, the last file
-// that keeps it tells the row.
-fn rows_from(
-    alloc: Global,
-    page: &Page,
-    least: Option<i64>,
-    rising: bool,
-) -> Result<List<Row>, NoMemory>
-    requires rising { rising ≡ true → spec.each_rises page.now.entries ≡ true }
-    requires timed { All spec.IsTimed page.now.entries }
-    ensures { IfOk result (λ rows. rows ≡ filter_map (spec.best_of_entry least) page.now.entries) }
-{
-    if rising {
-        rows_of(alloc, page, Wanted::Newest(least))
-    } else {
-        rows_of(alloc, page, Wanted::Best(least))
-    }
-}
-
 // What is kept of a page, for many to share.
 fn kept_of(alloc: Global, page: &Page) -> Result<Shared<PageRows>, NoMemory>
     requires { All spec.IsTimed page.now.entries }
     ensures { IfOk result (λ kept. kept ≡ spec.page_rows page.now) }
 {
-    let rising = each_rises(page);
-    let rows = rows_from(alloc, page, None, rising)?;
-    let kept = PageRows::new(alloc, rows, each_one(page), rising)?;
+    let mut rows = List::new(alloc);
+    let mut oldest = List::new(alloc);
+    push_kept(&mut rows, &mut oldest, page)?;
+    let kept = PageRows::new(alloc, rows, oldest, each_one(page))?;
     Shared::new(alloc, kept)
 }
 
@@ -131,13 +104,16 @@ fn kept_page<'a>(best: &'a RowPages, number: &i64) -> &'a PageRows
 fn push_from(
     alloc: Global,
     rows: &mut Rows,
+    latest: &mut Latest<'_>,
     kept: &PageRows,
     page: &Page,
     least: Option<i64>,
 ) -> Result<(), NoMemory>
     requires kept { kept.now ≡ spec.page_rows page.now }
     requires timed { All spec.IsTimed page.now.entries }
-    ensures { OnOk result (rows.new ≡ rows.old ++ filter_map (spec.best_of_entry least) page.now.entries) }
+    requires leads { walk.Leads latest.old page.now.entries }
+    ensures made { OnOk result (rows.new ≡ rows.old ++ filter_map (spec.best_of_entry least) page.now.entries) }
+    ensures stays { walk.Stays latest.old latest.new }
 {
     if kept.keeps(least) {
         return rows.push(kept.share()?);
@@ -145,7 +121,8 @@ fn push_from(
     if kept.is_alone() {
         return push_keeping(rows, kept, least);
     }
-    let made = rows_from(alloc, page, least, kept.is_rising())?;
+    let mut made = List::new(alloc);
+    push_early(&mut made, latest, page, kept.oldest(), least)?;
     rows.push(Arc::new(alloc, made)?)
 }
 
@@ -162,12 +139,14 @@ fn count_from(kept: &PageRows, page: &Page, least: Option<i64>) -> usize
     if kept.is_alone() {
         return count_keeping(kept.get(), least);
     }
-    count_page(page, Wanted::Best(least))
+    count_early(page, kept.oldest(), least)
 }
 
-// The rows of all pages, also with a least offset. Of a page whose rows keep it none is made or copied.
-pub(crate) fn best_rows(
+// The rows of all pages, also with a least offset, on a walk from a run. Of a page whose rows keep it none is made or
+// copied.
+fn rows_from(
     alloc: Global,
+    latest: &mut Latest<'_>,
     pages: &Pages,
     best: &RowPages,
     least: Option<i64>,
@@ -175,13 +154,43 @@ pub(crate) fn best_rows(
     requires pages { spec.AreOrdered pages.now }
     requires best { spec.AreBest pages.now best.now }
     requires timed { All spec.IsTimed (spec.entries_of pages.now) }
+    requires leads { walk.Leads latest.old (spec.entries_of pages.now) }
     ensures { IfOk result (λ rows. rows ≡ filter_map (spec.best_of_entry least) (spec.entries_of pages.now)) }
 {
     let mut rows = Rows::new(alloc);
     for (number, page) in pages {
-        push_from(alloc, &mut rows, kept_page(best, number), page.get(), least)?;
+        push_from(
+            alloc,
+            &mut rows,
+            latest,
+            kept_page(best, number),
+            page.get(),
+            least,
+        )?;
     }
     Ok(rows)
+}
+
+// The rows of all pages, also with a least offset.
+pub(crate) fn best_rows(
+    alloc: Global,
+    by_run: &Pages,
+    pages: &Pages,
+    best: &RowPages,
+    least: Option<i64>,
+) -> Result<Rows, NoMemory>
+    requires files { walk.AreOfOne by_run.now pages.now }
+    requires best { spec.AreBest pages.now best.now }
+    ensures { IfOk result (λ rows. rows ≡ filter_map (spec.best_of_entry least) (spec.entries_of pages.now)) }
+{
+    let runs = keys_of(alloc, by_run)?;
+    match runs.as_slice() {
+        [run, later @ ..] => {
+            let mut latest = Latest::first_of(*run, later, by_run);
+            rows_from(alloc, &mut latest, pages, best, least)
+        }
+        [] => Ok(Rows::new(alloc)),
+    }
 }
 
 // How many rows all pages have, also with a least offset.

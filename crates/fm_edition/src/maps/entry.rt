@@ -1,9 +1,8 @@
-//! The row that is wanted of an instant and its files.
+//! The row of an instant and its files.
 ghost use Rattle.std.specs.Prelude.{◌≡◌, ◌+ℤ◌, ◌++◌, OnOk, is_some};
 ghost use Rattle.std.specs.Option.{option_to_list};
 ghost use Rattle.fm_model.specs.Rows.{best_row, row_at};
 ghost use Rattle.fm_list.specs.Selected.{AreSound};
-ghost use Rattle.fm_edition.specs.declared.maps.wanted.Wanted.{Wanted as Kind};
 ghost use Rattle.fm_edition.specs.Indexes as spec;
 
 use crate::maps::files::Files;
@@ -14,7 +13,7 @@ use fm_model::Row;
 
 // Adds the row of a valid time from the best run of the files that have it, if there is one.
 #[tactic(auto, unfolding(fm_model::specs::Rows::best_row))]
-fn push_best(
+pub(crate) fn push_best(
     rows: &mut List<Row>,
     files: &Files<'_>,
     valid: i64,
@@ -24,20 +23,6 @@ fn push_best(
     ensures { OnOk result (rows.new ≡ rows.old ++ option_to_list (best_row files.now least valid)) }
 {
     push_row(rows, files, files.best(valid, least), valid)
-}
-
-// The same, where the runs of the files rise.
-#[tactic(auto, unfolding(fm_model::specs::Rows::best_row))]
-fn push_newest(
-    rows: &mut List<Row>,
-    files: &Files<'_>,
-    valid: i64,
-    least: Option<i64>,
-) -> Result<(), NoMemory>
-    requires { spec.IsReady (Kind.Newest least) (valid, files.now) }
-    ensures { OnOk result (rows.new ≡ rows.old ++ option_to_list (best_row files.now least valid)) }
-{
-    push_row(rows, files, files.newest(valid, least), valid)
 }
 
 // Adds the row of a run and the valid time that many seconds after it, if there is one.
@@ -63,23 +48,13 @@ pub(crate) fn push_wanted(
     key: i64,
     wanted: Wanted,
 ) -> Result<(), NoMemory>
-    requires { spec.IsReady wanted (key, files.now) }
+    requires { AreSound files.now }
     ensures { OnOk result (rows.new ≡ rows.old ++ option_to_list (spec.entry_row wanted (key, files.now))) }
 {
     match wanted {
-        Wanted::Best(least) => push_best(rows, files, key, least),
-        Wanted::Newest(least) => push_newest(rows, files, key, least),
         Wanted::After(seconds) => push_after(rows, files, key, seconds),
         Wanted::At(valid) => push_row(rows, files, Some(key), valid),
     }
-}
-
-// Whether the files have a best run for a valid time that each of them has.
-fn has_best(files: &Files<'_>, valid: i64, least: Option<i64>) -> bool
-    requires { spec.IsTimed (valid, files.now) }
-    ensures { result ≡ is_some (best_row files.now least valid) }
-{
-    files.has_best(valid, least)
 }
 
 // Whether there is a row of a run and a valid time.
@@ -106,12 +81,10 @@ fn has_after(files: &Files<'_>, run: i64, seconds: i64) -> bool
 
 // Whether there is the row that is wanted.
 pub(crate) fn has_wanted(files: &Files<'_>, key: i64, wanted: Wanted) -> bool
-    requires { spec.IsReady wanted (key, files.now) }
+    requires { AreSound files.now }
     ensures { result ≡ is_some (spec.entry_row wanted (key, files.now)) }
 {
     match wanted {
-        Wanted::Best(least) => has_best(files, key, least),
-        Wanted::Newest(least) => has_best(files, key, least),
         Wanted::After(seconds) => has_after(files, key, seconds),
         Wanted::At(valid) => has_row(files, key, valid),
     }

@@ -7,15 +7,14 @@ use fm_model::Row;
 use std::alloc::Global;
 use std::marker::Model;
 
-/// The rows of a page, the least number of seconds that the valid time of one lies after its run, whether each valid
-/// time of the page is that of one file, and whether the runs of the files of each rise. A clause sees all but the
-/// second.
+/// The rows of a page, the least number of seconds that the valid time of one lies after its run, the least run of the
+/// files of each valid time of the page, and whether each is that of one file. A clause sees all but the second.
 #[derive(Drop)]
 pub(crate) struct PageRows {
     rows: Arc<List<Row>>,
     least: i128,
+    oldest: List<i64>,
     alone: bool,
-    rising: bool,
 }
 
 fn lesser(one: i128, other: i128) -> i128
@@ -42,7 +41,7 @@ impl Model for PageRows {
 
     ghost Value = { KeptRows };
 
-    ghost view = { λ page. record { rows = page.rows; alone = page.alone; rising = page.rising } };
+    ghost view = { λ page. record { rows = page.rows; oldest = page.oldest; alone = page.alone } };
 
     ghost invariant = { λ page. LieAfter page.least page.rows };
 }
@@ -54,17 +53,17 @@ impl PageRows {
     pub(crate) fn new(
         alloc: Global,
         rows: List<Row>,
+        oldest: List<i64>,
         alone: bool,
-        rising: bool,
     ) -> Result<PageRows, NoMemory>
-        ensures { IfOk result (λ page. page ≡ record { rows = rows; alone = alone; rising = rising }) }
+        ensures { IfOk result (λ page. page ≡ record { rows = rows; oldest = oldest; alone = alone }) }
     {
         let least = least_of(rows.as_slice());
         Ok(PageRows {
             rows: Arc::new(alloc, rows)?,
             least,
+            oldest,
             alone,
-            rising,
         })
     }
 
@@ -88,11 +87,11 @@ impl PageRows {
         self.alone
     }
 
-    // Whether the runs of the files of each valid time of the page rise.
-    pub(crate) fn is_rising(&self) -> bool
-        ensures { result ≡ self.now.rising }
+    // The least run of the files of each valid time of the page, in the order of these.
+    pub(crate) fn oldest(&self) -> &[i64]
+        ensures { result.now ≡ self.now.oldest }
     {
-        self.rising
+        self.oldest.as_slice()
     }
 
     // One more owner of the rows.

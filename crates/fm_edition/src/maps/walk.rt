@@ -35,8 +35,8 @@ pub(crate) fn keys_of(alloc: Global, pages: &Pages) -> Result<List<i64>, NoMemor
 }
 
 // Adds the rows of a page.
-pub(crate) fn push_page(rows: &mut List<Row>, page: &Page, wanted: Wanted) -> Result<(), NoMemory>
-    requires { All (spec.IsReady wanted) page.now.entries }
+fn push_page(rows: &mut List<Row>, page: &Page, wanted: Wanted) -> Result<(), NoMemory>
+    requires { All spec.IsSound page.now.entries }
     ensures { OnOk result (rows.new ≡ rows.old ++ filter_map (spec.entry_row wanted) page.now.entries) }
 {
     for (key, files) in page {
@@ -47,7 +47,7 @@ pub(crate) fn push_page(rows: &mut List<Row>, page: &Page, wanted: Wanted) -> Re
 
 // The rows of all pages.
 pub(crate) fn rows_in(alloc: Global, pages: &Pages, wanted: Wanted) -> Result<Rows, NoMemory>
-    requires { All (spec.IsReady wanted) (spec.entries_of pages.now) }
+    requires { All spec.IsSound (spec.entries_of pages.now) }
     ensures { IfOk result (λ rows. rows ≡ filter_map (spec.entry_row wanted) (spec.entries_of pages.now)) }
 {
     let mut rows = List::new(alloc);
@@ -76,22 +76,10 @@ pub(crate) fn each_one(page: &Page) -> bool
     true
 }
 
-// Whether the runs of the files of each instant of a page rise.
-pub(crate) fn each_rises(page: &Page) -> bool
-    ensures { result ≡ spec.each_rises page.now.entries }
-{
-    for (_, files) in page {
-        if !files.get().all().have_rising_runs() {
-            return false;
-        }
-    }
-    true
-}
-
 // How many rows a page has.
-pub(crate) fn count_page(page: &Page, wanted: Wanted) -> usize
+fn count_page(page: &Page, wanted: Wanted) -> usize
     requires count { length page.now.entries < 2 ^ 63 }
-    requires ready { All (spec.IsReady wanted) page.now.entries }
+    requires sound { All spec.IsSound page.now.entries }
     ensures { result ≡ length (filter_map (spec.entry_row wanted) page.now.entries) }
 {
     let mut count = 0;
@@ -106,7 +94,7 @@ pub(crate) fn count_page(page: &Page, wanted: Wanted) -> usize
 // How many rows all pages have.
 pub(crate) fn count_in(pages: &Pages, wanted: Wanted) -> usize
     requires count { length (spec.entries_of pages.now) < 2 ^ 32 }
-    requires ready { All (spec.IsReady wanted) (spec.entries_of pages.now) }
+    requires sound { All spec.IsSound (spec.entries_of pages.now) }
     ensures { result ≡ length (filter_map (spec.entry_row wanted) (spec.entries_of pages.now)) }
 {
     let mut count = 0;

@@ -10,8 +10,8 @@ count_in-requires-clause-count c = runs_are_few c.self.inside.files
     c.self.inside.index.by_run c.self.invariant.maps.of_runs
     c.self.invariant.sound.within
 
-pub count_in-requires-clause-ready : goal.count_in-requires-clause-ready
-count_in-requires-clause-ready c = entries_sound c.self.inside.files
+pub count_in-requires-clause-sound : goal.count_in-requires-clause-sound
+count_in-requires-clause-sound c = entries_sound c.self.inside.files
     c.self.inside.index.by_run c.self.invariant.maps.of_runs
     (times_are_sound c.self.inside.proto c.self.inside.files c.self.invariant.sound.fit)
 

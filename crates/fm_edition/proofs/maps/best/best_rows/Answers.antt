@@ -1,57 +1,45 @@
--- One more page's rows.
-use Rattle.std.proofs.Common.{◌≡◌, ◌++◌, ◌∙◌, ap, refl, subst, sym}
-use Rattle.std.specs.Prelude.{All}
+-- The walk begins with the first of all runs. Where there is none, there is no valid time.
+use Rattle.std.proofs.Common.{◌-◌, ◌∷◌, ap, drop, get_or, length, pos, take, rules, sym, ◌∙◌, SFits, w64}
 use Rattle.std.specs.List.{filter_map}
-use Rattle.std.proofs.lemmas.Option.{none-some, same_Some}
-use Rattle.fm_edition.specs.Indexes.{best_of_entry, entries_in, entries_of, page_rows, IsTimed}
-use Rattle.fm_edition.proofs.BestLemmas.{kept_entries, HasKept}
-use Rattle.fm_edition.proofs.WalkLemmas.{all_first, all_parts, all_rest, some_taken}
+use Rattle.std.proofs.lemmas.Int.{to_z-of_z}
+use Rattle.fm_model.proofs.Members.{All-from_each}
+use Rattle.fm_list.specs.declared.by.By.TheVariants.{Time}
+use Rattle.fm_edition.specs.Indexes.{best_of_entry, entries_of}
+use Rattle.fm_edition.specs.Latest.{AreRuns, IsPart}
+use Rattle.fm_edition.proofs.EntryLemmas.{entry_files}
+use Rattle.fm_edition.proofs.LatestLemmas.{left_runs, no_entries, none_left}
+use Rattle.fm_edition.proofs.RowLemmas.{entries_timed, runs-from_pages}
 use Rattle.fm_edition.proofs.maps.best.best_rows.Goals as goal
 
-pub loop-number-init : goal.loop-number-init
-loop-number-init c =
-    let is : c.into_iter-number-iterator.result ≡ c.args.pages.now.entries =
-    c.into_iter-number-iterator.ensures.into_iter_gives.0 in
+pub rows_from-requires-clause-pages : goal.rows_from-requires-clause-pages
+rows_from-requires-clause-pages c = c.requires.files.times.ordered
+
+pub rows_from-requires-clause-timed : goal.rows_from-requires-clause-timed
+rows_from-requires-clause-timed c =
+    let one = c.requires.files in
+    entries_timed one.held c.args.pages.now one.times one.sound
+
+pub rows_from-requires-clause-leads : goal.rows_from-requires-clause-leads
+rows_from-requires-clause-leads c =
+    let one = c.requires.files in
+    let left = c.as_slice.result.now in
+    let a : SFits w64 (get_or left 0 (pos 0)) = search rules in
+    let runs : AreRuns one.held c.args.by_run.now (get_or left 0 (pos 0) ∷ take (length left - 1) (drop 1 left)) =
     record {
-      kept = rw is (kept_entries c.args.pages.now c.args.best.now c.requires.pages c.requires.best);
-      timed = rw is c.requires.timed;
-      made = rw (is, c.new-rows.ensures) refl;
+      are = sym (runs-from_pages one.held c.args.by_run.now one.runs) ∙ sym c.in_ok-runs.ensures
+          ∙ sym c.as_slice.ensures ∙ left_runs left c.in-len1-up.len_at_least;
+      parts = one.runs;
+      sound = one.sound;
+    } in
+    record {
+      held = one.held;
+      is = c.first_of-latest.ensures one.held (simp to_z-of_z runs);
+      parts = All-from_each (IsPart one.held) (entries_of c.args.pages.now)
+          (entry_files Time one.held c.args.pages.now one.times);
     }
 
-pub kept_page-requires : goal.kept_page-requires
-kept_page-requires c none =
-    let kept = all_first (HasKept c.args.best.now) (c.in-Some.number.now, c.in-Some.page.now) c.next.new.self
-    c.loop-number.number-iterator c.in-Some.ensures.steps c.loop-number.invariant.kept in
-    none-some (page_rows c.in-Some.page.now) (sym none ∙ kept)
-
-pub push_from-requires-clause-kept : goal.push_from-requires-clause-kept
-push_from-requires-clause-kept c =
-    let page = c.in-Some.page.now in
-    let kept = all_first (HasKept c.args.best.now) (c.in-Some.number.now, page) c.next.new.self
-    c.loop-number.number-iterator c.in-Some.ensures.steps c.loop-number.invariant.kept in
-    same_Some c.kept_page.result.now (page_rows page) (sym c.kept_page.ensures ∙ kept)
-    ∙ ap page_rows (sym c.get.ensures)
-
-pub push_from-requires-clause-timed : goal.push_from-requires-clause-timed
-push_from-requires-clause-timed c =
-    let all : All IsTimed (c.in-Some.page.now.entries ++ entries_in c.next.new.self) =
-    subst (λ l. All IsTimed (entries_in l)) c.in-Some.ensures.steps c.loop-number.invariant.timed in
-    rw c.get.ensures (all_parts IsTimed c.in-Some.page.now.entries (entries_in c.next.new.self) all).0
-
-pub loop-number-preserved : goal.loop-number-preserved
-loop-number-preserved c =
-    let make = best_of_entry c.args.least in
-    let page = c.in-Some.page.now in
-    let all : All IsTimed (page.entries ++ entries_in c.next.new.self) =
-    subst (λ l. All IsTimed (entries_in l)) c.in-Some.ensures.steps c.loop-number.invariant.timed in
-    let sum : c.loop-number.rows ++ filter_map make (page.entries ++ entries_in c.next.new.self)
-    ≡ filter_map make (entries_of c.args.pages.now) = subst (λ l. c.loop-number.rows
-    ++ filter_map make (entries_in l) ≡ filter_map make (entries_of c.args.pages.now)) c.in-Some.ensures.steps
-    c.loop-number.invariant.made in
-    record {
-      kept = all_rest (HasKept c.args.best.now) (c.in-Some.number.now, page) c.next.new.self
-          c.loop-number.number-iterator c.in-Some.ensures.steps c.loop-number.invariant.kept;
-      timed = (all_parts IsTimed page.entries (entries_in c.next.new.self) all).1;
-      made = rw (c.in_ok-push_from.ensures, c.get.ensures) (some_taken make c.loop-number.rows
-          page.entries (entries_in c.next.new.self) (filter_map make (entries_of c.args.pages.now)) sum);
-    }
+pub returns : goal.returns
+returns c =
+    let none = no_entries c.args.by_run.now c.args.pages.now c.requires.files
+    (sym c.in_ok-runs.ensures ∙ sym c.as_slice.ensures ∙ none_left c.as_slice.result.now c.in-empty.len_below) in
+    c.new.ensures ∙ sym (ap (filter_map (best_of_entry c.args.least)) none)

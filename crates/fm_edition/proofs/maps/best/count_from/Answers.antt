@@ -23,3 +23,6 @@ returns-then-is_alone c =
     c.count_keeping.ensures
     ∙ ap (λ l. length (filter (keeps_least c.args.least) l)) (c.get.ensures ∙ rows_are)
     ∙ ap length (from_alone c.args.least c.args.page.now alone)
+
+pub count_early-requires-clause-oldest : goal.count_early-requires-clause-oldest
+count_early-requires-clause-oldest c = c.oldest.ensures ∙ ap (λ (kept : KeptRows). kept.oldest) c.requires.kept

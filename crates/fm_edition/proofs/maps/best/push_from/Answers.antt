@@ -2,23 +2,25 @@
 -- of one file.
 use Rattle.std.proofs.Common.{OnOk, ◌≡◌, ◌++◌, List, ap, sym, ◌∙◌, subst}
 use Rattle.std.specs.Prelude.{filter}
+use Rattle.std.specs.List.{filter_map}
 use Rattle.fm_model.specs.declared.row.Row.{Row}
+use Rattle.fm_edition.specs.Indexes.{best_of_entry}
 use Rattle.fm_edition.specs.Kept.{KeptRows}
 use Rattle.fm_edition.specs.Least.{keeps_least, KeepLeast}
 use Rattle.fm_edition.proofs.AloneLemmas.{from_alone}
 use Rattle.fm_edition.proofs.LeastLemmas.{from_kept}
 use Rattle.fm_edition.proofs.maps.best.push_from.Goals as goal
 
-pub returns-then-keeps : goal.returns-then-keeps
-returns-then-keeps c =
+pub returns-then-keeps-clause-made : goal.returns-then-keeps-clause-made
+returns-then-keeps-clause-made c =
     let rows_are = ap (λ (kept : KeptRows). kept.rows) c.requires.kept in
     let same = from_kept c.args.least c.args.page.now
     (subst (KeepLeast c.args.least) rows_are (c.keeps.ensures c.if-keeps.true)) in
     subst (λ (rows : List Row). OnOk c.push.result (c.push.new.self ≡ c.args.rows.now ++ rows))
     (c.in_ok-share.ensures ∙ rows_are ∙ same) c.push.ensures.ok
 
-pub returns-then-is_alone : goal.returns-then-is_alone
-returns-then-is_alone c =
+pub returns-then-is_alone-clause-made : goal.returns-then-is_alone-clause-made
+returns-then-is_alone-clause-made c =
     let rows_are = ap (λ (kept : KeptRows). kept.rows) c.requires.kept in
     let alone = ap (λ (kept : KeptRows). kept.alone) (sym c.requires.kept) ∙ sym c.is_alone.ensures
     ∙ c.if-is_alone.true in
@@ -26,11 +28,10 @@ returns-then-is_alone c =
     (ap (filter (keeps_least c.args.least)) rows_are ∙ from_alone c.args.least c.args.page.now alone)
     c.push_keeping.ensures
 
-pub rows_from-requires-clause-rising : goal.rows_from-requires-clause-rising
-rows_from-requires-clause-rising c = λ rises. ap (λ (kept : KeptRows). kept.rising) (sym c.requires.kept)
-    ∙ sym c.is_rising.ensures ∙ rises
+pub push_early-requires-clause-oldest : goal.push_early-requires-clause-oldest
+push_early-requires-clause-oldest c = c.oldest.ensures ∙ ap (λ (kept : KeptRows). kept.oldest) c.requires.kept
 
-pub returns : goal.returns
-returns c =
+pub returns-clause-made : goal.returns-clause-made
+returns-clause-made c =
     subst (λ (rows : List Row). OnOk c.push-2.result (c.push-2.new.self ≡ c.args.rows.now ++ rows))
-    (c.in_ok-new.ensures ∙ c.in_ok-made.ensures) c.push-2.ensures.ok
+    (c.in_ok-new.ensures ∙ c.in_ok-push_early.ensures.made ∙ ap (λ l. l ++ filter_map (best_of_entry c.args.least) c.args.page.now.entries) c.new-made.ensures) c.push-2.ensures.ok

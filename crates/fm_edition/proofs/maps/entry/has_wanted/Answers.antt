@@ -3,31 +3,8 @@ use Rattle.std.proofs.Common.{◌≡◌, sym, subst, rules, SFits, w64}
 use Rattle.std.specs.Prelude.{is_some}
 use Rattle.std.proofs.lemmas.Int.{to_z-of_z}
 use Rattle.fm_edition.specs.declared.maps.wanted.Wanted.{Wanted}
-use Rattle.fm_edition.specs.Indexes.{entry_row, IsReady}
+use Rattle.fm_edition.specs.Indexes.{entry_row}
 use Rattle.fm_edition.proofs.maps.entry.has_wanted.Goals as goal
-
-pub has_best-requires : goal.has_best-requires
-has_best-requires c =
-    let a : SFits w64 c.args.key = search rules in
-    simp to_z-of_z (subst (λ (w : Wanted). IsReady w (c.args.key, c.args.files.now)) c.in-Best.is c.requires)
-
-pub has_after-requires : goal.has_after-requires
-has_after-requires c = subst (λ (w : Wanted). IsReady w (c.args.key, c.args.files.now)) c.in-After.is c.requires
-
-pub has_row-requires : goal.has_row-requires
-has_row-requires c = subst (λ (w : Wanted). IsReady w (c.args.key, c.args.files.now)) c.in-At.is c.requires
-
-pub returns-in-Best : goal.returns-in-Best
-returns-in-Best c =
-    let a : SFits w64 c.args.key = search rules in
-    subst (λ (w : Wanted). c.has_best.result ≡ is_some (entry_row w (c.args.key, c.args.files.now))) (sym c.in-Best.is)
-    (simp to_z-of_z at c.has_best.ensures)
-
-pub returns-in-Newest : goal.returns-in-Newest
-returns-in-Newest c =
-    let a : SFits w64 c.args.key = search rules in
-    subst (λ (w : Wanted). c.has_best-in-Newest.result ≡ is_some (entry_row w (c.args.key, c.args.files.now)))
-    (sym c.in-Newest.is) (simp to_z-of_z at c.has_best-in-Newest.ensures)
 
 pub returns-in-After : goal.returns-in-After
 returns-in-After c =

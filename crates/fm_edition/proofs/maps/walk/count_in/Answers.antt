@@ -6,7 +6,7 @@ use Rattle.std.specs.List.{filter_map}
 use Rattle.std.proofs.lemmas.List.{length-append}
 use Rattle.fm_base.proofs.ListLemmas.{length-filter_map}
 use Rattle.fm_model.specs.declared.loaded.Loaded.{Loaded}
-use Rattle.fm_edition.specs.Indexes.{entries_in, entries_of, entry_row, IsReady}
+use Rattle.fm_edition.specs.Indexes.{entries_in, entries_of, entry_row, IsSound}
 use Rattle.fm_edition.proofs.CountLemmas.{counted_page}
 use Rattle.fm_edition.proofs.WalkLemmas.{all_parts}
 use Rattle.fm_edition.proofs.maps.walk.count_in.Goals as goal
@@ -17,11 +17,11 @@ count_page-count-requires-clause-count c =
     subst (λ l. length (entries_in l) < 2 ^ 32) c.in-Some.ensures.steps c.loop-page.invariant.few in
     rw c.get.ensures (omega (arith, few, length-append c.in-Some.page.now.entries (entries_in c.next.new.self)))
 
-pub count_page-count-requires-clause-ready : goal.count_page-count-requires-clause-ready
-count_page-count-requires-clause-ready c =
-    let all : All (IsReady c.args.wanted) (c.in-Some.page.now.entries ++ entries_in c.next.new.self) =
-    subst (λ l. All (IsReady c.args.wanted) (entries_in l)) c.in-Some.ensures.steps c.loop-page.invariant.ready in
-    rw c.get.ensures (all_parts (IsReady c.args.wanted) c.in-Some.page.now.entries (entries_in c.next.new.self) all).0
+pub count_page-count-requires-clause-sound : goal.count_page-count-requires-clause-sound
+count_page-count-requires-clause-sound c =
+    let all : All IsSound (c.in-Some.page.now.entries ++ entries_in c.next.new.self) =
+    subst (λ l. All IsSound (entries_in l)) c.in-Some.ensures.steps c.loop-page.invariant.sound in
+    rw c.get.ensures (all_parts IsSound c.in-Some.page.now.entries (entries_in c.next.new.self) all).0
 
 pub overflow_add-count : goal.overflow_add-count
 overflow_add-count c =
@@ -47,14 +47,14 @@ loop-page-preserved c =
     c.in-Some.ensures.steps c.loop-page.invariant.counted in
     let few : length (c.in-Some.page.now.entries ++ entries_in c.next.new.self) < 2 ^ 32 =
     subst (λ l. length (entries_in l) < 2 ^ 32) c.in-Some.ensures.steps c.loop-page.invariant.few in
-    let all : All (IsReady c.args.wanted) (c.in-Some.page.now.entries ++ entries_in c.next.new.self) =
-    subst (λ l. All (IsReady c.args.wanted) (entries_in l)) c.in-Some.ensures.steps c.loop-page.invariant.ready in
+    let all : All IsSound (c.in-Some.page.now.entries ++ entries_in c.next.new.self) =
+    subst (λ l. All IsSound (entries_in l)) c.in-Some.ensures.steps c.loop-page.invariant.sound in
     let own : c.count_page-count.result ≡ length (filter_map make c.in-Some.page.now.entries) =
     c.count_page-count.ensures
     ∙ ap (λ (m : BTreeMap ℤ (List Loaded)). length (filter_map make m.entries)) c.get.ensures in
     record {
       few = omega (arith, few, length-append c.in-Some.page.now.entries (entries_in c.next.new.self));
-      ready = (all_parts (IsReady c.args.wanted) c.in-Some.page.now.entries (entries_in c.next.new.self) all).1;
+      sound = (all_parts IsSound c.in-Some.page.now.entries (entries_in c.next.new.self) all).1;
       counted = rw own (counted_page make c.loop-page.count c.in-Some.page.now.entries (entries_in c.next.new.self)
           (length (filter_map make (entries_of c.args.pages.now))) sum);
     }
@@ -63,4 +63,4 @@ pub loop-page-init : goal.loop-page-init
 loop-page-init c =
     let is : c.into_iter-page-iterator.result ≡ c.args.pages.now.entries =
     c.into_iter-page-iterator.ensures.into_iter_gives.0 in
-    record { few = rw is c.requires.count; ready = rw is c.requires.ready; counted = rw is (omega arith) }
+    record { few = rw is c.requires.count; sound = rw is c.requires.sound; counted = rw is (omega arith) }

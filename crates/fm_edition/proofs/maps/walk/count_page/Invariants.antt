@@ -2,12 +2,12 @@
 use Rattle.std.proofs.Common.{◌≡◌, ◌+◌, length}
 use Rattle.std.specs.Prelude.{All}
 use Rattle.std.specs.List.{filter_map}
-use Rattle.fm_edition.specs.Indexes.{entry_row, IsReady}
+use Rattle.fm_edition.specs.Indexes.{entry_row, IsSound}
 use Rattle.fm_edition.proofs.maps.walk.count_page.Given as goal
 
 abbrev pub invariant-loop-key : goal.invariant-loop-key
 invariant-loop-key l = record {
-  ready : All (IsReady l.wanted) l.key-iterator;
+  sound : All IsSound l.key-iterator;
   counted : l.count + length (filter_map (entry_row l.wanted) l.key-iterator)
       ≡ length (filter_map (entry_row l.wanted) l.page.entries);
 }

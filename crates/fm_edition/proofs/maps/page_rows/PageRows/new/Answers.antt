@@ -17,7 +17,7 @@ pub returns : goal.returns
 returns c =
     let kept : List Row → KeptRows = λ rows. record {
       rows = rows;
+      oldest = c.args.oldest;
       alone = c.args.alone;
-      rising = c.args.rising;
     } in
     ap kept c.in_ok-new.ensures

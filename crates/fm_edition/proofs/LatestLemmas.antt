@@ -1,0 +1,186 @@
+-- The last run that keeps a least offset is the best where it has a valid time.
+use Rattle.std.proofs.Common.{◌≡◌, ℕ, ◌<◌, ◌≤◌, ◌-◌, true, false, List, [], ◌∷◌, ◌++◌, drop, get_or, length, take, Option, Some, None, ℤ, pos, ◌<ℤ◌, refl, sym, ap, subst, ◌∙◌, inl, arith}
+use Rattle.std.specs.Prelude.{◌&&◌, Bool, All, is_some, option_and_then}
+use Rattle.std.specs.Cmp.{signed_Decides}
+use Rattle.std.specs.Map.{keys_of}
+use Rattle.std.specs.Option.{option_map}
+use Rattle.std.proofs.lemmas.Bool.{false≢true, true≢false}
+use Rattle.std.proofs.lemmas.Int.{ints}
+use Rattle.std.proofs.lemmas.List.{append_assoc, take_all}
+use Rattle.fm_model.specs.declared.loaded.Loaded.{Loaded}
+use Rattle.fm_model.specs.declared.row.Row.{Row}
+use Rattle.fm_model.specs.Cell.{best, cell, has_least_offset, is_usable, runs_of, times_of}
+use Rattle.fm_model.specs.Rising.{rising}
+use Rattle.fm_model.specs.Rows.{best_row, row_at}
+use Rattle.fm_model.proofs.InstantLemmas.{rises_runs_of}
+use Rattle.fm_model.proofs.LastLemmas.{last_such-is}
+use Rattle.fm_model.proofs.Members.{Each, Each-weaker, EachPair}
+use Rattle.fm_model.proofs.RisingLemmas.{Above}
+use Rattle.fm_list.specs.declared.by.By.TheVariants.{Run, Time}
+use Rattle.fm_list.specs.Selected.{part, selects, AreSound}
+use Rattle.fm_edition.specs.declared.maps.latest.Latest.{Latest}
+use Rattle.fm_edition.specs.Indexes.{entries_of, instants, is_among, AreParts, Pages}
+use Rattle.fm_edition.specs.Latest.{AreOfOne, BeginLate, IsLatest, IsPart, Leads, Stays}
+use Rattle.fm_edition.proofs.ChangeLemmas.{one_of}
+use Rattle.fm_edition.proofs.KeyLemmas.{keys_are}
+use Rattle.fm_edition.proofs.PartLemmas.{sound-part}
+use Rattle.fm_edition.proofs.RowLemmas.{best_row-part, runs-from_pages}
+use Rattle.fm_edition.proofs.RunLemmas.{cell-part_of_run}
+use Rattle.fm_edition.proofs.WalkLemmas.{all_parts}
+
+-- the later instants of a rising list rise
+behind : (before : List ℤ) (run : ℤ) (later : List ℤ) → EachPair Above (before ++ run ∷ later) → EachPair Above later
+behind [] run later rises = rises.1
+behind (first ∷ before) run later rises = behind before run later rises.1
+
+-- a later run doesn't keep the least offset either
+later_late : (least : Option ℤ) (valid run other : ℤ) → has_least_offset least run valid ≡ false → run <ℤ other
+    → has_least_offset least other valid ≡ false
+unfolding has_least_offset
+later_late None valid run other late after = absurd (true≢false late)
+later_late (Some seconds) valid run other late after = grind (arith, ints, late, after)
+
+all_late : (least : Option ℤ) (valid : ℤ) (runs : List ℤ) → EachPair Above runs → BeginLate least valid runs
+    → Each (λ run. has_least_offset least run valid ≡ false) runs
+all_late least valid [] rises late = tt
+all_late least valid (run ∷ runs) rises late = (
+  late,
+  Each-weaker (Above run) (λ other. has_least_offset least other valid ≡ false)
+      (λ other after. later_late least valid run other late after) runs rises.0,
+)
+
+not_usable : (held : List Loaded) (least : Option ℤ) (valid run : ℤ) → has_least_offset least run valid ≡ false
+    → is_usable held valid least run ≡ false
+unfolding is_usable
+not_usable held least valid run late = rw late (neither (is_some (cell held run valid)))
+  where
+    neither : (b : Bool) → (b && false) ≡ false
+    neither true = refl
+    neither false = refl
+
+usable : (held : List Loaded) (least : Option ℤ) (valid run : ℤ) (found : Loaded × ℕ)
+    → cell held run valid ≡ Some found → has_least_offset least run valid ≡ true
+    → is_usable held valid least run ≡ true
+unfolding is_usable
+usable held least valid run found is keeps = rw (is, keeps) refl
+
+-- a run that keeps the least offset, where the next doesn't, is the best where it has the valid time
+best-latest : (held : List Loaded) (latest : Latest) (least : Option ℤ) (valid : ℤ) (found : Loaded × ℕ)
+    → IsLatest held latest → BeginLate least valid latest.later.now
+    → has_least_offset least latest.run valid ≡ true → cell held latest.run valid ≡ Some found
+    → best held valid least ≡ Some latest.run
+unfolding best
+best-latest held latest least valid found is stops keeps there =
+    let later = latest.later.now in
+    let rises = behind is.before latest.run later (subst (EachPair Above) is.runs.are (rises_runs_of held)) in
+    rw is.runs.are (last_such-is (is_usable held valid least) is.before latest.run later
+    (usable held least valid latest.run found there keeps)
+    (Each-weaker (λ run. has_least_offset least run valid ≡ false) (λ run. is_usable held valid least run ≡ false)
+    (λ run late. not_usable held least valid run late) later (all_late least valid later rises stops)))
+
+-- and its row is that of the valid time
+pub row-latest : (latest : Latest) (least : Option ℤ) (entry : ℤ × List Loaded) (found : Loaded × ℕ)
+    → Leads latest (entry ∷ []) → BeginLate least entry.0 latest.later.now
+    → has_least_offset least latest.run entry.0 ≡ true → cell latest.files latest.run entry.0 ≡ Some found
+    → best_row entry.1 least entry.0
+    ≡ Some (record { valid = entry.0; run = latest.run; file = found.0; index = found.1 })
+unfolding best_row row_at
+row-latest latest least entry found leads stops keeps there =
+    let held = leads.held in
+    let valid = entry.0 in
+    let own : cell held latest.run valid ≡ Some found =
+    sym (cell-part_of_run held latest.run valid)
+    ∙ ap (λ files. cell files latest.run valid) (sym leads.is.own) ∙ there in
+    ap (λ files. best_row files least valid) (sym (leads.parts 0 entry (omega arith)))
+    ∙ best_row-part held valid least
+    ∙ ap (option_and_then (λ run. row_at held run valid)) (best-latest held latest least valid found leads.is stops
+    keeps own)
+    ∙ ap (option_map (λ (f : Loaded × ℕ). record { valid = valid; run = latest.run; file = f.0; index = f.1 })) own
+
+-- the files of the run have sound times
+pub sound-latest : (held : List Loaded) (latest : Latest) → IsLatest held latest → AreSound latest.files
+sound-latest held latest is = subst AreSound (sym is.own) (sound-part Run held latest.run is.runs.sound)
+
+-- the first of the runs that are left, and those behind it
+pub left_runs : (left : List ℤ) → 1 ≤ length left → left ≡ get_or left 0 (pos 0) ∷ take (length left - 1) (drop 1 left)
+left_runs [] few = absurd (omega (arith, few))
+left_runs (run ∷ runs) few = ap (λ l. run ∷ l) (sym (take_all (length (run ∷ runs) - 1) runs (omega arith)))
+
+-- a list ends in a run and some later ones
+abbrev pub EndsIn : List ℤ → ℤ → List ℤ → Type 0
+EndsIn runs run later = (before : List ℤ) × (runs ≡ before ++ run ∷ later)
+
+-- one run later
+pub one_later : (runs left : List ℤ) (run : ℤ) → 1 ≤ length left → EndsIn runs run left
+    → EndsIn runs (get_or left 0 (pos 0)) (take (length left - 1) (drop 1 left))
+one_later runs left run few ends = (
+  ends.0 ++ run ∷ [],
+  ends.1 ∙ ap (λ l. ends.0 ++ run ∷ l) (left_runs left few)
+      ∙ sym (append_assoc ends.0 (run ∷ []) (get_or left 0 (pos 0) ∷ take (length left - 1) (drop 1 left))),
+)
+
+-- a run of some files and its own go on to a later run and its own
+pub IsLatest-later : (held : List Loaded) (before after : Latest) → IsLatest held before
+    → EndsIn (before.run ∷ before.later.now) after.run after.later.now → after.by_run.now ≡ before.by_run.now
+    → after.files ≡ part Run held after.run → IsLatest held after
+IsLatest-later held before after is ends same own = record {
+  before = is.before ++ ends.0;
+  runs = record {
+    are = is.runs.are ∙ ap (λ l. is.before ++ l) ends.1
+        ∙ sym (append_assoc is.before ends.0 (after.run ∷ after.later.now));
+    parts = subst (λ pages. AreParts Run held pages) (sym same) is.runs.parts;
+    sound = is.runs.sound;
+  };
+  own = own;
+}
+
+-- where no run is left, the first that is left is not late
+pub none_late : (least : Option ℤ) (valid : ℤ) (left : List ℤ) → length left ≤ 0 → BeginLate least valid left
+none_late least valid [] none = tt
+none_late least valid (run ∷ runs) none = absurd (omega (arith, none))
+
+pub first_late : (least : Option ℤ) (valid : ℤ) (left : List ℤ) → 1 ≤ length left
+    → has_least_offset least (get_or left 0 (pos 0)) valid ≡ false → BeginLate least valid left
+first_late least valid [] few late = absurd (omega (arith, few))
+first_late least valid (run ∷ runs) few late = late
+
+-- what leads to some entries leads to the first of them, and to the others
+pub leads_parts : (latest : Latest) (first others : List (ℤ × List Loaded)) → Leads latest (first ++ others)
+    → Leads latest first × Leads latest others
+leads_parts latest first others leads =
+    let parts = all_parts (IsPart leads.held) first others leads.parts in (
+      record { held = leads.held; is = leads.is; parts = parts.0 },
+      record { held = leads.held; is = leads.is; parts = parts.1 },
+    )
+
+-- a run that went on leads to what it led to
+pub leads_stays : (before after : Latest) (entries : List (ℤ × List Loaded)) → Stays before after
+    → Leads before entries → Leads after entries
+leads_stays before after entries stays leads = record {
+  held = leads.held;
+  is = stays leads.held leads.is;
+  parts = leads.parts;
+}
+
+no_files : (held : List Loaded) → runs_of held ≡ [] → held ≡ []
+unfolding instants selects
+no_files [] none = refl
+no_files (file ∷ files) none =
+    let among = one_of Run (file ∷ files) file.run file (inl refl) ((signed_Decides file.run file.run).1 refl) in
+    absurd (false≢true (ap (λ runs. is_among runs file.run) (sym none) ∙ among))
+
+no_keys : (entries : List (ℤ × List Loaded)) → keys_of entries ≡ [] → entries ≡ []
+no_keys [] none = refl
+no_keys (entry ∷ entries) none = absurd cc
+
+pub none_left : (left : List ℤ) → length left < 1 → left ≡ []
+none_left [] few = refl
+none_left (run ∷ runs) few = absurd (omega (arith, few))
+
+-- where there is no run, there is no valid time
+pub no_entries : (by_run by_time : Pages) → AreOfOne by_run by_time → keys_of (entries_of by_run) ≡ []
+    → entries_of by_time ≡ []
+unfolding instants times_of rising
+no_entries by_run by_time one none =
+    let held : one.held ≡ [] = no_files one.held (sym (runs-from_pages one.held by_run one.runs) ∙ none) in
+    no_keys (entries_of by_time) (keys_are Time one.held by_time one.times ∙ ap times_of held)
