@@ -16,9 +16,9 @@ use Rattle.fm_model.specs.Collection.{after_op, holds_older}
 use Rattle.fm_model.proofs.Members.{In, Each, All-from_each, Any-from_in, Contains-from_in, Each-from_in, Each-in, each_from_All, in_from_Contains, In-append_left, In-append_right, In-filter, In-flat_map}
 use Rattle.fm_model.proofs.RetractLemmas.{expire-none}
 use Rattle.fm_list.specs.declared.by.By.{By}
-use Rattle.fm_list.specs.Change.{added, gone, keeps}
+use Rattle.fm_list.specs.Change.{added, gone, keeps, HasGone}
 use Rattle.fm_list.specs.Selected.{part_after, selects}
-use Rattle.fm_edition.specs.Pieces.{joined, HasGone}
+use Rattle.fm_edition.specs.Pieces.{joined}
 use Rattle.fm_edition.proofs.ChangeLemmas.{after_op-is}
 
 -- one more piece at the end
@@ -144,6 +144,12 @@ HasGone-pieces pieces last went op has = All-from_each (HasGone went op) pieces
     (Each-from_in (HasGone went op) pieces (λ piece here.
     all_piece (λ (file : Loaded). keeps op file ≡ false → Contains went file) pieces piece here
     (all_first (λ (file : Loaded). keeps op file ≡ false → Contains went file) (joined pieces) last has)))
+
+-- and so is what it takes out of the last files
+pub HasGone-last : (pieces : List (List Loaded)) (last went : List Loaded) (op : Op)
+    → HasGone went op (joined pieces ++ last) → HasGone went op last
+HasGone-last pieces last went op has =
+    all_last (λ (file : Loaded). keeps op file ≡ false → Contains went file) (joined pieces) last has
 
 -- what an operation takes out of some of the files is among what it takes out of all
 pub HasGone-some : (files some went : List Loaded) (op : Op) → went ≡ gone files op

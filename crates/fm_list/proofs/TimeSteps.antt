@@ -18,9 +18,11 @@ later : (last : ℤ) (times : List ℤ) → rise_from last times ≡ true → Ea
 later last [] rise = tt
 later last (time ∷ times) rise =
     let both = and_parts (int_lt last time) (rise_from time times) rise in
-    let first = lt_from last time both.0 in
-    (first, Each-weaker (Above time) (Above last) (λ t lt. through last time t first lt) times
-    (later time times both.1))
+    let first = lt_from last time both.0 in (
+      first,
+      Each-weaker (Above time) (Above last) (λ t lt. through last time t first lt) times
+          (later time times both.1),
+    )
 
 each_pair : (last : ℤ) (times : List ℤ) → rise_from last times ≡ true → EachPair Above times
 each_pair last [] rise = tt

@@ -4,6 +4,7 @@ ghost use Rattle.std.specs.List.{list_any};
 ghost use Rattle.fm_model.specs.declared.loaded.Loaded.{Loaded as File};
 ghost use Rattle.fm_model.specs.Collection.{after_op, holds_older};
 ghost use Rattle.fm_list.specs.Change as change;
+ghost use Rattle.fm_list.specs.Change.{HasGone};
 ghost use Rattle.fm_list.specs.Selected as selected;
 ghost use Rattle.fm_list.specs.Selected.{AreOwn};
 ghost use Rattle.fm_edition.specs.Pieces as spec;
@@ -29,7 +30,7 @@ pub(crate) struct Roll {
 
 // Whether an operation may take files out of some, where `went` has all that it takes out of them.
 fn may_lose(files: &[Placed], went: &[Placed], op: &Op) -> bool
-    requires { spec.HasGone went.now op.now files.now }
+    requires { HasGone went.now op.now files.now }
     ensures { result ≡ false → filter (change.keeps op.now) files.now ≡ files.now }
 {
     match op {
@@ -39,11 +40,17 @@ fn may_lose(files: &[Placed], went: &[Placed], op: &Op) -> bool
     }
 }
 
-// The files after an operation. They are shared and not copied.
-fn files_after(alloc: Global, files: &[Placed], op: &Op) -> Result<List<Placed>, NoMemory>
+// The files after an operation, where `went` has all that it takes out of them. They are shared and not copied.
+fn files_after(
+    alloc: Global,
+    files: &[Placed],
+    went: &[Placed],
+    op: &Op,
+) -> Result<List<Placed>, NoMemory>
+    requires { HasGone went.now op.now files.now }
     ensures { IfOk result (λ next. next ≡ after_op files.now op.now) }
 {
-    changed(kept(alloc, files, op)?, op)
+    changed(kept(alloc, files, went, op)?, op)
 }
 
 // Adds a piece, unless it is empty.
@@ -65,13 +72,13 @@ fn push_kept(
     went: &[Placed],
     op: &Op,
 ) -> Result<(), NoMemory>
-    requires { spec.HasGone went.now op.now piece.now }
+    requires { HasGone went.now op.now piece.now }
     ensures { OnOk result (spec.joined pieces.new
         ≡ spec.joined pieces.old ++ filter (change.keeps op.now) piece.now) }
 {
     let files = piece.get().as_slice();
     if may_lose(files, went, op) {
-        return push_piece(alloc, pieces, kept(alloc, files, op)?);
+        return push_piece(alloc, pieces, kept(alloc, files, went, op)?);
     }
     pieces.push(piece.clone()?)?;
     Ok(())
@@ -84,7 +91,7 @@ fn kept_pieces(
     went: &[Placed],
     op: &Op,
 ) -> Result<List<Piece>, NoMemory>
-    requires { All (spec.HasGone went.now op.now) pieces.now }
+    requires { All (HasGone went.now op.now) pieces.now }
     ensures { IfOk result (λ next. spec.joined next ≡ filter (change.keeps op.now) (spec.joined pieces.now)) }
 {
     let items = Vec::with_capacity(alloc, pieces.len())?;
@@ -144,11 +151,19 @@ pub(crate) fn roll_after(
     change: &Change<'_>,
 ) -> Result<Roll, NoMemory>
     requires own { AreOwn change.now.by change.now.op.now change.now.own.now }
-    requires gone { spec.HasGone change.now.went.now change.now.op.now files.now }
+    requires gone { HasGone change.now.went.now change.now.op.now files.now }
     ensures { IfOk result (λ next. next ≡ selected.part_after change.now.by key change.now.op.now files.now) }
 {
     let pieces = kept_pieces(alloc, files.pieces, change.went, change.op)?;
-    let last = part_after(alloc, change.by, key, files.last, change.op, change.own)?;
+    let last = part_after(
+        alloc,
+        change.by,
+        key,
+        files.last,
+        change.went,
+        change.op,
+        change.own,
+    )?;
     rolled(alloc, pieces, last, 16)
 }
 
@@ -173,7 +188,7 @@ impl Roll {
         ensures { IfOk result (λ next. next ≡ after_op self.now op.now) }
     {
         let pieces = kept_pieces(alloc, self.pieces.as_slice(), went, op)?;
-        let last = files_after(alloc, self.last.as_slice(), op)?;
+        let last = files_after(alloc, self.last.as_slice(), went, op)?;
         rolled(alloc, pieces, last, 64)
     }
 

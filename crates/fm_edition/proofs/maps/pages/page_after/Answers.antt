@@ -5,9 +5,9 @@ use Rattle.std.specs.Ordering.{int_cmp, int_eq}
 use Rattle.std.proofs.lemmas.Int.{ints, to_z-of_z}
 use Rattle.std.proofs.lemmas.List.{get_or_default}
 use Rattle.fm_model.specs.declared.loaded.Loaded.{Loaded}
+use Rattle.fm_list.specs.Change.{HasGone}
 use Rattle.fm_list.specs.Selected.{part_after}
 use Rattle.fm_edition.specs.Indexes.{in_page, or_none, page_of, page_set, some_of}
-use Rattle.fm_edition.specs.Pieces.{HasGone}
 use Rattle.fm_edition.proofs.PageLemmas.{page_set-more, page_set-other}
 use Rattle.fm_edition.proofs.maps.pages.page_after.Goals as goal
 

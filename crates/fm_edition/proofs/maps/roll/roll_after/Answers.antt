@@ -3,9 +3,10 @@ use Rattle.std.proofs.Common.{◌≡◌, ◌++◌, List, rules, ap, ap₂, subst
 use Rattle.std.specs.Prelude.{IfOk}
 use Rattle.std.proofs.lemmas.Int.{to_z-of_z}
 use Rattle.fm_model.specs.declared.loaded.Loaded.{Loaded}
+use Rattle.fm_list.specs.Change.{HasGone}
 use Rattle.fm_list.specs.Selected.{part_after}
-use Rattle.fm_edition.specs.Pieces.{joined, HasGone}
-use Rattle.fm_edition.proofs.PieceLemmas.{part-append, HasGone-pieces}
+use Rattle.fm_edition.specs.Pieces.{joined}
+use Rattle.fm_edition.proofs.PieceLemmas.{part-append, HasGone-last, HasGone-pieces}
 use Rattle.fm_edition.proofs.maps.roll.roll_after.Goals as goal
 
 pub kept_pieces-requires : goal.kept_pieces-requires
@@ -13,8 +14,13 @@ kept_pieces-requires c = HasGone-pieces c.files.inside.pieces.now c.files.inside
     c.args.change.now.op.now (subst (HasGone c.args.change.now.went.now c.args.change.now.op.now)
     (sym c.files.view_is) c.requires.gone)
 
-pub part_after-requires : goal.part_after-requires
-part_after-requires c = c.requires.own
+pub part_after-requires-clause-own : goal.part_after-requires-clause-own
+part_after-requires-clause-own c = c.requires.own
+
+pub part_after-requires-clause-gone : goal.part_after-requires-clause-gone
+part_after-requires-clause-gone c = HasGone-last c.files.inside.pieces.now c.files.inside.last.now
+    c.args.change.now.went.now c.args.change.now.op.now
+    (subst (HasGone c.args.change.now.went.now c.args.change.now.op.now) (sym c.files.view_is) c.requires.gone)
 
 pub returns : goal.returns
 returns c =

@@ -3,9 +3,9 @@ use Rattle.std.proofs.Common.{◌≡◌, ◌++◌, List, ap, ap₂, sym, subst, 
 use Rattle.std.specs.Prelude.{filter, All, IfOk}
 use Rattle.fm_model.specs.declared.loaded.Loaded.{Loaded}
 use Rattle.fm_model.specs.Collection.{after_op}
-use Rattle.fm_list.specs.Change.{gone, keeps}
-use Rattle.fm_edition.specs.Pieces.{joined, HasGone}
-use Rattle.fm_edition.proofs.PieceLemmas.{after-append, HasGone-pieces, HasGone-some}
+use Rattle.fm_list.specs.Change.{gone, keeps, HasGone}
+use Rattle.fm_edition.specs.Pieces.{joined}
+use Rattle.fm_edition.proofs.PieceLemmas.{after-append, HasGone-last, HasGone-pieces, HasGone-some}
 use Rattle.fm_edition.proofs.maps.roll.Roll.after.Goals as goal
 
 pub kept_pieces-requires : goal.kept_pieces-requires
@@ -16,6 +16,16 @@ kept_pieces-requires c =
     let all = joined c.self.inside.pieces ++ c.self.inside.last in
     subst (All (HasGone c.args.went.now op)) (sym c.as_slice.ensures)
     (HasGone-pieces c.self.inside.pieces c.self.inside.last c.args.went.now op
+    (HasGone-some all all c.args.went.now op went_is (λ file held. held)))
+
+pub files_after-requires : goal.files_after-requires
+files_after-requires c =
+    let op = c.args.op.now in
+    let went_is : c.args.went.now ≡ gone (joined c.self.inside.pieces ++ c.self.inside.last) op =
+    c.requires ∙ ap (λ l. gone l op) (sym c.self.view_is) in
+    let all = joined c.self.inside.pieces ++ c.self.inside.last in
+    subst (HasGone c.args.went.now op) (sym c.as_slice-2.ensures)
+    (HasGone-last c.self.inside.pieces c.self.inside.last c.args.went.now op
     (HasGone-some all all c.args.went.now op went_is (λ file held. held)))
 
 pub returns : goal.returns
