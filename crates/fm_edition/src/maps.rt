@@ -19,6 +19,7 @@ mod keeping;
 mod named;
 mod page_rows;
 mod pages;
+mod pieces;
 mod roll;
 mod shared;
 mod walk;
