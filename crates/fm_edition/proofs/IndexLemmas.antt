@@ -13,13 +13,12 @@ use Rattle.fm_model.specs.Site.{IsPrototype}
 use Rattle.fm_model.proofs.Members.{in_filter}
 use Rattle.fm_list.specs.declared.by.By.{By}
 use Rattle.fm_list.specs.declared.by.By.TheVariants.{Run, Time, Name}
-use Rattle.fm_list.specs.Change.{changed, gone, keeps}
+use Rattle.fm_list.specs.Change.{changed, gone, keeps, HasGone}
 use Rattle.fm_edition.specs.declared.maps.index.Index.{Index}
 use Rattle.fm_edition.specs.Held.{Held, held_after, IsEdition}
 use Rattle.fm_list.specs.Selected.{part, selects}
 use Rattle.fm_edition.specs.Indexes.{entries_of, in_page, instants, or_none, page_of, page_set, rows_at, shown_in, some_of, AreBest, AreMaps, AreOrdered, AreParts, IsIndexed, IsTimed, Pages}
 use Rattle.fm_edition.specs.Log.{CanFollow}
-use Rattle.fm_edition.specs.Pieces.{HasGone}
 use Rattle.fm_edition.specs.Steps.{HaveGone}
 use Rattle.fm_edition.proofs.EditionLemmas.{times_are_sound, IsEdition-after, IsEdition-none}
 use Rattle.fm_edition.proofs.PageLemmas.{or_none-some_of, AreParts-after}

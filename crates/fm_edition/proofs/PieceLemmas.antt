@@ -1,6 +1,6 @@
 -- What an operation leaves of files in pieces, and what it takes out of them.
-use Rattle.std.proofs.Common.{◌≡◌, ℕ, ◌+◌, ◌<◌, Bool, true, false, List, [], ◌∷◌, ◌++◌, get_or, length, take, ℤ, refl, sym, ap, subst, ◌∙◌}
-use Rattle.std.specs.Prelude.{◌||◌, All, Contains, filter, int_lt, not}
+use Rattle.std.proofs.Common.{◌≡◌, ℕ, ◌+◌, ◌<◌, Bool, true, false, List, [], ◌∷◌, ◌++◌, get_or, length, take, ℤ, Err, Ok, Result, refl, sym, ap, ap₂, subst, ◌∙◌, arith}
+use Rattle.std.specs.Prelude.{◌||◌, All, Contains, IfOk, filter, int_lt, not}
 use Rattle.std.specs.Cmp.{signed_Decides}
 use Rattle.std.specs.List.{list_any}
 use Rattle.std.specs.Ordering.{int_eq}
@@ -16,9 +16,9 @@ use Rattle.fm_model.specs.Collection.{after_op, holds_older}
 use Rattle.fm_model.proofs.Members.{In, Each, All-from_each, Any-from_in, Contains-from_in, Each-from_in, Each-in, each_from_All, in_from_Contains, In-append_left, In-append_right, In-filter, In-flat_map}
 use Rattle.fm_model.proofs.RetractLemmas.{expire-none}
 use Rattle.fm_list.specs.declared.by.By.{By}
-use Rattle.fm_list.specs.Change.{added, gone, keeps}
+use Rattle.fm_list.specs.Change.{added, gone, keeps, HasGone}
 use Rattle.fm_list.specs.Selected.{part_after, selects}
-use Rattle.fm_edition.specs.Pieces.{joined, HasGone}
+use Rattle.fm_edition.specs.Pieces.{joined}
 use Rattle.fm_edition.proofs.ChangeLemmas.{after_op-is}
 
 -- one more piece at the end
@@ -26,6 +26,13 @@ pub joined-push : (pieces : List (List Loaded)) (piece : List Loaded)
     → joined (pieces ++ piece ∷ []) ≡ joined pieces ++ piece
 joined-push pieces piece = flat_map-append (λ (p : List Loaded). p) pieces (piece ∷ [])
     ∙ ap (λ l. joined pieces ++ l) (append-nil piece)
+
+-- no files have none at their end
+pub none-last : (files last : List Loaded) → files ++ last ≡ [] → last ≡ []
+none-last [] last none = none
+none-last (file ∷ files) last none =
+    let count : length ((file ∷ files) ++ last) ≡ 0 = ap (λ (l : List Loaded). length l) none in
+    absurd (omega (arith, count))
 
 -- one more piece of those that are gone through
 pub joined-more : (pieces : List (List Loaded)) (i : ℕ) (d : List Loaded) → i < length pieces
@@ -110,6 +117,29 @@ kept-by_run op files went has none = kept_all (keeps op) files (Each-from_in (λ
     by_test file held true is = is
     by_test file held false is = absurd (both_ways (list_any shares went) none (lost file held is))
 
+-- pieces of which each is kept
+kept-joined : (op : Op) (pieces : List (List Loaded))
+    → Each (λ (piece : List Loaded). filter (keeps op) piece ≡ piece) pieces
+    → filter (keeps op) (joined pieces) ≡ joined pieces
+kept-joined op [] each = refl
+kept-joined op (piece ∷ pieces) each = filter-append (keeps op) piece (joined pieces)
+    ∙ ap₂ (λ (x y : List Loaded). x ++ y) each.0 (kept-joined op pieces each.1)
+
+-- pieces are kept where nothing went
+pub kept-none_went : (went : List Loaded) (op : Op) (pieces : List (List Loaded)) → length went ≡ 0
+    → All (HasGone went op) pieces → filter (keeps op) (joined pieces) ≡ joined pieces
+kept-none_went (file ∷ went) op pieces none all = absurd (omega (arith, none))
+kept-none_went [] op pieces none all = kept-joined op pieces
+    (Each-from_in (λ (piece : List Loaded). filter (keeps op) piece ≡ piece) pieces (λ piece here.
+    kept-by_run op piece [] (Each-in (HasGone [] op) piece pieces (each_from_All (HasGone [] op) pieces all) here) refl))
+
+-- what is made of pieces has their files
+pub if_ok-joined : {E : Type 0} (made : Result (List (List Loaded)) E) (pieces : List (List Loaded))
+    (files : List Loaded) → IfOk made (λ next. next ≡ pieces) → joined pieces ≡ files
+    → IfOk made (λ next. joined next ≡ files)
+if_ok-joined (Ok next) pieces files is same = ap joined is ∙ same
+if_ok-joined (Err e) pieces files is same = is
+
 -- files of no older run are kept by an expiry
 pub kept-by_cutoff : (files : List Loaded) (cutoff : ℤ) → holds_older files cutoff ≡ false
     → filter (keeps (Expire cutoff)) files ≡ files
@@ -144,6 +174,12 @@ HasGone-pieces pieces last went op has = All-from_each (HasGone went op) pieces
     (Each-from_in (HasGone went op) pieces (λ piece here.
     all_piece (λ (file : Loaded). keeps op file ≡ false → Contains went file) pieces piece here
     (all_first (λ (file : Loaded). keeps op file ≡ false → Contains went file) (joined pieces) last has)))
+
+-- and so is what it takes out of the last files
+pub HasGone-last : (pieces : List (List Loaded)) (last went : List Loaded) (op : Op)
+    → HasGone went op (joined pieces ++ last) → HasGone went op last
+HasGone-last pieces last went op has =
+    all_last (λ (file : Loaded). keeps op file ≡ false → Contains went file) (joined pieces) last has
 
 -- what an operation takes out of some of the files is among what it takes out of all
 pub HasGone-some : (files some went : List Loaded) (op : Op) → went ≡ gone files op

@@ -1,18 +1,14 @@
--- Files in pieces, and what an operation takes out of some.
-use Rattle.std.specs.Prelude.{◌≡◌, All, Contains, List, [], false}
+-- Files in pieces, and what an operation takes out of them.
+use Rattle.std.specs.Prelude.{◌≡◌, List, []}
 use Rattle.std.specs.List.{flat_map}
 use Rattle.fm_model.specs.declared.loaded.Loaded.{Loaded}
 use Rattle.fm_model.specs.declared.op.Op.{Op}
 use Rattle.fm_model.specs.declared.op.Op.TheVariants.{Put, Expire, Retract}
-use Rattle.fm_list.specs.Change.{gone, keeps}
+use Rattle.fm_list.specs.Change.{gone}
 
 -- the files of all pieces
 abbrev pub joined : List (List Loaded) → List Loaded
 joined pieces = flat_map (λ (piece : List Loaded). piece) pieces
-
--- what an operation takes out of some files is among those that went
-abbrev pub HasGone : List Loaded → Op → List Loaded → Type 0
-HasGone went op files = All (λ (file : Loaded). keeps op file ≡ false → Contains went file) files
 
 -- what a put or a retraction takes out of some files is what it takes out of all
 abbrev pub IsNear : List Loaded → Op → List Loaded → Type 0

@@ -5,8 +5,8 @@ use Rattle.std.specs.Ordering.{int_cmp, int_eq}
 use Rattle.fm_model.specs.declared.loaded.Loaded.{Loaded}
 use Rattle.fm_model.specs.declared.op.Op.{Op}
 use Rattle.fm_list.specs.declared.by.By.{By}
+use Rattle.fm_list.specs.Change.{HasGone}
 use Rattle.fm_edition.specs.Indexes.{in_page, or_none, page_set, touches, AreOrdered, Pages}
-use Rattle.fm_edition.specs.Pieces.{HasGone}
 
 -- what an operation takes out of the files by each instant is among those that went
 abbrev pub HaveGone : List Loaded → Op → Pages → Type 0

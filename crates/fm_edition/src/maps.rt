@@ -21,6 +21,7 @@ mod latest;
 mod named;
 mod page_rows;
 mod pages;
+mod pieces;
 mod roll;
 mod shared;
 mod walk;

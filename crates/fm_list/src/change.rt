@@ -2,6 +2,7 @@
 ghost use Rattle.std.specs.Prelude.{◌≡◌, ◌++◌, IfOk, OnErr, OnOk, filter, length, take};
 ghost use Rattle.fm_list.specs.Change as spec;
 
+use crate::finding::has_run;
 use crate::placed::Placed;
 use fm_base::{List, NoMemory};
 use fm_model::{Loaded, Op};
@@ -19,14 +20,33 @@ pub fn keeps(op: &Op, held: &Loaded) -> bool
     }
 }
 
-/// The files that an operation leaves, and room for one more.
-pub fn kept(alloc: Global, files: &[Placed], op: &Op) -> Result<List<Placed>, NoMemory>
+// Whether an operation leaves a file, where `went` has the file if it doesn't. No file is looked into whose run is that
+// of none of these.
+fn stays(file: &Placed, went: &[Placed], op: &Op) -> bool
+    requires { spec.IsAmongGone went.now op.now file.now }
+    ensures { result ≡ spec.keeps op.now file.now }
+{
+    let run = file.run();
+    if let Op::Expire(cutoff) = op {
+        return run >= *cutoff;
+    }
+    !has_run(went, run) || keeps(op, file.get())
+}
+
+/// The files that an operation leaves, and room for one more, where `went` has all that it takes out of them.
+pub fn kept(
+    alloc: Global,
+    files: &[Placed],
+    went: &[Placed],
+    op: &Op,
+) -> Result<List<Placed>, NoMemory>
+    requires { spec.HasGone went.now op.now files.now }
     ensures { IfOk result (λ kept. kept ≡ filter (spec.keeps op.now) files.now) }
 {
     let items = Vec::with_capacity(alloc, files.len().saturating_add(1))?;
     let mut kept = List { items };
     for file in files {
-        if keeps(op, file.get()) {
+        if stays(file, went, op) {
             kept.push(file.share()?)?;
         }
     }

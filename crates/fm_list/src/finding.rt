@@ -31,7 +31,7 @@ pub fn has_older(files: &[Placed], cutoff: i64) -> bool
 }
 
 // Whether a file is of a run.
-fn has_run(files: &[Placed], run: i64) -> bool
+pub(crate) fn has_run(files: &[Placed], run: i64) -> bool
     ensures { result ≡ list_any (λ (file : File). int_eq file.run run) files.now }
 {
     files.iter().any(|file| file.run() == run)

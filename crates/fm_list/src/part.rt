@@ -5,6 +5,7 @@ ghost use Rattle.std.specs.Ordering.{int_eq};
 ghost use Rattle.fm_model.specs.declared.loaded.Loaded.{Loaded as File};
 ghost use Rattle.fm_model.specs.Cell.{best};
 ghost use Rattle.fm_model.specs.Rising.{Rises};
+ghost use Rattle.fm_list.specs.Change.{HasGone};
 ghost use Rattle.fm_list.specs.Found as found;
 ghost use Rattle.fm_list.specs.Selected as spec;
 
@@ -97,19 +98,22 @@ fn with_selected(
     }
 }
 
-/// The files by an instant after an operation, where `own` are the instants of the file that it adds.
+/// The files by an instant after an operation, where `went` has all that it takes out of them, and `own` are the
+/// instants of the file that it adds.
 pub fn part_after(
     alloc: Global,
     by: By,
     key: i64,
     files: &[Placed],
+    went: &[Placed],
     op: &Op,
     own: &[i64],
 ) -> Result<List<Placed>, NoMemory>
-    requires { spec.AreOwn by op.now own.now }
+    requires own { spec.AreOwn by op.now own.now }
+    requires gone { HasGone went.now op.now files.now }
     ensures { IfOk result (λ next. next ≡ spec.part_after by key op.now files.now) }
 {
-    let next = kept(alloc, files, op)?;
+    let next = kept(alloc, files, went, op)?;
     match op {
         Op::Put(file) => with_selected(next, by, key, file, own),
         Op::Expire(_) => Ok(next),

@@ -4,12 +4,12 @@ ghost use Rattle.std.specs.List.{list_any};
 ghost use Rattle.fm_model.specs.declared.loaded.Loaded.{Loaded as File};
 ghost use Rattle.fm_model.specs.Collection.{after_op, holds_older};
 ghost use Rattle.fm_list.specs.Change as change;
-ghost use Rattle.fm_list.specs.Selected as selected;
-ghost use Rattle.fm_list.specs.Selected.{AreOwn};
+ghost use Rattle.fm_list.specs.Change.{HasGone};
 ghost use Rattle.fm_edition.specs.Pieces as spec;
 
 use crate::maps::files::{Files, Piece};
 use crate::maps::pages::Change;
+use crate::maps::pieces::Pieces;
 use crate::maps::shared::Shared;
 use fm_base::{List, NoMemory};
 use fm_list::Placed;
@@ -23,13 +23,13 @@ use std::marker::Model;
 /// The files in their order: pieces of them, and the last few. A clause sees the list.
 #[derive(Drop)]
 pub(crate) struct Roll {
-    pieces: List<Piece>,
+    pieces: Pieces,
     last: List<Placed>,
 }
 
 // Whether an operation may take files out of some, where `went` has all that it takes out of them.
 fn may_lose(files: &[Placed], went: &[Placed], op: &Op) -> bool
-    requires { spec.HasGone went.now op.now files.now }
+    requires { HasGone went.now op.now files.now }
     ensures { result ≡ false → filter (change.keeps op.now) files.now ≡ files.now }
 {
     match op {
@@ -39,11 +39,17 @@ fn may_lose(files: &[Placed], went: &[Placed], op: &Op) -> bool
     }
 }
 
-// The files after an operation. They are shared and not copied.
-fn files_after(alloc: Global, files: &[Placed], op: &Op) -> Result<List<Placed>, NoMemory>
+// The files after an operation, where `went` has all that it takes out of them. They are shared and not copied.
+fn files_after(
+    alloc: Global,
+    files: &[Placed],
+    went: &[Placed],
+    op: &Op,
+) -> Result<List<Placed>, NoMemory>
+    requires { HasGone went.now op.now files.now }
     ensures { IfOk result (λ next. next ≡ after_op files.now op.now) }
 {
-    changed(kept(alloc, files, op)?, op)
+    changed(kept(alloc, files, went, op)?, op)
 }
 
 // Adds a piece, unless it is empty.
@@ -65,13 +71,13 @@ fn push_kept(
     went: &[Placed],
     op: &Op,
 ) -> Result<(), NoMemory>
-    requires { spec.HasGone went.now op.now piece.now }
+    requires { HasGone went.now op.now piece.now }
     ensures { OnOk result (spec.joined pieces.new
         ≡ spec.joined pieces.old ++ filter (change.keeps op.now) piece.now) }
 {
     let files = piece.get().as_slice();
     if may_lose(files, went, op) {
-        return push_piece(alloc, pieces, kept(alloc, files, op)?);
+        return push_piece(alloc, pieces, kept(alloc, files, went, op)?);
     }
     pieces.push(piece.clone()?)?;
     Ok(())
@@ -84,7 +90,7 @@ fn kept_pieces(
     went: &[Placed],
     op: &Op,
 ) -> Result<List<Piece>, NoMemory>
-    requires { All (spec.HasGone went.now op.now) pieces.now }
+    requires { All (HasGone went.now op.now) pieces.now }
     ensures { IfOk result (λ next. spec.joined next ≡ filter (change.keeps op.now) (spec.joined pieces.now)) }
 {
     let items = Vec::with_capacity(alloc, pieces.len())?;
@@ -93,6 +99,40 @@ fn kept_pieces(
         push_kept(alloc, &mut next, piece, went, op)?;
     }
     Ok(next)
+}
+
+// Whether an operation may take files out of some pieces.
+fn some_may_lose(pieces: &[Piece], went: &[Placed], op: &Op) -> bool
+    requires { All (HasGone went.now op.now) pieces.now }
+    ensures { result ≡ false
+        → filter (change.keeps op.now) (spec.joined pieces.now) ≡ spec.joined pieces.now }
+{
+    if went.is_empty() {
+        return false;
+    }
+    for piece in pieces {
+        if may_lose(piece.get().as_slice(), went, op) {
+            return true;
+        }
+    }
+    false
+}
+
+// What an operation leaves of pieces. They are shared together where none loses a file.
+fn pieces_after(
+    alloc: Global,
+    pieces: &Pieces,
+    went: &[Placed],
+    op: &Op,
+) -> Result<Pieces, NoMemory>
+    requires { All (HasGone went.now op.now) pieces.now }
+    ensures { IfOk result (λ next. spec.joined next ≡ filter (change.keeps op.now) (spec.joined pieces.now)) }
+{
+    let held = pieces.get();
+    if some_may_lose(held, went, op) {
+        return Pieces::of(alloc, kept_pieces(alloc, held, went, op)?);
+    }
+    pieces.share()
 }
 
 // Whether a file of a piece is of a run before the cutoff.
@@ -120,7 +160,7 @@ impl Model for Roll {
 // The list of some pieces and the last files. These become a piece where they are enough.
 fn rolled(
     alloc: Global,
-    mut pieces: List<Piece>,
+    pieces: Pieces,
     last: List<Placed>,
     enough: usize,
 ) -> Result<Roll, NoMemory>
@@ -129,40 +169,27 @@ fn rolled(
     if last.len() < enough {
         return Ok(Roll { pieces, last });
     }
-    push_piece(alloc, &mut pieces, last)?;
+    let pieces = pieces.with(alloc, last)?;
     Ok(Roll {
         pieces,
         last: List::new(alloc),
     })
 }
 
-// The files by an instant after an operation. The pieces are shorter than those of all files, since many lists change.
-pub(crate) fn roll_after(
-    alloc: Global,
-    key: i64,
-    files: &Files<'_>,
-    change: &Change<'_>,
-) -> Result<Roll, NoMemory>
-    requires own { AreOwn change.now.by change.now.op.now change.now.own.now }
-    requires gone { spec.HasGone change.now.went.now change.now.op.now files.now }
-    ensures { IfOk result (λ next. next ≡ selected.part_after change.now.by key change.now.op.now files.now) }
-{
-    let pieces = kept_pieces(alloc, files.pieces, change.went, change.op)?;
-    let last = part_after(alloc, change.by, key, files.last, change.op, change.own)?;
-    rolled(alloc, pieces, last, 16)
-}
-
 impl Roll {
     ghost use Rattle.std.specs.Prelude.{◌≡◌, ◌↔◌, [], IfOk, IsTrue};
     ghost use Rattle.fm_model.specs.Collection.{after_op, holds_older};
     ghost use Rattle.fm_list.specs.Change as change;
+    ghost use Rattle.fm_list.specs.Change.{HasGone};
+    ghost use Rattle.fm_list.specs.Selected as selected;
+    ghost use Rattle.fm_list.specs.Selected.{AreOwn};
 
     // No files.
     pub(crate) fn new(alloc: Global) -> Roll
         ensures { result ≡ [] }
     {
         Roll {
-            pieces: List::new(alloc),
+            pieces: Pieces::none(),
             last: List::new(alloc),
         }
     }
@@ -172,9 +199,33 @@ impl Roll {
         requires { went.now ≡ change.gone self.now op.now }
         ensures { IfOk result (λ next. next ≡ after_op self.now op.now) }
     {
-        let pieces = kept_pieces(alloc, self.pieces.as_slice(), went, op)?;
-        let last = files_after(alloc, self.last.as_slice(), op)?;
+        let pieces = pieces_after(alloc, &self.pieces, went, op)?;
+        let last = files_after(alloc, self.last.as_slice(), went, op)?;
         rolled(alloc, pieces, last, 64)
+    }
+
+    // The files by an instant after an operation. The pieces are shorter than those of all files, since many lists
+    // change.
+    pub(crate) fn part_after(
+        &self,
+        alloc: Global,
+        key: i64,
+        change: &Change<'_>,
+    ) -> Result<Roll, NoMemory>
+        requires own { AreOwn change.now.by change.now.op.now change.now.own.now }
+        requires gone { HasGone change.now.went.now change.now.op.now self.now }
+        ensures { IfOk result (λ next. next ≡ selected.part_after change.now.by key change.now.op.now self.now) }
+    {
+        let Change {
+            by,
+            op,
+            went,
+            own,
+            ..
+        } = *change;
+        let pieces = pieces_after(alloc, &self.pieces, went, op)?;
+        let last = part_after(alloc, by, key, self.last.as_slice(), went, op, own)?;
+        rolled(alloc, pieces, last, 16)
     }
 
     // The files, for a look-up.
@@ -182,22 +233,22 @@ impl Roll {
         ensures { result ≡ self.now }
     {
         Files {
-            pieces: self.pieces.as_slice(),
+            pieces: self.pieces.get(),
             last: self.last.as_slice(),
         }
     }
 
-    // Whether there are no files.
+    // Whether there are no files. No piece is looked into where there are some behind the pieces.
     pub(crate) fn is_empty(&self) -> bool
         ensures { IsTrue result ↔ (self.now ≡ []) }
     {
-        self.all().up_to_two() == 0
+        self.last.is_empty() && self.all().up_to_two() == 0
     }
 
     // Whether a file is of a run before the cutoff.
     pub(crate) fn has_older(&self, cutoff: i64) -> bool
         ensures { result ≡ holds_older self.now cutoff }
     {
-        has_older_piece(self.pieces.as_slice(), cutoff) || has_older(self.last.as_slice(), cutoff)
+        has_older_piece(self.pieces.get(), cutoff) || has_older(self.last.as_slice(), cutoff)
     }
 }

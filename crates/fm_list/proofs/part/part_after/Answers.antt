@@ -9,7 +9,7 @@ use Rattle.fm_list.specs.Selected.{part_after, selects, AreOwn}
 use Rattle.fm_list.proofs.part.part_after.Goals as goal
 
 pub with_selected-requires : goal.with_selected-requires
-with_selected-requires c = subst (λ (op : Op). AreOwn c.args.by op c.args.own.now) c.in-Put.is c.requires
+with_selected-requires c = subst (λ (op : Op). AreOwn c.args.by op c.args.own.now) c.in-Put.is c.requires.own
 
 pub returns-in-Put : goal.returns-in-Put
 unfolding part_after

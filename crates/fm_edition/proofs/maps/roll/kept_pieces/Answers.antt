@@ -2,8 +2,8 @@
 use Rattle.std.proofs.Common.{◌++◌, ap, sym, subst, take, ◌∙◌}
 use Rattle.std.specs.Prelude.{filter}
 use Rattle.std.proofs.lemmas.List.{take_all}
-use Rattle.fm_list.specs.Change.{keeps}
-use Rattle.fm_edition.specs.Pieces.{joined, HasGone}
+use Rattle.fm_list.specs.Change.{keeps, HasGone}
+use Rattle.fm_edition.specs.Pieces.{joined}
 use Rattle.fm_edition.proofs.PieceLemmas.{filter-more_pieces}
 use Rattle.fm_edition.proofs.maps.roll.kept_pieces.Goals as goal
 

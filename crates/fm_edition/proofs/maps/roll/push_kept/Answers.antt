@@ -1,13 +1,17 @@
 -- A piece that loses no file is shared.
 use Rattle.std.proofs.Common.{◌≡◌, ◌++◌, ap, sym, subst, ◌∙◌}
 use Rattle.std.specs.Prelude.{filter}
-use Rattle.fm_list.specs.Change.{keeps}
-use Rattle.fm_edition.specs.Pieces.{joined, HasGone}
+use Rattle.fm_list.specs.Change.{keeps, HasGone}
+use Rattle.fm_edition.specs.Pieces.{joined}
 use Rattle.fm_edition.proofs.PieceLemmas.{joined-push}
 use Rattle.fm_edition.proofs.maps.roll.push_kept.Goals as goal
 
 pub may_lose-requires : goal.may_lose-requires
 may_lose-requires c = subst (HasGone c.args.went.now c.args.op.now) (sym (c.as_slice-files.ensures ∙ c.get.ensures))
+    c.requires
+
+pub kept-requires : goal.kept-requires
+kept-requires c = subst (HasGone c.args.went.now c.args.op.now) (sym (c.as_slice-files.ensures ∙ c.get.ensures))
     c.requires
 
 pub returns-then-may_lose : goal.returns-then-may_lose
